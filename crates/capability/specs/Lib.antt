@@ -1,0 +1,4 @@
+pub mod Uids
+pub mod Rights
+pub mod Capability
+pub mod Laws
