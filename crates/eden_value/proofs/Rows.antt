@@ -1,0 +1,54 @@
+-- The definitions at a value of the code that is a list.
+use Rattle.std.proofs.Common.{◌≡◌, ◌↔◌, Bool as Truth, ℕ, suc, ◌-◌, ◌<◌, ◌++◌, nat_lt, List, [], ◌∷◌, refl, ap, sym, ◌∙◌, arith}
+use Rattle.std.proofs.lemmas.Bool.Decides.{nat_tests}
+use Rattle.eden_value.specs.Datum.{Datum, list, data_of}
+use Rattle.eden_value.specs.View.{datum, datums}
+use Rattle.eden_value.specs.Shape.{Shape, lists, has_shape, have_shape}
+use Rattle.eden_value.specs.Printed.{printed, printed_data, printed_list, printed_more, printed_row}
+use Rattle.eden_value.specs.Limits.{depth, depths, depth_of}
+use Rattle.eden_value.specs.Caps.{caps, caps_of}
+use Rattle.eden_value.specs.Laws.{depths-data_of, caps-data_of, shape-data_of, same_values}
+use Rattle.eden_value.specs.declared.value.Value.{Value}
+use Rattle.eden_value.specs.declared.value.Value.TheVariants.{List as Listed}
+
+-- the list is within the limit where its items are within one less
+list_within : (ds : List Datum) (most : ℕ) → 0 < most → nat_lt (depth_of ds) (suc (most - 1)) ≡ nat_lt (depth (list (data_of ds))) (suc most)
+list_within ds most h = within (depth_of ds) (depths (data_of ds)) most (depths-data_of ds) h
+  where
+    within : (a b m : ℕ) → b ≡ a → 0 < m → nat_lt a (suc (m - 1)) ≡ nat_lt (suc b) (suc m)
+    within a b m e h = grind (arith, nat_tests)
+
+-- a value v that is a list of the code's values ws
+module _ (v : Value) (items : List Datum) (vs ws : List Value) (is : v ≡ Listed items) (view : datums vs ≡ items) (slice : ws ≡ vs) where
+  items_are : datums ws ≡ items
+  items_are = ap datums slice ∙ view
+
+  datum_is : datum v ≡ list (data_of (datums ws))
+  datum_is = ap datum is ∙ ap (λ ds. list (data_of ds)) (sym items_are)
+
+  pub value_within : (most : ℕ) → 0 < most → (r : Truth) → r ≡ nat_lt (depth_of (datums ws)) (suc (most - 1)) → r ≡ nat_lt (depth (datum v)) (suc most)
+  value_within most h r e = e ∙ list_within (datums ws) most h ∙ ap (λ d. nat_lt (depth d) (suc most)) (sym datum_is)
+
+  pub value_caps : caps (datum v) ≡ caps_of (datums ws)
+  value_caps = ap caps datum_is ∙ caps-data_of (datums ws)
+
+  pub value_shape : (s t : Shape) → t ≡ lists s → have_shape (datums ws) s ≡ has_shape (datum v) t
+  value_shape s t e = sym (ap (λ k. has_shape (datum v) k) e ∙ ap (λ d. has_shape d (lists s)) datum_is ∙ shape-data_of (datums ws) s)
+
+  pub value_printed : printed (datum v) ≡ 91 ∷ (printed_row (datums ws) ++ 93 ∷ [])
+  value_printed = ap printed datum_is ∙ ap (λ l. 91 ∷ (l ++ 93 ∷ [])) (row (datums ws))
+    where
+      more : (ds : List Datum) → printed_data (data_of ds) ≡ printed_more ds
+      more [] = refl
+      more (d ∷ ds) = ap (λ l. 44 ∷ 32 ∷ (printed d ++ l)) (more ds)
+
+      row : (ds : List Datum) → printed_list (data_of ds) ≡ printed_row ds
+      row [] = refl
+      row (d ∷ ds) = ap (λ l. printed d ++ l) (more ds)
+
+-- two lists are one value where their items are the same
+pub same_lists : (a b : Value) (x y : List Datum) (vs us ws zs : List Value) → a ≡ Listed x → datums vs ≡ x → ws ≡ vs → b ≡ Listed y → datums us ≡ y → zs ≡ us → (ws ≡ zs) ↔ (a ≡ b)
+same_lists a b x y vs us ws zs p q r s t u = (
+  λ e. p ∙ ap Listed (sym (ap datums r ∙ q) ∙ ap datums e ∙ ap datums u ∙ t) ∙ sym s,
+  λ e. let f : x ≡ y = cc (p, s, e) in same_values ws zs (ap datums r ∙ q ∙ f ∙ sym (ap datums u ∙ t)),
+)

@@ -1,0 +1,11 @@
+pub mod Datum
+pub mod Code
+pub mod View
+pub mod Falls
+pub mod Limits
+pub mod Range
+pub mod Caps
+pub mod Status
+pub mod Shape
+pub mod Printed
+pub mod Laws

@@ -1,0 +1,52 @@
+-- The limits of values: which bytes a text may have, how deep lists nest, and what a value may be.
+use Rattle.std.specs.Prelude.{ℕ, zero, suc, ◌≤◌, ◌&&◌, max, Bool, List, [], ◌∷◌, length, Some, None, nat_le}
+use Rattle.std.specs.List.{AllPass}
+use Rattle.capability.specs.Capability.{IsEject}
+use Rattle.eden_value.specs.Datum.{Datum, Data, number, truth, text, cap, list, no_data, data_and, items_of}
+use Rattle.eden_value.specs.declared.value.TheConstants.{TEXT_LIMIT, LIST_LIMIT}
+
+-- a space, or a character of ASCII that is seen
+abbrev pub is_printable : ℕ → Bool
+is_printable b = nat_le 0x20 b && nat_le b 0x7E
+
+-- what a text may be
+pub record IsText (bytes : List ℕ) : Type 0 where
+  pub printable : AllPass is_printable bytes
+  pub short : length bytes ≤ TEXT_LIMIT
+
+-- how deep lists nest
+abbrev mutual
+  pub depth : Datum → ℕ
+  depth (number n) = 0
+  depth (truth b) = 0
+  depth (text t) = 0
+  depth (cap c) = 0
+  depth (list ds) = suc (depths ds)
+
+  pub depths : Data → ℕ
+  depths no_data = 0
+  depths (data_and d ds) = max (depth d) (depths ds)
+
+abbrev pub depth_of : List Datum → ℕ
+depth_of [] = 0
+depth_of (d ∷ ds) = max (depth d) (depth_of ds)
+
+-- What an Eject may hold: texts and lists within their limits, at most so many lists in one another,
+-- and no capability but of an Eject.
+abbrev mutual
+  pub IsValue : (most_deep : ℕ) → Datum → Type 0
+  IsValue most_deep (number n) = Unit {0}
+  IsValue most_deep (truth b) = Unit {0}
+  IsValue most_deep (text t) = IsText t
+  IsValue most_deep (cap None) = Unit {0}
+  IsValue most_deep (cap (Some c)) = IsEject c.uid
+  IsValue zero (list ds) = ⊥
+  IsValue (suc most_deep) (list ds) = (length (items_of ds) ≤ LIST_LIMIT) × DataAreValues most_deep ds
+
+  pub DataAreValues : (most_deep : ℕ) → Data → Type 0
+  DataAreValues most_deep no_data = Unit {0}
+  DataAreValues most_deep (data_and d ds) = IsValue most_deep d × DataAreValues most_deep ds
+
+abbrev pub AreValues : (most_deep : ℕ) → List Datum → Type 0
+AreValues most_deep [] = Unit {0}
+AreValues most_deep (d ∷ ds) = IsValue most_deep d × AreValues most_deep ds

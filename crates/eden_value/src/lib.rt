@@ -1,0 +1,16 @@
+//! Values that Ejects hold, send and keep, their kinds, and the statuses of what was asked.
+#![tactic(auto)]
+
+mod kind;
+mod limits;
+mod printing;
+mod status;
+mod value;
+mod walk;
+
+pub use kind::{Kind, has_kind};
+pub use limits::{list_of, text_of};
+pub use printing::print;
+pub use status::Status;
+pub use value::{DEPTH_LIMIT, Items, LIST_LIMIT, TEXT_LIMIT, Txt, Value, ValueRefusal};
+pub use walk::{caps, copy, equal};

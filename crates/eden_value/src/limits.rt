@@ -1,0 +1,88 @@
+//! Texts and lists within their limits.
+ghost use Rattle.std.specs.Prelude.{◌≡◌, ◌≢◌, ◌↔◌, ◌≤◌, ◌<◌, suc, length, nat_lt, IfOk, IsTrue, IsFalse};
+ghost use Rattle.std.specs.List.{list_all};
+ghost use Rattle.eden_value.specs.View.{datum, datums, list_value};
+ghost use Rattle.eden_value.specs.Limits.{is_printable, IsText, depth, depth_of};
+
+use crate::value::{DEPTH_LIMIT, Items, LIST_LIMIT, TEXT_LIMIT, Txt, Value, ValueRefusal};
+use std::alloc::Global;
+
+fn are_printable(bytes: &[u8]) -> bool
+    ensures { result ≡ list_all is_printable bytes.now }
+{
+    for b in bytes {
+        if *b < 0x20 || *b > 0x7E {
+            return false;
+        }
+    }
+    true
+}
+
+/// The text of these bytes.
+///
+/// A byte outside 0x20 to 0x7E is found first, then a length past `TEXT_LIMIT`.
+pub fn text_of(alloc: Global, bytes: &[u8]) -> Result<Txt, ValueRefusal>
+    ensures ok { IfOk result (λ text. text ≡ bytes.now) }
+    ensures within_limits { IfOk result IsText }
+    ensures bad_byte { (result ≡ Err ValueRefusal.BadByte) ↔ IsFalse (list_all is_printable bytes.now) }
+    ensures too_long { (result ≡ Err ValueRefusal.TooLong)
+        ↔ (IsTrue (list_all is_printable bytes.now) × (TEXT_LIMIT < length bytes.now)) }
+    ensures not_too_deep { result ≢ Err ValueRefusal.TooDeep }
+{
+    if !are_printable(bytes) {
+        return Err(ValueRefusal::BadByte);
+    }
+    if bytes.len() > TEXT_LIMIT {
+        return Err(ValueRefusal::TooLong);
+    }
+    match Vec::from_slice(alloc, bytes) {
+        Ok(bytes) => Ok(Txt { bytes }),
+        Err(_) => Err(ValueRefusal::OutOfMemory),
+    }
+}
+
+/// Whether lists nest at most `most` deep in a value.
+#[cycle(depth)]
+fn is_within(value: &Value, most: u8) -> bool
+    ensures { result ≡ nat_lt (depth (datum value.now)) (suc most) }
+{
+    match value {
+        Value::List { items } => most > 0 && are_within(&items.values, most - 1),
+        _ => true,
+    }
+}
+
+#[cycle(depth)]
+fn are_within(values: &[Value], most: u8) -> bool
+    ensures { result ≡ nat_lt (depth_of (datums values.now)) (suc most) }
+{
+    for value in values {
+        if !is_within(value, most) {
+            return false;
+        }
+    }
+    true
+}
+
+/// The list of these values.
+///
+/// A number of values past `LIST_LIMIT` is found first, then a depth past `DEPTH_LIMIT`. It takes no
+/// memory, and always answers one of these two or the list.
+pub fn list_of(values: Vec<Value>) -> Result<Value, ValueRefusal>
+    ensures ok { IfOk result (λ list. list ≡ list_value values.items) }
+    ensures too_long { (result ≡ Err ValueRefusal.TooLong) ↔ (LIST_LIMIT < length values.items) }
+    ensures too_deep { (result ≡ Err ValueRefusal.TooDeep)
+        ↔ ((length values.items ≤ LIST_LIMIT) × (DEPTH_LIMIT ≤ depth_of (datums values.items))) }
+    ensures no_bad_byte { result ≢ Err ValueRefusal.BadByte }
+    ensures takes_no_memory { result ≢ Err ValueRefusal.OutOfMemory }
+{
+    if values.len() > LIST_LIMIT {
+        return Err(ValueRefusal::TooLong);
+    }
+    if !are_within(&values, DEPTH_LIMIT - 1) {
+        return Err(ValueRefusal::TooDeep);
+    }
+    Ok(Value::List {
+        items: Items { values },
+    })
+}
