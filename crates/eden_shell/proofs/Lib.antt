@@ -1,0 +1,10 @@
+pub mod Cuts
+pub mod Numbers
+pub mod Unsaid
+pub mod Turns
+pub mod Grown
+pub mod Texts
+pub mod Sound
+pub mod Enabled
+pub mod Fitting
+pub mod Answering

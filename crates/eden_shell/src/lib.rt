@@ -1,0 +1,13 @@
+//! The whole of what the program does: the words, the script, the run and the transcript.
+#![tactic(auto)]
+
+mod bench;
+mod form;
+mod keys;
+mod report;
+mod run;
+mod shell;
+mod words;
+
+pub use report::{Outcome, Report, ScriptCause, status};
+pub use shell::eden;
