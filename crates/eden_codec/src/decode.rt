@@ -3,6 +3,7 @@ ghost use Rattle.std.specs.Prelude.{◌≡◌, ◌↔◌, ◌<◌, ◌≤◌, �
 ghost use Rattle.grammar.specs.Gives.{Gives};
 ghost use Rattle.grammar.specs.Reading.{whole};
 ghost use Rattle.grammar.specs.FirstBad.{FirstBad};
+ghost use Rattle.eden_codec.specs.Form.{IsRep};
 ghost use Rattle.eden_codec.specs.Reading.{rep_at};
 ghost use Rattle.eden_codec.specs.Spells.{Spells};
 
@@ -52,6 +53,7 @@ fn whole_rep(alloc: Global, bytes: &[u8]) -> Result<Rep, Stop>
 /// The representation that the bytes spell, all of them.
 pub fn decode_rep(alloc: Global, bytes: &[u8]) -> Result<Rep, DecodeRefusal>
     ensures ok { IfOk result (λ rep. Spells bytes.now rep) }
+    ensures form { IfOk result IsRep }
     ensures too_large { (result ≡ Err DecodeRefusal.TooLarge) ↔ (BODY_LIMIT < length bytes.now) }
     ensures not_rep { (place : ℕ) → result ≡ Err (DecodeRefusal.NotRep place) → FirstBad Spells bytes.now place }
 {

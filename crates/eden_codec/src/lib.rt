@@ -10,6 +10,8 @@ mod field;
 mod law;
 mod rep;
 mod size;
+#[cfg(test)]
+mod tests;
 mod value;
 
 pub use decode::{DecodeRefusal, decode_rep};
