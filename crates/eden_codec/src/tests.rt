@@ -102,6 +102,7 @@ fn a_changed_byte_is_found_at_its_place(rt: HostRuntime) {
     ];
     for (place, byte, want) in changed {
         let mut bytes = CELL;
+        assert!(rt; place < bytes.len());
         bytes[place] = byte;
         assert_eq!(rt; bad_place(rt.alloc(), &bytes), Some(want), "at {place}");
     }
