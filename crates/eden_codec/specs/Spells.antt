@@ -43,16 +43,35 @@ SpellsRow G bytes ds = Counted (Number 1 0 64) G bytes ds
 abbrev pub SpellsItems : Grammar ℕ Datum → Grammar ℕ (List Datum)
 SpellsItems G bytes ds = Counted (Number 2 0 256) G bytes ds
 
--- a value, in which lists nest at most depth deep: the first byte says what it is
+-- the first byte of a value, which says what it is
+abbrev pub int_tag : ℕ
+int_tag = 1
+
+abbrev pub truth_tag : ℕ
+truth_tag = 2
+
+abbrev pub text_tag : ℕ
+text_tag = 3
+
+abbrev pub absent_tag : ℕ
+absent_tag = 4
+
+abbrev pub cap_tag : ℕ
+cap_tag = 5
+
+abbrev pub list_tag : ℕ
+list_tag = 6
+
+-- a value, in which lists nest at most depth deep
 abbrev pub SpellsValue : (depth : ℕ) → Grammar ℕ Datum
 SpellsValue depth [] d = ⊥
-SpellsValue depth (b ∷ bytes) (number z) = (b ≡ 1) × SpellsInt bytes z
-SpellsValue depth (b ∷ bytes) (truth t) = (b ≡ 2) × SpellsTruth bytes t
-SpellsValue depth (b ∷ bytes) (text t) = (b ≡ 3) × SpellsText bytes t
-SpellsValue depth (b ∷ bytes) (cap None) = (b ≡ 4) × (bytes ≡ [])
-SpellsValue depth (b ∷ bytes) (cap (Some c)) = (b ≡ 5) × SpellsCap bytes c
+SpellsValue depth (b ∷ bytes) (number z) = (b ≡ int_tag) × SpellsInt bytes z
+SpellsValue depth (b ∷ bytes) (truth t) = (b ≡ truth_tag) × SpellsTruth bytes t
+SpellsValue depth (b ∷ bytes) (text t) = (b ≡ text_tag) × SpellsText bytes t
+SpellsValue depth (b ∷ bytes) (cap None) = (b ≡ absent_tag) × (bytes ≡ [])
+SpellsValue depth (b ∷ bytes) (cap (Some c)) = (b ≡ cap_tag) × SpellsCap bytes c
 SpellsValue zero (b ∷ bytes) (list ds) = ⊥
-SpellsValue (suc depth) (b ∷ bytes) (list ds) = (b ≡ 6) × SpellsItems (SpellsValue depth) bytes (items_of ds)
+SpellsValue (suc depth) (b ∷ bytes) (list ds) = (b ≡ list_tag) × SpellsItems (SpellsValue depth) bytes (items_of ds)
 
 -- a name of 1 to 32 bytes: the length, and the bytes, of which the first is a capital letter
 abbrev pub SpellsName : Grammar ℕ (List ℕ)

@@ -12,6 +12,7 @@ ghost use Rattle.eden_codec.specs.Spelling as spelled;
 
 use crate::rep::Rep;
 use crate::size::values_size;
+use crate::tag;
 use capability::{BODY_LIMIT, Body, Cap};
 use eden_value::Value;
 use std::alloc::{AllocError, Global};
@@ -48,10 +49,10 @@ fn add_option(cap: Option<Cap>, out: &mut Vec<u8>) -> Result<(), AllocError>
     ensures range { OnOk result (InRange (option_datum cap)) }
 {
     let Some(cap) = cap else {
-        out.push(4)?;
+        out.push(tag::ABSENT_CAP)?;
         return Ok(());
     };
-    out.push(5)?;
+    out.push(tag::CAP)?;
     add_cap(cap, out)?;
     Ok(())
 }
@@ -87,17 +88,17 @@ fn add_value(value: &Value, out: &mut Vec<u8>) -> Result<(), AllocError>
 {
     match value {
         Value::Int { n } => {
-            out.push(1)?;
+            out.push(tag::INT)?;
             add_int(*n, out)
         }
-        Value::Bool { b } => out.extend_from_slice(if *b { &[2, 1] } else { &[2, 0] }),
+        Value::Bool { b } => out.extend_from_slice(&[tag::BOOL, u8::from(*b)]),
         Value::Text { text } => {
-            out.push(3)?;
+            out.push(tag::TEXT)?;
             add_text(&text.bytes, out)
         }
         Value::Cap { cap } => add_option(*cap, out),
         Value::List { items } => {
-            out.push(6)?;
+            out.push(tag::LIST)?;
             add_length(items.values.len(), out)?;
             add_values(&items.values, out)?;
             Ok(())
@@ -133,13 +134,16 @@ fn add_row(values: &[Value], out: &mut Vec<u8>) -> Result<(), AllocError>
     Ok(())
 }
 
+/// The first byte of each representation.
+const FORMAT: u8 = 1;
+
 fn add_rep(rep: &Rep, out: &mut Vec<u8>) -> Result<(), AllocError>
     ensures spelled { OnOk result (out.new.items ≡ out.old.items ++ spelled.spelling rep.now) }
     ensures range { OnOk result (RepInRange rep.now) }
 {
     let name = &rep.type_name;
     let values = &rep.values;
-    out.push(1)?;
+    out.push(FORMAT)?;
     add_name(&name.bytes, out)?;
     out.extend_from_slice(&rep.version.to_be_bytes())?;
     add_row(&values.values, out)?;

@@ -10,6 +10,7 @@ mod field;
 mod law;
 mod rep;
 mod size;
+mod tag;
 #[cfg(test)]
 mod tests;
 mod value;

@@ -7,8 +7,9 @@ ghost use Rattle.eden_codec.specs.Alphabet.{in_alphabet};
 ghost use Rattle.eden_codec.specs.Reading.{int_at, text_at, cap_at, plain_of, plain_at, kind_of, any_at, value_at, row_at};
 
 use crate::field::{Alphabet, byte_of, truth_of};
+use crate::tag;
 use capability::{Cap, Rights, Uid};
-use eden_value::{DEPTH_LIMIT, Items, Txt, Value};
+use eden_value::{DEPTH_LIMIT, Items, LIST_LIMIT, TEXT_LIMIT, Txt, Value};
 use grammar::{Stop, number_of};
 use std::alloc::Global;
 
@@ -51,7 +52,7 @@ fn int_of(bytes: &[u8]) -> Result<(i64, &[u8]), Stop>
 fn text_of(alloc: Global, bytes: &[u8]) -> Result<(Txt, &[u8]), Stop>
     ensures { Gives (λ x. (x.0, x.1.now)) result (text_at bytes.now) }
 {
-    let (count, rest) = number_of(bytes, 2, 0, 1024)?;
+    let (count, rest) = number_of(bytes, 2, 0, TEXT_LIMIT as u64)?;
     let (bytes, rest) = bytes_of(alloc, Alphabet::Printable, count, rest)?;
     Ok((Txt { bytes }, rest))
 }
@@ -72,30 +73,31 @@ fn cap_of(bytes: &[u8]) -> Result<(Cap, &[u8]), Stop>
     Ok((Cap { uid, rights }, rest))
 }
 
-fn plain_tag(bytes: &[u8]) -> Result<(Plain, &[u8]), Stop>
+/// What a value is that is no list.
+fn plain_of(bytes: &[u8]) -> Result<(Plain, &[u8]), Stop>
     ensures { Gives (λ x. (x.0, x.1.now)) result (one plain_of bytes.now) }
 {
     match bytes {
-        [1, rest @ ..] => Ok((Plain::Integer, rest)),
-        [2, rest @ ..] => Ok((Plain::Truth, rest)),
-        [3, rest @ ..] => Ok((Plain::Text, rest)),
-        [4, rest @ ..] => Ok((Plain::Absent, rest)),
-        [5, rest @ ..] => Ok((Plain::Capability, rest)),
+        [tag::INT, rest @ ..] => Ok((Plain::Integer, rest)),
+        [tag::BOOL, rest @ ..] => Ok((Plain::Truth, rest)),
+        [tag::TEXT, rest @ ..] => Ok((Plain::Text, rest)),
+        [tag::ABSENT_CAP, rest @ ..] => Ok((Plain::Absent, rest)),
+        [tag::CAP, rest @ ..] => Ok((Plain::Capability, rest)),
         _ => Err(Stop::At { left: bytes.len() }),
     }
 }
 
 /// What a value is, `None` being a list.
-fn tag_of(bytes: &[u8]) -> Result<(Option<Plain>, &[u8]), Stop>
+fn kind_of(bytes: &[u8]) -> Result<(Option<Plain>, &[u8]), Stop>
     ensures { Gives (λ x. (x.0, x.1.now)) result (one kind_of bytes.now) }
 {
     match bytes {
-        [1, rest @ ..] => Ok((Some(Plain::Integer), rest)),
-        [2, rest @ ..] => Ok((Some(Plain::Truth), rest)),
-        [3, rest @ ..] => Ok((Some(Plain::Text), rest)),
-        [4, rest @ ..] => Ok((Some(Plain::Absent), rest)),
-        [5, rest @ ..] => Ok((Some(Plain::Capability), rest)),
-        [6, rest @ ..] => Ok((None, rest)),
+        [tag::INT, rest @ ..] => Ok((Some(Plain::Integer), rest)),
+        [tag::BOOL, rest @ ..] => Ok((Some(Plain::Truth), rest)),
+        [tag::TEXT, rest @ ..] => Ok((Some(Plain::Text), rest)),
+        [tag::ABSENT_CAP, rest @ ..] => Ok((Some(Plain::Absent), rest)),
+        [tag::CAP, rest @ ..] => Ok((Some(Plain::Capability), rest)),
+        [tag::LIST, rest @ ..] => Ok((None, rest)),
         _ => Err(Stop::At { left: bytes.len() }),
     }
 }
@@ -130,27 +132,27 @@ fn value_of(alloc: Global, depth: u8, bytes: &[u8]) -> Result<(Value, &[u8]), St
     ensures { Gives (λ x. (datum x.0, x.1.now)) result (value_at depth bytes.now) }
 {
     if depth == 0 {
-        let (plain, rest) = plain_tag(bytes)?;
+        let (plain, rest) = plain_of(bytes)?;
         return plain_value(alloc, plain, rest);
     }
-    let (tag, rest) = tag_of(bytes)?;
-    any_value(alloc, depth - 1, tag, rest)
+    let (kind, rest) = kind_of(bytes)?;
+    any_value(alloc, depth - 1, kind, rest)
 }
 
-/// What stands behind a tag; lists in a list nest at most `depth` deep.
+/// What stands behind the first byte, `None` being a list; lists in a list nest at most `depth` deep.
 #[cycle(value)]
 fn any_value(
     alloc: Global,
     depth: u8,
-    tag: Option<Plain>,
+    kind: Option<Plain>,
     bytes: &[u8],
 ) -> Result<(Value, &[u8]), Stop>
-    ensures { Gives (λ x. (datum x.0, x.1.now)) result (any_at (value_at depth) tag bytes.now) }
+    ensures { Gives (λ x. (datum x.0, x.1.now)) result (any_at (value_at depth) kind bytes.now) }
 {
-    match tag {
+    match kind {
         Some(plain) => plain_value(alloc, plain, bytes),
         None => {
-            let (count, rest) = number_of(bytes, 2, 0, 256)?;
+            let (count, rest) = number_of(bytes, 2, 0, LIST_LIMIT as u64)?;
             let (values, rest) = values_of(alloc, depth, count, rest)?;
             let items = Items { values };
             Ok((Value::List { items }, rest))

@@ -27,4 +27,4 @@ values_of-returns t c =
     is_done R (datums c.loop.values.items) c.args.count c.loop.counter c.loop.rest.now (times c.args.count R c.args.bytes.now) c.loop-test.false c.loop.invariant
 
 pub value_of-returns : goal.value_of-returns
-value_of-returns t c = rw (deeper c.args.depth c.if-depth-eq0.false c.args.bytes.now, c.in_ok-tag.ensures) c.any_value.ensures
+value_of-returns t c = rw (deeper c.args.depth c.if-depth-eq0.false c.args.bytes.now, c.in_ok-kind.ensures) c.any_value.ensures
