@@ -1,6 +1,7 @@
 -- The first bad place of symbols that are no spelling, for each grammar that has an exact reader.
-use Rattle.std.specs.Prelude.{◌≡◌, ℕ, suc, ◌+◌, ◌-◌, ◌<◌, ◌≤◌, List, [], ◌∷◌, ◌++◌, length, take, Ok, Err, refl}
-use Rattle.std.proofs.Common.{ap, sym, ◌∙◌, arith, subst, append_assoc, append-nil, length-append}
+use Rattle.std.specs.Prelude.{◌≡◌, ℕ, zero, suc, ◌+◌, ◌-◌, ◌<◌, ◌≤◌, List, [], ◌∷◌, ◌++◌, length, take, Ok, Err, refl}
+use Rattle.std.proofs.Common.{ap, sym, ◌∙◌, arith, subst, append_assoc, append-nil, length-append, inl, inr}
+use Rattle.std.proofs.lemmas.Bool.{cases_order}
 use Rattle.grammar.specs.Reading.{Reading, Reader, whole}
 use Rattle.grammar.specs.Grammar.{Grammar, Begins}
 use Rattle.grammar.specs.Exact.{Taken, Stays, Stopped, Exact, ok_first, ok_rest}
@@ -99,3 +100,31 @@ module _ {S A : Type 0} (G : Grammar S A) (R : Reader S A) (g : Exact G R) where
 
   pub bad_whole : (symbols : List S) (left : ℕ) → whole (R symbols) ≡ Err left → (left ≤ length symbols) × FirstBad G symbols (length symbols - left)
   bad_whole symbols left e = bad_reading symbols (R symbols) refl left e (λ a s. let f : whole (R symbols) ≡ Ok a = whole_spelled symbols a s in absurd (cc))
+
+-- ---- there is one such place
+-- what is taken later goes on with what is taken before
+take_further : {S : Type 0} (p q : ℕ) (symbols : List S) → p ≤ q → (rest : List S) × (take q symbols ≡ take p symbols ++ rest)
+take_further zero q symbols h = (take q symbols, refl)
+take_further (suc p) zero symbols h = absurd (omega arith)
+take_further (suc p) (suc q) [] h = ([], refl)
+take_further (suc p) (suc q) (s ∷ symbols) h =
+    let further = take_further p q symbols (omega arith) in
+    (further.0, ap (λ l. s ∷ l) further.1)
+
+begins_before : {S A : Type 0} (G : Grammar S A) (p q : ℕ) (symbols : List S) → p ≤ q → Begins G (take q symbols) → Begins G (take p symbols)
+begins_before G p q symbols h b =
+    let further = take_further p q symbols h in
+    record {
+      more = further.0 ++ b.more;
+      value = b.value;
+      spelled = subst (λ l. G l b.value) (ap (λ l. l ++ b.more) further.1 ∙ append_assoc (take p symbols) further.0 b.more) b.spelled;
+    }
+
+not_before : {S A : Type 0} (G : Grammar S A) (symbols : List S) (p q : ℕ) → FirstBad G symbols p → FirstBad G symbols q → p < q → ⊥
+not_before G symbols p q f g h = f.there (omega (arith, g.within)) (begins_before G (suc p) q symbols h g.before)
+
+pub one_place : {S A : Type 0} (G : Grammar S A) (symbols : List S) (p q : ℕ) → FirstBad G symbols p → FirstBad G symbols q → p ≡ q
+one_place G symbols p q f g = neither p q (not_before G symbols p q f g) (not_before G symbols q p g f)
+  where
+    neither : (m n : ℕ) → (m < n → ⊥) → (n < m → ⊥) → m ≡ n
+    neither m n below above = elim (cases_order m n) [ inl e ↦ e | inr r ↦ absurd (elim r [ inl h ↦ below h | inr h ↦ above h ]) ]

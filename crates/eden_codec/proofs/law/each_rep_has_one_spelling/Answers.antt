@@ -1,4 +1,4 @@
-use Rattle.grammar.specs.FirstBad.{one_value, no_prefix}
+use Rattle.grammar.specs.FirstBad.{one_value, no_prefix, one_place}
 use Rattle.eden_codec.specs.Spells.{Spells}
 use Rattle.eden_codec.specs.Reading.{rep_at}
 use Rattle.eden_codec.specs.Whole.{rep_exact, reading_spelled, spelled_reading}
@@ -13,5 +13,6 @@ returns c = record {
   own = one_value Spells rep_at rep_exact;
   apart = no_prefix Spells rep_at rep_exact;
   computed = spelling_is;
+  place = one_place Spells;
   read = λ bytes r. (reading_spelled bytes r, spelled_reading bytes r);
 }
