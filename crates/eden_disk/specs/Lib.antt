@@ -1,7 +1,9 @@
 pub mod Told
 pub mod Calls
 pub mod Held
-pub mod Sim
-pub mod SimDisk
 pub mod Moments
 pub mod Timed
+pub mod Overlay
+pub mod Images
+pub mod Entries
+pub mod SimDisk

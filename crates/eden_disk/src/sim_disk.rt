@@ -5,7 +5,7 @@ ghost use Rattle.eden_disk.specs.Calls.{Counts, end_due};
 ghost use Rattle.eden_disk.specs.SimDisk.{due_of, ends_as};
 
 use crate::disk::{Arm, Disk, DiskRefusal, ImageMode};
-use crate::plates::Plates;
+use crate::medium::Medium;
 use std::alloc::{AllocError, Global};
 
 /// An armed failure: how many calls after which clock.
@@ -32,7 +32,7 @@ pub enum Ending {
 
 #[derive(Drop)]
 pub struct SimDisk {
-    plates: Plates,
+    medium: Medium,
     size: u32,
     power: bool,
     clock: u64,
@@ -41,7 +41,7 @@ pub struct SimDisk {
     wants: u64,
     failure: Option<Failure>,
     halt: Option<Halt>,
-    ghost sized: { length (contents plates).now ≡ size },
+    ghost sized: { length (contents medium).now ≡ size },
 }
 
 /// How a device call at this clock ends.
@@ -72,12 +72,12 @@ impl Disk for SimDisk {
 
     ghost counts = { λ d. record { size = d.size; power = d.power; clock = d.clock; faults = d.faults; stops = d.stops; wants = d.wants } };
 
-    ghost told = { λ d. d.plates };
+    ghost told = { λ d. d.medium };
 
     ghost due = { λ d. due_of d.failure d.halt };
 
     fn size(&self) -> u32 {
-        self.plates.size()
+        self.medium.size()
     }
 
     fn clock(&self) -> u64 {
@@ -101,7 +101,7 @@ impl Disk for SimDisk {
         self.clock = self.clock.saturating_add(1);
         match end {
             Ending::Done => {
-                self.plates.read(at, out);
+                self.medium.read(at, out);
                 Ok(())
             }
             Ending::Fault => {
@@ -109,7 +109,7 @@ impl Disk for SimDisk {
                 Err(DiskRefusal::Failed)
             }
             Ending::Stop { mode } => {
-                self.plates.cut(self.clock, mode);
+                self.medium.cut(self.clock, mode);
                 self.power = false;
                 self.stops = self.stops.saturating_add(1);
                 Err(DiskRefusal::Stopped)
@@ -123,18 +123,18 @@ impl Disk for SimDisk {
         self.clock = self.clock.saturating_add(1);
         if let Ending::Fault = end {
             self.faults = self.faults.saturating_add(1);
-            if !is_spent && self.plates.write_half(self.clock, at, bytes).is_err() {
+            if !is_spent && self.medium.write_half(self.clock, at, bytes).is_err() {
                 self.wants = self.wants.saturating_add(1);
             }
             return Err(DiskRefusal::Failed);
         }
-        if self.plates.write(self.clock, at, bytes).is_err() {
+        if self.medium.write(self.clock, at, bytes).is_err() {
             self.faults = self.faults.saturating_add(1);
             self.wants = self.wants.saturating_add(1);
             return Err(DiskRefusal::Failed);
         }
         if let Ending::Stop { mode } = end {
-            self.plates.cut(self.clock, mode);
+            self.medium.cut(self.clock, mode);
             self.power = false;
             self.stops = self.stops.saturating_add(1);
             return Err(DiskRefusal::Stopped);
@@ -147,7 +147,7 @@ impl Disk for SimDisk {
         self.clock = self.clock.saturating_add(1);
         match end {
             Ending::Done => {
-                if self.plates.sync(self.clock).is_err() {
+                if self.medium.sync(self.clock).is_err() {
                     self.faults = self.faults.saturating_add(1);
                     self.wants = self.wants.saturating_add(1);
                     return Err(DiskRefusal::Failed);
@@ -159,7 +159,7 @@ impl Disk for SimDisk {
                 Err(DiskRefusal::Failed)
             }
             Ending::Stop { mode } => {
-                self.plates.cut(self.clock, mode);
+                self.medium.cut(self.clock, mode);
                 self.power = false;
                 self.stops = self.stops.saturating_add(1);
                 Err(DiskRefusal::Stopped)
@@ -168,7 +168,7 @@ impl Disk for SimDisk {
     }
 
     fn cut_power(&mut self, mode: ImageMode) {
-        self.plates.cut(self.clock, mode);
+        self.medium.cut(self.clock, mode);
         self.power = false;
     }
 
@@ -213,10 +213,10 @@ impl SimDisk {
         ensures image { IfOk result (λ d. contents (⟦<SimDisk as Disk>⟧.told d) ≡ at_rest image.items) }
         ensures counts { IfOk result (λ d. ⟦<SimDisk as Disk>⟧.counts d ≡ record { size = length image.items; power = Bool.true; clock = 0; faults = 0; stops = 0; wants = 0 }) }
     {
-        let plates = Plates::of(alloc, image)?;
-        let size = plates.size();
+        let medium = Medium::of(alloc, image)?;
+        let size = medium.size();
         Ok(SimDisk {
-            plates,
+            medium,
             size,
             power: true,
             clock: 0,
@@ -231,6 +231,6 @@ impl SimDisk {
     pub fn image(&self) -> &[u8]
         ensures { result.now ≡ (contents (⟦<SimDisk as Disk>⟧.told self.now)).now }
     {
-        self.plates.image()
+        self.medium.image()
     }
 }

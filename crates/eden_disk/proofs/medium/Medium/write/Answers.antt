@@ -1,7 +1,8 @@
 use Rattle.std.proofs.Common.{◌≡◌, ◌+◌, ◌≤◌, length, refl, sym, ap, ◌∙◌, arith}
 use Rattle.eden_disk.specs.Told.{Told, Contents, contents}
-use Rattle.eden_disk.proofs.Keeping.{write_kept, length-overlay}
-use Rattle.eden_disk.proofs.plates.Plates.write.Goals as goal
+use Rattle.eden_disk.proofs.Kept.{write_kept}
+use Rattle.eden_disk.specs.Overlay.{length-overlay}
+use Rattle.eden_disk.proofs.medium.Medium.write.Goals as goal
 
 pub invariant_of-self-2 : goal.invariant_of-self-2
 invariant_of-self-2 c =

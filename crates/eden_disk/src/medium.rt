@@ -1,7 +1,8 @@
-// What a disk in memory holds, and notes of all that changed it.
-ghost use Rattle.std.specs.Prelude.{◌≡◌, ◌+◌, ◌≤◌, ◌<◌, ◌^◌, ℕ, length, IfOk, OnOk, OnErr, slice_range, replicate, map, reverse, ◌++◌, ◌∷◌, [], vec_len, vec_capacity};
-ghost use Rattle.eden_disk.specs.Told.{overlay};
-ghost use Rattle.eden_disk.specs.Sim.{garbled, range_of, image_left, AllFit, half_written};
+// What a disk in memory holds, and an entry for each change of it.
+ghost use Rattle.std.specs.Prelude.{◌≡◌, ◌+◌, ◌≤◌, ◌<◌, ◌^◌, ℕ, length, List, [], ◌∷◌, ◌++◌, IfOk, OnOk, OnErr, slice_range, replicate, map, reverse, vec_len, vec_capacity};
+ghost use Rattle.eden_disk.specs.Told.{overlay, is_marked};
+ghost use Rattle.eden_disk.specs.Images.{garbled, image_left, half_written, after_cut};
+ghost use Rattle.eden_disk.specs.Entries.{range_of, AllFit, copied, AgreeElsewhere};
 
 use crate::disk::ImageMode;
 use std::alloc::{AllocError, Global};
@@ -9,7 +10,7 @@ use std::marker::Model;
 
 /// A change of the contents, with the clock after it.
 #[derive(Debug, Drop)]
-pub enum Note {
+pub enum Entry {
     Written { clock: u64, at: u32, bytes: Vec<u8> },
     Synced { clock: u64 },
     Cut { clock: u64, mode: ImageMode },
@@ -22,45 +23,48 @@ pub struct Span {
     pub len: u32,
 }
 
+/// The bytes as a read sees them and as of the last sync, which differ at most at the unsynced places. A call costs
+/// time in the bytes that it is given, a sync and a cut in those that were written since the last one.
 #[derive(Drop)]
-pub struct Plates {
+pub struct Medium {
     alloc: Global,
     first: Vec<u8>,
     seen: Vec<u8>,
     stable: Vec<u8>,
-    marks: Vec<Span>,
-    notes: Vec<Note>,
+    unsynced: Vec<Span>,
+    entries: Vec<Entry>,
 }
 
-impl Model for Plates {
+impl Model for Medium {
     ghost use Rattle.std.specs.Prelude.{◌≡◌, ◌+◌, ◌≤◌, ◌<◌, ◌^◌, ℕ, length, vec_len, vec_capacity};
     ghost use Rattle.eden_disk.specs.Told.{Told, contents};
-    ghost use Rattle.eden_disk.specs.Sim.{told_of, IsKeptBy};
+    ghost use Rattle.eden_disk.specs.Entries.{told_of, IsKeptBy};
 
     ghost Value = { Told };
 
-    ghost view = { λ p. told_of p.first.items p.notes.items };
+    ghost view = { λ p. told_of p.first.items p.entries.items };
 
-    ghost invariant = { λ p. IsKeptBy (contents (told_of p.first.items p.notes.items)) p.seen.items p.stable.items p.marks.items × (length p.seen.items < 2 ^ 32) × (1 ≤ length p.marks.items → vec_len p.notes + 1 ≤ vec_capacity p.notes) };
+    ghost invariant = { λ p. IsKeptBy (contents (told_of p.first.items p.entries.items)) p.seen.items p.stable.items p.unsynced.items × (length p.seen.items < 2 ^ 32) × (1 ≤ length p.unsynced.items → vec_len p.entries + 1 ≤ vec_capacity p.entries) };
 }
 
-impl Plates {
-    ghost use Rattle.eden_disk.specs.Told.{Told, contents, at_rest, noted, Left, Wrote, Synced};
+impl Medium {
+    ghost use Rattle.eden_disk.specs.Told.{Told, contents, noted, Left, Wrote, Synced};
     ghost use Rattle.eden_disk.specs.Calls.{IsCut};
 
-    pub fn of(alloc: Global, image: Vec<u8>) -> Result<Plates, AllocError>
+    /// A medium that holds this image, with nothing unsynced.
+    pub fn of(alloc: Global, image: Vec<u8>) -> Result<Medium, AllocError>
         requires { length image.items < 2 ^ 32 }
-        ensures { IfOk result (λ p. contents p ≡ at_rest image.items) }
+        ensures { IfOk result (λ m. m ≡ record { image = image.items; acts = [] }) }
     {
-        let seen = image.to_vec(alloc)?;
-        let stable = image.to_vec(alloc)?;
-        Ok(Plates {
+        let seen = Vec::from_slice(alloc, &image)?;
+        let stable = Vec::from_slice(alloc, &image)?;
+        Ok(Medium {
             alloc,
             first: image,
             seen,
             stable,
-            marks: Vec::new(alloc),
-            notes: Vec::new(alloc),
+            unsynced: Vec::new(alloc),
+            entries: Vec::new(alloc),
         })
     }
 
@@ -85,40 +89,41 @@ impl Plates {
         out.copy_from_slice(&self.seen[from..from + out.len()]);
     }
 
-    /// Notes a sync. Where there is no memory nothing changes.
+    /// Makes all bytes stable. Where there is no memory nothing changes.
     pub fn sync(&mut self, clock: u64) -> Result<(), AllocError>
         ensures ok { OnOk result (self.new ≡ noted (Synced clock) self.old) }
         ensures err { OnErr result (self.new ≡ self.old) }
     {
-        self.notes.reserve(2)?;
-        self.stable.copy_from_slice(&self.seen);
-        self.marks.clear();
-        self.notes.push(Note::Synced { clock })?;
+        self.entries.reserve(2)?;
+        copy_spans(&mut self.stable, &self.seen, &self.unsynced);
+        self.unsynced.clear();
+        push_within(&mut self.entries, Entry::Synced { clock });
         Ok(())
     }
 
-    /// Notes a write that leaves these bytes. Where there is no memory nothing changes.
+    /// Writes bytes. Where there is no memory nothing changes.
     pub fn write(&mut self, clock: u64, at: u32, bytes: &[u8]) -> Result<(), AllocError>
         requires { at + length bytes.now ≤ length (contents self.old).now }
         ensures ok { OnOk result (self.new ≡ noted (Wrote clock at bytes.now) self.old) }
         ensures err { OnErr result (self.new ≡ self.old) }
     {
-        self.notes.reserve(2)?;
-        self.marks.reserve(1)?;
+        self.entries.reserve(2)?;
+        self.unsynced.reserve(1)?;
         let kept = Vec::from_slice(self.alloc, bytes)?;
         let len = bytes.len() as u32;
         put(&mut self.seen, at as usize, bytes);
-        push_within(&mut self.marks, Span { at, len });
-        let note = Note::Written {
+        push_within(&mut self.unsynced, Span { at, len });
+        let entry = Entry::Written {
             clock,
             at,
             bytes: kept,
         };
-        push_within(&mut self.notes, note);
+        push_within(&mut self.entries, entry);
         Ok(())
     }
 
-    /// Notes a write that failed in its midst: it left the first half of the bytes, and what stood behind them.
+    /// Writes the first half of the bytes, as a write that fails in its midst, and what stood behind it: its whole
+    /// range is unsynced.
     pub fn write_half(&mut self, clock: u64, at: u32, bytes: &[u8]) -> Result<(), AllocError>
         requires { at + length bytes.now ≤ length (contents self.old).now }
         ensures ok { OnOk result (self.new ≡ noted (Wrote clock at (half_written at bytes.now (contents self.old).now)) self.old) }
@@ -131,18 +136,19 @@ impl Plates {
         self.write(clock, at, &left)
     }
 
-    /// Leaves an image, as a power cut does, and notes it where anything was unsynced.
+    /// Leaves an image, as a power cut does. It takes no memory: the entry has its place since the write that it cuts.
     pub fn cut(&mut self, clock: u64, mode: ImageMode)
+        ensures exact { self.new ≡ after_cut mode clock self.old }
         ensures cut { IsCut clock self.old self.new }
         ensures image { (contents self.new).now ≡ image_left mode (contents self.old) }
         ensures size { length (contents self.new).now ≡ length (contents self.old).now }
     {
-        if self.marks.is_empty() {
+        if self.unsynced.is_empty() {
             return;
         }
-        leave(&mut self.seen, &mut self.stable, &self.marks, mode);
-        push_within(&mut self.notes, Note::Cut { clock, mode });
-        self.marks.clear();
+        leave(&mut self.seen, &mut self.stable, &self.unsynced, mode);
+        push_within(&mut self.entries, Entry::Cut { clock, mode });
+        self.unsynced.clear();
     }
 }
 
@@ -157,22 +163,22 @@ fn push_within<T: Drop>(items: &mut Vec<T>, item: T)
 }
 
 /// Makes both lists the image that a power cut leaves.
-fn leave(seen: &mut Vec<u8>, stable: &mut Vec<u8>, marks: &Vec<Span>, mode: ImageMode)
+fn leave(seen: &mut Vec<u8>, stable: &mut Vec<u8>, unsynced: &Vec<Span>, mode: ImageMode)
     requires same { length seen.old.items ≡ length stable.old.items }
-    requires fit { AllFit (length seen.old.items) marks.now.items }
-    ensures seen { seen.new.items ≡ image_left mode (record { now = seen.old.items; stable = stable.old.items; marked = map range_of (reverse marks.now.items) }) }
+    requires fit { AllFit (length seen.old.items) unsynced.now.items }
+    requires elsewhere { AgreeElsewhere (map range_of (reverse unsynced.now.items)) seen.old.items stable.old.items }
+    ensures seen { seen.new.items ≡ image_left mode (record { now = seen.old.items; stable = stable.old.items; marked = map range_of (reverse unsynced.now.items) }) }
     ensures stable { stable.new.items ≡ seen.new.items }
     ensures len { length seen.new.items ≡ length seen.old.items }
 {
     match mode {
-        ImageMode::Keep => {}
-        ImageMode::Lose => seen.copy_from_slice(stable),
+        ImageMode::Keep => copy_spans(stable, seen, unsynced),
+        ImageMode::Lose => copy_spans(seen, stable, unsynced),
         ImageMode::Garble { byte } => {
-            garble(stable, marks, byte);
-            seen.copy_from_slice(stable);
+            garble(stable, unsynced, byte);
+            copy_spans(seen, stable, unsynced);
         }
     }
-    stable.copy_from_slice(seen);
 }
 
 /// Writes bytes over those at a place.
@@ -190,13 +196,26 @@ fn fill(into: &mut Vec<u8>, at: usize, len: usize, byte: u8)
     into[at..at + len].fill(byte);
 }
 
-/// Writes one byte at each marked place.
-fn garble(into: &mut Vec<u8>, marks: &Vec<Span>, byte: u8)
-    requires { AllFit (length into.old.items) marks.now.items }
-    ensures after { into.new.items ≡ garbled byte (map range_of (reverse marks.now.items)) into.old.items }
+/// Writes one byte at each of these places.
+fn garble(into: &mut Vec<u8>, spans: &Vec<Span>, byte: u8)
+    requires { AllFit (length into.old.items) spans.now.items }
+    ensures after { into.new.items ≡ garbled byte (map range_of (reverse spans.now.items)) into.old.items }
     ensures len { length into.new.items ≡ length into.old.items }
 {
-    for mark in marks {
-        fill(into, mark.at as usize, mark.len as usize, byte);
+    for span in spans {
+        fill(into, span.at as usize, span.len as usize, byte);
+    }
+}
+
+/// Makes `into` equal to `from`, where it differs at these places alone.
+fn copy_spans(into: &mut Vec<u8>, from: &Vec<u8>, spans: &Vec<Span>)
+    requires same { length into.old.items ≡ length from.now.items }
+    requires fit { AllFit (length into.old.items) spans.now.items }
+    requires elsewhere { AgreeElsewhere (map range_of (reverse spans.now.items)) into.old.items from.now.items }
+    ensures { into.new.items ≡ from.now.items }
+{
+    for span in spans {
+        let at = span.at as usize;
+        put(into, at, &from[at..at + span.len as usize]);
     }
 }
