@@ -3,7 +3,8 @@ pub mod Calls
 pub mod Held
 pub mod Moments
 pub mod Timed
-pub mod Overlay
+pub mod InCall
 pub mod Images
+pub mod Overlay
 pub mod Entries
 pub mod SimDisk

@@ -5,7 +5,7 @@ use Rattle.std.proofs.lemmas.Bool.{cases_lt}
 use Rattle.eden_disk.specs.Told.{Contents, Act, Wrote, Synced, Cut, Told, contents, contents_from, noted, Left}
 use Rattle.eden_disk.specs.Calls.{Counts, End, Fine, AtFault, AtStop, one_more, IsCut, ReadTold, SyncTold, WriteTold, IsSpent}
 use Rattle.eden_disk.specs.Held.{only_now, from_append, contents_since}
-use Rattle.eden_disk.specs.Moments.{clock_of, left_behind, left_within, acts_since, since_is, LeftAfter, LeftIn}
+use Rattle.eden_disk.specs.Moments.{clock_of, LeftBehind, LeftWithin, acts_since, since_is, LeftAfter, LeftIn}
 
 -- the clock just before an act: a write and a sync are made by the call of their clock, a cut comes behind it
 abbrev pub clock_before : Act → ℕ
@@ -99,7 +99,7 @@ timed_write at bytes before after old new end clock spent told = elim (cases_lt 
 
 -- Up to the clock at which the later acts begin, they change nothing of what a crash may have left.
 within_earlier : (c : Contents) (begin between after m : ℕ) (image : List ℕ) (xs ys : List Act) → m ≤ between → InOrder (contents_from c ys) between xs after →
-    left_within c begin (xs ++ ys) m image ↔ left_within c begin ys m image
+    LeftWithin c begin (xs ++ ys) m image ↔ LeftWithin c begin ys m image
 within_earlier c begin between after m image [] ys h o = (λ l. l, λ l. l)
 within_earlier c begin between after m image (Wrote k at bytes ∷ xs) ys h o =
     let rest = within_earlier c begin between (k - 1) m image xs ys h o.2 in
@@ -115,12 +115,12 @@ within_earlier c begin between after m image (Cut k left ∷ xs) ys h o =
     (λ l. elim l [ inl here ↦ absurd (omega (arith, here.0, past)) | inr before ↦ rest.0 before.1 ], λ l. inr (past, rest.1 l))
 
 -- what stands behind all acts up to a clock may be left behind that clock
-behind_here : (c : Contents) (begin m : ℕ) (image : List ℕ) (acts : List Act) → InOrder c begin acts m → Left (contents_from c acts) image → left_behind c begin acts m image
+behind_here : (c : Contents) (begin m : ℕ) (image : List ℕ) (acts : List Act) → InOrder c begin acts m → Left (contents_from c acts) image → LeftBehind c begin acts m image
 behind_here c begin m image [] o l = (o, l)
 behind_here c begin m image (act ∷ acts) o l = inl (o.0, l)
 
 behind_earlier : (c : Contents) (begin between after m : ℕ) (image : List ℕ) (xs ys : List Act) → m ≤ between → InOrder c begin ys between → InOrder (contents_from c ys) between xs after →
-    left_behind c begin (xs ++ ys) m image ↔ left_behind c begin ys m image
+    LeftBehind c begin (xs ++ ys) m image ↔ LeftBehind c begin ys m image
 behind_earlier c begin between after m image [] ys h q o = (λ l. l, λ l. l)
 behind_earlier c begin between after m image (Wrote k at bytes ∷ xs) ys h q o =
     let rest = behind_earlier c begin between (k - 1) m image xs ys h q o.2 in
@@ -144,7 +144,7 @@ behind_earlier c begin between after m image (Cut k left ∷ xs) ys h q o =
     )
 
 -- Past that clock a crash leaves what the later acts let it leave.
-within_later : (c : Contents) (begin between m : ℕ) (image : List ℕ) (xs ys : List Act) → between < m → InOrder c begin ys between → left_within c begin (xs ++ ys) m image → left_within (contents_from c ys) between xs m image
+within_later : (c : Contents) (begin between m : ℕ) (image : List ℕ) (xs ys : List Act) → between < m → InOrder c begin ys between → LeftWithin c begin (xs ++ ys) m image → LeftWithin (contents_from c ys) between xs m image
 within_later c begin between m image [] [] h q l = (h, l.1)
 within_later c begin between m image [] (Wrote k at bytes ∷ ys) h q (inl here) = (h, here.1)
 within_later c begin between m image [] (Wrote k at bytes ∷ ys) h q (inr before) = absurd (omega (arith, h, q.0, before.0))
@@ -155,7 +155,7 @@ within_later c begin between m image [] (Cut k left ∷ ys) h q (inr before) = a
 within_later c begin between m image (x ∷ xs) ys h q (inl here) = inl (here.0, subst (λ d. Left d image) (sym (from_append c (x ∷ xs) ys)) here.1)
 within_later c begin between m image (x ∷ xs) ys h q (inr before) = inr (before.0, within_later c begin between m image xs ys h q before.1)
 
-behind_later : (c : Contents) (begin between m : ℕ) (image : List ℕ) (xs ys : List Act) → between < m → InOrder c begin ys between → left_behind c begin (xs ++ ys) m image → left_behind (contents_from c ys) between xs m image
+behind_later : (c : Contents) (begin between m : ℕ) (image : List ℕ) (xs ys : List Act) → between < m → InOrder c begin ys between → LeftBehind c begin (xs ++ ys) m image → LeftBehind (contents_from c ys) between xs m image
 behind_later c begin between m image [] [] h q l = (omega (arith, h), l.1)
 behind_later c begin between m image [] (Wrote k at bytes ∷ ys) h q (inl here) = (omega (arith, h), here.1)
 behind_later c begin between m image [] (Wrote k at bytes ∷ ys) h q (inr before) = absurd (omega (arith, h, q.0, before.0))
@@ -185,9 +185,9 @@ in_earlier begin between end m first mid last image a b h =
 pub after_later : (begin between m : ℕ) (first mid last : Told) (image : List ℕ) → Timed begin first between mid → (acts : List Act) → last.acts ≡ acts ++ mid.acts → between < m → LeftAfter first begin last m image → LeftAfter mid between last m image
 after_later begin between m first mid last image a acts s h l =
     rw (since_is mid last acts s, contents_since first mid a.acts a.image a.since)
-    (behind_later (contents first) begin between m image acts a.acts h a.order (subst (λ x. left_behind (contents first) begin x m image) (since_both first mid last acts a.acts a.since s) l))
+    (behind_later (contents first) begin between m image acts a.acts h a.order (subst (λ x. LeftBehind (contents first) begin x m image) (since_both first mid last acts a.acts a.since s) l))
 
 pub in_later : (begin between m : ℕ) (first mid last : Told) (image : List ℕ) → Timed begin first between mid → (acts : List Act) → last.acts ≡ acts ++ mid.acts → between < m → LeftIn first begin last m image → LeftIn mid between last m image
 in_later begin between m first mid last image a acts s h l =
     rw (since_is mid last acts s, contents_since first mid a.acts a.image a.since)
-    (within_later (contents first) begin between m image acts a.acts h a.order (subst (λ x. left_within (contents first) begin x m image) (since_both first mid last acts a.acts a.since s) l))
+    (within_later (contents first) begin between m image acts a.acts h a.order (subst (λ x. LeftWithin (contents first) begin x m image) (since_both first mid last acts a.acts a.since s) l))
