@@ -1,5 +1,7 @@
 -- The disk in memory as a machine: what each call leaves of it.
-use Rattle.std.specs.Prelude.{◌≡◌, ◌⊎◌, ℕ, ◌+◌, ◌^◌, ◌-◌, ◌==◌, Bool, true, false, List, [], length, Result, Ok, Err, Option, None, Some, if◌then◌else◌}
+use Rattle.std.specs.Prelude.{◌≡◌, ◌⊎◌, ℕ, ◌+◌, ◌^◌, ◌-◌, ◌==◌, Bool, true, false, List, [], length, replicate, Result, Ok, Err, Option, None, Some, if◌then◌else◌}
+use Rattle.std.proofs.Common.{refl, sym, ap, ◌∙◌}
+use Rattle.std.proofs.lemmas.List.{length-replicate}
 use Rattle.std.specs.Option.{option_map}
 use Rattle.eden_disk.specs.declared.disk.DiskRefusal.{DiskRefusal}
 use Rattle.eden_disk.specs.declared.disk.DiskRefusal.TheVariants.{Failed, Stopped}
@@ -27,6 +29,31 @@ begun_with image = record {
   failure = None;
   stop = None;
 }
+
+-- So many zero bytes. It does not compute by itself, since a disk has millions.
+unfoldable pub zeros : ℕ → List ℕ
+zeros size = replicate size 0
+
+pub zeros_are : (size : ℕ) → zeros size ≡ replicate size 0
+unfolding zeros
+zeros_are size = refl
+
+pub length-zeros : (size : ℕ) → length (zeros size) ≡ size
+length-zeros size = ap length (zeros_are size) ∙ length-replicate size 0
+
+-- a disk of zero bytes likewise
+abbrev pub blank_of : ℕ → Simulated
+blank_of size = record {
+  counts = record { size = size; power = true; clock = 0; faults = 0; stops = 0; wants = 0 };
+  told = record { image = zeros size; acts = [] };
+  failure = None;
+  stop = None;
+}
+
+pub begun_blank : (image : List ℕ) (size : ℕ) → image ≡ replicate size 0 → begun_with image ≡ blank_of size
+begun_blank image size e =
+    let is : image ≡ zeros size = e ∙ sym (zeros_are size) in
+    ap begun_with is ∙ ap (λ n. record (blank_of size) { counts = record (blank_of size).counts { size = n } }) (length-zeros size)
 
 abbrev pub stop_due : ArmedStop → ℕ
 stop_due s = s.due

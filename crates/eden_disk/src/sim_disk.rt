@@ -2,7 +2,7 @@
 ghost use Rattle.std.specs.Prelude.{◌≡◌, ◌+◌, ◌≤◌, ◌<◌, ◌-◌, ◌^◌, ℕ, Bool, true, IsTrue, length, replicate, slice_range, IfOk, OnOk, OnErr, Err, Some, None};
 ghost use Rattle.eden_disk.specs.Told.{contents, Left};
 ghost use Rattle.eden_disk.specs.Calls.{end_of, calls_until, one_more, DeviceCall, Obeys, IsSpent, ReadTold, SyncTold, WriteTold, IsCut};
-ghost use Rattle.eden_disk.specs.SimDisk.{begun_with, due_of, next_end, mode_of, counted, failed, stopped, without_memory, after_read, after_sync, after_write, after_power_cut, armed_with, IsCall};
+ghost use Rattle.eden_disk.specs.SimDisk.{begun_with, blank_of, due_of, next_end, mode_of, counted, failed, stopped, without_memory, after_read, after_sync, after_write, after_power_cut, armed_with, IsCall};
 
 use crate::disk::{Arm, Disk, DiskRefusal, ImageMode};
 use crate::medium::Medium;
@@ -53,7 +53,7 @@ impl Model for SimDisk {
 impl SimDisk {
     /// A disk of zero bytes, with power and no faults.
     pub fn new(alloc: Global, size: u32) -> Result<SimDisk, AllocError>
-        ensures { IfOk result (λ d. d ≡ begun_with (replicate size 0)) }
+        ensures { IfOk result (λ d. d ≡ blank_of size) }
     {
         let image = vec![in alloc; 0u8; size as usize]?;
         SimDisk::of(alloc, image)

@@ -1,16 +1,15 @@
-ghost use Rattle.std.specs.Prelude.{◌≡◌, ◌≤◌, IsTrue, length, false};
+ghost use Rattle.std.specs.Prelude.{◌≡◌, ◌≤◌, IsTrue, length, false, IfOk};
+ghost use Rattle.eden_disk.specs.SimDisk.{begun_with};
 
 use crate::{
     Arm, Disk, DiskRefusal, ImageMode, SimDisk, calls_are_timed, earlier_moments_stay,
     left_after_a_call, left_in_a_call,
 };
+use std::alloc::{AllocError, Global};
+use std::process::Abort;
 use std::test::Fail;
 
-const MODES: [ImageMode; 3] = [
-    ImageMode::Keep,
-    ImageMode::Lose,
-    ImageMode::Garble { byte: 225 },
-];
+const GARBLE: ImageMode = ImageMode::Garble { byte: 35 };
 
 #[test]
 fn a_cut_leaves_what_its_mode_says(rt: HostRuntime) -> Result<(), Fail> {
@@ -32,13 +31,17 @@ fn a_cut_leaves_what_its_mode_says(rt: HostRuntime) -> Result<(), Fail> {
     Ok(())
 }
 
-#[test]
-fn a_disk_shows_the_image_that_it_was_made_of(rt: HostRuntime) -> Result<(), Fail> {
-    let disk = SimDisk::of(rt.alloc(), vec![in rt.alloc(); 1, 2, 3]?)?;
-    assert!(rt; disk.image() == [1, 2, 3].as_slice());
-    assert_eq!(rt; disk.size(), 3);
-    assert_eq!(rt; disk.clock(), 0);
-    Ok(())
+/// A disk of eight dots.
+fn dots(alloc: Global) -> Result<SimDisk, AllocError>
+    ensures { IfOk result (λ d. IsTrue d.counts.power × (d.counts.size ≡ 8)) }
+{
+    let image = Vec::from_slice(alloc, b"........")?;
+    SimDisk::of(alloc, image)
+}
+
+/// Clock, faults, stops and wants.
+fn counts<D: Disk>(disk: &D) -> [u64; 4] {
+    [disk.clock(), disk.faults(), disk.stops(), disk.wants()]
 }
 
 /// A write of four bytes, a sync, a write of three and a read of two, up to the first refusal.
@@ -47,243 +50,131 @@ fn run<D: Disk>(disk: &mut D, out: &mut [u8]) -> Result<(), DiskRefusal>
     requires size { 8 ≤ (D.counts disk.old).size }
     requires two { length out.old ≡ 2 }
 {
-    disk.write(2, &[1, 2, 3, 4])?;
+    disk.write(2, b"abcd")?;
     disk.sync()?;
-    disk.write(3, &[5, 6, 7])?;
+    disk.write(3, b"xyz")?;
     disk.read(3, out)
 }
 
 #[test]
 fn a_run_without_faults(rt: HostRuntime) -> Result<(), Fail> {
-    let mut disk = SimDisk::new(rt.alloc(), 8)?;
+    let mut disk = dots(rt.alloc())?;
+    assert!(rt; disk.image() == b"........".as_slice());
+    assert_eq!(rt; disk.size(), 8);
     let mut out = [0; 2];
     assert_eq!(rt; run(&mut disk, &mut out), Ok(()));
-    assert_eq!(rt; out, [5, 6]);
-    assert!(rt; disk.image() == [0, 0, 1, 5, 6, 7, 0, 0].as_slice());
-    assert_eq!(rt; disk.clock(), 4);
-    assert_eq!(rt; disk.faults() + disk.stops() + disk.wants(), 0);
+    assert!(rt; out.as_slice() == b"xy".as_slice());
+    assert!(rt; disk.image() == b"..axyz..".as_slice());
+    assert!(rt; counts(&disk) == [4, 0, 0, 0]);
     Ok(())
 }
 
-/// For each call of the run, what is left where it is stopped, and where it fails and the power is cut then: with the
-/// unsynced bytes kept, lost and garbled.
-const LEFT: [(u32, [[u8; 8]; 3], [[u8; 8]; 3]); 4] = [
-    (
-        1,
-        [
-            [0, 0, 1, 2, 3, 4, 0, 0],
-            [0, 0, 0, 0, 0, 0, 0, 0],
-            [0, 0, 225, 225, 225, 225, 0, 0],
-        ],
-        [
-            [0, 0, 1, 2, 0, 0, 0, 0],
-            [0, 0, 0, 0, 0, 0, 0, 0],
-            [0, 0, 225, 225, 225, 225, 0, 0],
-        ],
-    ),
-    (
-        2,
-        [
-            [0, 0, 1, 2, 3, 4, 0, 0],
-            [0, 0, 0, 0, 0, 0, 0, 0],
-            [0, 0, 225, 225, 225, 225, 0, 0],
-        ],
-        [
-            [0, 0, 1, 2, 3, 4, 0, 0],
-            [0, 0, 0, 0, 0, 0, 0, 0],
-            [0, 0, 225, 225, 225, 225, 0, 0],
-        ],
-    ),
-    (
-        3,
-        [
-            [0, 0, 1, 5, 6, 7, 0, 0],
-            [0, 0, 1, 2, 3, 4, 0, 0],
-            [0, 0, 1, 225, 225, 225, 0, 0],
-        ],
-        [
-            [0, 0, 1, 5, 3, 4, 0, 0],
-            [0, 0, 1, 2, 3, 4, 0, 0],
-            [0, 0, 1, 225, 225, 225, 0, 0],
-        ],
-    ),
-    (
-        4,
-        [
-            [0, 0, 1, 5, 6, 7, 0, 0],
-            [0, 0, 1, 2, 3, 4, 0, 0],
-            [0, 0, 1, 225, 225, 225, 0, 0],
-        ],
-        [
-            [0, 0, 1, 5, 6, 7, 0, 0],
-            [0, 0, 1, 2, 3, 4, 0, 0],
-            [0, 0, 1, 225, 225, 225, 0, 0],
-        ],
-    ),
+/// What each call of the run leaves where it is stopped or fails: with the unsynced bytes kept after a stop, kept after
+/// a failure, lost and garbled after either.
+const LEFT: [[&str; 4]; 4] = [
+    ["..abcd..", "..ab....", "........", "..####.."],
+    ["..abcd..", "..abcd..", "........", "..####.."],
+    ["..axyz..", "..axcd..", "..abcd..", "..a###.."],
+    ["..axyz..", "..axyz..", "..abcd..", "..a###.."],
 ];
 
+fn stop_at(
+    rt: &impl Abort,
+    alloc: Global,
+    after: u32,
+    mode: ImageMode,
+    image: &str,
+) -> Result<(), AllocError>
+    requires { 1 ≤ after }
+{
+    let mut disk = dots(alloc)?;
+    let mut out = [0; 2];
+    disk.arm(Arm::Stop { after, mode });
+    assert_eq!(rt; run(&mut disk, &mut out), Err(DiskRefusal::Stopped));
+    assert!(rt; disk.image() == image.as_bytes());
+    assert!(rt; counts(&disk) == [after as u64, 0, 1, 0]);
+    disk.restart();
+    assert_eq!(rt; disk.sync(), Ok(()));
+    Ok(())
+}
+
+fn fail_at(
+    rt: &impl Abort,
+    alloc: Global,
+    after: u32,
+    mode: ImageMode,
+    image: &str,
+) -> Result<(), AllocError>
+    requires { 1 ≤ after }
+{
+    let mut disk = dots(alloc)?;
+    let mut out = [0; 2];
+    disk.arm(Arm::Fail { after });
+    assert_eq!(rt; run(&mut disk, &mut out), Err(DiskRefusal::Failed));
+    assert!(rt; out == [0; 2]);
+    assert!(rt; counts(&disk) == [after as u64, 1, 0, 0]);
+    disk.cut_power(mode);
+    assert!(rt; disk.image() == image.as_bytes());
+    disk.restart();
+    assert_eq!(rt; disk.sync(), Ok(()));
+    Ok(())
+}
+
 #[test]
-fn an_armed_stop_leaves_its_image_in_each_call(rt: HostRuntime) -> Result<(), Fail> {
-    for (after, stopped, _) in LEFT {
-        for (mode, image) in MODES.iter().zip(stopped.iter()) {
-            let mut disk = SimDisk::new(rt.alloc(), 8)?;
-            let mut out = [9; 2];
-            disk.arm(Arm::Stop { after, mode: *mode });
-            assert_eq!(rt; run(&mut disk, &mut out), Err(DiskRefusal::Stopped));
-            assert!(rt; disk.image() == image.as_slice(), "stop {after}");
-            assert_eq!(rt; disk.clock(), after as u64);
-            assert_eq!(rt; (disk.faults(), disk.stops(), disk.wants()), (0, 1, 0));
-            disk.restart();
-            assert_eq!(rt; run(&mut disk, &mut out), Ok(()));
-            assert_eq!(rt; out, [5, 6]);
-        }
+fn a_fault_in_each_call_leaves_its_image(rt: HostRuntime) -> Result<(), Fail> {
+    for after in 1..5u32 {
+        let [kept, half, lost, garbled] = LEFT[after as usize - 1];
+        stop_at(&rt, rt.alloc(), after, ImageMode::Keep, kept)?;
+        stop_at(&rt, rt.alloc(), after, ImageMode::Lose, lost)?;
+        stop_at(&rt, rt.alloc(), after, GARBLE, garbled)?;
+        fail_at(&rt, rt.alloc(), after, ImageMode::Keep, half)?;
+        fail_at(&rt, rt.alloc(), after, ImageMode::Lose, lost)?;
+        fail_at(&rt, rt.alloc(), after, GARBLE, garbled)?;
     }
     Ok(())
 }
 
 #[test]
-fn an_armed_failure_falls_on_its_call(rt: HostRuntime) -> Result<(), Fail> {
-    for (after, _, failed) in LEFT {
-        for (mode, image) in MODES.iter().zip(failed.iter()) {
-            let mut disk = SimDisk::new(rt.alloc(), 8)?;
-            let mut out = [9; 2];
-            disk.arm(Arm::Fail { after });
-            assert_eq!(rt; run(&mut disk, &mut out), Err(DiskRefusal::Failed));
-            assert_eq!(rt; out, [9, 9]);
-            disk.cut_power(*mode);
-            assert!(rt; disk.image() == image.as_slice(), "failure {after}");
-            assert_eq!(rt; disk.clock(), after as u64);
-            assert_eq!(rt; (disk.faults(), disk.stops(), disk.wants()), (1, 0, 0));
-            disk.restart();
-            assert_eq!(rt; run(&mut disk, &mut out), Ok(()));
-        }
-    }
-    Ok(())
-}
-
-#[test]
-fn requests_replace_their_kind_and_a_stop_goes_first(rt: HostRuntime) -> Result<(), Fail> {
-    let mut disk = SimDisk::new(rt.alloc(), 8)?;
+fn a_request_replaces_one_of_its_sort(rt: HostRuntime) -> Result<(), Fail> {
+    let mut disk = dots(rt.alloc())?;
     disk.arm(Arm::Fail { after: 1 });
     disk.arm(Arm::Fail { after: 2 });
     assert_eq!(rt; disk.sync(), Ok(()));
     assert_eq!(rt; disk.sync(), Err(DiskRefusal::Failed));
-    disk.arm(Arm::Fail { after: 1 });
-    disk.arm(Arm::Stop {
-        after: 1,
-        mode: ImageMode::Lose,
-    });
-    assert_eq!(rt; disk.sync(), Err(DiskRefusal::Stopped));
-    disk.restart();
     assert_eq!(rt; disk.sync(), Ok(()));
-    assert_eq!(rt; (disk.faults(), disk.stops()), (1, 1));
+    Ok(())
+}
+
+#[test]
+fn a_stop_goes_before_a_failure(rt: HostRuntime) -> Result<(), Fail> {
+    let mut disk = dots(rt.alloc())?;
+    let mode = ImageMode::Keep;
+    disk.arm(Arm::Stop { after: 1, mode });
+    disk.arm(Arm::Fail { after: 1 });
+    assert_eq!(rt; disk.sync(), Err(DiskRefusal::Stopped));
     Ok(())
 }
 
 #[test]
 fn a_failed_write_of_one_byte_leaves_its_place_unsynced(rt: HostRuntime) -> Result<(), Fail> {
-    let mut disk = SimDisk::new(rt.alloc(), 2)?;
+    let mut disk = dots(rt.alloc())?;
     disk.arm(Arm::Fail { after: 1 });
-    assert_eq!(rt; disk.write(0, &[5]), Err(DiskRefusal::Failed));
-    assert!(rt; disk.image() == [0, 0].as_slice());
-    disk.cut_power(ImageMode::Garble { byte: 3 });
-    assert!(rt; disk.image() == [3, 0].as_slice());
-    Ok(())
-}
-
-/// A disk that shows another byte at one place, and so tells nothing. It ignores what it is asked to arm.
-#[derive(Drop)]
-struct Altered {
-    inner: SimDisk,
-}
-
-impl Disk for Altered {
-    ghost use Rattle.eden_disk.specs.SimDisk.{due_of};
-
-    ghost tells = { false };
-
-    ghost obeys = { false };
-
-    ghost counts = { λ d. d.inner.counts };
-
-    ghost told = { λ d. d.inner.told };
-
-    ghost due = { λ d. due_of d.inner };
-
-    fn size(&self) -> u32 {
-        self.inner.size()
-    }
-
-    fn clock(&self) -> u64 {
-        self.inner.clock()
-    }
-
-    fn faults(&self) -> u64 {
-        self.inner.faults()
-    }
-
-    fn stops(&self) -> u64 {
-        self.inner.stops()
-    }
-
-    fn wants(&self) -> u64 {
-        self.inner.wants()
-    }
-
-    fn read(&mut self, at: u32, out: &mut [u8]) -> Result<(), DiskRefusal> {
-        self.inner.read(at, out)?;
-        if !out.is_empty() {
-            out[0] = 120;
-        }
-        Ok(())
-    }
-
-    fn write(&mut self, at: u32, bytes: &[u8]) -> Result<(), DiskRefusal> {
-        self.inner.write(at, bytes)
-    }
-
-    fn sync(&mut self) -> Result<(), DiskRefusal> {
-        self.inner.sync()
-    }
-
-    fn cut_power(&mut self, mode: ImageMode) {
-        self.inner.cut_power(mode);
-    }
-
-    fn restart(&mut self) {
-        self.inner.restart();
-    }
-
-    fn arm(&mut self, _what: Arm) {}
-}
-
-#[test]
-fn a_disk_may_tell_nothing_and_ignore_requests(rt: HostRuntime) -> Result<(), Fail> {
-    let inner = SimDisk::new(rt.alloc(), 8)?;
-    let mut disk = Altered { inner };
-    let mut out = [0; 2];
-    disk.arm(Arm::Fail { after: 1 });
-    assert_eq!(rt; run(&mut disk, &mut out), Ok(()));
-    assert_eq!(rt; out, [120, 6]);
-    assert_eq!(rt; disk.size(), 8);
-    disk.cut_power(ImageMode::Lose);
-    disk.restart();
-    assert_eq!(rt; disk.clock(), 4);
-    assert_eq!(rt; disk.faults() + disk.stops() + disk.wants(), 0);
+    assert_eq!(rt; disk.write(0, b"a"), Err(DiskRefusal::Failed));
+    assert!(rt; disk.image() == b"........".as_slice());
+    disk.cut_power(GARBLE);
+    assert!(rt; disk.image() == b"#.......".as_slice());
     Ok(())
 }
 
 #[test]
 fn a_large_disk_takes_time_in_what_is_written(rt: HostRuntime) -> Result<(), Fail> {
     let mut disk = SimDisk::new(rt.alloc(), 4_194_304)?;
-    let piece = [7; 1024];
-    for block in 0..4096u32 {
-        assert_eq!(rt; disk.write(block * 1024, &piece), Ok(()));
+    for _ in 0..4096 {
+        disk.restart();
+        assert_eq!(rt; disk.write(4_194_000, b"abcd"), Ok(()));
         assert_eq!(rt; disk.sync(), Ok(()));
         disk.cut_power(ImageMode::Keep);
-        disk.restart();
     }
-    assert_eq!(rt; disk.image()[4_194_303], 7);
     assert_eq!(rt; disk.clock(), 8192);
     Ok(())
 }
