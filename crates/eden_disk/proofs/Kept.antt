@@ -1,7 +1,7 @@
 -- What a disk in memory keeps after each change.
-use Rattle.std.proofs.Common.{◌≡◌, ◌⊎◌, ℕ, ◌+◌, ◌-◌, suc, ◌≤◌, ◌<◌, Bool, false, List, [], ◌∷◌, ◌++◌, length, take, drop, get_or, slice_range, map, reverse, replicate, refl, sym, ap, subst, ◌∙◌, inl, inr, arith, length-append}
+use Rattle.std.proofs.Common.{◌≡◌, ◌⊎◌, ℕ, ◌+◌, ◌-◌, suc, ◌≤◌, ◌<◌, Bool, false, List, [], ◌∷◌, ◌++◌, length, take, drop, get_or, slice_range, map, reverse, replicate, refl, sym, ap, subst, ◌∙◌, inl, inr, arith}
 use Rattle.std.specs.Prelude.{◌||◌}
-use Rattle.std.proofs.lemmas.List.{ext_get_or, map-append, reverse-append, length-take-le, take_all, length-drop, length-replicate, get_or_append_left, get_or-append_right, get_or-take, get_or-drop}
+use Rattle.std.proofs.lemmas.List.{ext_get_or, map-append, reverse-append, length-take-le, take_all, length-drop, length-replicate, get_or-take, get_or-drop}
 use Rattle.std.proofs.lemmas.List.Elements.{All-push}
 use Rattle.std.proofs.lemmas.Bool.Decides.{nat_tests}
 use Rattle.std.specs.Prelude.{Vec}
@@ -13,7 +13,7 @@ use Rattle.eden_disk.specs.declared.medium.Entry.TheVariants.{Written, Cut as En
 use Rattle.eden_disk.specs.Calls.{IsCut}
 use Rattle.eden_disk.specs.declared.medium.Span.{Span}
 use Rattle.eden_disk.specs.Told.{Contents, Range, Wrote, at_rest, after_act, contents_from, contents, overlay, noted, Left, is_marked, in_range}
-use Rattle.eden_disk.specs.Images.{garbled, image_left, cut_by, after_cut}
+use Rattle.eden_disk.specs.Images.{garbled, image_left}
 use Rattle.eden_disk.specs.Entries.{act_of, acts_of, told_of, range_of, AllFit, copied, AgreeElsewhere, IsKeptBy}
 use Rattle.eden_disk.specs.Overlay.{length-overlay, overlay_inside, overlay_outside}
 

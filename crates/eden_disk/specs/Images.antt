@@ -1,5 +1,5 @@
 -- The images that a disk in memory leaves.
-use Rattle.std.specs.Prelude.{◌≡◌, ℕ, ◌+◌, ◌/◌, ◌++◌, take, slice_range, List, [], ◌∷◌, length, replicate}
+use Rattle.std.specs.Prelude.{ℕ, ◌+◌, ◌/◌, ◌++◌, take, slice_range, List, [], ◌∷◌, length, replicate}
 use Rattle.eden_disk.specs.declared.disk.ImageMode.{ImageMode}
 use Rattle.eden_disk.specs.declared.disk.ImageMode.TheVariants.{Keep, Lose, Garble}
 use Rattle.eden_disk.specs.Told.{Contents, Range, Told, Cut, contents, overlay, noted}

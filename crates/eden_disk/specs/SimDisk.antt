@@ -1,10 +1,10 @@
 -- The disk in memory as a machine: what each call leaves of it.
-use Rattle.std.specs.Prelude.{◌≡◌, ◌⊎◌, ℕ, ◌+◌, ◌^◌, ◌-◌, ◌==◌, Bool, true, false, List, [], length, replicate, Result, Ok, Err, Option, None, Some, if◌then◌else◌}
+use Rattle.std.specs.Prelude.{◌≡◌, ◌⊎◌, ℕ, ◌+◌, ◌^◌, ◌-◌, ◌==◌, true, false, List, [], length, replicate, Result, Err, Option, None, Some, if◌then◌else◌}
 use Rattle.std.proofs.Common.{refl, sym, ap, ◌∙◌}
 use Rattle.std.proofs.lemmas.List.{length-replicate}
 use Rattle.std.specs.Option.{option_map}
 use Rattle.eden_disk.specs.declared.disk.DiskRefusal.{DiskRefusal}
-use Rattle.eden_disk.specs.declared.disk.DiskRefusal.TheVariants.{Failed, Stopped}
+use Rattle.eden_disk.specs.declared.disk.DiskRefusal.TheVariants.{Failed}
 use Rattle.eden_disk.specs.declared.disk.ImageMode.{ImageMode}
 use Rattle.eden_disk.specs.declared.disk.ImageMode.TheVariants.{Keep}
 use Rattle.eden_disk.specs.declared.disk.Arm.{Arm}

@@ -1,12 +1,10 @@
 ghost use Rattle.std.specs.Prelude.{◌≡◌, ◌≤◌, IsTrue, length, false, IfOk};
-ghost use Rattle.eden_disk.specs.SimDisk.{begun_with};
 
 use crate::{
     Arm, Disk, DiskRefusal, ImageMode, SimDisk, calls_are_timed, earlier_moments_stay,
     left_after_a_call, left_in_a_call,
 };
 use std::alloc::{AllocError, Global};
-use std::process::Abort;
 use std::test::Fail;
 
 const GARBLE: ImageMode = ImageMode::Garble { byte: 35 };
@@ -66,71 +64,6 @@ fn a_run_without_faults(rt: HostRuntime) -> Result<(), Fail> {
     assert!(rt; out.as_slice() == b"xy".as_slice());
     assert!(rt; disk.image() == b"..axyz..".as_slice());
     assert!(rt; counts(&disk) == [4, 0, 0, 0]);
-    Ok(())
-}
-
-/// What each call of the run leaves where it is stopped or fails: with the unsynced bytes kept after a stop, kept after
-/// a failure, lost and garbled after either.
-const LEFT: [[&str; 4]; 4] = [
-    ["..abcd..", "..ab....", "........", "..####.."],
-    ["..abcd..", "..abcd..", "........", "..####.."],
-    ["..axyz..", "..axcd..", "..abcd..", "..a###.."],
-    ["..axyz..", "..axyz..", "..abcd..", "..a###.."],
-];
-
-fn stop_at(
-    rt: &impl Abort,
-    alloc: Global,
-    after: u32,
-    mode: ImageMode,
-    image: &str,
-) -> Result<(), AllocError>
-    requires { 1 ≤ after }
-{
-    let mut disk = dots(alloc)?;
-    let mut out = [0; 2];
-    disk.arm(Arm::Stop { after, mode });
-    assert_eq!(rt; run(&mut disk, &mut out), Err(DiskRefusal::Stopped));
-    assert!(rt; disk.image() == image.as_bytes());
-    assert!(rt; counts(&disk) == [after as u64, 0, 1, 0]);
-    disk.restart();
-    assert_eq!(rt; disk.sync(), Ok(()));
-    Ok(())
-}
-
-fn fail_at(
-    rt: &impl Abort,
-    alloc: Global,
-    after: u32,
-    mode: ImageMode,
-    image: &str,
-) -> Result<(), AllocError>
-    requires { 1 ≤ after }
-{
-    let mut disk = dots(alloc)?;
-    let mut out = [0; 2];
-    disk.arm(Arm::Fail { after });
-    assert_eq!(rt; run(&mut disk, &mut out), Err(DiskRefusal::Failed));
-    assert!(rt; out == [0; 2]);
-    assert!(rt; counts(&disk) == [after as u64, 1, 0, 0]);
-    disk.cut_power(mode);
-    assert!(rt; disk.image() == image.as_bytes());
-    disk.restart();
-    assert_eq!(rt; disk.sync(), Ok(()));
-    Ok(())
-}
-
-#[test]
-fn a_fault_in_each_call_leaves_its_image(rt: HostRuntime) -> Result<(), Fail> {
-    for after in 1..5u32 {
-        let [kept, half, lost, garbled] = LEFT[after as usize - 1];
-        stop_at(&rt, rt.alloc(), after, ImageMode::Keep, kept)?;
-        stop_at(&rt, rt.alloc(), after, ImageMode::Lose, lost)?;
-        stop_at(&rt, rt.alloc(), after, GARBLE, garbled)?;
-        fail_at(&rt, rt.alloc(), after, ImageMode::Keep, half)?;
-        fail_at(&rt, rt.alloc(), after, ImageMode::Lose, lost)?;
-        fail_at(&rt, rt.alloc(), after, GARBLE, garbled)?;
-    }
     Ok(())
 }
 
