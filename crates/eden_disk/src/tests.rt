@@ -5,6 +5,7 @@ use crate::{
     left_after_a_call, left_in_a_call,
 };
 use std::alloc::{AllocError, Global};
+use std::process::Abort;
 use std::test::Fail;
 
 const GARBLE: ImageMode = ImageMode::Garble { byte: 35 };
@@ -64,6 +65,64 @@ fn a_run_without_faults(rt: HostRuntime) -> Result<(), Fail> {
     assert!(rt; out.as_slice() == b"xy".as_slice());
     assert!(rt; disk.image() == b"..axyz..".as_slice());
     assert!(rt; counts(&disk) == [4, 0, 0, 0]);
+    Ok(())
+}
+
+fn stop_behind(
+    rt: &impl Abort,
+    alloc: Global,
+    calls: u8,
+    mode: ImageMode,
+    image: &str,
+) -> Result<(), AllocError> {
+    let after = calls as u32 + 1;
+    let mut disk = dots(alloc)?;
+    let mut out = [0; 2];
+    disk.arm(Arm::Stop { after, mode });
+    assert_eq!(rt; run(&mut disk, &mut out), Err(DiskRefusal::Stopped));
+    assert!(rt; disk.image() == image.as_bytes());
+    assert!(rt; counts(&disk) == [after as u64, 0, 1, 0]);
+    disk.restart();
+    assert_eq!(rt; disk.sync(), Ok(()));
+    Ok(())
+}
+
+fn fail_behind(
+    rt: &impl Abort,
+    alloc: Global,
+    calls: u8,
+    mode: ImageMode,
+    image: &str,
+) -> Result<(), AllocError> {
+    let after = calls as u32 + 1;
+    let mut disk = dots(alloc)?;
+    let mut out = [0; 2];
+    disk.arm(Arm::Fail { after });
+    assert_eq!(rt; run(&mut disk, &mut out), Err(DiskRefusal::Failed));
+    assert!(rt; out == [0; 2]);
+    assert!(rt; counts(&disk) == [after as u64, 1, 0, 0]);
+    disk.cut_power(mode);
+    assert!(rt; disk.image() == image.as_bytes());
+    Ok(())
+}
+
+/// Behind so many calls of the run the next one is stopped, or fails and the power is cut then.
+#[test]
+fn a_fault_in_each_call_leaves_its_image(rt: HostRuntime) -> Result<(), Fail> {
+    // calls; unsynced bytes kept after a stop, kept after a failure, lost, garbled
+    for (calls, kept, half, lost, garbled) in [
+        (0u8, "..abcd..", "..ab....", "........", "..####.."),
+        (1, "..abcd..", "..abcd..", "........", "..####.."),
+        (2, "..axyz..", "..axcd..", "..abcd..", "..a###.."),
+        (3, "..axyz..", "..axyz..", "..abcd..", "..a###.."),
+    ] {
+        stop_behind(&rt, rt.alloc(), calls, ImageMode::Keep, kept)?;
+        stop_behind(&rt, rt.alloc(), calls, ImageMode::Lose, lost)?;
+        stop_behind(&rt, rt.alloc(), calls, GARBLE, garbled)?;
+        fail_behind(&rt, rt.alloc(), calls, ImageMode::Keep, half)?;
+        fail_behind(&rt, rt.alloc(), calls, ImageMode::Lose, lost)?;
+        fail_behind(&rt, rt.alloc(), calls, GARBLE, garbled)?;
+    }
     Ok(())
 }
 
