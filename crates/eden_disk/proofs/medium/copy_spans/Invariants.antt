@@ -1,0 +1,6 @@
+use Rattle.std.proofs.Common.{◌≡◌, length, map, reverse, take}
+use Rattle.eden_disk.specs.Entries.{range_of, copied}
+use Rattle.eden_disk.proofs.medium.copy_spans.Given as goal
+
+abbrev pub invariant-loop-span : goal.invariant-loop-span
+invariant-loop-span l = (l.into.items ≡ copied l.from.items (map range_of (reverse (take l.span-index l.spans.items))) l.initial.into.items) × (length l.into.items ≡ length l.initial.into.items)

@@ -1,0 +1,10 @@
+pub mod Told
+pub mod Calls
+pub mod Held
+pub mod Moments
+pub mod Timed
+pub mod InCall
+pub mod Images
+pub mod Overlay
+pub mod Entries
+pub mod SimDisk

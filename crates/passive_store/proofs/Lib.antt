@@ -1,0 +1,13 @@
+mod Getting
+mod Headers
+mod Images
+mod Jobs
+mod Openings
+mod Ordered
+mod Parsing
+mod Pendings
+mod Spelling
+mod Tails
+mod Walk
+mod Walking
+mod Writing

@@ -1,0 +1,211 @@
+-- The first entry of an index, in the order of uids, that is of a kind.
+use Rattle.std.proofs.Common.{◌≡◌, ◌⊎◌, ℕ, Bool, true, false, cond, IsTrue, List, [], ◌∷◌, ◌++◌, Option, None, Some, refl, sym, ap, subst, ◌∙◌, inl, inr}
+use Rattle.std.specs.Prelude.{◌==◌, ◌&&◌, not, is_some}
+use Rattle.std.specs.List.{find, filter, AllByRecursion}
+use Rattle.std.specs.List.Sorted.{IsStrictlySortedBy}
+use Rattle.std.specs.Map.{lookup, keys_of}
+use Rattle.std.specs.Option.{option_map, option_and_then}
+use Rattle.std.specs.Ordering.{is_eq, is_lt}
+use Rattle.std.specs.declared.cmp.Ordering.{Ordering}
+use Rattle.std.specs.declared.cmp.Ordering.TheVariants.{Less, Equal, Greater}
+use Rattle.std.specs.declared.ops.Bound.{Bound}
+use Rattle.std.specs.declared.ops.Bound.TheVariants.{Excluded, Unbounded}
+use Rattle.std.specs.BTreeMap.{BTreeMap, is_at}
+use Rattle.std.specs.BTreeMap.Range.{range_contains}
+use Rattle.std.proofs.lemmas.Bool.{false≢true}
+use Rattle.std.proofs.lemmas.Bool.Decides.{eqb_tells}
+use Rattle.std.proofs.lemmas.Cmp.{tied_itself}
+use Rattle.std.proofs.lemmas.Map.Entries.{lookup_head, lookup_tail}
+use Rattle.std.proofs.lemmas.Map.Keys.{sorted_head, sorted_tail}
+use Rattle.capability.specs.declared.Uid.{Uid}
+use Rattle.capability.specs.Uids.{uid_cmp, uid_eq, uid_cmp_total, uid_cmp-IsAntisymmetric}
+use Rattle.passive_store.specs.declared.index.Slot.{Slot}
+use Rattle.passive_store.specs.Kept.{IsBehind, IsNextOf}
+use Rattle.passive_store.specs.LogState.{slot_at}
+
+either : (b : Bool) → (b ≡ true) ⊎ (b ≡ false)
+either true = inl refl
+either false = inr refl
+
+tied : (o : Ordering) → is_eq o ≡ true → o ≡ Equal
+tied Less h = absurd (false≢true h)
+tied Equal h = refl
+tied Greater h = absurd (false≢true h)
+
+-- uids at one place are one
+pub one_uid : (a b : Uid) → is_at (uid_cmp a) b ≡ true → a ≡ b
+one_uid a b h = uid_cmp-IsAntisymmetric a b (tied (uid_cmp a b) h)
+
+at_itself : (a : Uid) → is_at (uid_cmp a) a ≡ true
+at_itself a = ap is_eq (tied_itself uid_cmp_total a)
+
+chosen : (b : Bool) (x : Option Slot) (y : Option (Option Slot)) (z : Option Slot) → cond b (Some x) y ≡ Some z → ((b ≡ true) × (x ≡ z)) ⊎ ((b ≡ false) × (y ≡ Some z))
+chosen true x y z e = inl (refl, cc)
+chosen false x y z e = inr (refl, e)
+
+hit : (uid : Uid) (e : Uid × Option Slot) (es : List (Uid × Option Slot)) (slot : Option Slot) → lookup (is_at (uid_cmp uid)) (e ∷ es) ≡ Some slot →
+    ((uid ≡ e.0) × (e.1 ≡ slot)) ⊎ (lookup (is_at (uid_cmp uid)) es ≡ Some slot)
+hit uid e es slot h = elim (chosen (is_at (uid_cmp uid) e.0) e.1 (lookup (is_at (uid_cmp uid)) es) slot h) [
+  | inl here ↦ inl (one_uid uid e.0 here.0, here.1)
+  | inr there ↦ inr there.1
+]
+
+-- what stands in an ordered list is behind all that is before it
+above : (key uid : Uid) (es : List (Uid × Option Slot)) (slot : Option Slot) → AllByRecursion (λ y. uid_cmp key y ≡ Less) (keys_of es) → lookup (is_at (uid_cmp uid)) es ≡ Some slot → uid_cmp key uid ≡ Less
+above key uid [] slot all h = absurd cc
+above key uid (e ∷ es) slot all h = elim (hit uid e es slot h) [
+  | inl here ↦ subst (λ u. uid_cmp key u ≡ Less) (sym here.0) all.0
+  | inr there ↦ above key uid es slot all.1 there
+]
+
+-- of the entries that p lets in, the first that passes a test
+abbrev pub IsFirstOf : (Uid → Bool) → (Uid × Option Slot → Bool) → List (Uid × Option Slot) → Option (Uid × Option Slot) → Type 0
+IsFirstOf p test es None = (uid : Uid) (slot : Option Slot) → p uid ≡ true → lookup (is_at (uid_cmp uid)) es ≡ Some slot → test (uid, slot) ≡ true → ⊥
+IsFirstOf p test es (Some f) =
+    (p f.0 ≡ true) × (test f ≡ true) × (lookup (is_at (uid_cmp f.0)) es ≡ Some f.1)
+    × ((uid : Uid) (slot : Option Slot) → p uid ≡ true → lookup (is_at (uid_cmp uid)) es ≡ Some slot → test (uid, slot) ≡ true → (uid ≡ f.0) ⊎ (uid_cmp f.0 uid ≡ Less))
+
+-- an entry that is not let in, or does not pass, changes nothing
+passed_by : (p : Uid → Bool) (test : Uid × Option Slot → Bool) (e : Uid × Option Slot) (es : List (Uid × Option Slot)) (found : Option (Uid × Option Slot)) → (p e.0 ≡ true → test e ≡ true → ⊥) →
+    IsStrictlySortedBy uid_cmp (keys_of (e ∷ es)) → IsFirstOf p test es found → IsFirstOf p test (e ∷ es) found
+passed_by p test e es None not_it sorted first = λ uid slot let_in h passes. elim (hit uid e es slot h) [
+  | inl here ↦ not_it (ap p (sym here.0) ∙ let_in) (subst (λ u. test (u, e.1) ≡ true) here.0 (subst (λ s. test (uid, s) ≡ true) (sym here.1) passes))
+  | inr there ↦ first uid slot let_in there passes
+]
+passed_by p test e es (Some f) not_it sorted first = (
+  first.0,
+  first.1,
+  elim (either (is_at (uid_cmp f.0) e.0)) [
+    | inl same ↦ absurd (let one : f.0 ≡ e.0 = one_uid f.0 e.0 same in
+        let less : uid_cmp e.0 f.0 ≡ Less = above e.0 f.0 es f.1 (sorted_head uid_cmp e.0 (keys_of es) sorted) first.2 in
+        let level : uid_cmp e.0 f.0 ≡ Equal = ap (uid_cmp e.0) one ∙ tied_itself uid_cmp_total e.0 in
+        let bad : Less ≡ Equal = sym less ∙ level in cc)
+    | inr other ↦ lookup_tail (is_at (uid_cmp f.0)) e es other ∙ first.2
+  ],
+  λ uid slot let_in h passes. elim (hit uid e es slot h) [
+    | inl here ↦ absurd (not_it (ap p (sym here.0) ∙ let_in) (subst (λ u. test (u, e.1) ≡ true) here.0 (subst (λ s. test (uid, s) ≡ true) (sym here.1) passes)))
+    | inr there ↦ first.3 uid slot let_in there passes
+  ],
+)
+
+found_at : (p : Uid → Bool) (test : Uid × Option Slot → Bool) (e : Uid × Option Slot) (es : List (Uid × Option Slot)) → p e.0 ≡ true → test e ≡ true →
+    IsStrictlySortedBy uid_cmp (keys_of (e ∷ es)) → IsFirstOf p test (e ∷ es) (Some e)
+found_at p test e es let_in passes sorted = (
+  let_in,
+  passes,
+  lookup_head (is_at (uid_cmp e.0)) e es (at_itself e.0),
+  λ uid slot inside h good. elim (hit uid e es slot h) [
+    | inl here ↦ inl here.0
+    | inr there ↦ inr (above e.0 uid es slot (sorted_head uid_cmp e.0 (keys_of es) sorted) there)
+  ],
+)
+
+by_tests : (p : Uid → Bool) (test : Uid × Option Slot → Bool) (e : Uid × Option Slot) (es : List (Uid × Option Slot)) (a b : Bool) → p e.0 ≡ a → test e ≡ b →
+    IsStrictlySortedBy uid_cmp (keys_of (e ∷ es)) → IsFirstOf p test es (find test (filter (λ (x : Uid × Option Slot). p x.0) es)) →
+    IsFirstOf p test (e ∷ es) (find test (cond a (e ∷ filter (λ (x : Uid × Option Slot). p x.0) es) (filter (λ (x : Uid × Option Slot). p x.0) es)))
+by_tests p test e es false b inside passes sorted first = passed_by p test e es _ (λ q r. false≢true (sym inside ∙ q)) sorted first
+by_tests p test e es true true inside passes sorted first = subst (λ c. IsFirstOf p test (e ∷ es) (cond c (Some e) (find test (filter (λ (x : Uid × Option Slot). p x.0) es)))) (sym passes) (found_at p test e es inside passes sorted)
+by_tests p test e es true false inside passes sorted first = subst (λ c. IsFirstOf p test (e ∷ es) (cond c (Some e) (find test (filter (λ (x : Uid × Option Slot). p x.0) es)))) (sym passes) (passed_by p test e es _ (λ q r. false≢true (sym passes ∙ r)) sorted first)
+
+pub first_of_all : (p : Uid → Bool) (test : Uid × Option Slot → Bool) (es : List (Uid × Option Slot)) → IsStrictlySortedBy uid_cmp (keys_of es) → IsFirstOf p test es (find test (filter (λ (x : Uid × Option Slot). p x.0) es))
+first_of_all p test [] sorted = λ uid slot let_in h passes. absurd cc
+first_of_all p test (e ∷ es) sorted =
+    by_tests p test e es (p e.0) (test e) refl refl sorted (first_of_all p test es (sorted_tail uid_cmp e.0 (keys_of es) sorted))
+
+-- uids that are told to be equal are one
+both : (a b : Bool) → (a && b) ≡ true → (a ≡ true) × (b ≡ true)
+both true b e = (refl, e)
+both false b e = absurd (false≢true e)
+
+joined : (a b : Bool) → a ≡ true → b ≡ true → (a && b) ≡ true
+joined true b p q = q
+joined false b p q = absurd (false≢true p)
+
+not_true : (b : Bool) → not b ≡ true → b ≡ true → ⊥
+not_true true n e = false≢true n
+not_true false n e = false≢true e
+
+not_false : (b : Bool) → (b ≡ true → ⊥) → not b ≡ true
+not_false true wrong = absurd (wrong refl)
+not_false false wrong = refl
+
+same_number : (x y : ℕ) → (x == y) ≡ true → x ≡ y
+same_number x y h = elim (eqb_tells x y) [ inl p ↦ p.1 | inr p ↦ absurd (false≢true (sym p.0 ∙ h)) ]
+
+equal_itself : (x : ℕ) → (x == x) ≡ true
+equal_itself x = elim (eqb_tells x x) [ inl p ↦ p.0 | inr p ↦ absurd (p.1 refl) ]
+
+eq_uid : (a b : Uid) → uid_eq a b ≡ true → a ≡ b
+eq_uid a b h =
+    let p = both (a.node == b.node) ((a.epoch == b.epoch) && (a.serial == b.serial)) h in
+    let q = both (a.epoch == b.epoch) (a.serial == b.serial) p.1 in
+    λ i. record { node = same_number a.node b.node p.0 i; epoch = same_number a.epoch b.epoch q.0 i; serial = same_number a.serial b.serial q.1 i }
+
+uid_eq_itself : (a : Uid) → uid_eq a a ≡ true
+uid_eq_itself a = joined (a.node == a.node) ((a.epoch == a.epoch) && (a.serial == a.serial)) (equal_itself a.node) (joined (a.epoch == a.epoch) (a.serial == a.serial) (equal_itself a.epoch) (equal_itself a.serial))
+
+abbrev pub bound_of : Option Uid → Bound Uid
+bound_of None = Unbounded
+bound_of (Some uid) = Excluded uid
+
+abbrev pub has_slot : Uid → Uid × Option Slot → Bool
+has_slot reserved e = is_some e.1 && not (uid_eq e.0 reserved)
+
+is_less : (o : Ordering) → (is_lt o && true) ≡ true → o ≡ Less
+is_less Less h = refl
+is_less Equal h = absurd (false≢true h)
+is_less Greater h = absurd (false≢true h)
+
+behind_of : (from : Option Uid) (uid : Uid) → range_contains uid_cmp (bound_of from) Unbounded uid ≡ true → IsBehind from uid
+behind_of None uid h = tt
+behind_of (Some a) uid h = is_less (uid_cmp a uid) h
+
+of_behind : (from : Option Uid) (uid : Uid) → IsBehind from uid → range_contains uid_cmp (bound_of from) Unbounded uid ≡ true
+of_behind None uid h = refl
+of_behind (Some a) uid h = ap (λ o. is_lt o && true) h
+
+slot_is : (found : Option (Option Slot)) → IsTrue (is_some (option_and_then (λ (s : Option Slot). s) found)) → (slot : Option Slot) × (found ≡ Some slot) × (is_some slot ≡ true)
+slot_is None h = absurd (false≢true h)
+slot_is (Some slot) h = (slot, refl, h)
+
+pub next_of : (index : BTreeMap Uid (Option Slot)) (from : Option Uid) (reserved : Uid) (found : Option (Uid × Option Slot)) → IsFirstOf (λ uid. range_contains uid_cmp (bound_of from) Unbounded uid) (has_slot reserved) index.entries found →
+    IsNextOf (λ uid. is_some (slot_at index uid)) reserved from (option_map (λ (e : Uid × Option Slot). e.0) found)
+next_of index from reserved None first = λ uid behind some other.
+    let s = slot_is (lookup (is_at (uid_cmp uid)) index.entries) some in
+    first uid s.0 (of_behind from uid behind) s.1 (joined (is_some s.0) (not (uid_eq uid reserved)) s.2 (not_false (uid_eq uid reserved) (λ e. other (eq_uid uid reserved e))))
+next_of index from reserved (Some f) first =
+    let t = both (is_some f.1) (not (uid_eq f.0 reserved)) first.1 in (
+      behind_of from f.0 first.0,
+      ap (λ x. is_some (option_and_then (λ (s : Option Slot). s) x)) first.2 ∙ t.0,
+      λ e. not_true (uid_eq f.0 reserved) t.1 (ap (λ u. uid_eq u reserved) e ∙ uid_eq_itself reserved),
+      λ uid behind some other.
+          let s = slot_is (lookup (is_at (uid_cmp uid)) index.entries) some in
+          first.3 uid s.0 (of_behind from uid behind) s.1 (joined (is_some s.0) (not (uid_eq uid reserved)) s.2 (not_false (uid_eq uid reserved) (λ e. other (eq_uid uid reserved e)))),
+    )
+
+-- of the same kind is the same next
+pub next_as : (p q : Uid → Bool) (reserved : Uid) (from next : Option Uid) → ((uid : Uid) → q uid ≡ p uid) → IsNextOf p reserved from next → IsNextOf q reserved from next
+next_as p q reserved from None same next = λ uid behind one other. next uid behind (subst IsTrue (same uid) one) other
+next_as p q reserved from (Some x) same next = (next.0, subst IsTrue (sym (same x)) next.1, next.2, λ uid behind one other. next.3 uid behind (subst IsTrue (same uid) one) other)
+
+pub some_mapped : {A B : Type 0} (f : A → B) (o : Option A) → is_some (option_map f o) ≡ is_some o
+some_mapped f None = refl
+some_mapped f (Some x) = refl
+
+-- none of these entries passes a test
+abbrev pub NonePasses : (Uid × Option Slot → Bool) → List (Uid × Option Slot) → Type 0
+NonePasses test [] = Unit {0}
+NonePasses test (e ∷ es) = (test e ≡ false) × NonePasses test es
+
+pub none_more : (test : Uid × Option Slot → Bool) (es : List (Uid × Option Slot)) (e : Uid × Option Slot) → NonePasses test es → test e ≡ false → NonePasses test (es ++ e ∷ [])
+none_more test [] e none fails = (fails, tt)
+none_more test (x ∷ es) e none fails = (none.0, none_more test es e none.1 fails)
+
+-- the first of a list that passes, behind those that do not
+pub found_behind : (test : Uid × Option Slot → Bool) (es rest : List (Uid × Option Slot)) (e : Uid × Option Slot) → NonePasses test es → test e ≡ true → find test (es ++ e ∷ rest) ≡ Some e
+found_behind test [] rest e none passes = ap (λ b. cond b (Some e) (find test rest)) passes
+found_behind test (x ∷ es) rest e none passes = ap (λ b. cond b (Some x) (find test (es ++ e ∷ rest))) none.0 ∙ found_behind test es rest e none.1 passes
+
+pub found_none : (test : Uid × Option Slot → Bool) (es : List (Uid × Option Slot)) → NonePasses test es → find test es ≡ None
+found_none test [] none = refl
+found_none test (x ∷ es) none = ap (λ b. cond b (Some x) (find test es)) none.0 ∙ found_none test es none.1

@@ -1,0 +1,357 @@
+-- A log with a pending record, through one device call.
+use Rattle.std.proofs.Common.{◌≡◌, ℕ, suc, zero, ◌+◌, ◌≤◌, ◌<◌, Bool, true, false, cond, List, [], ◌∷◌, ◌++◌, length, take, drop, refl, sym, ap, subst, ◌∙◌, inl, arith, length-append, length-drop}
+use Rattle.std.specs.Prelude.{◌==◌, not, Option, None, Some, Ok, Err, IfSome, IsSome, slice_index, slice_range, map}
+use Rattle.std.specs.Prelude.{if◌then◌else◌, nat_le}
+use Rattle.std.proofs.Common.{◌-◌}
+use Rattle.std.proofs.lemmas.Bool.Decides.{nat_tests}
+use Rattle.std.specs.Option.{option_map}
+use Rattle.std.specs.FinMap as finite
+use Rattle.std.specs.Cmp.{eq_by_cmp_equiv}
+use Rattle.std.specs.BTreeMap.{BTreeMap}
+use Rattle.std.proofs.lemmas.List.{length-take-le, take-append-drop, drop_more, map-append}
+use Rattle.std.proofs.lemmas.Bool.{false≢true}
+use Rattle.capability.specs.declared.Uid.{Uid}
+use Rattle.capability.specs.Uids.{uid_cmp_total}
+use Rattle.eden_disk.specs.Told.{Told, Contents, contents, at_rest, EachMoment, LeavesOnly}
+use Rattle.eden_disk.specs.Calls.{Counts, End, ReadTold, SyncTold}
+use Rattle.eden_disk.specs.Held.{Holds, Passes, holds_at_rest, passes_read, passes_sync}
+use Rattle.passive_store.specs.declared.store.Pick.TheVariants.{New}
+use Rattle.passive_store.specs.declared.index.Slot.{Slot}
+use Rattle.passive_store.specs.declared.log_store.Pending.{Pending}
+use Rattle.passive_store.specs.declared.log_store.Stage.{Stage}
+use Rattle.passive_store.specs.declared.log_store.Stage.TheVariants.{Begun, Written, Synced, Opened, Ended}
+use Rattle.passive_store.specs.Kept.{Change, Kept, Shown, Work, Idle, Busy, Unsettled, nothing_kept, kept_after, IsFresh, Stands, changes_in, change_in, doubt_in, is_busy, made_in, Layout, shown_advanced, settled, is_unsettled, is_synced, unsynced, settling_calls}
+use Rattle.passive_store.specs.declared.store.StoreRefusal.{StoreRefusal}
+use Rattle.passive_store.specs.declared.store.Progress.TheVariants.{Going, Done}
+use Rattle.passive_store.specs.Log.{HalfWritten, log_map, kept_from}
+use Rattle.passive_store.specs.LogState.{records_before, slot_of, SetsSlot, IsPendingOf, IsLog, IsPlaced, IsUntouched, IsAtStage, IsStaged, IsShut, IsOpened, IsJobAfter, JobFacts, made_at, stage_after, stage_synced, staged, change_of, pending_work, log_shown, log_layout, body_length, IsRecordOf, IsIndex, slot_at, within_room}
+use Rattle.passive_store.proofs.Walk.{kept_from_more}
+use Rattle.passive_store.proofs.Tails.{moved, half_front, same_records, placed_more, log_stands, writing_moments, written_log, is_half, found_shut, found_open, fresh_value, rest_is}
+
+abbrev pub with_stage : Pending → Stage → Pending
+with_stage p s = record { uid = p.uid; removal = p.removal; length = p.length; «record» = p.record; stage = s }
+
+pub restaged : (node tail : ℕ) (kept : Kept) (p : Pending) (s : Stage) → IsPendingOf node tail kept p → IsPendingOf node tail kept (with_stage p s)
+restaged node tail kept p s i = record { bytes = i.bytes; is = i.is; spells = i.spells; size = i.size; long = i.long; fresh = i.fresh }
+
+-- A device call kept the pending record half written.
+pub record Keeps (node size tail : ℕ) (old new : Told) (before after : Counts) (index : BTreeMap Uid (Option Slot)) (q : Option Pending) (p : Pending) : Type 0 where
+  pub is : q ≡ Some p
+  pub placed : IsPlaced size tail before index q
+  pub log : IsLog node size tail (contents old) index q
+  pub passes : Passes (HalfWritten size (take tail (contents old).now) p.record.items) old new
+  pub sized : after.size ≡ before.size
+
+pub pending_is : (node size tail : ℕ) (c : Contents) (index : BTreeMap Uid (Option Slot)) (q : Option Pending) (p : Pending) → q ≡ Some p → IsLog node size tail c index q → IsLog node size tail c index (Some p)
+pending_is node size tail c index q p e l = subst (IsLog node size tail c index) e l
+
+pub keeps_placed : (node size tail : ℕ) (old new : Told) (before after : Counts) (index : BTreeMap Uid (Option Slot)) (q : Option Pending) (p : Pending) (s : Stage) → Keeps node size tail old new before after index q p →
+    IsPlaced size tail after index (Some (with_stage p s))
+keeps_placed node size tail old new before after index q p s k =
+    let placed : IsPlaced size tail before index (Some p) = subst (IsPlaced size tail before index) k.is k.placed in
+    record { sized = k.sized ∙ placed.sized; begins = placed.begins; ends = placed.ends; slots = placed.slots; placed = placed.placed }
+
+pub keeps_log : (node size tail : ℕ) (old new : Told) (before after : Counts) (index : BTreeMap Uid (Option Slot)) (q : Option Pending) (p : Pending) (s : Stage) → Keeps node size tail old new before after index q p →
+    IsUntouched tail (contents new) s → IsLog node size tail (contents new) index (Some (with_stage p s))
+keeps_log node size tail old new before after index q p s k untouched =
+    let l : IsLog node size tail (contents old) index (Some p) = subst (IsLog node size tail (contents old) index) k.is k.log in
+    moved node size tail (contents old) (contents new) index q (with_stage p s) k.placed.begins k.placed.ends k.placed.slots k.log k.passes.after
+    (restaged node tail (kept_from nothing_kept (records_before node tail (contents old).now)) p s l.end.1) untouched
+
+pub keeps_records : (node size tail : ℕ) (old new : Told) (before after : Counts) (index : BTreeMap Uid (Option Slot)) (q : Option Pending) (p : Pending) → Keeps node size tail old new before after index q p →
+    records_before node tail (contents new).now ≡ records_before node tail (contents old).now
+keeps_records node size tail old new before after index q p k = same_records node size tail (contents old) (contents new) p (omega (arith, k.log.whole, k.placed.ends)) k.passes.after.now
+
+pub keeps_shown : (node size tail : ℕ) (old new : Told) (before after : Counts) (index : BTreeMap Uid (Option Slot)) (q : Option Pending) (p : Pending) → Keeps node size tail old new before after index q p →
+    log_shown node tail (contents new).now ≡ log_shown node tail (contents old).now
+keeps_shown node size tail old new before after index q p k =
+    ap (λ rs. record { kept = kept_from nothing_kept rs; written = map body_length rs }) (keeps_records node size tail old new before after index q p k)
+
+staged_change : (c : Change) (s : Stage) → change_in (staged c s) ≡ Some c
+staged_change c Begun = refl
+staged_change c Written = refl
+staged_change c Synced = refl
+staged_change c Opened = refl
+staged_change c (Ended synced) = refl
+
+pub keeps_moments : (node size tail : ℕ) (old new : Told) (before after : Counts) (index : BTreeMap Uid (Option Slot)) (q : Option Pending) (p : Pending) → Keeps node size tail old new before after index q p →
+    EachMoment (Stands (log_map node) (kept_from nothing_kept (records_before node tail (contents old).now)) (changes_in (change_in (pending_work tail q)))) old new
+keeps_moments node size tail old new before after index q p k =
+    let l : IsLog node size tail (contents old) index (Some p) = subst (IsLog node size tail (contents old) index) k.is k.log in
+    let change : change_in (pending_work tail q) ≡ Some (change_of tail p) = ap (λ x. change_in (pending_work tail x)) k.is ∙ staged_change (change_of tail p) p.stage in
+    subst (λ x. EachMoment (Stands (log_map node) (kept_from nothing_kept (records_before node tail (contents old).now)) (changes_in x)) old new) (sym change)
+    (writing_moments node size tail old new before index q p k.placed k.log l.end.1 k.passes.moments)
+
+-- what the pending record's stage says of its job
+at_stage : (size tail : ℕ) (c : Contents) (items : List ℕ) (stage : Stage) → length c.now ≡ size → tail + 1 + length items ≤ size → IsUntouched tail c stage → IsAtStage tail items c stage → JobFacts (take tail c.now) items (made_at stage) c
+at_stage size tail c items Begun whole fits untouched at =
+    let here : tail < length c.now = omega (arith, whole) in
+    (untouched.0, (slice_index c.now tail, drop (tail + 1) c.now, untouched.1, sym (take-append-drop tail c.now) ∙ ap (λ r. take tail c.now ++ r) (drop_more c.now tail 0 here), omega (arith, whole, length-drop (tail + 1) c.now)))
+at_stage size tail c items Written whole fits untouched at = at
+at_stage size tail c items Synced whole fits untouched at = at
+at_stage size tail c items Opened whole fits untouched at = at
+at_stage size tail c items (Ended synced) whole fits untouched at = tt
+
+pub job_at : (node size tail : ℕ) (c : Contents) (counts : Counts) (index : BTreeMap Uid (Option Slot)) (q : Option Pending) (p : Pending) (items : List ℕ) → q ≡ Some p → items ≡ p.record.items →
+    IsPlaced size tail counts index q → IsLog node size tail c index q → IsStaged tail c q → IsJobAfter counts.size (take tail c.now) items (made_at p.stage) c
+job_at node size tail c counts index q p items e same placed l staged =
+    let lp : IsLog node size tail c index (Some p) = subst (IsLog node size tail c index) e l in
+    let pp : IsPlaced size tail counts index (Some p) = subst (IsPlaced size tail counts index) e placed in
+    let sp : IsStaged tail c (Some p) = subst (IsStaged tail c) e staged in
+    subst (λ n. IsJobAfter n (take tail c.now) items (made_at p.stage) c) (sym placed.sized)
+    (subst (λ w. IsJobAfter size (take tail c.now) w (made_at p.stage) c) (sym same)
+    (lp.end.0, at_stage size tail c p.record.items p.stage lp.whole pp.placed.0 lp.end.2 sp))
+
+pub front_long : (node size tail : ℕ) (c : Contents) (counts : Counts) (index : BTreeMap Uid (Option Slot)) (q : Option Pending) → IsPlaced size tail counts index q → IsLog node size tail c index q → length (take tail c.now) ≡ tail
+front_long node size tail c counts index q placed l = length-take-le tail c.now (omega (arith, l.whole, placed.ends))
+
+-- a call of the job, with the bytes that it was given
+pub keeps_of : (node size tail : ℕ) (old new : Told) (before after : Counts) (index : BTreeMap Uid (Option Slot)) (q : Option Pending) (p : Pending) (items : List ℕ) → q ≡ Some p → items ≡ p.record.items →
+    IsPlaced size tail before index q → IsLog node size tail (contents old) index q → after.size ≡ before.size → Passes (HalfWritten before.size (take tail (contents old).now) items) old new →
+    Keeps node size tail old new before after index q p
+keeps_of node size tail old new before after index q p items e same placed l sized passes =
+    record {
+      is = e;
+      placed = placed;
+      log = l;
+      sized = sized;
+      passes = subst (λ n. Passes (HalfWritten n (take tail (contents old).now) p.record.items) old new) placed.sized (subst (λ w. Passes (HalfWritten before.size (take tail (contents old).now) w) old new) same passes);
+    }
+
+-- the front is still there
+pub same_front : (node size tail : ℕ) (old new : Told) (before after : Counts) (index : BTreeMap Uid (Option Slot)) (q : Option Pending) (p : Pending) → Keeps node size tail old new before after index q p →
+    take tail (contents old).now ≡ take tail (contents new).now
+same_front node size tail old new before after index q p k =
+    sym (subst (λ n. take n (contents new).now ≡ take tail (contents old).now) (front_long node size tail (contents old) before index q k.placed k.log) (half_front size (take tail (contents old).now) p.record.items (contents new).now k.passes.after.now))
+
+next_facts : (tail : ℕ) (front items : List ℕ) (c : Contents) (stage next : Stage) → stage_after stage ≡ Some next → front ≡ take tail c.now → JobFacts front items (made_at stage + 1) c → IsUntouched tail c next × IsAtStage tail items c next
+next_facts tail front items c Begun next e same facts =
+    let is : Written ≡ next = cc in subst (λ s. IsUntouched tail c s × IsAtStage tail items c s) is (tt, subst (λ f. IsShut f items c.now) same facts)
+next_facts tail front items c Written next e same facts =
+    let is : Synced ≡ next = cc in subst (λ s. IsUntouched tail c s × IsAtStage tail items c s) is (tt, subst (λ f. (c ≡ at_rest c.now) × IsShut f items c.now) same facts)
+next_facts tail front items c Synced next e same facts =
+    let is : Opened ≡ next = cc in subst (λ s. IsUntouched tail c s × IsAtStage tail items c s) is (tt, subst (λ f. IsOpened f items c.now) same facts)
+next_facts tail front items c Opened next e same facts = absurd cc
+next_facts tail front items c (Ended synced) next e same facts = absurd cc
+
+-- the job goes on with its next stage
+pub keeps_next : (node size tail : ℕ) (old new : Told) (before after : Counts) (index : BTreeMap Uid (Option Slot)) (q : Option Pending) (p : Pending) (items : List ℕ) (next : Stage) → Keeps node size tail old new before after index q p →
+    items ≡ p.record.items → stage_after p.stage ≡ Some next → IsJobAfter before.size (take tail (contents old).now) items (made_at p.stage + 1) (contents new) →
+    IsUntouched tail (contents new) next × IsAtStage tail p.record.items (contents new) next
+keeps_next node size tail old new before after index q p items next k same e job =
+    next_facts tail (take tail (contents old).now) p.record.items (contents new) p.stage next e (same_front node size tail old new before after index q p k)
+    (subst (λ w. JobFacts (take tail (contents old).now) w (made_at p.stage + 1) (contents new)) same job.1)
+
+last_facts : (front items : List ℕ) (c d : Contents) (change : Change) (stage : Stage) → stage_after stage ≡ None → is_busy (staged change stage) ≡ true → JobFacts front items (made_at stage + 1) d →
+    (rest : List ℕ) × (d ≡ at_rest (front ++ 225 ∷ (items ++ rest)))
+last_facts front items c d change Begun e busy facts = absurd cc
+last_facts front items c d change Written e busy facts = absurd cc
+last_facts front items c d change Synced e busy facts = absurd cc
+last_facts front items c d change Opened e busy facts = (facts.1.0, facts.0 ∙ ap at_rest facts.1.1)
+last_facts front items c d change (Ended synced) e busy facts = absurd (false≢true busy)
+
+-- the job is done
+pub job_done : (node size tail : ℕ) (old new : Told) (before after : Counts) (index more : BTreeMap Uid (Option Slot)) (q : Option Pending) (p : Pending) (items : List ℕ) (slot : Option Slot) → Keeps node size tail old new before after index q p →
+    items ≡ p.record.items → stage_after p.stage ≡ None → is_busy (pending_work tail q) ≡ true → IsJobAfter before.size (take tail (contents old).now) items (made_at p.stage + 1) (contents new) →
+    slot ≡ slot_of p.removal tail p.length → SetsSlot index more p.uid slot →
+    IsPlaced size (tail + p.length + 15) after more None × IsLog node size (tail + p.length + 15) (contents new) more None
+    × (log_shown node (tail + p.length + 15) (contents new).now ≡ made_in log_layout (change_of tail p) (log_shown node tail (contents old).now))
+job_done node size tail old new before after index more q p items slot k same e busy job slots sets =
+    let l : IsLog node size tail (contents old) index (Some p) = subst (IsLog node size tail (contents old) index) k.is k.log in
+    let placed : IsPlaced size tail before index (Some p) = subst (IsPlaced size tail before index) k.is k.placed in
+    let set : SetsSlot index more p.uid (slot_of p.removal tail p.length) = subst (SetsSlot index more p.uid) slots sets in
+    let facts : JobFacts (take tail (contents old).now) p.record.items (made_at p.stage + 1) (contents new) = subst (λ w. JobFacts (take tail (contents old).now) w (made_at p.stage + 1) (contents new)) same job.1 in
+    let rest = last_facts (take tail (contents old).now) p.record.items (contents old) (contents new) (change_of tail p) p.stage e (ap (λ x. is_busy (pending_work tail x)) (sym k.is) ∙ busy) facts in
+    let done = written_log node size tail (contents old) (contents new) rest.0 before index more q p k.placed k.log l.end.1 rest.1 k.passes.after.now.0 set in (
+      placed_more size tail p.length before after index more q p.uid p.removal k.placed k.sized (omega (arith, placed.placed.0, placed.placed.2)) set,
+      done.0,
+      ap (λ rs. record { kept = kept_from nothing_kept rs; written = map body_length rs }) done.1
+          ∙ ap (λ x. record { kept = x; written = map body_length (records_before node tail (contents old).now ++ change_of tail p ∷ []) }) (kept_from_more nothing_kept (records_before node tail (contents old).now) (change_of tail p))
+          ∙ ap (λ w. record { kept = kept_after (change_of tail p) (kept_from nothing_kept (records_before node tail (contents old).now)); written = w }) (map-append body_length (records_before node tail (contents old).now) (change_of tail p ∷ [])),
+    )
+
+pub shown_refused : (layout : Layout) (w : Work) (s : Shown) (e : StoreRefusal) → s ≡ shown_advanced layout w s (Err e)
+shown_refused layout Idle s e = refl
+shown_refused layout (Busy c made left) s e = refl
+shown_refused layout (Unsettled c synced) s e = refl
+
+pub shown_going : (layout : Layout) (w : Work) (s : Shown) → s ≡ shown_advanced layout w s (Ok Going)
+shown_going layout Idle s = refl
+shown_going layout (Busy c made left) s = refl
+shown_going layout (Unsettled c synced) s = refl
+
+staged_done : (c : Change) (stage : Stage) (s : Shown) → is_busy (staged c stage) ≡ true → made_in log_layout c s ≡ shown_advanced log_layout (staged c stage) s (Ok Done)
+staged_done c Begun s busy = refl
+staged_done c Written s busy = refl
+staged_done c Synced s busy = refl
+staged_done c Opened s busy = refl
+staged_done c (Ended synced) s busy = absurd (false≢true busy)
+
+pub shown_done : (tail : ℕ) (q : Option Pending) (p : Pending) (s : Shown) → q ≡ Some p → is_busy (pending_work tail q) ≡ true → made_in log_layout (change_of tail p) s ≡ shown_advanced log_layout (pending_work tail q) s (Ok Done)
+shown_done tail q p s e busy =
+    subst (λ x. is_busy (pending_work tail x) ≡ true → made_in log_layout (change_of tail p) s ≡ shown_advanced log_layout (pending_work tail x) s (Ok Done)) (sym e) (λ b. staged_done (change_of tail p) p.stage s b) busy
+
+-- a sync, and a read of the gate
+pub keeps_sync : (node size tail clock : ℕ) (old new : Told) (before after : Counts) (index : BTreeMap Uid (Option Slot)) (q : Option Pending) (p : Pending) (end : End) → q ≡ Some p →
+    IsPlaced size tail before index q → IsLog node size tail (contents old) index q → after.size ≡ before.size → SyncTold clock old new end → Keeps node size tail old new before after index q p
+keeps_sync node size tail clock old new before after index q p end e placed l sized told =
+    record { is = e; placed = placed; log = l; sized = sized; passes = passes_sync (HalfWritten size (take tail (contents old).now) p.record.items) clock old new end (is_half node size tail (contents old) index q p e l) told }
+
+pub keeps_read : (node size tail clock : ℕ) (old new : Told) (before after : Counts) (index : BTreeMap Uid (Option Slot)) (q : Option Pending) (p : Pending) (end : End) → q ≡ Some p →
+    IsPlaced size tail before index q → IsLog node size tail (contents old) index q → after.size ≡ before.size → ReadTold clock old new end → Keeps node size tail old new before after index q p
+keeps_read node size tail clock old new before after index q p end e placed l sized told =
+    record { is = e; placed = placed; log = l; sized = sized; passes = passes_read (HalfWritten size (take tail (contents old).now) p.record.items) clock old new end (is_half node size tail (contents old) index q p e l) told }
+
+unsettled_doubt : (w : Work) → is_unsettled w ≡ true → doubt_in w ≡ change_in w
+unsettled_doubt Idle u = refl
+unsettled_doubt (Busy c made left) u = absurd (false≢true u)
+unsettled_doubt (Unsettled c synced) u = refl
+
+pub doubt_moments : (node size tail : ℕ) (old new : Told) (before after : Counts) (index : BTreeMap Uid (Option Slot)) (q : Option Pending) (p : Pending) → Keeps node size tail old new before after index q p → is_unsettled (pending_work tail q) ≡ true →
+    EachMoment (Stands (log_map node) (kept_from nothing_kept (records_before node tail (contents old).now)) (changes_in (doubt_in (pending_work tail q)))) old new
+doubt_moments node size tail old new before after index q p k u =
+    subst (λ x. EachMoment (Stands (log_map node) (kept_from nothing_kept (records_before node tail (contents old).now)) (changes_in x)) old new) (sym (unsettled_doubt (pending_work tail q) u))
+    (keeps_moments node size tail old new before after index q p k)
+
+synced_rest : (tail : ℕ) (items : List ℕ) (c : Contents) (stage : Stage) → stage_synced stage ≡ true → IsAtStage tail items c stage → c ≡ at_rest c.now
+synced_rest tail items c Begun e at = absurd (false≢true e)
+synced_rest tail items c Written e at = absurd (false≢true e)
+synced_rest tail items c Synced e at = absurd (false≢true e)
+synced_rest tail items c Opened e at = absurd (false≢true e)
+synced_rest tail items c (Ended true) e at = at
+synced_rest tail items c (Ended false) e at = absurd (false≢true e)
+
+pub read_rest : (tail : ℕ) (c : Contents) (q : Option Pending) (p : Pending) → q ≡ Some p → stage_synced p.stage ≡ true → IsStaged tail c q → c ≡ at_rest c.now
+read_rest tail c q p e synced staged = synced_rest tail p.record.items c p.stage synced (subst (IsStaged tail c) e staged)
+
+pub settled_old : (node size tail : ℕ) (old new : Told) (before after : Counts) (index : BTreeMap Uid (Option Slot)) (q : Option Pending) (p : Pending) → Keeps node size tail old new before after index q p →
+    new ≡ old → contents old ≡ at_rest (contents old).now → (slice_index (contents old).now tail == 225) ≡ false → IsPlaced size tail after index None × IsLog node size tail (contents new) index None
+settled_old node size tail old new before after index q p k same rest shut = (
+  record { sized = k.sized ∙ k.placed.sized; begins = k.placed.begins; ends = k.placed.ends; slots = k.placed.slots; placed = tt },
+  subst (λ d. IsLog node size tail d index None) (sym (ap contents same ∙ rest)) (found_shut node size tail (contents old) index q k.log shut),
+)
+
+pub settled_new : (node size tail : ℕ) (old new : Told) (before after : Counts) (index more : BTreeMap Uid (Option Slot)) (q : Option Pending) (p : Pending) (slot : Option Slot) → Keeps node size tail old new before after index q p →
+    new ≡ old → contents old ≡ at_rest (contents old).now → (slice_index (contents old).now tail == 225) ≡ true → slot ≡ slot_of p.removal tail p.length → SetsSlot index more p.uid slot →
+    IsPlaced size (tail + p.length + 15) after more None × IsLog node size (tail + p.length + 15) (contents new) more None
+    × (log_shown node (tail + p.length + 15) (contents new).now ≡ made_in log_layout (change_of tail p) (log_shown node tail (contents old).now))
+settled_new node size tail old new before after index more q p slot k same rest is_open slots sets =
+    let placed : IsPlaced size tail before index (Some p) = subst (IsPlaced size tail before index) k.is k.placed in
+    let set : SetsSlot index more p.uid (slot_of p.removal tail p.length) = subst (SetsSlot index more p.uid) slots sets in
+    let found = found_open node size tail (contents old) before index more q p k.is k.placed k.log is_open set in
+    let at : contents new ≡ at_rest (contents old).now = ap contents same ∙ rest in (
+      placed_more size tail p.length before after index more q p.uid p.removal k.placed k.sized (omega (arith, placed.placed.0, placed.placed.2)) set,
+      subst (λ d. IsLog node size (tail + p.length + 15) d more None) (sym at) found.0,
+      ap (λ (d : Contents). log_shown node (tail + p.length + 15) d.now) at
+          ∙ ap (λ rs. record { kept = kept_from nothing_kept rs; written = map body_length rs }) found.1
+          ∙ ap (λ x. record { kept = x; written = map body_length (records_before node tail (contents old).now ++ change_of tail p ∷ []) }) (kept_from_more nothing_kept (records_before node tail (contents old).now) (change_of tail p))
+          ∙ ap (λ w. record { kept = kept_after (change_of tail p) (kept_from nothing_kept (records_before node tail (contents old).now)); written = w }) (map-append body_length (records_before node tail (contents old).now) (change_of tail p ∷ [])),
+    )
+
+staged_new : (c : Change) (stage : Stage) (s : Shown) → is_unsettled (staged c stage) ≡ true → made_in log_layout c s ≡ settled log_layout (Some New) (staged c stage) s
+staged_new c Begun s u = absurd (false≢true u)
+staged_new c Written s u = absurd (false≢true u)
+staged_new c Synced s u = absurd (false≢true u)
+staged_new c Opened s u = absurd (false≢true u)
+staged_new c (Ended synced) s u = refl
+
+pub shown_new : (tail : ℕ) (q : Option Pending) (p : Pending) (s : Shown) → q ≡ Some p → is_unsettled (pending_work tail q) ≡ true → made_in log_layout (change_of tail p) s ≡ settled log_layout (Some New) (pending_work tail q) s
+shown_new tail q p s e u =
+    subst (λ x. is_unsettled (pending_work tail x) ≡ true → made_in log_layout (change_of tail p) s ≡ settled log_layout (Some New) (pending_work tail x) s) (sym e) (λ b. staged_new (change_of tail p) p.stage s b) u
+
+pub unless_not : (b : Bool) → not b ≡ false → b ≡ true
+unless_not true e = refl
+unless_not false e = absurd (false≢true (sym e))
+
+none_marked : (slot : Option Slot) (part : Slot → List ℕ) → IsSome (option_map part slot) → None ≡ option_map (λ (s : Slot). s.gate) slot → ⊥
+none_marked None part some e = false≢true some
+none_marked (Some s) part some e = cc
+
+-- a removal of what is kept has a mark of its own, which is none
+fresh_removal : (index : BTreeMap Uid (Option Slot)) (kept : Kept) (tail : ℕ) (bytes : List ℕ) (uid : Uid) → IsIndex index kept tail bytes → IsSome (finite.get kept.bodies uid) → IsFresh (record { uid = uid; body = None; mark = tail }) kept
+fresh_removal index kept tail bytes uid i some = λ same. none_marked (slot_at index uid) (λ x. slice_range bytes (x.gate + 15) (x.gate + 15 + x.length)) (subst IsSome (i.bodies uid) some)
+    (sym (finite.get-remove uid_cmp_total kept.marks uid uid ∙ ap (λ b. cond b None (finite.get kept.marks uid)) ((eq_by_cmp_equiv uid_cmp_total).refl uid)) ∙ same ∙ i.marks uid)
+
+slice_long : (n : ℕ) (items : List ℕ) → 14 + n ≤ length items → length (slice_range items 14 (14 + n)) ≡ n
+slice_long n items fits = ap (λ m. length (take m (drop 14 items))) (omega arith) ∙ length-take-le n (drop 14 items) (omega (arith, fits, length-drop 14 items))
+
+body_long : (tail : ℕ) (uid : Uid) (removal : Bool) (n : ℕ) (items : List ℕ) → (removal ≡ true → n ≡ 0) → 14 + n ≤ length items →
+    body_length (record { uid = uid; body = cond removal None (Some (slice_range items 14 (14 + n))); mark = tail }) ≡ n
+body_long tail uid true n items empty fits = sym (empty refl)
+body_long tail uid false n items empty fits = slice_long n items fits
+
+fresh_change : (index : BTreeMap Uid (Option Slot)) (kept : Kept) (tail : ℕ) (bytes body : List ℕ) (uid : Uid) (removal : Bool) → ((u : Uid) → IfSome (slot_at index u) (λ (s : Slot). s.gate + 15 + s.length ≤ tail)) → IsIndex index kept tail bytes →
+    (removal ≡ true → IsSome (finite.get kept.bodies uid)) → IsFresh (record { uid = uid; body = cond removal None (Some body); mark = tail }) kept
+fresh_change index kept tail bytes body uid true within i some = fresh_removal index kept tail bytes uid i (some refl)
+fresh_change index kept tail bytes body uid false within i some = fresh_value index kept tail bytes body uid within i
+
+-- a record that is begun is a pending one
+pub pending_of : (node size tail : ℕ) (c : Contents) (counts : Counts) (index : BTreeMap Uid (Option Slot)) (q : Option Pending) (p : Pending) →
+    IsPlaced size tail counts index q → IsLog node size tail c index q → IsRecordOf node p.record.items p.uid p.removal p.length →
+    (p.removal ≡ true → IsSome (finite.get (kept_from nothing_kept (records_before node tail c.now)).bodies p.uid)) →
+    IsPendingOf node tail (kept_from nothing_kept (records_before node tail c.now)) p
+pending_of node size tail c counts index q p placed l r some = record {
+  bytes = r.bytes;
+  is = r.is;
+  spells = r.spells;
+  size = r.long;
+  long = body_long tail p.uid p.removal p.length p.record.items r.empty (omega (arith, ap length r.is, length-append r.bytes (0 ∷ []), r.long));
+  fresh = fresh_change index (kept_from nothing_kept (records_before node tail c.now)) tail c.now (slice_range p.record.items 14 (14 + p.length)) p.uid p.removal placed.slots l.indexed some;
+}
+
+-- a job begins
+pub begun_log : (node size tail : ℕ) (c : Contents) (counts : Counts) (index : BTreeMap Uid (Option Slot)) (q : Option Pending) (p : Pending) → q ≡ None → p.stage ≡ Begun →
+    IsPlaced size tail counts index q → IsLog node size tail c index q → IsPendingOf node tail (kept_from nothing_kept (records_before node tail c.now)) p → IsLog node size tail c index (Some p)
+begun_log node size tail c counts index q p none stage placed l is =
+    let n : IsLog node size tail c index None = subst (IsLog node size tail c index) none l in
+    let split : c.now ≡ take tail c.now ++ slice_index c.now tail ∷ drop (tail + 1) c.now = rest_is node size tail c counts index (subst (IsPlaced size tail counts index) none placed) n in
+    record {
+      whole = l.whole;
+      header = l.header;
+      front = l.front;
+      indexed = l.indexed;
+      sum = l.sum;
+      end = (
+        subst (Holds (HalfWritten size (take tail c.now) p.record.items)) (sym n.end.0) (holds_at_rest (HalfWritten size (take tail c.now) p.record.items) c.now (l.whole, inl (slice_index c.now tail, drop (tail + 1) c.now, n.end.1, split))),
+        is,
+        subst (IsUntouched tail c) (sym stage) n.end,
+      );
+    }
+
+within_yes : (room len : ℕ) → len ≤ room → within_room (Some room) len ≡ true
+within_yes room len fits = grind (arith, nat_tests)
+
+pub room_yes : (size used len : ℕ) → 32 + used + len ≤ size → within_room (if nat_le (32 + used) size then Some (size - (32 + used)) else None) len ≡ true
+room_yes size used len fits =
+    let t : nat_le (32 + used) size ≡ true = grind (arith, nat_tests) in
+    ap (λ b. within_room (if b then Some (size - (32 + used)) else None) len) t ∙ within_yes (size - (32 + used)) len (omega arith)
+
+-- the same of a pending record that is equal, and of one whose settling begins anew
+pub stands_at : (node size tail : ℕ) (c : Contents) (counts : Counts) (index : BTreeMap Uid (Option Slot)) (q r : Option Pending) → q ≡ r → IsPlaced size tail counts index q → IsLog node size tail c index q →
+    LeavesOnly (Stands (log_map node) (kept_from nothing_kept (records_before node tail c.now)) (changes_in (doubt_in (pending_work tail r)))) c
+stands_at node size tail c counts index q r e placed l =
+    subst (λ x. LeavesOnly (Stands (log_map node) (kept_from nothing_kept (records_before node tail c.now)) (changes_in (doubt_in (pending_work tail x)))) c) e (log_stands node size tail c counts index q placed l)
+
+pub stands_anew : (node size tail : ℕ) (c : Contents) (counts : Counts) (index : BTreeMap Uid (Option Slot)) (q : Option Pending) (p : Pending) → q ≡ Some p → IsPlaced size tail counts index q → IsLog node size tail c index q →
+    LeavesOnly (Stands (log_map node) (kept_from nothing_kept (records_before node tail c.now)) (changes_in (doubt_in (pending_work tail (Some (with_stage p (Ended false))))))) c
+stands_anew node size tail c counts index q p e placed l =
+    let pp : IsPlaced size tail counts index (Some p) = subst (IsPlaced size tail counts index) e placed in
+    let lp : IsLog node size tail c index (Some p) = subst (IsLog node size tail c index) e l in
+    log_stands node size tail c counts index (Some (with_stage p (Ended false))) (record { sized = pp.sized; begins = pp.begins; ends = pp.ends; slots = pp.slots; placed = pp.placed })
+    (record { whole = lp.whole; header = lp.header; front = lp.front; indexed = lp.indexed; sum = lp.sum; end = (lp.end.0, restaged node tail (kept_from nothing_kept (records_before node tail c.now)) p (Ended false) lp.end.1, tt) })
+
+pub anew_doubt : (w v : Work) → v ≡ unsynced w → doubt_in v ≡ doubt_in w
+anew_doubt Idle v e = ap doubt_in e
+anew_doubt (Busy c zero left) v e = ap doubt_in e
+anew_doubt (Busy c (suc made) left) v e = ap doubt_in e
+anew_doubt (Unsettled c synced) v e = ap doubt_in e
+
+pub two_calls : (w : Work) → is_unsettled w ≡ true → settling_calls w ≡ 2
+two_calls Idle u = absurd (false≢true u)
+two_calls (Busy c made left) u = absurd (false≢true u)
+two_calls (Unsettled c synced) u = refl
+
+pub anew_unsettled : (w v : Work) → v ≡ unsynced w → is_unsettled w ≡ true → (is_unsettled v ≡ true) × (is_synced v ≡ false)
+anew_unsettled Idle v e u = absurd (false≢true u)
+anew_unsettled (Busy c made left) v e u = absurd (false≢true u)
+anew_unsettled (Unsettled c synced) v e u = (ap is_unsettled e, ap is_synced e)

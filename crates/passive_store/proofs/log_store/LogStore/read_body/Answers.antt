@@ -1,0 +1,83 @@
+use Rattle.std.proofs.Common.{IsTrue, refl, sym, subst}
+use Rattle.std.proofs.lemmas.Result.{err_from_is_err_and}
+use Rattle.eden_disk.specs.Told.{Told, contents}
+use Rattle.eden_disk.specs.Calls.{Counts}
+use Rattle.passive_store.proofs.Tails.{log_stands, placed_same}
+use Rattle.passive_store.proofs.Getting.{read_log, read_moments, still_moments, staged_by_read, refused_read}
+use Rattle.passive_store.proofs.log_store.LogStore.read_body.Goals as goal
+
+pub returns-in_default-clause-stands : goal.returns-in_default-clause-stands
+returns-in_default-clause-stands g c = λ tells. rw (← c.self.view_is) (log_stands _ _ _ _ _ c.self.inside.index c.self.inside.pending c.self.invariant.0 (c.self.invariant.1 tells))
+
+pub returns-in_default-clause-moments : goal.returns-in_default-clause-moments
+returns-in_default-clause-moments g c = λ tells. rw (← c.self.view_is) (still_moments _ _ _ _ _ c.self.inside.index c.self.inside.pending c.self.invariant.0 (c.self.invariant.1 tells))
+
+pub returns-in_err-bytes-clause-stands : goal.returns-in_err-bytes-clause-stands
+returns-in_err-bytes-clause-stands g c = λ tells. rw (← c.self.view_is) (log_stands _ _ _ _ _ c.self.inside.index c.self.inside.pending c.self.invariant.0 (c.self.invariant.1 tells))
+
+pub returns-in_err-bytes-clause-moments : goal.returns-in_err-bytes-clause-moments
+returns-in_err-bytes-clause-moments g c = λ tells. rw (← c.self.view_is) (still_moments _ _ _ _ _ c.self.inside.index c.self.inside.pending c.self.invariant.0 (c.self.invariant.1 tells))
+
+pub returns-in_err-read-clause-stands : goal.returns-in_err-read-clause-stands
+returns-in_err-read-clause-stands g c = λ tells.
+    let s = c.self.inside in
+    let t0 : Told = g.D.Disk.told s.disk in
+    let t1 : Told = g.D.Disk.told c.read.new.self in
+    let k0 : Counts = g.D.Disk.counts s.disk in
+    let k1 : Counts = g.D.Disk.counts c.read.new.self in
+    log_stands s.node s.size s.tail (contents t1) k1 s.index s.pending (placed_same _ _ _ _ _ _ _ refl c.read.ensures.counts.size c.self.invariant.0) (read_log s.node s.size s.tail t0 t1 k0 s.index s.pending _ _ c.self.invariant.0 (c.self.invariant.1 tells) (c.read.ensures.told tells)).0
+
+pub returns-in_err-read-clause-moments : goal.returns-in_err-read-clause-moments
+returns-in_err-read-clause-moments g c = λ tells.
+    let s = c.self.inside in
+    let t0 : Told = g.D.Disk.told s.disk in
+    let t1 : Told = g.D.Disk.told c.read.new.self in
+    let k0 : Counts = g.D.Disk.counts s.disk in
+    let k1 : Counts = g.D.Disk.counts c.read.new.self in
+    rw (← c.self.view_is) (read_moments s.node s.size s.tail t0 t1 k0 s.index s.pending _ _ c.self.invariant.0 (c.self.invariant.1 tells) (c.read.ensures.told tells))
+
+pub returns-clause-stands : goal.returns-clause-stands
+returns-clause-stands g c = λ tells.
+    let s = c.self.inside in
+    let t0 : Told = g.D.Disk.told s.disk in
+    let t1 : Told = g.D.Disk.told c.read.new.self in
+    let k0 : Counts = g.D.Disk.counts s.disk in
+    let k1 : Counts = g.D.Disk.counts c.read.new.self in
+    log_stands s.node s.size s.tail (contents t1) k1 s.index s.pending (placed_same _ _ _ _ _ _ _ refl c.read.ensures.counts.size c.self.invariant.0) (read_log s.node s.size s.tail t0 t1 k0 s.index s.pending _ _ c.self.invariant.0 (c.self.invariant.1 tells) (c.read.ensures.told tells)).0
+
+pub returns-clause-moments : goal.returns-clause-moments
+returns-clause-moments g c = λ tells.
+    let s = c.self.inside in
+    let t0 : Told = g.D.Disk.told s.disk in
+    let t1 : Told = g.D.Disk.told c.read.new.self in
+    let k0 : Counts = g.D.Disk.counts s.disk in
+    let k1 : Counts = g.D.Disk.counts c.read.new.self in
+    rw (← c.self.view_is) (read_moments s.node s.size s.tail t0 t1 k0 s.index s.pending _ _ c.self.invariant.0 (c.self.invariant.1 tells) (c.read.ensures.told tells))
+
+pub returns-in_err-read-clause-shown : goal.returns-in_err-read-clause-shown
+returns-in_err-read-clause-shown g c = λ tells.
+    let s = c.self.inside in
+    let t0 : Told = g.D.Disk.told s.disk in
+    let t1 : Told = g.D.Disk.told c.read.new.self in
+    let k0 : Counts = g.D.Disk.counts s.disk in
+    let k1 : Counts = g.D.Disk.counts c.read.new.self in
+    rw (← c.self.view_is) (read_log s.node s.size s.tail t0 t1 k0 s.index s.pending _ _ c.self.invariant.0 (c.self.invariant.1 tells) (c.read.ensures.told tells)).1
+
+pub returns-in_err-read-clause-ran : goal.returns-in_err-read-clause-ran
+returns-in_err-read-clause-ran g c =
+    let p = err_from_is_err_and c.from_residual-in_err-read.result c.from_residual-in_err-read.ensures.1 in
+    rw (p.1, p.2, ← c.self.view_is) (1, (refused_read (Unit {0}) _ _ _ _ c.in_err-read.ensures.counts, tt))
+
+pub invariant_of-self : goal.invariant_of-self
+invariant_of-self g c =
+    let s = c.self.inside in
+    let t0 : Told = g.D.Disk.told s.disk in
+    let t1 : Told = g.D.Disk.told c.read.new.self in
+    let k0 : Counts = g.D.Disk.counts s.disk in
+    let k1 : Counts = g.D.Disk.counts c.read.new.self in (
+      placed_same _ _ _ _ _ _ _ refl c.read.ensures.counts.size c.self.invariant.0,
+      λ tells. (read_log s.node s.size s.tail t0 t1 k0 s.index s.pending _ _ c.self.invariant.0 (c.self.invariant.1 tells) (c.read.ensures.told tells)).0,
+      λ tells on.
+          staged_by_read s.tail t0 t1 s.pending _ _ _ (c.read.ensures.told tells) c.read.ensures.counts.power on
+          (c.self.invariant.2 tells (subst (λ v. IsTrue (g.D.Disk.counts v.device).power) (sym c.self.view_is) c.requires.power)),
+    )

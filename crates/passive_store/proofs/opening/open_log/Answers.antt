@@ -1,0 +1,130 @@
+use Rattle.std.proofs.Common.{◌≡◌, ◌+◌, ◌≤◌, length, ap, arith}
+use Rattle.std.proofs.lemmas.Result.{err_from_is_err_and}
+use Rattle.eden_disk.specs.Told.{Told, contents, at_rest}
+use Rattle.eden_disk.specs.Calls.{Fine}
+use Rattle.eden_disk.specs.Held.{calls_one, calls_more}
+use Rattle.passive_store.specs.declared.opening.Found.{Found}
+use Rattle.passive_store.proofs.Openings.{keeps_sync, keeps_ready, keeps_read, keeps_join, refused_calls, synced_now, opened_log, opened_damaged, opening_number}
+use Rattle.passive_store.proofs.opening.open_log.Goals as goal
+
+pub returns-in_err-sync-clause-keeps : goal.returns-in_err-sync-clause-keeps
+returns-in_err-sync-clause-keeps g c = λ tells. keeps_sync c.args.node _ _ _ _ (c.sync.ensures.told tells)
+
+pub returns-in_err-ready-clause-ran : goal.returns-in_err-ready-clause-ran
+returns-in_err-ready-clause-ran g c =
+    let p = err_from_is_err_and c.from_residual-in_err-ready.result c.from_residual-in_err-ready.ensures.1 in
+    let ran = c.in_err-ready.ensures.ran in
+    rw (p.1, p.2) (1 + ran.0, (calls_more 1 ran.0 _ _ _ _ (calls_one _ _ _ c.in_ok-sync.ensures.counts) (refused_calls (Unit {0}) Found _ ran.0 _ _ ran.1.0), λ tells. tt))
+
+pub returns-in_err-ready-clause-keeps : goal.returns-in_err-ready-clause-keeps
+returns-in_err-ready-clause-keeps g c = λ tells.
+    let t0 : Told = g.D.Disk.told c.args.disk.now in
+    let t1 : Told = g.D.Disk.told c.sync.new.self in
+    let synced : contents t1 ≡ at_rest (contents t0).now = ap contents (c.in_ok-sync.ensures.told tells) in
+    let long : 17 ≤ length (contents t1).now = omega (arith, ap (λ x. length x.now) synced, c.size.ensures.told tells, c.if-size-lt17.false) in
+    keeps_join c.args.node t0 t1 (g.D.Disk.told c.ready.new.disk) (keeps_sync c.args.node _ t0 t1 Fine (c.in_ok-sync.ensures.told tells))
+    (keeps_ready c.args.node t1 (g.D.Disk.told c.ready.new.disk) _ long (c.ready.ensures.readied tells (synced_now (contents t1) (contents t0).now synced) long))
+
+pub returns-in_err-found-clause-ran : goal.returns-in_err-found-clause-ran
+returns-in_err-found-clause-ran g c =
+    let p = err_from_is_err_and c.from_residual-in_err-found.result c.from_residual-in_err-found.ensures.1 in
+    let ready = c.in_ok-ready.ensures.ran in
+    let ran = c.in_err-found.ensures.ran in
+    rw (p.1, p.2) (1 + (ready.0 + ran.0), (calls_more 1 (ready.0 + ran.0) _ _ _ _ (calls_one _ _ _ c.in_ok-sync.ensures.counts) (calls_more ready.0 ran.0 _ _ _ _ ready.1.0 ran.1.0), λ tells. tt))
+
+pub returns-in_err-found-clause-damaged : goal.returns-in_err-found-clause-damaged
+returns-in_err-found-clause-damaged g c =
+    let p = err_from_is_err_and c.from_residual-in_err-found.result c.from_residual-in_err-found.ensures.1 in
+    rw (p.1, p.2) (λ tells place is.
+    let t0 : Told = g.D.Disk.told c.args.disk.now in
+    let t1 : Told = g.D.Disk.told c.sync.new.self in
+    let synced : contents t1 ≡ at_rest (contents t0).now = ap contents (c.in_ok-sync.ensures.told tells) in
+    let whole : 17 ≤ length (contents t0).now = omega (arith, c.size.ensures.told tells, c.if-size-lt17.false) in
+    let long : 17 ≤ length (contents t1).now = omega (arith, ap (λ x. length x.now) synced, whole) in
+    opened_damaged c.args.node place t0 t1 (g.D.Disk.told c.ready.new.disk) synced whole
+    (c.in_ok-ready.ensures.readied tells (synced_now (contents t1) (contents t0).now synced) long) (c.in_err-found.ensures.damaged tells place is))
+
+pub returns-in_err-found-clause-keeps : goal.returns-in_err-found-clause-keeps
+returns-in_err-found-clause-keeps g c = λ tells.
+    let t0 : Told = g.D.Disk.told c.args.disk.now in
+    let t1 : Told = g.D.Disk.told c.sync.new.self in
+    let t2 : Told = g.D.Disk.told c.ready.new.disk in
+    let t3 : Told = g.D.Disk.told c.read_records.new.disk in
+    let synced : contents t1 ≡ at_rest (contents t0).now = ap contents (c.in_ok-sync.ensures.told tells) in
+    let long : 17 ≤ length (contents t1).now = omega (arith, ap (λ x. length x.now) synced, c.size.ensures.told tells, c.if-size-lt17.false) in
+    keeps_join c.args.node t0 t1 t3 (keeps_sync c.args.node _ t0 t1 Fine (c.in_ok-sync.ensures.told tells))
+    (keeps_join c.args.node t1 t2 t3 (keeps_ready c.args.node t1 t2 Fine long (c.in_ok-ready.ensures.readied tells (synced_now (contents t1) (contents t0).now synced) long))
+    (keeps_read c.args.node _ t2 t3 _ (c.read_records.ensures.told tells)))
+
+pub returns-clause-keeps : goal.returns-clause-keeps
+returns-clause-keeps g c = λ tells.
+    let t0 : Told = g.D.Disk.told c.args.disk.now in
+    let t1 : Told = g.D.Disk.told c.sync.new.self in
+    let t2 : Told = g.D.Disk.told c.ready.new.disk in
+    let t3 : Told = g.D.Disk.told c.read_records.new.disk in
+    let synced : contents t1 ≡ at_rest (contents t0).now = ap contents (c.in_ok-sync.ensures.told tells) in
+    let long : 17 ≤ length (contents t1).now = omega (arith, ap (λ x. length x.now) synced, c.size.ensures.told tells, c.if-size-lt17.false) in
+    keeps_join c.args.node t0 t1 t3 (keeps_sync c.args.node _ t0 t1 Fine (c.in_ok-sync.ensures.told tells))
+    (keeps_join c.args.node t1 t2 t3 (keeps_ready c.args.node t1 t2 Fine long (c.in_ok-ready.ensures.readied tells (synced_now (contents t1) (contents t0).now synced) long))
+    (keeps_read c.args.node _ t2 t3 _ (c.read_records.ensures.told tells)))
+
+pub returns-clause-log : goal.returns-clause-log
+returns-clause-log g c = λ tells.
+    let t0 : Told = g.D.Disk.told c.args.disk.now in
+    let t1 : Told = g.D.Disk.told c.sync.new.self in
+    let t2 : Told = g.D.Disk.told c.ready.new.disk in
+    let t3 : Told = g.D.Disk.told c.read_records.new.disk in
+    let synced : contents t1 ≡ at_rest (contents t0).now = ap contents (c.in_ok-sync.ensures.told tells) in
+    let whole : 17 ≤ length (contents t0).now = omega (arith, c.size.ensures.told tells, c.if-size-lt17.false) in
+    let long : 17 ≤ length (contents t1).now = omega (arith, ap (λ x. length x.now) synced, whole) in
+    let found = c.in_ok-found.found in
+    (opened_log c.args.node found.size found.tail t0 t1 t2 t3 found.index synced whole (c.in_ok-ready.ensures.readied tells (synced_now (contents t1) (contents t0).now synced) long)
+    (c.in_ok-found.ensures.told tells) (omega (arith, c.in_ok-found.ensures.placed.ends)) (c.in_ok-found.ensures.walk tells) (c.in_ok-found.ensures.shut tells)).log
+
+pub returns-clause-map : goal.returns-clause-map
+returns-clause-map g c = λ tells.
+    let t0 : Told = g.D.Disk.told c.args.disk.now in
+    let t1 : Told = g.D.Disk.told c.sync.new.self in
+    let t2 : Told = g.D.Disk.told c.ready.new.disk in
+    let t3 : Told = g.D.Disk.told c.read_records.new.disk in
+    let synced : contents t1 ≡ at_rest (contents t0).now = ap contents (c.in_ok-sync.ensures.told tells) in
+    let whole : 17 ≤ length (contents t0).now = omega (arith, c.size.ensures.told tells, c.if-size-lt17.false) in
+    let long : 17 ≤ length (contents t1).now = omega (arith, ap (λ x. length x.now) synced, whole) in
+    let found = c.in_ok-found.found in
+    (opened_log c.args.node found.size found.tail t0 t1 t2 t3 found.index synced whole (c.in_ok-ready.ensures.readied tells (synced_now (contents t1) (contents t0).now synced) long)
+    (c.in_ok-found.ensures.told tells) (omega (arith, c.in_ok-found.ensures.placed.ends)) (c.in_ok-found.ensures.walk tells) (c.in_ok-found.ensures.shut tells)).map_is
+
+pub returns-clause-written : goal.returns-clause-written
+returns-clause-written g c = λ tells.
+    let t0 : Told = g.D.Disk.told c.args.disk.now in
+    let t1 : Told = g.D.Disk.told c.sync.new.self in
+    let t2 : Told = g.D.Disk.told c.ready.new.disk in
+    let t3 : Told = g.D.Disk.told c.read_records.new.disk in
+    let synced : contents t1 ≡ at_rest (contents t0).now = ap contents (c.in_ok-sync.ensures.told tells) in
+    let whole : 17 ≤ length (contents t0).now = omega (arith, c.size.ensures.told tells, c.if-size-lt17.false) in
+    let long : 17 ≤ length (contents t1).now = omega (arith, ap (λ x. length x.now) synced, whole) in
+    let found = c.in_ok-found.found in
+    (opened_log c.args.node found.size found.tail t0 t1 t2 t3 found.index synced whole (c.in_ok-ready.ensures.readied tells (synced_now (contents t1) (contents t0).now synced) long)
+    (c.in_ok-found.ensures.told tells) (omega (arith, c.in_ok-found.ensures.placed.ends)) (c.in_ok-found.ensures.walk tells) (c.in_ok-found.ensures.shut tells)).found
+
+pub returns-clause-ran : goal.returns-clause-ran
+returns-clause-ran g c =
+    let ready = c.in_ok-ready.ensures.ran in
+    let ran = c.in_ok-found.ensures.ran in (
+      1 + (ready.0 + ran.0),
+      (
+        calls_more 1 (ready.0 + ran.0) _ _ _ _ (calls_one _ _ _ c.in_ok-sync.ensures.counts) (calls_more ready.0 ran.0 _ _ _ _ ready.1.0 ran.1.0),
+        λ tells.
+            let t0 : Told = g.D.Disk.told c.args.disk.now in
+            let t1 : Told = g.D.Disk.told c.sync.new.self in
+            let t2 : Told = g.D.Disk.told c.ready.new.disk in
+            let t3 : Told = g.D.Disk.told c.read_records.new.disk in
+            let synced : contents t1 ≡ at_rest (contents t0).now = ap contents (c.in_ok-sync.ensures.told tells) in
+            let whole : 17 ≤ length (contents t0).now = omega (arith, c.size.ensures.told tells, c.if-size-lt17.false) in
+            let long : 17 ≤ length (contents t1).now = omega (arith, ap (λ x. length x.now) synced, whole) in
+            let found = c.in_ok-found.found in
+            opening_number c.args.node found.tail ready.0 ran.0 t0 t1 t2 (contents t3) synced (ready.1.1 tells) (ran.1.1 tells) (ap contents (c.in_ok-found.ensures.told tells))
+            (opened_log c.args.node found.size found.tail t0 t1 t2 t3 found.index synced whole (c.in_ok-ready.ensures.readied tells (synced_now (contents t1) (contents t0).now synced) long)
+            (c.in_ok-found.ensures.told tells) (omega (arith, c.in_ok-found.ensures.placed.ends)) (c.in_ok-found.ensures.walk tells) (c.in_ok-found.ensures.shut tells)).found,
+      ),
+    )

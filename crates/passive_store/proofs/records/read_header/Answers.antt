@@ -1,0 +1,39 @@
+use Rattle.std.proofs.Common.{◌≡◌, ◌+◌, ℕ, List, length, take, drop, replicate, slice_range, ap, ◌∙◌, arith, ◌++◌}
+use Rattle.std.proofs.lemmas.List.{length-take-le}
+use Rattle.eden_disk.specs.Told.{contents}
+use Rattle.passive_store.proofs.Headers.{header_read, damage_read}
+use Rattle.passive_store.proofs.records.read_header.Goals as goal
+
+pub returns-in-Some-clause-header : goal.returns-in-Some-clause-header
+returns-in-Some-clause-header g c = λ tells.
+    let now : List ℕ = (contents (g.D.Disk.told c.args.disk.now)).now in
+    let count : ℕ = c.min-count.result in
+    let long : length (take count (replicate 15 0)) ≡ count = length-take-le count (replicate 15 0) (omega (arith, c.min-count.ensures)) in
+    let bytes : c.read.new.out ≡ slice_range now c.args.place (c.args.place + length (take count (replicate 15 0))) = c.in_ok-read.ensures.bytes tells in
+    header_read c.args.node c.size.result c.args.place now (c.read.new.out ++ drop count (replicate 15 0)) c.in-Some.header
+    (record {
+      whole = c.size.ensures.told tells;
+      within = omega (arith, c.requires.range, c.size.ensures.size);
+      count = count;
+      least = c.min-count.ensures;
+      rest = drop count (replicate 15 0);
+      is = ap (λ l. l ++ drop count (replicate 15 0)) (bytes ∙ ap (λ n. slice_range now c.args.place (c.args.place + n)) long);
+    })
+    c.if-bytes.false c.in-Some.ensures.found c.in-Some.ensures.header
+
+pub returns-in-None-clause-damaged : goal.returns-in-None-clause-damaged
+returns-in-None-clause-damaged g c = λ tells same.
+    let now : List ℕ = (contents (g.D.Disk.told c.args.disk.now)).now in
+    let count : ℕ = c.min-count.result in
+    let long : length (take count (replicate 15 0)) ≡ count = length-take-le count (replicate 15 0) (omega (arith, c.min-count.ensures)) in
+    let bytes : c.read.new.out ≡ slice_range now c.args.place (c.args.place + length (take count (replicate 15 0))) = c.in_ok-read.ensures.bytes tells in
+    damage_read c.args.node c.size.result c.args.place now (c.read.new.out ++ drop count (replicate 15 0))
+    (record {
+      whole = c.size.ensures.told tells;
+      within = omega (arith, c.requires.range, c.size.ensures.size);
+      count = count;
+      least = c.min-count.ensures;
+      rest = drop count (replicate 15 0);
+      is = ap (λ l. l ++ drop count (replicate 15 0)) (bytes ∙ ap (λ n. slice_range now c.args.place (c.args.place + n)) long);
+    })
+    c.if-bytes.false c.in-None.ensures.found

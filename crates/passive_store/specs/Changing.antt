@@ -1,0 +1,170 @@
+-- A whole change, made of a settling, a beginning and the calls of its job.
+use Rattle.std.proofs.Common.{◌≡◌, ◌⊎◌, ℕ, Bool, true, false, IsTrue, List, [], ◌∷◌, ◌++◌, refl, sym, ap, ◌∙◌, inl, inr, arith}
+use Rattle.std.specs.Prelude.{Option, None, Some, Result, Ok, Err, is_some, IfSome, IfErr}
+use Rattle.std.proofs.lemmas.Bool.{false≢true}
+use Rattle.eden_disk.specs.Told.{Told, EachMoment}
+use Rattle.eden_disk.specs.Calls.{Counts}
+use Rattle.eden_disk.specs.Held.{moments_weaker}
+use Rattle.passive_store.specs.declared.store.StoreRefusal.{StoreRefusal}
+use Rattle.passive_store.specs.declared.store.StoreRefusal.TheVariants.{Failed, Stopped, Full, Damaged, OutOfMemory}
+use Rattle.passive_store.specs.declared.store.Pick.{Pick}
+use Rattle.passive_store.specs.declared.store.Pick.TheVariants.{Old, New}
+use Rattle.passive_store.specs.Joining.{ran_join}
+use Rattle.passive_store.specs.Kept.{Layout, Work, Idle, Busy, Unsettled, Shown, Change, Kept, Stands, Ran, IsDiskRefusal, IsAnyOf, IsFresh, changes_in, doubt_in, is_busy, is_unsettled, settling_calls, settling_before, settled, work_settled, work_changed, work_finished, shown_finished, shown_changed, kept_after, made_in, SettlesFirst, SettlesAfterMemory, IsFullBy}
+
+pub any_more : (kept : Kept) (cs : List Change) (c : Change) (found : Result Kept ℕ) → IsAnyOf kept cs found → IsAnyOf kept (cs ++ c ∷ []) found
+any_more kept [] c found is = inl is
+any_more kept (d ∷ cs) c found (inl old) = inl (any_more kept cs c found old)
+any_more kept (d ∷ cs) c found (inr new) = inr (new.0, any_more (kept_after d kept) cs c found new.1)
+
+pub moments_more : (map_of : List ℕ → Result Kept ℕ) (kept : Kept) (cs : List Change) (c : Change) (old new : Told) → EachMoment (Stands map_of kept cs) old new → EachMoment (Stands map_of kept (cs ++ c ∷ [])) old new
+moments_more map_of kept cs c old new m = moments_weaker (Stands map_of kept cs) (Stands map_of kept (cs ++ c ∷ [])) old new (λ image h. any_more kept cs c (map_of image) h) m
+
+pub settled_then : (layout : Layout) (pick : Option Pick) (w : Work) (s : Shown) (c : Change) (found : Result Kept ℕ) → is_busy w ≡ false → is_some pick ≡ is_unsettled w → IfSome (doubt_in w) (λ d. IsFresh d s.kept) →
+    IsAnyOf (settled layout pick w s).kept (c ∷ []) found → IsAnyOf s.kept (changes_in (doubt_in w) ++ c ∷ []) found
+settled_then layout None Idle s c found idle p fresh is = is
+settled_then layout (Some pick) Idle s c found idle p fresh is = absurd (false≢true (sym p))
+settled_then layout pick (Busy d made left) s c found idle p fresh is = absurd (false≢true (sym idle))
+settled_then layout None (Unsettled d synced) s c found idle p fresh is = absurd (false≢true p)
+settled_then layout (Some Old) (Unsettled d synced) s c found idle p fresh is = inl is
+settled_then layout (Some New) (Unsettled d synced) s c found idle p fresh is = inr (fresh, is)
+
+pub idle_then : (pick : Option Pick) (w v : Work) → is_busy w ≡ false → is_some pick ≡ is_unsettled w → v ≡ work_settled pick w → v ≡ Idle
+idle_then None Idle v idle p e = e
+idle_then (Some pick) Idle v idle p e = e
+idle_then pick (Busy d made left) v idle p e = absurd (false≢true (sym idle))
+idle_then None (Unsettled d synced) v idle p e = absurd (false≢true p)
+idle_then (Some pick) (Unsettled d synced) v idle p e = e
+
+-- how the calls of a job may end
+abbrev pub MatchDisk : Result (Unit {0}) StoreRefusal → Type 0
+MatchDisk (Ok done) = Unit {0}
+MatchDisk (Err Failed) = Unit {0}
+MatchDisk (Err Stopped) = Unit {0}
+MatchDisk (Err Full) = ⊥
+MatchDisk (Err (Damaged place)) = ⊥
+MatchDisk (Err OutOfMemory) = ⊥
+
+pub work_then : (pick : Option Pick) (w v : Work) (c : Change) (left : ℕ) (r : Result (Unit {0}) StoreRefusal) → is_busy w ≡ false → is_some pick ≡ is_unsettled w → MatchDisk r → v ≡ work_finished (Busy c 0 left) r → v ≡ work_changed pick c w r
+work_then pick w v c left (Ok done) idle p only e = e
+work_then None Idle v c left (Err Failed) idle p only e = e
+work_then (Some pick) Idle v c left (Err Failed) idle p only e = e
+work_then None (Unsettled d synced) v c left (Err Failed) idle p only e = absurd (false≢true p)
+work_then (Some pick) (Unsettled d synced) v c left (Err Failed) idle p only e = e
+work_then None (Busy d made more) v c left (Err Failed) idle p only e = e
+work_then (Some pick) (Busy d made more) v c left (Err Failed) idle p only e = e
+work_then None Idle v c left (Err Stopped) idle p only e = e
+work_then (Some pick) Idle v c left (Err Stopped) idle p only e = e
+work_then None (Unsettled d synced) v c left (Err Stopped) idle p only e = absurd (false≢true p)
+work_then (Some pick) (Unsettled d synced) v c left (Err Stopped) idle p only e = e
+work_then None (Busy d made more) v c left (Err Stopped) idle p only e = e
+work_then (Some pick) (Busy d made more) v c left (Err Stopped) idle p only e = e
+work_then pick w v c left (Err Full) idle p only e = absurd only
+work_then pick w v c left (Err (Damaged place)) idle p only e = absurd only
+work_then pick w v c left (Err OutOfMemory) idle p only e = absurd only
+
+pub shown_then : (layout : Layout) (pick : Option Pick) (w : Work) (s t mid : Shown) (c : Change) (left : ℕ) (r : Result (Unit {0}) StoreRefusal) → mid ≡ settled layout pick w s → t ≡ shown_finished layout (Busy c 0 left) mid r → t ≡ shown_changed layout pick c w s r
+shown_then layout pick w s t mid c left (Ok done) m e = e ∙ ap (made_in layout c) m
+shown_then layout pick w s t mid c left (Err x) m e = e ∙ m
+
+-- the settling of a change was refused
+pub refused_work : (pick : Option Pick) (w v : Work) (c : Change) (e : StoreRefusal) → IsDiskRefusal e → is_some pick ≡ false → is_unsettled w ≡ true → v ≡ work_settled pick w → v ≡ work_changed {T = Unit {0}} pick c w (Err e)
+refused_work (Some pick) w v c e only p u is = absurd (false≢true (sym p))
+refused_work None Idle v c e only p u is = absurd (false≢true u)
+refused_work None (Busy d made left) v c e only p u is = absurd (false≢true u)
+refused_work None (Unsettled d synced) v c e (inl f) p u is = is ∙ ap (λ x. work_changed {T = Unit {0}} None c (Unsettled d synced) (Err x)) (sym f)
+refused_work None (Unsettled d synced) v c e (inr f) p u is = is ∙ ap (λ x. work_changed {T = Unit {0}} None c (Unsettled d synced) (Err x)) (sym f)
+
+pub match_disk : (r : Result (Unit {0}) StoreRefusal) → IfErr r IsDiskRefusal → MatchDisk r
+match_disk (Ok done) only = tt
+match_disk (Err Failed) only = tt
+match_disk (Err Stopped) only = tt
+match_disk (Err Full) (inl e) = cc
+match_disk (Err Full) (inr e) = cc
+match_disk (Err (Damaged place)) (inl e) = cc
+match_disk (Err (Damaged place)) (inr e) = cc
+match_disk (Err OutOfMemory) (inl e) = cc
+match_disk (Err OutOfMemory) (inr e) = cc
+
+pub refused_more : (w : Work) (calls : ℕ) (e : StoreRefusal) (before after : Counts) → IsDiskRefusal e → Ran {T = Unit {0}} (settling_calls w) 0 (Err e) before after → Ran {T = Unit {0}} (settling_before {T = Unit {0}} w (Err e)) calls (Err e) before after
+refused_more w calls Failed before after only r = record { made = r.made; number = (r.number.0, omega (arith, r.number.1)); counts = r.counts }
+refused_more w calls Stopped before after only r = record { made = r.made; number = (r.number.0, omega (arith, r.number.1)); counts = r.counts }
+refused_more w calls Full before after (inl e) r = absurd cc
+refused_more w calls Full before after (inr e) r = absurd cc
+refused_more w calls (Damaged place) before after (inl e) r = absurd cc
+refused_more w calls (Damaged place) before after (inr e) r = absurd cc
+refused_more w calls OutOfMemory before after (inl e) r = absurd cc
+refused_more w calls OutOfMemory before after (inr e) r = absurd cc
+
+pub full_ran : (w : Work) (calls : ℕ) (before after : Counts) → Ran {T = Unit {0}} (settling_calls w) 0 (Ok tt) before after → Ran {T = Unit {0}} (settling_calls w) calls (Err Full) before after
+full_ran w calls before after r = record { made = r.made; number = omega (arith, r.number); counts = r.counts }
+
+pub done_ran : (w : Work) (calls : ℕ) (r : Result (Unit {0}) StoreRefusal) (before between after : Counts) → MatchDisk r → Ran {T = Unit {0}} (settling_calls w) 0 (Ok tt) before between → Ran {T = Unit {0}} 0 calls r between after → Ran {T = Unit {0}} (settling_before w r) calls r before after
+done_ran w calls (Ok done) before between after only a b = ran_join (Unit {0}) (Unit {0}) (settling_calls w) calls tt (Ok done) before between after a b
+done_ran w calls (Err Failed) before between after only a b = ran_join (Unit {0}) (Unit {0}) (settling_calls w) calls tt (Err Failed) before between after a b
+done_ran w calls (Err Stopped) before between after only a b = ran_join (Unit {0}) (Unit {0}) (settling_calls w) calls tt (Err Stopped) before between after a b
+done_ran w calls (Err Full) before between after only a b = absurd only
+done_ran w calls (Err (Damaged place)) before between after only a b = absurd only
+done_ran w calls (Err OutOfMemory) before between after only a b = absurd only
+
+-- what was found, by how the call ended
+pub first_settled : (pick : Option Pick) (w : Work) (r : Result (Unit {0}) StoreRefusal) → MatchDisk r → is_some pick ≡ is_unsettled w → SettlesFirst pick w r
+first_settled pick w (Ok done) only e = e
+first_settled pick w (Err Failed) only e = λ some. sym e ∙ some
+first_settled pick w (Err Stopped) only e = λ some. sym e ∙ some
+first_settled pick w (Err Full) only e = e
+first_settled pick w (Err (Damaged place)) only e = e
+first_settled pick w (Err OutOfMemory) only e = e
+
+-- a refusal that is the disk's, or for want of room, was none for want of memory
+pub room_refused : (e : StoreRefusal) → IsDiskRefusal e ⊎ (e ≡ Full) → e ≡ OutOfMemory → ⊥
+room_refused Failed only e = cc
+room_refused Stopped only e = cc
+room_refused Full only e = cc
+room_refused (Damaged place) (inl (inl f)) e = cc
+room_refused (Damaged place) (inl (inr f)) e = cc
+room_refused (Damaged place) (inr f) e = cc
+room_refused OutOfMemory (inl (inl f)) e = cc
+room_refused OutOfMemory (inl (inr f)) e = cc
+room_refused OutOfMemory (inr f) e = cc
+
+pub after_memory : (pick : Option Pick) (w : Work) (r : Result (Unit {0}) StoreRefusal) → IfErr r (λ e. IsDiskRefusal e ⊎ (e ≡ Full)) → SettlesFirst pick w r → SettlesAfterMemory pick w r
+after_memory pick w (Ok done) only s = s
+after_memory pick w (Err Failed) only s = s
+after_memory pick w (Err Stopped) only s = s
+after_memory pick w (Err Full) only s = s
+after_memory pick w (Err (Damaged place)) only s = s
+after_memory pick w (Err OutOfMemory) only s = absurd (room_refused OutOfMemory only refl)
+
+pub unless_memory : (P : Type 0) (r : Result (Unit {0}) StoreRefusal) → IfErr r (λ e. IsDiskRefusal e ⊎ (e ≡ Full)) → IfErr r (λ e. e ≡ OutOfMemory → P)
+unless_memory P (Ok done) only = tt
+unless_memory P (Err e) only = λ is. absurd (room_refused e only is)
+
+pub never_full : (r : Result (Unit {0}) StoreRefusal) → IfErr r IsDiskRefusal → IfErr r (λ e. e ≡ Full → ⊥)
+never_full (Ok done) only = tt
+never_full (Err e) (inl f) = λ is. let bad : Failed ≡ Full = sym f ∙ is in cc
+never_full (Err e) (inr f) = λ is. let bad : Stopped ≡ Full = sym f ∙ is in cc
+
+-- a job that was begun had room
+pub room_had : (room : Bool) (pick : Option Pick) (w : Work) (r : Result (Unit {0}) StoreRefusal) → MatchDisk r → IsTrue room → IsFullBy room pick w r
+room_had room pick w (Ok done) only h = h
+room_had room pick w (Err Failed) only h = λ e. h
+room_had room pick w (Err Stopped) only h = λ e. h
+room_had room pick w (Err Full) only h = absurd only
+room_had room pick w (Err (Damaged place)) only h = tt
+room_had room pick w (Err OutOfMemory) only h = tt
+
+room_refused_disk : (e : StoreRefusal) → IsDiskRefusal e → e ≡ Full → ⊥
+room_refused_disk e (inl f) is = let bad : Failed ≡ Full = sym f ∙ is in cc
+room_refused_disk e (inr f) is = let bad : Stopped ≡ Full = sym f ∙ is in cc
+
+-- the settling was refused, so that nothing is said of the room
+pub room_unknown : (room : Bool) (pick : Option Pick) (w : Work) (e : StoreRefusal) → IsDiskRefusal e → is_some pick ≡ false → is_unsettled w ≡ true → IsFullBy {T = Unit {0}} room pick w (Err e)
+room_unknown room pick w Failed only p u = λ e. absurd (false≢true (sym p ∙ e ∙ u))
+room_unknown room pick w Stopped only p u = λ e. absurd (false≢true (sym p ∙ e ∙ u))
+room_unknown room pick w Full only p u = absurd (room_refused_disk Full only refl)
+room_unknown room pick w (Damaged place) only p u = tt
+room_unknown room pick w OutOfMemory only p u = tt
+
+pub memory_is_not_room : OutOfMemory ≡ Full → ⊥
+memory_is_not_room e = cc

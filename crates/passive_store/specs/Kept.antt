@@ -1,0 +1,411 @@
+-- What a store shows: a finite map from uids to bytes, and at most one change that is under way or in doubt.
+use Rattle.std.specs.Prelude.{◌≡◌, ◌≢◌, ◌⊎◌, ℕ, suc, zero, ◌+◌, ◌-◌, ◌*◌, ◌≤◌, Bool, true, false, IsTrue, is_some, List, [], ◌∷◌, ◌++◌, Option, None, Some, Result, Ok, Err}
+use Rattle.std.specs.FinMap as map
+use Rattle.std.specs.FinMap.{FinMap}
+use Rattle.capability.specs.declared.Uid.{Uid}
+use Rattle.capability.specs.Uids.{uid_cmp}
+use Rattle.std.specs.declared.cmp.Ordering.TheVariants.{Less}
+use Rattle.passive_store.specs.declared.store.Pick.{Pick}
+use Rattle.passive_store.specs.declared.store.Pick.TheVariants.{Old, New}
+use Rattle.passive_store.specs.declared.store.Progress.{Progress}
+use Rattle.passive_store.specs.declared.store.Progress.TheVariants.{Going, Done}
+use Rattle.passive_store.specs.declared.store.StoreRefusal.{StoreRefusal}
+use Rattle.passive_store.specs.declared.store.StoreRefusal.TheVariants.{Failed, Stopped, Full, Damaged, OutOfMemory}
+use Rattle.eden_disk.specs.declared.disk.DiskRefusal.{DiskRefusal}
+use Rattle.eden_disk.specs.declared.disk.DiskRefusal.TheVariants.{Failed as DiskFailed, Stopped as DiskStopped}
+use Rattle.eden_disk.specs.Told.{Told, contents, EachMoment, LeavesOnly}
+use Rattle.eden_disk.specs.Calls.{End, Fine, AtFault, AtStop, Counts, DeviceCalls}
+
+-- new bytes of a uid, or its removal, and the number of the record that says so
+pub record Change : Type 0 where
+  pub uid : Uid
+  pub body : Option (List ℕ)
+  pub mark : ℕ
+
+-- what is kept under each uid, and the number of the record that keeps it
+pub record Kept : Type 0 where
+  pub bodies : FinMap uid_cmp (List ℕ)
+  pub marks : FinMap uid_cmp ℕ
+
+abbrev pub nothing_kept : Kept
+nothing_kept = record { bodies = map.empty; marks = map.empty }
+
+abbrev pub bodies_after : Uid → Option (List ℕ) → FinMap uid_cmp (List ℕ) → FinMap uid_cmp (List ℕ)
+bodies_after uid None m = map.remove m uid
+bodies_after uid (Some body) m = map.insert m uid body
+
+abbrev pub marks_after : Uid → Option (List ℕ) → ℕ → FinMap uid_cmp ℕ → FinMap uid_cmp ℕ
+marks_after uid None mark m = map.remove m uid
+marks_after uid (Some body) mark m = map.insert m uid mark
+
+abbrev pub kept_after : Change → Kept → Kept
+kept_after c k = record { bodies = bodies_after c.uid c.body k.bodies; marks = marks_after c.uid c.body c.mark k.marks }
+
+-- the change gives its uid another mark, None being that of an absent one
+abbrev pub IsFresh : Change → Kept → Type 0
+IsFresh c k = map.get (marks_after c.uid c.body c.mark k.marks) c.uid ≢ map.get k.marks c.uid
+
+-- what a store over a telling disk keeps
+pub record Shown : Type 0 where
+  pub kept : Kept
+  -- the lengths of the bodies of all records written, where the layout counts them
+  pub written : List ℕ
+
+-- the change that a store works on, or that is in doubt
+pub data Work : Type 0 where
+  Idle : Work
+  -- a job goes on: the device calls that it made, and those that it has left
+  Busy : Change → ℕ → ℕ → Work
+  -- a job was refused its last call: the change is made or not, and whether the sync of the settling is done
+  Unsettled : Change → Bool → Work
+
+-- From the first device call of its job on, a change is in doubt.
+abbrev pub doubt_in : Work → Option Change
+doubt_in Idle = None
+doubt_in (Busy c zero left) = None
+doubt_in (Busy c (suc made) left) = Some c
+doubt_in (Unsettled c synced) = Some c
+
+abbrev pub change_in : Work → Option Change
+change_in Idle = None
+change_in (Busy c made left) = Some c
+change_in (Unsettled c synced) = Some c
+
+abbrev pub uid_of_change : Option Change → Option Uid
+uid_of_change None = None
+uid_of_change (Some c) = Some c.uid
+
+abbrev pub unsure_in : Work → Option Uid
+unsure_in work = uid_of_change (doubt_in work)
+
+abbrev pub worked_on : Work → Option Uid
+worked_on Idle = None
+worked_on (Busy c made left) = Some c.uid
+worked_on (Unsettled c synced) = None
+
+abbrev pub is_busy : Work → Bool
+is_busy Idle = false
+is_busy (Busy c made left) = true
+is_busy (Unsettled c synced) = false
+
+abbrev pub is_unsettled : Work → Bool
+is_unsettled Idle = false
+is_unsettled (Busy c made left) = false
+is_unsettled (Unsettled c synced) = true
+
+abbrev pub is_synced : Work → Bool
+is_synced Idle = false
+is_synced (Busy c made left) = false
+is_synced (Unsettled c synced) = synced
+
+abbrev pub calls_left : Work → ℕ
+calls_left Idle = 0
+calls_left (Busy c made left) = left
+calls_left (Unsettled c synced) = 0
+
+-- the device calls of a whole settling
+abbrev pub settling_calls : Work → ℕ
+settling_calls Idle = 0
+settling_calls (Busy c made left) = 0
+settling_calls (Unsettled c synced) = 2
+
+-- What a layout says of images, and of the room on them.
+pub record Layout : Type 0 where
+  -- whether a disk of this size can hold it
+  pub allows : ℕ → Bool
+  -- by a node: what an image keeps, or its first damaged place
+  pub map_of : ℕ → List ℕ → Result Kept ℕ
+  -- the lengths of the records that are found in an image, and after one more change
+  pub written_in : ℕ → List ℕ → List ℕ
+  pub written_after : Change → List ℕ → List ℕ
+  -- the longest body that finds room on a disk of this size, or none
+  pub room_of : ℕ → Shown → Option ℕ
+  -- whether this change finds room, where that is the room
+  pub has_room : Option ℕ → Uid → Option (List ℕ) → Bool
+  -- whether the room of an image is told
+  pub is_fit : ℕ → List ℕ → Bool
+  -- whether the job of a put of this body, or of a removal, may have so many device calls
+  pub is_job : Option (List ℕ) → ℕ → Bool
+  -- the device calls that open an image, and those that read what is kept
+  pub opening_calls : ℕ → List ℕ → ℕ
+  pub reading_calls : Option (List ℕ) → ℕ
+
+-- What is found in an image is what is kept with any of these changes made, in their order.
+abbrev pub IsAnyOf : Kept → List Change → Result Kept ℕ → Type 0
+IsAnyOf kept [] found = found ≡ Ok kept
+IsAnyOf kept (c ∷ cs) found = IsAnyOf kept cs found ⊎ (IsFresh c kept × IsAnyOf (kept_after c kept) cs found)
+
+abbrev pub changes_in : Option Change → List Change
+changes_in None = []
+changes_in (Some c) = c ∷ []
+
+-- by a layout, an image stands for what is kept with any of these changes
+abbrev pub Stands : (List ℕ → Result Kept ℕ) → Kept → List Change → List ℕ → Type 0
+Stands map_of kept changes image = IsAnyOf kept changes (map_of image)
+
+-- an image that keeps nothing that can be told
+abbrev pub HasNoMap : (List ℕ → Result Kept ℕ) → List ℕ → Type 0
+HasNoMap map_of image = (place : ℕ) × (map_of image ≡ Err place)
+
+-- A crash leaves only images that stand for what is shown, with or without the change in doubt.
+abbrev pub LeavesShown : Layout → ℕ → Shown → Work → Told → Type 0
+LeavesShown layout node s work told = LeavesOnly (Stands (layout.map_of node) s.kept (changes_in (doubt_in work))) (contents told)
+
+-- At each moment from one state of the disk to another, in or between any two device calls, a crash leaves only images
+-- that stand for what is shown, with any of these changes made.
+abbrev pub StandsThrough : Layout → ℕ → Shown → List Change → Told → Told → Type 0
+StandsThrough layout node s changes old new = EachMoment (Stands (layout.map_of node) s.kept changes) old new
+
+-- whether a change finds room on a disk of this size
+abbrev pub finds_room : Layout → ℕ → Shown → Uid → Option (List ℕ) → Bool
+finds_room layout size s uid body = layout.has_room (layout.room_of size s) uid body
+
+-- what is kept once a change is made
+abbrev pub made_in : Layout → Change → Shown → Shown
+made_in layout c s = record { kept = kept_after c s.kept; written = layout.written_after c s.written }
+
+-- what is kept once the doubt is settled by what was found
+abbrev pub settled : Layout → Option Pick → Work → Shown → Shown
+settled layout None work s = s
+settled layout (Some Old) work s = s
+settled layout (Some New) Idle s = s
+settled layout (Some New) (Busy c made left) s = s
+settled layout (Some New) (Unsettled c synced) s = made_in layout c s
+
+abbrev pub work_settled : Option Pick → Work → Work
+work_settled pick Idle = Idle
+work_settled pick (Busy c made left) = Busy c made left
+work_settled None (Unsettled c synced) = Unsettled c false
+work_settled (Some pick) (Unsettled c synced) = Idle
+
+-- a settling that begins anew
+abbrev pub unsynced : Work → Work
+unsynced Idle = Idle
+unsynced (Busy c made left) = Busy c made left
+unsynced (Unsettled c synced) = Unsettled c false
+
+-- after one call of a settling
+abbrev pub work_stepped : Work → Result Progress StoreRefusal → Work
+work_stepped Idle r = Idle
+work_stepped (Busy c made left) r = Busy c made left
+work_stepped (Unsettled c synced) (Ok Going) = Unsettled c true
+work_stepped (Unsettled c synced) (Ok Done) = Idle
+work_stepped (Unsettled c synced) (Err e) = Unsettled c false
+
+-- after one call of a job
+abbrev pub work_advanced : Work → Result Progress StoreRefusal → Work
+work_advanced Idle r = Idle
+work_advanced (Busy c made left) (Ok Going) = Busy c (made + 1) (left - 1)
+work_advanced (Busy c made left) (Ok Done) = Idle
+work_advanced (Busy c made left) (Err e) = Unsettled c false
+work_advanced (Unsettled c synced) r = Unsettled c synced
+
+abbrev pub shown_advanced : Layout → Work → Shown → Result Progress StoreRefusal → Shown
+shown_advanced layout Idle s r = s
+shown_advanced layout (Busy c made left) s (Ok Going) = s
+shown_advanced layout (Busy c made left) s (Ok Done) = made_in layout c s
+shown_advanced layout (Busy c made left) s (Err e) = s
+shown_advanced layout (Unsettled c synced) s r = s
+
+-- a call that is the last answers Done
+abbrev pub progress_at : Bool → Progress
+progress_at true = Done
+progress_at false = Going
+
+-- how a store says that its disk refused a call
+abbrev pub refused : DiskRefusal → StoreRefusal
+refused DiskFailed = Failed
+refused DiskStopped = Stopped
+
+-- how the device calls of a store's call ended
+abbrev pub end_of_store : {T : Type 0} → Result T StoreRefusal → End
+end_of_store (Ok done) = Fine
+end_of_store (Err Failed) = AtFault
+end_of_store (Err Stopped) = AtStop
+end_of_store (Err Full) = Fine
+end_of_store (Err (Damaged place)) = Fine
+end_of_store (Err OutOfMemory) = Fine
+
+-- a refusal of the disk, and no other
+abbrev pub IsDiskRefusal : StoreRefusal → Type 0
+IsDiskRefusal e = (e ≡ Failed) ⊎ (e ≡ Stopped)
+
+-- a refusal that came before any device call
+abbrev pub IsEarlyRefusal : StoreRefusal → Type 0
+IsEarlyRefusal e = (e ≡ Full) ⊎ (e ≡ OutOfMemory)
+
+-- So many device calls were made: all of the settling and of what comes behind it, or some of them.
+abbrev pub CallsMade : {T : Type 0} → ℕ → ℕ → Result T StoreRefusal → ℕ → Type 0
+CallsMade settling calls (Ok done) made = made ≡ settling + calls
+CallsMade settling calls (Err Failed) made = (1 ≤ made) × (made ≤ settling + calls)
+CallsMade settling calls (Err Stopped) made = (1 ≤ made) × (made ≤ settling + calls)
+CallsMade settling calls (Err Full) made = made ≡ settling
+CallsMade settling calls (Err (Damaged place)) made = made ≡ settling
+CallsMade settling calls (Err OutOfMemory) made = made ≡ settling
+
+-- the device calls of one call of a store
+pub record Ran {T : Type 0} (settling calls : ℕ) (result : Result T StoreRefusal) (before after : Counts) : Type 0 where
+  pub made : ℕ
+  pub number : CallsMade settling calls result made
+  pub counts : DeviceCalls made before after (end_of_store result)
+
+-- the most device calls of a job, by the size of the disk
+abbrev pub IsJobOf : ℕ → ℕ → Type 0
+IsJobOf size calls = (1 ≤ calls) × ((kib : ℕ) × (kib * 1024 ≤ size) × (calls ≤ 2 * kib + 4))
+
+abbrev pub work_begun : {T : Type 0} → Change → ℕ → Work → Result T StoreRefusal → Work
+work_begun c calls old (Ok done) = Busy c 0 calls
+work_begun c calls old (Err e) = old
+
+-- A job that was begun, or refused.
+pub record Begins {T : Type 0} (layout : Layout) (uid : Uid) (body : Option (List ℕ)) (size : ℕ) (old new : Work) (result : Result T StoreRefusal) : Type 0 where
+  -- the number of its record
+  pub mark : ℕ
+  -- its device calls
+  pub calls : ℕ
+  pub bounded : IsJobOf size calls
+  pub job : IsTrue (layout.is_job body calls)
+  pub work : new ≡ work_begun (record { uid = uid; body = body; mark = mark }) calls old result
+
+-- Where a device refused a call: a change whose settling failed has not begun; any other is in doubt.
+abbrev pub work_refused : Option Pick → Change → Work → Work
+work_refused (Some pick) c old = Unsettled c false
+work_refused None c Idle = Unsettled c false
+work_refused None c (Busy d made left) = Unsettled c false
+work_refused None c (Unsettled d synced) = Unsettled d false
+
+-- after a whole put or removal that settled with this pick
+abbrev pub work_changed : {T : Type 0} → Option Pick → Change → Work → Result T StoreRefusal → Work
+work_changed pick c old (Ok done) = Idle
+work_changed pick c old (Err Failed) = work_refused pick c old
+work_changed pick c old (Err Stopped) = work_refused pick c old
+work_changed pick c old (Err Full) = Idle
+work_changed pick c old (Err (Damaged place)) = old
+work_changed pick c old (Err OutOfMemory) = old
+
+abbrev pub shown_changed : {T : Type 0} → Layout → Option Pick → Change → Work → Shown → Result T StoreRefusal → Shown
+shown_changed layout pick c work s (Ok done) = made_in layout c (settled layout pick work s)
+shown_changed layout pick c work s (Err e) = settled layout pick work s
+
+-- What a call found that settles first. It tells of a settling exactly where it ended one.
+abbrev pub SettlesFirst : {T : Type 0} → Option Pick → Work → Result T StoreRefusal → Type 0
+SettlesFirst pick work (Ok done) = is_some pick ≡ is_unsettled work
+SettlesFirst pick work (Err Failed) = IsTrue (is_some pick) → IsTrue (is_unsettled work)
+SettlesFirst pick work (Err Stopped) = IsTrue (is_some pick) → IsTrue (is_unsettled work)
+SettlesFirst pick work (Err Full) = is_some pick ≡ is_unsettled work
+SettlesFirst pick work (Err (Damaged place)) = is_some pick ≡ is_unsettled work
+SettlesFirst pick work (Err OutOfMemory) = is_some pick ≡ is_unsettled work
+
+-- the same of a call that takes its memory before it settles
+abbrev pub SettlesAfterMemory : {T : Type 0} → Option Pick → Work → Result T StoreRefusal → Type 0
+SettlesAfterMemory pick work (Ok done) = is_some pick ≡ is_unsettled work
+SettlesAfterMemory pick work (Err Failed) = IsTrue (is_some pick) → IsTrue (is_unsettled work)
+SettlesAfterMemory pick work (Err Stopped) = IsTrue (is_some pick) → IsTrue (is_unsettled work)
+SettlesAfterMemory pick work (Err Full) = is_some pick ≡ is_unsettled work
+SettlesAfterMemory pick work (Err (Damaged place)) = is_some pick ≡ is_unsettled work
+SettlesAfterMemory pick work (Err OutOfMemory) = pick ≡ None
+
+-- A change is refused for want of room exactly where, settled, there is none. One that failed once it was settled had
+-- room.
+abbrev pub IsFullBy : {T : Type 0} → Bool → Option Pick → Work → Result T StoreRefusal → Type 0
+IsFullBy room pick work (Ok done) = IsTrue room
+IsFullBy room pick work (Err Failed) = is_some pick ≡ is_unsettled work → IsTrue room
+IsFullBy room pick work (Err Stopped) = is_some pick ≡ is_unsettled work → IsTrue room
+IsFullBy room pick work (Err Full) = room ≡ false
+IsFullBy room pick work (Err (Damaged place)) = Unit {0}
+IsFullBy room pick work (Err OutOfMemory) = Unit {0}
+
+-- the settling of a put that wanted memory makes no call
+abbrev pub settling_before : {T : Type 0} → Work → Result T StoreRefusal → ℕ
+settling_before work (Ok done) = settling_calls work
+settling_before work (Err Failed) = settling_calls work
+settling_before work (Err Stopped) = settling_calls work
+settling_before work (Err Full) = settling_calls work
+settling_before work (Err (Damaged place)) = 0
+settling_before work (Err OutOfMemory) = 0
+
+-- A whole put or removal: its device calls, what is kept and in doubt after it, and what a crash at any moment of it
+-- leaves.
+pub record Changes {T : Type 0} (tells : Bool) (layout : Layout) (node : ℕ) (uid : Uid) (body : Option (List ℕ)) (pick : Option Pick) (result : Result T StoreRefusal)
+    (old new : Work) (before after : Counts) (kept_before kept_behind : Shown) (told_before told_behind : Told) : Type 0 where
+  pub mark : ℕ
+  pub calls : ℕ
+  pub bounded : IsJobOf before.size calls
+  pub job : IsTrue (layout.is_job body calls)
+  pub ran : Ran (settling_before old result) calls result before after
+  pub work : new ≡ work_changed pick (record { uid = uid; body = body; mark = mark }) old result
+  pub shown : IsTrue tells → kept_behind ≡ shown_changed layout pick (record { uid = uid; body = body; mark = mark }) old kept_before result
+  pub moments : IsTrue tells → EachMoment (Stands (layout.map_of node) kept_before.kept (changes_in (doubt_in old) ++ record { uid = uid; body = body; mark = mark } ∷ [])) told_before told_behind
+
+abbrev pub work_unchanged : {T : Type 0} → Option Pick → Work → Result T StoreRefusal → Work
+work_unchanged pick old (Ok done) = work_settled pick old
+work_unchanged pick old (Err Failed) = work_settled pick old
+work_unchanged pick old (Err Stopped) = work_settled pick old
+work_unchanged pick old (Err Full) = work_settled pick old
+work_unchanged pick old (Err (Damaged place)) = old
+work_unchanged pick old (Err OutOfMemory) = old
+
+-- A removal of what is not kept once the doubt is settled: it is done with the settling.
+pub record Settles {T : Type 0} (tells : Bool) (layout : Layout) (node : ℕ) (pick : Option Pick) (result : Result T StoreRefusal)
+    (old new : Work) (before after : Counts) (kept_before kept_behind : Shown) (told_before told_behind : Told) : Type 0 where
+  pub ran : Ran (settling_before old result) 0 result before after
+  pub work : new ≡ work_unchanged pick old result
+  pub shown : IsTrue tells → kept_behind ≡ settled layout pick old kept_before
+  pub moments : IsTrue tells → EachMoment (Stands (layout.map_of node) kept_before.kept (changes_in (doubt_in old))) told_before told_behind
+
+-- the uid of an Eject of this node
+abbrev pub IsEject : ℕ → Uid → Type 0
+IsEject node uid = (uid.node ≡ node) × (1 ≤ uid.epoch) × (1 ≤ uid.serial)
+
+-- a uid under which a store of this node keeps bytes: that of an Eject, or the reserved one with its four
+abbrev pub IsOwn : ℕ → Uid → ℕ → Type 0
+IsOwn node uid size = (uid.node ≡ node) × (((1 ≤ uid.epoch) × (1 ≤ uid.serial)) ⊎ ((uid.epoch ≡ 0) × (uid.serial ≡ 0) × (size ≡ 4)))
+
+abbrev pub reserved_uid : ℕ → Uid
+reserved_uid node = record { node = node; epoch = 0; serial = 0 }
+
+-- what is kept under a uid, once the doubt is settled
+abbrev pub body_at : Shown → Uid → Option (List ℕ)
+body_at s uid = map.get s.kept.bodies uid
+
+-- The room goes on being told where another value is put only once the epoch is kept.
+abbrev pub KeepsTelling : ℕ → Shown → Uid → Type 0
+KeepsTelling node s uid = (uid ≡ reserved_uid node) ⊎ IsTrue (is_some (body_at s (reserved_uid node)))
+
+-- the disk that an opening leaves, in a store or in a refusal
+abbrev pub disk_after : {S D : Type 0} → (S → D) → Result S (D × StoreRefusal) → D
+disk_after device (Ok store) = device store
+disk_after device (Err refusal) = refusal.0
+
+abbrev pub without_disk : {S D : Type 0} → Result S (D × StoreRefusal) → Result S StoreRefusal
+without_disk (Ok store) = Ok store
+without_disk (Err refusal) = Err refusal.1
+
+-- in the order of uids
+abbrev pub IsBehind : Option Uid → Uid → Type 0
+IsBehind None uid = Unit {0}
+IsBehind (Some from) uid = uid_cmp from uid ≡ Less
+
+-- the next uid behind one that is of a kind, the reserved one apart; or there is none
+abbrev pub IsNextOf : (Uid → Bool) → Uid → Option Uid → Option Uid → Type 0
+IsNextOf is_one reserved from None = (uid : Uid) → IsBehind from uid → IsTrue (is_one uid) → uid ≢ reserved → ⊥
+IsNextOf is_one reserved from (Some next) =
+    IsBehind from next × IsTrue (is_one next) × (next ≢ reserved)
+    × ((uid : Uid) → IsBehind from uid → IsTrue (is_one uid) → uid ≢ reserved → (uid ≡ next) ⊎ (uid_cmp next uid ≡ Less))
+
+-- the next kept uid of an Eject
+abbrev pub IsNextKept : ℕ → Shown → Option Uid → Option Uid → Type 0
+IsNextKept node s from next = IsNextOf (λ uid. is_some (body_at s uid)) (reserved_uid node) from next
+
+-- after the rest of a job
+abbrev pub work_finished : {T : Type 0} → Work → Result T StoreRefusal → Work
+work_finished Idle r = Idle
+work_finished (Busy c made left) (Ok done) = Idle
+work_finished (Busy c made left) (Err e) = Unsettled c false
+work_finished (Unsettled c synced) r = Unsettled c synced
+
+abbrev pub shown_finished : {T : Type 0} → Layout → Work → Shown → Result T StoreRefusal → Shown
+shown_finished layout Idle s r = s
+shown_finished layout (Busy c made left) s (Ok done) = made_in layout c s
+shown_finished layout (Busy c made left) s (Err e) = s
+shown_finished layout (Unsettled c synced) s r = s

@@ -1,0 +1,62 @@
+-- What an opening finds on a disk, and what its device calls leave there.
+use Rattle.std.specs.Prelude.{◌≡◌, ◌⊎◌, ℕ, ◌+◌, ◌≤◌, ◌==◌, true, false, List, length, take, map, slice_index}
+use Rattle.std.specs.BTreeMap.{BTreeMap}
+use Rattle.std.specs.Prelude.{Option}
+use Rattle.capability.specs.declared.Uid.{Uid}
+use Rattle.eden_disk.specs.Told.{Told, Contents, contents, at_rest, noted, Wrote}
+use Rattle.eden_disk.specs.Calls.{End, Fine, AtFault, AtStop, ReadTold, SyncTold, WriteTold}
+use Rattle.eden_disk.specs.Held.{Holds, Passes}
+use Rattle.passive_store.specs.declared.index.Slot.{Slot}
+use Rattle.passive_store.specs.Kept.{Change, Kept, Stands, HasNoMap, nothing_kept}
+use Rattle.passive_store.specs.Log.{IsFront, kept_from, log_map}
+use Rattle.passive_store.specs.LogState.{records_before, IsIndex, used_by, body_length}
+
+-- The walk over these bytes has come to this tail, and the index goes along.
+pub record IsWalk (node size tail : ℕ) (bytes : List ℕ) (index : BTreeMap Uid (Option Slot)) : Type 0 where
+  pub whole : length bytes ≡ size
+  pub front : IsFront node (take tail bytes) (records_before node tail bytes)
+  pub indexed : IsIndex index (kept_from nothing_kept (records_before node tail bytes)) tail bytes
+  pub sum : tail ≡ 16 + used_by (map body_length (records_before node tail bytes))
+
+-- bytes that were written and synced
+abbrev pub IsThrough : ℕ → List ℕ → Told → Told → End → Type 0
+IsThrough at bytes old new end = (mid : Told) × (wrote : ℕ) × (synced : ℕ) × (mid ≡ noted (Wrote wrote at bytes) old) × SyncTold synced mid new end
+
+-- the same of a write or a sync that was refused
+abbrev pub ThroughTold : ℕ → List ℕ → Told → Told → End → Type 0
+ThroughTold at bytes old new Fine = IsThrough at bytes old new Fine
+ThroughTold at bytes old new AtFault = ((clock : ℕ) × WriteTold clock at bytes old new AtFault) ⊎ IsThrough at bytes old new AtFault
+ThroughTold at bytes old new AtStop = ((clock : ℕ) × WriteTold clock at bytes old new AtStop) ⊎ IsThrough at bytes old new AtStop
+
+-- an image on which no log stands, or one without a record
+abbrev pub IsEmptyImage : List ℕ → Type 0
+IsEmptyImage image = (17 ≤ length image) × (((slice_index image 0 == 237) ≡ false) ⊎ ((slice_index image 16 == 225) ≡ false))
+
+-- a disk with room for a log, on which none stands
+pub record IsBlank (c : Contents) : Type 0 where
+  pub rest : c ≡ at_rest c.now
+  pub long : 17 ≤ length c.now
+  pub blank : (slice_index c.now 0 == 237) ≡ false
+
+-- a disk with a log that has no record
+pub record IsNewLog (c : Contents) : Type 0 where
+  pub rest : c ≡ at_rest c.now
+  pub long : 17 ≤ length c.now
+  pub header : slice_index c.now 0 ≡ 237
+  pub shut : (slice_index c.now 16 == 225) ≡ false
+
+abbrev pub OnFine : End → Type 0 → Type 0
+OnFine Fine P = P
+OnFine AtFault P = Unit {0}
+OnFine AtStop P = Unit {0}
+
+-- A disk was looked at, and formatted where no log stood on it.
+abbrev pub IsReadied : Told → Told → End → Type 0
+IsReadied old new end =
+    (((slice_index (contents old).now 0 == 237) ≡ true) × ((clock : ℕ) × ReadTold clock old new end))
+    ⊎ (((slice_index (contents old).now 0 == 237) ≡ false) × Passes IsEmptyImage old new × OnFine end (IsNewLog (contents new)))
+
+-- Whatever the images of a disk stood for, they stand for it at each moment of this stretch of time, and behind it.
+pub record IsKeptThrough (node : ℕ) (old new : Told) : Type 0 where
+  pub mapped : (kept : Kept) (changes : List Change) → Holds (Stands (log_map node) kept changes) (contents old) → Passes (Stands (log_map node) kept changes) old new
+  pub unmapped : Holds (HasNoMap (log_map node)) (contents old) → Passes (HasNoMap (log_map node)) old new

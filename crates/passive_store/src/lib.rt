@@ -1,0 +1,17 @@
+//! Stores.
+#![tactic(auto)]
+
+mod index;
+mod laws;
+mod log_store;
+mod opening;
+mod records;
+mod steps;
+mod store;
+#[cfg(test)]
+mod tests;
+
+pub use laws::{images_are_told_by_marks, picks_are_told_by_marks};
+pub use log_store::LogStore;
+pub use steps::{finish, settle_whole};
+pub use store::{Doubt, Pick, Progress, Store, StoreRefusal};
