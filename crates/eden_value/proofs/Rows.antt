@@ -1,10 +1,10 @@
 -- The definitions at a value of the code that is a list.
-use Rattle.std.proofs.Common.{◌≡◌, ◌↔◌, Bool as Truth, ℕ, suc, ◌-◌, ◌<◌, ◌++◌, nat_lt, List, [], ◌∷◌, refl, ap, sym, ◌∙◌, arith}
+use Rattle.std.proofs.Common.{◌≡◌, ◌↔◌, Bool as Truth, true, false, ℕ, suc, ◌-◌, ◌<◌, ◌++◌, nat_lt, List, [], ◌∷◌, refl, ap, sym, ◌∙◌, arith}
 use Rattle.std.proofs.lemmas.Bool.Decides.{nat_tests}
 use Rattle.eden_value.specs.Datum.{Datum, list, data_of}
 use Rattle.eden_value.specs.View.{datum, datums}
 use Rattle.eden_value.specs.Shape.{Shape, lists, has_shape, have_shape}
-use Rattle.eden_value.specs.Printed.{printed, printed_data, printed_list, printed_more, printed_row}
+use Rattle.eden_value.specs.Printed.{printed, printed_items, printed_more, row_behind, printed_row}
 use Rattle.eden_value.specs.Limits.{depth, depths, depth_of}
 use Rattle.eden_value.specs.Caps.{caps, caps_of}
 use Rattle.eden_value.specs.Laws.{depths-data_of, caps-data_of, shape-data_of, same_values}
@@ -38,13 +38,13 @@ module _ (v : Value) (items : List Datum) (vs ws : List Value) (is : v ≡ Liste
   pub value_printed : printed (datum v) ≡ 91 ∷ (printed_row (datums ws) ++ 93 ∷ [])
   value_printed = ap printed datum_is ∙ ap (λ l. 91 ∷ (l ++ 93 ∷ [])) (row (datums ws))
     where
-      more : (ds : List Datum) → printed_data (data_of ds) ≡ printed_more ds
-      more [] = refl
-      more (d ∷ ds) = ap (λ l. 44 ∷ 32 ∷ (printed d ++ l)) (more ds)
+      behind : (ds : List Datum) → printed_more (data_of ds) ≡ row_behind ds
+      behind [] = refl
+      behind (d ∷ ds) = ap (λ l. 44 ∷ 32 ∷ (printed d ++ l)) (behind ds)
 
-      row : (ds : List Datum) → printed_list (data_of ds) ≡ printed_row ds
+      row : (ds : List Datum) → printed_items (data_of ds) ≡ printed_row ds
       row [] = refl
-      row (d ∷ ds) = ap (λ l. printed d ++ l) (more ds)
+      row (d ∷ ds) = ap (λ l. printed d ++ l) (behind ds)
 
 -- two lists are one value where their items are the same
 pub same_lists : (a b : Value) (x y : List Datum) (vs us ws zs : List Value) → a ≡ Listed x → datums vs ≡ x → ws ≡ vs → b ≡ Listed y → datums us ≡ y → zs ≡ us → (ws ≡ zs) ↔ (a ≡ b)
@@ -52,3 +52,8 @@ same_lists a b x y vs us ws zs p q r s t u = (
   λ e. p ∙ ap Listed (sym (ap datums r ∙ q) ∙ ap datums e ∙ ap datums u ∙ t) ∙ sym s,
   λ e. let f : x ≡ y = cc (p, s, e) in same_values ws zs (ap datums r ∙ q ∙ f ∙ sym (ap datums u ∙ t)),
 )
+
+-- what is left of a row to print, which has no comma before its first value
+abbrev pub printed_from : Truth → List Datum → List ℕ
+printed_from true ds = printed_row ds
+printed_from false ds = row_behind ds

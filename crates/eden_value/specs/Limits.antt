@@ -1,6 +1,6 @@
 -- The limits of values: which bytes a text may have, how deep lists nest, and what a value may be.
-use Rattle.std.specs.Prelude.{ℕ, zero, suc, ◌≤◌, ◌&&◌, max, Bool, List, [], ◌∷◌, length, Some, None, nat_le}
-use Rattle.std.specs.List.{AllPass}
+use Rattle.std.specs.Prelude.{true, ◌≡◌, ℕ, zero, suc, ◌≤◌, ◌&&◌, max, Bool, List, [], ◌∷◌, length, Some, None, nat_le}
+use Rattle.std.specs.List.{list_all}
 use Rattle.capability.specs.Capability.{IsEject}
 use Rattle.eden_value.specs.Datum.{Datum, Data, number, truth, text, cap, list, no_data, data_and, items_of}
 use Rattle.eden_value.specs.declared.value.TheConstants.{TEXT_LIMIT, LIST_LIMIT}
@@ -11,7 +11,7 @@ is_printable b = nat_le 0x20 b && nat_le b 0x7E
 
 -- what a text may be
 pub record IsText (bytes : List ℕ) : Type 0 where
-  pub printable : AllPass is_printable bytes
+  pub printable : list_all is_printable bytes ≡ true
   pub short : length bytes ≤ TEXT_LIMIT
 
 -- how deep lists nest

@@ -5,6 +5,8 @@ mod kind;
 mod limits;
 mod printing;
 mod status;
+#[cfg(test)]
+mod tests;
 mod value;
 mod walk;
 

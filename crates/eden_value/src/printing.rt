@@ -5,7 +5,7 @@ ghost use Rattle.eden_value.specs.View.{datum, datums};
 ghost use Rattle.eden_value.specs.Printed as text;
 
 use crate::value::Value;
-use capability::Cap;
+use capability::{Cap, Uid};
 use std::alloc::{AllocError, Global};
 
 fn add_int(alloc: Global, n: i64, out: &mut Vec<u8>) -> Result<(), AllocError>
@@ -57,6 +57,17 @@ fn add_hex(n: u16, out: &mut Vec<u8>) -> Result<(), AllocError>
     out.extend_from_slice(&digits)
 }
 
+fn add_uid(alloc: Global, uid: Uid, out: &mut Vec<u8>) -> Result<(), AllocError>
+    ensures { OnOk result (out.new.items ≡ out.old.items ++ text.printed_uid uid) }
+{
+    add_number(alloc, u32::from(uid.node), out)?;
+    out.push(b'.')?;
+    add_number(alloc, uid.epoch, out)?;
+    out.push(b'.')?;
+    add_number(alloc, uid.serial, out)?;
+    Ok(())
+}
+
 fn add_cap(alloc: Global, cap: Option<Cap>, out: &mut Vec<u8>) -> Result<(), AllocError>
     ensures { OnOk result (out.new.items ≡ out.old.items ++ text.printed_cap cap) }
 {
@@ -64,11 +75,7 @@ fn add_cap(alloc: Global, cap: Option<Cap>, out: &mut Vec<u8>) -> Result<(), All
         return out.extend_from_slice(b"<none>");
     };
     out.push(b'<')?;
-    add_number(alloc, u32::from(cap.uid.node), out)?;
-    out.push(b'.')?;
-    add_number(alloc, cap.uid.epoch, out)?;
-    out.push(b'.')?;
-    add_number(alloc, cap.uid.serial, out)?;
+    add_uid(alloc, cap.uid, out)?;
     out.push(b':')?;
     add_hex(cap.rights.bits, out)?;
     out.push(b'>')?;
@@ -113,7 +120,10 @@ fn add_row(alloc: Global, values: &[Value], out: &mut Vec<u8>) -> Result<(), All
     Ok(())
 }
 
-/// Appends the text of a value; where memory runs out, `out` is as before.
+/// Appends the text of a value. Where memory runs out, `out` is as before.
+///
+/// An integer is printed in decimals, a truth value as `true` or `false`, a text in double quotes
+/// with `\"` and `\\` in it, a capability as `<1.1.1:ffff>`, none as `<none>`, a list as `[a, b]`.
 pub fn print(alloc: Global, value: &Value, out: &mut Vec<u8>) -> Result<(), AllocError>
     ensures ok { OnOk result (out.new.items ≡ out.old.items ++ text.printed (datum value.now)) }
     ensures err { OnErr result (out.new.items ≡ out.old.items) }

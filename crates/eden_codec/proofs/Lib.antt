@@ -1,0 +1,4 @@
+pub mod Cases
+pub mod Deeper
+pub mod Sizes
+pub mod NotRep

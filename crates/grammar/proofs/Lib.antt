@@ -1,0 +1,3 @@
+pub mod Scale
+pub mod Within
+pub mod Same
