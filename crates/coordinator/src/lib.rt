@@ -1,0 +1,241 @@
+//! The processes of an active Eject: who runs, who waits for whom, and which invocation may start.
+//!
+//! An Eject has at most 16 processes, and at most 64 invocations are queued for it. Each operation
+//! belongs to a class, and of each class no more invocations run at once than its limit says.
+//! A monitor has one holder, an entry queue, and conditions on which processes wait.
+//!
+//! Classes and conditions are counted from 0, monitors and processes from 1. All memory is taken
+//! by `Coordinator::new`; every other call succeeds without any.
+#![tactic(auto)]
+
+mod gates;
+mod line;
+mod parts;
+mod slots;
+#[cfg(test)]
+mod tests;
+
+ghost use Rattle.std.specs.Prelude.{◌≡◌, ◌<◌, ◌≤◌, ◌+◌, ◌==◌, ◌↔◌, ◌++◌, ◌∷◌, [], ℕ, List, length, map, Some, None, IsSome, IfSome, IfOk, MatchResult, IsTrue, slice_get};
+ghost use Rattle.std.specs.List.{All};
+ghost use Rattle.std.specs.Option.{option_map};
+ghost use Rattle.eden_model.specs.Crew.{Crew, Coordination, Runs, Waits as WaitsFor, Holds, outside, nothing, is_free, locked, left, waited, signalled, set_waits, ended, startable, started_in, least_free, fresh, serving_pairs};
+ghost use Rattle.coordinator.specs.View.{setup_of};
+
+use crate::gates::{admit, free_gates, join, pass_on, pass_on_all, quiet_bells};
+use crate::slots::{
+    declared_slots, insert_slot, is_running, least_free, next_to_start, queued_calls, remove_slot,
+    served_pairs, set_slots,
+};
+use capability::CallNumbers;
+pub use gates::{Bell, Gate};
+pub use line::Line;
+pub use parts::{Busy, CondMonitors, Limits, Pairs, Parts, Setup, Started};
+pub use slots::{Serving, Slot, Waits};
+use std::alloc::{AllocError, Global};
+use std::marker::Model;
+
+/// The processes of one active Eject, and the invocations that are queued for it.
+#[derive(Drop)]
+pub struct Coordinator {
+    limits: Limits,
+    slots: Vec<Slot>,
+    gates: Vec<Gate>,
+    bells: Vec<Bell>,
+    queued: Vec<Serving>,
+    // Empty, with room for what `into_parts` gives.
+    running_room: Vec<(u8, u32)>,
+    queued_room: Vec<u32>,
+}
+
+impl Model for Coordinator {
+    ghost use Rattle.eden_model.specs.Crew.{Coordination};
+
+    ghost Value = { Coordination };
+
+    ghost use Rattle.coordinator.specs.View.{view_of};
+    ghost use Rattle.coordinator.specs.Whole.{IsWhole};
+
+    ghost view = { view_of };
+
+    ghost invariant = { IsWhole };
+}
+
+impl Coordinator {
+    /// The declared processes run under the numbers 1 upward, all monitors are free, and nothing is
+    /// queued. All memory is taken here.
+    pub fn new(alloc: Global, setup: Setup) -> Result<Coordinator, AllocError>
+        requires declared { setup.declared ≤ 8 }
+        requires monitors { setup.monitors ≤ 8 }
+        requires conditions { All (λ m. (1 ≤ m) × (m ≤ setup.monitors)) setup.conditions }
+        ensures { IfOk result (λ c. c ≡ fresh (setup_of setup)) }
+    {
+        let slots = declared_slots(alloc, setup.declared)?;
+        let gates = free_gates(alloc, setup.monitors)?;
+        let bells = quiet_bells(alloc, setup.conditions.as_slice())?;
+        let queued = Vec::with_capacity(alloc, 64)?;
+        let running_room = Vec::with_capacity(alloc, 16)?;
+        let queued_room = Vec::with_capacity(alloc, 64)?;
+        Ok(Coordinator {
+            limits: setup.limits,
+            slots,
+            gates,
+            bells,
+            queued,
+            running_room,
+            queued_room,
+        })
+    }
+
+    /// Whether 64 invocations are queued, so that the next one is refused.
+    pub fn is_full(&self) -> bool
+        ensures { IsTrue result ↔ (length self.now.queued ≡ 64) }
+    {
+        self.queued.len() == 64
+    }
+
+    /// The invocation goes to the back of the queue, unless 64 are queued.
+    pub fn offer(&mut self, call: u32, class: u8) -> Result<(), Busy>
+        requires { class < length self.old.crew.limits }
+        ensures { MatchResult result
+            (λ _. (length self.old.queued < 64)
+            × (self.new ≡ record self.old {
+              queued = self.old.queued ++ record { call = call; class = class } ∷ [];
+            }))
+            (λ _. (length self.old.queued ≡ 64) × (self.new ≡ self.old)) }
+    {
+        if self.queued.len() == 64 {
+            return Err(Busy);
+        }
+        self.queued.push_reserved(Serving { call, class });
+        Ok(())
+    }
+
+    /// The call that `start` would start: the earliest one queued whose class is below its limit,
+    /// while fewer than 16 processes exist. None exactly where there is none.
+    pub fn startable(&self) -> Option<u32>
+        ensures { result ≡ option_map (λ i. i.call) (startable self.now.crew self.now.queued) }
+    {
+        match next_to_start(&self.slots, self.limits.as_slice(), &self.queued) {
+            Some(next) => Some(next.call),
+            None => None,
+        }
+    }
+
+    /// The startable invocation leaves the queue and runs, in a process of the least free number.
+    pub fn start(&mut self) -> Started
+        requires { IsSome (startable self.old.crew self.old.queued) }
+        ensures { IfSome (startable self.old.crew self.old.queued)
+            (λ i. (result.call ≡ i.call) × (result.process ≡ least_free self.old.crew)
+            × (self.new ≡ started_in i self.old)) }
+    {
+        match next_to_start(&self.slots, self.limits.as_slice(), &self.queued) {
+            Some(next) => {
+                let call = next.call;
+                let process = least_free(&self.slots);
+                insert_slot(&mut self.slots, process, next);
+                self.queued.retain(|s| s.call != call);
+                Started { call, process }
+            }
+            None => unreachable!(),
+        }
+    }
+
+    /// Whether the process is there and waits for nothing.
+    pub fn runnable(&self, process: u8) -> bool
+        ensures { IsTrue result ↔ Runs self.now.crew process }
+    {
+        is_running(&self.slots, process)
+    }
+
+    /// The process waits for a reply or for the store.
+    pub fn block(&mut self, process: u8)
+        requires { Runs self.old.crew process }
+        ensures { self.new ≡ record self.old { crew = set_waits process outside self.old.crew } }
+    {
+        set_slots(&mut self.slots, process, Waits::Outside);
+    }
+
+    /// The reply or the store's answer, for which the process waited, has come.
+    pub fn resume(&mut self, process: u8)
+        requires { WaitsFor self.old.crew process outside }
+        ensures { self.new ≡ record self.old { crew = set_waits process nothing self.old.crew } }
+    {
+        set_slots(&mut self.slots, process, Waits::Nothing);
+    }
+
+    /// The process becomes the holder of a free monitor, and else the last of its entry queue.
+    /// Answers whether it now holds the monitor.
+    pub fn enter(&mut self, process: u8, monitor: u8) -> bool
+        requires runs { Runs self.old.crew process }
+        requires from { 1 ≤ monitor }
+        requires to { monitor ≤ length self.old.crew.monitors }
+        ensures held { result ≡ is_free self.old.crew monitor }
+        ensures after { self.new ≡ record self.old { crew = locked process monitor self.old.crew } }
+    {
+        admit(&mut self.slots, &mut self.gates, process, monitor)
+    }
+
+    /// The monitor passes from the process to the head of the entry queue, or is free.
+    pub fn leave(&mut self, process: u8, monitor: u8)
+        requires runs { Runs self.old.crew process }
+        requires holds { Holds self.old.crew process monitor }
+        ensures { self.new ≡ record self.old { crew = left monitor self.old.crew } }
+    {
+        pass_on(&mut self.slots, &mut self.gates, monitor);
+    }
+
+    /// The process leaves the condition's monitor, and is the last of those who wait on it.
+    pub fn wait(&mut self, process: u8, condition: u8)
+        requires runs { Runs self.old.crew process }
+        requires within { condition < length self.old.crew.conditions }
+        requires holds { IfSome (slice_get self.old.crew.conditions condition)
+            (λ it. Holds self.old.crew process it.monitor) }
+        ensures { self.new ≡ record self.old { crew = waited process condition self.old.crew } }
+    {
+        let bell = &mut self.bells[condition as usize];
+        let monitor = bell.monitor;
+        bell.waiters.push(process);
+        pass_on(&mut self.slots, &mut self.gates, monitor);
+        set_slots(&mut self.slots, process, Waits::Condition { condition });
+    }
+
+    /// The process that has waited longest on the condition goes to the back of the entry queue.
+    /// The signaller keeps the monitor. Nothing happens where nobody waits.
+    pub fn signal(&mut self, process: u8, condition: u8)
+        requires runs { Runs self.old.crew process }
+        requires within { condition < length self.old.crew.conditions }
+        requires holds { IfSome (slice_get self.old.crew.conditions condition)
+            (λ it. Holds self.old.crew process it.monitor) }
+        ensures { self.new ≡ record self.old { crew = signalled condition self.old.crew } }
+    {
+        let bell = &mut self.bells[condition as usize];
+        let monitor = bell.monitor;
+        if let Some(next) = bell.waiters.pop() {
+            join(&mut self.slots, &mut self.gates, next, monitor);
+        }
+    }
+
+    /// The process is gone. Each monitor that it held passes to the head of its entry queue.
+    pub fn end(&mut self, process: u8)
+        requires { Runs self.old.crew process }
+        ensures { self.new ≡ record self.old { crew = ended process self.old.crew } }
+    {
+        pass_on_all(&mut self.slots, &mut self.gates, process);
+        remove_slot(&mut self.slots, process);
+    }
+
+    /// The calls that run, by process number, and those that are queued, in order.
+    pub fn into_parts(self) -> Parts
+        ensures running { result.running ≡ serving_pairs self.crew.processes }
+        ensures queued { result.queued ≡ map (λ i. i.call) self.queued }
+    {
+        let running_room = self.running_room;
+        let queued_room = self.queued_room;
+        let pairs = served_pairs(&self.slots, running_room);
+        let numbers = queued_calls(&self.queued, queued_room);
+        Parts {
+            running: Pairs { pairs },
+            queued: CallNumbers { numbers },
+        }
+    }
+}

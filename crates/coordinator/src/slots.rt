@@ -1,0 +1,243 @@
+//! The processes, each with what it serves and what it waits for.
+ghost use Rattle.std.specs.Prelude.{◌≡◌, ◌<◌, ◌≤◌, ◌+◌, ◌↔◌, ◌==◌, IsTrue, ℕ, false, map, filter_map, [], ◌++◌, option_to_list, not, length, Some, OnSome, IfOk, List, slice_index, slice_index_or, count_by, vec_len};
+ghost use Rattle.std.specs.List.{filter, find, list_any, insert};
+ghost use Rattle.std.specs.Vec.{vec_capacity};
+ghost use Rattle.std.specs.Option.{option_map};
+ghost use Rattle.eden_model.specs.Map.{put_at};
+ghost use Rattle.std.specs.Ordering.{nat_cmp};
+ghost use Rattle.eden_model.specs.Crew.{Monitor, Condition, waits_at, nothing, least_number, is_taken, declared_from, startable};
+ghost use Rattle.coordinator.specs.Fields.{slot_pair, with_slot, slot_serves, next_serving, started_slot};
+ghost use Rattle.coordinator.specs.View.{process_of, invocation_of};
+
+use std::alloc::{AllocError, Global};
+
+/// What a process waits for.
+#[derive(Clone, Copy)]
+pub enum Waits {
+    Nothing,
+    Outside,
+    Entry { monitor: u8 },
+    Condition { condition: u8 },
+}
+
+#[derive(Clone, Copy)]
+pub struct Serving {
+    pub call: u32,
+    pub class: u8,
+}
+
+#[derive(Clone, Copy)]
+pub struct Slot {
+    pub number: u8,
+    pub serves: Option<Serving>,
+    pub waits: Waits,
+}
+
+impl Slot {
+    fn waiting(self, process: u8, waits: Waits) -> Slot
+        ensures { result ≡ with_slot process waits self }
+    {
+        if self.number == process {
+            Slot { waits, ..self }
+        } else {
+            self
+        }
+    }
+
+    fn is_of(&self, class: u8) -> bool
+        ensures { result ≡ slot_serves class self.now }
+    {
+        match self.serves {
+            Some(serving) => serving.class == class,
+            None => false,
+        }
+    }
+
+    fn is_idle(&self) -> bool
+        ensures { IsTrue result ↔ (self.now.waits ≡ Waits.Nothing) }
+    {
+        matches!(self.waits, Waits::Nothing)
+    }
+}
+
+/// The declared processes, with room for sixteen.
+pub fn declared_slots(alloc: Global, declared: u8) -> Result<Vec<Slot>, AllocError>
+    requires { declared ≤ 8 }
+    ensures slots { IfOk result (λ v. map process_of v.items ≡ declared_from 1 declared) }
+    ensures room { IfOk result (λ v. 16 ≤ vec_capacity v) }
+{
+    let mut slots = Vec::with_capacity(alloc, 16)?;
+    for number in 0..declared {
+        slots.push_reserved(Slot {
+            number: number + 1,
+            serves: None,
+            waits: Waits::Nothing,
+        });
+    }
+    Ok(slots)
+}
+
+pub fn set_slots(slots: &mut Vec<Slot>, process: u8, waits: Waits)
+    ensures slots { slots.new.items ≡ map (with_slot process waits) slots.old.items }
+    ensures room { vec_capacity slots.new ≡ vec_capacity slots.old }
+{
+    for i in 0..slots.len() {
+        let slot = slots[i];
+        slots[i] = slot.waiting(process, waits);
+    }
+}
+
+/// How many processes serve an invocation of the class.
+fn served(slots: &[Slot], class: u8) -> usize
+    ensures { result ≡ count_by (slot_serves class) slots.now }
+{
+    slots.iter().filter(|slot| slot.is_of(class)).count()
+}
+
+fn limit_of(limits: &[u8], class: u8) -> u8
+    ensures { result ≡ slice_index limits.now class }
+{
+    match limits.get(class as usize) {
+        Some(limit) => *limit,
+        None => 0,
+    }
+}
+
+fn may_start(slots: &[Slot], limits: &[u8], serving: Serving) -> bool
+    ensures { result ≡ next_serving slots.now limits.now serving }
+{
+    served(slots, serving.class) < limit_of(limits, serving.class) as usize
+}
+
+fn first_to_start(slots: &[Slot], limits: &[u8], queued: &[Serving]) -> Option<Serving>
+    ensures { result ≡ find (next_serving slots.now limits.now) queued.now }
+{
+    queued
+        .iter()
+        .copied()
+        .find(|serving| may_start(slots, limits, *serving))
+}
+
+/// The earliest invocation that may start, while fewer than sixteen processes exist.
+pub fn next_to_start(slots: &[Slot], limits: &[u8], queued: &[Serving]) -> Option<Serving>
+    ensures few { OnSome result (length slots.now < 16) }
+    ensures found { (ms : List Monitor) (cs : List Condition) → option_map invocation_of result
+        ≡ startable (record { limits = limits.now; processes = map process_of slots.now; monitors = ms; conditions = cs }) (map invocation_of queued.now) }
+{
+    if slots.len() < 16 {
+        first_to_start(slots, limits, queued)
+    } else {
+        None
+    }
+}
+
+fn has_number(slots: &[Slot], number: u8) -> bool
+    ensures { result ≡ list_any (λ s. s.number == number) slots.now }
+{
+    slots.iter().any(|slot| slot.number == number)
+}
+
+/// The least number that no process has.
+pub fn least_free(slots: &[Slot]) -> u8
+    ensures { result ≡ least_number (map process_of slots.now) }
+{
+    for number in 1..17 {
+        if !has_number(slots, number) {
+            return number;
+        }
+    }
+    17
+}
+
+/// How many processes have a number that is at most this one.
+fn place_of(slots: &[Slot], number: u8) -> usize
+    ensures within { result ≤ length slots.now }
+    ensures before { (k : ℕ) (d : Slot) → k < result → (slice_index_or slots.now k d).number ≤ number }
+    ensures behind { (d : Slot) → result < length slots.now → number < (slice_index_or slots.now result d).number }
+{
+    for (i, slot) in slots.iter().enumerate() {
+        if number < slot.number {
+            return i;
+        }
+    }
+    slots.len()
+}
+
+/// A process that serves the invocation joins in the place of its number.
+pub fn insert_slot(slots: &mut Vec<Slot>, number: u8, serving: Serving)
+    requires few { length slots.old.items < 16 }
+    requires room { 16 ≤ vec_capacity slots.old }
+    requires free { is_taken number (map process_of slots.old.items) ≡ false }
+    ensures slots { map process_of slots.new.items ≡ put_at nat_cmp number (started_slot serving) (map process_of slots.old.items) }
+    ensures room { 16 ≤ vec_capacity slots.new }
+    ensures len { length slots.new.items ≡ length slots.old.items + 1 }
+{
+    let at = place_of(slots, number);
+    let slot = Slot {
+        number,
+        serves: Some(serving),
+        waits: Waits::Nothing,
+    };
+    match slots.insert(at, slot) {
+        Ok(()) => {}
+        Err(_) => unreachable!(),
+    }
+}
+
+pub fn remove_slot(slots: &mut Vec<Slot>, process: u8)
+    ensures slots { slots.new.items ≡ filter (λ s. not (s.number == process)) slots.old.items }
+    ensures room { vec_capacity slots.new ≡ vec_capacity slots.old }
+{
+    slots.retain(|slot| slot.number != process);
+}
+
+fn slot_of(slots: &[Slot], process: u8) -> Option<Slot>
+    ensures { result ≡ find (λ s. s.number == process) slots.now }
+{
+    slots.iter().copied().find(|slot| slot.number == process)
+}
+
+pub fn is_running(slots: &[Slot], process: u8) -> bool
+    ensures { IsTrue result ↔ (waits_at process (map process_of slots.now) ≡ Some nothing) }
+{
+    match slot_of(slots, process) {
+        Some(slot) => slot.is_idle(),
+        None => false,
+    }
+}
+
+fn push_pair(pairs: &mut Vec<(u8, u32)>, slot: Slot)
+    requires { vec_len pairs.old < vec_capacity pairs.old }
+    ensures pairs { pairs.new.items ≡ pairs.old.items ++ option_to_list (slot_pair slot) }
+    ensures few { length pairs.new.items ≤ length pairs.old.items + 1 }
+    ensures room { vec_capacity pairs.new ≡ vec_capacity pairs.old }
+{
+    if let Some(serving) = slot.serves {
+        pairs.push_reserved((slot.number, serving.call));
+    }
+}
+
+/// The processes that serve a call, each with the call, in an empty list that has room for them.
+pub fn served_pairs(slots: &Vec<Slot>, mut pairs: Vec<(u8, u32)>) -> Vec<(u8, u32)>
+    requires empty { pairs.items ≡ [] }
+    requires room { length slots.now.items ≤ vec_capacity pairs }
+    ensures { result.items ≡ filter_map slot_pair slots.now.items }
+{
+    for i in 0..slots.len() {
+        let slot = slots[i];
+        push_pair(&mut pairs, slot);
+    }
+    pairs
+}
+
+/// The calls that are queued, in an empty list that has room for them.
+pub fn queued_calls(queued: &[Serving], mut calls: Vec<u32>) -> Vec<u32>
+    requires empty { calls.items ≡ [] }
+    requires room { length queued.now ≤ vec_capacity calls }
+    ensures { result.items ≡ map (λ s. s.call) queued.now }
+{
+    for serving in queued {
+        calls.push_reserved(serving.call);
+    }
+    calls
+}

@@ -1,0 +1,88 @@
+use super::*;
+use std::alloc::AllocError;
+
+#[test]
+fn one_of_a_class_with_limit_one(rt: HostRuntime) -> Result<(), AllocError> {
+    let limits = Limits {
+        limits: vec![in rt.alloc(); 1]?,
+    };
+    let conditions = CondMonitors {
+        monitors: Vec::new(rt.alloc()),
+    };
+    let mut c = Coordinator::new(
+        rt.alloc(),
+        Setup {
+            limits,
+            declared: 0,
+            monitors: 0,
+            conditions,
+        },
+    )?;
+    for i in 0..64 {
+        assert!(rt; !c.is_full(), "at {i}");
+        assert!(rt; c.offer(100 + i, 0).is_ok(), "at {i}");
+    }
+    assert!(rt; c.is_full());
+    assert!(rt; c.offer(164, 0).is_err());
+    assert_eq!(rt; c.startable(), Some(100));
+    match start_next(&mut c) {
+        Some(started) => {
+            assert_eq!(rt; started.call, 100);
+            assert_eq!(rt; started.process, 1);
+        }
+        None => panic!(rt; "nothing started"),
+    }
+    assert!(rt; c.runnable(1));
+    assert_eq!(rt; c.startable(), None);
+    let parts = c.into_parts();
+    assert_eq!(rt; parts.running.pairs.len(), 1);
+    assert_eq!(rt; parts.queued.numbers.len(), 63);
+    assert_eq!(rt; parts.queued.numbers.first().copied(), Some(101));
+    Ok(())
+}
+
+/// Starts the next invocation, where there is one.
+fn start_next(c: &mut Coordinator) -> Option<Started> {
+    match c.startable() {
+        Some(_) => Some(c.start()),
+        None => None,
+    }
+}
+
+#[test]
+fn a_monitor_passes_in_order(rt: HostRuntime) -> Result<(), AllocError> {
+    let limits = Limits {
+        limits: Vec::new(rt.alloc()),
+    };
+    let conditions = CondMonitors {
+        monitors: vec![in rt.alloc(); 1]?,
+    };
+    let mut c = Coordinator::new(
+        rt.alloc(),
+        Setup {
+            limits,
+            declared: 3,
+            monitors: 1,
+            conditions,
+        },
+    )?;
+    assert!(rt; c.enter(1, 1));
+    assert!(rt; !c.enter(2, 1));
+    assert!(rt; !c.runnable(2));
+    c.wait(1, 0);
+    assert!(rt; c.runnable(2), "the monitor was left to it");
+    assert!(rt; !c.enter(3, 1));
+    c.signal(2, 0);
+    assert!(rt; !c.runnable(1), "behind process 3");
+    c.leave(2, 1);
+    assert!(rt; c.runnable(3));
+    c.end(3);
+    assert!(rt; c.runnable(1));
+    assert!(rt; !c.runnable(3));
+    c.block(1);
+    assert!(rt; !c.runnable(1));
+    c.resume(1);
+    c.leave(1, 1);
+    assert!(rt; c.enter(2, 1), "free again");
+    Ok(())
+}
