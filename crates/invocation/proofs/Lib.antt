@@ -1,0 +1,9 @@
+mod Numbers
+mod Closed
+mod Mails
+mod Filters
+mod Agreed
+mod Moves
+mod Carried
+mod Sent
+mod Breaks

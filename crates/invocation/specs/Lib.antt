@@ -1,0 +1,6 @@
+pub mod Queues
+pub mod Numbers
+pub mod Mail
+pub mod Causes
+pub mod Whole
+pub mod Carries
