@@ -7,3 +7,4 @@ mod Moves
 mod Carried
 mod Sent
 mod Breaks
+mod Once

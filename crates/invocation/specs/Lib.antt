@@ -4,3 +4,4 @@ pub mod Mail
 pub mod Causes
 pub mod Whole
 pub mod Carries
+pub mod Answered

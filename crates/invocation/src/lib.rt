@@ -12,13 +12,14 @@ mod queues;
 #[cfg(test)]
 mod tests;
 
-ghost use Rattle.std.specs.Prelude.{◌≡◌, ◌≤◌, ◌<◌, ◌+◌, ◌-◌, ◌∷◌, [], false, not, IfOk, MatchResult, length, option_copied};
+ghost use Rattle.std.specs.Prelude.{◌≡◌, ◌≤◌, ◌<◌, ◌+◌, ◌-◌, ◌∷◌, [], false, not, List, IfOk, MatchResult, length, option_copied};
 ghost use Rattle.capability.specs.Capability.{IsEject};
-ghost use Rattle.eden_model.specs.Lines.{has};
+ghost use Rattle.eden_model.specs.Lines.{has, Distinct};
 ghost use Rattle.eden_model.specs.Traffic.{Traffic, with_call, replied, without_link, without_node, broken_by_link, broken_by_node, numbers_of};
 ghost use Rattle.eden_model.specs.Traffic as traffic;
 ghost use Rattle.invocation.specs.Mail.{Mail, no_mail, Delivers, is_waiting, next_number, IsGiven, IsAsker, Asks, Answers, refused_at_once, received, broken_where, orphaned, crosses, cut_link, enters, cut_node};
 ghost use Rattle.invocation.specs.Numbers.{item_in};
+ghost use Rattle.invocation.specs.Answered.{Change, all_answered};
 ghost use Rattle.invocation.specs.Carries.{Carries, CarriesDelivery, no_traffic};
 
 use crate::call::{new_call, station};
@@ -240,6 +241,12 @@ impl Calls {
         }
     }
 }
+
+/// Each call is answered at most once: over any run of changes, no number stands twice among the
+/// calls that were refused at once, broken by a cut or a crash, or open as their reply arrived.
+pub fn no_call_answered_twice()
+    ensures { (m : Mail) (cs : List Change) → Distinct (all_answered m cs) }
+{}
 
 /// The status that refuses a call at once, if any. TooLarge comes before Unreachable.
 fn refusal(args: &Items, reached: bool) -> Option<Status>
