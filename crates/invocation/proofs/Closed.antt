@@ -1,0 +1,60 @@
+-- Calls that are closed.
+use Rattle.std.proofs.Common.{◌≡◌, ◌≤◌, ◌<◌, ℕ, zero, suc, ◌+◌, ◌-◌, Bool, true, false, cond, not, ◌&&◌, List, [], ◌∷◌, ◌++◌, map, take, length, Some, refl, sym, ◌∙◌, ap, arith}
+use Rattle.std.specs.List.{filter}
+use Rattle.std.proofs.lemmas.List.{take_more}
+use Rattle.std.proofs.lemmas.List.Elements.{filter-append}
+use Rattle.eden_model.specs.Map.{with_item}
+use Rattle.invocation.specs.Numbers.{item_in, passes_at}
+use Rattle.std.specs.Prelude.{slice_get}
+use Rattle.std.proofs.lemmas.Option.{slice_get-get_or}
+use Rattle.std.proofs.Common.{get_or}
+use Rattle.invocation.specs.declared.call.Call.{Call}
+use Rattle.invocation.specs.declared.closing.Cause.{Cause}
+use Rattle.invocation.specs.Mail.{is_open, closed_if, closed_where}
+use Rattle.invocation.specs.Causes.{hits, closed_by}
+
+closed-twice : (b : Bool) (c : Call) → c.closed ≡ true → closed_if b c ≡ c
+closed-twice true c e = ap (λ (x : Bool). record c { closed = x }) (sym e)
+closed-twice false c e = refl
+
+one-closed : (cause : Cause) (c : Call) → cond (is_open c) (closed_by cause c) c ≡ closed_by cause c
+one-closed cause c = go c.closed refl
+  where
+    go : (b : Bool) → c.closed ≡ b → cond (not b) (closed_by cause c) c ≡ closed_by cause c
+    go true e = sym (closed-twice (hits cause c) c e)
+    go false e = refl
+
+-- it is enough to close the open ones
+pub open-closed : (cause : Cause) (cs : List Call) → map (λ c. cond (is_open c) (closed_by cause c) c) cs ≡ closed_where (hits cause) cs
+open-closed cause [] = refl
+open-closed cause (c ∷ cs) = ap (λ x. x ∷ map (λ c. cond (is_open c) (closed_by cause c) c) cs) (one-closed cause c) ∙ ap (λ l. closed_by cause c ∷ l) (open-closed cause cs)
+
+-- what is open afterwards was open
+pub open-falls : (b : Bool) (c : Call) → is_open (closed_if b c) ≡ (is_open c && is_open (closed_if b c))
+open-falls b c = go b c.closed refl
+  where
+    go : (b x : Bool) → c.closed ≡ x → is_open (closed_if b c) ≡ (is_open c && is_open (closed_if b c))
+    go true true e = rw e refl
+    go true false e = rw e refl
+    go false true e = rw e refl
+    go false false e = rw e refl
+
+pub read-at : {X : Type 0} (xs : List X) (i : ℕ) (x : X) → i < length xs → x ≡ get_or xs i x → slice_get xs i ≡ Some x
+read-at xs i x h is = slice_get-get_or xs i x h ∙ ap Some (sym is)
+
+-- the one of a number passes where the item there does
+pub pass-is : {X : Type 0} (test : X → Bool) (xs : List X) (k : ℕ) (x : X) → 1 ≤ k → k ≤ length xs → x ≡ get_or xs (k - 1) x → passes_at test xs k ≡ test x
+pass-is test xs zero x from to is = absurd (omega (arith, from))
+pass-is test xs (suc k) x from to is =
+    let e : suc k - 1 ≡ k = omega arith in
+    ap (λ o. with_item o test false) (read-at xs k x (omega (arith, to)) (is ∙ ap (λ i. get_or xs i x) e))
+
+-- a loop that looks at one more number
+pub more-found : (t : ℕ → Bool) (ks : List ℕ) (i : ℕ) (b : Bool) → i < length ks → t (get_or ks i 0) ≡ b → filter t (take (i + 1) ks) ≡ filter t (take i ks) ++ cond b (get_or ks i 0 ∷ []) []
+more-found t ks i b h is = ap (filter t) (take_more ks i 0 h) ∙ filter-append t (take i ks) (get_or ks i 0 ∷ []) ∙ rw is refl
+
+pub item-read : {X : Type 0} (xs : List X) (k : ℕ) (x : X) → 1 ≤ k → k ≤ length xs → x ≡ get_or xs (k - 1) x → item_in k xs ≡ Some x
+item-read xs zero x from to is = absurd (omega (arith, from))
+item-read xs (suc k) x from to is =
+    let e : suc k - 1 ≡ k = omega arith in
+    read-at xs k x (omega (arith, to)) (is ∙ ap (λ i. get_or xs i x) e)

@@ -1,0 +1,10 @@
+mod Numbers
+mod Closed
+mod Mails
+mod Filters
+mod Agreed
+mod Moves
+mod Carried
+mod Sent
+mod Breaks
+mod Once

@@ -1,0 +1,64 @@
+-- Runs of the calls that change a mail, and which calls get their answer in them.
+use Rattle.std.specs.Prelude.{ℕ, ◌+◌, cond, List, [], ◌∷◌, ◌++◌, length, Option, None, Some}
+use Rattle.capability.specs.declared.Uid.{Uid}
+use Rattle.capability.specs.declared.Cap.{Cap}
+use Rattle.eden_value.specs.Datum.{Datum}
+use Rattle.eden_value.specs.declared.status.Status.{Status}
+use Rattle.eden_model.specs.Map.{with_item}
+use Rattle.eden_model.specs.Traffic.{asking_station}
+use Rattle.eden_model.specs.declared.Asker.{Asker}
+use Rattle.invocation.specs.declared.call.Message.{Message}
+use Rattle.invocation.specs.declared.call.Message.TheVariants.{Request, Reply}
+use Rattle.invocation.specs.Queues.{with_row, sent_to}
+use Rattle.invocation.specs.Numbers.{item_in, passes_at}
+use Rattle.invocation.specs.Mail.{Mail, queue_at, is_open, target_of, received, with_asked, crosses, enters, broken_where, orphaned, cut_link, cut_node}
+
+-- a call is asked, a reply is sent, a message is delivered, an Eject is lost, a link is cut, or a node crashes
+pub data Change : Type 0 where
+  asked : Asker → Cap → List ℕ → List Datum → Option Status → Change
+  replied : ℕ → Status → List Datum → Change
+  delivered : ℕ → ℕ → Change
+  lost : Uid → Change
+  cut : ℕ → ℕ → Change
+  crashed : ℕ → Change
+
+abbrev pub with_reply : ℕ → Status → List Datum → Mail → Mail
+with_reply k s results m = with_item (item_in k m.calls)
+    (λ c. cond c.closed m (record m { queues = sent_to (target_of c) (asking_station c.asker) (Reply k s results) m.queues })) m
+
+abbrev pub with_delivery : ℕ → ℕ → List Message → Mail → Mail
+with_delivery a b [] m = m
+with_delivery a b (x ∷ xs) m = record { calls = received x m.calls; queues = with_row a b xs m.queues }
+
+abbrev pub changed : Change → Mail → Mail
+changed (asked asker target operation args at_once) m = with_asked asker target operation args at_once m
+changed (replied k s results) m = with_reply k s results m
+changed (delivered a b) m = with_delivery a b (queue_at a b m) m
+changed (lost u) m = orphaned u m
+changed (cut a b) m = cut_link a b m
+changed (crashed n) m = cut_node n m
+
+-- a new call that is refused is answered at once
+abbrev pub answered_at_once : Option Status → ℕ → List ℕ
+answered_at_once None k = []
+answered_at_once (Some s) k = k ∷ []
+
+-- a reply answers its call where that is open
+abbrev pub answered_by : List Message → Mail → List ℕ
+answered_by [] m = []
+answered_by (Request k ∷ xs) m = []
+answered_by (Reply k s results ∷ xs) m = cond (passes_at is_open m.calls k) (k ∷ []) []
+
+-- the calls that get their answer in this change
+abbrev pub answered : Change → Mail → List ℕ
+answered (asked asker target operation args at_once) m = answered_at_once at_once (length m.calls + 1)
+answered (replied k s results) m = []
+answered (delivered a b) m = answered_by (queue_at a b m) m
+answered (lost u) m = []
+answered (cut a b) m = broken_where (crosses a b) m
+answered (crashed n) m = broken_where (enters n) m
+
+-- the calls that get their answer in a run
+abbrev pub all_answered : Mail → List Change → List ℕ
+all_answered m [] = []
+all_answered m (c ∷ cs) = answered c m ++ all_answered (changed c m) cs

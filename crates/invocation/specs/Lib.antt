@@ -1,0 +1,7 @@
+pub mod Queues
+pub mod Numbers
+pub mod Mail
+pub mod Causes
+pub mod Whole
+pub mod Carries
+pub mod Answered

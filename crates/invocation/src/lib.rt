@@ -1,0 +1,262 @@
+//! Calls: who asked what of whom, and the messages on their way.
+//!
+//! Sending gives an invocation the next number, from 1. Its request joins the queue from the
+//! caller's station to the target's node, and its reply the queue back. There is one queue for each
+//! ordered pair of stations, and one from each station to itself that no cut touches. Each call is
+//! answered at most once: at once as it is asked, by its reply, or by a cut or a crash.
+#![tactic(auto)]
+
+mod call;
+mod closing;
+mod queues;
+#[cfg(test)]
+mod tests;
+
+ghost use Rattle.std.specs.Prelude.{◌≡◌, ◌≤◌, ◌<◌, ◌+◌, ◌-◌, ◌∷◌, [], false, not, List, IfOk, MatchResult, length, option_copied};
+ghost use Rattle.capability.specs.Capability.{IsEject};
+ghost use Rattle.eden_model.specs.Lines.{has, Distinct};
+ghost use Rattle.eden_model.specs.Traffic.{Traffic, with_call, replied, without_link, without_node, broken_by_link, broken_by_node, numbers_of};
+ghost use Rattle.eden_model.specs.Traffic as traffic;
+ghost use Rattle.invocation.specs.Mail.{Mail, no_mail, Delivers, is_waiting, next_number, IsGiven, IsAsker, Asks, Answers, refused_at_once, received, broken_where, orphaned, crosses, cut_link, enters, cut_node};
+ghost use Rattle.invocation.specs.Numbers.{item_in};
+ghost use Rattle.invocation.specs.Answered.{Change, all_answered};
+ghost use Rattle.invocation.specs.Carries.{Carries, CarriesDelivery, no_traffic};
+
+use crate::call::{new_call, station};
+use crate::closing::{broken_numbers, call_at, close_open, receive};
+use crate::queues::{clear_at, clear_between, empty_queues, pair, send};
+pub use call::{Asked, Call, Message};
+use capability::{CallNumbers, Cap, MESSAGE_LIMIT, Uid};
+pub use closing::Cause;
+use eden_codec::values_size;
+pub use eden_model::Asker;
+use eden_value::{Items, Status, Txt};
+use locator::Places;
+pub use queues::Queue;
+use std::alloc::{AllocError, Global};
+use std::marker::Model;
+
+/// All calls that were asked, and the messages on their way.
+#[derive(Drop)]
+pub struct Calls {
+    alloc: Global,
+    calls: Vec<Call>,
+    // The numbers of the open calls, ascending, so that what closes calls looks at no others.
+    open_calls: Vec<u32>,
+    queues: Vec<Queue>,
+}
+
+impl Model for Calls {
+    ghost use Rattle.invocation.specs.Mail.{Mail};
+
+    ghost Value = { Mail };
+
+    ghost use Rattle.std.specs.Coded.{codes};
+    ghost use Rattle.eden_value.specs.Code.{coded_datum};
+
+    ghost coded = { Prim.hlevel (codes, coded_datum) };
+
+    ghost use Rattle.invocation.specs.Whole.{IsWhole};
+
+    ghost view = { λ c. record { calls = c.calls.items; queues = c.queues.items } };
+
+    ghost invariant = { λ c. IsWhole c.calls.items c.open_calls.items c.queues.items };
+}
+
+impl Calls {
+    /// No call was asked, and no message is on its way.
+    pub fn new(alloc: Global) -> Result<Calls, AllocError>
+        ensures none { IfOk result (λ c. c ≡ no_mail) }
+        ensures model { IfOk result (λ c. Carries c no_traffic) }
+    {
+        let queues = empty_queues(alloc)?;
+        Ok(Calls {
+            alloc,
+            calls: Vec::new(alloc),
+            open_calls: Vec::new(alloc),
+            queues,
+        })
+    }
+
+    /// Whether a message from one station to the other is on its way.
+    pub fn waiting(&self, from: u8, to: u8) -> bool
+        requires from { from ≤ 8 }
+        requires to { to ≤ 8 }
+        ensures { result ≡ is_waiting from to self.now }
+    {
+        self.queues[pair(from, to)].head().is_some()
+    }
+
+    /// The number of the call whose message is delivered next from one station to the other.
+    pub fn next(&self, from: u8, to: u8) -> Option<u32>
+        requires from { from ≤ 8 }
+        requires to { to ≤ 8 }
+        ensures { result ≡ next_number from to self.now }
+    {
+        match self.queues[pair(from, to)].head() {
+            Some(message) => Some(message.number()),
+            None => None,
+        }
+    }
+
+    /// The call of this number, open or closed. None exactly where the number was never given.
+    pub fn call(&self, number: u32) -> Option<&Call>
+        ensures { option_copied result ≡ item_in number self.now.calls }
+    {
+        call_at(&self.calls, number)
+    }
+
+    /// A new call, under the next number. It is answered at once TooLarge exactly where the
+    /// arguments' spelling is longer than 65,536 bytes, else Unreachable exactly where the target's
+    /// node is not reached. Otherwise its request is sent.
+    pub fn ask(
+        &mut self,
+        alloc: Global,
+        asker: Asker,
+        target: Cap,
+        operation: Txt,
+        args: Items,
+        places: &Places,
+    ) -> Result<Asked, AllocError>
+        requires few { length self.old.calls < 4294967295 }
+        requires asker { IsAsker asker }
+        requires target { IsEject target.uid }
+        ensures cases { MatchResult result (Asks asker target operation args places.now self.old self.new)
+            (λ _. self.new ≡ self.old) }
+        ensures model { (t : Traffic) → Carries self.old t
+            → IfOk result (λ it. Carries self.new (with_call it.call asker target operation args it.at_once t)) }
+    {
+        let call = (self.calls.len() + 1) as u32;
+        let from = station(&asker);
+        let to = target.uid.node;
+        let at_once = refusal(&args, places.reach(from, to));
+        self.calls.reserve(1)?;
+        self.open_calls.reserve(1)?;
+        match at_once {
+            None => {
+                send(&mut self.queues, from, to, Message::Request { call })?;
+                self.open_calls.push_reserved(call);
+            }
+            Some(_) => {}
+        }
+        self.calls.push_reserved(new_call(
+            alloc,
+            asker,
+            target,
+            operation,
+            args,
+            at_once.is_some(),
+        ));
+        Ok(Asked { call, at_once })
+    }
+
+    /// Sends a reply and answers true where the call is open. Else it does nothing and answers
+    /// false.
+    pub fn answer(
+        &mut self,
+        _alloc: Global,
+        call: u32,
+        status: Status,
+        results: Items,
+    ) -> Result<bool, AllocError>
+        requires { IsGiven self.old.calls call }
+        ensures cases { MatchResult result (Answers call status results self.old self.new)
+            (λ _. self.new ≡ self.old) }
+        ensures model { (t : Traffic) → Carries self.old t → has call t.transit ≡ false
+            → IfOk result (λ _. Carries self.new (replied status results call t)) }
+    {
+        let asked = &self.calls[(call - 1) as usize];
+        if asked.closed {
+            return Ok(false);
+        }
+        let from = asked.target.uid.node;
+        let to = station(&asked.asker);
+        let message = Message::Reply {
+            call,
+            status,
+            results,
+        };
+        send(&mut self.queues, from, to, message)?;
+        Ok(true)
+    }
+
+    /// Closes the open calls of an Eject that lost its active part. They get no answer.
+    pub fn orphan(&mut self, uid: Uid)
+        ensures after { self.new ≡ orphaned uid self.old }
+        ensures model { (t : Traffic) → Carries self.old t → Carries self.new (traffic.orphaned uid t) }
+    {
+        close_open(&mut self.calls, &mut self.open_calls, Cause::Lost { uid });
+    }
+
+    /// The link between the two stations is cut: the calls over it are closed, the messages on it
+    /// are lost, and the calls that were open are listed, ascending.
+    pub fn break_link(&mut self, alloc: Global, a: u8, b: u8) -> Result<CallNumbers, AllocError>
+        requires from { a ≤ 8 }
+        requires to { b ≤ 8 }
+        ensures cases { MatchResult result
+            (λ ks. (ks ≡ broken_where (crosses a b) self.old) × (self.new ≡ cut_link a b self.old))
+            (λ _. self.new ≡ self.old) }
+        ensures model { (t : Traffic) → Carries self.old t
+            → IfOk result (λ ks. (ks ≡ numbers_of (broken_by_link a b) t) × Carries self.new (without_link a b t)) }
+    {
+        let cause = Cause::Cut { a, b };
+        let numbers = broken_numbers(alloc, &self.calls, &self.open_calls, cause)?;
+        close_open(&mut self.calls, &mut self.open_calls, cause);
+        clear_between(&mut self.queues, a, b);
+        Ok(CallNumbers { numbers })
+    }
+
+    /// The node has crashed: the calls to it and from it are closed, the messages to it and from it
+    /// are lost, and the open calls of other stations to it are listed, ascending.
+    pub fn break_node(&mut self, alloc: Global, node: u8) -> Result<CallNumbers, AllocError>
+        requires { node ≤ 8 }
+        ensures cases { MatchResult result
+            (λ ks. (ks ≡ broken_where (enters node) self.old) × (self.new ≡ cut_node node self.old))
+            (λ _. self.new ≡ self.old) }
+        ensures model { (t : Traffic) → Carries self.old t
+            → IfOk result (λ ks. (ks ≡ numbers_of (broken_by_node node) t) × Carries self.new (without_node node t)) }
+    {
+        let cause = Cause::Crash { node };
+        let numbers = broken_numbers(alloc, &self.calls, &self.open_calls, cause)?;
+        close_open(&mut self.calls, &mut self.open_calls, cause);
+        clear_at(&mut self.queues, node);
+        Ok(CallNumbers { numbers })
+    }
+
+    /// The first message from one station to the other arrives. A reply closes its call. None
+    /// exactly where no message is on its way there.
+    pub fn deliver(&mut self, from: u8, to: u8) -> Option<Message>
+        requires from { from ≤ 8 }
+        requires to { to ≤ 8 }
+        ensures first { Delivers from to self.old result self.new }
+        ensures model { (t : Traffic) → Carries self.old t → CarriesDelivery from to result self.new t }
+    {
+        let queue = &mut self.queues[pair(from, to)];
+        match queue.take() {
+            Some(message) => {
+                receive(self.alloc, &mut self.calls, &mut self.open_calls, &message);
+                Some(message)
+            }
+            None => None,
+        }
+    }
+}
+
+/// Each call is answered at most once: over any run of changes, no number stands twice among the
+/// calls that were refused at once, broken by a cut or a crash, or open as their reply arrived.
+pub fn no_call_answered_twice()
+    ensures { (m : Mail) (cs : List Change) → Distinct (all_answered m cs) }
+{}
+
+/// The status that refuses a call at once, if any. TooLarge comes before Unreachable.
+fn refusal(args: &Items, reached: bool) -> Option<Status>
+    ensures { result ≡ refused_at_once reached args.now }
+{
+    if values_size(args) > u64::from(MESSAGE_LIMIT) {
+        Some(Status::TooLarge)
+    } else if reached {
+        None
+    } else {
+        Some(Status::Unreachable)
+    }
+}

@@ -1,0 +1,215 @@
+ghost use Rattle.std.specs.Prelude.{◌≡◌, ◌≤◌, ◌<◌, ◌+◌, length, OnOk};
+ghost use Rattle.invocation.specs.Mail.{IsAsker};
+
+use super::*;
+use capability::Rights;
+use eden_value::{Value, text_of};
+
+/// The first Eject of the node.
+fn uid_at(node: u8) -> Uid
+    ensures { result ≡ record { node = node; epoch = 1; serial = 1 } }
+{
+    Uid {
+        node,
+        epoch: 1,
+        serial: 1,
+    }
+}
+
+/// A text that is printable, or an empty one.
+fn text(alloc: Global) -> Txt {
+    match text_of(alloc, b"Get") {
+        Ok(text) => text,
+        Err(_) => Txt {
+            bytes: Vec::new(alloc),
+        },
+    }
+}
+
+/// As many numbers.
+fn numbers(alloc: Global, count: usize) -> Result<Items, AllocError> {
+    let mut values = Vec::new(alloc);
+    for _ in 0..count {
+        values.push(Value::Int { n: 7 })?;
+    }
+    Ok(Items { values })
+}
+
+/// Asks the first Eject of a node.
+fn ask(
+    calls: &mut Calls,
+    alloc: Global,
+    asker: Asker,
+    node: u8,
+    count: usize,
+    places: &Places,
+) -> Result<Asked, AllocError>
+    requires few { length calls.old.calls < 100 }
+    requires asker { IsAsker asker }
+    requires least { 1 ≤ node }
+    requires most { node ≤ 8 }
+    ensures ok { OnOk result (length calls.new.calls ≡ length calls.old.calls + 1) }
+{
+    let target = Cap {
+        uid: uid_at(node),
+        rights: Rights { bits: 65_535 },
+    };
+    let args = numbers(alloc, count)?;
+    calls.ask(alloc, asker, target, text(alloc), args, places)
+}
+
+/// Asks in the shell's name.
+fn shell_asks(
+    calls: &mut Calls,
+    alloc: Global,
+    node: u8,
+    count: usize,
+    places: &Places,
+) -> Result<Asked, AllocError>
+    requires few { length calls.old.calls < 100 }
+    requires least { 1 ≤ node }
+    requires most { node ≤ 8 }
+    ensures ok { OnOk result (length calls.new.calls ≡ length calls.old.calls + 1) }
+{
+    ask(
+        calls,
+        alloc,
+        Asker::Shell { name: text(alloc) },
+        node,
+        count,
+        places,
+    )
+}
+
+/// Answers the call where its number was given.
+fn answer(calls: &mut Calls, alloc: Global, number: u32) -> Result<bool, AllocError> {
+    if calls.call(number).is_some() {
+        let results = numbers(alloc, 1)?;
+        calls.answer(alloc, number, Status::Ok, results)
+    } else {
+        Ok(false)
+    }
+}
+
+/// Whether the call is there and closed.
+fn is_closed(calls: &Calls, number: u32) -> bool {
+    match calls.call(number) {
+        Some(call) => call.closed,
+        None => false,
+    }
+}
+
+/// Three nodes, of which the first two are up.
+fn two_of_three() -> Places
+    ensures { result.nodes ≡ 3 }
+{
+    let mut places = Places::new(3);
+    places.set_up(1, true);
+    places.set_up(2, true);
+    places
+}
+
+#[test]
+fn refused_at_once(rt: HostRuntime) -> Result<(), AllocError> {
+    let mut places = two_of_three();
+    let mut calls = Calls::new(rt.alloc())?;
+    let large = shell_asks(&mut calls, rt.alloc(), 1, 7282, &places)?;
+    assert_eq!(rt; large.call, 1);
+    assert!(rt;
+        large.at_once == Some(Status::TooLarge),
+        "9 bytes more than 65,529"
+    );
+    let fits = shell_asks(&mut calls, rt.alloc(), 1, 7281, &places)?;
+    assert_eq!(rt; fits.call, 2);
+    assert!(rt; fits.at_once.is_none());
+    let down = shell_asks(&mut calls, rt.alloc(), 3, 1, &places)?;
+    assert!(rt; down.at_once == Some(Status::Unreachable), "down");
+    places.set_link(0, 2, false);
+    let cut = shell_asks(&mut calls, rt.alloc(), 2, 1, &places)?;
+    assert!(rt; cut.at_once == Some(Status::Unreachable), "cut");
+    let both = shell_asks(&mut calls, rt.alloc(), 2, 7282, &places)?;
+    assert!(rt;
+        both.at_once == Some(Status::TooLarge),
+        "too large comes first"
+    );
+    assert!(rt; is_closed(&calls, 1));
+    assert!(rt; !is_closed(&calls, 2));
+    assert!(rt; !calls.waiting(0, 2));
+    Ok(())
+}
+
+#[test]
+fn a_crash_breaks_the_calls_to_its_node(rt: HostRuntime) -> Result<(), AllocError> {
+    let places = two_of_three();
+    let mut calls = Calls::new(rt.alloc())?;
+    let one = shell_asks(&mut calls, rt.alloc(), 3, 1, &places)?;
+    assert!(rt; one.at_once == Some(Status::Unreachable));
+    let two = shell_asks(&mut calls, rt.alloc(), 1, 1, &places)?;
+    assert_eq!(rt; two.call, 2);
+    let three = shell_asks(&mut calls, rt.alloc(), 2, 1, &places)?;
+    assert!(rt; three.at_once.is_none());
+    assert!(rt; calls.waiting(0, 1));
+    let broken = calls.break_node(rt.alloc(), 1)?;
+    assert_eq!(rt; broken.numbers.len(), 1);
+    assert_eq!(rt; broken.numbers.first().copied(), Some(2));
+    assert!(rt; !calls.waiting(0, 1));
+    assert!(rt; !answer(&mut calls, rt.alloc(), 2)?);
+    assert_eq!(rt; calls.next(0, 2), Some(3));
+    match calls.deliver(0, 2) {
+        Some(Message::Request { call }) => assert_eq!(rt; call, 3),
+        Some(Message::Reply { .. }) => panic!(rt; "a reply"),
+        None => panic!(rt; "no message"),
+    }
+    assert!(rt; answer(&mut calls, rt.alloc(), 3)?);
+    assert!(rt; !is_closed(&calls, 3));
+    match calls.deliver(2, 0) {
+        Some(
+            Message::Reply {
+                call,
+                status,
+                results,
+            },
+        ) => {
+            assert_eq!(rt; call, 3);
+            assert!(rt; status == Status::Ok);
+            assert_eq!(rt; results.values.len(), 1);
+        }
+        Some(Message::Request { .. }) => panic!(rt; "a request"),
+        None => panic!(rt; "no message"),
+    }
+    assert!(rt; is_closed(&calls, 3));
+    assert!(rt; !answer(&mut calls, rt.alloc(), 3)?);
+    assert!(rt; calls.deliver(2, 0).is_none());
+    match calls.call(3) {
+        Some(call) => assert!(rt; call.args.values.is_empty(), "the arguments are let go"),
+        None => panic!(rt; "no call"),
+    }
+    assert!(rt; calls.call(4).is_none());
+    Ok(())
+}
+
+#[test]
+fn a_cut_and_an_orphan(rt: HostRuntime) -> Result<(), AllocError> {
+    let places = two_of_three();
+    let mut calls = Calls::new(rt.alloc())?;
+    shell_asks(&mut calls, rt.alloc(), 1, 1, &places)?;
+    shell_asks(&mut calls, rt.alloc(), 2, 1, &places)?;
+    let asker = Asker::Eject {
+        uid: uid_at(1),
+        process: 1,
+    };
+    ask(&mut calls, rt.alloc(), asker, 1, 1, &places)?;
+    let broken = calls.break_link(rt.alloc(), 1, 0)?;
+    assert_eq!(rt; broken.numbers.len(), 1);
+    assert_eq!(rt; broken.numbers.first().copied(), Some(1));
+    assert!(rt; !is_closed(&calls, 2), "another link");
+    assert!(rt; !is_closed(&calls, 3), "no link");
+    let none = calls.break_link(rt.alloc(), 1, 1)?;
+    assert!(rt; none.numbers.is_empty());
+    assert!(rt; calls.waiting(1, 1));
+    calls.orphan(uid_at(1));
+    assert!(rt; is_closed(&calls, 3));
+    assert!(rt; calls.waiting(1, 1), "the request goes on");
+    assert!(rt; !answer(&mut calls, rt.alloc(), 3)?);
+    Ok(())
+}
