@@ -1,5 +1,5 @@
 -- From what was delivered to what is answered.
-use Rattle.std.proofs.Common.{◌≡◌, ◌<◌, ◌≤◌, ℕ, true, Option, Some, None, List, [], ◌∷◌, ◌++◌, length, refl, sym, ap, ◌∙◌, subst, arith, inl, inr, length-append, append-nil, Vec, Ok, Err}
+use Rattle.std.proofs.Common.{◌≡◌, ◌≤◌, ℕ, true, Option, Some, None, List, ◌++◌, length, refl, sym, ap, ◌∙◌, subst, arith, inl, inr, length-append, append-nil, Vec, Ok, Err}
 use Rattle.std.specs.Prelude.{◌⊎◌}
 use Rattle.std.specs.Io.KnownBytes.{Consumes, IsAtEnd, Appends}
 use Rattle.std.specs.declared.alloc.Global.{Global}
@@ -10,7 +10,7 @@ use Rattle.journal.specs.declared.event.Entry.{Entry}
 use Rattle.journal.specs.declared.script.Script.{Script}
 use Rattle.eden_shell.specs.declared.report.Outcome.{Outcome}
 use Rattle.eden_shell.specs.declared.report.Outcome.TheVariants.{Ran, BadWords, BadScript, ReadFault, WriteFault, OutOfMemory, TooLong}
-use Rattle.eden_shell.specs.Form.{Spells, HasNoForm}
+use Rattle.eden_shell.specs.Form.{Spells}
 use Rattle.eden_shell.specs.Reports.{AreRun, Reading, Writing, IsRead, TookTooMany, IsDueFor, IsDue, IsBegunFor, IsBegun, Answers, IsDelivered, text_for}
 
 answered_whole : (due : Outcome → List Entry → Type 0) (begun : List Entry → Type 0) (k : Writing) (o : Outcome) (h : List Entry)

@@ -1,5 +1,5 @@
 -- A list cut at the elements that pass a test.
-use Rattle.std.proofs.Common.{◌≡◌, ℕ, suc, ◌+◌, ◌<◌, ◌≤◌, ◌-◌, ◌∙◌, Bool, true, false, nat_lt, position, Option, Some, None, List, [], ◌∷◌, length, take, drop, refl, sym, ap, arith, add-one}
+use Rattle.std.proofs.Common.{◌≡◌, ℕ, suc, ◌+◌, ◌<◌, ◌≤◌, ◌-◌, ◌∙◌, Bool, true, false, nat_lt, position, Some, None, List, [], ◌∷◌, length, take, drop, refl, ap, arith, add-one}
 use Rattle.std.proofs.lemmas.List.{take_rest}
 use Rattle.std.proofs.lemmas.Bool.{ltb-true}
 use Rattle.std.proofs.lemmas.Bool.Decides.{nat_tests}

@@ -1,6 +1,5 @@
 -- Numbers from their digits.
-use Rattle.std.proofs.Common.{◌≡◌, ◌∙◌, ap, sym, ℕ, suc, ◌+◌, ◌-◌, ◌*◌, ◌<◌, ◌≤◌, ◌&&◌, Bool, true, false, cond, List, [], ◌∷◌, length, drop, drop-cons, get_or, refl, Some, None, nat_le, arith}
-use Rattle.std.proofs.lemmas.Bool.Decides.{nat_tests}
+use Rattle.std.proofs.Common.{◌≡◌, ◌∙◌, ap, sym, ℕ, suc, ◌+◌, ◌-◌, ◌*◌, ◌<◌, ◌≤◌, true, false, List, [], ◌∷◌, length, drop, drop-cons, get_or, refl, None, nat_le, arith}
 use Rattle.eden_shell.specs.Form.{decimal_from, number_up_to, is_number}
 
 decimal_grows : (ds : List ℕ) (value : ℕ) → value ≤ decimal_from value ds

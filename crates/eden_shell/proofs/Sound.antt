@@ -1,7 +1,7 @@
 -- Every change keeps a world sound.
-use Rattle.std.proofs.Common.{◌≡◌, ◌==◌, ◌<◌, ◌≤◌, ◌+◌, ◌-◌, not, ℕ, zero, suc, ℤ, pos, Bool, true, false, List, [], ◌∷◌, ◌++◌, length, fold, filter, drop, Option, Some, None, refl, sym, ap, ◌∙◌, subst, arith, find, length-append, nat_lt, if◌then◌else◌}
+use Rattle.std.proofs.Common.{◌≡◌, ◌==◌, ◌<◌, ◌≤◌, ◌+◌, ◌-◌, not, ℕ, zero, suc, ℤ, pos, Bool, true, false, List, [], ◌∷◌, ◌++◌, length, fold, drop, Option, Some, None, refl, sym, ap, ◌∙◌, subst, arith, find, length-append, nat_lt, if◌then◌else◌}
 use Rattle.std.specs.List.{All, slice_get, slice_set}
-use Rattle.std.specs.Option.{option_map, option_map_or, option_and_then}
+use Rattle.std.specs.Option.{option_map_or}
 use Rattle.std.proofs.lemmas.List.{length-set}
 use Rattle.std.proofs.lemmas.List.Elements.{All-nil, All-head, All-tail, All-set, All-push, All-drop, All-filter, All-weaker}
 use Rattle.capability.specs.declared.Uid.{Uid}

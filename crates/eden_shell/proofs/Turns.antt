@@ -1,5 +1,5 @@
 -- Turns of an Eject's process.
-use Rattle.std.proofs.Common.{◌≡◌, ◌==◌, ◌-◌, ℕ, Option, Some, None, refl, find}
+use Rattle.std.proofs.Common.{◌≡◌, ◌==◌, ◌-◌, ℕ, Some, None, refl, find}
 use Rattle.std.specs.Option.{option_and_then}
 use Rattle.std.specs.List.{slice_get}
 use Rattle.journal.specs.declared.event.Event.{Event}

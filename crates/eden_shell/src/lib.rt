@@ -7,6 +7,8 @@ mod keys;
 mod report;
 mod run;
 mod shell;
+#[cfg(test)]
+mod tests;
 mod words;
 
 pub use report::{Outcome, Report, ScriptCause, status};

@@ -142,9 +142,9 @@ fn answer<S: Source, K: Sink>(
 ) -> Report
     ensures { Answers
         (IsDue (map string_bytes words.now.items)
-            (record { left = S.left source.old; left_after = S.left source.new; ended_after = S.ended source.new; faults = S.faults source.old; faults_after = S.faults source.new }))
+        (record { left = S.left source.old; left_after = S.left source.new; ended_after = S.ended source.new; faults = S.faults source.old; faults_after = S.faults source.new }))
         (IsBegun (map string_bytes words.now.items)
-            (record { left = S.left source.old; left_after = S.left source.new; ended_after = S.ended source.new; faults = S.faults source.old; faults_after = S.faults source.new }))
+        (record { left = S.left source.old; left_after = S.left source.new; ended_after = S.ended source.new; faults = S.faults source.old; faults_after = S.faults source.new }))
         (record { written = K.written sink.old; written_after = K.written sink.new; faults = K.faults sink.old; faults_after = K.faults sink.new })
         result.outcome result.history }
 {

@@ -1,6 +1,6 @@
 -- Which histories a script has.
 use Rattle.std.specs.Prelude.{◌≡◌, ℕ, ℤ, pos, Bool, true, false, ◌==◌, ◌+◌, ◌-◌, Option, Some, None, List, [], ◌∷◌, ◌++◌, length, if◌then◌else◌, map, filter, replicate, nat_lt}
-use Rattle.std.specs.Option.{option_map, option_and_then}
+use Rattle.std.specs.Option.{option_map}
 use Rattle.std.specs.List.{slice_get, slice_set}
 use Rattle.capability.specs.declared.Uid.{Uid}
 use Rattle.journal.specs.declared.event.Event.{Event}
@@ -15,7 +15,6 @@ use Rattle.journal.specs.declared.world.Key.{Key}
 use Rattle.journal.specs.declared.world.NodeState.{NodeState}
 use Rattle.journal.specs.declared.world.Place.TheVariants.{Asking, Done}
 use Rattle.journal.specs.declared.world.Place.{Place}
-use Rattle.journal.specs.declared.world.Call.{Call}
 use Rattle.journal.specs.World.{World, named, next_key, turn}
 
 -- how much of a script's work in hand is done

@@ -1,6 +1,6 @@
 use Rattle.std.proofs.Common.{◌≡◌, ◌∷◌, map, rules, sym, ◌∙◌}
 use Rattle.std.proofs.lemmas.Bool.{false≢true}
-use Rattle.eden_shell.specs.Form.{lines_of, line_command}
+use Rattle.eden_shell.specs.Form.{lines_of}
 use Rattle.eden_shell.proofs.Unsaid.{formless}
 use Rattle.eden_shell.proofs.form.parse.Goals as goal
 

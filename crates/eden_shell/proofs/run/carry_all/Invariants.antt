@@ -1,4 +1,4 @@
-use Rattle.std.proofs.Common.{◌≡◌, ◌≤◌, vec_len, drop}
+use Rattle.std.proofs.Common.{◌≤◌, vec_len, drop}
 use Rattle.journal.specs.Legal.{at, booting, opening}
 use Rattle.eden_shell.specs.Steps.{Advances, AllFit, names_of}
 use Rattle.eden_shell.specs.Worlds.{world_of, IsReady}

@@ -1,4 +1,3 @@
-use Rattle.std.proofs.Common.{rules}
 use Rattle.eden_shell.proofs.Grown.{follows_whole}
 use Rattle.eden_shell.proofs.run.run.Goals as goal
 

@@ -1,4 +1,4 @@
-use Rattle.std.proofs.Common.{◌≡◌, Some, refl, ap, sym, ◌∙◌}
+use Rattle.std.proofs.Common.{Some, refl, ap, sym, ◌∙◌}
 use Rattle.journal.specs.declared.world.NodeState.{NodeState}
 use Rattle.journal.specs.Legal.{plain}
 use Rattle.eden_shell.specs.Worlds.{world_of}

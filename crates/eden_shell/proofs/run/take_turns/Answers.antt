@@ -1,4 +1,4 @@
-use Rattle.std.proofs.Common.{◌≡◌, ◌+◌, ◌-◌, ◌∙◌, sym, refl, arith}
+use Rattle.std.proofs.Common.{◌≡◌, ◌+◌, ◌-◌, ◌∙◌, sym, arith}
 use Rattle.journal.specs.Legal.{at}
 use Rattle.eden_shell.specs.Worlds.{world_of}
 use Rattle.eden_shell.proofs.Grown.{advances_one, advances_append, quiet_due}

@@ -1,4 +1,4 @@
-use Rattle.std.proofs.Common.{◌≡◌, ℕ, List, map, string_bytes, refl, sym, ◌∙◌, rules}
+use Rattle.std.proofs.Common.{ℕ, List, map, string_bytes, sym, ◌∙◌, rules}
 use Rattle.std.proofs.lemmas.Bool.{false≢true}
 use Rattle.eden_io.specs.Causes.{Rose}
 use Rattle.eden_shell.specs.declared.report.Outcome.TheVariants.{BadWords, ReadFault, TooLong}

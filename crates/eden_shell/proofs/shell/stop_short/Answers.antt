@@ -1,4 +1,4 @@
-use Rattle.std.proofs.Common.{◌≡◌, ◌∙◌}
+use Rattle.std.proofs.Common.{◌∙◌}
 use Rattle.eden_shell.proofs.Texts.{part_of_text}
 use Rattle.eden_shell.proofs.shell.stop_short.Goals as goal
 
