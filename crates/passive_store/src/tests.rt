@@ -424,7 +424,9 @@ fn answers_without_a_device_call(rt: HostRuntime) -> Result<(), Fail> {
     let Ok(mut store) = LogStore::open_disk(alloc, SimDisk::new(alloc, 4096)?, 1) else {
         return Err(StoreRefusal::OutOfMemory)?;
     };
-    make_changes(alloc, &mut store, 3).map_err(|_| StoreRefusal::Full)?;
+    let Ok(_) = make_changes(alloc, &mut store, 3) else {
+        return Err(StoreRefusal::OutOfMemory)?;
+    };
     let calm = Asked {
         unsure: None,
         working_on: None,
