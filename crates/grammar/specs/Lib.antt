@@ -6,3 +6,15 @@ pub mod Numbers
 pub mod FirstBad
 pub mod Gives
 pub mod Loop
+pub mod Depths
+pub mod Lookers
+pub mod Choices
+pub mod InSteps
+pub mod FirstFault
+pub mod Sequences
+pub mod Blocks
+pub mod Tells
+pub mod Alternatives
+pub mod Leads
+pub mod Separated
+pub mod Marked

@@ -8,12 +8,14 @@
 //! The definitions and their laws stand in `specs/`. The code here is what readers of bytes share.
 #![tactic(auto)]
 
+mod halt;
 mod law;
 mod number;
 mod stop;
 #[cfg(test)]
 mod tests;
 
+pub use halt::Halt;
 pub use law::numbers_have_one_spelling;
 pub use number::number_of;
 pub use stop::Stop;

@@ -1,0 +1,179 @@
+-- What a reader of all symbols answers, by the grammar alone: the value, or the first symbol that does not go on or
+-- is past the limit.
+use Rattle.std.specs.Prelude.{◌≡◌, ℕ, zero, suc, ◌+◌, ◌≤◌, ◌<◌, Bool, true, false, nat_le, List, [], ◌∷◌, ◌++◌, length, Option, Some, None, Result, Ok, Err, refl}
+use Rattle.std.proofs.Common.{ap, sym, ◌∙◌, subst, arith, append_assoc, append-nil, length-append}
+use Rattle.grammar.specs.Grammar.{Grammar, Nothing, Then}
+use Rattle.grammar.specs.Depths.{Placed, bare, Shallow, Fault, bad, deep, spent, Look, Looker, look_then, look_both, SameHead, Took, FaultAt, StaysAt, Stuck, Passes, Reads}
+use Rattle.grammar.specs.Lookers.{bare-append, length-bare, then_reads}
+use Rattle.grammar.specs.Choices.{same_reads}
+
+-- The symbols spell the value, none of them past the limit.
+pub record Spells {S A : Type 0} (limit : ℕ) (G : List (S × ℕ) → A → Type 0) (symbols : List S) (a : A) : Type 0 where
+  pub placed : List (S × ℕ)
+  pub whole : symbols ≡ bare placed
+  pub shallow : Shallow limit placed
+  pub member : G placed a
+
+-- no spelling has these symbols and then the next of the rest, or, where nothing is left, no others
+abbrev pub NoneGoesOn : {S A : Type 0} → Grammar (Placed S) A → List S → List S → Type 0
+NoneGoesOn {S} {A} G front [] = (ps : List (S × ℕ)) (a : A) → G ps a → bare ps ≡ front → ⊥
+NoneGoesOn {S} {A} G front (s ∷ rest) = (ps : List (S × ℕ)) (a : A) → G ps a → (more : List S) → bare ps ≡ front ++ s ∷ more → ⊥
+
+-- Behind the front of a spelling, no symbol of it past the limit, comes the first symbol that no spelling with the
+-- same symbols before it has, or the end.
+pub record Breaks {S A : Type 0} (limit : ℕ) (G : List (S × ℕ) → A → Type 0) (symbols : List S) (left : ℕ) : Type 0 where
+  pub front : List (S × ℕ)
+  pub rest : List S
+  pub split : symbols ≡ bare front ++ rest
+  pub place : left ≡ length rest
+  pub shallow : Shallow limit front
+  pub more : List (S × ℕ)
+  pub value : A
+  pub goes_on : G (front ++ more) value
+  pub none : NoneGoesOn G (bare front) rest
+
+-- Behind the front of a spelling, no symbol of it past the limit, comes the first symbol that is.
+pub record Deepens {S A : Type 0} (limit : ℕ) (G : List (S × ℕ) → A → Type 0) (symbols : List S) (left : ℕ) : Type 0 where
+  pub front : List (S × ℕ)
+  pub symbol : S
+  pub depth : ℕ
+  pub rest : List S
+  pub split : symbols ≡ bare front ++ symbol ∷ rest
+  pub place : left ≡ suc (length rest)
+  pub shallow : Shallow limit front
+  pub past : limit < depth
+  pub more : List (S × ℕ)
+  pub value : A
+  pub goes_on : G (front ++ (symbol, depth) ∷ more) value
+
+-- nothing is left
+abbrev pub look_end : {S A : Type 0} → A → Looker S A
+look_end a [] = Ok (a, [])
+look_end a (s ∷ symbols) = Err (bad (suc (length symbols)))
+
+abbrev pub look_whole : {S A : Type 0} → Looker S A → Looker S A
+look_whole read = look_both read look_end
+
+abbrev pub Answered : {S A : Type 0} → ℕ → Grammar (Placed S) A → List S → Look S A → Type 0
+Answered limit G symbols (Ok x) = Spells limit G symbols x.0
+Answered limit G symbols (Err (bad left)) = Breaks limit G symbols left
+Answered limit G symbols (Err (deep left)) = Deepens limit G symbols left
+Answered limit G symbols (Err spent) = ⊥
+
+module _ {S A : Type 0} (limit fuel : ℕ) (a : A) where
+  end_takes : (w : List S) (b : A) (rest : List S) → look_end a w ≡ Ok (b, rest) → Took limit (Nothing {S = S × ℕ} a) (look_end a) w b rest
+  end_takes (s ∷ w) b rest e = absurd (cc)
+  end_takes [] b rest e =
+      let p : ◌≡◌ {A = A × List S} (a, []) (b, rest) = cc in
+      let h : a ≡ b = ap (λ x. x.0) p in
+      let k : [] ≡ rest = ap (λ x. x.1) p in
+      record { front = []; split = k; shallow = tt; member = (refl, sym h); local = λ v same. local v (subst (λ l. SameHead l v) (sym k) same) ∙ ap (λ x. Ok (x, v)) h }
+    where
+      local : (v : List S) → SameHead [] v → look_end a v ≡ Ok (a, v)
+      local [] same = refl
+      local (t ∷ v) same = absurd same
+
+  end_stops : (w : List S) (f : Fault) → look_end a w ≡ Err f → Stuck limit (Nothing {S = S × ℕ} a) (look_end a) w f
+  end_stops [] f e = absurd (cc)
+  end_stops (s ∷ w) f e =
+      subst (λ y. Stuck limit (Nothing {S = S × ℕ} a) (look_end a) (s ∷ w) y) (let same : bad (suc (length w)) ≡ f = cc in same)
+      (record { front = []; rest = s ∷ w; split = refl; shallow = tt; more = []; value = a; goes_on = (refl, refl); fault = refl; stays = λ more. refl })
+
+  end_again : (ps : List (S × ℕ)) (b : A) → Nothing a ps b → (v : List S) → v ≡ [] → Passes limit fuel ps (look_end a (bare ps ++ v)) b v
+  end_again (q ∷ ps) b p v e = absurd (cc (p.0))
+  end_again [] b p (s ∷ v) e = absurd (cc)
+  end_again [] b p [] e = ap (λ x. (x, [])) (sym p.1)
+
+  pub end_reads : Reads {S = S} limit fuel (Nothing a) (λ v. v ≡ []) (look_end a)
+  end_reads = record {
+    made = ([], a, (refl, refl));
+    takes = λ w b rest few e. end_takes w b rest e;
+    again = end_again;
+    stops = λ w f few e. end_stops w f e;
+  }
+
+module _ {S A : Type 0} (limit fuel : ℕ) (G : List (S × ℕ) → A → Type 0) (n : List S → Type 0) (R : Looker S A) (g : Reads limit fuel G n R) (last : n []) where
+  to_whole : (ps : List (S × ℕ)) (b : A) → Then G (λ a. Nothing a) ps b → G ps b
+  to_whole ps b t = subst (λ x. G ps x) (sym t.goes_on.1) (subst (λ l. G l t.first) (sym (t.whole ∙ ap (λ l. t.front ++ l) t.goes_on.0 ∙ append-nil t.front)) t.begins)
+
+  from_whole : (ps : List (S × ℕ)) (b : A) → G ps b → Then G (λ a. Nothing a) ps b
+  from_whole ps b p = record { front = ps; back = []; first = b; whole = sym (append-nil ps); begins = p; goes_on = (refl, refl) }
+
+  whole_reads : Reads limit fuel G (λ v. v ≡ []) (look_whole R)
+  whole_reads =
+      same_reads limit fuel (Then G (λ a. Nothing a)) G (λ v. v ≡ []) (look_whole R) to_whole from_whole
+      (then_reads limit fuel fuel 0 G (λ a. Nothing a) n (λ v. v ≡ []) R look_end g (λ ps a p. end_reads limit fuel a) (λ ps a p. omega arith) (omega arith)
+      (λ ps a p qs b q v e. subst (λ l. n (bare l ++ v)) (sym q.0) (subst n (sym e) last)))
+
+  ended : (r : Look S A) (a : A) (rest : List S) → look_then r look_end ≡ Ok (a, rest) → rest ≡ []
+  ended (Err f) a rest e = absurd (cc)
+  ended (Ok x) a rest e = at_end x.0 x.1 a rest e
+    where
+      at_end : (b : A) (u : List S) (a : A) (rest : List S) → look_end b u ≡ Ok (a, rest) → rest ≡ []
+      at_end b [] a rest e = let p : ◌≡◌ {A = A × List S} (b, []) (a, rest) = cc in sym (ap (λ x. x.1) p)
+      at_end b (s ∷ u) a rest e = absurd (cc)
+
+  not_bad : (ps : List (S × ℕ)) (a : A) (left : ℕ) → G ps a → look_whole R (bare ps) ≡ Err (bad left) → ⊥
+  not_bad ps a left p e =
+      let k : Passes limit fuel ps (look_whole R (bare ps ++ [])) a [] = whole_reads.again ps a p [] refl in
+      subst (λ r. Passes limit fuel ps r a []) (ap (look_whole R) (append-nil (bare ps)) ∙ e) k
+
+  none_goes_on : (front rest : List S) (left : ℕ) → look_whole R (front ++ rest) ≡ Err (bad left) → StaysAt (bad left) (look_whole R) front rest → NoneGoesOn G front rest
+  none_goes_on front [] left e stays = λ ps a p same. not_bad ps a left p (ap (look_whole R) (same ∙ sym (append-nil front)) ∙ e)
+  none_goes_on front (s ∷ rest) left e stays = λ ps a p more same. not_bad ps a (suc (length more)) p (ap (look_whole R) same ∙ stays more)
+
+  deepens : (w : List S) (left : ℕ) (s : Stuck limit G (look_whole R) w (deep left)) (rest : List S) (more : List (S × ℕ)) → w ≡ bare s.front ++ rest → G (s.front ++ more) s.value → FaultAt limit (deep left) rest more → Deepens limit G w left
+  deepens w left s [] more split p f = absurd f
+  deepens w left s (t ∷ rest) [] split p f = absurd f
+  deepens w left s (t ∷ rest) (q ∷ more) split p f = record {
+    front = s.front;
+    symbol = t;
+    depth = q.1;
+    rest = rest;
+    split = split;
+    place = f.0;
+    shallow = s.shallow;
+    past = f.2;
+    more = more;
+    value = s.value;
+    goes_on = subst (λ (x : Placed S). G (s.front ++ x ∷ more) s.value) (sym (ap (λ (u : S). (u, q.1)) f.1)) p;
+  }
+
+  answered : (w : List S) (r : Look S A) → look_whole R w ≡ r → length w < fuel → Answered limit G w r
+  answered w (Ok x) e few =
+      let t : Took limit G (look_whole R) w x.0 x.1 = whole_reads.takes w x.0 x.1 few e in
+      let none : x.1 ≡ [] = ended (R w) x.0 x.1 e in
+      record { placed = t.front; whole = t.split ∙ ap (λ l. bare t.front ++ l) none ∙ append-nil (bare t.front); shallow = t.shallow; member = t.member }
+  answered w (Err (bad left)) e few =
+      let s : Stuck limit G (look_whole R) w (bad left) = whole_reads.stops w (bad left) few e in
+      record {
+        front = s.front;
+        rest = s.rest;
+        split = s.split;
+        place = s.fault;
+        shallow = s.shallow;
+        more = s.more;
+        value = s.value;
+        goes_on = s.goes_on;
+        none = none_goes_on (bare s.front) s.rest left (ap (look_whole R) (sym s.split) ∙ e) s.stays;
+      }
+  answered w (Err (deep left)) e few =
+      let s : Stuck limit G (look_whole R) w (deep left) = whole_reads.stops w (deep left) few e in
+      deepens w left s s.rest s.more s.split s.goes_on s.fault
+  answered w (Err spent) e few = (whole_reads.stops w spent few e).fault
+
+  -- what is answered is so by the grammar
+  pub whole_answers : (w : List S) → length w < fuel → Answered limit G w (look_whole R w)
+  whole_answers w few = answered w (look_whole R w) refl few
+
+  spelled_passes : (w : List S) (a : A) (s : Spells limit G w a) → length w < fuel → (r : Look S A) → look_whole R w ≡ r → Passes limit fuel s.placed r a [] → r ≡ Ok (a, [])
+  spelled_passes w a s few (Ok x) e k = ap (λ y. Ok y) k
+  spelled_passes w a s few (Err (bad left)) e k = absurd k
+  spelled_passes w a s few (Err (deep left)) e k = absurd (k s.shallow)
+  spelled_passes w a s few (Err spent) e k = absurd (let size : length w ≡ length s.placed = ap length s.whole ∙ length-bare s.placed in omega arith)
+
+  -- and what is spelled is answered
+  pub whole_only : (w : List S) (a : A) → Spells limit G w a → length w < fuel → look_whole R w ≡ Ok (a, [])
+  whole_only w a s few =
+      spelled_passes w a s few (look_whole R w) refl
+      (subst (λ l. Passes limit fuel s.placed (look_whole R l) a []) (append-nil (bare s.placed) ∙ sym s.whole) (whole_reads.again s.placed a s.member [] refl))

@@ -1,0 +1,14 @@
+-- What a function of the code read is what a reader with one symbol of lookahead gives, unless memory ran out.
+use Rattle.std.specs.Prelude.{◌≡◌, ℕ, Result, Ok, Err}
+use Rattle.grammar.specs.Depths.{Fault, bad, deep, spent}
+use Rattle.grammar.specs.declared.halt.Halt.{Halt}
+use Rattle.grammar.specs.declared.halt.Halt.TheVariants.{Memory, Bad, Deep}
+
+abbrev pub Halts : {Y : Type 0} → Halt → Result Y Fault → Type 0
+Halts Memory look = Unit {0}
+Halts (Bad left) look = look ≡ Err (bad left)
+Halts (Deep left) look = look ≡ Err (deep left)
+
+abbrev pub Tells : {X Y : Type 0} → (X → Y) → Result X Halt → Result Y Fault → Type 0
+Tells view (Ok x) look = look ≡ Ok (view x)
+Tells view (Err e) look = Halts e look
