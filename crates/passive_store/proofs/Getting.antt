@@ -41,7 +41,7 @@ read_log node size tail old new counts index None clock end placed l told =
     let same : contents new ≡ contents old = rest_read old new clock end l.end.0 told in
     (subst (λ d. IsLog node size tail d index None) (sym same) l, ap (λ (d : Contents). log_shown node tail d.now) same)
 read_log node size tail old new counts index (Some p) clock end placed l told =
-    let run : Passes (HalfWritten size (take tail (contents old).now) p.record.items) old new = passes_read (HalfWritten size (take tail (contents old).now) p.record.items) clock old new end l.end.0 told in (
+    let run : Passes (HalfWritten size (take tail (contents old).now) p.bytes.items) old new = passes_read (HalfWritten size (take tail (contents old).now) p.bytes.items) clock old new end l.end.0 told in (
       moved node size tail (contents old) (contents new) index (Some p) p placed.begins placed.ends placed.slots l run.after l.end.1 (untouched_by_read tail old new clock end p.stage told l.end.2),
       ap (λ rs. record { kept = kept_from nothing_kept rs; written = map body_length rs }) (same_records node size tail (contents old) (contents new) p (omega (arith, l.whole, placed.ends)) run.after.now),
     )
@@ -52,7 +52,7 @@ half_now node size tail c index p begins ends l =
     half_stands node size tail (take tail c.now) (records_before node tail c.now) p c.now (length-take-le tail c.now (omega (arith, l.whole))) begins (get_or-take tail c.now 0 0 (omega arith) ∙ l.header) l.front l.end.1 l.end.0.now
 
 now_or_not : (node size tail : ℕ) (c : Contents) (index : BTreeMap Uid (Option Slot)) (p : Pending) (stage : Stage) → 16 ≤ tail → tail + 1 ≤ size → IsLog node size tail c index (Some p) → IsUntouched tail c stage →
-    Stands (log_map node) (kept_from nothing_kept (records_before node tail c.now)) (changes_in (doubt_in (staged (change_of tail p) stage))) c.now
+    Stands (log_map node) (kept_from nothing_kept (records_before node tail c.now)) (changes_in (doubt_in (staged tail p.bytes.items (change_of tail p) stage))) c.now
 now_or_not node size tail c index p Begun begins ends l u = whole_map node size tail c index (Some p) begins ends l u.1
 now_or_not node size tail c index p Written begins ends l u = half_now node size tail c index p begins ends l
 now_or_not node size tail c index p Synced begins ends l u = half_now node size tail c index p begins ends l

@@ -6,7 +6,7 @@ use Rattle.std.proofs.lemmas.Bool.Decides.{nat_tests, eqb_tells}
 use Rattle.std.proofs.lemmas.Bool.{cases_lt}
 use Rattle.eden_disk.specs.Told.{at_rest, after_act, Wrote, overlay, is_marked}
 use Rattle.eden_disk.specs.Held.{Holds}
-use Rattle.passive_store.specs.Log.{HalfWritten}
+use Rattle.passive_store.specs.Log.{HalfWritten, Unwritten}
 
 -- two lists that agree up to a place
 pub same_front : (n : ℕ) (xs ys : List ℕ) → n ≤ length xs → n ≤ length ys → ((k : ℕ) → k < n → get_or xs k 0 ≡ get_or ys k 0) → take n xs ≡ take n ys
@@ -54,19 +54,19 @@ but_one front rest image gate size same =
     ])
 
 -- While a record is written behind a closed gate, the gate stays closed, whatever is left of the record.
-pub written_behind : (size clock gate : ℕ) (front rest left bytes : List ℕ) → (gate == 225) ≡ false → length (front ++ gate ∷ rest) ≡ size → length left ≤ length rest →
-    Holds (HalfWritten size front bytes) (after_act (Wrote clock (length front + 1) left) (at_rest (front ++ gate ∷ rest)))
-written_behind size clock gate front rest left bytes shut whole fits =
+pub written_behind : (size clock gate : ℕ) (front rest left : List ℕ) → (gate == 225) ≡ false → length (front ++ gate ∷ rest) ≡ size → length left ≤ length rest →
+    Holds (Unwritten size front) (after_act (Wrote clock (length front + 1) left) (at_rest (front ++ gate ∷ rest)))
+written_behind size clock gate front rest left shut whole fits =
     let whole_front : List ℕ = front ++ gate ∷ [] in
     let at : length whole_front ≡ length front + 1 = omega (arith, length-append front (gate ∷ [])) in
     let split : whole_front ++ rest ≡ front ++ gate ∷ rest = append_assoc front (gate ∷ []) rest in
     let is_now : overlay (length front + 1) left (front ++ gate ∷ rest) ≡ front ++ gate ∷ (left ++ drop (length left) rest) =
     ap (overlay (length front + 1) left) (sym split) ∙ overlay_behind whole_front rest left (length front + 1) at ∙ append_assoc front (gate ∷ []) (left ++ drop (length left) rest) in
     record {
-      now = (ap length is_now ∙ omega (arith, whole, fits, length-append front (gate ∷ (left ++ drop (length left) rest)), length-append left (drop (length left) rest), length-drop (length left) rest, length-append front (gate ∷ rest)), inl (gate, left ++ drop (length left) rest, shut, is_now));
+      now = (ap length is_now ∙ omega (arith, whole, fits, length-append front (gate ∷ (left ++ drop (length left) rest)), length-append left (drop (length left) rest), length-drop (length left) rest, length-append front (gate ∷ rest)), (gate, left ++ drop (length left) rest, shut, is_now));
       left = λ image l. (
         l.size ∙ whole,
-        inl (
+        (
           gate,
           drop (length whole_front) image,
           shut,

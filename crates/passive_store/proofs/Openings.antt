@@ -1,9 +1,9 @@
 -- What the device calls of an opening leave on a disk.
-use Rattle.std.proofs.Common.{◌≡◌, ◌⊎◌, ℕ, ◌+◌, ◌-◌, ◌≤◌, ◌<◌, Bool, true, false, List, [], ◌∷◌, ◌++◌, length, take, drop, get_or, replicate, refl, sym, ap, subst, ◌∙◌, inl, inr, arith, length-append, length-drop}
-use Rattle.std.specs.Prelude.{◌==◌, Option, None, Result, Ok, Err, OnOk, slice_index, if◌then◌else◌}
+use Rattle.std.proofs.Common.{◌≡◌, ◌⊎◌, ℕ, zero, suc, ◌+◌, ◌-◌, ◌≤◌, ◌<◌, Bool, true, false, List, [], ◌∷◌, ◌++◌, length, take, drop, get_or, replicate, refl, sym, ap, subst, ◌∙◌, inl, inr, arith, length-append, length-drop}
+use Rattle.std.specs.Prelude.{◌==◌, Option, None, Result, Ok, Err, OnOk, slice_index, nat_lt, if◌then◌else◌}
 use Rattle.std.specs.BTreeMap.{BTreeMap}
 use Rattle.std.proofs.lemmas.Bool.{false≢true}
-use Rattle.std.proofs.lemmas.List.{length-take-le, get_or-take, get_or_append_left, get_or-append_right, get_or-drop}
+use Rattle.std.proofs.lemmas.List.{length-replicate, length-take-le, get_or-take, get_or_append_left, get_or-append_right, get_or-drop}
 use Rattle.capability.specs.declared.Uid.{Uid}
 use Rattle.eden_disk.specs.declared.disk.DiskRefusal.{DiskRefusal}
 use Rattle.eden_disk.specs.Told.{Told, Contents, contents, at_rest, after_act, Wrote, Left, overlay}
@@ -11,15 +11,18 @@ use Rattle.eden_disk.specs.Calls.{Counts, End, Fine, AtFault, AtStop, end_of, Re
 use Rattle.eden_disk.specs.declared.disk.DiskRefusal.TheVariants.{Failed, Stopped}
 use Rattle.eden_disk.specs.Calls.{DeviceCalls}
 use Rattle.eden_disk.specs.Held.{Holds, Passes, holds_at_rest, passes_write, passes_sync, passes_read, passes_join, passes_weaker, calls_more}
-use Rattle.std.proofs.lemmas.Bool.Decides.{eqb_tells}
+use Rattle.std.proofs.lemmas.Bool.Decides.{eqb_tells, nat_tests}
 use Rattle.passive_store.specs.declared.store.StoreRefusal.{StoreRefusal}
-use Rattle.passive_store.specs.declared.store.StoreRefusal.TheVariants.{Failed as StoreFailed, Stopped as StoreStopped, Damaged}
+use Rattle.passive_store.specs.declared.store.StoreRefusal.TheVariants.{Failed as StoreFailed, Stopped as StoreStopped, Full, Damaged, OutOfMemory}
 use Rattle.passive_store.specs.Kept.{IsDiskRefusal}
 use Rattle.passive_store.specs.declared.index.Slot.{Slot}
-use Rattle.passive_store.specs.Kept.{Change, Kept, Stands, HasNoMap, IsAnyOf, nothing_kept, refused, end_of_store}
+use Rattle.passive_store.specs.Kept.{Change, Kept, Stands, HasNoMap, IsAnyOf, nothing_kept, refused, end_of_store, OpeningMade, OpeningTold}
+use Rattle.passive_store.specs.declared.opening.Found.{Found}
 use Rattle.passive_store.specs.Log.{log_map, kept_by, kept_from, records_of, records_behind}
-use Rattle.passive_store.specs.LogState.{records_before, records_or_none, records_found, IsLog, log_opening_calls}
-use Rattle.passive_store.specs.Opening.{IsWalk, IsThrough, ThroughTold, IsEmptyImage, IsBlank, IsNewLog, OnFine, IsReadied, IsKeptThrough}
+use Rattle.passive_store.specs.LogState.{records_before, records_or_none, records_found, records_up_to, records_read, IsLog, log_opening, looks}
+use Rattle.passive_store.specs.Acts.{DiskCall, Sync, Read, AllTold, SomeTold, CallsTold}
+use Rattle.passive_store.specs.Joining.{all_more, all_some, some_more, call_done}
+use Rattle.passive_store.specs.Opening.{IsWalk, IsThrough, ThroughTold, IsEmptyImage, IsBlank, IsNewLog, OnFine, IsReadied, IsKeptThrough, ReadsMade}
 use Rattle.passive_store.proofs.Walk.{long_enough, log_stands_there, closed, passed_over}
 use Rattle.passive_store.proofs.Walking.{walk_closed, around}
 use Rattle.passive_store.proofs.Images.{outside_range}
@@ -214,6 +217,7 @@ pub record IsOpened (node size tail : ℕ) (before : List ℕ) (c : Contents) (i
   pub log : IsLog node size tail c index None
   pub map_is : log_map node before ≡ Ok (kept_from nothing_kept (records_before node tail c.now))
   pub found : records_before node tail c.now ≡ records_found node before
+  pub read : records_before node tail c.now ≡ records_read node before
 
 same_number : (x y : ℕ) → (x == y) ≡ true → x ≡ y
 same_number x y h = elim (eqb_tells x y) [ inl p ↦ p.1 | inr p ↦ absurd (false≢true (sym p.0 ∙ h)) ]
@@ -227,6 +231,7 @@ opened_old node size tail bytes index long ends header w shut =
       log = record { whole = w.whole; header = first; front = w.front; indexed = w.indexed; sum = w.sum; end = (refl, shut) };
       map_is = log_stands_there node bytes long first ∙ ap kept_by records;
       found = sym (ap (λ b. if b then records_or_none (records_of node bytes) else []) header ∙ ap records_or_none records);
+      read = sym (ap (λ b. if b then records_up_to node bytes (records_of node bytes) else []) header ∙ ap (records_up_to node bytes) records);
     }
 
 no_records : (rs : List Change) (found : Result (List Change) ℕ) → found ≡ Ok rs → found ≡ Ok [] → rs ≡ []
@@ -243,6 +248,7 @@ opened_new node size tail before c index long ends blank new w shut =
       log = record { whole = w.whole; header = new.header; front = w.front; indexed = w.indexed; sum = w.sum; end = (new.rest, shut) };
       map_is = empty_map node before (long, inl blank) ∙ ap (λ rs. Ok (kept_from nothing_kept rs)) (sym none);
       found = none ∙ sym (ap (λ b. if b then records_or_none (records_of node before) else []) blank);
+      read = none ∙ sym (ap (λ b. if b then records_up_to node before (records_of node before) else []) blank);
     }
 
 pub opened_log : (node size tail : ℕ) (t0 t1 t2 t3 : Told) (index : BTreeMap Uid (Option Slot)) → contents t1 ≡ at_rest (contents t0).now → 17 ≤ length (contents t0).now → IsReadied t1 t2 Fine → t3 ≡ t2 → tail < size →
@@ -267,13 +273,111 @@ opened_damaged node place t0 t1 t2 synced long (inr new) bad =
     absurd (no_damage place (records_of node (contents t2).now) bad (empty_records node (contents t2).now new.2.long new.2.shut))
 
 -- the number of calls of an opening
-calls_by : (b : Bool) (ready reads records : ℕ) → ready ≡ (if b then 1 else 5) → reads ≡ records + 1 → 1 + (ready + reads) ≡ (if b then 3 else 7) + records
-calls_by true ready reads records e r = omega arith
-calls_by false ready reads records e r = omega arith
+calls_by : (b : Bool) (ready reads records : ℕ) → ready ≡ (if b then 1 else 5) → reads ≡ records + 1 → 1 + (ready + reads) ≡ length (Sync ∷ (looks b ++ replicate (records + 1) Read))
+calls_by true ready reads records e r = omega (arith, length-replicate (records + 1) Read)
+calls_by false ready reads records e r = omega (arith, length-replicate (records + 1) Read)
 
-pub opening_number : (node tail ready reads : ℕ) (t0 t1 t2 : Told) (c : Contents) → contents t1 ≡ at_rest (contents t0).now → ready ≡ (if slice_index (contents t1).now 0 == 237 then 1 else 5) → reads ≡ length (records_before node tail (contents t2).now) + 1 →
-    c ≡ contents t2 → records_before node tail c.now ≡ records_found node (contents t0).now → 1 + (ready + reads) ≡ log_opening_calls node (contents t0).now
-opening_number node tail ready reads t0 t1 t2 c synced e r same found =
-    calls_by (slice_index (contents t0).now 0 == 237) ready reads (length (records_found node (contents t0).now))
+-- of a disk that is not too small
+pub opening_is : (node : ℕ) (image : List ℕ) → 17 ≤ length image → log_opening node image ≡ Sync ∷ (looks (slice_index image 0 == 237) ++ replicate (length (records_read node image) + 1) Read)
+opening_is node image long = let t : nat_lt (length image) 17 ≡ false = grind (arith, nat_tests) in
+    ap (λ b. if b then [] else (Sync ∷ (looks (slice_index image 0 == 237) ++ replicate (length (records_read node image) + 1) Read))) t
+
+pub too_small : (node : ℕ) (image : List ℕ) → length image < 17 → log_opening node image ≡ []
+too_small node image short = let t : nat_lt (length image) 17 ≡ true = grind (arith, nat_tests) in
+    ap (λ b. if b then [] else (Sync ∷ (looks (slice_index image 0 == 237) ++ replicate (length (records_read node image) + 1) Read))) t
+
+-- reads change nothing
+reads_told : (n : ℕ) (t : Told) → AllTold (replicate n Read) t t
+reads_told zero t = refl
+reads_told (suc n) t = (t, 0, refl, reads_told n t)
+
+pub look_told : (b : Bool) (clock : ℕ) (old new : Told) (e : DiskRefusal) → ReadTold clock old new (end_of {T = Bool} (Err e)) → CallsTold (looks b) old new (end_of {T = Unit {0}} (Err e))
+look_told true clock old new Failed told = inl (clock, told)
+look_told true clock old new Stopped told = inl (clock, told)
+look_told false clock old new Failed told = inl (clock, told)
+look_told false clock old new Stopped told = inl (clock, told)
+
+-- the calls of an opening whose walk was refused, and of a whole one
+pub walk_ended : (first : List DiskCall) (n clock : ℕ) (old mid new : Told) → AllTold first old mid → ReadTold clock mid new Fine → AllTold (first ++ replicate n Read) old new
+walk_ended first n clock old mid new all told = subst (AllTold (first ++ replicate n Read) old) (sym told) (all_more first (replicate n Read) old mid mid all (reads_told n mid))
+
+pub walk_refused : (first : List DiskCall) (n clock : ℕ) (old mid new : Told) (e : StoreRefusal) → AllTold first old mid → (e ≡ Full → ⊥) → ReadTold clock mid new (end_of_store {T = Found} (Err e)) → OpeningTold {S = Found} (first ++ replicate (suc n) Read) old new (Err e)
+walk_refused first n clock old mid new StoreFailed all full told = all_some first (replicate (suc n) Read) old mid new AtFault all (inl (clock, told))
+walk_refused first n clock old mid new StoreStopped all full told = all_some first (replicate (suc n) Read) old mid new AtStop all (inl (clock, told))
+walk_refused first n clock old mid new Full all full told = absurd (full refl)
+walk_refused first n clock old mid new (Damaged place) all full told = walk_ended first (suc n) clock old mid new all told
+walk_refused first n clock old mid new OutOfMemory all full told = (first, replicate (suc n) Read, refl, subst (AllTold first old) (sym told) all)
+
+-- the same of all its calls
+sync_then_look : (t0 t1 t2 : Told) (b : Bool) (clock : ℕ) → SyncTold clock t0 t1 Fine → AllTold (looks b) t1 t2 → AllTold (Sync ∷ looks b) t0 t2
+sync_then_look t0 t1 t2 b clock synced looked = (t1, clock, synced, looked)
+
+pub sync_told_refused : (rest : List DiskCall) (clock node : ℕ) (t0 t1 : Told) (e : DiskRefusal) → log_opening node (contents t0).now ≡ Sync ∷ rest → SyncTold clock t0 t1 (end_of {T = Unit {0}} (Err e)) → OpeningTold {S = Found} (log_opening node (contents t0).now) t0 t1 (Err (refused e))
+sync_told_refused rest clock node t0 t1 Failed is told = subst (λ l. SomeTold l t0 t1 AtFault) (sym is) (inl (clock, told))
+sync_told_refused rest clock node t0 t1 Stopped is told = subst (λ l. SomeTold l t0 t1 AtStop) (sym is) (inl (clock, told))
+
+pub look_told_refused : (b : Bool) (rest : List DiskCall) (clock node : ℕ) (t0 t1 t2 : Told) (e : DiskRefusal) → log_opening node (contents t0).now ≡ Sync ∷ (looks b ++ rest) → SyncTold clock t0 t1 Fine →
+    CallsTold (looks b) t1 t2 (end_of {T = Unit {0}} (Err e)) → OpeningTold {S = Found} (log_opening node (contents t0).now) t0 t2 (Err (refused e))
+look_told_refused b rest clock node t0 t1 t2 Failed is synced told =
+    subst (λ l. SomeTold l t0 t2 AtFault) (sym is) (all_some (Sync ∷ []) (looks b ++ rest) t0 t1 t2 AtFault (call_done Sync clock t0 t1 synced) (some_more (looks b) rest t1 t2 AtFault told))
+look_told_refused b rest clock node t0 t1 t2 Stopped is synced told =
+    subst (λ l. SomeTold l t0 t2 AtStop) (sym is) (all_some (Sync ∷ []) (looks b ++ rest) t0 t1 t2 AtStop (call_done Sync clock t0 t1 synced) (some_more (looks b) rest t1 t2 AtStop told))
+
+pub walk_told_refused : (b : Bool) (n clock later node : ℕ) (t0 t1 t2 t3 : Told) (e : StoreRefusal) → log_opening node (contents t0).now ≡ Sync ∷ (looks b ++ replicate (n + 1) Read) → SyncTold clock t0 t1 Fine → AllTold (looks b) t1 t2 → (e ≡ Full → ⊥) →
+    ReadTold later t2 t3 (end_of_store {T = Found} (Err e)) → OpeningTold {S = Found} (log_opening node (contents t0).now) t0 t3 (Err e)
+walk_told_refused b n clock later node t0 t1 t2 t3 e is synced looked full told =
+    let more : n + 1 ≡ suc n = omega arith in
+    subst (λ l. OpeningTold {S = Found} l t0 t3 (Err e)) (sym (is ∙ ap (λ m. Sync ∷ (looks b ++ replicate m Read)) more))
+    (walk_refused (Sync ∷ looks b) n later t0 t2 t3 e (sync_then_look t0 t1 t2 b clock synced looked) full told)
+
+pub walk_told_whole : (b : Bool) (n clock later node : ℕ) (t0 t1 t2 t3 : Told) → log_opening node (contents t0).now ≡ Sync ∷ (looks b ++ replicate (n + 1) Read) → SyncTold clock t0 t1 Fine → AllTold (looks b) t1 t2 →
+    ReadTold later t2 t3 Fine → AllTold (log_opening node (contents t0).now) t0 t3
+walk_told_whole b n clock later node t0 t1 t2 t3 is synced looked told =
+    subst (λ l. AllTold l t0 t3) (sym is) (walk_ended (Sync ∷ looks b) (n + 1) later t0 t2 t3 (sync_then_look t0 t1 t2 b clock synced looked) told)
+
+pub opening_number : (node tail ready reads : ℕ) (t0 t1 t2 : Told) (c : Contents) → 17 ≤ length (contents t0).now → contents t1 ≡ at_rest (contents t0).now → ready ≡ (if slice_index (contents t1).now 0 == 237 then 1 else 5) → reads ≡ length (records_before node tail (contents t2).now) + 1 →
+    c ≡ contents t2 → records_before node tail c.now ≡ records_read node (contents t0).now → 1 + (ready + reads) ≡ length (log_opening node (contents t0).now)
+opening_number node tail ready reads t0 t1 t2 c long synced e r same found =
+    calls_by (slice_index (contents t0).now 0 == 237) ready reads (length (records_read node (contents t0).now))
     (e ∙ ap (λ (x : Contents). if slice_index x.now 0 == 237 then 1 else 5) synced)
     (r ∙ ap (λ (x : Contents). length (records_before node tail x.now) + 1) (sym same) ∙ ap (λ rs. length rs + 1) found)
+    ∙ sym (ap length (opening_is node (contents t0).now long))
+
+-- the same where a record is damaged
+damaged_number : (node place ready reads : ℕ) (t0 t1 t2 : Told) → 17 ≤ length (contents t0).now → contents t1 ≡ at_rest (contents t0).now → ready ≡ (if slice_index (contents t1).now 0 == 237 then 1 else 5) →
+    reads ≡ length (records_before node place (contents t2).now) + 1 → IsReadied t1 t2 Fine → records_of node (contents t2).now ≡ Err place → 1 + (ready + reads) ≡ length (log_opening node (contents t0).now)
+damaged_number node place ready reads t0 t1 t2 long synced e r (inl old) bad =
+    let is : contents t2 ≡ at_rest (contents t0).now = ap contents old.1.1 ∙ synced in
+    let header : (slice_index (contents t0).now 0 == 237) ≡ true = ap (λ (c : Contents). slice_index c.now 0 == 237) (sym synced) ∙ old.0 in
+    let damage : records_of node (contents t0).now ≡ Err place = ap (λ (c : Contents). records_of node c.now) (sym is) ∙ bad in
+    calls_by (slice_index (contents t0).now 0 == 237) ready reads (length (records_read node (contents t0).now))
+    (e ∙ ap (λ (x : Contents). if slice_index x.now 0 == 237 then 1 else 5) synced)
+    (r ∙ ap (λ (x : Contents). length (records_before node place x.now) + 1) is
+    ∙ ap (λ rs. length rs + 1) (sym (ap (λ b. if b then records_up_to node (contents t0).now (records_of node (contents t0).now) else []) header ∙ ap (records_up_to node (contents t0).now) damage)))
+    ∙ sym (ap length (opening_is node (contents t0).now long))
+damaged_number node place ready reads t0 t1 t2 long synced e r (inr new) bad =
+    absurd (no_damage place (records_of node (contents t2).now) bad (empty_records node (contents t2).now new.2.long new.2.shut))
+
+-- and where the walk was refused, however it was
+pub refused_number : (node ready reads : ℕ) (e : StoreRefusal) (t0 t1 t2 : Told) → 17 ≤ length (contents t0).now → contents t1 ≡ at_rest (contents t0).now → ready ≡ (if slice_index (contents t1).now 0 == 237 then 1 else 5) →
+    ReadsMade node (contents t2).now (Err e) reads → IsReadied t1 t2 Fine → (e ≡ Full → ⊥) → ((place : ℕ) → e ≡ Damaged place → records_of node (contents t2).now ≡ Err place) →
+    OpeningMade {S = Found} (length (log_opening node (contents t0).now)) (Err e) (1 + (ready + reads))
+refused_number node ready reads StoreFailed t0 t1 t2 long synced e r readied full bad = omega arith
+refused_number node ready reads StoreStopped t0 t1 t2 long synced e r readied full bad = omega arith
+refused_number node ready reads Full t0 t1 t2 long synced e r readied full bad = absurd (full refl)
+refused_number node ready reads (Damaged place) t0 t1 t2 long synced e r readied full bad = damaged_number node place ready reads t0 t1 t2 long synced e r readied (bad place refl)
+refused_number node ready reads OutOfMemory t0 t1 t2 long synced e r readied full bad = tt
+
+pub refused_made : (S : Type 0) (calls made : ℕ) (e : DiskRefusal) → 1 ≤ made → OpeningMade {S = S} calls (Err (refused e)) made
+refused_made S calls made Failed some = some
+refused_made S calls made Stopped some = some
+
+-- the reads of a walk that was refused at a place
+pub refused_reads : (node tail made : ℕ) (bytes : List ℕ) (e : StoreRefusal) → IsDiskRefusal e ⊎ (e ≡ Damaged tail) → made ≡ length (records_before node tail bytes) → ReadsMade node bytes (Err e) (made + 1)
+refused_reads node tail made bytes StoreFailed only number = omega arith
+refused_reads node tail made bytes StoreStopped only number = omega arith
+refused_reads node tail made bytes Full only number = tt
+refused_reads node tail made bytes (Damaged place) only number =
+    let at = damaged_at (Damaged place) tail place only refl in
+    ap (λ n. n + 1) number ∙ ap (λ n. length (records_before node n bytes) + 1) at.1
+refused_reads node tail made bytes OutOfMemory only number = tt

@@ -1,6 +1,6 @@
 -- A log with a pending record, through one device call.
 use Rattle.std.proofs.Common.{◌≡◌, ℕ, suc, zero, ◌+◌, ◌≤◌, ◌<◌, Bool, true, false, cond, List, [], ◌∷◌, ◌++◌, length, take, drop, refl, sym, ap, subst, ◌∙◌, inl, arith, length-append, length-drop}
-use Rattle.std.specs.Prelude.{◌==◌, not, Option, None, Some, Ok, Err, IfSome, IsSome, slice_index, slice_range, map}
+use Rattle.std.specs.Prelude.{◌==◌, not, Option, None, Some, Result, Ok, Err, IfSome, IsSome, slice_index, slice_range, map}
 use Rattle.std.specs.Prelude.{if◌then◌else◌, nat_le}
 use Rattle.std.proofs.Common.{◌-◌}
 use Rattle.std.proofs.lemmas.Bool.Decides.{nat_tests}
@@ -13,23 +13,26 @@ use Rattle.std.proofs.lemmas.Bool.{false≢true}
 use Rattle.capability.specs.declared.Uid.{Uid}
 use Rattle.capability.specs.Uids.{uid_cmp_total}
 use Rattle.eden_disk.specs.Told.{Told, Contents, contents, at_rest, EachMoment, LeavesOnly}
-use Rattle.eden_disk.specs.Calls.{Counts, End, ReadTold, SyncTold}
+use Rattle.eden_disk.specs.declared.disk.DiskRefusal.{DiskRefusal}
+use Rattle.eden_disk.specs.declared.disk.DiskRefusal.TheVariants.{Failed as DiskFailed, Stopped as DiskStopped}
+use Rattle.eden_disk.specs.Calls.{Counts, End, ReadTold, SyncTold, end_of}
+use Rattle.passive_store.specs.Acts.{DiskCall, CallTold}
 use Rattle.eden_disk.specs.Held.{Holds, Passes, holds_at_rest, passes_read, passes_sync}
 use Rattle.passive_store.specs.declared.store.Pick.TheVariants.{New}
 use Rattle.passive_store.specs.declared.index.Slot.{Slot}
 use Rattle.passive_store.specs.declared.log_store.Pending.{Pending}
 use Rattle.passive_store.specs.declared.log_store.Stage.{Stage}
 use Rattle.passive_store.specs.declared.log_store.Stage.TheVariants.{Begun, Written, Synced, Opened, Ended}
-use Rattle.passive_store.specs.Kept.{Change, Kept, Shown, Work, Idle, Busy, Unsettled, nothing_kept, kept_after, IsFresh, Stands, changes_in, change_in, doubt_in, is_busy, made_in, Layout, shown_advanced, settled, is_unsettled, is_synced, unsynced, settling_calls}
+use Rattle.passive_store.specs.Kept.{Change, Kept, Shown, Work, Idle, Busy, Unsettled, nothing_kept, kept_after, IsFresh, Stands, changes_in, change_in, doubt_in, is_busy, made_in, Layout, shown_advanced, settled, is_unsettled, is_synced, unsynced, settling_calls, NextTold, HasJob, IsJobOf, work_begun, end_of_store, refused}
 use Rattle.passive_store.specs.declared.store.StoreRefusal.{StoreRefusal}
 use Rattle.passive_store.specs.declared.store.Progress.TheVariants.{Going, Done}
-use Rattle.passive_store.specs.Log.{HalfWritten, log_map, kept_from}
-use Rattle.passive_store.specs.LogState.{records_before, slot_of, SetsSlot, IsPendingOf, IsLog, IsPlaced, IsUntouched, IsAtStage, IsStaged, IsShut, IsOpened, IsJobAfter, JobFacts, made_at, stage_after, stage_synced, staged, change_of, pending_work, log_shown, log_layout, body_length, IsRecordOf, IsIndex, slot_at, within_room}
+use Rattle.passive_store.specs.Log.{HalfWritten, Unwritten, log_map, kept_from}
+use Rattle.passive_store.specs.LogState.{records_before, slot_of, SetsSlot, IsPendingOf, IsLog, IsPlaced, IsUntouched, IsAtStage, IsStaged, IsShut, IsOpened, IsJobAfter, JobFacts, made_at, stage_after, stage_synced, staged, change_of, pending_work, log_shown, log_layout, body_length, IsRecordOf, IsIndex, slot_at, within_room, WhereBegun, stage_call, record_job, log_job, log_tail, bytes_for, used_by}
 use Rattle.passive_store.proofs.Walk.{kept_from_more}
-use Rattle.passive_store.proofs.Tails.{moved, half_front, same_records, placed_more, log_stands, writing_moments, written_log, is_half, found_shut, found_open, fresh_value, rest_is}
+use Rattle.passive_store.proofs.Tails.{moved, half_front, same_records, placed_more, log_stands, writing_moments, unwritten_moments, whole_records, written_log, is_half, found_shut, found_open, fresh_value, rest_is}
 
 abbrev pub with_stage : Pending → Stage → Pending
-with_stage p s = record { uid = p.uid; removal = p.removal; length = p.length; «record» = p.record; stage = s }
+with_stage p s = record { uid = p.uid; removal = p.removal; length = p.length; bytes = p.bytes; stage = s }
 
 pub restaged : (node tail : ℕ) (kept : Kept) (p : Pending) (s : Stage) → IsPendingOf node tail kept p → IsPendingOf node tail kept (with_stage p s)
 restaged node tail kept p s i = record { bytes = i.bytes; is = i.is; spells = i.spells; size = i.size; long = i.long; fresh = i.fresh }
@@ -39,7 +42,7 @@ pub record Keeps (node size tail : ℕ) (old new : Told) (before after : Counts)
   pub is : q ≡ Some p
   pub placed : IsPlaced size tail before index q
   pub log : IsLog node size tail (contents old) index q
-  pub passes : Passes (HalfWritten size (take tail (contents old).now) p.record.items) old new
+  pub passes : Passes (HalfWritten size (take tail (contents old).now) p.bytes.items) old new
   pub sized : after.size ≡ before.size
 
 pub pending_is : (node size tail : ℕ) (c : Contents) (index : BTreeMap Uid (Option Slot)) (q : Option Pending) (p : Pending) → q ≡ Some p → IsLog node size tail c index q → IsLog node size tail c index (Some p)
@@ -67,20 +70,86 @@ pub keeps_shown : (node size tail : ℕ) (old new : Told) (before after : Counts
 keeps_shown node size tail old new before after index q p k =
     ap (λ rs. record { kept = kept_from nothing_kept rs; written = map body_length rs }) (keeps_records node size tail old new before after index q p k)
 
-staged_change : (c : Change) (s : Stage) → change_in (staged c s) ≡ Some c
-staged_change c Begun = refl
-staged_change c Written = refl
-staged_change c Synced = refl
-staged_change c Opened = refl
-staged_change c (Ended synced) = refl
+staged_change : (tail : ℕ) (bytes : List ℕ) (c : Change) (s : Stage) → change_in (staged tail bytes c s) ≡ Some c
+staged_change tail bytes c Begun = refl
+staged_change tail bytes c Written = refl
+staged_change tail bytes c Synced = refl
+staged_change tail bytes c Opened = refl
+staged_change tail bytes c (Ended synced) = refl
 
 pub keeps_moments : (node size tail : ℕ) (old new : Told) (before after : Counts) (index : BTreeMap Uid (Option Slot)) (q : Option Pending) (p : Pending) → Keeps node size tail old new before after index q p →
     EachMoment (Stands (log_map node) (kept_from nothing_kept (records_before node tail (contents old).now)) (changes_in (change_in (pending_work tail q)))) old new
 keeps_moments node size tail old new before after index q p k =
     let l : IsLog node size tail (contents old) index (Some p) = subst (IsLog node size tail (contents old) index) k.is k.log in
-    let change : change_in (pending_work tail q) ≡ Some (change_of tail p) = ap (λ x. change_in (pending_work tail x)) k.is ∙ staged_change (change_of tail p) p.stage in
+    let change : change_in (pending_work tail q) ≡ Some (change_of tail p) = ap (λ x. change_in (pending_work tail x)) k.is ∙ staged_change tail p.bytes.items (change_of tail p) p.stage in
     subst (λ x. EachMoment (Stands (log_map node) (kept_from nothing_kept (records_before node tail (contents old).now)) (changes_in x)) old new) (sym change)
     (writing_moments node size tail old new before index q p k.placed k.log l.end.1 k.passes.moments)
+
+where_begun : (P Q : Type 0) (stage : Stage) → (P → Q) → WhereBegun stage P → WhereBegun stage Q
+where_begun P Q Begun f p = f p
+where_begun P Q Written f p = tt
+where_begun P Q Synced f p = tt
+where_begun P Q Opened f p = tt
+where_begun P Q (Ended synced) f p = tt
+
+by_stage : (P : List Change → Type 0) (tail : ℕ) (bytes : List ℕ) (c : Change) (stage : Stage) → WhereBegun stage (P []) → P (c ∷ []) → P (changes_in (doubt_in (staged tail bytes c stage)))
+by_stage P tail bytes c Begun first any = first
+by_stage P tail bytes c Written first any = any
+by_stage P tail bytes c Synced first any = any
+by_stage P tail bytes c Opened first any = any
+by_stage P tail bytes c (Ended synced) first any = any
+
+-- In the first call of its job a record does not count.
+pub step_moments : (node size tail : ℕ) (old new : Told) (before after : Counts) (index : BTreeMap Uid (Option Slot)) (q : Option Pending) (p : Pending) → Keeps node size tail old new before after index q p →
+    WhereBegun p.stage (Passes (Unwritten before.size (take tail (contents old).now)) old new) →
+    EachMoment (Stands (log_map node) (kept_from nothing_kept (records_before node tail (contents old).now)) (changes_in (doubt_in (pending_work tail q)))) old new
+step_moments node size tail old new before after index q p k first =
+    let P : List Change → Type 0 = λ changes. EachMoment (Stands (log_map node) (kept_from nothing_kept (records_before node tail (contents old).now)) changes) old new in
+    let l : IsLog node size tail (contents old) index (Some p) = subst (IsLog node size tail (contents old) index) k.is k.log in
+    subst (λ x. P (changes_in (doubt_in (pending_work tail x)))) (sym k.is)
+    (by_stage P tail p.bytes.items (change_of tail p) p.stage
+    (where_begun (Passes (Unwritten before.size (take tail (contents old).now)) old new) (P []) p.stage
+    (λ passes. unwritten_moments node size tail old new before index q k.placed k.log (subst (λ n. EachMoment (Unwritten n (take tail (contents old).now)) old new) k.placed.sized passes.moments)) first)
+    (writing_moments node size tail old new before index q p k.placed k.log l.end.1 k.passes.moments))
+
+-- what is told of the next call of a job, by its stage
+staged_told : (tail : ℕ) (bytes : List ℕ) (c : Change) (stage : Stage) (clock : ℕ) (old new : Told) (end : End) → CallTold (stage_call tail bytes stage) clock old new end → NextTold (staged tail bytes c stage) clock old new end
+staged_told tail bytes c Begun clock old new end told = told
+staged_told tail bytes c Written clock old new end told = told
+staged_told tail bytes c Synced clock old new end told = told
+staged_told tail bytes c Opened clock old new end told = told
+staged_told tail bytes c (Ended synced) clock old new end told = tt
+
+pub next_told : (tail : ℕ) (q : Option Pending) (p : Pending) (items : List ℕ) (clock : ℕ) (old new : Told) (end : End) → q ≡ Some p → items ≡ p.bytes.items → CallTold (stage_call tail items p.stage) clock old new end → NextTold (pending_work tail q) clock old new end
+next_told tail q p items clock old new end e same told =
+    subst (λ x. NextTold (pending_work tail x) clock old new end) (sym e)
+    (staged_told tail p.bytes.items (change_of tail p) p.stage clock old new end (subst (λ w. CallTold (stage_call tail w p.stage) clock old new end) same told))
+
+pub told_refused : (T U : Type 0) (call : DiskCall) (clock : ℕ) (old new : Told) (e : DiskRefusal) → CallTold call clock old new (end_of {T = T} (Err e)) → CallTold call clock old new (end_of_store {T = U} (Err (refused e)))
+told_refused T U call clock old new DiskFailed told = told
+told_refused T U call clock old new DiskStopped told = told
+
+-- the bounds of a job
+pub job_bounded : (size tail : ℕ) (bytes : List ℕ) → IsJobOf size (length (record_job tail bytes))
+job_bounded size tail bytes = (omega arith, (0, omega arith, omega arith))
+
+-- a job that begins is the one of its layout
+pub begins_job : (node tail mark : ℕ) (image items : List ℕ) (uid : Uid) (body : Option (List ℕ)) (old v : Work) (r : Result (Unit {0}) StoreRefusal) → old ≡ Idle →
+    v ≡ work_begun (record { uid = uid; body = body; mark = mark }) (record_job tail items) old r → tail ≡ log_tail node image → items ≡ bytes_for node uid body → HasJob log_layout node image v
+begins_job node tail mark image items uid body old v (Ok done) idle is at same =
+    subst (HasJob log_layout node image) (sym is) (ap (λ t. record_job t items) at ∙ ap (record_job (log_tail node image)) same)
+begins_job node tail mark image items uid body old v (Err e) idle is at same = subst (HasJob log_layout node image) (sym (is ∙ idle)) tt
+
+-- a job at the tail is the one of its layout
+pub log_job_is : (node m tail : ℕ) (image other items : List ℕ) (uid : Uid) (body : Option (List ℕ)) → m ≡ node → other ≡ image → tail ≡ log_tail m other → items ≡ bytes_for node uid body → record_job tail items ≡ log_job node image uid body
+log_job_is node m tail image other items uid body nodes images at same =
+    ap (λ t. record_job t items) (at ∙ ap (λ n. log_tail n other) nodes ∙ ap (log_tail node) images) ∙ ap (record_job (log_tail node image)) same
+
+-- the log of an image ends where the store says
+pub tail_is : (node size tail : ℕ) (c : Contents) (counts : Counts) (index : BTreeMap Uid (Option Slot)) (q : Option Pending) → q ≡ None → IsPlaced size tail counts index q → IsLog node size tail c index q → tail ≡ log_tail node c.now
+tail_is node size tail c counts index q none placed l =
+    let n : IsLog node size tail c index None = subst (IsLog node size tail c index) none l in
+    l.sum ∙ ap (λ rs. 16 + used_by (map body_length rs)) (sym (whole_records node size tail c index None placed.begins placed.ends n n.end.1))
 
 -- what the pending record's stage says of its job
 at_stage : (size tail : ℕ) (c : Contents) (items : List ℕ) (stage : Stage) → length c.now ≡ size → tail + 1 + length items ≤ size → IsUntouched tail c stage → IsAtStage tail items c stage → JobFacts (take tail c.now) items (made_at stage) c
@@ -92,7 +161,7 @@ at_stage size tail c items Synced whole fits untouched at = at
 at_stage size tail c items Opened whole fits untouched at = at
 at_stage size tail c items (Ended synced) whole fits untouched at = tt
 
-pub job_at : (node size tail : ℕ) (c : Contents) (counts : Counts) (index : BTreeMap Uid (Option Slot)) (q : Option Pending) (p : Pending) (items : List ℕ) → q ≡ Some p → items ≡ p.record.items →
+pub job_at : (node size tail : ℕ) (c : Contents) (counts : Counts) (index : BTreeMap Uid (Option Slot)) (q : Option Pending) (p : Pending) (items : List ℕ) → q ≡ Some p → items ≡ p.bytes.items →
     IsPlaced size tail counts index q → IsLog node size tail c index q → IsStaged tail c q → IsJobAfter counts.size (take tail c.now) items (made_at p.stage) c
 job_at node size tail c counts index q p items e same placed l staged =
     let lp : IsLog node size tail c index (Some p) = subst (IsLog node size tail c index) e l in
@@ -100,13 +169,13 @@ job_at node size tail c counts index q p items e same placed l staged =
     let sp : IsStaged tail c (Some p) = subst (IsStaged tail c) e staged in
     subst (λ n. IsJobAfter n (take tail c.now) items (made_at p.stage) c) (sym placed.sized)
     (subst (λ w. IsJobAfter size (take tail c.now) w (made_at p.stage) c) (sym same)
-    (lp.end.0, at_stage size tail c p.record.items p.stage lp.whole pp.placed.0 lp.end.2 sp))
+    (lp.end.0, at_stage size tail c p.bytes.items p.stage lp.whole pp.placed.0 lp.end.2 sp))
 
 pub front_long : (node size tail : ℕ) (c : Contents) (counts : Counts) (index : BTreeMap Uid (Option Slot)) (q : Option Pending) → IsPlaced size tail counts index q → IsLog node size tail c index q → length (take tail c.now) ≡ tail
 front_long node size tail c counts index q placed l = length-take-le tail c.now (omega (arith, l.whole, placed.ends))
 
 -- a call of the job, with the bytes that it was given
-pub keeps_of : (node size tail : ℕ) (old new : Told) (before after : Counts) (index : BTreeMap Uid (Option Slot)) (q : Option Pending) (p : Pending) (items : List ℕ) → q ≡ Some p → items ≡ p.record.items →
+pub keeps_of : (node size tail : ℕ) (old new : Told) (before after : Counts) (index : BTreeMap Uid (Option Slot)) (q : Option Pending) (p : Pending) (items : List ℕ) → q ≡ Some p → items ≡ p.bytes.items →
     IsPlaced size tail before index q → IsLog node size tail (contents old) index q → after.size ≡ before.size → Passes (HalfWritten before.size (take tail (contents old).now) items) old new →
     Keeps node size tail old new before after index q p
 keeps_of node size tail old new before after index q p items e same placed l sized passes =
@@ -115,14 +184,14 @@ keeps_of node size tail old new before after index q p items e same placed l siz
       placed = placed;
       log = l;
       sized = sized;
-      passes = subst (λ n. Passes (HalfWritten n (take tail (contents old).now) p.record.items) old new) placed.sized (subst (λ w. Passes (HalfWritten before.size (take tail (contents old).now) w) old new) same passes);
+      passes = subst (λ n. Passes (HalfWritten n (take tail (contents old).now) p.bytes.items) old new) placed.sized (subst (λ w. Passes (HalfWritten before.size (take tail (contents old).now) w) old new) same passes);
     }
 
 -- the front is still there
 pub same_front : (node size tail : ℕ) (old new : Told) (before after : Counts) (index : BTreeMap Uid (Option Slot)) (q : Option Pending) (p : Pending) → Keeps node size tail old new before after index q p →
     take tail (contents old).now ≡ take tail (contents new).now
 same_front node size tail old new before after index q p k =
-    sym (subst (λ n. take n (contents new).now ≡ take tail (contents old).now) (front_long node size tail (contents old) before index q k.placed k.log) (half_front size (take tail (contents old).now) p.record.items (contents new).now k.passes.after.now))
+    sym (subst (λ n. take n (contents new).now ≡ take tail (contents old).now) (front_long node size tail (contents old) before index q k.placed k.log) (half_front size (take tail (contents old).now) p.bytes.items (contents new).now k.passes.after.now))
 
 next_facts : (tail : ℕ) (front items : List ℕ) (c : Contents) (stage next : Stage) → stage_after stage ≡ Some next → front ≡ take tail c.now → JobFacts front items (made_at stage + 1) c → IsUntouched tail c next × IsAtStage tail items c next
 next_facts tail front items c Begun next e same facts =
@@ -136,23 +205,23 @@ next_facts tail front items c (Ended synced) next e same facts = absurd cc
 
 -- the job goes on with its next stage
 pub keeps_next : (node size tail : ℕ) (old new : Told) (before after : Counts) (index : BTreeMap Uid (Option Slot)) (q : Option Pending) (p : Pending) (items : List ℕ) (next : Stage) → Keeps node size tail old new before after index q p →
-    items ≡ p.record.items → stage_after p.stage ≡ Some next → IsJobAfter before.size (take tail (contents old).now) items (made_at p.stage + 1) (contents new) →
-    IsUntouched tail (contents new) next × IsAtStage tail p.record.items (contents new) next
+    items ≡ p.bytes.items → stage_after p.stage ≡ Some next → IsJobAfter before.size (take tail (contents old).now) items (made_at p.stage + 1) (contents new) →
+    IsUntouched tail (contents new) next × IsAtStage tail p.bytes.items (contents new) next
 keeps_next node size tail old new before after index q p items next k same e job =
-    next_facts tail (take tail (contents old).now) p.record.items (contents new) p.stage next e (same_front node size tail old new before after index q p k)
+    next_facts tail (take tail (contents old).now) p.bytes.items (contents new) p.stage next e (same_front node size tail old new before after index q p k)
     (subst (λ w. JobFacts (take tail (contents old).now) w (made_at p.stage + 1) (contents new)) same job.1)
 
-last_facts : (front items : List ℕ) (c d : Contents) (change : Change) (stage : Stage) → stage_after stage ≡ None → is_busy (staged change stage) ≡ true → JobFacts front items (made_at stage + 1) d →
+last_facts : (front items : List ℕ) (c d : Contents) (tail : ℕ) (bytes : List ℕ) (change : Change) (stage : Stage) → stage_after stage ≡ None → is_busy (staged tail bytes change stage) ≡ true → JobFacts front items (made_at stage + 1) d →
     (rest : List ℕ) × (d ≡ at_rest (front ++ 225 ∷ (items ++ rest)))
-last_facts front items c d change Begun e busy facts = absurd cc
-last_facts front items c d change Written e busy facts = absurd cc
-last_facts front items c d change Synced e busy facts = absurd cc
-last_facts front items c d change Opened e busy facts = (facts.1.0, facts.0 ∙ ap at_rest facts.1.1)
-last_facts front items c d change (Ended synced) e busy facts = absurd (false≢true busy)
+last_facts front items c d tail bytes change Begun e busy facts = absurd cc
+last_facts front items c d tail bytes change Written e busy facts = absurd cc
+last_facts front items c d tail bytes change Synced e busy facts = absurd cc
+last_facts front items c d tail bytes change Opened e busy facts = (facts.1.0, facts.0 ∙ ap at_rest facts.1.1)
+last_facts front items c d tail bytes change (Ended synced) e busy facts = absurd (false≢true busy)
 
 -- the job is done
 pub job_done : (node size tail : ℕ) (old new : Told) (before after : Counts) (index more : BTreeMap Uid (Option Slot)) (q : Option Pending) (p : Pending) (items : List ℕ) (slot : Option Slot) → Keeps node size tail old new before after index q p →
-    items ≡ p.record.items → stage_after p.stage ≡ None → is_busy (pending_work tail q) ≡ true → IsJobAfter before.size (take tail (contents old).now) items (made_at p.stage + 1) (contents new) →
+    items ≡ p.bytes.items → stage_after p.stage ≡ None → is_busy (pending_work tail q) ≡ true → IsJobAfter before.size (take tail (contents old).now) items (made_at p.stage + 1) (contents new) →
     slot ≡ slot_of p.removal tail p.length → SetsSlot index more p.uid slot →
     IsPlaced size (tail + p.length + 15) after more None × IsLog node size (tail + p.length + 15) (contents new) more None
     × (log_shown node (tail + p.length + 15) (contents new).now ≡ made_in log_layout (change_of tail p) (log_shown node tail (contents old).now))
@@ -160,8 +229,8 @@ job_done node size tail old new before after index more q p items slot k same e 
     let l : IsLog node size tail (contents old) index (Some p) = subst (IsLog node size tail (contents old) index) k.is k.log in
     let placed : IsPlaced size tail before index (Some p) = subst (IsPlaced size tail before index) k.is k.placed in
     let set : SetsSlot index more p.uid (slot_of p.removal tail p.length) = subst (SetsSlot index more p.uid) slots sets in
-    let facts : JobFacts (take tail (contents old).now) p.record.items (made_at p.stage + 1) (contents new) = subst (λ w. JobFacts (take tail (contents old).now) w (made_at p.stage + 1) (contents new)) same job.1 in
-    let rest = last_facts (take tail (contents old).now) p.record.items (contents old) (contents new) (change_of tail p) p.stage e (ap (λ x. is_busy (pending_work tail x)) (sym k.is) ∙ busy) facts in
+    let facts : JobFacts (take tail (contents old).now) p.bytes.items (made_at p.stage + 1) (contents new) = subst (λ w. JobFacts (take tail (contents old).now) w (made_at p.stage + 1) (contents new)) same job.1 in
+    let rest = last_facts (take tail (contents old).now) p.bytes.items (contents old) (contents new) tail p.bytes.items (change_of tail p) p.stage e (ap (λ x. is_busy (pending_work tail x)) (sym k.is) ∙ busy) facts in
     let done = written_log node size tail (contents old) (contents new) rest.0 before index more q p k.placed k.log l.end.1 rest.1 k.passes.after.now.0 set in (
       placed_more size tail p.length before after index more q p.uid p.removal k.placed k.sized (omega (arith, placed.placed.0, placed.placed.2)) set,
       done.0,
@@ -180,27 +249,27 @@ shown_going layout Idle s = refl
 shown_going layout (Busy c made left) s = refl
 shown_going layout (Unsettled c synced) s = refl
 
-staged_done : (c : Change) (stage : Stage) (s : Shown) → is_busy (staged c stage) ≡ true → made_in log_layout c s ≡ shown_advanced log_layout (staged c stage) s (Ok Done)
-staged_done c Begun s busy = refl
-staged_done c Written s busy = refl
-staged_done c Synced s busy = refl
-staged_done c Opened s busy = refl
-staged_done c (Ended synced) s busy = absurd (false≢true busy)
+staged_done : (tail : ℕ) (bytes : List ℕ) (c : Change) (stage : Stage) (s : Shown) → is_busy (staged tail bytes c stage) ≡ true → made_in log_layout c s ≡ shown_advanced log_layout (staged tail bytes c stage) s (Ok Done)
+staged_done tail bytes c Begun s busy = refl
+staged_done tail bytes c Written s busy = refl
+staged_done tail bytes c Synced s busy = refl
+staged_done tail bytes c Opened s busy = refl
+staged_done tail bytes c (Ended synced) s busy = absurd (false≢true busy)
 
 pub shown_done : (tail : ℕ) (q : Option Pending) (p : Pending) (s : Shown) → q ≡ Some p → is_busy (pending_work tail q) ≡ true → made_in log_layout (change_of tail p) s ≡ shown_advanced log_layout (pending_work tail q) s (Ok Done)
 shown_done tail q p s e busy =
-    subst (λ x. is_busy (pending_work tail x) ≡ true → made_in log_layout (change_of tail p) s ≡ shown_advanced log_layout (pending_work tail x) s (Ok Done)) (sym e) (λ b. staged_done (change_of tail p) p.stage s b) busy
+    subst (λ x. is_busy (pending_work tail x) ≡ true → made_in log_layout (change_of tail p) s ≡ shown_advanced log_layout (pending_work tail x) s (Ok Done)) (sym e) (λ b. staged_done tail p.bytes.items (change_of tail p) p.stage s b) busy
 
 -- a sync, and a read of the gate
 pub keeps_sync : (node size tail clock : ℕ) (old new : Told) (before after : Counts) (index : BTreeMap Uid (Option Slot)) (q : Option Pending) (p : Pending) (end : End) → q ≡ Some p →
     IsPlaced size tail before index q → IsLog node size tail (contents old) index q → after.size ≡ before.size → SyncTold clock old new end → Keeps node size tail old new before after index q p
 keeps_sync node size tail clock old new before after index q p end e placed l sized told =
-    record { is = e; placed = placed; log = l; sized = sized; passes = passes_sync (HalfWritten size (take tail (contents old).now) p.record.items) clock old new end (is_half node size tail (contents old) index q p e l) told }
+    record { is = e; placed = placed; log = l; sized = sized; passes = passes_sync (HalfWritten size (take tail (contents old).now) p.bytes.items) clock old new end (is_half node size tail (contents old) index q p e l) told }
 
 pub keeps_read : (node size tail clock : ℕ) (old new : Told) (before after : Counts) (index : BTreeMap Uid (Option Slot)) (q : Option Pending) (p : Pending) (end : End) → q ≡ Some p →
     IsPlaced size tail before index q → IsLog node size tail (contents old) index q → after.size ≡ before.size → ReadTold clock old new end → Keeps node size tail old new before after index q p
 keeps_read node size tail clock old new before after index q p end e placed l sized told =
-    record { is = e; placed = placed; log = l; sized = sized; passes = passes_read (HalfWritten size (take tail (contents old).now) p.record.items) clock old new end (is_half node size tail (contents old) index q p e l) told }
+    record { is = e; placed = placed; log = l; sized = sized; passes = passes_read (HalfWritten size (take tail (contents old).now) p.bytes.items) clock old new end (is_half node size tail (contents old) index q p e l) told }
 
 unsettled_doubt : (w : Work) → is_unsettled w ≡ true → doubt_in w ≡ change_in w
 unsettled_doubt Idle u = refl
@@ -222,7 +291,7 @@ synced_rest tail items c (Ended true) e at = at
 synced_rest tail items c (Ended false) e at = absurd (false≢true e)
 
 pub read_rest : (tail : ℕ) (c : Contents) (q : Option Pending) (p : Pending) → q ≡ Some p → stage_synced p.stage ≡ true → IsStaged tail c q → c ≡ at_rest c.now
-read_rest tail c q p e synced staged = synced_rest tail p.record.items c p.stage synced (subst (IsStaged tail c) e staged)
+read_rest tail c q p e synced staged = synced_rest tail p.bytes.items c p.stage synced (subst (IsStaged tail c) e staged)
 
 pub settled_old : (node size tail : ℕ) (old new : Told) (before after : Counts) (index : BTreeMap Uid (Option Slot)) (q : Option Pending) (p : Pending) → Keeps node size tail old new before after index q p →
     new ≡ old → contents old ≡ at_rest (contents old).now → (slice_index (contents old).now tail == 225) ≡ false → IsPlaced size tail after index None × IsLog node size tail (contents new) index None
@@ -248,16 +317,16 @@ settled_new node size tail old new before after index more q p slot k same rest 
           ∙ ap (λ w. record { kept = kept_after (change_of tail p) (kept_from nothing_kept (records_before node tail (contents old).now)); written = w }) (map-append body_length (records_before node tail (contents old).now) (change_of tail p ∷ [])),
     )
 
-staged_new : (c : Change) (stage : Stage) (s : Shown) → is_unsettled (staged c stage) ≡ true → made_in log_layout c s ≡ settled log_layout (Some New) (staged c stage) s
-staged_new c Begun s u = absurd (false≢true u)
-staged_new c Written s u = absurd (false≢true u)
-staged_new c Synced s u = absurd (false≢true u)
-staged_new c Opened s u = absurd (false≢true u)
-staged_new c (Ended synced) s u = refl
+staged_new : (tail : ℕ) (bytes : List ℕ) (c : Change) (stage : Stage) (s : Shown) → is_unsettled (staged tail bytes c stage) ≡ true → made_in log_layout c s ≡ settled log_layout (Some New) (staged tail bytes c stage) s
+staged_new tail bytes c Begun s u = absurd (false≢true u)
+staged_new tail bytes c Written s u = absurd (false≢true u)
+staged_new tail bytes c Synced s u = absurd (false≢true u)
+staged_new tail bytes c Opened s u = absurd (false≢true u)
+staged_new tail bytes c (Ended synced) s u = refl
 
 pub shown_new : (tail : ℕ) (q : Option Pending) (p : Pending) (s : Shown) → q ≡ Some p → is_unsettled (pending_work tail q) ≡ true → made_in log_layout (change_of tail p) s ≡ settled log_layout (Some New) (pending_work tail q) s
 shown_new tail q p s e u =
-    subst (λ x. is_unsettled (pending_work tail x) ≡ true → made_in log_layout (change_of tail p) s ≡ settled log_layout (Some New) (pending_work tail x) s) (sym e) (λ b. staged_new (change_of tail p) p.stage s b) u
+    subst (λ x. is_unsettled (pending_work tail x) ≡ true → made_in log_layout (change_of tail p) s ≡ settled log_layout (Some New) (pending_work tail x) s) (sym e) (λ b. staged_new tail p.bytes.items (change_of tail p) p.stage s b) u
 
 pub unless_not : (b : Bool) → not b ≡ false → b ≡ true
 unless_not true e = refl
@@ -287,7 +356,7 @@ fresh_change index kept tail bytes body uid false within i some = fresh_value in
 
 -- a record that is begun is a pending one
 pub pending_of : (node size tail : ℕ) (c : Contents) (counts : Counts) (index : BTreeMap Uid (Option Slot)) (q : Option Pending) (p : Pending) →
-    IsPlaced size tail counts index q → IsLog node size tail c index q → IsRecordOf node p.record.items p.uid p.removal p.length →
+    IsPlaced size tail counts index q → IsLog node size tail c index q → IsRecordOf node p.bytes.items p.uid p.removal p.length →
     (p.removal ≡ true → IsSome (finite.get (kept_from nothing_kept (records_before node tail c.now)).bodies p.uid)) →
     IsPendingOf node tail (kept_from nothing_kept (records_before node tail c.now)) p
 pending_of node size tail c counts index q p placed l r some = record {
@@ -295,8 +364,8 @@ pending_of node size tail c counts index q p placed l r some = record {
   is = r.is;
   spells = r.spells;
   size = r.long;
-  long = body_long tail p.uid p.removal p.length p.record.items r.empty (omega (arith, ap length r.is, length-append r.bytes (0 ∷ []), r.long));
-  fresh = fresh_change index (kept_from nothing_kept (records_before node tail c.now)) tail c.now (slice_range p.record.items 14 (14 + p.length)) p.uid p.removal placed.slots l.indexed some;
+  long = body_long tail p.uid p.removal p.length p.bytes.items r.empty (omega (arith, ap length r.is, length-append r.bytes (0 ∷ []), r.long));
+  fresh = fresh_change index (kept_from nothing_kept (records_before node tail c.now)) tail c.now (slice_range p.bytes.items 14 (14 + p.length)) p.uid p.removal placed.slots l.indexed some;
 }
 
 -- a job begins
@@ -312,7 +381,7 @@ begun_log node size tail c counts index q p none stage placed l is =
       indexed = l.indexed;
       sum = l.sum;
       end = (
-        subst (Holds (HalfWritten size (take tail c.now) p.record.items)) (sym n.end.0) (holds_at_rest (HalfWritten size (take tail c.now) p.record.items) c.now (l.whole, inl (slice_index c.now tail, drop (tail + 1) c.now, n.end.1, split))),
+        subst (Holds (HalfWritten size (take tail c.now) p.bytes.items)) (sym n.end.0) (holds_at_rest (HalfWritten size (take tail c.now) p.bytes.items) c.now (l.whole, inl (slice_index c.now tail, drop (tail + 1) c.now, n.end.1, split))),
         is,
         subst (IsUntouched tail c) (sym stage) n.end,
       );

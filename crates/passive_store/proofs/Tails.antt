@@ -1,6 +1,6 @@
 -- How the log of a store stands after its device calls.
 use Rattle.std.proofs.Common.{◌≡◌, ℕ, ◌+◌, ◌-◌, ◌≤◌, ◌<◌, Bool, true, false, cond, List, [], ◌∷◌, ◌++◌, length, take, drop, get_or, refl, sym, ap, subst, ◌∙◌, inl, inr, arith, append_assoc, length-append}
-use Rattle.std.specs.Prelude.{◌==◌, IfSome, map, Option, None, Some, slice_index, slice_range, Ok}
+use Rattle.std.specs.Prelude.{◌==◌, IfSome, map, Option, None, Some, slice_index, slice_range, Ok, if◌then◌else◌}
 use Rattle.std.specs.Option.{option_map}
 use Rattle.std.specs.FinMap as finite
 use Rattle.std.specs.FinMap.{FinMap}
@@ -18,10 +18,10 @@ use Rattle.eden_disk.specs.Held.{Holds, only_now, moments_weaker}
 use Rattle.passive_store.specs.declared.index.Slot.{Slot}
 use Rattle.passive_store.specs.declared.log_store.Pending.{Pending}
 use Rattle.passive_store.specs.Kept.{Change, Kept, Idle, nothing_kept, kept_after, marks_after, bodies_after, IsFresh, Stands, changes_in, doubt_in}
-use Rattle.passive_store.specs.Log.{records_of, kept_from, IsFront, HalfWritten, log_map, kept_by}
+use Rattle.passive_store.specs.Log.{records_of, kept_from, IsFront, HalfWritten, Unwritten, log_map, kept_by}
 use Rattle.passive_store.specs.declared.log_store.Stage.{Stage}
 use Rattle.passive_store.specs.declared.log_store.Stage.TheVariants.{Begun, Written, Synced, Opened, Ended}
-use Rattle.passive_store.specs.LogState.{records_before, records_or_none, pending_body, slot_at, slot_of, SetsSlot, IsIndex, IsTailOf, IsPendingOf, IsLog, IsPlaced, IsUntouched, staged, change_of, pending_work, used_by, body_length}
+use Rattle.passive_store.specs.LogState.{records_before, records_or_none, records_found, pending_body, slot_at, slot_of, SetsSlot, IsIndex, IsTailOf, IsPendingOf, IsLog, IsPlaced, IsUntouched, staged, change_of, pending_work, used_by, body_length}
 use Rattle.passive_store.proofs.Walk.{front_more, front_closed, kept_from_more, log_stands_there}
 
 -- an image in which a record is being written begins with its front
@@ -67,11 +67,11 @@ same_index index kept tail xs ys same within i = record { marks = i.marks; bodie
 -- After a device call that keeps the record half written, the same log stands there.
 pub moved : (node size tail : ℕ) (c d : Contents) (index : BTreeMap Uid (Option Slot)) (q : Option Pending) (p : Pending) →
     16 ≤ tail → tail + 1 ≤ size → ((uid : Uid) → IfSome (slot_at index uid) (λ (s : Slot). s.gate + 15 + s.length ≤ tail)) →
-    IsLog node size tail c index q → Holds (HalfWritten size (take tail c.now) p.record.items) d → IsPendingOf node tail (kept_from nothing_kept (records_before node tail c.now)) p → IsUntouched tail d p.stage →
+    IsLog node size tail c index q → Holds (HalfWritten size (take tail c.now) p.bytes.items) d → IsPendingOf node tail (kept_from nothing_kept (records_before node tail c.now)) p → IsUntouched tail d p.stage →
     IsLog node size tail d index (Some p)
 moved node size tail c d index q p begins ends within l h is untouched =
     let at : length (take tail c.now) ≡ tail = length-take-le tail c.now (omega (arith, l.whole)) in
-    let same : take tail d.now ≡ take tail c.now = subst (λ n. take n d.now ≡ take tail c.now) at (half_front size (take tail c.now) p.record.items d.now h.now) in
+    let same : take tail d.now ≡ take tail c.now = subst (λ n. take n d.now ≡ take tail c.now) at (half_front size (take tail c.now) p.bytes.items d.now h.now) in
     let rs : records_before node tail d.now ≡ records_before node tail c.now = ap (λ f. records_or_none (records_of node (f ++ 0 ∷ []))) same in
     record {
       whole = h.now.0;
@@ -79,7 +79,7 @@ moved node size tail c d index q p begins ends within l h is untouched =
       front = subst (λ r. IsFront node (take tail d.now) r) (sym rs) (subst (λ f. IsFront node f (records_before node tail c.now)) (sym same) l.front);
       indexed = subst (λ r. IsIndex index (kept_from nothing_kept r) tail d.now) (sym rs) (same_index index (kept_from nothing_kept (records_before node tail c.now)) tail c.now d.now (sym same) within l.indexed);
       sum = l.sum ∙ ap (λ r. 16 + used_by (map body_length r)) (sym rs);
-      end = (subst (λ f. Holds (HalfWritten size f p.record.items) d) (sym same) h, subst (λ r. IsPendingOf node tail (kept_from nothing_kept r) p) (sym rs) is, untouched);
+      end = (subst (λ f. Holds (HalfWritten size f p.bytes.items) d) (sym same) h, subst (λ r. IsPendingOf node tail (kept_from nothing_kept r) p) (sym rs) is, untouched);
     }
 
 -- The record was not written.
@@ -133,7 +133,7 @@ used_more (x ∷ rs) r = ap (λ n. 15 + body_length x + n) (used_more rs r) ∙ 
 pub grown : (node size tail : ℕ) (c : Contents) (bytes rest : List ℕ) (old new : BTreeMap Uid (Option Slot)) (q : Option Pending) (p : Pending) →
     16 ≤ tail → tail + 1 ≤ size → ((uid : Uid) → IfSome (slot_at old uid) (λ (s : Slot). s.gate + 15 + s.length ≤ tail)) →
     IsLog node size tail c old q → IsPendingOf node tail (kept_from nothing_kept (records_before node tail c.now)) p →
-    length bytes ≡ size → bytes ≡ take tail c.now ++ 225 ∷ (p.record.items ++ rest) → SetsSlot old new p.uid (slot_of p.removal tail p.length) →
+    length bytes ≡ size → bytes ≡ take tail c.now ++ 225 ∷ (p.bytes.items ++ rest) → SetsSlot old new p.uid (slot_of p.removal tail p.length) →
     IsLog node size (tail + p.length + 15) (at_rest bytes) new None
     × (records_before node (tail + p.length + 15) bytes ≡ records_before node tail c.now ++ record { uid = p.uid; body = pending_body p; mark = tail } ∷ [])
 grown node size tail c bytes rest old new q p begins ends within l is whole stands sets =
@@ -145,35 +145,43 @@ grown node size tail c bytes rest old new q p begins ends within l is whole stan
     let split : bytes ≡ more ++ 0 ∷ rest = stands ∙ ap (λ r. front ++ 225 ∷ (r ++ rest)) is.is ∙ ap (λ r. front ++ 225 ∷ r) (append_assoc is.bytes (0 ∷ []) rest) ∙ sym (append_assoc front (225 ∷ is.bytes) (0 ∷ rest)) in
     let size_is : length more ≡ tail + p.length + 15 = omega (arith, at, is.size, length-append front (225 ∷ is.bytes)) in
     let new_front : take (tail + p.length + 15) bytes ≡ more = ap (take (tail + p.length + 15)) split ∙ take_at more (0 ∷ rest) (tail + p.length + 15) size_is in
-    let same : take tail bytes ≡ take tail c.now = ap (take tail) stands ∙ take_at front (225 ∷ (p.record.items ++ rest)) tail at in
+    let same : take tail bytes ≡ take tail c.now = ap (take tail) stands ∙ take_at front (225 ∷ (p.bytes.items ++ rest)) tail at in
     let goes_on : IsFront node more (rs ++ change ∷ []) = subst (λ n. IsFront node more (rs ++ record { uid = p.uid; body = pending_body p; mark = n } ∷ [])) at (front_more node front is.bytes rs p.uid (pending_body p) l.front is.spells) in
     let found : records_before node (tail + p.length + 15) bytes ≡ rs ++ change ∷ [] = before_is node (tail + p.length + 15) bytes more (rs ++ change ∷ []) new_front goes_on in
-    let part : slice_range bytes (tail + 15) (tail + 15 + p.length) ≡ slice_range p.record.items 14 (14 + p.length) =
+    let part : slice_range bytes (tail + 15) (tail + 15 + p.length) ≡ slice_range p.bytes.items 14 (14 + p.length) =
     ap (λ n. take n (drop (tail + 15) bytes)) (omega arith) ∙ ap (λ l. take p.length (drop (tail + 15) l)) stands
-    ∙ part_behind front p.record.items rest tail p.length at (omega (arith, ap length is.is, length-append is.bytes (0 ∷ []), is.size)) ∙ ap (λ n. take n (drop 14 p.record.items)) (omega arith) in (
+    ∙ part_behind front p.bytes.items rest tail p.length at (omega (arith, ap length is.is, length-append is.bytes (0 ∷ []), is.size)) ∙ ap (λ n. take n (drop 14 p.bytes.items)) (omega arith) in (
       record {
         whole = whole;
         header = same_below bytes c.now tail 0 same (omega arith) ∙ l.header;
         front = subst (λ r. IsFront node (take (tail + p.length + 15) bytes) r) (sym found) (subst (λ f. IsFront node f (rs ++ change ∷ [])) (sym new_front) goes_on);
         indexed = subst (λ k. IsIndex new k (tail + p.length + 15) bytes) (sym (ap (kept_from nothing_kept) found ∙ kept_from_more nothing_kept rs change))
-            (index_set old new (kept_from nothing_kept rs) tail (tail + p.length + 15) p.length c.now bytes p.uid p.removal (slice_range p.record.items 14 (14 + p.length)) same within part l.indexed sets);
+            (index_set old new (kept_from nothing_kept rs) tail (tail + p.length + 15) p.length c.now bytes p.uid p.removal (slice_range p.bytes.items 14 (14 + p.length)) same within part l.indexed sets);
         sum = omega (arith, l.sum, is.long, used_more rs change) ∙ ap (λ r. 16 + used_by (map body_length r)) (sym found);
         end = (refl, ap (λ g. g == 225) (ap (λ n. slice_index bytes n) (sym size_is) ∙ ap (λ l. slice_index l (length more)) split ∙ gate_behind more rest 0));
       },
       found,
     )
 
+-- While the gate of a record is closed, an image stands for what is kept.
+pub shut_stands : (node size tail : ℕ) (front : List ℕ) (rs : List Change) (image : List ℕ) → length front ≡ tail → 16 ≤ tail → slice_index front 0 ≡ 237 → IsFront node front rs → Unwritten size front image →
+    log_map node image ≡ Ok (kept_from nothing_kept rs)
+shut_stands node size tail front rs image at begins header f (whole, closed) =
+    let half : HalfWritten size front [] image = (whole, inl closed) in
+    let first : slice_index image 0 ≡ 237 = same_below image front (length front) 0 (half_front size front [] image half ∙ sym (take_all (length front) front (omega arith))) (omega arith) ∙ header in
+    log_stands_there node image (omega (arith, at, begins, half_long size front [] image half)) first ∙ ap kept_by (ap (records_of node) closed.3 ∙ front_closed node closed.0 front closed.1 rs f closed.2)
+
 -- While a record is being written, an image stands for what is kept, with its change or without.
 pub half_stands : (node size tail : ℕ) (kept_front : List ℕ) (rs : List Change) (p : Pending) (image : List ℕ) →
     length kept_front ≡ tail → 16 ≤ tail → slice_index kept_front 0 ≡ 237 → IsFront node kept_front rs → IsPendingOf node tail (kept_from nothing_kept rs) p →
-    HalfWritten size kept_front p.record.items image →
+    HalfWritten size kept_front p.bytes.items image →
     Stands (log_map node) (kept_from nothing_kept rs) (record { uid = p.uid; body = pending_body p; mark = tail } ∷ []) image
 half_stands node size tail front rs p image at begins header f is half =
     let change : Change = record { uid = p.uid; body = pending_body p; mark = tail } in
-    let first : slice_index image 0 ≡ 237 = same_below image front (length front) 0 (half_front size front p.record.items image half ∙ sym (take_all (length front) front (omega arith))) (omega arith) ∙ header in
-    let opened_log : log_map node image ≡ kept_by (records_of node image) = log_stands_there node image (omega (arith, at, begins, half_long size front p.record.items image half)) first in
+    let first : slice_index image 0 ≡ 237 = same_below image front (length front) 0 (half_front size front p.bytes.items image half ∙ sym (take_all (length front) front (omega arith))) (omega arith) ∙ header in
+    let opened_log : log_map node image ≡ kept_by (records_of node image) = log_stands_there node image (omega (arith, at, begins, half_long size front p.bytes.items image half)) first in
     elim half.1 [
-      | inl closed ↦ inl (opened_log ∙ ap kept_by (ap (records_of node) closed.3 ∙ front_closed node closed.0 front closed.1 rs f closed.2))
+      | inl closed ↦ inl (shut_stands node size tail front rs image at begins header f (half.0, closed))
       | inr opened ↦ inr (
         is.fresh,
         opened_log ∙ ap kept_by (
@@ -194,6 +202,15 @@ whole_map node size tail c index q begins ends l shut =
     log_stands_there node c.now (omega (arith, l.whole, begins, ends)) l.header
     ∙ ap kept_by (ap (records_of node) split ∙ front_closed node (slice_index c.now tail) (take tail c.now) (drop (tail + 1) c.now) (records_before node tail c.now) l.front shut)
 
+-- and its records are those before the tail
+pub whole_records : (node size tail : ℕ) (c : Contents) (index : BTreeMap Uid (Option Slot)) (q : Option Pending) → 16 ≤ tail → tail + 1 ≤ size → IsLog node size tail c index q → (slice_index c.now tail == 225) ≡ false →
+    records_found node c.now ≡ records_before node tail c.now
+whole_records node size tail c index q begins ends l shut =
+    let here : tail < length c.now = omega (arith, l.whole) in
+    let split : c.now ≡ take tail c.now ++ slice_index c.now tail ∷ drop (tail + 1) c.now = sym (take-append-drop tail c.now) ∙ ap (λ r. take tail c.now ++ r) (drop_more c.now tail 0 here) in
+    ap (λ x. if x == 237 then records_or_none (records_of node c.now) else []) l.header
+    ∙ ap records_or_none (ap (records_of node) split ∙ front_closed node (slice_index c.now tail) (take tail c.now) (drop (tail + 1) c.now) (records_before node tail c.now) l.front shut)
+
 pub rest_stands : (node size tail : ℕ) (c : Contents) (index : BTreeMap Uid (Option Slot)) → 16 ≤ tail → tail + 1 ≤ size → IsLog node size tail c index None →
     log_map node c.now ≡ Ok (kept_from nothing_kept (records_before node tail c.now))
 rest_stands node size tail c index begins ends l = whole_map node size tail c index None begins ends l l.end.1
@@ -207,7 +224,7 @@ half_map node size tail c index p image begins ends l left =
 
 -- a job that has made no call leaves nothing in doubt, and any other its change
 rests_or_not : (node size tail : ℕ) (c : Contents) (index : BTreeMap Uid (Option Slot)) (p : Pending) (stage : Stage) → 16 ≤ tail → tail + 1 ≤ size →
-    IsLog node size tail c index (Some p) → IsUntouched tail c stage → LeavesOnly (Stands (log_map node) (kept_from nothing_kept (records_before node tail c.now)) (changes_in (doubt_in (staged (change_of tail p) stage)))) c
+    IsLog node size tail c index (Some p) → IsUntouched tail c stage → LeavesOnly (Stands (log_map node) (kept_from nothing_kept (records_before node tail c.now)) (changes_in (doubt_in (staged tail p.bytes.items (change_of tail p) stage)))) c
 rests_or_not node size tail c index p Begun begins ends l untouched = λ image left.
     ap (log_map node) (only_now c.now image (subst (λ d. Left d image) untouched.0 left)) ∙ whole_map node size tail c index (Some p) begins ends l untouched.1
 rests_or_not node size tail c index p Written begins ends l untouched = λ image left. half_map node size tail c index p image begins ends l left
@@ -225,13 +242,13 @@ log_stands node size tail c counts index None placed l = λ image left.
 log_stands node size tail c counts index (Some p) placed l = rests_or_not node size tail c index p p.stage placed.begins placed.ends l l.end.2
 
 pub is_half : (node size tail : ℕ) (c : Contents) (index : BTreeMap Uid (Option Slot)) (q : Option Pending) (p : Pending) → q ≡ Some p → IsLog node size tail c index q →
-    Holds (HalfWritten size (take tail c.now) p.record.items) c
+    Holds (HalfWritten size (take tail c.now) p.bytes.items) c
 is_half node size tail c index q p e l = (subst (IsTailOf node size tail c) e l.end).0
 
-pub same_records : (node size tail : ℕ) (c d : Contents) (p : Pending) → tail ≤ length c.now → HalfWritten size (take tail c.now) p.record.items d.now → records_before node tail d.now ≡ records_before node tail c.now
+pub same_records : (node size tail : ℕ) (c d : Contents) (p : Pending) → tail ≤ length c.now → HalfWritten size (take tail c.now) p.bytes.items d.now → records_before node tail d.now ≡ records_before node tail c.now
 same_records node size tail c d p long h =
     let at : length (take tail c.now) ≡ tail = length-take-le tail c.now long in
-    ap (λ f. records_or_none (records_of node (f ++ 0 ∷ []))) (subst (λ n. take n d.now ≡ take tail c.now) at (half_front size (take tail c.now) p.record.items d.now h))
+    ap (λ f. records_or_none (records_of node (f ++ 0 ∷ []))) (subst (λ n. take n d.now ≡ take tail c.now) at (half_front size (take tail c.now) p.bytes.items d.now h))
 
 -- The gate was found open: the record was written.
 pub found_open : (node size tail : ℕ) (c : Contents) (counts : Counts) (old new : BTreeMap Uid (Option Slot)) (q : Option Pending) (p : Pending) →
@@ -297,33 +314,44 @@ fresh_value index kept tail bytes body uid within i = λ same.
 -- what a crash leaves while a record is written
 pub writing_moments : (node size tail : ℕ) (old new : Told) (counts : Counts) (index : BTreeMap Uid (Option Slot)) (q : Option Pending) (p : Pending) →
     IsPlaced size tail counts index q → IsLog node size tail (contents old) index q → IsPendingOf node tail (kept_from nothing_kept (records_before node tail (contents old).now)) p →
-    EachMoment (HalfWritten size (take tail (contents old).now) p.record.items) old new →
+    EachMoment (HalfWritten size (take tail (contents old).now) p.bytes.items) old new →
     EachMoment (Stands (log_map node) (kept_from nothing_kept (records_before node tail (contents old).now)) (record { uid = p.uid; body = pending_body p; mark = tail } ∷ [])) old new
 writing_moments node size tail old new counts index q p placed l is m =
     let c : Contents = contents old in
     let at : length (take tail c.now) ≡ tail = length-take-le tail c.now (omega (arith, l.whole, placed.ends)) in
-    moments_weaker (HalfWritten size (take tail c.now) p.record.items) _ old new
+    moments_weaker (HalfWritten size (take tail c.now) p.bytes.items) _ old new
     (λ image half. half_stands node size tail (take tail c.now) (records_before node tail c.now) p image at placed.begins
     (get_or-take tail c.now 0 0 (omega (arith, placed.begins)) ∙ l.header) l.front is half) m
+
+-- what a crash leaves while nothing of a record counts
+pub unwritten_moments : (node size tail : ℕ) (old new : Told) (counts : Counts) (index : BTreeMap Uid (Option Slot)) (q : Option Pending) →
+    IsPlaced size tail counts index q → IsLog node size tail (contents old) index q → EachMoment (Unwritten size (take tail (contents old).now)) old new →
+    EachMoment (Stands (log_map node) (kept_from nothing_kept (records_before node tail (contents old).now)) []) old new
+unwritten_moments node size tail old new counts index q placed l m =
+    let c : Contents = contents old in
+    let at : length (take tail c.now) ≡ tail = length-take-le tail c.now (omega (arith, l.whole, placed.ends)) in
+    moments_weaker (Unwritten size (take tail c.now)) _ old new
+    (λ image shut. shut_stands node size tail (take tail c.now) (records_before node tail c.now) image at placed.begins
+    (get_or-take tail c.now 0 0 (omega (arith, placed.begins)) ∙ l.header) l.front shut) m
 
 -- the log once the record was written
 pub written_log : (node size tail : ℕ) (c d : Contents) (rest : List ℕ) (counts : Counts) (old new : BTreeMap Uid (Option Slot)) (q : Option Pending) (p : Pending) →
     IsPlaced size tail counts old q → IsLog node size tail c old q → IsPendingOf node tail (kept_from nothing_kept (records_before node tail c.now)) p →
-    d ≡ at_rest (take tail c.now ++ 225 ∷ (p.record.items ++ rest)) → length d.now ≡ size → SetsSlot old new p.uid (slot_of p.removal tail p.length) →
+    d ≡ at_rest (take tail c.now ++ 225 ∷ (p.bytes.items ++ rest)) → length d.now ≡ size → SetsSlot old new p.uid (slot_of p.removal tail p.length) →
     IsLog node size (tail + p.length + 15) d new None
     × (records_before node (tail + p.length + 15) d.now ≡ records_before node tail c.now ++ record { uid = p.uid; body = pending_body p; mark = tail } ∷ [])
 written_log node size tail c d rest counts old new q p placed l is stands whole sets =
-    let bytes : List ℕ = take tail c.now ++ 225 ∷ (p.record.items ++ rest) in
+    let bytes : List ℕ = take tail c.now ++ 225 ∷ (p.bytes.items ++ rest) in
     let done = grown node size tail c bytes rest old new q p placed.begins placed.ends placed.slots l is (sym (ap (λ (x : Contents). length x.now) stands) ∙ whole) refl sets in
     (subst (λ x. IsLog node size (tail + p.length + 15) x new None) (sym stands) done.0, ap (λ (x : Contents). records_before node (tail + p.length + 15) x.now) stands ∙ done.1)
 
-staged_idle : (c : Change) (stage : Stage) → staged c stage ≡ Idle → ⊥
-staged_idle c Begun e = cc
-staged_idle c Written e = cc
-staged_idle c Synced e = cc
-staged_idle c Opened e = cc
-staged_idle c (Ended synced) e = cc
+staged_idle : (tail : ℕ) (bytes : List ℕ) (c : Change) (stage : Stage) → staged tail bytes c stage ≡ Idle → ⊥
+staged_idle tail bytes c Begun e = cc
+staged_idle tail bytes c Written e = cc
+staged_idle tail bytes c Synced e = cc
+staged_idle tail bytes c Opened e = cc
+staged_idle tail bytes c (Ended synced) e = cc
 
 pub none_pending : (tail : ℕ) (q : Option Pending) → pending_work tail q ≡ Idle → q ≡ None
 none_pending tail None e = refl
-none_pending tail (Some p) e = absurd (staged_idle (change_of tail p) p.stage e)
+none_pending tail (Some p) e = absurd (staged_idle tail p.bytes.items (change_of tail p) p.stage e)

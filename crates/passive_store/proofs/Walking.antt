@@ -12,6 +12,8 @@ use Rattle.capability.specs.declared.Uid.{Uid}
 use Rattle.capability.specs.Uids.{uid_cmp}
 use Rattle.eden_disk.specs.Told.{Told, contents}
 use Rattle.eden_disk.specs.Calls.{Counts, Due, DeviceCalls, Obeyed, Fine}
+use Rattle.eden_disk.specs.Timed.{Timed, timed_join}
+use Rattle.passive_store.specs.Joining.{timed_still}
 use Rattle.passive_store.specs.declared.index.Slot.{Slot}
 use Rattle.passive_store.specs.declared.records.Header.{Header}
 use Rattle.passive_store.specs.Kept.{Change, nothing_kept, kept_after}
@@ -152,3 +154,9 @@ pub record Walking (tells obeys : Bool) (node size tail : ℕ) (start here : Tol
   pub same : IsTrue tells → here ≡ start
   pub walk : IsTrue tells → IsWalk node size tail (contents start).now index
   pub number : IsTrue tells → made ≡ length (records_before node tail (contents start).now)
+
+-- one more read, however it ended
+pub walk_timed : (tells obeys : Bool) (node size tail : ℕ) (start here next : Told) (before between : Counts) (after : ℕ) (due_then due_now : Due) (index : BTreeMap Uid (Option Slot)) → IsTrue tells →
+    Walking tells obeys node size tail start here before between due_then due_now index → Timed between.clock here after next → Timed before.clock start after next
+walk_timed tells obeys node size tail start here next before between after due_then due_now index so w timed =
+    timed_join before.clock between.clock after start here next (timed_still before.clock between.clock start here (omega (arith, w.counts.clock)) (w.same so)) timed

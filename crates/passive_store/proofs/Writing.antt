@@ -1,27 +1,27 @@
 -- The device calls that write a record, one after another.
-use Rattle.std.proofs.Common.{◌≡◌, ℕ, ◌+◌, ◌≤◌, false, List, [], ◌∷◌, ◌++◌, length, drop, refl, sym, ap, subst, ◌∙◌, inl, arith, append_assoc, length-append}
+use Rattle.std.proofs.Common.{◌≡◌, ℕ, ◌+◌, ◌≤◌, false, List, [], ◌∷◌, ◌++◌, length, drop, refl, sym, ap, subst, ◌∙◌, arith, append_assoc, length-append}
 use Rattle.std.specs.Prelude.{◌==◌}
 use Rattle.eden_disk.specs.Told.{Contents, Told, at_rest, after_act, contents, noted, Wrote, Synced, overlay}
 use Rattle.eden_disk.specs.Calls.{End, WriteTold, SyncTold}
 use Rattle.eden_disk.specs.Held.{Holds, Passes, holds_at_rest, passes_write, passes_sync, passes_join}
-use Rattle.passive_store.specs.Log.{HalfWritten}
+use Rattle.passive_store.specs.Log.{HalfWritten, Unwritten}
 use Rattle.passive_store.proofs.Images.{overlay_behind, written_behind, gate_written}
 
 -- before the record is written
-pub closed_at_rest : (size gate : ℕ) (front rest bytes : List ℕ) → (gate == 225) ≡ false → length (front ++ gate ∷ rest) ≡ size → Holds (HalfWritten size front bytes) (at_rest (front ++ gate ∷ rest))
-closed_at_rest size gate front rest bytes shut whole = holds_at_rest (HalfWritten size front bytes) (front ++ gate ∷ rest) (whole, inl (gate, rest, shut, refl))
+pub closed_at_rest : (size gate : ℕ) (front rest : List ℕ) → (gate == 225) ≡ false → length (front ++ gate ∷ rest) ≡ size → Holds (Unwritten size front) (at_rest (front ++ gate ∷ rest))
+closed_at_rest size gate front rest shut whole = holds_at_rest (Unwritten size front) (front ++ gate ∷ rest) (whole, (gate, rest, shut, refl))
 
 -- the record is written behind its closed gate
 pub passes_record : (size clock at gate : ℕ) (front rest bytes : List ℕ) (old new : Told) (end : End) →
     (gate == 225) ≡ false → at ≡ length front + 1 → contents old ≡ at_rest (front ++ gate ∷ rest) → length (front ++ gate ∷ rest) ≡ size → length bytes ≤ length rest →
-    WriteTold clock at bytes old new end → Passes (HalfWritten size front bytes) old new
+    WriteTold clock at bytes old new end → Passes (Unwritten size front) old new
 passes_record size clock at gate front rest bytes old new end shut place is whole fits told =
-    let P : List ℕ → Type 0 = HalfWritten size front bytes in
+    let P : List ℕ → Type 0 = Unwritten size front in
     passes_write P clock at bytes old new end
-    (subst (Holds P) (sym is) (closed_at_rest size gate front rest bytes shut whole))
+    (subst (Holds P) (sym is) (closed_at_rest size gate front rest shut whole))
     (λ left same. subst (λ c. Holds P (after_act (Wrote clock at left) c)) (sym is)
     (subst (λ a. Holds P (after_act (Wrote clock a left) (at_rest (front ++ gate ∷ rest)))) (sym place)
-    (written_behind size clock gate front rest left bytes shut whole (omega (arith, same, fits)))))
+    (written_behind size clock gate front rest left shut whole (omega (arith, same, fits)))))
     told
 
 -- what is there once it is written and synced

@@ -1,5 +1,5 @@
 -- A whole change, made of a settling, a beginning and the calls of its job.
-use Rattle.std.proofs.Common.{◌≡◌, ◌⊎◌, ℕ, Bool, true, false, IsTrue, List, [], ◌∷◌, ◌++◌, refl, sym, ap, ◌∙◌, inl, inr, arith}
+use Rattle.std.proofs.Common.{◌≡◌, ◌⊎◌, ℕ, Bool, true, false, IsTrue, List, [], ◌∷◌, ◌++◌, refl, sym, ap, subst, ◌∙◌, inl, inr, arith}
 use Rattle.std.specs.Prelude.{Option, None, Some, Result, Ok, Err, is_some, IfSome, IfErr}
 use Rattle.std.proofs.lemmas.Bool.{false≢true}
 use Rattle.eden_disk.specs.Told.{Told, EachMoment}
@@ -9,8 +9,23 @@ use Rattle.passive_store.specs.declared.store.StoreRefusal.{StoreRefusal}
 use Rattle.passive_store.specs.declared.store.StoreRefusal.TheVariants.{Failed, Stopped, Full, Damaged, OutOfMemory}
 use Rattle.passive_store.specs.declared.store.Pick.{Pick}
 use Rattle.passive_store.specs.declared.store.Pick.TheVariants.{Old, New}
-use Rattle.passive_store.specs.Joining.{ran_join}
-use Rattle.passive_store.specs.Kept.{Layout, Work, Idle, Busy, Unsettled, Shown, Change, Kept, Stands, Ran, IsDiskRefusal, IsAnyOf, IsFresh, changes_in, doubt_in, is_busy, is_unsettled, settling_calls, settling_before, settled, work_settled, work_changed, work_finished, shown_finished, shown_changed, kept_after, made_in, SettlesFirst, SettlesAfterMemory, IsFullBy}
+use Rattle.passive_store.specs.Joining.{ran_join, refused_told_more}
+use Rattle.passive_store.specs.Kept.{Layout, Work, Idle, Busy, Unsettled, Shown, Change, Kept, Stands, Ran, IsDiskRefusal, IsAnyOf, IsFresh, changes_in, doubt_in, is_busy, is_unsettled, settling_calls, settling_before, settled, work_settled, work_changed, work_finished, shown_finished, shown_changed, kept_after, made_in, SettlesFirst, SettlesAfterMemory, IsFullBy, changes_refused, changes_begun, calls_due, settling_due, settling_of, work_unchanged, end_of_store}
+use Rattle.passive_store.specs.Acts.{DiskCall, CallsTold}
+
+-- whose changes a crash may show, where the settling of a change was refused, and where its job was begun
+pub refused_changes : (pick : Option Pick) (w : Work) (c : Change) (e : StoreRefusal) → IsDiskRefusal e → is_some pick ≡ false → is_unsettled w ≡ true → changes_in (doubt_in w) ≡ changes_begun {T = Unit {0}} pick c w (Err e)
+refused_changes (Some pick) w c e only p u = absurd (false≢true (sym p))
+refused_changes None Idle c e only p u = absurd (false≢true u)
+refused_changes None (Busy d made left) c e only p u = absurd (false≢true u)
+refused_changes None (Unsettled d synced) c e (inl f) p u = ap (λ x. changes_begun {T = Unit {0}} None c (Unsettled d synced) (Err x)) (sym f)
+refused_changes None (Unsettled d synced) c e (inr f) p u = ap (λ x. changes_begun {T = Unit {0}} None c (Unsettled d synced) (Err x)) (sym f)
+
+changes_stopped : (pick : Option Pick) (w : Work) (c : Change) → is_some pick ≡ is_unsettled w → changes_in (doubt_in w) ++ c ∷ [] ≡ changes_refused pick c w
+changes_stopped (Some pick) w c p = refl
+changes_stopped None Idle c p = refl
+changes_stopped None (Busy d made left) c p = refl
+changes_stopped None (Unsettled d synced) c p = absurd (false≢true p)
 
 pub any_more : (kept : Kept) (cs : List Change) (c : Change) (found : Result Kept ℕ) → IsAnyOf kept cs found → IsAnyOf kept (cs ++ c ∷ []) found
 any_more kept [] c found is = inl is
@@ -45,7 +60,52 @@ MatchDisk (Err Full) = ⊥
 MatchDisk (Err (Damaged place)) = ⊥
 MatchDisk (Err OutOfMemory) = ⊥
 
-pub work_then : (pick : Option Pick) (w v : Work) (c : Change) (left : ℕ) (r : Result (Unit {0}) StoreRefusal) → is_busy w ≡ false → is_some pick ≡ is_unsettled w → MatchDisk r → v ≡ work_finished (Busy c 0 left) r → v ≡ work_changed pick c w r
+match_refusal : (e : StoreRefusal) → IsDiskRefusal e → MatchDisk (Err e)
+match_refusal Failed only = tt
+match_refusal Stopped only = tt
+match_refusal Full (inl e) = absurd cc
+match_refusal Full (inr e) = absurd cc
+match_refusal (Damaged place) (inl e) = absurd cc
+match_refusal (Damaged place) (inr e) = absurd cc
+match_refusal OutOfMemory (inl e) = absurd cc
+match_refusal OutOfMemory (inr e) = absurd cc
+
+-- the device calls of a change whose job was begun, in their order, and of one whose settling was refused
+pub begun_order : (w : Work) (calls : List DiskCall) (r : Result (Unit {0}) StoreRefusal) (old new : Told) → MatchDisk r → CallsTold (settling_of w ++ calls) old new (end_of_store r) → CallsTold (calls_due w calls r) old new (end_of_store r)
+begun_order w calls (Ok done) old new only told = told
+begun_order w calls (Err Failed) old new only told = told
+begun_order w calls (Err Stopped) old new only told = told
+begun_order w calls (Err Full) old new only told = absurd only
+begun_order w calls (Err (Damaged place)) old new only told = absurd only
+begun_order w calls (Err OutOfMemory) old new only told = absurd only
+
+pub refused_order : (w : Work) (calls : List DiskCall) (e : StoreRefusal) (old new : Told) → IsDiskRefusal e → CallsTold (settling_of w) old new (end_of_store {T = Unit {0}} (Err e)) → CallsTold (calls_due {T = Unit {0}} w calls (Err e)) old new (end_of_store {T = Unit {0}} (Err e))
+refused_order w calls e old new only told = begun_order w calls (Err e) old new (match_refusal e only) (refused_told_more (Unit {0}) (Unit {0}) (settling_of w) calls old new e only told)
+
+pub unchanged_work : (pick : Option Pick) (w v : Work) (e : StoreRefusal) → IsDiskRefusal e → v ≡ work_settled pick w → v ≡ work_unchanged {T = Unit {0}} pick w (Err e)
+unchanged_work pick w v e (inl f) is = is ∙ ap (λ x. work_unchanged {T = Unit {0}} pick w (Err x)) (sym f)
+unchanged_work pick w v e (inr f) is = is ∙ ap (λ x. work_unchanged {T = Unit {0}} pick w (Err x)) (sym f)
+
+pub settling_order : (w : Work) (e : StoreRefusal) (old new : Told) → IsDiskRefusal e → CallsTold (settling_of w) old new (end_of_store {T = Unit {0}} (Err e)) → CallsTold (settling_due {T = Unit {0}} w (Err e)) old new (end_of_store {T = Unit {0}} (Err e))
+settling_order w Failed old new only told = told
+settling_order w Stopped old new only told = told
+settling_order w Full old new only told = told
+settling_order w (Damaged place) old new (inl e) told = absurd cc
+settling_order w (Damaged place) old new (inr e) told = absurd cc
+settling_order w OutOfMemory old new (inl e) told = absurd cc
+settling_order w OutOfMemory old new (inr e) told = absurd cc
+
+-- the same moments of a change whose job was begun
+pub begun_moments : (map_of : List ℕ → Result Kept ℕ) (kept : Kept) (pick : Option Pick) (w : Work) (c : Change) (r : Result (Unit {0}) StoreRefusal) (old new : Told) → MatchDisk r → is_some pick ≡ is_unsettled w →
+    EachMoment (Stands map_of kept (changes_in (doubt_in w) ++ c ∷ [])) old new → EachMoment (Stands map_of kept (changes_begun pick c w r)) old new
+begun_moments map_of kept pick w c (Ok done) old new only p each = each
+begun_moments map_of kept pick w c (Err Failed) old new only p each = subst (λ cs. EachMoment (Stands map_of kept cs) old new) (changes_stopped pick w c p) each
+begun_moments map_of kept pick w c (Err Stopped) old new only p each = subst (λ cs. EachMoment (Stands map_of kept cs) old new) (changes_stopped pick w c p) each
+begun_moments map_of kept pick w c (Err Full) old new only p each = absurd only
+begun_moments map_of kept pick w c (Err (Damaged place)) old new only p each = absurd only
+begun_moments map_of kept pick w c (Err OutOfMemory) old new only p each = absurd only
+
+pub work_then : (pick : Option Pick) (w v : Work) (c : Change) (left : List DiskCall) (r : Result (Unit {0}) StoreRefusal) → is_busy w ≡ false → is_some pick ≡ is_unsettled w → MatchDisk r → v ≡ work_finished (Busy c 0 left) r → v ≡ work_changed pick c w r
 work_then pick w v c left (Ok done) idle p only e = e
 work_then None Idle v c left (Err Failed) idle p only e = e
 work_then (Some pick) Idle v c left (Err Failed) idle p only e = e
@@ -63,7 +123,7 @@ work_then pick w v c left (Err Full) idle p only e = absurd only
 work_then pick w v c left (Err (Damaged place)) idle p only e = absurd only
 work_then pick w v c left (Err OutOfMemory) idle p only e = absurd only
 
-pub shown_then : (layout : Layout) (pick : Option Pick) (w : Work) (s t mid : Shown) (c : Change) (left : ℕ) (r : Result (Unit {0}) StoreRefusal) → mid ≡ settled layout pick w s → t ≡ shown_finished layout (Busy c 0 left) mid r → t ≡ shown_changed layout pick c w s r
+pub shown_then : (layout : Layout) (pick : Option Pick) (w : Work) (s t mid : Shown) (c : Change) (left : List DiskCall) (r : Result (Unit {0}) StoreRefusal) → mid ≡ settled layout pick w s → t ≡ shown_finished layout (Busy c 0 left) mid r → t ≡ shown_changed layout pick c w s r
 shown_then layout pick w s t mid c left (Ok done) m e = e ∙ ap (made_in layout c) m
 shown_then layout pick w s t mid c left (Err x) m e = e ∙ m
 

@@ -1,5 +1,5 @@
 -- What a store shows: a finite map from uids to bytes, and at most one change that is under way or in doubt.
-use Rattle.std.specs.Prelude.{◌≡◌, ◌≢◌, ◌⊎◌, ℕ, suc, zero, ◌+◌, ◌-◌, ◌*◌, ◌≤◌, Bool, true, false, IsTrue, is_some, List, [], ◌∷◌, ◌++◌, Option, None, Some, Result, Ok, Err}
+use Rattle.std.specs.Prelude.{◌≡◌, ◌≢◌, ◌⊎◌, ℕ, suc, zero, ◌+◌, ◌*◌, ◌≤◌, Bool, true, false, IsTrue, is_some, List, [], ◌∷◌, ◌++◌, length, replicate, drop, Option, None, Some, Result, Ok, Err}
 use Rattle.std.specs.FinMap as map
 use Rattle.std.specs.FinMap.{FinMap}
 use Rattle.capability.specs.declared.Uid.{Uid}
@@ -15,6 +15,7 @@ use Rattle.eden_disk.specs.declared.disk.DiskRefusal.{DiskRefusal}
 use Rattle.eden_disk.specs.declared.disk.DiskRefusal.TheVariants.{Failed as DiskFailed, Stopped as DiskStopped}
 use Rattle.eden_disk.specs.Told.{Told, contents, EachMoment, LeavesOnly}
 use Rattle.eden_disk.specs.Calls.{End, Fine, AtFault, AtStop, Counts, DeviceCalls}
+use Rattle.passive_store.specs.Acts.{DiskCall, Sync, Read, CallTold, AllTold, SomeTold, CallsTold}
 
 -- new bytes of a uid, or its removal, and the number of the record that says so
 pub record Change : Type 0 where
@@ -54,8 +55,8 @@ pub record Shown : Type 0 where
 -- the change that a store works on, or that is in doubt
 pub data Work : Type 0 where
   Idle : Work
-  -- a job goes on: the device calls that it made, and those that it has left
-  Busy : Change → ℕ → ℕ → Work
+  -- a job goes on: how many device calls it made, and those that it has left, in their order
+  Busy : Change → ℕ → List DiskCall → Work
   -- a job was refused its last call: the change is made or not, and whether the sync of the settling is done
   Unsettled : Change → Bool → Work
 
@@ -100,10 +101,21 @@ is_synced (Unsettled c synced) = synced
 
 abbrev pub calls_left : Work → ℕ
 calls_left Idle = 0
-calls_left (Busy c made left) = left
+calls_left (Busy c made left) = length left
 calls_left (Unsettled c synced) = 0
 
--- the device calls of a whole settling
+-- the device calls that a job has left, in their order
+abbrev pub job_left : Work → List DiskCall
+job_left Idle = []
+job_left (Busy c made left) = left
+job_left (Unsettled c synced) = []
+
+-- the device calls of a whole settling, in their order, and their number
+abbrev pub settling_of : Work → List DiskCall
+settling_of Idle = []
+settling_of (Busy c made left) = []
+settling_of (Unsettled c synced) = Sync ∷ Read ∷ []
+
 abbrev pub settling_calls : Work → ℕ
 settling_calls Idle = 0
 settling_calls (Busy c made left) = 0
@@ -115,19 +127,24 @@ pub record Layout : Type 0 where
   pub allows : ℕ → Bool
   -- by a node: what an image keeps, or its first damaged place
   pub map_of : ℕ → List ℕ → Result Kept ℕ
-  -- the lengths of the records that are found in an image, and after one more change
+  -- whether an image, which was written by another layout, keeps too much to be brought over, so that it is not opened
+  pub is_overfull : ℕ → List ℕ → Bool
+  -- the lengths of the records that are found in an image, and after a put of this body or a removal
   pub written_in : ℕ → List ℕ → List ℕ
-  pub written_after : Change → List ℕ → List ℕ
-  -- the longest body that finds room on a disk of this size, or none
-  pub room_of : ℕ → Shown → Option ℕ
+  pub written_after : Option (List ℕ) → List ℕ → List ℕ
+  -- the longest body that finds room, or none: by the size of the disk, what is kept and the lengths written
+  pub room_of : ℕ → FinMap uid_cmp (List ℕ) → List ℕ → Option ℕ
   -- whether this change finds room, where that is the room
   pub has_room : Option ℕ → Uid → Option (List ℕ) → Bool
   -- whether the room of an image is told
-  pub is_fit : ℕ → List ℕ → Bool
-  -- whether the job of a put of this body, or of a removal, may have so many device calls
+  pub tells_room : ℕ → List ℕ → Bool
+  -- the device calls of the job of a put of this body, or of a removal, on this image, in their order
+  pub job_calls : ℕ → List ℕ → Uid → Option (List ℕ) → List DiskCall
+  -- whether the job of a put of this body, or of a removal, may have so many of them
   pub is_job : Option (List ℕ) → ℕ → Bool
-  -- the device calls that open an image, and those that read what is kept
-  pub opening_calls : ℕ → List ℕ → ℕ
+  -- the device calls that open an image, or find that it cannot be opened, in their order
+  pub opening_calls : ℕ → List ℕ → List DiskCall
+  -- how many device calls read what is kept under a uid
   pub reading_calls : Option (List ℕ) → ℕ
 
 -- What is found in an image is what is kept with any of these changes made, in their order.
@@ -158,11 +175,11 @@ StandsThrough layout node s changes old new = EachMoment (Stands (layout.map_of 
 
 -- whether a change finds room on a disk of this size
 abbrev pub finds_room : Layout → ℕ → Shown → Uid → Option (List ℕ) → Bool
-finds_room layout size s uid body = layout.has_room (layout.room_of size s) uid body
+finds_room layout size s uid body = layout.has_room (layout.room_of size s.kept.bodies s.written) uid body
 
 -- what is kept once a change is made
 abbrev pub made_in : Layout → Change → Shown → Shown
-made_in layout c s = record { kept = kept_after c s.kept; written = layout.written_after c s.written }
+made_in layout c s = record { kept = kept_after c s.kept; written = layout.written_after c.body s.written }
 
 -- what is kept once the doubt is settled by what was found
 abbrev pub settled : Layout → Option Pick → Work → Shown → Shown
@@ -195,7 +212,7 @@ work_stepped (Unsettled c synced) (Err e) = Unsettled c false
 -- after one call of a job
 abbrev pub work_advanced : Work → Result Progress StoreRefusal → Work
 work_advanced Idle r = Idle
-work_advanced (Busy c made left) (Ok Going) = Busy c (made + 1) (left - 1)
+work_advanced (Busy c made left) (Ok Going) = Busy c (made + 1) (drop 1 left)
 work_advanced (Busy c made left) (Ok Done) = Idle
 work_advanced (Busy c made left) (Err e) = Unsettled c false
 work_advanced (Unsettled c synced) r = Unsettled c synced
@@ -206,6 +223,19 @@ shown_advanced layout (Busy c made left) s (Ok Going) = s
 shown_advanced layout (Busy c made left) s (Ok Done) = made_in layout c s
 shown_advanced layout (Busy c made left) s (Err e) = s
 shown_advanced layout (Unsettled c synced) s r = s
+
+-- a job that was begun has all the device calls of its layout before it, by what its disk held then
+abbrev pub HasJob : Layout → ℕ → List ℕ → Work → Type 0
+HasJob layout node image Idle = Unit {0}
+HasJob layout node image (Busy c made left) = left ≡ layout.job_calls node image c.uid c.body
+HasJob layout node image (Unsettled c synced) = Unit {0}
+
+-- a telling disk has noted the first of the device calls that a job had left, and nothing else
+abbrev pub NextTold : Work → ℕ → Told → Told → End → Type 0
+NextTold Idle clock old new end = Unit {0}
+NextTold (Busy c made []) clock old new end = Unit {0}
+NextTold (Busy c made (call ∷ left)) clock old new end = CallTold call clock old new end
+NextTold (Unsettled c synced) clock old new end = Unit {0}
 
 -- a call that is the last answers Done
 abbrev pub progress_at : Bool → Progress
@@ -249,11 +279,12 @@ pub record Ran {T : Type 0} (settling calls : ℕ) (result : Result T StoreRefus
   pub number : CallsMade settling calls result made
   pub counts : DeviceCalls made before after (end_of_store result)
 
--- the most device calls of a job, by the size of the disk
+-- The number of device calls of a job: at most so many, by the size of the disk; and more than one, since a crash in the
+-- first leaves the change not made.
 abbrev pub IsJobOf : ℕ → ℕ → Type 0
-IsJobOf size calls = (1 ≤ calls) × ((kib : ℕ) × (kib * 1024 ≤ size) × (calls ≤ 2 * kib + 4))
+IsJobOf size calls = (2 ≤ calls) × ((kib : ℕ) × (kib * 1024 ≤ size) × (calls ≤ 2 * kib + 4))
 
-abbrev pub work_begun : {T : Type 0} → Change → ℕ → Work → Result T StoreRefusal → Work
+abbrev pub work_begun : {T : Type 0} → Change → List DiskCall → Work → Result T StoreRefusal → Work
 work_begun c calls old (Ok done) = Busy c 0 calls
 work_begun c calls old (Err e) = old
 
@@ -262,9 +293,9 @@ pub record Begins {T : Type 0} (layout : Layout) (uid : Uid) (body : Option (Lis
   -- the number of its record
   pub mark : ℕ
   -- its device calls
-  pub calls : ℕ
-  pub bounded : IsJobOf size calls
-  pub job : IsTrue (layout.is_job body calls)
+  pub calls : List DiskCall
+  pub bounded : IsJobOf size (length calls)
+  pub job : IsTrue (layout.is_job body (length calls))
   pub work : new ≡ work_begun (record { uid = uid; body = body; mark = mark }) calls old result
 
 -- Where a device refused a call: a change whose settling failed has not begun; any other is in doubt.
@@ -324,18 +355,62 @@ settling_before work (Err Full) = settling_calls work
 settling_before work (Err (Damaged place)) = 0
 settling_before work (Err OutOfMemory) = 0
 
+-- the device calls of a whole put or removal in their order: the settling, and the job, which one without room does not begin
+abbrev pub calls_due : {T : Type 0} → Work → List DiskCall → Result T StoreRefusal → List DiskCall
+calls_due work calls (Ok done) = settling_of work ++ calls
+calls_due work calls (Err Failed) = settling_of work ++ calls
+calls_due work calls (Err Stopped) = settling_of work ++ calls
+calls_due work calls (Err Full) = settling_of work
+calls_due work calls (Err (Damaged place)) = []
+calls_due work calls (Err OutOfMemory) = []
+
+abbrev pub settling_due : {T : Type 0} → Work → Result T StoreRefusal → List DiskCall
+settling_due work (Ok done) = settling_of work
+settling_due work (Err Failed) = settling_of work
+settling_due work (Err Stopped) = settling_of work
+settling_due work (Err Full) = settling_of work
+settling_due work (Err (Damaged place)) = []
+settling_due work (Err OutOfMemory) = []
+
+-- the same of a get: the settling, and so many reads, which one that wants memory does not begin
+abbrev pub reads_due : {T : Type 0} → Work → ℕ → Result T StoreRefusal → List DiskCall
+reads_due work reads (Ok done) = settling_of work ++ replicate reads Read
+reads_due work reads (Err Failed) = settling_of work ++ replicate reads Read
+reads_due work reads (Err Stopped) = settling_of work ++ replicate reads Read
+reads_due work reads (Err Full) = settling_of work
+reads_due work reads (Err (Damaged place)) = settling_of work
+reads_due work reads (Err OutOfMemory) = settling_of work
+
+-- The changes that a crash at some moment of a whole put or removal may show: what was in doubt, and the new change where
+-- its job was begun.
+abbrev pub changes_refused : Option Pick → Change → Work → List Change
+changes_refused (Some pick) c old = changes_in (doubt_in old) ++ c ∷ []
+changes_refused None c Idle = c ∷ []
+changes_refused None c (Busy d made left) = changes_in (doubt_in (Busy d made left)) ++ c ∷ []
+changes_refused None c (Unsettled d synced) = d ∷ []
+
+abbrev pub changes_begun : {T : Type 0} → Option Pick → Change → Work → Result T StoreRefusal → List Change
+changes_begun pick c old (Ok done) = changes_in (doubt_in old) ++ c ∷ []
+changes_begun pick c old (Err Failed) = changes_refused pick c old
+changes_begun pick c old (Err Stopped) = changes_refused pick c old
+changes_begun pick c old (Err Full) = changes_in (doubt_in old)
+changes_begun pick c old (Err (Damaged place)) = changes_in (doubt_in old)
+changes_begun pick c old (Err OutOfMemory) = changes_in (doubt_in old)
+
 -- A whole put or removal: its device calls, what is kept and in doubt after it, and what a crash at any moment of it
 -- leaves.
 pub record Changes {T : Type 0} (tells : Bool) (layout : Layout) (node : ℕ) (uid : Uid) (body : Option (List ℕ)) (pick : Option Pick) (result : Result T StoreRefusal)
     (old new : Work) (before after : Counts) (kept_before kept_behind : Shown) (told_before told_behind : Told) : Type 0 where
   pub mark : ℕ
-  pub calls : ℕ
-  pub bounded : IsJobOf before.size calls
-  pub job : IsTrue (layout.is_job body calls)
-  pub ran : Ran (settling_before old result) calls result before after
+  pub calls : List DiskCall
+  pub bounded : IsJobOf before.size (length calls)
+  pub job : IsTrue (layout.is_job body (length calls))
+  pub ran : Ran (settling_before old result) (length calls) result before after
+  pub by_layout : IsTrue tells → calls ≡ layout.job_calls node (contents told_before).now uid body
+  pub order : IsTrue tells → CallsTold (calls_due old calls result) told_before told_behind (end_of_store result)
   pub work : new ≡ work_changed pick (record { uid = uid; body = body; mark = mark }) old result
   pub shown : IsTrue tells → kept_behind ≡ shown_changed layout pick (record { uid = uid; body = body; mark = mark }) old kept_before result
-  pub moments : IsTrue tells → EachMoment (Stands (layout.map_of node) kept_before.kept (changes_in (doubt_in old) ++ record { uid = uid; body = body; mark = mark } ∷ [])) told_before told_behind
+  pub moments : IsTrue tells → EachMoment (Stands (layout.map_of node) kept_before.kept (changes_begun pick (record { uid = uid; body = body; mark = mark }) old result)) told_before told_behind
 
 abbrev pub work_unchanged : {T : Type 0} → Option Pick → Work → Result T StoreRefusal → Work
 work_unchanged pick old (Ok done) = work_settled pick old
@@ -349,6 +424,7 @@ work_unchanged pick old (Err OutOfMemory) = old
 pub record Settles {T : Type 0} (tells : Bool) (layout : Layout) (node : ℕ) (pick : Option Pick) (result : Result T StoreRefusal)
     (old new : Work) (before after : Counts) (kept_before kept_behind : Shown) (told_before told_behind : Told) : Type 0 where
   pub ran : Ran (settling_before old result) 0 result before after
+  pub order : IsTrue tells → CallsTold (settling_due old result) told_before told_behind (end_of_store result)
   pub work : new ≡ work_unchanged pick old result
   pub shown : IsTrue tells → kept_behind ≡ settled layout pick old kept_before
   pub moments : IsTrue tells → EachMoment (Stands (layout.map_of node) kept_before.kept (changes_in (doubt_in old))) told_before told_behind
@@ -380,6 +456,37 @@ disk_after device (Err refusal) = refusal.0
 abbrev pub without_disk : {S D : Type 0} → Result S (D × StoreRefusal) → Result S StoreRefusal
 without_disk (Ok store) = Ok store
 without_disk (Err refusal) = Err refusal.1
+
+-- The device calls of an opening: all that its image takes, unless the disk or want of memory ended it before.
+abbrev pub OpeningMade : {S : Type 0} → ℕ → Result S StoreRefusal → ℕ → Type 0
+OpeningMade calls (Ok store) made = made ≡ calls
+OpeningMade calls (Err Failed) made = 1 ≤ made
+OpeningMade calls (Err Stopped) made = 1 ≤ made
+OpeningMade calls (Err Full) made = made ≡ calls
+OpeningMade calls (Err (Damaged place)) made = made ≡ calls
+OpeningMade calls (Err OutOfMemory) made = Unit {0}
+
+-- what a telling disk notes of them
+abbrev pub OpeningTold : {S : Type 0} → List DiskCall → Told → Told → Result S StoreRefusal → Type 0
+OpeningTold calls old new (Ok store) = AllTold calls old new
+OpeningTold calls old new (Err Failed) = SomeTold calls old new AtFault
+OpeningTold calls old new (Err Stopped) = SomeTold calls old new AtStop
+OpeningTold calls old new (Err Full) = AllTold calls old new
+OpeningTold calls old new (Err (Damaged place)) = AllTold calls old new
+OpeningTold calls old new (Err OutOfMemory) = (done : List DiskCall) × (rest : List DiskCall) × (calls ≡ done ++ rest) × AllTold done old new
+
+-- an opening is refused as Full where its image is overfull, and no such image is opened
+abbrev pub IsOverfullBy : {S : Type 0} → Bool → Result S StoreRefusal → Type 0
+IsOverfullBy overfull (Ok store) = overfull ≡ false
+IsOverfullBy overfull (Err Failed) = Unit {0}
+IsOverfullBy overfull (Err Stopped) = Unit {0}
+IsOverfullBy overfull (Err Full) = overfull ≡ true
+IsOverfullBy overfull (Err (Damaged place)) = overfull ≡ false
+IsOverfullBy overfull (Err OutOfMemory) = Unit {0}
+
+-- a layout that opens every image that has a map
+abbrev pub NeverOverfull : Layout → Type 0
+NeverOverfull layout = (node : ℕ) (image : List ℕ) → layout.is_overfull node image ≡ false
 
 -- in the order of uids
 abbrev pub IsBehind : Option Uid → Uid → Type 0

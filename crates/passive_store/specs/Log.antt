@@ -77,9 +77,17 @@ pub record Spells (node : ℕ) (bytes : List ℕ) (uid : Uid) (body : Option (Li
   pub size : (gate : ℕ) (rest : List ℕ) → 14 + length_of (bytes ++ gate ∷ rest) ≡ length bytes
   pub reads : (place gate : ℕ) (rest : List ℕ) → record_of place (bytes ++ gate ∷ rest) ≡ record { uid = uid; body = body; mark = place }
 
+-- the gate behind a front is closed
+abbrev pub IsShutBehind : List ℕ → List ℕ → Type 0
+IsShutBehind front image = (gate : ℕ) × (rest : List ℕ) × ((gate == 225) ≡ false) × (image ≡ front ++ gate ∷ rest)
+
+-- an image in which a record that is being written does not count, whatever stands behind its gate
+abbrev pub Unwritten : ℕ → List ℕ → List ℕ → Type 0
+Unwritten size front image = (length image ≡ size) × IsShutBehind front image
+
 -- An image in which a record is being written behind a front: its gate is closed, or it stands there whole, with what
 -- follows it.
 abbrev pub HalfWritten : ℕ → List ℕ → List ℕ → List ℕ → Type 0
 HalfWritten size front bytes image = (length image ≡ size)
-    × (((gate : ℕ) × (rest : List ℕ) × ((gate == 225) ≡ false) × (image ≡ front ++ gate ∷ rest))
+    × (IsShutBehind front image
     ⊎ ((rest : List ℕ) × (image ≡ front ++ 225 ∷ (bytes ++ rest))))

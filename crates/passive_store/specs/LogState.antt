@@ -1,5 +1,5 @@
 -- A store over a log: what is seen of it, and how its index stands to the bytes of the disk.
-use Rattle.std.specs.Prelude.{◌≡◌, ℕ, suc, zero, ◌+◌, ◌≤◌, ◌==◌, Bool, true, false, nat_le, ◌-◌, List, [], ◌∷◌, ◌++◌, length, take, map, slice_index, slice_range, Option, None, Some, IfSome, Result, Ok, Err, if◌then◌else◌, IsSome}
+use Rattle.std.specs.Prelude.{◌≡◌, ℕ, suc, zero, ◌+◌, ◌≤◌, ◌==◌, Bool, true, false, nat_le, nat_lt, ◌-◌, List, [], ◌∷◌, ◌++◌, length, replicate, take, map, slice_index, slice_range, Option, None, Some, IfSome, Result, Ok, Err, if◌then◌else◌, IsSome}
 use Rattle.std.proofs.Common.{cond}
 use Rattle.std.specs.Option.{option_map, option_and_then}
 use Rattle.std.specs.Int.{w32, to_be_bytes}
@@ -19,6 +19,7 @@ use Rattle.passive_store.specs.declared.log_store.Pending.{Pending}
 use Rattle.passive_store.specs.declared.log_store.Stage.{Stage}
 use Rattle.passive_store.specs.declared.log_store.Stage.TheVariants.{Begun, Written, Synced, Opened, Ended}
 use Rattle.passive_store.specs.Kept.{Change, Kept, Shown, Work, Idle, Busy, Unsettled, Layout, nothing_kept, IsFresh}
+use Rattle.passive_store.specs.Acts.{DiskCall, Write, Sync, Read}
 use Rattle.passive_store.specs.Log.{records_of, kept_from, IsFront, Spells, HalfWritten, log_map}
 
 -- what is seen of a store over a log
@@ -39,11 +40,15 @@ records_or_none (Err place) = []
 abbrev pub records_before : ℕ → ℕ → List ℕ → List Change
 records_before node tail bytes = records_or_none (records_of node (take tail bytes ++ 0 ∷ []))
 
-abbrev pub body_length : Change → ℕ
-body_length c = elim c.body [ None ↦ 0 | Some body ↦ length body ]
+abbrev pub body_size : Option (List ℕ) → ℕ
+body_size None = 0
+body_size (Some body) = length body
 
-abbrev pub log_written : Change → List ℕ → List ℕ
-log_written c written = written ++ body_length c ∷ []
+abbrev pub body_length : Change → ℕ
+body_length c = body_size c.body
+
+abbrev pub log_written : Option (List ℕ) → List ℕ → List ℕ
+log_written body written = written ++ body_size body ∷ []
 
 -- the bytes of a log that its records take
 abbrev pub used_by : List ℕ → ℕ
@@ -58,12 +63,11 @@ abbrev pub state_shown : {D : Type 0} → (D → Told) → LogState D → Shown
 state_shown told s = log_shown s.node s.tail (contents (told s.device)).now
 
 -- A body has room where it and its record leave 16 bytes.
-abbrev pub log_room : ℕ → Shown → Option ℕ
-log_room size s = if nat_le (32 + used_by s.written) size then Some (size - (32 + used_by s.written)) else None
+abbrev pub log_room : ℕ → List ℕ → Option ℕ
+log_room size written = if nat_le (32 + used_by written) size then Some (size - (32 + used_by written)) else None
 
-abbrev pub body_size : Option (List ℕ) → ℕ
-body_size None = 0
-body_size (Some body) = length body
+abbrev pub shown_room : ℕ → Shown → Option ℕ
+shown_room size s = log_room size s.written
 
 abbrev pub within_room : Option ℕ → ℕ → Bool
 within_room None n = false
@@ -72,25 +76,67 @@ within_room (Some room) n = nat_le n room
 abbrev pub records_found : ℕ → List ℕ → List Change
 records_found node image = if slice_index image 0 == 237 then records_or_none (records_of node image) else []
 
+-- the bytes of a record behind its gate
+abbrev pub spelled_record : ℕ → Uid → ℕ → ℕ → List ℕ → List ℕ
+spelled_record node uid kind n body = to_be_bytes w32 n ++ (node ∷ (to_be_bytes w32 uid.epoch ++ (to_be_bytes w32 uid.serial ++ (kind ∷ body))))
+
+-- the bytes of the record of a put or a removal, from behind its gate to the closed gate that follows
+abbrev pub bytes_for : ℕ → Uid → Option (List ℕ) → List ℕ
+bytes_for node uid None = spelled_record node uid 2 0 [] ++ 0 ∷ []
+bytes_for node uid (Some body) = spelled_record node uid 1 (length body) body ++ 0 ∷ []
+
+-- where the log of an image ends
+abbrev pub log_tail : ℕ → List ℕ → ℕ
+log_tail node image = 16 + used_by (map body_length (records_found node image))
+
+-- The job of a record at the tail: a write of it behind its gate, with the next gate, which is closed; a sync; a write of
+-- its gate, which opens it; a sync.
+abbrev pub record_job : ℕ → List ℕ → List DiskCall
+record_job tail bytes = Write (tail + 1) bytes ∷ Sync ∷ Write tail (225 ∷ []) ∷ Sync ∷ []
+
+abbrev pub log_job : ℕ → List ℕ → Uid → Option (List ℕ) → List DiskCall
+log_job node image uid body = record_job (log_tail node image) (bytes_for node uid body)
+
 abbrev pub reads_for : Option (List ℕ) → ℕ
 reads_for None = 0
 reads_for (Some body) = 1
 
--- the device calls of an opening: a sync and a read, the four of a format where no log stands, and a read at each gate
-abbrev pub log_opening_calls : ℕ → List ℕ → ℕ
-log_opening_calls node image = (if slice_index image 0 == 237 then 3 else 7) + length (records_found node image)
+-- the records that an opening reads: all, or those before the first damaged one
+abbrev pub records_up_to : ℕ → List ℕ → Result (List Change) ℕ → List Change
+records_up_to node image (Ok rs) = rs
+records_up_to node image (Err place) = records_before node place image
+
+abbrev pub records_read : ℕ → List ℕ → List Change
+records_read node image = if slice_index image 0 == 237 then records_up_to node image (records_of node image) else []
+
+-- the device calls that make a log on a blank disk: its first gate is closed before its first byte says that it is a log
+abbrev pub log_format : List DiskCall
+log_format = Write 1 (replicate 16 0) ∷ Sync ∷ Write 0 (237 ∷ []) ∷ Sync ∷ []
+
+-- a look at the first byte, and a format where it does not say that it is a log
+abbrev pub looks : Bool → List DiskCall
+looks true = Read ∷ []
+looks false = Read ∷ log_format
+
+-- The device calls of an opening, in their order: a sync, a look and perhaps a format, and a read at each gate up to the
+-- first that is closed, or whose record is damaged. On a disk that is too small there is none.
+abbrev pub log_opening : ℕ → List ℕ → List DiskCall
+log_opening node image =
+    if nat_lt (length image) 17 then [] else (Sync ∷ (looks (slice_index image 0 == 237) ++ replicate (length (records_read node image) + 1) Read))
 
 abbrev pub log_layout : Layout
 log_layout = record {
   allows = λ size. nat_le 17 size;
   map_of = log_map;
+  is_overfull = λ node image. false;
   written_in = λ node image. map body_length (records_found node image);
   written_after = log_written;
-  room_of = log_room;
+  room_of = λ size bodies written. log_room size written;
   has_room = λ room uid body. within_room room (body_size body);
-  is_fit = λ node image. true;
+  tells_room = λ node image. true;
+  job_calls = log_job;
   is_job = λ body calls. calls == 4;
-  opening_calls = log_opening_calls;
+  opening_calls = log_opening;
   reading_calls = reads_for;
 }
 
@@ -100,7 +146,7 @@ HasEntry entries uid = IsSome (lookup (is_at (uid_cmp uid)) entries)
 
 -- the body that a pending record gives its uid
 abbrev pub pending_body : Pending → Option (List ℕ)
-pending_body p = cond p.removal None (Some (slice_range p.record.items 14 (14 + p.length)))
+pending_body p = cond p.removal None (Some (slice_range p.bytes.items 14 (14 + p.length)))
 
 abbrev pub change_of : ℕ → Pending → Change
 change_of tail p = record { uid = p.uid; body = pending_body p; mark = tail }
@@ -109,17 +155,24 @@ abbrev pub pending_change : ℕ → Option Pending → Option Change
 pending_change tail None = None
 pending_change tail (Some p) = Some (change_of tail p)
 
--- the job of a record: a write of it, a sync, a write of its gate, a sync
-abbrev pub staged : Change → Stage → Work
-staged c Begun = Busy c 0 4
-staged c Written = Busy c 1 3
-staged c Synced = Busy c 2 2
-staged c Opened = Busy c 3 1
-staged c (Ended synced) = Unsettled c synced
+-- the next device call of a job or of a settling, by its stage
+abbrev pub stage_call : ℕ → List ℕ → Stage → DiskCall
+stage_call tail bytes Begun = Write (tail + 1) bytes
+stage_call tail bytes Written = Sync
+stage_call tail bytes Synced = Write tail (225 ∷ [])
+stage_call tail bytes Opened = Sync
+stage_call tail bytes (Ended synced) = Sync
+
+abbrev pub staged : ℕ → List ℕ → Change → Stage → Work
+staged tail bytes c Begun = Busy c 0 (record_job tail bytes)
+staged tail bytes c Written = Busy c 1 (Sync ∷ Write tail (225 ∷ []) ∷ Sync ∷ [])
+staged tail bytes c Synced = Busy c 2 (Write tail (225 ∷ []) ∷ Sync ∷ [])
+staged tail bytes c Opened = Busy c 3 (Sync ∷ [])
+staged tail bytes c (Ended synced) = Unsettled c synced
 
 abbrev pub pending_work : ℕ → Option Pending → Work
 pending_work tail None = Idle
-pending_work tail (Some p) = staged (change_of tail p) p.stage
+pending_work tail (Some p) = staged tail p.bytes.items (change_of tail p) p.stage
 
 -- the slot of a uid, or none
 abbrev pub slot_at : BTreeMap Uid (Option Slot) → Uid → Option Slot
@@ -141,7 +194,7 @@ pub record IsIndex (index : BTreeMap Uid (Option Slot)) (kept : Kept) (tail : �
 -- the bytes of a pending record, with a closed gate behind them, say what it changes
 pub record IsPendingOf (node tail : ℕ) (kept : Kept) (p : Pending) : Type 0 where
   pub bytes : List ℕ
-  pub is : p.record.items ≡ bytes ++ 0 ∷ []
+  pub is : p.bytes.items ≡ bytes ++ 0 ∷ []
   pub spells : Spells node bytes p.uid (pending_body p)
   pub size : length bytes ≡ 14 + p.length
   pub long : body_length (change_of tail p) ≡ p.length
@@ -192,6 +245,14 @@ stage_after Synced = Some Opened
 stage_after Opened = None
 stage_after (Ended synced) = None
 
+-- this holds in the first call of a job
+abbrev pub WhereBegun : Stage → Type 0 → Type 0
+WhereBegun Begun P = P
+WhereBegun Written P = Unit {0}
+WhereBegun Synced P = Unit {0}
+WhereBegun Opened P = Unit {0}
+WhereBegun (Ended synced) P = Unit {0}
+
 abbrev pub stage_synced : Stage → Bool
 stage_synced Begun = false
 stage_synced Written = false
@@ -205,10 +266,6 @@ stage_ended Written = false
 stage_ended Synced = false
 stage_ended Opened = false
 stage_ended (Ended synced) = true
-
--- the bytes of a record behind its gate
-abbrev pub spelled_record : ℕ → Uid → ℕ → ℕ → List ℕ → List ℕ
-spelled_record node uid kind n body = to_be_bytes w32 n ++ (node ∷ (to_be_bytes w32 uid.epoch ++ (to_be_bytes w32 uid.serial ++ (kind ∷ body))))
 
 -- before its first device call a job has changed nothing
 abbrev pub IsUntouched : ℕ → Contents → Stage → Type 0
@@ -229,12 +286,12 @@ IsAtStage tail bytes c (Ended true) = c ≡ at_rest c.now
 
 abbrev pub IsStaged : ℕ → Contents → Option Pending → Type 0
 IsStaged tail c None = Unit {0}
-IsStaged tail c (Some p) = IsAtStage tail p.record.items c p.stage
+IsStaged tail c (Some p) = IsAtStage tail p.bytes.items c p.stage
 
 -- How the contents stand where nothing is pending, and where a record is.
 abbrev pub IsTailOf : ℕ → ℕ → ℕ → Contents → Option Pending → Type 0
 IsTailOf node size tail c None = IsClosed tail c
-IsTailOf node size tail c (Some p) = Holds (HalfWritten size (take tail c.now) p.record.items) c × IsPendingOf node tail (kept_from nothing_kept (records_before node tail c.now)) p × IsUntouched tail c p.stage
+IsTailOf node size tail c (Some p) = Holds (HalfWritten size (take tail c.now) p.bytes.items) c × IsPendingOf node tail (kept_from nothing_kept (records_before node tail c.now)) p × IsUntouched tail c p.stage
 
 -- The disk has this log.
 pub record IsLog (node size tail : ℕ) (c : Contents) (index : BTreeMap Uid (Option Slot)) (pending : Option Pending) : Type 0 where
@@ -251,4 +308,4 @@ pub record IsPlaced (size tail : ℕ) (counts : Counts) (index : BTreeMap Uid (O
   pub begins : 16 ≤ tail
   pub ends : tail + 1 ≤ size
   pub slots : (uid : Uid) → IfSome (slot_at index uid) (λ (s : Slot). s.gate + 15 + s.length ≤ tail)
-  pub placed : IfSome pending (λ (p : Pending). (tail + 1 + length p.record.items ≤ size) × IsSome (tree.get uid_cmp index p.uid) × (length p.record.items ≡ p.length + 15))
+  pub placed : IfSome pending (λ (p : Pending). (tail + 1 + length p.bytes.items ≤ size) × IsSome (tree.get uid_cmp index p.uid) × (length p.bytes.items ≡ p.length + 15))

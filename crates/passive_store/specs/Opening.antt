@@ -1,12 +1,15 @@
 -- What an opening finds on a disk, and what its device calls leave there.
 use Rattle.std.specs.Prelude.{◌≡◌, ◌⊎◌, ℕ, ◌+◌, ◌≤◌, ◌==◌, true, false, List, length, take, map, slice_index}
 use Rattle.std.specs.BTreeMap.{BTreeMap}
-use Rattle.std.specs.Prelude.{Option}
+use Rattle.std.specs.Prelude.{Option, Result, Ok, Err}
 use Rattle.capability.specs.declared.Uid.{Uid}
 use Rattle.eden_disk.specs.Told.{Told, Contents, contents, at_rest, noted, Wrote}
 use Rattle.eden_disk.specs.Calls.{End, Fine, AtFault, AtStop, ReadTold, SyncTold, WriteTold}
 use Rattle.eden_disk.specs.Held.{Holds, Passes}
 use Rattle.passive_store.specs.declared.index.Slot.{Slot}
+use Rattle.passive_store.specs.declared.opening.Found.{Found}
+use Rattle.passive_store.specs.declared.store.StoreRefusal.{StoreRefusal}
+use Rattle.passive_store.specs.declared.store.StoreRefusal.TheVariants.{Failed, Stopped, Full, Damaged, OutOfMemory}
 use Rattle.passive_store.specs.Kept.{Change, Kept, Stands, HasNoMap, nothing_kept}
 use Rattle.passive_store.specs.Log.{IsFront, kept_from, log_map}
 use Rattle.passive_store.specs.LogState.{records_before, IsIndex, used_by, body_length}
@@ -17,6 +20,15 @@ pub record IsWalk (node size tail : ℕ) (bytes : List ℕ) (index : BTreeMap Ui
   pub front : IsFront node (take tail bytes) (records_before node tail bytes)
   pub indexed : IsIndex index (kept_from nothing_kept (records_before node tail bytes)) tail bytes
   pub sum : tail ≡ 16 + used_by (map body_length (records_before node tail bytes))
+
+-- the reads of a walk: one at the place of each record, and one at the place where it ended
+abbrev pub ReadsMade : ℕ → List ℕ → Result Found StoreRefusal → ℕ → Type 0
+ReadsMade node bytes (Ok found) made = made ≡ length (records_before node found.tail bytes) + 1
+ReadsMade node bytes (Err Failed) made = 1 ≤ made
+ReadsMade node bytes (Err Stopped) made = 1 ≤ made
+ReadsMade node bytes (Err Full) made = Unit {0}
+ReadsMade node bytes (Err (Damaged place)) made = made ≡ length (records_before node place bytes) + 1
+ReadsMade node bytes (Err OutOfMemory) made = Unit {0}
 
 -- bytes that were written and synced
 abbrev pub IsThrough : ℕ → List ℕ → Told → Told → End → Type 0

@@ -8,9 +8,11 @@ ghost use Rattle.capability.specs.Uids.{uid_cmp};
 ghost use Rattle.eden_disk.specs.Told.{Told, contents, at_rest, EachMoment, LeavesOnly};
 ghost use Rattle.eden_disk.specs.Calls.{DeviceCalls, Obeyed, ReadTold, end_of};
 ghost use Rattle.eden_disk.specs.Held.{Holds, Passes};
-ghost use Rattle.passive_store.specs.Log.{HalfWritten};
+ghost use Rattle.eden_disk.specs.Timed.{Timed};
+ghost use Rattle.passive_store.specs.Log.{HalfWritten, Unwritten};
+ghost use Rattle.passive_store.specs.Acts.{CallTold, CallsTold, settling_call};
 ghost use Rattle.passive_store.specs.Kept.{IsOwn, IsEject, IsFresh, Idle, is_busy, end_of_store, IsDiskRefusal, IsEarlyRefusal, Begins, Ran, work_begun, body_at};
-ghost use Rattle.passive_store.specs.LogState.{SetsSlot, slot_of, slot_at, IsRecordOf, IsJobAfter, made_at, stage_after, stage_synced, stage_ended, spelled_record, within_room, log_room, reads_for};
+ghost use Rattle.passive_store.specs.LogState.{SetsSlot, slot_of, slot_at, IsRecordOf, IsJobAfter, made_at, stage_after, stage_synced, stage_ended, spelled_record, within_room, shown_room, reads_for, WhereBegun, stage_call, record_job, log_tail, bytes_for};
 
 use crate::index::{Slot, find_slot, make_entry, make_slot, next_slot, set_slot};
 use crate::opening::{Found, open_log};
@@ -38,7 +40,7 @@ pub struct Pending {
     pub uid: Uid,
     pub removal: bool,
     pub length: u32,
-    pub record: Vec<u8>,
+    pub bytes: Vec<u8>,
     pub stage: Stage,
 }
 
@@ -70,21 +72,25 @@ impl<D: Disk> Model for LogStore<D> {
 fn make_call<D: Disk>(
     disk: &mut D,
     tail: u32,
-    record: &[u8],
+    bytes: &[u8],
     stage: Stage,
 ) -> Result<(), DiskRefusal>
     requires power { IsTrue (D.counts disk.old).power }
-    requires range { tail + 1 + length record.now ≤ (D.counts disk.old).size }
+    requires range { tail + 1 + length bytes.now ≤ (D.counts disk.old).size }
     requires fits { tail + 1 < 2 ^ 32 }
     ensures counts { DeviceCalls 1 (D.counts disk.old) (D.counts disk.new) (end_of result) }
     ensures obeyed { IsTrue D.obeys → Obeyed (D.due disk.old) (D.due disk.new) (D.counts disk.old) (D.counts disk.new) (end_of result) }
-    ensures whole { IsTrue D.tells → (front : List ℕ) → length front ≡ tail → IsJobAfter (D.counts disk.old).size front record.now (made_at stage) (contents (D.told disk.old))
-        → Passes (HalfWritten (D.counts disk.old).size front record.now) (D.told disk.old) (D.told disk.new) }
-    ensures next { IsTrue D.tells → (front : List ℕ) → length front ≡ tail → IsJobAfter (D.counts disk.old).size front record.now (made_at stage) (contents (D.told disk.old))
-        → OnOk result (IsJobAfter (D.counts disk.old).size front record.now (made_at stage + 1) (contents (D.told disk.new))) }
+    ensures timed { IsTrue D.tells → Timed (D.counts disk.old).clock (D.told disk.old) (D.counts disk.new).clock (D.told disk.new) }
+    ensures told { IsTrue D.tells → CallTold (stage_call tail bytes.now stage) (D.counts disk.new).clock (D.told disk.old) (D.told disk.new) (end_of result) }
+    ensures first { IsTrue D.tells → (front : List ℕ) → length front ≡ tail → IsJobAfter (D.counts disk.old).size front bytes.now (made_at stage) (contents (D.told disk.old))
+        → WhereBegun stage (Passes (Unwritten (D.counts disk.old).size front) (D.told disk.old) (D.told disk.new)) }
+    ensures whole { IsTrue D.tells → (front : List ℕ) → length front ≡ tail → IsJobAfter (D.counts disk.old).size front bytes.now (made_at stage) (contents (D.told disk.old))
+        → Passes (HalfWritten (D.counts disk.old).size front bytes.now) (D.told disk.old) (D.told disk.new) }
+    ensures next { IsTrue D.tells → (front : List ℕ) → length front ≡ tail → IsJobAfter (D.counts disk.old).size front bytes.now (made_at stage) (contents (D.told disk.old))
+        → OnOk result (IsJobAfter (D.counts disk.old).size front bytes.now (made_at stage + 1) (contents (D.told disk.new))) }
 {
     match stage {
-        Stage::Begun => disk.write(tail + 1, record),
+        Stage::Begun => disk.write(tail + 1, bytes),
         Stage::Written => disk.sync(),
         Stage::Synced => disk.write(tail, &[OPEN]),
         Stage::Opened => disk.sync(),
@@ -105,7 +111,7 @@ fn next_stage(stage: Stage) -> Option<Stage>
 }
 
 impl<D: Disk> LogStore<D> {
-    ghost use Rattle.passive_store.specs.Kept.{Work, Stands, changes_in, change_in, doubt_in, is_unsettled, is_synced, work_settled, work_stepped, settling_calls, Changes, Settles, work_advanced, work_finished, shown_advanced, shown_finished, unsynced, progress_at, calls_left, settled, SettlesFirst, IsFullBy};
+    ghost use Rattle.passive_store.specs.Kept.{Work, Stands, changes_in, change_in, doubt_in, is_unsettled, is_synced, work_settled, work_stepped, settling_calls, Changes, Settles, work_advanced, work_finished, shown_advanced, shown_finished, unsynced, progress_at, calls_left, job_left, settling_of, settled, SettlesFirst, IsFullBy, NextTold, reads_due};
     ghost use Rattle.passive_store.specs.Log.{log_map};
     ghost use Rattle.passive_store.specs.LogState.{state_shown, log_layout, HasEntry};
 
@@ -116,18 +122,20 @@ impl<D: Disk> LogStore<D> {
         ensures node { self.new.node ≡ self.old.node }
         ensures counts { DeviceCalls 1 (D.counts self.old.device) (D.counts self.new.device) (end_of_store result) }
         ensures obeyed { IsTrue D.obeys → Obeyed (D.due self.old.device) (D.due self.new.device) (D.counts self.old.device) (D.counts self.new.device) (end_of_store result) }
+        ensures timed { IsTrue D.tells → Timed (D.counts self.old.device).clock (D.told self.old.device) (D.counts self.new.device).clock (D.told self.new.device) }
         ensures only { IfErr result IsDiskRefusal }
         ensures last { IfOk result (λ progress. progress ≡ progress_at (nat_le (calls_left self.old.work) 1)) }
+        ensures told { IsTrue D.tells → NextTold self.old.work (D.counts self.new.device).clock (D.told self.old.device) (D.told self.new.device) (end_of_store result) }
         ensures work { self.new.work ≡ work_advanced self.old.work result }
         ensures picked { self.new.picked ≡ self.old.picked }
         ensures shown { IsTrue D.tells → state_shown D.told self.new ≡ shown_advanced log_layout self.old.work (state_shown D.told self.old) result }
         ensures stands { IsTrue D.tells → LeavesOnly (Stands (log_map self.new.node) (state_shown D.told self.new).kept (changes_in (doubt_in self.new.work))) (contents (D.told self.new.device)) }
-        ensures moments { IsTrue D.tells → EachMoment (Stands (log_map self.old.node) (state_shown D.told self.old).kept (changes_in (change_in self.old.work))) (D.told self.old.device) (D.told self.new.device) }
+        ensures moments { IsTrue D.tells → EachMoment (Stands (log_map self.old.node) (state_shown D.told self.old).kept (changes_in (doubt_in self.old.work))) (D.told self.old.device) (D.told self.new.device) }
     {
         let Some(mut pending) = self.pending.take() else {
             return Ok(Progress::Done);
         };
-        match make_call(&mut self.disk, self.tail, &pending.record, pending.stage) {
+        match make_call(&mut self.disk, self.tail, &pending.bytes, pending.stage) {
             Err(refusal) => {
                 pending.stage = Stage::Ended { synced: false };
                 self.pending = Some(pending);
@@ -156,8 +164,10 @@ impl<D: Disk> LogStore<D> {
         ensures node { self.new.node ≡ self.old.node }
         ensures counts { DeviceCalls 1 (D.counts self.old.device) (D.counts self.new.device) (end_of_store result) }
         ensures obeyed { IsTrue D.obeys → Obeyed (D.due self.old.device) (D.due self.new.device) (D.counts self.old.device) (D.counts self.new.device) (end_of_store result) }
+        ensures timed { IsTrue D.tells → Timed (D.counts self.old.device).clock (D.told self.old.device) (D.counts self.new.device).clock (D.told self.new.device) }
         ensures only { IfErr result IsDiskRefusal }
         ensures last { IfOk result (λ progress. progress ≡ progress_at (is_synced self.old.work)) }
+        ensures told { IsTrue D.tells → CallTold (settling_call (is_synced self.old.work)) (D.counts self.new.device).clock (D.told self.old.device) (D.told self.new.device) (end_of_store result) }
         ensures work { self.new.work ≡ work_stepped self.old.work result }
         ensures picked { is_some self.new.picked ≡ (is_ok result && is_synced self.old.work) }
         ensures entries { (q : _) → HasEntry self.old.entries q → HasEntry self.new.entries q }
@@ -233,8 +243,10 @@ impl<D: Disk> LogStore<D> {
     fn settle_log(&mut self) -> Result<(), StoreRefusal>
         requires { IsTrue (D.counts self.old.device).power }
         ensures node { self.new.node ≡ self.old.node }
+        ensures order { IsTrue D.tells → CallsTold (settling_of self.old.work) (D.told self.old.device) (D.told self.new.device) (end_of_store result) }
         ensures ran { Ran (settling_calls self.old.work) 0 result (D.counts self.old.device) (D.counts self.new.device) }
         ensures obeyed { IsTrue D.obeys → Obeyed (D.due self.old.device) (D.due self.new.device) (D.counts self.old.device) (D.counts self.new.device) (end_of_store result) }
+        ensures timed { IsTrue D.tells → Timed (D.counts self.old.device).clock (D.told self.old.device) (D.counts self.new.device).clock (D.told self.new.device) }
         ensures only { IfErr result IsDiskRefusal }
         ensures refused { OnErr result (IsTrue (is_unsettled self.old.work)) }
         ensures picked { is_some self.new.picked ≡ (is_ok result && is_unsettled self.old.work) }
@@ -264,12 +276,14 @@ impl<D: Disk> LogStore<D> {
         requires entry { HasEntry self.old.entries uid }
         requires limit { length ≤ 262144 }
         requires spelled { IsRecordOf self.old.node record_bytes.items uid Bool.false length }
+        requires written { record_bytes.items ≡ bytes_for self.old.node uid (Option.Some (slice_range record_bytes.items 14 (14 + length))) }
         ensures node { self.new.node ≡ self.old.node }
         ensures changes { Changes D.tells log_layout self.old.node uid (Option.Some (slice_range record_bytes.items 14 (14 + length))) self.new.picked result self.old.work self.new.work (D.counts self.old.device) (D.counts self.new.device) (state_shown D.told self.old) (state_shown D.told self.new) (D.told self.old.device) (D.told self.new.device) }
         ensures obeyed { IsTrue D.obeys → Obeyed (D.due self.old.device) (D.due self.new.device) (D.counts self.old.device) (D.counts self.new.device) (end_of_store result) }
+        ensures timed { IsTrue D.tells → Timed (D.counts self.old.device).clock (D.told self.old.device) (D.counts self.new.device).clock (D.told self.new.device) }
         ensures picked { SettlesFirst self.new.picked self.old.work result }
         ensures undamaged { IfErr result (λ e. IsDiskRefusal e ⊎ (e ≡ Full)) }
-        ensures full { IsTrue D.tells → IsFullBy (within_room (log_room (D.counts self.old.device).size (settled log_layout self.new.picked self.old.work (state_shown D.told self.old))) length) self.new.picked self.old.work result }
+        ensures full { IsTrue D.tells → IsFullBy (within_room (shown_room (D.counts self.old.device).size (settled log_layout self.new.picked self.old.work (state_shown D.told self.old))) length) self.new.picked self.old.work result }
         ensures stands { IsTrue D.tells → LeavesOnly (Stands (log_map self.new.node) (state_shown D.told self.new).kept (changes_in (doubt_in self.new.work))) (contents (D.told self.new.device)) }
     {
         self.settle_log()?;
@@ -283,14 +297,16 @@ impl<D: Disk> LogStore<D> {
         requires idle { is_busy self.old.work ≡ Bool.false }
         requires entry { HasEntry self.old.entries uid }
         requires spelled { IsRecordOf self.old.node record_bytes.items uid Bool.true 0 }
+        requires written { record_bytes.items ≡ bytes_for self.old.node uid Option.None }
         ensures node { self.new.node ≡ self.old.node }
         ensures changes { (Settles D.tells log_layout self.old.node self.new.picked result self.old.work self.new.work (D.counts self.old.device) (D.counts self.new.device) (state_shown D.told self.old) (state_shown D.told self.new) (D.told self.old.device) (D.told self.new.device)
             × IfErr result IsDiskRefusal
             × (IsTrue D.tells → OnOk result (body_at (settled log_layout self.new.picked self.old.work (state_shown D.told self.old)) uid ≡ Option.None)))
             ⊎ (Changes D.tells log_layout self.old.node uid Option.None self.new.picked result self.old.work self.new.work (D.counts self.old.device) (D.counts self.new.device) (state_shown D.told self.old) (state_shown D.told self.new) (D.told self.old.device) (D.told self.new.device)
             × (IsTrue D.tells → IsSome (body_at (settled log_layout self.new.picked self.old.work (state_shown D.told self.old)) uid))
-            × (IsTrue D.tells → IsFullBy (within_room (log_room (D.counts self.old.device).size (settled log_layout self.new.picked self.old.work (state_shown D.told self.old))) 0) self.new.picked self.old.work result)) }
+            × (IsTrue D.tells → IsFullBy (within_room (shown_room (D.counts self.old.device).size (settled log_layout self.new.picked self.old.work (state_shown D.told self.old))) 0) self.new.picked self.old.work result)) }
         ensures obeyed { IsTrue D.obeys → Obeyed (D.due self.old.device) (D.due self.new.device) (D.counts self.old.device) (D.counts self.new.device) (end_of_store result) }
+        ensures timed { IsTrue D.tells → Timed (D.counts self.old.device).clock (D.told self.old.device) (D.counts self.new.device).clock (D.told self.new.device) }
         ensures picked { SettlesFirst self.new.picked self.old.work result }
         ensures undamaged { IfErr result (λ e. IsDiskRefusal e ⊎ (e ≡ Full)) }
         ensures stands { IsTrue D.tells → LeavesOnly (Stands (log_map self.new.node) (state_shown D.told self.new).kept (changes_in (doubt_in self.new.work))) (contents (D.told self.new.device)) }
@@ -316,8 +332,10 @@ impl<D: Disk> LogStore<D> {
         requires busy { IsTrue (is_busy self.old.work) }
         requires some { 1 ≤ calls_left self.old.work }
         ensures node { self.new.node ≡ self.old.node }
+        ensures order { IsTrue D.tells → CallsTold (job_left self.old.work) (D.told self.old.device) (D.told self.new.device) (end_of_store result) }
         ensures ran { Ran 0 (calls_left self.old.work) result (D.counts self.old.device) (D.counts self.new.device) }
         ensures obeyed { IsTrue D.obeys → Obeyed (D.due self.old.device) (D.due self.new.device) (D.counts self.old.device) (D.counts self.new.device) (end_of_store result) }
+        ensures timed { IsTrue D.tells → Timed (D.counts self.old.device).clock (D.told self.old.device) (D.counts self.new.device).clock (D.told self.new.device) }
         ensures only { IfErr result IsDiskRefusal }
         ensures work { self.new.work ≡ work_finished self.old.work result }
         ensures picked { self.new.picked ≡ self.old.picked }
@@ -346,9 +364,10 @@ impl<D: Disk> LogStore<D> {
         ensures device { self.new.device ≡ self.old.device }
         ensures picked { self.new.picked ≡ self.old.picked }
         ensures only { IfErr result (λ e. e ≡ Full) }
-        ensures work { self.new.work ≡ work_begun (record { uid = uid; body = cond removal Option.None (Option.Some (slice_range record_bytes.items 14 (14 + length))); mark = self.old.tail }) 4 self.old.work result }
-        ensures room { IsTrue D.tells → OnOk result (IsTrue (within_room (log_room (D.counts self.old.device).size (state_shown D.told self.old)) length)) }
-        ensures full { IsTrue D.tells → OnErr result (within_room (log_room (D.counts self.old.device).size (state_shown D.told self.old)) length ≡ Bool.false) }
+        ensures work { self.new.work ≡ work_begun (record { uid = uid; body = cond removal Option.None (Option.Some (slice_range record_bytes.items 14 (14 + length))); mark = self.old.tail }) (record_job self.old.tail record_bytes.items) self.old.work result }
+        ensures tail { IsTrue D.tells → self.old.tail ≡ log_tail self.old.node (contents (D.told self.old.device)).now }
+        ensures room { IsTrue D.tells → OnOk result (IsTrue (within_room (shown_room (D.counts self.old.device).size (state_shown D.told self.old)) length)) }
+        ensures full { IsTrue D.tells → OnErr result (within_room (shown_room (D.counts self.old.device).size (state_shown D.told self.old)) length ≡ Bool.false) }
         ensures shown { IsTrue D.tells → state_shown D.told self.new ≡ state_shown D.told self.old }
         ensures fresh { IsTrue D.tells → IfSome (change_in self.new.work) (λ c. IsFresh c (state_shown D.told self.new).kept) }
     {
@@ -359,7 +378,7 @@ impl<D: Disk> LogStore<D> {
             uid,
             removal,
             length,
-            record: record_bytes,
+            bytes: record_bytes,
             stage: Stage::Begun,
         });
         Ok(())
@@ -372,8 +391,10 @@ impl<D: Disk> LogStore<D> {
         ensures picked { self.new.picked ≡ self.old.picked }
         ensures work { self.new.work ≡ self.old.work }
         ensures only { IfErr result (λ e. IsDiskRefusal e ⊎ (e ≡ OutOfMemory)) }
-        ensures ran { (calls : ℕ) × (Ran 0 calls result (D.counts self.old.device) (D.counts self.new.device) × IfOk result (λ found. calls ≡ reads_for found)) }
+        ensures ran { (calls : ℕ) × (Ran 0 calls result (D.counts self.old.device) (D.counts self.new.device) × IfOk result (λ found. calls ≡ reads_for found)
+            × (IsTrue D.tells → CallsTold (reads_due Idle calls result) (D.told self.old.device) (D.told self.new.device) (end_of_store result))) }
         ensures obeyed { IsTrue D.obeys → Obeyed (D.due self.old.device) (D.due self.new.device) (D.counts self.old.device) (D.counts self.new.device) (end_of_store result) }
+        ensures timed { IsTrue D.tells → Timed (D.counts self.old.device).clock (D.told self.old.device) (D.counts self.new.device).clock (D.told self.new.device) }
         ensures shown { IsTrue D.tells → state_shown D.told self.new ≡ state_shown D.told self.old }
         ensures body { IsTrue D.tells → IfOk result (λ found. found ≡ body_at (state_shown D.told self.old) uid) }
         ensures stands { IsTrue D.tells → LeavesOnly (Stands (log_map self.new.node) (state_shown D.told self.new).kept (changes_in (doubt_in self.new.work))) (contents (D.told self.new.device)) }

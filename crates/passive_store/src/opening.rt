@@ -1,13 +1,15 @@
 // The opening of a disk: what a log on it says, or a new log on a blank one.
-ghost use Rattle.std.specs.Prelude.{◌≡◌, ◌≢◌, ◌+◌, ◌≤◌, ◌<◌, ◌==◌, ℕ, true, false, length, map, slice_index, IsTrue, IfOk, IfErr, OnOk, Option, Result, if◌then◌else◌};
+ghost use Rattle.std.specs.Prelude.{◌≡◌, ◌≢◌, ◌+◌, ◌≤◌, ◌<◌, ◌==◌, ◌∷◌, [], ℕ, true, false, length, map, slice_index, IsTrue, IfOk, IfErr, OnOk, Option, Result, if◌then◌else◌};
 ghost use Rattle.eden_disk.specs.Told.{contents, at_rest};
+ghost use Rattle.eden_disk.specs.Timed.{Timed};
 ghost use Rattle.eden_disk.specs.Calls.{DeviceCalls, Obeyed, ReadTold, end_of};
 ghost use Rattle.eden_disk.specs.Held.{Passes};
 ghost use Rattle.passive_store.specs.declared.store.StoreRefusal.TheVariants.{Full, Damaged};
-ghost use Rattle.passive_store.specs.Kept.{end_of_store, nothing_kept};
+ghost use Rattle.passive_store.specs.Acts.{CallsTold, Write, Sync};
+ghost use Rattle.passive_store.specs.Kept.{end_of_store, nothing_kept, OpeningMade, OpeningTold};
 ghost use Rattle.passive_store.specs.Log.{records_of, kept_from, log_map};
-ghost use Rattle.passive_store.specs.LogState.{IsPlaced, IsLog, records_before, records_found, body_length, log_opening_calls};
-ghost use Rattle.passive_store.specs.Opening.{IsWalk, ThroughTold, IsEmptyImage, IsBlank, IsNewLog, IsReadied, IsKeptThrough};
+ghost use Rattle.passive_store.specs.LogState.{IsPlaced, IsLog, records_before, records_found, body_length, log_opening, log_format, looks};
+ghost use Rattle.passive_store.specs.Opening.{IsWalk, ThroughTold, IsEmptyImage, IsBlank, IsNewLog, IsReadied, IsKeptThrough, ReadsMade};
 
 use crate::index::{Slot, make_entry, make_slot, set_slot};
 use crate::records::read_header;
@@ -34,6 +36,8 @@ fn write_through<D: Disk>(disk: &mut D, at: u32, bytes: &[u8]) -> Result<(), Dis
     requires range { at + length bytes.now ≤ (D.counts disk.old).size }
     ensures ran { (made : ℕ) × (DeviceCalls made (D.counts disk.old) (D.counts disk.new) (end_of result) × OnOk result (made ≡ 2)) }
     ensures obeyed { IsTrue D.obeys → Obeyed (D.due disk.old) (D.due disk.new) (D.counts disk.old) (D.counts disk.new) (end_of result) }
+    ensures timed { IsTrue D.tells → Timed (D.counts disk.old).clock (D.told disk.old) (D.counts disk.new).clock (D.told disk.new) }
+    ensures order { IsTrue D.tells → CallsTold (Write at bytes.now ∷ Sync ∷ []) (D.told disk.old) (D.told disk.new) (end_of result) }
     ensures told { IsTrue D.tells → ThroughTold at bytes.now (D.told disk.old) (D.told disk.new) (end_of result) }
 {
     disk.write(at, bytes)?;
@@ -46,6 +50,8 @@ fn format<D: Disk>(disk: &mut D) -> Result<(), DiskRefusal>
     requires range { 17 ≤ (D.counts disk.old).size }
     ensures ran { (made : ℕ) × (DeviceCalls made (D.counts disk.old) (D.counts disk.new) (end_of result) × OnOk result (made ≡ 4)) }
     ensures obeyed { IsTrue D.obeys → Obeyed (D.due disk.old) (D.due disk.new) (D.counts disk.old) (D.counts disk.new) (end_of result) }
+    ensures timed { IsTrue D.tells → Timed (D.counts disk.old).clock (D.told disk.old) (D.counts disk.new).clock (D.told disk.new) }
+    ensures order { IsTrue D.tells → CallsTold log_format (D.told disk.old) (D.told disk.new) (end_of result) }
     ensures empty { IsTrue D.tells → IsBlank (contents (D.told disk.old)) → Passes IsEmptyImage (D.told disk.old) (D.told disk.new) }
     ensures log { IsTrue D.tells → IsBlank (contents (D.told disk.old)) → OnOk result (IsNewLog (contents (D.told disk.new))) }
 {
@@ -59,6 +65,7 @@ fn has_log<D: Disk>(disk: &mut D) -> Result<bool, DiskRefusal>
     requires range { 2 ≤ (D.counts disk.old).size }
     ensures counts { DeviceCalls 1 (D.counts disk.old) (D.counts disk.new) (end_of result) }
     ensures obeyed { IsTrue D.obeys → Obeyed (D.due disk.old) (D.due disk.new) (D.counts disk.old) (D.counts disk.new) (end_of result) }
+    ensures timed { IsTrue D.tells → Timed (D.counts disk.old).clock (D.told disk.old) (D.counts disk.new).clock (D.told disk.new) }
     ensures told { IsTrue D.tells → ReadTold (D.counts disk.new).clock (D.told disk.old) (D.told disk.new) (end_of result) }
     ensures found { IsTrue D.tells → IfOk result (λ found. found ≡ (slice_index (contents (D.told disk.old)).now 0 == 237)) }
 {
@@ -71,8 +78,10 @@ fn has_log<D: Disk>(disk: &mut D) -> Result<bool, DiskRefusal>
 fn ready<D: Disk>(disk: &mut D) -> Result<(), DiskRefusal>
     requires power { IsTrue (D.counts disk.old).power }
     requires range { 17 ≤ (D.counts disk.old).size }
-    ensures ran { (made : ℕ) × (DeviceCalls made (D.counts disk.old) (D.counts disk.new) (end_of result) × (IsTrue D.tells → OnOk result (made ≡ (if slice_index (contents (D.told disk.old)).now 0 == 237 then 1 else 5)))) }
+    ensures ran { (made : ℕ) × (DeviceCalls made (D.counts disk.old) (D.counts disk.new) (end_of result) × (1 ≤ made) × (IsTrue D.tells → OnOk result (made ≡ (if slice_index (contents (D.told disk.old)).now 0 == 237 then 1 else 5)))) }
     ensures obeyed { IsTrue D.obeys → Obeyed (D.due disk.old) (D.due disk.new) (D.counts disk.old) (D.counts disk.new) (end_of result) }
+    ensures timed { IsTrue D.tells → Timed (D.counts disk.old).clock (D.told disk.old) (D.counts disk.new).clock (D.told disk.new) }
+    ensures order { IsTrue D.tells → CallsTold (looks (slice_index (contents (D.told disk.old)).now 0 == 237)) (D.told disk.old) (D.told disk.new) (end_of result) }
     ensures readied { IsTrue D.tells → contents (D.told disk.old) ≡ at_rest (contents (D.told disk.old)).now → 17 ≤ length (contents (D.told disk.old)).now → IsReadied (D.told disk.old) (D.told disk.new) (end_of result) }
 {
     if has_log(disk)? {
@@ -85,8 +94,9 @@ fn ready<D: Disk>(disk: &mut D) -> Result<(), DiskRefusal>
 fn read_records<D: Disk>(alloc: Global, disk: &mut D, node: u8) -> Result<Found, StoreRefusal>
     requires power { IsTrue (D.counts disk.old).power }
     requires range { 17 ≤ (D.counts disk.old).size }
-    ensures ran { (made : ℕ) × (DeviceCalls made (D.counts disk.old) (D.counts disk.new) (end_of_store result) × (IsTrue D.tells → IfOk result (λ f. made ≡ length (records_before node f.tail (contents (D.told disk.old)).now) + 1))) }
+    ensures ran { (made : ℕ) × (DeviceCalls made (D.counts disk.old) (D.counts disk.new) (end_of_store result) × (IsTrue D.tells → ReadsMade node (contents (D.told disk.old)).now result made)) }
     ensures obeyed { IsTrue D.obeys → Obeyed (D.due disk.old) (D.due disk.new) (D.counts disk.old) (D.counts disk.new) (end_of_store result) }
+    ensures timed { IsTrue D.tells → Timed (D.counts disk.old).clock (D.told disk.old) (D.counts disk.new).clock (D.told disk.new) }
     ensures never_full { IfErr result (λ e. e ≢ Full) }
     ensures told { IsTrue D.tells → ReadTold (D.counts disk.new).clock (D.told disk.old) (D.told disk.new) (end_of_store result) }
     ensures placed { IfOk result (λ f. IsPlaced f.size f.tail (D.counts disk.new) f.index Option.None) }
@@ -110,8 +120,10 @@ fn read_records<D: Disk>(alloc: Global, disk: &mut D, node: u8) -> Result<Found,
 pub fn open_log<D: Disk>(alloc: Global, disk: &mut D, node: u8) -> Result<Found, StoreRefusal>
     requires { IsTrue (D.counts disk.old).power }
     ensures small { (D.counts disk.old).size < 17 → (result ≡ Result.Err (Damaged 0)) × (disk.new ≡ disk.old) }
-    ensures ran { (made : ℕ) × (DeviceCalls made (D.counts disk.old) (D.counts disk.new) (end_of_store result) × (IsTrue D.tells → OnOk result (made ≡ log_opening_calls node (contents (D.told disk.old)).now))) }
+    ensures ran { (made : ℕ) × (DeviceCalls made (D.counts disk.old) (D.counts disk.new) (end_of_store result) × (IsTrue D.tells → OpeningMade (length (log_opening node (contents (D.told disk.old)).now)) result made)) }
+    ensures order { IsTrue D.tells → OpeningTold (log_opening node (contents (D.told disk.old)).now) (D.told disk.old) (D.told disk.new) result }
     ensures obeyed { IsTrue D.obeys → Obeyed (D.due disk.old) (D.due disk.new) (D.counts disk.old) (D.counts disk.new) (end_of_store result) }
+    ensures timed { IsTrue D.tells → Timed (D.counts disk.old).clock (D.told disk.old) (D.counts disk.new).clock (D.told disk.new) }
     ensures never_full { IfErr result (λ e. e ≢ Full) }
     ensures placed { IfOk result (λ f. IsPlaced f.size f.tail (D.counts disk.new) f.index Option.None) }
     ensures log { IsTrue D.tells → IfOk result (λ f. IsLog node f.size f.tail (contents (D.told disk.new)) f.index Option.None) }

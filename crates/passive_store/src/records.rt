@@ -2,6 +2,7 @@
 ghost use Rattle.std.specs.Prelude.{◌≡◌, ◌⊎◌, ◌+◌, ◌≤◌, ◌==◌, ◌&&◌, nat_le, not, [], ◌∷◌, ◌++◌, length, slice_index, slice_range, drop, IsTrue, IfOk, IfErr, IfSome, is_some};
 ghost use Rattle.std.specs.Int.{w32, from_be_bytes};
 ghost use Rattle.eden_disk.specs.Told.{contents};
+ghost use Rattle.eden_disk.specs.Timed.{Timed};
 ghost use Rattle.eden_disk.specs.Calls.{DeviceCalls, Obeyed, ReadTold, end_of};
 ghost use Rattle.passive_store.specs.declared.store.StoreRefusal.TheVariants.{Damaged};
 ghost use Rattle.passive_store.specs.Kept.{end_of_store, IsDiskRefusal};
@@ -100,6 +101,7 @@ pub fn read_header<D: Disk>(
     requires range { place + 1 ≤ (D.counts disk.old).size }
     ensures counts { DeviceCalls 1 (D.counts disk.old) (D.counts disk.new) (end_of_store result) }
     ensures obeyed { IsTrue D.obeys → Obeyed (D.due disk.old) (D.due disk.new) (D.counts disk.old) (D.counts disk.new) (end_of_store result) }
+    ensures timed { IsTrue D.tells → Timed (D.counts disk.old).clock (D.told disk.old) (D.counts disk.new).clock (D.told disk.new) }
     ensures only { IfErr result (λ e. IsDiskRefusal e ⊎ (e ≡ Damaged place)) }
     ensures told { IsTrue D.tells → ReadTold (D.counts disk.new).clock (D.told disk.old) (D.told disk.new) (end_of_store result) }
     ensures fits { IfOk result (λ found. IfSome found (λ h. place + h.length + 16 ≤ (D.counts disk.old).size)) }
@@ -125,6 +127,7 @@ pub fn read_gate<D: Disk>(disk: &mut D, place: u32) -> Result<bool, DiskRefusal>
     requires range { place + 1 ≤ (D.counts disk.old).size }
     ensures counts { DeviceCalls 1 (D.counts disk.old) (D.counts disk.new) (end_of result) }
     ensures obeyed { IsTrue D.obeys → Obeyed (D.due disk.old) (D.due disk.new) (D.counts disk.old) (D.counts disk.new) (end_of result) }
+    ensures timed { IsTrue D.tells → Timed (D.counts disk.old).clock (D.told disk.old) (D.counts disk.new).clock (D.told disk.new) }
     ensures told { IsTrue D.tells → ReadTold (D.counts disk.new).clock (D.told disk.old) (D.told disk.new) (end_of result) }
     ensures gate { IsTrue D.tells → IfOk result (λ is_open. is_open ≡ (slice_index (contents (D.told disk.old)).now place == 225)) }
 {

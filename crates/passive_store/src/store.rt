@@ -4,9 +4,11 @@ ghost use Rattle.std.specs.FinMap as map;
 ghost use Rattle.eden_disk.specs.Told.{contents, EachMoment};
 ghost use Rattle.eden_disk.specs.Calls.{DeviceCalls, Obeyed, armed, calls_until};
 ghost use Rattle.eden_disk.specs.Held.{Holds};
+ghost use Rattle.eden_disk.specs.Timed.{Timed};
 ghost use Rattle.passive_store.specs.declared.store.Pick.{Pick};
 ghost use Rattle.passive_store.specs.declared.store.StoreRefusal.TheVariants.{OutOfMemory, Full, Damaged};
-ghost use Rattle.passive_store.specs.Kept.{Layout, Kept, Shown, Work, Idle, Change, Stands, HasNoMap, LeavesShown, StandsThrough, changes_in, doubt_in, change_in, unsure_in, worked_on, is_busy, is_unsettled, is_synced, calls_left, settling_calls, settled, work_settled, work_stepped, work_advanced, shown_advanced, progress_at, end_of_store, refused, Begins, Changes, Settles, Ran, SettlesFirst, SettlesAfterMemory, finds_room, IsFullBy, IsOwn, IsEject, IsFresh, IsDiskRefusal, IsEarlyRefusal, KeepsTelling, body_at, disk_after, without_disk, IsNextKept};
+ghost use Rattle.passive_store.specs.Acts.{CallTold, CallsTold, settling_call};
+ghost use Rattle.passive_store.specs.Kept.{Layout, Kept, Shown, Work, Idle, Change, Stands, HasNoMap, LeavesShown, StandsThrough, changes_in, doubt_in, change_in, unsure_in, worked_on, is_busy, is_unsettled, is_synced, calls_left, settling_calls, settling_of, settled, work_settled, work_stepped, work_advanced, shown_advanced, progress_at, end_of_store, refused, Begins, Changes, Settles, Ran, SettlesFirst, SettlesAfterMemory, finds_room, IsFullBy, IsOwn, IsEject, IsFresh, IsDiskRefusal, IsEarlyRefusal, KeepsTelling, body_at, disk_after, without_disk, IsNextKept, HasJob, NextTold, reads_due, OpeningMade, OpeningTold, IsOverfullBy, NeverOverfull};
 
 use capability::{Body, Uid};
 use eden_disk::{Arm, Disk, DiskRefusal};
@@ -19,7 +21,7 @@ pub enum StoreRefusal {
     Failed,
     /// The disk stopped in a device call. It has no power until it is restarted.
     Stopped,
-    /// The change has no room.
+    /// The change has no room; or, at an opening, what another layout kept on the disk is too much to be brought over.
     Full,
     /// The bytes from this place on are no record of the layout.
     Damaged { place: u32 },
@@ -71,9 +73,10 @@ pub struct Doubt {
 /// A store over a disk: bytes under each uid of one node, which outlive a crash at any moment.
 ///
 /// A change is a put or a removal. It is a job of some device calls, which a caller makes one by one (`begin_put`,
-/// `begin_delete`, `advance`) or all at once (`put`, `delete`). From the first of them on the change is in doubt: a crash
-/// leaves it made or not made, and never a part of it. Where a call is refused the job ends and the doubt stays. The next
-/// change, `get` or `settle` settles it by a sync and a read, which tell which of the two states is there (`picked`).
+/// `begin_delete`, `advance`) or all at once (`put`, `delete`). The layout gives these calls and their order. From the end
+/// of the first of them on the change is in doubt: a crash leaves it made or not made, and never a part of it. Where a call
+/// is refused the job ends and the doubt stays. The next change, `get` or `settle` settles it by a sync and a read, which
+/// tell which of the two states is there (`picked`).
 /// At most one change is under way or in doubt.
 ///
 /// After `Stopped` only `unsure`, `picked`, `mark`, `disk` and `close` are of use. What the contracts say of contents
@@ -114,13 +117,16 @@ pub trait Store: Sized {
         ensures node { IfOk result (λ s. node_of s ≡ node) }
         ensures idle { IfOk result (λ s. (work s ≡ Idle) × (picked s ≡ Option.None)) }
         ensures size { layout.allows (Self.Device.counts disk).size ≡ Bool.false → result ≡ Result.Err (disk, Damaged 0) }
-        ensures ran { (made : ℕ) × (DeviceCalls made (Self.Device.counts disk) (Self.Device.counts (disk_after device result)) (end_of_store (without_disk result)) × (IsTrue Self.Device.tells → OnOk result (made ≡ layout.opening_calls node (contents (Self.Device.told disk)).now))) }
+        ensures ran { (made : ℕ) × (DeviceCalls made (Self.Device.counts disk) (Self.Device.counts (disk_after device result)) (end_of_store (without_disk result)) × (IsTrue Self.Device.tells → OpeningMade (length (layout.opening_calls node (contents (Self.Device.told disk)).now)) (without_disk result) made)) }
+        ensures order { IsTrue Self.Device.tells → OpeningTold (layout.opening_calls node (contents (Self.Device.told disk)).now) (Self.Device.told disk) (Self.Device.told (disk_after device result)) (without_disk result) }
         ensures obeyed { IsTrue Self.Device.obeys → Obeyed (Self.Device.due disk) (Self.Device.due (disk_after device result)) (Self.Device.counts disk) (Self.Device.counts (disk_after device result)) (end_of_store (without_disk result)) }
+        ensures timed { IsTrue Self.Device.tells → Timed (Self.Device.counts disk).clock (Self.Device.told disk) (Self.Device.counts (disk_after device result)).clock (Self.Device.told (disk_after device result)) }
         ensures map { IsTrue Self.Device.tells → IfOk result (λ s. layout.map_of node (contents (Self.Device.told disk)).now ≡ Result.Ok (shown s).kept) }
         ensures written { IsTrue Self.Device.tells → IfOk result (λ s. (shown s).written ≡ layout.written_in node (contents (Self.Device.told disk)).now) }
         ensures damaged { IsTrue Self.Device.tells → IfErr result (λ r. (place : ℕ) → r.1 ≡ Damaged place → layout.map_of node (contents (Self.Device.told disk)).now ≡ Result.Err place) }
-        ensures never_full { IfErr result (λ r. r.1 ≢ Full) }
-        ensures fit { IsTrue Self.Device.tells → IfOk result (λ s. IsTrue (layout.is_fit node (contents (Self.Device.told disk)).now) → IsTrue (fit s)) }
+        ensures full { IsTrue Self.Device.tells → IsOverfullBy (layout.is_overfull node (contents (Self.Device.told disk)).now) (without_disk result) }
+        ensures never_full { NeverOverfull layout → IfErr result (λ r. r.1 ≢ Full) }
+        ensures fit { IsTrue Self.Device.tells → IfOk result (λ s. IsTrue (layout.tells_room node (contents (Self.Device.told disk)).now) → IsTrue (fit s)) }
         ensures stands { IsTrue Self.Device.tells → IfOk result (λ s. LeavesShown layout node (shown s) Idle (Self.Device.told (device s))) }
         // whatever the images stood for, they go on standing for it at each moment of the opening
         ensures moments { IsTrue Self.Device.tells → (kept : Kept) (changes : List Change) → Holds (Stands (layout.map_of node) kept changes) (contents (Self.Device.told disk))
@@ -173,7 +179,7 @@ pub trait Store: Sized {
 
     /// The length of the longest body that a put finds room for, or None where there is room for none.
     fn room(&self) -> Option<u32>
-        ensures { IsTrue Self.Device.tells → IsTrue (fit self.now) → result ≡ layout.room_of (Self.Device.counts (device self.now)).size (shown self.now) };
+        ensures { IsTrue Self.Device.tells → IsTrue (fit self.now) → result ≡ layout.room_of (Self.Device.counts (device self.now)).size (shown self.now).kept.bodies (shown self.now).written };
 
     /// Makes the next device call of a settling: its sync, or then its read. A refusal begins the settling anew.
     fn settle_step(&mut self) -> Result<Progress, StoreRefusal>
@@ -182,8 +188,10 @@ pub trait Store: Sized {
         ensures node { node_of self.new ≡ node_of self.old }
         ensures counts { DeviceCalls 1 (Self.Device.counts (device self.old)) (Self.Device.counts (device self.new)) (end_of_store result) }
         ensures obeyed { IsTrue Self.Device.obeys → Obeyed (Self.Device.due (device self.old)) (Self.Device.due (device self.new)) (Self.Device.counts (device self.old)) (Self.Device.counts (device self.new)) (end_of_store result) }
+        ensures timed { IsTrue Self.Device.tells → Timed (Self.Device.counts (device self.old)).clock (Self.Device.told (device self.old)) (Self.Device.counts (device self.new)).clock (Self.Device.told (device self.new)) }
         ensures only { IfErr result IsDiskRefusal }
         ensures last { IfOk result (λ progress. progress ≡ progress_at (is_synced (work self.old))) }
+        ensures told { IsTrue Self.Device.tells → CallTold (settling_call (is_synced (work self.old))) (Self.Device.counts (device self.new)).clock (Self.Device.told (device self.old)) (Self.Device.told (device self.new)) (end_of_store result) }
         ensures work { work self.new ≡ work_stepped (work self.old) result }
         ensures picked { is_some (picked self.new) ≡ (is_ok result && is_synced (work self.old)) }
         ensures fit { IsTrue (fit self.old) → IsTrue (fit self.new) }
@@ -207,6 +215,7 @@ pub trait Store: Sized {
         ensures room { IsTrue Self.Device.tells → IsTrue (fit self.old) → OnOk result (IsTrue (finds_room layout (Self.Device.counts (device self.old)).size (shown self.old) uid (Option.Some body.now))) }
         ensures full { IsTrue Self.Device.tells → IsTrue (fit self.old) → IfErr result (λ e. e ≡ Full → finds_room layout (Self.Device.counts (device self.old)).size (shown self.old) uid (Option.Some body.now) ≡ Bool.false) }
         ensures shown { IsTrue Self.Device.tells → shown self.new ≡ shown self.old }
+        ensures job { IsTrue Self.Device.tells → HasJob layout (node_of self.new) (contents (Self.Device.told (device self.new))).now (work self.new) }
         ensures fresh { IsTrue Self.Device.tells → IfSome (change_in (work self.new)) (λ c. IsFresh c (shown self.new).kept) };
 
     /// Begins a job that removes a kept uid. It makes no device call, and a refusal leaves all as it was.
@@ -223,30 +232,36 @@ pub trait Store: Sized {
         ensures room { IsTrue Self.Device.tells → IsTrue (fit self.old) → OnOk result (IsTrue (finds_room layout (Self.Device.counts (device self.old)).size (shown self.old) uid Option.None)) }
         ensures full { IsTrue Self.Device.tells → IsTrue (fit self.old) → IfErr result (λ e. e ≡ Full → finds_room layout (Self.Device.counts (device self.old)).size (shown self.old) uid Option.None ≡ Bool.false) }
         ensures shown { IsTrue Self.Device.tells → shown self.new ≡ shown self.old }
+        ensures job { IsTrue Self.Device.tells → HasJob layout (node_of self.new) (contents (Self.Device.told (device self.new))).now (work self.new) }
         ensures fresh { IsTrue Self.Device.tells → IfSome (change_in (work self.new)) (λ c. IsFresh c (shown self.new).kept) };
 
     /// Makes the next device call of the job. The last one makes the change; a refused one ends the job in doubt.
+    /// The first begins the doubt: a crash in the middle of it leaves the change not made.
     fn advance(&mut self) -> Result<Progress, StoreRefusal>
         requires power { IsTrue (Self.Device.counts (device self.old)).power }
         requires busy { IsTrue (is_busy (work self.old)) }
         ensures node { node_of self.new ≡ node_of self.old }
         ensures counts { DeviceCalls 1 (Self.Device.counts (device self.old)) (Self.Device.counts (device self.new)) (end_of_store result) }
         ensures obeyed { IsTrue Self.Device.obeys → Obeyed (Self.Device.due (device self.old)) (Self.Device.due (device self.new)) (Self.Device.counts (device self.old)) (Self.Device.counts (device self.new)) (end_of_store result) }
+        ensures timed { IsTrue Self.Device.tells → Timed (Self.Device.counts (device self.old)).clock (Self.Device.told (device self.old)) (Self.Device.counts (device self.new)).clock (Self.Device.told (device self.new)) }
         ensures only { IfErr result IsDiskRefusal }
         ensures last { IfOk result (λ progress. progress ≡ progress_at (nat_le (calls_left (work self.old)) 1)) }
+        ensures told { IsTrue Self.Device.tells → NextTold (work self.old) (Self.Device.counts (device self.new)).clock (Self.Device.told (device self.old)) (Self.Device.told (device self.new)) (end_of_store result) }
         ensures work { work self.new ≡ work_advanced (work self.old) result }
         ensures picked { picked self.new ≡ picked self.old }
         ensures fit { IsTrue (fit self.old) → IsTrue (fit self.new) }
         ensures shown { IsTrue Self.Device.tells → shown self.new ≡ shown_advanced layout (work self.old) (shown self.old) result }
         ensures stands { IsTrue Self.Device.tells → LeavesShown layout (node_of self.new) (shown self.new) (work self.new) (Self.Device.told (device self.new)) }
-        ensures moments { IsTrue Self.Device.tells → StandsThrough layout (node_of self.old) (shown self.old) (changes_in (change_in (work self.old))) (Self.Device.told (device self.old)) (Self.Device.told (device self.new)) };
+        ensures moments { IsTrue Self.Device.tells → StandsThrough layout (node_of self.old) (shown self.old) (changes_in (doubt_in (work self.old))) (Self.Device.told (device self.old)) (Self.Device.told (device self.new)) };
 
     /// Settles the change in doubt by a sync and a read. Without one, or while a job goes on, it makes no device call.
     fn settle(&mut self) -> Result<(), StoreRefusal>
         requires { IsTrue (Self.Device.counts (device self.old)).power }
         ensures node { node_of self.new ≡ node_of self.old }
+        ensures order { IsTrue Self.Device.tells → CallsTold (settling_of (work self.old)) (Self.Device.told (device self.old)) (Self.Device.told (device self.new)) (end_of_store result) }
         ensures ran { Ran (settling_calls (work self.old)) 0 result (Self.Device.counts (device self.old)) (Self.Device.counts (device self.new)) }
         ensures obeyed { IsTrue Self.Device.obeys → Obeyed (Self.Device.due (device self.old)) (Self.Device.due (device self.new)) (Self.Device.counts (device self.old)) (Self.Device.counts (device self.new)) (end_of_store result) }
+        ensures timed { IsTrue Self.Device.tells → Timed (Self.Device.counts (device self.old)).clock (Self.Device.told (device self.old)) (Self.Device.counts (device self.new)).clock (Self.Device.told (device self.new)) }
         ensures only { IfErr result IsDiskRefusal }
         ensures refused { OnErr result (IsTrue (is_unsettled (work self.old))) }
         ensures picked { is_some (picked self.new) ≡ (is_ok result && is_unsettled (work self.old)) }
@@ -266,6 +281,7 @@ pub trait Store: Sized {
         ensures node { node_of self.new ≡ node_of self.old }
         ensures changes { Changes Self.Device.tells layout (node_of self.old) uid (Option.Some body.now) (picked self.new) result (work self.old) (work self.new) (Self.Device.counts (device self.old)) (Self.Device.counts (device self.new)) (shown self.old) (shown self.new) (Self.Device.told (device self.old)) (Self.Device.told (device self.new)) }
         ensures obeyed { IsTrue Self.Device.obeys → Obeyed (Self.Device.due (device self.old)) (Self.Device.due (device self.new)) (Self.Device.counts (device self.old)) (Self.Device.counts (device self.new)) (end_of_store result) }
+        ensures timed { IsTrue Self.Device.tells → Timed (Self.Device.counts (device self.old)).clock (Self.Device.told (device self.old)) (Self.Device.counts (device self.new)).clock (Self.Device.told (device self.new)) }
         ensures picked { SettlesAfterMemory (picked self.new) (work self.old) result }
         ensures undamaged { IfErr result (λ e. IsDiskRefusal e ⊎ IsEarlyRefusal e) }
         ensures unchanged { IfErr result (λ e. e ≡ OutOfMemory → device self.new ≡ device self.old) }
@@ -286,6 +302,7 @@ pub trait Store: Sized {
             × (IsTrue Self.Device.tells → IsSome (body_at (settled layout (picked self.new) (work self.old) (shown self.old)) uid))
             × (IsTrue Self.Device.tells → IsTrue (fit self.old) → IsFullBy (finds_room layout (Self.Device.counts (device self.old)).size (settled layout (picked self.new) (work self.old) (shown self.old)) uid Option.None) (picked self.new) (work self.old) result)) }
         ensures obeyed { IsTrue Self.Device.obeys → Obeyed (Self.Device.due (device self.old)) (Self.Device.due (device self.new)) (Self.Device.counts (device self.old)) (Self.Device.counts (device self.new)) (end_of_store result) }
+        ensures timed { IsTrue Self.Device.tells → Timed (Self.Device.counts (device self.old)).clock (Self.Device.told (device self.old)) (Self.Device.counts (device self.new)).clock (Self.Device.told (device self.new)) }
         ensures picked { SettlesAfterMemory (picked self.new) (work self.old) result }
         ensures undamaged { IfErr result (λ e. IsDiskRefusal e ⊎ IsEarlyRefusal e) }
         ensures unchanged { IfErr result (λ e. e ≡ OutOfMemory → device self.new ≡ device self.old) }
@@ -297,8 +314,10 @@ pub trait Store: Sized {
         requires power { IsTrue (Self.Device.counts (device self.old)).power }
         requires other { worked_on (work self.old) ≢ Option.Some uid }
         ensures node { node_of self.new ≡ node_of self.old }
-        ensures ran { (calls : ℕ) × (Ran (settling_calls (work self.old)) calls result (Self.Device.counts (device self.old)) (Self.Device.counts (device self.new)) × IfOk result (λ found. calls ≡ layout.reading_calls found)) }
+        ensures ran { (calls : ℕ) × (Ran (settling_calls (work self.old)) calls result (Self.Device.counts (device self.old)) (Self.Device.counts (device self.new)) × IfOk result (λ found. calls ≡ layout.reading_calls found)
+            × (IsTrue Self.Device.tells → CallsTold (reads_due (work self.old) calls result) (Self.Device.told (device self.old)) (Self.Device.told (device self.new)) (end_of_store result))) }
         ensures obeyed { IsTrue Self.Device.obeys → Obeyed (Self.Device.due (device self.old)) (Self.Device.due (device self.new)) (Self.Device.counts (device self.old)) (Self.Device.counts (device self.new)) (end_of_store result) }
+        ensures timed { IsTrue Self.Device.tells → Timed (Self.Device.counts (device self.old)).clock (Self.Device.told (device self.old)) (Self.Device.counts (device self.new)).clock (Self.Device.told (device self.new)) }
         ensures only { IfErr result (λ e. IsDiskRefusal e ⊎ (e ≡ OutOfMemory)) }
         ensures picked { SettlesFirst (picked self.new) (work self.old) result }
         ensures work { work self.new ≡ work_settled (picked self.new) (work self.old) }

@@ -9,8 +9,8 @@ use Rattle.passive_store.specs.declared.records.Header.{Header}
 use Rattle.passive_store.specs.LogState.{records_before, SetsSlot, slot_of}
 use Rattle.passive_store.specs.Records.{IsHeaderAt, IsDamagedAt}
 use Rattle.passive_store.proofs.Tails.{placed_more}
-use Rattle.passive_store.proofs.Walking.{walk_begun, walk_more, walk_damaged, change_at, empty_slots, sets_same}
-use Rattle.passive_store.proofs.Openings.{damaged_at}
+use Rattle.passive_store.proofs.Walking.{walk_timed, walk_begun, walk_more, walk_damaged, change_at, empty_slots, sets_same}
+use Rattle.passive_store.proofs.Openings.{damaged_at, refused_reads}
 use Rattle.passive_store.proofs.opening.read_records.Goals as goal
 
 pub loop-index-init : goal.loop-index-init
@@ -36,7 +36,13 @@ loop-index-init g c =
 pub returns-in_err-header-clause-ran : goal.returns-in_err-header-clause-ran
 returns-in_err-header-clause-ran g c =
     let p = err_from_is_err_and c.from_residual.result c.from_residual.ensures.1 in
-    rw (p.1, p.2) (c.loop-index.invariant.made + 1, (calls_more c.loop-index.invariant.made 1 _ _ _ _ c.loop-index.invariant.counts c.in_err-header.ensures.counts, λ tells. tt))
+    rw (p.1, p.2) (
+      c.loop-index.invariant.made + 1,
+      (
+        calls_more c.loop-index.invariant.made 1 _ _ _ _ c.loop-index.invariant.counts c.in_err-header.ensures.counts,
+        λ tells. refused_reads c.args.node c.loop-index.tail c.loop-index.invariant.made (contents (g.D.Disk.told c.args.disk.now)).now _ c.in_err-header.ensures.only (c.loop-index.invariant.number tells),
+      ),
+    )
 
 pub returns-in_err-header-clause-damaged : goal.returns-in_err-header-clause-damaged
 returns-in_err-header-clause-damaged g c =
@@ -88,3 +94,12 @@ returns-clause-ran g c = (
     λ tells. ap (λ n. n + 1) (c.loop-index.invariant.number tells),
   ),
 )
+
+pub returns-in_err-header-clause-timed : goal.returns-in_err-header-clause-timed
+returns-in_err-header-clause-timed g c = λ tells. walk_timed _ _ _ _ _ _ _ _ _ _ _ _ _ _ tells c.loop-index.invariant (c.in_err-header.ensures.timed tells)
+
+pub returns-in_err-make_entry-clause-timed : goal.returns-in_err-make_entry-clause-timed
+returns-in_err-make_entry-clause-timed g c = λ tells. walk_timed _ _ _ _ _ _ _ _ _ _ _ _ _ _ tells c.loop-index.invariant (c.in_ok-header.ensures.timed tells)
+
+pub returns-clause-timed : goal.returns-clause-timed
+returns-clause-timed g c = λ tells. walk_timed _ _ _ _ _ _ _ _ _ _ _ _ _ _ tells c.loop-index.invariant (c.in_ok-header.ensures.timed tells)

@@ -1,4 +1,5 @@
 use Rattle.std.proofs.Common.{◌≡◌, ◌+◌, ℕ, List, length, take, drop, replicate, slice_range, ap, ◌∙◌, arith, ◌++◌}
+use Rattle.eden_disk.specs.Timed.{timed_read}
 use Rattle.std.proofs.lemmas.List.{length-take-le}
 use Rattle.eden_disk.specs.Told.{contents}
 use Rattle.passive_store.proofs.Headers.{header_read, damage_read}
@@ -37,3 +38,15 @@ returns-in-None-clause-damaged g c = λ tells same.
       is = ap (λ l. l ++ drop count (replicate 15 0)) (bytes ∙ ap (λ n. slice_range now c.args.place (c.args.place + n)) long);
     })
     c.if-bytes.false c.in-None.ensures.found
+
+pub returns-in_err-read-clause-timed : goal.returns-in_err-read-clause-timed
+returns-in_err-read-clause-timed g c = λ tells. timed_read (g.D.Disk.counts c.args.disk.now).clock (g.D.Disk.counts c.read.new.self).clock (g.D.Disk.told c.args.disk.now) (g.D.Disk.told c.read.new.self) _ c.read.ensures.counts.clock (c.read.ensures.told tells)
+
+pub returns-then-bytes-clause-timed : goal.returns-then-bytes-clause-timed
+returns-then-bytes-clause-timed g c = λ tells. timed_read (g.D.Disk.counts c.args.disk.now).clock (g.D.Disk.counts c.read.new.self).clock (g.D.Disk.told c.args.disk.now) (g.D.Disk.told c.read.new.self) _ c.read.ensures.counts.clock (c.read.ensures.told tells)
+
+pub returns-in-Some-clause-timed : goal.returns-in-Some-clause-timed
+returns-in-Some-clause-timed g c = λ tells. timed_read (g.D.Disk.counts c.args.disk.now).clock (g.D.Disk.counts c.read.new.self).clock (g.D.Disk.told c.args.disk.now) (g.D.Disk.told c.read.new.self) _ c.read.ensures.counts.clock (c.read.ensures.told tells)
+
+pub returns-in-None-clause-timed : goal.returns-in-None-clause-timed
+returns-in-None-clause-timed g c = λ tells. timed_read (g.D.Disk.counts c.args.disk.now).clock (g.D.Disk.counts c.read.new.self).clock (g.D.Disk.told c.args.disk.now) (g.D.Disk.told c.read.new.self) _ c.read.ensures.counts.clock (c.read.ensures.told tells)

@@ -1,4 +1,4 @@
-use Rattle.std.proofs.Common.{◌≡◌, IsTrue}
+use Rattle.std.proofs.Common.{IsTrue}
 use Rattle.passive_store.specs.Kept.{is_busy}
 use Rattle.passive_store.proofs.tests.make_part.Given as goal
 

@@ -4,9 +4,10 @@ use Rattle.eden_disk.specs.Calls.{Counts}
 use Rattle.passive_store.specs.declared.log_store.Pending.{Pending}
 use Rattle.passive_store.specs.declared.log_store.Stage.TheVariants.{Ended}
 use Rattle.passive_store.specs.Kept.{is_busy}
-use Rattle.passive_store.specs.LogState.{IsPlaced, IsLog, IsStaged, SetsSlot, pending_work, log_layout, log_shown}
+use Rattle.passive_store.specs.LogState.{IsPlaced, IsLog, IsStaged, SetsSlot, pending_work, log_layout, log_shown, stage_call}
+use Rattle.passive_store.specs.declared.store.Progress.{Progress}
 use Rattle.passive_store.proofs.Tails.{log_stands, placed_more}
-use Rattle.passive_store.proofs.Pendings.{Keeps, keeps_of, keeps_placed, keeps_log, keeps_shown, keeps_moments, keeps_next, job_at, front_long, job_done, with_stage, shown_refused, shown_going, shown_done}
+use Rattle.passive_store.proofs.Pendings.{Keeps, keeps_of, keeps_placed, keeps_log, keeps_shown, step_moments, next_told, told_refused, keeps_next, job_at, front_long, job_done, with_stage, shown_refused, shown_going, shown_done}
 use Rattle.passive_store.proofs.log_store.LogStore.advance_job.Goals as goal
 
 pub invariant_of-self-in-Err : goal.invariant_of-self-in-Err
@@ -72,7 +73,7 @@ returns-in-Err-clause-moments g c = λ tells.
     let job = job_at s.node s.size s.tail (contents t0) k0 s.index s.pending p c.deref.result.now e c.deref.ensures.value c.self.invariant.0 (c.self.invariant.1 tells) (c.self.invariant.2 tells power) in
     let at = front_long s.node s.size s.tail (contents t0) k0 s.index s.pending c.self.invariant.0 (c.self.invariant.1 tells) in
     let k : Keeps s.node s.size s.tail t0 t1 k0 k1 s.index s.pending p = keeps_of s.node s.size s.tail t0 t1 k0 k1 s.index s.pending p c.deref.result.now e c.deref.ensures.value c.self.invariant.0 (c.self.invariant.1 tells) c.in-Err.ensures.counts.size (c.in-Err.ensures.whole tells (take s.tail (contents t0).now) at job) in
-    rw (← c.self.view_is) (keeps_moments s.node s.size s.tail t0 t1 k0 k1 s.index s.pending p k)
+    rw (← c.self.view_is) (step_moments s.node s.size s.tail t0 t1 k0 k1 s.index s.pending p k (c.in-Err.ensures.first tells (take s.tail (contents t0).now) at job))
 
 pub invariant_of-self-in-Some-next_stage : goal.invariant_of-self-in-Some-next_stage
 invariant_of-self-in-Some-next_stage g c =
@@ -144,7 +145,7 @@ returns-in-Some-next_stage-clause-moments g c = λ tells.
     let job = job_at s.node s.size s.tail (contents t0) k0 s.index s.pending p c.deref.result.now e c.deref.ensures.value c.self.invariant.0 (c.self.invariant.1 tells) (c.self.invariant.2 tells power) in
     let at = front_long s.node s.size s.tail (contents t0) k0 s.index s.pending c.self.invariant.0 (c.self.invariant.1 tells) in
     let k : Keeps s.node s.size s.tail t0 t1 k0 k1 s.index s.pending p = keeps_of s.node s.size s.tail t0 t1 k0 k1 s.index s.pending p c.deref.result.now e c.deref.ensures.value c.self.invariant.0 (c.self.invariant.1 tells) c.in-Ok.ensures.counts.size (c.in-Ok.ensures.whole tells (take s.tail (contents t0).now) at job) in
-    rw (← c.self.view_is) (keeps_moments s.node s.size s.tail t0 t1 k0 k1 s.index s.pending p k)
+    rw (← c.self.view_is) (step_moments s.node s.size s.tail t0 t1 k0 k1 s.index s.pending p k (c.in-Ok.ensures.first tells (take s.tail (contents t0).now) at job))
 
 pub invariant_of-self-in-None-next_stage : goal.invariant_of-self-in-None-next_stage
 invariant_of-self-in-None-next_stage g c =
@@ -218,4 +219,25 @@ returns-in-None-clause-moments g c = λ tells.
     let job = job_at s.node s.size s.tail (contents t0) k0 s.index s.pending p c.deref.result.now e c.deref.ensures.value c.self.invariant.0 (c.self.invariant.1 tells) (c.self.invariant.2 tells power) in
     let at = front_long s.node s.size s.tail (contents t0) k0 s.index s.pending c.self.invariant.0 (c.self.invariant.1 tells) in
     let k : Keeps s.node s.size s.tail t0 t1 k0 k1 s.index s.pending p = keeps_of s.node s.size s.tail t0 t1 k0 k1 s.index s.pending p c.deref.result.now e c.deref.ensures.value c.self.invariant.0 (c.self.invariant.1 tells) c.in-Ok.ensures.counts.size (c.in-Ok.ensures.whole tells (take s.tail (contents t0).now) at job) in
-    rw (← c.self.view_is) (keeps_moments s.node s.size s.tail t0 t1 k0 k1 s.index s.pending p k)
+    rw (← c.self.view_is) (step_moments s.node s.size s.tail t0 t1 k0 k1 s.index s.pending p k (c.in-Ok.ensures.first tells (take s.tail (contents t0).now) at job))
+
+pub returns-in-Err-clause-told : goal.returns-in-Err-clause-told
+returns-in-Err-clause-told g c = λ tells.
+    let s = c.self.inside in
+    let p : Pending = c.in-Some.pending in
+    let e : s.pending ≡ Some p = sym c.take.ensures.value ∙ c.in-Some.is in
+    rw (c.into.ensures, ← c.self.view_is) (next_told s.tail s.pending p c.deref.result.now _ _ _ _ e c.deref.ensures.value (told_refused (Unit {0}) Progress (stage_call s.tail c.deref.result.now p.stage) _ _ _ _ (c.in-Err.ensures.told tells)))
+
+pub returns-in-Some-next_stage-clause-told : goal.returns-in-Some-next_stage-clause-told
+returns-in-Some-next_stage-clause-told g c = λ tells.
+    let s = c.self.inside in
+    let p : Pending = c.in-Some.pending in
+    let e : s.pending ≡ Some p = sym c.take.ensures.value ∙ c.in-Some.is in
+    rw (← c.self.view_is) (next_told s.tail s.pending p c.deref.result.now _ _ _ _ e c.deref.ensures.value (c.in-Ok.ensures.told tells))
+
+pub returns-in-None-clause-told : goal.returns-in-None-clause-told
+returns-in-None-clause-told g c = λ tells.
+    let s = c.self.inside in
+    let p : Pending = c.in-Some.pending in
+    let e : s.pending ≡ Some p = sym c.take.ensures.value ∙ c.in-Some.is in
+    rw (← c.self.view_is) (next_told s.tail s.pending p c.deref.result.now _ _ _ _ e c.deref.ensures.value (c.in-Ok.ensures.told tells))

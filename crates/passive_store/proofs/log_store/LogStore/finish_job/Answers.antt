@@ -1,11 +1,12 @@
-use Rattle.std.proofs.Common.{refl, sym, ap, ◌∙◌, arith, inl}
+use Rattle.std.proofs.Common.{[], refl, sym, ap, ◌∙◌, arith, inl}
 use Rattle.std.proofs.lemmas.Result.{err_from_is_err_and}
+use Rattle.eden_disk.specs.Timed.{timed_join}
 use Rattle.eden_disk.specs.Held.{calls_none, obeyed_none}
 use Rattle.std.specs.Prelude.{Ok}
 use Rattle.passive_store.specs.declared.store.Progress.{Progress}
 use Rattle.passive_store.specs.Kept.{work_advanced, shown_advanced}
 use Rattle.passive_store.specs.LogState.{log_layout, state_shown}
-use Rattle.passive_store.specs.Joining.{on_moments, on_ran, goes_on}
+use Rattle.passive_store.specs.Joining.{all_told, stopped_told, timed_still, on_moments, on_ran, goes_on}
 use Rattle.passive_store.proofs.log_store.LogStore.finish_job.Goals as goal
 
 pub loop-init : goal.loop-init
@@ -13,6 +14,10 @@ loop-init g c = record {
   made = 0;
   counts = calls_none _ c.requires.power;
   obeyed = λ so. obeyed_none _ _;
+  timed = λ so. timed_still _ _ _ _ (omega arith) refl;
+  done = [];
+  order = refl;
+  told = λ so. refl;
   node = refl;
   picked = refl;
   fit = λ so. so;
@@ -34,7 +39,7 @@ returns-in_err-advance_job-clause-moments g c = λ tells. on_moments _ _ _ _ _ _
 
 pub loop-preserved : goal.loop-preserved
 loop-preserved g c = goes_on _ _ _ _ _ _ _ _ _ _ _ _ _ _ _ _ _ _ _ _ _ _ _ _ _ _ _ c.loop.invariant c.in_ok-advance_job.ensures.node
-    c.in_ok-advance_job.ensures.counts c.in_ok-advance_job.ensures.obeyed (sym c.in-Going.is ∙ c.in_ok-advance_job.ensures.last)
+    c.in_ok-advance_job.ensures.counts c.in_ok-advance_job.ensures.obeyed c.in_ok-advance_job.ensures.timed c.in_ok-advance_job.ensures.told (sym c.in-Going.is ∙ c.in_ok-advance_job.ensures.last)
     (c.in_ok-advance_job.ensures.work ∙ ap (λ x. work_advanced c.loop.self.work (Ok x)) c.in-Going.is)
     c.in_ok-advance_job.ensures.picked (λ so. so)
     (λ so. c.in_ok-advance_job.ensures.shown so ∙ ap (λ x. shown_advanced log_layout c.loop.self.work (state_shown g.D.Disk.told c.loop.self) (Ok x)) c.in-Going.is)
@@ -42,3 +47,18 @@ loop-preserved g c = goes_on _ _ _ _ _ _ _ _ _ _ _ _ _ _ _ _ _ _ _ _ _ _ _ _ _ _
 
 pub returns-clause-moments : goal.returns-clause-moments
 returns-clause-moments g c = λ tells. on_moments _ _ _ _ _ _ _ _ _ _ _ _ _ _ _ _ _ _ _ _ tells c.loop.invariant (c.advance_job.ensures.moments tells)
+
+pub returns-in_err-advance_job-clause-timed : goal.returns-in_err-advance_job-clause-timed
+returns-in_err-advance_job-clause-timed g c = λ tells. timed_join _ _ _ _ _ _ (c.loop.invariant.timed tells) (c.in_err-advance_job.ensures.timed tells)
+
+pub returns-clause-timed : goal.returns-clause-timed
+returns-clause-timed g c = λ tells. timed_join _ _ _ _ _ _ (c.loop.invariant.timed tells) (c.advance_job.ensures.timed tells)
+
+pub returns-in_err-advance_job-clause-order : goal.returns-in_err-advance_job-clause-order
+returns-in_err-advance_job-clause-order g c =
+    let p = err_from_is_err_and c.from_residual.result c.from_residual.ensures.1 in
+    rw (p.1, p.2) (λ tells. stopped_told Progress (Unit {0}) _ _ _ _ _ _ _ _ _ _ _ _ _ _ _ _ _ _ _ _ _ _ tells c.loop.invariant c.in_err-advance_job.ensures.only (c.in_err-advance_job.ensures.told tells))
+
+pub returns-clause-order : goal.returns-clause-order
+returns-clause-order g c = λ tells.
+    all_told _ _ _ _ _ _ _ _ _ _ _ _ _ _ _ _ _ _ _ _ _ tells c.loop.invariant (sym c.in_default.is ∙ c.in_ok-advance_job.ensures.last) (c.in_ok-advance_job.ensures.told tells)

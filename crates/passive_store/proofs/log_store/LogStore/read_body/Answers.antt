@@ -1,4 +1,7 @@
-use Rattle.std.proofs.Common.{IsTrue, refl, sym, subst}
+use Rattle.std.proofs.Common.{IsTrue, Option, refl, sym, subst, arith}
+use Rattle.eden_disk.specs.Timed.{timed_read}
+use Rattle.capability.specs.declared.lists.Body.{Body}
+use Rattle.passive_store.specs.Joining.{timed_still, read_stopped}
 use Rattle.std.proofs.lemmas.Result.{err_from_is_err_and}
 use Rattle.eden_disk.specs.Told.{Told, contents}
 use Rattle.eden_disk.specs.Calls.{Counts}
@@ -66,7 +69,7 @@ returns-in_err-read-clause-shown g c = λ tells.
 pub returns-in_err-read-clause-ran : goal.returns-in_err-read-clause-ran
 returns-in_err-read-clause-ran g c =
     let p = err_from_is_err_and c.from_residual-in_err-read.result c.from_residual-in_err-read.ensures.1 in
-    rw (p.1, p.2, ← c.self.view_is) (1, (refused_read (Unit {0}) _ _ _ _ c.in_err-read.ensures.counts, tt))
+    rw (p.1, p.2, ← c.self.view_is) (1, (refused_read (Unit {0}) _ _ _ _ c.in_err-read.ensures.counts, tt, λ tells. read_stopped (Unit {0}) (Option Body) (g.D.Disk.counts c.read.new.self).clock _ (g.D.Disk.told c.self.inside.disk) (g.D.Disk.told c.read.new.self) (c.in_err-read.ensures.told tells)))
 
 pub invariant_of-self : goal.invariant_of-self
 invariant_of-self g c =
@@ -81,3 +84,17 @@ invariant_of-self g c =
           staged_by_read s.tail t0 t1 s.pending _ _ _ (c.read.ensures.told tells) c.read.ensures.counts.power on
           (c.self.invariant.2 tells (subst (λ v. IsTrue (g.D.Disk.counts v.device).power) (sym c.self.view_is) c.requires.power)),
     )
+
+pub returns-in_err-read-clause-timed : goal.returns-in_err-read-clause-timed
+returns-in_err-read-clause-timed g c = λ tells.
+    rw (← c.self.view_is) (timed_read (g.D.Disk.counts c.self.inside.disk).clock (g.D.Disk.counts c.read.new.self).clock (g.D.Disk.told c.self.inside.disk) (g.D.Disk.told c.read.new.self) _ c.read.ensures.counts.clock (c.read.ensures.told tells))
+
+pub returns-clause-timed : goal.returns-clause-timed
+returns-clause-timed g c = λ tells.
+    rw (← c.self.view_is) (timed_read (g.D.Disk.counts c.self.inside.disk).clock (g.D.Disk.counts c.read.new.self).clock (g.D.Disk.told c.self.inside.disk) (g.D.Disk.told c.read.new.self) _ c.read.ensures.counts.clock (c.read.ensures.told tells))
+
+pub returns-in_default-clause-timed : goal.returns-in_default-clause-timed
+returns-in_default-clause-timed g c = λ tells. rw (← c.self.view_is) (timed_still _ _ _ _ (omega arith) refl)
+
+pub returns-in_err-bytes-clause-timed : goal.returns-in_err-bytes-clause-timed
+returns-in_err-bytes-clause-timed g c = λ tells. rw (← c.self.view_is) (timed_still _ _ _ _ (omega arith) refl)

@@ -1,5 +1,6 @@
 use Rattle.std.proofs.Common.{◌≡◌, ◌+◌, true, false, IsTrue, None, Some, sym, ap, subst, ◌∙◌, arith}
 use Rattle.eden_disk.specs.Told.{Told, contents, at_rest}
+use Rattle.eden_disk.specs.Timed.{timed_sync}
 use Rattle.eden_disk.specs.Calls.{Counts, Fine}
 use Rattle.passive_store.specs.declared.log_store.Pending.{Pending}
 use Rattle.passive_store.specs.declared.log_store.Stage.TheVariants.{Ended}
@@ -308,3 +309,11 @@ returns-clause-moments g c = λ tells.
     let k : Keeps s.node s.size s.tail t0 t1 k0 k1 s.index s.pending p = keeps_read s.node s.size s.tail 0 t0 t1 k0 k1 s.index s.pending p Fine e c.self.invariant.0 (c.self.invariant.1 tells) c.in-Ok-true.ensures.counts.size (c.in-Ok-true.ensures.told tells) in
     let rest : contents t0 ≡ at_rest (contents t0).now = read_rest s.tail (contents t0) s.pending p e (sym c.has_synced.ensures ∙ c.if-not-has_synced.false) (c.self.invariant.2 tells power) in
     rw (← c.self.view_is) (doubt_moments s.node s.size s.tail t0 t1 k0 k1 s.index s.pending p k unsettled)
+
+pub returns-in-Ok-clause-timed : goal.returns-in-Ok-clause-timed
+returns-in-Ok-clause-timed g c = λ tells.
+    rw (← c.self.view_is) (timed_sync (g.D.Disk.counts c.self.inside.disk) (g.D.Disk.counts c.sync.new.self) (g.D.Disk.told c.self.inside.disk) (g.D.Disk.told c.sync.new.self) _ c.sync.ensures.counts.clock (c.sync.ensures.spent tells) (c.sync.ensures.told tells))
+
+pub returns-in-Err-clause-timed : goal.returns-in-Err-clause-timed
+returns-in-Err-clause-timed g c = λ tells.
+    rw (← c.self.view_is) (timed_sync (g.D.Disk.counts c.self.inside.disk) (g.D.Disk.counts c.sync.new.self) (g.D.Disk.told c.self.inside.disk) (g.D.Disk.told c.sync.new.self) _ c.sync.ensures.counts.clock (c.sync.ensures.spent tells) (c.sync.ensures.told tells))

@@ -8,13 +8,13 @@ use Rattle.passive_store.specs.Kept.{nothing_kept}
 use Rattle.passive_store.specs.Log.{kept_from}
 use Rattle.passive_store.specs.LogState.{IsRecordOf, HasEntry, records_before, used_by, body_length}
 use Rattle.passive_store.proofs.Tails.{none_pending}
-use Rattle.passive_store.proofs.Pendings.{pending_of, begun_log, room_yes}
+use Rattle.passive_store.proofs.Pendings.{pending_of, begun_log, room_yes, tail_is}
 use Rattle.passive_store.proofs.log_store.LogStore.start.Goals as goal
 
 pub invariant_of-self : goal.invariant_of-self
 invariant_of-self g c =
     let s = c.self.inside in
-    let p : Pending = record { uid = c.args.uid; removal = c.args.removal; length = c.args.length; «record» = c.args.record_bytes; stage = Begun } in
+    let p : Pending = record { uid = c.args.uid; removal = c.args.removal; length = c.args.length; bytes = c.args.record_bytes; stage = Begun } in
     let e : s.pending ≡ None = none_pending s.tail s.pending (ap (λ v. v.work) c.self.view_is ∙ c.requires.idle) in
     let r : IsRecordOf s.node c.args.record_bytes.items c.args.uid c.args.removal c.args.length = subst (λ n. IsRecordOf n c.args.record_bytes.items c.args.uid c.args.removal c.args.length) (sym (ap (λ v. v.node) c.self.view_is)) c.requires.spelled in (
       record {
@@ -33,7 +33,7 @@ invariant_of-self g c =
 pub returns-clause-room : goal.returns-clause-room
 returns-clause-room g c = λ tells.
     let s = c.self.inside in
-    let p : Pending = record { uid = c.args.uid; removal = c.args.removal; length = c.args.length; «record» = c.args.record_bytes; stage = Begun } in
+    let p : Pending = record { uid = c.args.uid; removal = c.args.removal; length = c.args.length; bytes = c.args.record_bytes; stage = Begun } in
     let e : s.pending ≡ None = none_pending s.tail s.pending (ap (λ v. v.work) c.self.view_is ∙ c.requires.idle) in
     let r : IsRecordOf s.node c.args.record_bytes.items c.args.uid c.args.removal c.args.length = subst (λ n. IsRecordOf n c.args.record_bytes.items c.args.uid c.args.removal c.args.length) (sym (ap (λ v. v.node) c.self.view_is)) c.requires.spelled in
     rw (← c.self.view_is) (room_yes _ (used_by (map body_length (records_before s.node s.tail (contents (g.D.Disk.told s.disk)).now))) c.args.length (omega (arith, c.if-self-length.false, (c.self.invariant.1 tells).sum, c.self.invariant.0.sized)))
@@ -41,8 +41,18 @@ returns-clause-room g c = λ tells.
 pub returns-clause-fresh : goal.returns-clause-fresh
 returns-clause-fresh g c = λ tells.
     let s = c.self.inside in
-    let p : Pending = record { uid = c.args.uid; removal = c.args.removal; length = c.args.length; «record» = c.args.record_bytes; stage = Begun } in
+    let p : Pending = record { uid = c.args.uid; removal = c.args.removal; length = c.args.length; bytes = c.args.record_bytes; stage = Begun } in
     let e : s.pending ≡ None = none_pending s.tail s.pending (ap (λ v. v.work) c.self.view_is ∙ c.requires.idle) in
     let r : IsRecordOf s.node c.args.record_bytes.items c.args.uid c.args.removal c.args.length = subst (λ n. IsRecordOf n c.args.record_bytes.items c.args.uid c.args.removal c.args.length) (sym (ap (λ v. v.node) c.self.view_is)) c.requires.spelled in
     (pending_of s.node s.size s.tail (contents (g.D.Disk.told s.disk)) (g.D.Disk.counts s.disk) s.index s.pending p c.self.invariant.0 (c.self.invariant.1 tells) r
     (λ removal. subst (λ v. IsSome (finite.get (kept_from nothing_kept (records_before v.node v.tail (contents (g.D.Disk.told v.device)).now)).bodies c.args.uid)) (sym c.self.view_is) (c.requires.kept removal tells))).fresh
+
+pub returns-clause-tail : goal.returns-clause-tail
+returns-clause-tail g c = λ tells.
+    let s = c.self.inside in
+    rw (← c.self.view_is) (tail_is s.node s.size s.tail (contents (g.D.Disk.told s.disk)) (g.D.Disk.counts s.disk) s.index s.pending (none_pending s.tail s.pending (ap (λ v. v.work) c.self.view_is ∙ c.requires.idle)) c.self.invariant.0 (c.self.invariant.1 tells))
+
+pub returns-then-self-length-clause-tail : goal.returns-then-self-length-clause-tail
+returns-then-self-length-clause-tail g c = λ tells.
+    let s = c.self.inside in
+    rw (← c.self.view_is) (tail_is s.node s.size s.tail (contents (g.D.Disk.told s.disk)) (g.D.Disk.counts s.disk) s.index s.pending (none_pending s.tail s.pending (ap (λ v. v.work) c.self.view_is ∙ c.requires.idle)) c.self.invariant.0 (c.self.invariant.1 tells))

@@ -1,4 +1,5 @@
 use Rattle.std.proofs.Common.{IsTrue, refl, sym, subst, inl, inr, arith}
+use Rattle.passive_store.specs.Joining.{timed_still}
 use Rattle.std.proofs.lemmas.Result.{err_from_is_err_and}
 use Rattle.eden_disk.specs.Told.{contents}
 use Rattle.eden_disk.specs.Held.{calls_none}
@@ -17,6 +18,7 @@ returns-in_err-record_bytes-clause-changes g c =
     rw (p.1, p.2, ← c.self.view_is) (inl (
       record {
         ran = record { made = 0; number = refl; counts = calls_none (g.D.Disk.counts s.disk) power };
+        order = λ tells. refl;
         work = refl;
         shown = λ tells. refl;
         moments = λ tells. still_moments s.node s.size s.tail (g.D.Disk.told s.disk) (g.D.Disk.counts s.disk) s.index s.pending c.self.invariant.0 (c.self.invariant.1 tells);
@@ -38,6 +40,7 @@ returns-in_err-make_entry-clause-changes g c =
     rw (p.1, p.2, ← c.self.view_is) (inl (
       record {
         ran = record { made = 0; number = refl; counts = calls_none (g.D.Disk.counts s.disk) power };
+        order = λ tells. refl;
         work = refl;
         shown = λ tells. refl;
         moments = λ tells. still_moments s.node s.size s.tail (g.D.Disk.told s.disk) (g.D.Disk.counts s.disk) s.index s.pending c.self.invariant.0 (c.self.invariant.1 tells);
@@ -68,3 +71,9 @@ returns-clause-picked g c = rw (← c.self.view_is) (after_memory c.remove_recor
 
 pub returns-clause-unchanged : goal.returns-clause-unchanged
 returns-clause-unchanged g c = unless_memory _ c.remove_record.result c.remove_record.ensures.undamaged
+
+pub returns-in_err-record_bytes-clause-timed : goal.returns-in_err-record_bytes-clause-timed
+returns-in_err-record_bytes-clause-timed g c = λ tells. rw (← c.self.view_is) (timed_still _ _ _ _ (omega arith) refl)
+
+pub returns-in_err-make_entry-clause-timed : goal.returns-in_err-make_entry-clause-timed
+returns-in_err-make_entry-clause-timed g c = λ tells. rw (← c.self.view_is) (timed_still _ _ _ _ (omega arith) refl)
