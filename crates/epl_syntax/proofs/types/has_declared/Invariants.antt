@@ -1,0 +1,9 @@
+use Rattle.std.proofs.Common.{◌≡◌, drop, map}
+use Rattle.std.specs.List.{list_any}
+use Rattle.eden_model.specs.Map.{same_text}
+use Rattle.epl_syntax.proofs.types.has_declared.Given as goal
+
+abbrev pub invariant-loop-t : goal.invariant-loop-t
+invariant-loop-t l =
+    list_any (λ t. same_text t l.name) (map (λ t. t.name.text) (map (λ c. c.program) (drop l.t-index l.types)))
+    ≡ list_any (λ t. same_text t l.name) (map (λ t. t.name.text) (map (λ c. c.program) l.types))

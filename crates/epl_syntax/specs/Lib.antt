@@ -1,0 +1,10 @@
+pub mod Kinds
+pub mod Cell
+pub mod Meaning
+pub mod Form
+pub mod Words
+pub mod Token
+pub mod OneList
+pub mod Tree
+pub mod TreeRows
+pub mod Rules

@@ -1,0 +1,238 @@
+-- The tree of an Edentype, without where it lies in memory.
+use Rattle.std.specs.Prelude.{ℕ, ℤ, Bool, List, [], ◌∷◌, map, Option}
+use Rattle.eden_value.specs.Shape.{Shape, shape}
+use Rattle.epl_syntax.specs.declared.tree.Name.{Name}
+use Rattle.epl_syntax.specs.declared.tree.Number.{Number}
+use Rattle.epl_syntax.specs.declared.tree.WrittenKind.{WrittenKind}
+use Rattle.epl_syntax.specs.declared.tree.Prefix.{Prefix}
+use Rattle.epl_syntax.specs.declared.tree.Operator.{Operator}
+use Rattle.epl_syntax.specs.declared.tree.Builtin.{Builtin}
+use Rattle.epl_syntax.specs.declared.tree.Const.{Const}
+use Rattle.epl_syntax.specs.declared.tree.Const.TheVariants as const
+use Rattle.epl_syntax.specs.declared.tree.Expr.{Expr}
+use Rattle.epl_syntax.specs.declared.tree.Expr as expr
+use Rattle.epl_syntax.specs.declared.tree.Target.{Target}
+use Rattle.epl_syntax.specs.declared.tree.Stmt.{Stmt}
+use Rattle.epl_syntax.specs.declared.tree.Stmt as stmt
+use Rattle.epl_syntax.specs.declared.tree.ClassDecl.{ClassDecl}
+use Rattle.epl_syntax.specs.declared.tree.CondDecl.{CondDecl}
+use Rattle.epl_syntax.specs.declared.tree.Start.{Start}
+use Rattle.epl_syntax.specs.declared.tree.VarDecl.{VarDecl}
+use Rattle.epl_syntax.specs.declared.tree.LocalDecl.{LocalDecl}
+use Rattle.epl_syntax.specs.declared.tree.ParDecl.{ParDecl}
+use Rattle.epl_syntax.specs.declared.tree.OpDecl.{OpDecl}
+use Rattle.epl_syntax.specs.declared.tree.ProcDecl.{ProcDecl}
+use Rattle.epl_syntax.specs.declared.tree.Assignment.{Assignment}
+use Rattle.epl_syntax.specs.declared.tree.UpgradeDecl.{UpgradeDecl}
+use Rattle.epl_syntax.specs.declared.tree.Program.{Program}
+
+-- a kind as it is written, and its place
+pub record PlacedShape : Type 0 where
+  pub shape : Shape
+  pub place : ℕ
+
+abbrev pub written : WrittenKind → PlacedShape
+written k = record { shape = shape k.kind; place = k.place }
+
+pub data Constant : Type 0 where
+  integer : ℤ → Constant
+  text : List ℕ → Constant
+  truth : Bool → Constant
+  absent : Constant
+  empty_list : PlacedShape → Constant
+
+abbrev pub constant : Const → Constant
+constant (const.Int n) = integer n
+constant (const.Text t) = text t
+constant (const.Bool b) = truth b
+constant const.Absent = absent
+constant (const.EmptyList k) = empty_list (written k)
+
+-- ---- expressions
+mutual
+  pub data Expression : Type 0 where
+    Const_ : (value : Constant) (place : ℕ) → Expression
+    Name_ : (name : Name) → Expression
+    Me : (place : ℕ) → Expression
+    Unary : (prefix : Prefix) (of : Expression) (place : ℕ) → Expression
+    Binary : (operator : Operator) (left right : Expression) (place : ℕ) → Expression
+    Index : (of at : Expression) (place : ℕ) → Expression
+    ListOf : (items : Expressions) (place : ℕ) → Expression
+    Apply : (builtin : Builtin) (args : Expressions) (place : ℕ) → Expression
+
+  pub data Expressions : Type 0 where
+    no_expressions : Expressions
+    expression_and : (first : Expression) (rest : Expressions) → Expressions
+
+-- the expressions of a list, in order
+abbrev pub in_order : List Expression → Expressions
+in_order [] = no_expressions
+in_order (e ∷ es) = expression_and e (in_order es)
+
+abbrev mutual
+  pub expression : Expr → Expression
+  expression (expr.Const value place) = Const_ (constant value) place
+  expression (expr.Name name) = Name_ name
+  expression (expr.Me place) = Me place
+  expression (expr.Unary' prefix p of place) = Unary prefix (expression of) place
+  expression (expr.Binary' operator p left q right place) = Binary operator (expression left) (expression right) place
+  expression (expr.Index' p of q at place) = Index (expression of) (expression at) place
+  expression (expr.ListOf' m items place) = ListOf (expression_row items) place
+  expression (expr.Apply' builtin m args place) = Apply builtin (expression_row args) place
+
+  pub expression_row : {m : _} → expr.Row_of-Expr m → Expressions
+  expression_row expr.end_of-Expr = no_expressions
+  expression_row (expr.more_of-Expr e rest) = expression_and (expression e) (expression_row rest)
+
+abbrev pub expressions : List Expr → Expressions
+expressions es = in_order (map expression es)
+
+-- ---- statements
+mutual
+  pub data Statement : Type 0 where
+    Assign : (name : Name) (value : Expression) → Statement
+    If : (test : Expression) (so otherwise : Statements) (place : ℕ) → Statement
+    While : (test : Expression) (body : Statements) (place : ℕ) → Statement
+    With : (monitor : Name) (body : Statements) (place : ℕ) → Statement
+    Wait : (condition : Name) (place : ℕ) → Statement
+    Signal : (condition : Name) (place : ℕ) → Statement
+    Yield : (place : ℕ) → Statement
+    Deactivate : (place : ℕ) → Statement
+    Checkpoint : (status : Name) (place : ℕ) → Statement
+    Destroy : (status : Name) (place : ℕ) → Statement
+    Create : (type_name status gives : Name) (place : ℕ) → Statement
+    Invoke : (target : Target) (operation : Name) (args : List Expression) (status : Name) (gives : List Name) (place : ℕ) → Statement
+    Return : (results : List Expression) (place : ℕ) → Statement
+
+  pub data Statements : Type 0 where
+    no_statements : Statements
+    statement_and : (first : Statement) (rest : Statements) → Statements
+
+-- the statements of a list, in order
+abbrev pub block_of : List Statement → Statements
+block_of [] = no_statements
+block_of (s ∷ ss) = statement_and s (block_of ss)
+
+abbrev mutual
+  pub statement : Stmt → Statement
+  statement (stmt.Assign name value) = Assign name (expression value)
+  statement (stmt.If' test m so n otherwise place) = If (expression test) (statement_row so) (statement_row otherwise) place
+  statement (stmt.While' test m body place) = While (expression test) (statement_row body) place
+  statement (stmt.With' monitor m body place) = With monitor (statement_row body) place
+  statement (stmt.Wait condition place) = Wait condition place
+  statement (stmt.Signal condition place) = Signal condition place
+  statement (stmt.Yield place) = Yield place
+  statement (stmt.Deactivate place) = Deactivate place
+  statement (stmt.Checkpoint status place) = Checkpoint status place
+  statement (stmt.Destroy status place) = Destroy status place
+  statement (stmt.Create type_name status gives place) = Create type_name status gives place
+  statement (stmt.Invoke target operation args status gives place) = Invoke target operation (map expression args.items) status gives.items place
+  statement (stmt.Return results place) = Return (map expression results.items) place
+
+  pub statement_row : {m : _} → stmt.Row_of-Stmt m → Statements
+  statement_row stmt.end_of-Stmt = no_statements
+  statement_row (stmt.more_of-Stmt s rest) = statement_and (statement s) (statement_row rest)
+
+abbrev pub statements : List Stmt → Statements
+statements ss = block_of (map statement ss)
+
+-- ---- declarations
+pub record Beginning : Type 0 where
+  pub value : Constant
+  pub place : ℕ
+
+abbrev pub beginning : Start → Beginning
+beginning s = record { value = constant s.value; place = s.place }
+
+pub record Variable : Type 0 where
+  pub name : Name
+  pub kind : PlacedShape
+  pub durable : Bool
+  pub start : Beginning
+  pub monitor : ℕ
+
+abbrev pub variable : VarDecl → Variable
+variable v = record { name = v.name; kind = written v.kind; durable = v.durable; start = beginning v.start; monitor = v.monitor }
+
+pub record Local : Type 0 where
+  pub name : Name
+  pub kind : PlacedShape
+  pub start : Beginning
+
+abbrev pub local_of : LocalDecl → Local
+local_of v = record { name = v.name; kind = written v.kind; start = beginning v.start }
+
+pub record Parameter : Type 0 where
+  pub name : Name
+  pub kind : PlacedShape
+
+abbrev pub parameter : ParDecl → Parameter
+parameter p = record { name = p.name; kind = written p.kind }
+
+pub record Operation : Type 0 where
+  pub name : Name
+  pub needs : Number
+  pub class : Name
+  pub params : List Parameter
+  pub results : List PlacedShape
+  pub locals : List Local
+  pub body : List Statement
+
+abbrev pub operation : OpDecl → Operation
+operation o = record {
+  name = o.name;
+  needs = o.needs;
+  class = o.class;
+  params = map parameter o.params.items;
+  results = map written o.results.items;
+  locals = map local_of o.locals.items;
+  body = map statement o.body.items;
+}
+
+pub record Process : Type 0 where
+  pub name : Name
+  pub locals : List Local
+  pub body : List Statement
+
+abbrev pub process : ProcDecl → Process
+process p = record { name = p.name; locals = map local_of p.locals.items; body = map statement p.body.items }
+
+pub record Change : Type 0 where
+  pub name : Name
+  pub value : Expression
+
+abbrev pub change : Assignment → Change
+change a = record { name = a.name; value = expression a.value }
+
+pub record Upgrade : Type 0 where
+  pub from : Number
+  pub params : List Parameter
+  pub changes : List Change
+  pub place : ℕ
+
+abbrev pub upgrade : UpgradeDecl → Upgrade
+upgrade u = record { from = u.from; params = map parameter u.params.items; changes = map change u.assignments.items; place = u.place }
+
+pub record Edentype : Type 0 where
+  pub name : Name
+  pub version : Option Number
+  pub vars : List Variable
+  pub classes : List ClassDecl
+  pub monitors : List Name
+  pub conditions : List CondDecl
+  pub operations : List Operation
+  pub processes : List Process
+  pub upgrades : List Upgrade
+
+abbrev pub edentype : Program → Edentype
+edentype p = record {
+  name = p.name;
+  version = p.version;
+  vars = map variable p.vars.items;
+  classes = p.classes.items;
+  monitors = p.monitors.items;
+  conditions = p.conditions.items;
+  operations = map operation p.operations.items;
+  processes = map process p.processes.items;
+  upgrades = map upgrade p.upgrades.items;
+}

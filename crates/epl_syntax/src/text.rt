@@ -1,0 +1,12 @@
+//! Comparison of texts.
+ghost use Rattle.std.specs.Prelude.{◌≡◌};
+ghost use Rattle.eden_model.specs.Map.{same_text};
+
+use eden_value::Txt;
+
+/// Whether both are one text.
+pub fn same_text(a: &Txt, b: &Txt) -> bool
+    ensures { result ≡ same_text a.now b.now }
+{
+    a.bytes == b.bytes
+}

@@ -1,0 +1,108 @@
+//! The types of which a script may create Ejects.
+ghost use Rattle.std.specs.Prelude.{◌≡◌, [], map, IfOk, OnOk, OnErr};
+ghost use Rattle.std.specs.List.{list_any};
+ghost use Rattle.eden_model.specs.Map.{same_text};
+ghost use Rattle.epl_syntax.specs.Meaning as meaning;
+ghost use Rattle.epl_syntax.specs.Tree.{edentype};
+ghost use Rattle.epl_syntax.specs.Rules.InItems.{broken_program};
+ghost use Rattle.epl_syntax.specs.Rules.OfTypes.{native_only, with_type, names_of};
+
+use crate::checked::Checked;
+use crate::text::same_text;
+use eden_value::Txt;
+use std::alloc::{AllocError, Global};
+use std::marker::Model;
+
+/// A native type.
+#[derive(Clone, Copy, Debug, PartialEq, Eq)]
+pub enum Edentype {
+    /// It holds an integer.
+    Cell,
+}
+
+/// The types of a script in order: the native ones, then those that the script declares, each of
+/// which keeps the rules with those before it. Contracts see both lists.
+#[derive(Drop)]
+pub struct Types {
+    native: Vec<Edentype>,
+    declared: Vec<Checked>,
+}
+
+impl Model for Types {
+    ghost use Rattle.std.specs.Prelude.{◌≡◌, [], map};
+    ghost use Rattle.std.specs.Coded.{codes};
+    ghost use Rattle.eden_value.specs.contracts.kind.Kind as kind;
+    ghost use Rattle.epl_syntax.specs.contracts.tree.Expr as expr;
+    ghost use Rattle.epl_syntax.specs.contracts.tree.Stmt as stmt;
+    ghost use Rattle.epl_syntax.specs.Meaning.{name_of};
+    ghost use Rattle.epl_syntax.specs.Rules.OfTypes.{TypeList, broken_types};
+
+    ghost Value = { TypeList };
+
+    ghost coded = { Prim.hlevel (codes, kind.the_row.coded, expr.the_row.coded, stmt.the_row.coded) };
+
+    ghost view = { λ t. record { native = t.native.items; declared = map (λ c. c.program) t.declared.items } };
+
+    ghost invariant = { λ t. broken_types (map name_of t.native.items) (map (λ c. c.program) t.declared.items) ≡ [] };
+}
+
+fn name_of(kind: &Edentype) -> &'static [u8]
+    ensures { result.now ≡ meaning.name_of kind.now }
+{
+    match kind {
+        Edentype::Cell => b"Cell",
+    }
+}
+
+fn has_native(types: &[Edentype], name: &Txt) -> bool
+    ensures { result ≡ list_any (λ t. same_text t name.now) (map meaning.name_of types.now) }
+{
+    for t in types {
+        if name.bytes.as_slice() == name_of(t) {
+            return true;
+        }
+    }
+    false
+}
+
+fn has_declared(types: &[Checked], name: &Txt) -> bool
+    ensures { result ≡ list_any (λ t. same_text t name.now) (map (λ t. t.name.text) (map (λ c. c.program) types.now)) }
+{
+    for t in types {
+        if same_text(&t.program.name.text, name) {
+            return true;
+        }
+    }
+    false
+}
+
+impl Types {
+    /// The types of a script that declares none.
+    pub fn native(alloc: Global) -> Result<Types, AllocError>
+        ensures { IfOk result (λ t. t ≡ native_only) }
+    {
+        let mut native = Vec::new(alloc);
+        native.push(Edentype::Cell)?;
+        Ok(Types {
+            native,
+            declared: Vec::new(alloc),
+        })
+    }
+
+    /// Whether a type has this name.
+    pub fn has(&self, name: &Txt) -> bool
+        ensures { result ≡ list_any (λ t. same_text t name.now) (names_of self.now) }
+    {
+        has_native(&self.native, name) || has_declared(&self.declared, name)
+    }
+
+    /// One more type, behind those that are there. Where memory runs out, they stay as they are.
+    pub fn add(&mut self, checked: Checked) -> Result<(), AllocError>
+        requires { broken_program (names_of self.old) (edentype checked.program) ≡ [] }
+        ensures ok { OnOk result (self.new ≡ with_type self.old checked.program) }
+        ensures err { OnErr result (self.new ≡ self.old) }
+    {
+        self.declared.push(checked)?;
+        Ok(())
+    }
+}
