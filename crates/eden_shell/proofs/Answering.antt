@@ -6,8 +6,8 @@ use Rattle.std.specs.declared.alloc.Global.{Global}
 use Rattle.eden_io.specs.Causes.{Rose}
 use Rattle.eden_io.specs.Taken.{Takes}
 use Rattle.eden_io.specs.declared.whole.ReadRefusal.TheVariants.{TooLong as TooMany}
-use Rattle.journal.specs.declared.event.Entry.{Entry}
-use Rattle.journal.specs.declared.script.Script.{Script}
+use Rattle.eden_shell.specs.declared.event.Entry.{Entry}
+use Rattle.eden_shell.specs.declared.script.Script.{Script}
 use Rattle.eden_shell.specs.declared.report.Outcome.{Outcome}
 use Rattle.eden_shell.specs.declared.report.Outcome.TheVariants.{Ran, BadWords, BadScript, ReadFault, WriteFault, OutOfMemory, TooLong}
 use Rattle.eden_shell.specs.Form.{Spells}

@@ -11,15 +11,15 @@ use Rattle.std.specs.declared.cmp.Ordering.TheVariants.{Less, Equal, Greater}
 use Rattle.std.specs.Ordering.{is_lt}
 use Rattle.capability.specs.declared.Uid.{Uid}
 use Rattle.capability.specs.Uids.{uid_eq}
-use Rattle.journal.specs.declared.event.Event.{Event}
-use Rattle.journal.specs.declared.event.Event.TheVariants.{Start}
-use Rattle.journal.specs.declared.world.Key.{Key}
-use Rattle.journal.specs.declared.world.Process.{Process}
-use Rattle.journal.specs.declared.world.Eject.{Eject}
-use Rattle.journal.specs.declared.world.Place.{Place}
-use Rattle.journal.specs.declared.world.Place.TheVariants.{Asking, Queued, Running, Answering, Done}
-use Rattle.journal.specs.declared.world.Call.{Call}
-use Rattle.journal.specs.World.{World, turn, delivery, start, returned, with_place, process_turn, eject_turn, first_message, earlier, route_of, is_between, place_of, call_at, call_keys, delivery_keys, eject_keys, is_startable, insert_key, placed, key_cmp, key_after, enabled, next_key, no_uid}
+use Rattle.eden_shell.specs.declared.event.Event.{Event}
+use Rattle.eden_shell.specs.declared.event.Event.TheVariants.{Start}
+use Rattle.eden_shell.specs.declared.world.Key.{Key}
+use Rattle.eden_shell.specs.declared.world.Process.{Process}
+use Rattle.eden_shell.specs.declared.world.Eject.{Eject}
+use Rattle.eden_shell.specs.declared.world.Place.{Place}
+use Rattle.eden_shell.specs.declared.world.Place.TheVariants.{Asking, Queued, Running, Answering, Done}
+use Rattle.eden_shell.specs.declared.world.Call.{Call}
+use Rattle.eden_shell.specs.World.{World, turn, delivery, start, returned, with_place, process_turn, eject_turn, first_message, earlier, route_of, is_between, place_of, call_at, call_keys, delivery_keys, eject_keys, is_startable, insert_key, placed, key_cmp, key_after, enabled, next_key, no_uid}
 use Rattle.eden_shell.specs.Steps.{AreSerials, KnowsCalls, IsSound}
 use Rattle.eden_shell.proofs.Sound.{at_place, first_of}
 

@@ -1,17 +1,19 @@
 -- Commands in form fit a world of one node, and their names are found there.
-use Rattle.std.proofs.Common.{◌≡◌, ◌==◌, ◌&&◌, ◌<◌, ◌≤◌, ℕ, ℤ, Bool, true, false, List, [], ◌∷◌, ◌++◌, length, map, codes, Option, Some, None, refl, sym, ◌∙◌, subst, arith, cond, nat_le}
+use Rattle.std.proofs.Common.{◌≡◌, ◌==◌, ◌&&◌, ◌||◌, ◌<◌, ◌≤◌, ◌+◌, not, ℕ, ℤ, Bool, true, false, List, [], ◌∷◌, ◌++◌, length, map, codes, Option, Some, None, refl, sym, ap, ◌∙◌, subst, arith, find, cond, nat_lt, nat_le}
 use Rattle.std.proofs.lemmas.Bool.{false≢true}
 use Rattle.std.proofs.lemmas.Bool.Decides.{nat_tests}
-use Rattle.std.specs.List.{slice_split}
+use Rattle.std.proofs.lemmas.Option.{cond_some}
+use Rattle.std.specs.List.{list_any, slice_split}
+use Rattle.std.specs.Option.{option_map}
 use Rattle.std.specs.Str.{bytes_eq}
 use Rattle.capability.specs.declared.Uid.{Uid}
-use Rattle.journal.specs.declared.script.Command.{Command}
-use Rattle.journal.specs.declared.script.Command.TheVariants.{Create, Call, Go, End}
-use Rattle.journal.specs.declared.script.Script.{Script}
-use Rattle.journal.specs.declared.world.Binding.{Binding}
-use Rattle.journal.specs.World.{named}
-use Rattle.eden_shell.specs.Form.{command_of, line_command, words_of, turns_of, invocation_of, operation_of, argument_of, applied_of, get_of, set_of, asked_of, integer_of, number_up_to, is_name, is_among, are_in_order, Spells}
-use Rattle.eden_shell.specs.Steps.{AllFit, IsForBench, names_of}
+use Rattle.eden_shell.specs.declared.script.Command.{Command}
+use Rattle.eden_shell.specs.declared.script.Command.TheVariants.{Create, Call, Go, End}
+use Rattle.eden_shell.specs.declared.script.Script.{Script}
+use Rattle.eden_shell.specs.declared.world.Binding.{Binding}
+use Rattle.eden_shell.specs.World.{named}
+use Rattle.eden_shell.specs.Form.{command_of, line_command, words_of, end_of, go_of, turns_of, call_of, invocation_of, operation_of, argument_of, applied_of, get_of, set_of, asked_of, create_of, integer_of, number_up_to, is_one, is_name, is_among, are_in_order, Spells, HaveForm}
+use Rattle.eden_shell.specs.Steps.{Fits, names_after, AllFit, IsForBench, names_of}
 
 -- what a line's command says of its numbers
 abbrev pub Counts : Command → Type 0

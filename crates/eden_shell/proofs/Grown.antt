@@ -1,20 +1,22 @@
 -- How histories grow, and which entry is due.
-use Rattle.std.proofs.Common.{◌≡◌, ◌==◌, ◌<◌, ◌+◌, ◌-◌, ℕ, ℤ, Some, None, true, false, List, [], ◌∷◌, ◌++◌, refl, sym, ap, ◌∙◌, subst, append_assoc, append-nil, length, nat_lt, suc, drop, get_or, drop-cons, add-one, Bool, Result, Ok, Err, IfOk, OnOk, OnErr, IsTrue, is_ok, arith, rules}
+use Rattle.std.proofs.Common.{◌≡◌, ◌==◌, ◌<◌, ◌+◌, ◌-◌, ℕ, ℤ, Option, Some, None, true, false, List, [], ◌∷◌, ◌++◌, refl, sym, ap, ◌∙◌, subst, append_assoc, append-nil, length, nat_lt, suc, drop, get_or, drop-cons, add-one, Bool, Result, Ok, Err, IfOk, OnOk, OnErr, IsTrue, is_ok, arith, rules}
 use Rattle.std.proofs.lemmas.Bool.Decides.{nat_tests}
+use Rattle.std.specs.Option.{option_map}
 use Rattle.std.specs.List.{slice_get}
 use Rattle.capability.specs.declared.Uid.{Uid}
-use Rattle.journal.specs.declared.event.Event.{Event}
-use Rattle.journal.specs.declared.event.Event.TheVariants.{Quiet, Left}
-use Rattle.journal.specs.declared.event.Entry.{Entry}
-use Rattle.journal.specs.declared.script.Command.{Command}
-use Rattle.journal.specs.declared.script.Command.TheVariants.{Create, Call, Go, End}
-use Rattle.journal.specs.declared.script.Ref.{Ref}
-use Rattle.journal.specs.declared.world.Key.{Key}
-use Rattle.journal.specs.declared.world.NodeState.{NodeState}
-use Rattle.journal.specs.World.{World, next_key, turn, named}
-use Rattle.journal.specs.Legal.{Position, Leads, due, next, at, going, begun, booting, plain, booted, made, asked, open_names, opening, Follows}
+use Rattle.eden_shell.specs.declared.event.Event.{Event}
+use Rattle.eden_shell.specs.declared.event.Event.TheVariants.{Quiet, Left}
+use Rattle.eden_shell.specs.declared.event.Entry.{Entry}
+use Rattle.eden_shell.specs.declared.script.Command.{Command}
+use Rattle.eden_shell.specs.declared.script.Command.TheVariants.{Create, Call, Go, End}
+use Rattle.eden_shell.specs.declared.script.Ref.{Ref}
+use Rattle.eden_shell.specs.declared.world.Key.{Key}
+use Rattle.eden_shell.specs.declared.world.NodeState.{NodeState}
+use Rattle.eden_shell.specs.World.{World, next_key, turn, named}
+use Rattle.eden_shell.specs.Legal.{Position, Leads, Move, due, next, at, going, begun, booting, plain, booted, made, asked, open_names, opening, Follows}
+use Rattle.std.specs.Result.{result_unwrap_or}
 use Rattle.std.proofs.lemmas.Bool.{false≢true}
-use Rattle.journal.specs.declared.script.Script.{Script}
+use Rattle.eden_shell.specs.declared.script.Script.{Script}
 use Rattle.eden_shell.specs.Steps.{Advances, Reaches, Completes}
 
 leads_more : (from mid to : Position) (es : List Entry) (e : Entry) → Leads from es mid → due mid ≡ Some (e, to) → Leads from (es ++ e ∷ []) to

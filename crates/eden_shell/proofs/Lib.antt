@@ -1,3 +1,4 @@
+pub mod Ways
 pub mod Cuts
 pub mod Numbers
 pub mod Unsaid

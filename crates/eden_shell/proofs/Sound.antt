@@ -5,17 +5,17 @@ use Rattle.std.specs.Option.{option_map_or}
 use Rattle.std.proofs.lemmas.List.{length-set}
 use Rattle.std.proofs.lemmas.List.Elements.{All-nil, All-head, All-tail, All-set, All-push, All-drop, All-filter, All-weaker}
 use Rattle.capability.specs.declared.Uid.{Uid}
-use Rattle.journal.specs.declared.event.Event.{Event}
-use Rattle.journal.specs.declared.event.Event.TheVariants.{Start}
-use Rattle.journal.specs.declared.world.Key.{Key}
-use Rattle.journal.specs.declared.world.NodeState.{NodeState}
-use Rattle.journal.specs.declared.world.Process.{Process}
-use Rattle.journal.specs.declared.world.Eject.{Eject}
-use Rattle.journal.specs.declared.world.Place.{Place}
-use Rattle.journal.specs.declared.world.Place.TheVariants.{Asking, Queued, Running, Answering, Done}
-use Rattle.journal.specs.declared.world.Call.{Call}
-use Rattle.journal.specs.World.{World, turn, delivery, start, returned, process_turn, eject_turn, first_message, earlier, route_of, is_between, place_of, placed_at, queued_at, with_place, call_at}
-use Rattle.journal.specs.Legal.{made, asked, booted, opening}
+use Rattle.eden_shell.specs.declared.event.Event.{Event}
+use Rattle.eden_shell.specs.declared.event.Event.TheVariants.{Start}
+use Rattle.eden_shell.specs.declared.world.Key.{Key}
+use Rattle.eden_shell.specs.declared.world.NodeState.{NodeState}
+use Rattle.eden_shell.specs.declared.world.Process.{Process}
+use Rattle.eden_shell.specs.declared.world.Eject.{Eject}
+use Rattle.eden_shell.specs.declared.world.Place.{Place}
+use Rattle.eden_shell.specs.declared.world.Place.TheVariants.{Asking, Queued, Running, Answering, Done}
+use Rattle.eden_shell.specs.declared.world.Call.{Call}
+use Rattle.eden_shell.specs.World.{World, turn, delivery, start, returned, process_turn, eject_turn, first_message, earlier, route_of, is_between, place_of, placed_at, queued_at, with_place, call_at}
+use Rattle.eden_shell.specs.Legal.{made, asked, booted, opening}
 use Rattle.eden_shell.specs.Steps.{AreSerials, KnowsCalls, IsSound}
 
 -- PARTS

@@ -8,8 +8,8 @@ use Rattle.std.proofs.lemmas.Bool.{false≢true}
 use Rattle.std.specs.Str.{bytes_eq}
 use Rattle.std.specs.Io.KnownBytes.{Appends}
 use Rattle.eden_io.specs.Taken.{AppendsPart}
-use Rattle.journal.specs.declared.event.Entry.{Entry}
-use Rattle.journal.specs.Lines.{text, entry_text}
+use Rattle.eden_shell.specs.declared.event.Entry.{Entry}
+use Rattle.eden_shell.specs.Lines.{text, entry_text}
 
 text_split : (h : List Entry) (k : ℕ) → text h ≡ text (take k h) ++ text (drop k h)
 text_split h k = ap text (sym (take-append-drop k h)) ∙ flat_map-append entry_text (take k h) (drop k h)

@@ -2,11 +2,11 @@
 use Rattle.std.proofs.Common.{◌≡◌, ◌==◌, ◌-◌, ℕ, Some, None, refl, find}
 use Rattle.std.specs.Option.{option_and_then}
 use Rattle.std.specs.List.{slice_get}
-use Rattle.journal.specs.declared.event.Event.{Event}
-use Rattle.journal.specs.declared.world.Process.{Process}
-use Rattle.journal.specs.declared.world.Eject.{Eject}
-use Rattle.journal.specs.declared.world.Call.{Call}
-use Rattle.journal.specs.World.{World, process_turn, returned}
+use Rattle.eden_shell.specs.declared.event.Event.{Event}
+use Rattle.eden_shell.specs.declared.world.Process.{Process}
+use Rattle.eden_shell.specs.declared.world.Eject.{Eject}
+use Rattle.eden_shell.specs.declared.world.Call.{Call}
+use Rattle.eden_shell.specs.World.{World, process_turn, returned}
 
 pub process_turn_some : (w : World) (place number : ℕ) (e : Eject) (p : Process) (c : Call) (t : Event × World)
     → slice_get w.ejects place ≡ Some e → find (λ q. q.number == number) e.processes ≡ Some p → slice_get w.calls (p.call - 1) ≡ Some c

@@ -2,7 +2,7 @@
 use Rattle.std.proofs.Common.{◌≡◌, ◌<◌, ◌+◌, ◌≤◌, ℕ, zero, suc, List, [], ◌∷◌, Option, Some, None, length, get_or, map, sym, ◌∙◌, arith, refl, ap, subst, Bool, true, false}
 use Rattle.std.proofs.lemmas.List.{length-map}
 use Rattle.std.specs.List.{slice_split, onto_first}
-use Rattle.journal.specs.declared.script.Command.{Command}
+use Rattle.eden_shell.specs.declared.script.Command.{Command}
 use Rattle.eden_shell.specs.Form.{lines_of, line_command, HaveForm, HasNoForm}
 
 -- a line that says no command stands among them

@@ -4,9 +4,9 @@ use Rattle.std.specs.List.{list_any, list_all, slice_split}
 use Rattle.std.specs.Option.{option_map}
 use Rattle.std.specs.Str.{bytes_eq}
 use Rattle.std.specs.Char.{is_ascii_alphanumeric, is_ascii_lowercase}
-use Rattle.journal.specs.declared.script.Command.{Command}
-use Rattle.journal.specs.declared.script.Command.TheVariants.{Create, Call, Go, End}
-use Rattle.journal.specs.declared.script.Script.{Script}
+use Rattle.eden_shell.specs.declared.script.Command.{Command}
+use Rattle.eden_shell.specs.declared.script.Command.TheVariants.{Create, Call, Go, End}
+use Rattle.eden_shell.specs.declared.script.Script.{Script}
 
 -- NAMES AND NUMBERS
 

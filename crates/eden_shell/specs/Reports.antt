@@ -3,10 +3,10 @@ use Rattle.std.specs.Prelude.{◌≡◌, ◌⊎◌, ◌<◌, ◌≤◌, ℕ, Boo
 use Rattle.std.specs.Io.KnownBytes.{Consumes, IsAtEnd, Appends}
 use Rattle.eden_io.specs.Causes.{Rose}
 use Rattle.eden_io.specs.Taken.{AppendsPart}
-use Rattle.journal.specs.declared.event.Entry.{Entry}
-use Rattle.journal.specs.declared.script.Script.{Script}
-use Rattle.journal.specs.Lines.{text}
-use Rattle.journal.specs.Legal.{Follows, FollowsSoFar}
+use Rattle.eden_shell.specs.declared.event.Entry.{Entry}
+use Rattle.eden_shell.specs.declared.script.Script.{Script}
+use Rattle.eden_shell.specs.Lines.{text}
+use Rattle.eden_shell.specs.Legal.{Follows, FollowsSoFar}
 use Rattle.eden_shell.specs.declared.report.Outcome.{Outcome}
 use Rattle.eden_shell.specs.declared.report.Outcome.TheVariants.{Ran, BadWords, BadScript, ReadFault, WriteFault, OutOfMemory, TooLong}
 use Rattle.eden_shell.specs.declared.report.ScriptCause.TheVariants.{BadForm}

@@ -1,13 +1,13 @@
 -- How a history grows by the commands of a script.
-use Rattle.std.specs.Prelude.{◌≡◌, ◌<◌, ◌≤◌, ◌-◌, ℕ, suc, true, List, [], ◌∷◌, ◌++◌, map, length, All}
-use Rattle.journal.specs.declared.event.Entry.{Entry}
-use Rattle.journal.specs.declared.script.Command.{Command}
-use Rattle.journal.specs.declared.script.Command.TheVariants.{Create, Call, Go, End}
-use Rattle.journal.specs.declared.script.Script.{Script}
-use Rattle.journal.specs.declared.world.Binding.{Binding}
-use Rattle.journal.specs.declared.world.Eject.{Eject}
-use Rattle.journal.specs.World.{World}
-use Rattle.journal.specs.Legal.{Position, Leads, at}
+use Rattle.std.specs.Prelude.{◌≡◌, ◌<◌, ◌≤◌, ◌-◌, ◌^◌, ℕ, suc, true, List, [], ◌∷◌, ◌++◌, map, length, All}
+use Rattle.eden_shell.specs.declared.event.Entry.{Entry}
+use Rattle.eden_shell.specs.declared.script.Command.{Command}
+use Rattle.eden_shell.specs.declared.script.Command.TheVariants.{Create, Call, Go, End}
+use Rattle.eden_shell.specs.declared.script.Script.{Script}
+use Rattle.eden_shell.specs.declared.world.Binding.{Binding}
+use Rattle.eden_shell.specs.declared.world.Eject.{Eject}
+use Rattle.eden_shell.specs.World.{World}
+use Rattle.eden_shell.specs.Legal.{Position, Leads, at}
 use Rattle.eden_shell.specs.Form.{is_among}
 
 -- GROWTH

@@ -1,6 +1,6 @@
 -- The world that a bench stands for.
 use Rattle.std.specs.Prelude.{◌≡◌, [], ◌∷◌, length}
-use Rattle.journal.specs.World.{World}
+use Rattle.eden_shell.specs.World.{World}
 use Rattle.eden_shell.specs.declared.bench.Bench.{Bench}
 use Rattle.eden_shell.specs.Steps.{IsSound}
 

@@ -3,22 +3,22 @@ ghost use Rattle.std.specs.Prelude.{◌≡◌, ◌≤◌, ◌<◌, ◌+◌, ◌-
 ghost use Rattle.std.specs.List.{flat_map};
 ghost use Rattle.std.specs.Option.{option_map, option_and_then};
 ghost use Rattle.std.specs.Ordering.{is_lt};
-ghost use Rattle.journal.specs.World.{call_keys, eject_keys, insert_key, enabled, key_after, key_cmp, next_key, first_message, earlier, placed_at, with_place, turn, eject_turn, delivery, start, returned, process_turn, queued_at, place_of, cell_turn, call_at, route_of, is_between};
+ghost use Rattle.eden_shell.specs.World.{call_keys, eject_keys, insert_key, enabled, key_after, key_cmp, next_key, first_message, earlier, placed_at, with_place, turn, eject_turn, delivery, start, returned, process_turn, queued_at, place_of, cell_turn, call_at, route_of, is_between};
 ghost use Rattle.eden_shell.specs.Worlds.{world_of};
-ghost use Rattle.journal.specs.World.{named};
+ghost use Rattle.eden_shell.specs.World.{named};
 ghost use Rattle.eden_shell.specs.Steps.{names_of};
-ghost use Rattle.journal.specs.Legal.{opening, booted, made, asked, open_names, is_open};
-ghost use Rattle.journal.specs.declared.event.Event.TheVariants.{Left};
-ghost use Rattle.journal.specs.declared.world.Eject.{Eject};
-ghost use Rattle.journal.specs.declared.world.Call.{Call};
+ghost use Rattle.eden_shell.specs.Legal.{opening, booted, made, asked, open_names, is_open};
+ghost use Rattle.eden_shell.specs.declared.event.Event.TheVariants.{Left};
+ghost use Rattle.eden_shell.specs.declared.world.Eject.{Eject};
+ghost use Rattle.eden_shell.specs.declared.world.Call.{Call};
 
 use crate::keys::{choose, enabled_keys, route};
-use capability::Uid;
-use eden_value::{Status, Txt};
-use journal::{
+use crate::{
     Binding, BootEnd, Call, Eject, Event, Key, Names, NodeState, Numbers, Place, Process, Seq,
     Shown,
 };
+use capability::Uid;
+use eden_value::{Status, Txt};
 use std::alloc::{AllocError, Global};
 
 #[derive(Drop)]
@@ -149,7 +149,7 @@ fn served_by(processes: &[Process], number: u8) -> Option<Process>
 
 impl Bench {
     // Delivers the first message between two stations.
-    #[tactic(auto, unfolding(journal::specs::World::delivery))]
+    #[tactic(auto, unfolding(crate::specs::World::delivery))]
     fn deliver(&mut self, alloc: Global, from: u8, to: u8) -> Result<Option<Event>, AllocError>
         ensures turned { IfOk result (λ event. option_and_then (λ c. delivery (world_of self.old) c c.place) (first_message from to self.old.calls.items)
             ≡ option_map (λ e. (e, world_of self.new)) event) }
@@ -192,7 +192,7 @@ impl Bench {
     }
 
     // Starts the call that was queued first at an Eject.
-    #[tactic(auto, unfolding(journal::specs::World::start))]
+    #[tactic(auto, unfolding(crate::specs::World::start))]
     fn start(&mut self, place: usize) -> Result<Option<Event>, AllocError>
         requires { place < vec_len self.old.ejects }
         ensures turned { IfOk result (λ event. option_and_then (λ e. start (world_of self.old) place e) (slice_get self.old.ejects.items place)
@@ -225,7 +225,7 @@ impl Bench {
     }
 
     // A process returns from the call at this index, which it serves.
-    #[tactic(auto, unfolding(journal::specs::World::returned))]
+    #[tactic(auto, unfolding(crate::specs::World::returned))]
     fn answer(
         &mut self,
         alloc: Global,
@@ -260,7 +260,7 @@ impl Bench {
     }
 
     // A process returns from the call that it serves.
-    #[tactic(auto, unfolding(journal::specs::World::process_turn))]
+    #[tactic(auto, unfolding(crate::specs::World::process_turn))]
     fn finish(
         &mut self,
         alloc: Global,
@@ -287,7 +287,7 @@ impl Bench {
     }
 
     // Takes the turn with this key.
-    #[tactic(auto, unfolding(journal::specs::World::turn))]
+    #[tactic(auto, unfolding(crate::specs::World::turn))]
     pub fn turn(&mut self, alloc: Global, key: Key) -> Result<Option<Event>, AllocError>
         requires { self.old.sends < 2 ^ 63 }
         ensures turned { IfOk result (λ event. turn (world_of self.old) key ≡ option_map (λ e. (e, world_of self.new)) event) }
@@ -313,7 +313,7 @@ impl Bench {
     }
 
     // The key that is due.
-    #[tactic(auto, unfolding(journal::specs::World::next_key))]
+    #[tactic(auto, unfolding(crate::specs::World::next_key))]
     pub fn next_key(&self, alloc: Global) -> Result<Option<Key>, AllocError>
         ensures { IfOk result (λ key. key ≡ next_key (world_of self.now)) }
     {

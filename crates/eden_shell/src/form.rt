@@ -1,12 +1,12 @@
 //! The one form of script that is taken.
 ghost use Rattle.std.specs.Prelude.{◌≡◌, ◌≤◌, ◌<◌, ◌==◌, ◌++◌, ◌∷◌, ◌↔◌, [], List, ℕ, true, false, Some, None, IfOk, IfSome, IfNone, OnOk, length, map, codes, sum_by, count_by};
 ghost use Rattle.std.specs.List.{slice_split};
-ghost use Rattle.journal.specs.declared.script.Command.{Command};
+ghost use Rattle.eden_shell.specs.declared.script.Command.{Command};
 ghost use Rattle.eden_shell.specs.Form.{Spells, HasNoForm, command_of, end_of, go_of, call_of, create_of, invocation_of, operation_of, argument_of, applied_of, get_of, set_of, line_command, says_nodes, are_nodes, words_of, is_one, number_up_to, is_among, are_in_order, is_create, turns_in, lines_of, asked_of, integer_of, HaveForm};
 
 use crate::words::{integer, is_new_name, lines, number, pieces};
+use crate::{Command, Numbers, Ref, Script, Seq};
 use eden_value::Txt;
-use journal::{Command, Numbers, Ref, Script, Seq};
 use std::alloc::{AllocError, Global};
 
 // The greatest length of a line, in bytes.

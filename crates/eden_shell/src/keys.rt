@@ -2,10 +2,10 @@
 ghost use Rattle.std.specs.Prelude.{◌≡◌, ◌≤◌, ◌<◌, ◌++◌, ◌∷◌, [], Some, None, option_to_list, map, fold, find, IfOk, OnOk};
 ghost use Rattle.std.specs.List.{flat_map};
 ghost use Rattle.std.specs.Ordering.{is_lt};
-ghost use Rattle.journal.specs.World.{call_keys, eject_keys, insert_key, enabled, key_after, key_cmp, route_of};
+ghost use Rattle.eden_shell.specs.World.{call_keys, eject_keys, insert_key, enabled, key_after, key_cmp, route_of};
 
+use crate::{Call, Eject, Key, Place, Process};
 use capability::Uid;
-use journal::{Call, Eject, Key, Place, Process};
 use std::alloc::{AllocError, Global};
 use std::cmp::Ordering;
 
@@ -116,7 +116,7 @@ fn add_eject_keys(keys: &mut Vec<Key>, ejects: &[Eject]) -> Result<(), AllocErro
 }
 
 /// The keys of what may come next, in ascending order.
-#[tactic(auto, unfolding(journal::specs::World::enabled))]
+#[tactic(auto, unfolding(crate::specs::World::enabled))]
 pub fn enabled_keys(alloc: Global, calls: &[Call], ejects: &[Eject]) -> Result<Vec<Key>, AllocError>
     ensures { IfOk result (λ keys. keys.items ≡ enabled calls.now ejects.now) }
 {

@@ -1,16 +1,16 @@
 //! A script is carried out on a bench, and its history is kept.
 ghost use Rattle.std.specs.Prelude.{◌≡◌, ◌≤◌, ◌<◌, ◌+◌, ◌-◌, ◌++◌, ◌∷◌, ◌^◌, [], List, ℕ, Some, length, vec_len, IsTrue, OnOk, OnErr, true};
-ghost use Rattle.journal.specs.World.{next_key};
-ghost use Rattle.journal.specs.Legal.{plain, at, going, booting, opening, Follows, FollowsSoFar};
-ghost use Rattle.journal.specs.declared.script.Command.{Command};
-ghost use Rattle.journal.specs.declared.script.Command.TheVariants.{Create, Call, End};
+ghost use Rattle.eden_shell.specs.World.{next_key};
+ghost use Rattle.eden_shell.specs.Legal.{plain, at, going, booting, opening, Follows, FollowsSoFar};
+ghost use Rattle.eden_shell.specs.declared.script.Command.{Command};
+ghost use Rattle.eden_shell.specs.declared.script.Command.TheVariants.{Create, Call, End};
 ghost use Rattle.eden_shell.specs.Form.{is_among};
 ghost use Rattle.eden_shell.specs.Steps.{Advances, Reaches, Completes, Fits, AllFit, IsForBench, names_of, names_after};
 ghost use Rattle.eden_shell.specs.Worlds.{world_of, IsReady};
 
 use crate::bench::{Bench, lookup};
+use crate::{Command, Entry, Event, History, Key, Numbers, Ref, Script, Seq};
 use eden_value::Txt;
-use journal::{Command, Entry, Event, History, Key, Numbers, Ref, Script, Seq};
 use std::alloc::{AllocError, Global};
 
 // An entry that touched no disk.

@@ -2,16 +2,16 @@
 ghost use Rattle.std.specs.Prelude.{◌≡◌, ◌⊎◌, ◌≤◌, ℕ, List, [], true, map, length, take, string_bytes, IsTrue, ◌↔◌, Some};
 ghost use Rattle.eden_io.specs.Causes.{Rose};
 ghost use Rattle.eden_io.specs.Taken.{AppendsPart};
-ghost use Rattle.journal.specs.Lines.{text};
-ghost use Rattle.journal.specs.declared.script.Script.{Script};
+ghost use Rattle.eden_shell.specs.Lines.{text};
+ghost use Rattle.eden_shell.specs.declared.script.Script.{Script};
 ghost use Rattle.eden_shell.specs.Form.{Spells};
 ghost use Rattle.eden_shell.specs.Reports.{AreRun, IsDueFor, IsBegunFor, IsDue, IsBegun, Answers, IsDelivered};
 
 use crate::form::parse;
 use crate::report::{Outcome, Report, ScriptCause};
 use crate::run::run;
+use crate::{Entry, History, Mode, Seq, line};
 use eden_io::{ReadRefusal, Sink, Source, read_all, write_all};
-use journal::{Entry, History, Mode, Seq, line};
 use std::alloc::Global;
 
 // The greatest length of a script, in bytes.

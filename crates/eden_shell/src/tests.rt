@@ -1,6 +1,6 @@
 use super::*;
+use crate::lines::{Mode, line};
 use eden_io::{MemSink, MemSource};
-use journal::{Mode, line};
 use std::alloc::{AllocError, Global};
 use std::test::Fail;
 

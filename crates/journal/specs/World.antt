@@ -1,203 +1,143 @@
--- A world: all that the modelled stations, Ejects and calls are at one moment, and what one turn makes of it.
-use Rattle.std.specs.Prelude.{ℕ, ℤ, Bool, true, false, ◌==◌, ◌&&◌, not, ◌+◌, ◌-◌, Option, Some, None, List, [], ◌∷◌, ◌++◌, if◌then◌else◌, nat_lt, map, fold, find, filter, position, drop, codes}
-use Rattle.std.specs.declared.cmp.Ordering.{Ordering}
-use Rattle.std.specs.declared.cmp.Ordering.TheVariants.{Less, Equal, Greater}
-use Rattle.std.specs.Ordering.{nat_cmp, ordering_then, is_lt}
-use Rattle.std.specs.Option.{option_map, option_map_or, option_and_then, option_or}
-use Rattle.std.specs.Str.{bytes_eq}
-use Rattle.std.specs.List.{slice_get, slice_set, flat_map}
+-- The modelled world: the nodes with their Ejects, the calls with their messages, the links, and what the script's names stand for.
+use Rattle.std.specs.Prelude.{ℕ, ◌==◌, Bool, false, not, ◌&&◌, ◌||◌, List, Option, None, Some}
+use Rattle.std.specs.Ordering.{nat_cmp}
+use Rattle.std.specs.List.{list_any, flat_map}
 use Rattle.capability.specs.declared.Uid.{Uid}
-use Rattle.capability.specs.Uids.{uid_cmp, uid_eq}
-use Rattle.journal.specs.declared.event.Event.{Event}
-use Rattle.journal.specs.declared.event.Event.TheVariants.{Request, Reply, Start, Process}
-use Rattle.journal.specs.declared.event.Shown.TheVariants.{Return}
-use Rattle.eden_value.specs.declared.status.Status.TheVariants.{Ok}
-use Rattle.journal.specs.declared.world.Key.{Key}
-use Rattle.journal.specs.declared.world.NodeState.{NodeState}
-use Rattle.journal.specs.declared.world.Process.{Process as running}
-use Rattle.journal.specs.declared.world.Eject.{Eject}
-use Rattle.journal.specs.declared.world.Place.{Place}
-use Rattle.journal.specs.declared.world.Place.TheVariants.{Asking, Queued, Running, Answering, Done}
-use Rattle.journal.specs.declared.world.Call.{Call}
-use Rattle.journal.specs.declared.world.Binding.{Binding}
+use Rattle.capability.specs.declared.Cap.{Cap}
+use Rattle.eden_value.specs.Datum.{Datum}
+use Rattle.eden_model.specs.Map.{with_item, changed_at, value_at, put_at, uid_cmp}
+use Rattle.eden_model.specs.Traffic.{Traffic}
+use Rattle.eden_model.specs.Crew.{Crew}
+use Rattle.epl_syntax.specs.declared.effect.Answer.{Answer}
+use Rattle.epl_syntax.specs.declared.types.Edentype.{Edentype}
+use Rattle.epl_syntax.specs.Meaning.{Rest}
+use Rattle.passive_store.specs.Kept.{Layout}
+use Rattle.journal.specs.Change.{Change}
+use Rattle.journal.specs.declared.event.Key.{Key}
 
+-- 1. Ejects
+
+-- what is left to do of a process, and what its next turn is told
+pub record Task : Type 0 where
+  pub rest : Rest
+  pub answer : Answer
+
+-- the type, the values of all variables, and the processes by number: what each is to do, and who waits for whom
+pub record Active : Type 0 where
+  pub kind : Edentype
+  pub vars : List Datum
+  pub tasks : List (ℕ × Task)
+  pub crew : Crew
+
+-- an Eject: its queued calls, what is kept of it, and what may be kept instead
+pub record Eject : Type 0 where
+  pub active : Option Active
+  pub queued : List ℕ
+  pub kept : Option (List ℕ)
+  pub doubt : Option Change
+
+-- 2. Nodes
+
+-- a put or a removal that waits for the store, or has made so many device calls; a dropped one answers no process
+pub record StoreRequest : Type 0 where
+  pub uid : Uid
+  pub process : Option ℕ
+  pub change : Change
+  pub made : ℕ
+
+pub record Node : Type 0 where
+  pub size : ℕ
+  -- of the opening image
+  pub damaged : Option ℕ
+  pub overfull : Bool
+  pub up : Bool
+  pub epoch : Option ℕ
+  pub epoch_doubt : Option ℕ
+  pub last_serial : ℕ
+  -- the clock of the last entry on the disk
+  pub clock : Option ℕ
+  pub requests : List StoreRequest
+  -- the settling's sync was made
+  pub synced : Bool
+  -- the lengths of the records on the disk, where the layout counts them
+  pub written : List ℕ
+  -- all Ejects that were ever on the node, in ascending order
+  pub ejects : List (Uid × Eject)
+
+-- 3. The world
+
+-- what a name of the script stands for
+pub data Meaning : Type 0 where
+  capability : Cap → Meaning
+  results : List Datum → Meaning
+  nothing : Meaning
+
+-- Nodes are numbered from 1. Of two meanings of a name the first counts.
 pub record World : Type 0 where
-  -- the nodes from 1 on, all Ejects ever and all calls ever, in the order in which they came
-  pub nodes : List NodeState
-  pub ejects : List Eject
-  pub calls : List Call
-  -- the values of the script's names
-  pub names : List Binding
-  -- how many messages were sent
-  pub sends : ℕ
-  -- the key taken last
+  pub types : List Edentype
+  pub layout : Layout
+  pub nodes : List (ℕ × Node)
+  pub traffic : Traffic
+  pub cuts : List (ℕ × ℕ)
+  pub names : List (List ℕ × Meaning)
+  pub turns : ℕ
   pub last : Option Key
 
--- Finding a part
+abbrev pub node_at : World → ℕ → Option Node
+node_at w n = value_at nat_cmp n w.nodes
 
--- the place of an Eject in the list
-abbrev pub place_of : Uid → List Eject → Option ℕ
-place_of uid ejects = position (λ e. uid_eq e.uid uid) ejects
+abbrev pub eject_at : World → Uid → Option Eject
+eject_at w u = with_item (node_at w u.node) (λ it. value_at uid_cmp u it.ejects) None
 
-abbrev pub eject_at : Option ℕ → List Eject → Option Eject
-eject_at None ejects = None
-eject_at (Some place) ejects = slice_get ejects place
+-- all Ejects that ever were
+abbrev pub all_ejects : World → List (Uid × Eject)
+all_ejects w = flat_map (λ n. n.1.ejects) w.nodes
 
--- the call of a number
-abbrev pub call_at : ℕ → List Call → Option Call
-call_at number calls = slice_get calls (number - 1)
+-- 4. A site: a node and the messages, which is all that an event at the node changes
 
--- the Eject that a name of the script stands for
-abbrev pub named : List ℕ → List Binding → Option Uid
-named name names = option_map (λ b. b.uid) (find (λ b. bytes_eq b.name name) names)
+pub record Site : Type 0 where
+  pub types : List Edentype
+  pub layout : Layout
+  pub number : ℕ
+  pub node : Node
+  pub traffic : Traffic
 
--- Messages in transit
+abbrev pub site_of : World → ℕ → Node → Site
+site_of w n it = record { types = w.types; layout = w.layout; number = n; node = it; traffic = w.traffic }
 
--- the stations between which a call's message is in transit
-abbrev pub route_of : ℕ → Place → Option (ℕ × ℕ)
-route_of node Asking = Some (0, node)
-route_of node Queued = None
-route_of node Running = None
-route_of node (Answering results) = Some (node, 0)
-route_of node Done = None
+abbrev pub with_site : Site → World → World
+with_site s w = record w { nodes = put_at nat_cmp s.number s.node w.nodes; traffic = s.traffic }
 
-abbrev pub is_between : ℕ → ℕ → Option (ℕ × ℕ) → Bool
-is_between a b None = false
-is_between a b (Some r) = (r.0 == a) && (r.1 == b)
+-- the change of a site in the world; a change keeps the site's number, types and layout
+unfoldable pub at_node : ℕ → (Site → Site) → World → World
+at_node n f w = with_item (node_at w n) (λ it. with_site (record (f (site_of w n it)) { number = n }) w) w
 
--- the one of two messages that was sent first
-abbrev pub earlier : Option Call → Call → Option Call
-earlier None c = Some c
-earlier (Some b) c = if nat_lt c.sent b.sent then Some c else Some b
+abbrev pub site_at : World → ℕ → Option Site
+site_at w n = with_item (node_at w n) (λ it. Some (site_of w n it)) None
 
--- the call whose message is the first from a to b
-abbrev pub first_message : ℕ → ℕ → List Call → Option Call
-first_message a b calls = fold (λ best c. if is_between a b (route_of c.target.node c.place) then earlier best c else best) None calls
+abbrev pub eject_in : Site → Uid → Option Eject
+eject_in s u = value_at uid_cmp u s.node.ejects
 
--- The order of turns
+unfoldable pub on_eject : Uid → (Eject → Eject) → Site → Site
+on_eject u f s = record s { node = record s.node { ejects = changed_at uid_cmp u f s.node.ejects } }
 
-abbrev pub key_cmp : Key → Key → Ordering
-key_cmp a b = ordering_then (nat_cmp a.station b.station) (ordering_then (nat_cmp a.kind b.kind) (ordering_then (nat_cmp a.sender b.sender) (ordering_then (uid_cmp a.uid b.uid) (nat_cmp a.process b.process))))
+unfoldable pub on_node : (Node → Node) → Site → Site
+on_node f s = record s { node = f s.node }
 
-abbrev pub no_uid : Uid
-no_uid = record { node = 0; epoch = 0; serial = 0 }
+unfoldable pub on_traffic : (Traffic → Traffic) → Site → Site
+on_traffic f s = record s { traffic = f s.traffic }
 
--- deliver the first message from one station at the other
-abbrev pub delivery_keys : Option (ℕ × ℕ) → List Key
-delivery_keys None = []
-delivery_keys (Some r) = record { station = r.1; kind = 1; sender = r.0; uid = no_uid; process = 0 } ∷ []
+-- 5. Links
 
-abbrev pub call_keys : Call → List Key
-call_keys c = delivery_keys (route_of c.target.node c.place)
+abbrev pub joins : ℕ → ℕ → ℕ × ℕ → Bool
+joins a b l = ((l.0 == a) && (l.1 == b)) || ((l.0 == b) && (l.1 == a))
 
--- a call is queued, and none of its class runs
-abbrev pub is_startable : List ℕ → List running → Bool
-is_startable [] processes = false
-is_startable (number ∷ queued) [] = true
-is_startable (number ∷ queued) (p ∷ ps) = false
+abbrev pub is_cut : World → ℕ → ℕ → Bool
+is_cut w a b = list_any (joins a b) w.cuts
 
-abbrev pub eject_keys : Eject → List Key
-eject_keys e =
-    (if is_startable e.queued e.processes then record { station = e.uid.node; kind = 3; sender = 0; uid = e.uid; process = 0 } ∷ [] else [])
-    ++ map (λ p. record { station = e.uid.node; kind = 4; sender = 0; uid = e.uid; process = p.number }) e.processes
+abbrev pub is_up : World → ℕ → Bool
+is_up w n = with_item (node_at w n) (λ it. it.up) false
 
--- k beside x, by their order; `after` is where k has joined what stands behind x
-abbrev pub placed : Ordering → Key → Key → List Key → List Key → List Key
-placed Less k x xs after = k ∷ x ∷ xs
-placed Equal k x xs after = x ∷ xs
-placed Greater k x xs after = x ∷ after
-
--- a key joins keys in ascending order, once
-abbrev pub insert_key : List Key → Key → List Key
-insert_key [] k = k ∷ []
-insert_key (x ∷ xs) k = placed (key_cmp k x) k x xs (insert_key xs k)
-
--- the keys of the activities that may come next, in ascending order
-unfoldable pub enabled : List Call → List Eject → List Key
-enabled calls ejects = fold insert_key [] (flat_map call_keys calls ++ flat_map eject_keys ejects)
-
--- the least key greater than the last one, or the least of all
-abbrev pub key_after : Option Key → List Key → Option Key
-key_after None keys = slice_get keys 0
-key_after (Some last) keys = option_or (find (λ k. is_lt (key_cmp last k)) keys) (slice_get keys 0)
-
-unfoldable pub next_key : World → Option Key
-next_key w = key_after w.last (enabled w.calls w.ejects)
-
--- One turn
-
--- a Cell's variables and results after an operation: Set keeps its argument, Get answers the value
-abbrev pub cell_turn : List ℕ → List ℤ → List ℤ → List ℤ × List ℤ
-cell_turn operation args values = if bytes_eq operation (codes "Set") then (args, []) else (values, values)
-
--- the event of a turn, and the world after it
-abbrev pub Turned : Type 0
-Turned = Option (Event × World)
-
-abbrev pub with_place : Place → Call → Call
-with_place place c = record c { place = place }
-
--- a call is queued at its target
-abbrev pub queued_at : ℕ → Option ℕ → List Eject → List Eject
-queued_at number None ejects = ejects
-queued_at number (Some place) ejects = option_map_or (λ e. slice_set ejects place (record e { queued = e.queued ++ number ∷ [] })) (slice_get ejects place) ejects
-
--- a call is at another place
-abbrev pub placed_at : ℕ → Place → List Call → List Call
-placed_at number place calls = option_map_or (λ c. slice_set calls (number - 1) (with_place place c)) (slice_get calls (number - 1)) calls
-
--- the first message between two stations is delivered: the request joins the target's queue, the reply reaches the shell
-unfoldable pub delivery : World → Call → Place → Turned
-delivery w c Asking = Some (
-  Request c.number 0 c.target.node None,
-  record w {
-    calls = placed_at c.number Queued w.calls;
-    ejects = queued_at c.number (place_of c.target w.ejects) w.ejects;
-  },
-)
-delivery w c (Answering results) = Some (
-  Reply c.number c.target.node 0 (Some c.name) Ok results,
-  record w {
-    calls = placed_at c.number Done w.calls;
-  },
-)
-delivery w c Queued = None
-delivery w c Running = None
-delivery w c Done = None
-
--- the call that was queued first is started
-unfoldable pub start : World → ℕ → Eject → Turned
-start w place e = option_and_then (λ number. option_map (λ c. (
-  Start number e.uid 1,
-  record w {
-    calls = slice_set w.calls (number - 1) (with_place Running c);
-    ejects = slice_set w.ejects place (record e { queued = drop 1 e.queued; processes = e.processes ++ record { number = 1; call = number } ∷ [] });
-  },
-)) (call_at number w.calls)) (slice_get e.queued 0)
-
--- a process returns from the call that it serves
-unfoldable pub returned : World → ℕ → Eject → running → Call → Event × World
-returned w place e p c =
-    let t = cell_turn c.operation c.args e.values in (
-      Process e.uid p.number (Return p.call),
-      record w {
-        calls = slice_set w.calls (p.call - 1) (record c { place = Answering t.1; sent = w.sends });
-        ejects = slice_set w.ejects place (record e { values = t.0; processes = filter (λ q. not (q.number == p.number)) e.processes });
-        sends = w.sends + 1;
-      },
-    )
-
-unfoldable pub process_turn : World → ℕ → Eject → ℕ → Turned
-process_turn w place e number =
-    option_and_then (λ p. option_map (returned w place e p) (call_at p.call w.calls)) (find (λ p. p.number == number) e.processes)
-
--- the turn of an Eject that stands at a place
-abbrev pub eject_turn : World → Key → ℕ → Turned
-eject_turn w key place =
-    option_and_then (λ e. if key.kind == 3 then start w place e else process_turn w place e key.process) (slice_get w.ejects place)
-
--- the turn with this key
-unfoldable pub turn : World → Key → Turned
-turn w key =
-    if key.kind == 1 then option_and_then (λ c. delivery w c c.place) (first_message key.sender key.station w.calls)
-    else option_and_then (eject_turn w key) (place_of key.uid w.ejects)
+-- whether node b is reached from station a
+abbrev pub reaches : World → ℕ → ℕ → Bool
+reaches w a b = is_up w b && ((a == b) || not (is_cut w a b))

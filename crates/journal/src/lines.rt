@@ -1,175 +1,537 @@
 //! The lines of an entry.
-ghost use Rattle.std.specs.Prelude.{◌≡◌, ◌++◌, OnOk, OnErr, IfOk, codes};
-ghost use Rattle.std.specs.List.{flat_map};
-ghost use Rattle.std.specs.Fmt.{decimal, signed_decimal};
-ghost use Rattle.journal.specs.Lines.{entry_text, event_text, values_text, names_text, refused_text, results_text, answer_text, uid_text};
+ghost use Rattle.std.specs.Prelude.{◌≡◌, ◌++◌, codes, OnOk, OnErr};
+ghost use Rattle.eden_value.specs.View.{datums};
+ghost use Rattle.eden_value.specs.Printed.{printed_row, row_behind};
+ghost use Rattle.journal.specs.Lines as text;
 
-use crate::{Entry, Event};
+use crate::words::{
+    add_boot_word, add_image_word, add_num, add_shown_word, add_uid, fault_word, pick_word,
+    request_word, start_word,
+};
+use crate::{BootEnd, Entry, Event, Mode, RequestEnd, Shown, StartEnd};
 use capability::Uid;
-use eden_value::{Status, Txt};
+use eden_disk::Arm;
+use eden_value::{Status, Txt, Value, print};
+use passive_store::Pick;
 use std::alloc::{AllocError, Global};
 
-/// Which lines are written.
-#[derive(Clone, Copy, Debug, PartialEq, Eq)]
-pub enum Mode {
-    /// Those that tell the shell's user what came of the commands.
-    Plain,
-}
-
-// `, 5, 6`
-fn more_values(alloc: Global, values: &[i64]) -> Result<Vec<u8>, AllocError>
-    ensures { IfOk result (λ t. t.items ≡ flat_map (λ x. codes ", " ++ signed_decimal x) values.now) }
-{
-    let mut text = Vec::new(alloc);
-    for value in values {
-        text.extend_from_slice(b", ")?;
-        text.extend_from_slice(value.to_string(alloc)?.as_bytes())?;
-    }
-    Ok(text)
-}
-
-// `5, 6`
-fn values_line(alloc: Global, values: &[i64]) -> Result<Vec<u8>, AllocError>
-    ensures { IfOk result (λ t. t.items ≡ values_text values.now) }
-{
-    let mut text = Vec::new(alloc);
-    if let [first, others @ ..] = values {
-        text.extend_from_slice(first.to_string(alloc)?.as_bytes())?;
-        text.extend_from_slice(&more_values(alloc, others)?)?;
-    }
-    Ok(text)
-}
-
-// `c is 1.1.1`
-fn made_line(alloc: Global, name: &Txt, uid: Uid) -> Result<Vec<u8>, AllocError>
-    ensures { IfOk result (λ t. t.items ≡ name.now ++ codes " is " ++ uid_text uid ++ codes "\n") }
-{
-    let Uid {
-        node,
-        epoch,
-        serial,
-    } = uid;
-    let mut text = Vec::new(alloc);
-    text.extend_from_slice(&name.bytes)?;
-    text.extend_from_slice(format!(in alloc; " is {node}.{epoch}.{serial}\n")?.as_bytes())?;
-    Ok(text)
-}
-
 // `a refused 4 gone`
-fn refused_line(alloc: Global, name: &Txt, status: Status) -> Result<Vec<u8>, AllocError>
-    ensures { IfOk result (λ t. t.items ≡ refused_text name.now status) }
-{
-    let number = status.number();
-    let mut text = Vec::new(alloc);
-    text.extend_from_slice(&name.bytes)?;
-    text.extend_from_slice(format!(in alloc; " refused {number} ")?.as_bytes())?;
-    text.extend_from_slice(status.word().as_bytes())?;
-    text.push(b'\n')?;
-    Ok(text)
-}
-
-// `b ok (5)`
-fn results_line(alloc: Global, name: &Txt, results: &[i64]) -> Result<Vec<u8>, AllocError>
-    ensures { IfOk result (λ t. t.items ≡ results_text name.now results.now) }
-{
-    let mut text = Vec::new(alloc);
-    text.extend_from_slice(&name.bytes)?;
-    text.extend_from_slice(b" ok (")?;
-    text.extend_from_slice(&values_line(alloc, results)?)?;
-    text.extend_from_slice(b")\n")?;
-    Ok(text)
-}
-
-// The line of a reply to the shell.
-fn answer_line(
+fn add_refused(
     alloc: Global,
     name: &Txt,
     status: Status,
-    results: &[i64],
-) -> Result<Vec<u8>, AllocError>
-    ensures { IfOk result (λ t. t.items ≡ answer_text name.now status results.now) }
+    out: &mut Vec<u8>,
+) -> Result<(), AllocError>
+    ensures { OnOk result (out.new.items ≡ out.old.items ++ text.refused_text name.now status) }
 {
-    if status.number() == 0 {
-        results_line(alloc, name, results)
-    } else {
-        refused_line(alloc, name, status)
+    out.extend_from_slice(&name.bytes)?;
+    out.extend_from_slice(b" refused")?;
+    add_num(alloc, u64::from(status.number()), out)?;
+    out.push(b' ')?;
+    out.extend_from_slice(status.word().as_bytes())?;
+    out.push(b'\n')?;
+    Ok(())
+}
+
+// `+ cut 1 2`
+fn add_link(alloc: Global, a: u8, b: u8, joined: bool, out: &mut Vec<u8>) -> Result<(), AllocError>
+    ensures { OnOk result (out.new.items ≡ out.old.items ++ text.link_text a b joined) }
+{
+    out.extend_from_slice(if joined { b"+ join" } else { b"+ cut" })?;
+    add_num(alloc, u64::from(a), out)?;
+    add_num(alloc, u64::from(b), out)?;
+    out.push(b'\n')?;
+    Ok(())
+}
+
+// `+ fail 1 4`, `+ stop 1 4 lose`
+fn add_armed(alloc: Global, node: u8, what: Arm, out: &mut Vec<u8>) -> Result<(), AllocError>
+    ensures { OnOk result (out.new.items ≡ out.old.items ++ text.armed_text node what) }
+{
+    match what {
+        Arm::Fail { after } => {
+            out.extend_from_slice(b"+ fail")?;
+            add_num(alloc, u64::from(node), out)?;
+            add_num(alloc, u64::from(after), out)?;
+        }
+        Arm::Stop { after, mode } => {
+            out.extend_from_slice(b"+ stop")?;
+            add_num(alloc, u64::from(node), out)?;
+            add_num(alloc, u64::from(after), out)?;
+            out.push(b' ')?;
+            add_image_word(alloc, mode, out)?;
+        }
     }
+    out.push(b'\n')?;
+    Ok(())
 }
 
-// `node 1 up epoch 1`
-fn boot_line(alloc: Global, node: u8, epoch: u32) -> Result<Vec<u8>, AllocError>
-    ensures { IfOk result (λ t. t.items ≡ codes "node " ++ decimal node ++ codes " up epoch " ++ decimal epoch ++ codes "\n") }
+// `+ hold c`
+fn add_bound(name: &Txt, held: bool, out: &mut Vec<u8>) -> Result<(), AllocError>
+    ensures { OnOk result (out.new.items ≡ out.old.items ++ text.bound_text name.now held) }
 {
-    Ok(format!(in alloc; "node {node} up epoch {epoch}\n")?.into_bytes())
+    out.extend_from_slice(if held { b"+ hold " } else { b"+ restrict " })?;
+    out.extend_from_slice(&name.bytes)?;
+    out.push(b'\n')?;
+    Ok(())
 }
 
-// Before each name some words, after it some others and a line feed.
-fn names_lines(
+// `+ request 1 0 1 refused 4`
+fn add_request(
     alloc: Global,
-    before: &str,
-    names: &[Txt],
-    after: &str,
-) -> Result<Vec<u8>, AllocError>
-    ensures { IfOk result (λ t. t.items ≡ names_text before.now after.now names.now) }
+    call: u32,
+    from: u8,
+    to: u8,
+    refused: Option<Status>,
+    out: &mut Vec<u8>,
+) -> Result<(), AllocError>
+    ensures { OnOk result (out.new.items ≡ out.old.items ++ text.request_text call from to refused) }
 {
-    let mut text = Vec::new(alloc);
-    for name in names {
-        text.extend_from_slice(before.as_bytes())?;
-        text.extend_from_slice(&name.bytes)?;
-        text.extend_from_slice(after.as_bytes())?;
-        text.push(b'\n')?;
+    out.extend_from_slice(b"+ request")?;
+    add_num(alloc, u64::from(call), out)?;
+    add_num(alloc, u64::from(from), out)?;
+    add_num(alloc, u64::from(to), out)?;
+    if let Some(status) = refused {
+        out.extend_from_slice(b" refused")?;
+        add_num(alloc, u64::from(status.number()), out)?;
     }
-    Ok(text)
+    out.push(b'\n')?;
+    Ok(())
 }
 
-#[tactic(auto, unfolding(crate::specs::Lines::event_text))]
-fn event_lines(alloc: Global, event: &Event) -> Result<Vec<u8>, AllocError>
-    ensures { IfOk result (λ t. t.items ≡ event_text event.now) }
+// `+ activate 1.1.1 ok`
+fn add_activate(alloc: Global, uid: Uid, end: StartEnd, out: &mut Vec<u8>) -> Result<(), AllocError>
+    ensures { OnOk result (out.new.items ≡ out.old.items ++ text.activate_text uid end) }
+{
+    out.extend_from_slice(b"+ activate ")?;
+    add_uid(alloc, uid, out)?;
+    out.push(b' ')?;
+    out.extend_from_slice(start_word(end).as_bytes())?;
+    out.push(b'\n')?;
+    Ok(())
+}
+
+// `+ store 1.1.1 15 done`
+fn add_store(
+    alloc: Global,
+    uid: Uid,
+    clock: u64,
+    end: RequestEnd,
+    out: &mut Vec<u8>,
+) -> Result<(), AllocError>
+    ensures { OnOk result (out.new.items ≡ out.old.items ++ text.store_text uid clock end) }
+{
+    out.extend_from_slice(b"+ store ")?;
+    add_uid(alloc, uid, out)?;
+    add_num(alloc, clock, out)?;
+    out.push(b' ')?;
+    out.extend_from_slice(request_word(end).as_bytes())?;
+    out.push(b'\n')?;
+    Ok(())
+}
+
+// The call's number and two stations.
+fn add_three(
+    alloc: Global,
+    call: u32,
+    from: u8,
+    to: u8,
+    out: &mut Vec<u8>,
+) -> Result<(), AllocError>
+    ensures { OnOk result (out.new.items ≡ out.old.items ++ (text.num call ++ text.num from ++ text.num to)) }
+{
+    add_num(alloc, u64::from(call), out)?;
+    add_num(alloc, u64::from(from), out)?;
+    add_num(alloc, u64::from(to), out)
+}
+
+// `+ process 1.1.1 1 return 1`
+fn add_process(
+    alloc: Global,
+    uid: Uid,
+    process: u8,
+    shown: Shown,
+    out: &mut Vec<u8>,
+) -> Result<(), AllocError>
+    ensures { OnOk result (out.new.items ≡ out.old.items ++ text.process_text uid process shown) }
+{
+    out.extend_from_slice(b"+ process ")?;
+    add_uid(alloc, uid, out)?;
+    add_num(alloc, u64::from(process), out)?;
+    out.push(b' ')?;
+    add_shown_word(alloc, shown, out)?;
+    out.push(b'\n')?;
+    Ok(())
+}
+
+// `+ start 1 1.1.1 1`
+fn add_start(
+    alloc: Global,
+    call: u32,
+    uid: Uid,
+    process: u8,
+    out: &mut Vec<u8>,
+) -> Result<(), AllocError>
+    ensures { OnOk result (out.new.items ≡ out.old.items ++ text.start_text call uid process) }
+{
+    out.extend_from_slice(b"+ start")?;
+    add_num(alloc, u64::from(call), out)?;
+    out.push(b' ')?;
+    add_uid(alloc, uid, out)?;
+    add_num(alloc, u64::from(process), out)?;
+    out.push(b'\n')?;
+    Ok(())
+}
+
+// `+ call 1 a`
+fn add_call(alloc: Global, call: u32, name: &Txt, out: &mut Vec<u8>) -> Result<(), AllocError>
+    ensures { OnOk result (out.new.items ≡ out.old.items ++ text.call_text call name.now) }
+{
+    out.extend_from_slice(b"+ call")?;
+    add_num(alloc, u64::from(call), out)?;
+    out.push(b' ')?;
+    out.extend_from_slice(&name.bytes)?;
+    out.push(b'\n')?;
+    Ok(())
+}
+
+// `+ reply 1 1 0`
+fn add_reply(
+    alloc: Global,
+    call: u32,
+    from: u8,
+    to: u8,
+    out: &mut Vec<u8>,
+) -> Result<(), AllocError>
+    ensures { OnOk result (out.new.items ≡ out.old.items ++ text.delivered_text call from to) }
+{
+    out.extend_from_slice(b"+ reply")?;
+    add_three(alloc, call, from, to, out)?;
+    out.push(b'\n')?;
+    Ok(())
+}
+
+// The line that only a trace has.
+#[tactic(auto, unfolding(crate::specs::Lines::trace_text))]
+fn add_trace(alloc: Global, event: &Event, out: &mut Vec<u8>) -> Result<(), AllocError>
+    ensures { OnOk result (out.new.items ≡ out.old.items ++ text.trace_text event.now) }
+{
+    match event {
+        Event::Link { a, b, joined } => add_link(alloc, *a, *b, *joined, out),
+        Event::Armed { node, what } => add_armed(alloc, *node, *what, out),
+        Event::Bound { name, held } => add_bound(name, *held, out),
+        Event::Asked { call, name, .. } => add_call(alloc, *call, name, out),
+        Event::Request {
+            call,
+            from,
+            to,
+            refused,
+        } => add_request(alloc, *call, *from, *to, *refused, out),
+        Event::Reply { call, from, to, .. } => add_reply(alloc, *call, *from, *to, out),
+        Event::Activate {
+            end: StartEnd::Stop,
+            ..
+        } => Ok(()),
+        Event::Activate { uid, end, .. } => add_activate(alloc, *uid, *end, out),
+        Event::Start { call, uid, process } => add_start(alloc, *call, *uid, *process, out),
+        Event::Process {
+            uid,
+            process,
+            shown,
+        } => add_process(alloc, *uid, *process, *shown, out),
+        Event::Store {
+            end: RequestEnd::Stop,
+            ..
+        } => Ok(()),
+        Event::Store {
+            uid,
+            clock,
+            end,
+            ..
+        } => add_store(alloc, *uid, *clock, *end, out),
+        _ => Ok(()),
+    }
+}
+
+// `node 1`
+fn add_node(alloc: Global, node: u8, out: &mut Vec<u8>) -> Result<(), AllocError>
+    ensures { OnOk result (out.new.items ≡ out.old.items ++ (codes "node" ++ text.num node)) }
+{
+    out.extend_from_slice(b"node")?;
+    add_num(alloc, u64::from(node), out)
+}
+
+// `node 1 down stop`
+fn add_down(alloc: Global, node: u8, why: &str, out: &mut Vec<u8>) -> Result<(), AllocError>
+    ensures { OnOk result (out.new.items ≡ out.old.items ++ text.down_text node why.now) }
+{
+    add_node(alloc, node, out)?;
+    out.extend_from_slice(b" down ")?;
+    out.extend_from_slice(why.as_bytes())?;
+    out.push(b'\n')?;
+    Ok(())
+}
+
+// `node 1 up epoch 1`, `node 1 down damaged 0`
+fn add_boot(
+    alloc: Global,
+    node: u8,
+    epoch: u32,
+    end: BootEnd,
+    out: &mut Vec<u8>,
+) -> Result<(), AllocError>
+    ensures { OnOk result (out.new.items ≡ out.old.items ++ text.boot_text node epoch end) }
+{
+    add_node(alloc, node, out)?;
+    if let BootEnd::Up = end {
+        out.extend_from_slice(b" up epoch")?;
+        add_num(alloc, u64::from(epoch), out)?;
+    } else {
+        out.extend_from_slice(b" down ")?;
+        add_boot_word(alloc, end, out)?;
+    }
+    out.push(b'\n')?;
+    Ok(())
+}
+
+// `node 1 is up`
+fn add_still(alloc: Global, node: u8, up: bool, out: &mut Vec<u8>) -> Result<(), AllocError>
+    ensures { OnOk result (out.new.items ≡ out.old.items ++ text.still_text node up) }
+{
+    add_node(alloc, node, out)?;
+    out.extend_from_slice(if up { b" is up\n" } else { b" is down\n" })
+}
+
+// `c is 1.1.1`
+fn add_made(
+    alloc: Global,
+    name: &Txt,
+    status: Status,
+    uid: Option<Uid>,
+    out: &mut Vec<u8>,
+) -> Result<(), AllocError>
+    ensures { OnOk result (out.new.items ≡ out.old.items ++ text.made_text name.now status uid) }
+{
+    let Some(uid) = uid else {
+        return add_refused(alloc, name, status, out);
+    };
+    out.extend_from_slice(&name.bytes)?;
+    out.extend_from_slice(b" is ")?;
+    add_uid(alloc, uid, out)?;
+    out.push(b'\n')?;
+    Ok(())
+}
+
+// `, 5, "a"`
+fn add_behind(alloc: Global, values: &[Value], out: &mut Vec<u8>) -> Result<(), AllocError>
+    ensures { OnOk result (out.new.items ≡ out.old.items ++ row_behind (datums values.now)) }
+{
+    for value in values {
+        out.extend_from_slice(b", ")?;
+        print(alloc, value, out)?;
+    }
+    Ok(())
+}
+
+// `5, "a"`
+fn add_row(alloc: Global, values: &[Value], out: &mut Vec<u8>) -> Result<(), AllocError>
+    ensures { OnOk result (out.new.items ≡ out.old.items ++ printed_row (datums values.now)) }
+{
+    let [first, more @ ..] = values else {
+        return Ok(());
+    };
+    print(alloc, first, out)?;
+    add_behind(alloc, more, out)
+}
+
+// `a ok (5)`, `a refused 4 gone`
+fn add_answer(
+    alloc: Global,
+    name: &Txt,
+    status: Status,
+    results: &[Value],
+    out: &mut Vec<u8>,
+) -> Result<(), AllocError>
+    ensures { OnOk result (out.new.items ≡ out.old.items ++ text.answer_text name.now status (datums results.now)) }
+{
+    if let Status::Ok = status {
+        out.extend_from_slice(&name.bytes)?;
+        out.extend_from_slice(b" ok (")?;
+        add_row(alloc, results, out)?;
+        out.extend_from_slice(b")\n")
+    } else {
+        add_refused(alloc, name, status, out)
+    }
+}
+
+// `eject 1.1.1 fault budget`
+fn add_fault(alloc: Global, uid: Uid, shown: Shown, out: &mut Vec<u8>) -> Result<(), AllocError>
+    ensures { OnOk result (out.new.items ≡ out.old.items ++ text.fault_text uid shown) }
+{
+    let Shown::Fault { cause } = shown else {
+        return Ok(());
+    };
+    out.extend_from_slice(b"eject ")?;
+    add_uid(alloc, uid, out)?;
+    out.extend_from_slice(b" fault ")?;
+    out.extend_from_slice(fault_word(cause).as_bytes())?;
+    out.push(b'\n')?;
+    Ok(())
+}
+
+// `open a`
+fn add_open(names: &[Txt], out: &mut Vec<u8>) -> Result<(), AllocError>
+    ensures { OnOk result (out.new.items ≡ out.old.items ++ text.open_text names.now) }
+{
+    for name in names {
+        out.extend_from_slice(b"open ")?;
+        out.extend_from_slice(&name.bytes)?;
+        out.push(b'\n')?;
+    }
+    Ok(())
+}
+
+// `a refused 6 broken`
+fn add_broken_line(name: &Txt, out: &mut Vec<u8>) -> Result<(), AllocError>
+    ensures { OnOk result (out.new.items ≡ out.old.items ++ text.broken_line name.now) }
+{
+    out.extend_from_slice(&name.bytes)?;
+    out.extend_from_slice(b" refused 6 broken\n")
+}
+
+// A line for each of these calls.
+fn add_broken(names: &[Txt], out: &mut Vec<u8>) -> Result<(), AllocError>
+    ensures { OnOk result (out.new.items ≡ out.old.items ++ text.broken_text names.now) }
+{
+    for name in names {
+        add_broken_line(name, out)?;
+    }
+    Ok(())
+}
+
+// `a void`
+fn add_void(name: &Txt, out: &mut Vec<u8>) -> Result<(), AllocError>
+    ensures { OnOk result (out.new.items ≡ out.old.items ++ (name.now ++ codes " void\n")) }
+{
+    out.extend_from_slice(&name.bytes)?;
+    out.extend_from_slice(b" void\n")
+}
+
+// The lines that every mode but the summary has.
+#[tactic(auto, unfolding(crate::specs::Lines::shown_text))]
+fn add_shown(alloc: Global, event: &Event, out: &mut Vec<u8>) -> Result<(), AllocError>
+    ensures { OnOk result (out.new.items ≡ out.old.items ++ text.shown_text event.now) }
 {
     match event {
         Event::Boot {
             node,
             epoch,
-            end: _,
-        } => boot_line(alloc, *node, *epoch),
-        Event::Made {
-            name,
-            status: _,
-            uid: Some(uid),
-        } => made_line(alloc, name, *uid),
-        Event::Made {
-            name,
-            status,
-            uid: None,
-        } => refused_line(alloc, name, *status),
+            end,
+            ..
+        } => add_boot(alloc, *node, *epoch, *end, out),
+        Event::Crash { node } => add_down(alloc, *node, "crash", out),
+        Event::Still { node, up } => add_still(alloc, *node, *up, out),
+        Event::Made { name, status, uid } => add_made(alloc, name, *status, *uid, out),
+        Event::Void { name } => add_void(name, out),
         Event::Asked {
-            call: _,
             name,
             at_once: Some(status),
-        } => refused_line(alloc, name, *status),
+            ..
+        } => add_refused(alloc, name, *status, out),
         Event::Reply {
             name: Some(name),
             status,
             results,
             ..
-        } => answer_line(alloc, name, *status, results.as_slice()),
-        Event::Quiet => b"quiet\n".to_vec(alloc),
-        Event::Left { names } => names_lines(alloc, "open ", names.as_slice(), ""),
-        Event::Reply { name: None, .. }
-        | Event::Asked { at_once: None, .. }
-        | Event::Request { .. }
-        | Event::Start { .. }
-        | Event::Process { .. } => Ok(Vec::new(alloc)),
+        } => add_answer(alloc, name, *status, &results.values, out),
+        Event::Activate {
+            uid,
+            end: StartEnd::Stop,
+            ..
+        } => add_down(alloc, uid.node, "stop", out),
+        Event::Process { uid, shown, .. } => add_fault(alloc, *uid, *shown, out),
+        Event::Store {
+            uid,
+            end: RequestEnd::Stop,
+            ..
+        } => add_down(alloc, uid.node, "stop", out),
+        Event::Quiet => out.extend_from_slice(b"quiet\n"),
+        Event::Spent => out.extend_from_slice(b"spent\n"),
+        Event::Left { names } => add_open(&names.names, out),
+        _ => Ok(()),
     }
 }
 
-/// Appends the lines of an entry. Where there is no memory, `out` is as before.
+// What a settling of the event picked.
+fn pick_of(event: &Event) -> Option<Pick>
+    ensures { result ≡ text.pick_of event.now }
+{
+    match event {
+        Event::Boot { pick, .. } | Event::Activate { pick, .. } | Event::Store { pick, .. } => {
+            *pick
+        }
+        _ => None,
+    }
+}
+
+fn began_word(event: &Event) -> &'static str
+    ensures { result.now ≡ text.began_word event.now }
+{
+    match event {
+        Event::Boot { began: true, .. } => "yes",
+        Event::Boot { began: false, .. } => "no",
+        _ => "-",
+    }
+}
+
+// `+ disk 1 15 - -`
+fn add_disk(alloc: Global, entry: &Entry, out: &mut Vec<u8>) -> Result<(), AllocError>
+    ensures { OnOk result (out.new.items ≡ out.old.items ++ text.disk_text entry.now) }
+{
+    if entry.node == 0 {
+        return Ok(());
+    }
+    out.extend_from_slice(b"+ disk")?;
+    add_num(alloc, u64::from(entry.node), out)?;
+    add_num(alloc, entry.clock, out)?;
+    out.push(b' ')?;
+    out.extend_from_slice(pick_word(pick_of(&entry.event)).as_bytes())?;
+    out.push(b' ')?;
+    out.extend_from_slice(began_word(&entry.event).as_bytes())?;
+    out.push(b'\n')?;
+    Ok(())
+}
+
+#[tactic(auto, unfolding(crate::specs::Lines::entry_text))]
+fn add_entry(alloc: Global, mode: Mode, entry: &Entry, out: &mut Vec<u8>) -> Result<(), AllocError>
+    ensures { OnOk result (out.new.items ≡ out.old.items ++ text.entry_text mode entry.now) }
+{
+    match mode {
+        Mode::Summary => Ok(()),
+        Mode::Plain => {
+            add_shown(alloc, &entry.event, out)?;
+            add_broken(&entry.broken.names, out)
+        }
+        Mode::Trace => {
+            add_trace(alloc, &entry.event, out)?;
+            add_shown(alloc, &entry.event, out)?;
+            add_broken(&entry.broken.names, out)
+        }
+        Mode::Full => {
+            add_trace(alloc, &entry.event, out)?;
+            add_shown(alloc, &entry.event, out)?;
+            add_broken(&entry.broken.names, out)?;
+            add_disk(alloc, entry, out)
+        }
+    }
+}
+
+/// Appends the lines of an entry in this mode, none in the mode Summary. Where memory runs out, `out` is as before.
 pub fn line(alloc: Global, mode: Mode, entry: &Entry, out: &mut Vec<u8>) -> Result<(), AllocError>
-    ensures ok { OnOk result (out.new.items ≡ out.old.items ++ entry_text entry.now) }
+    ensures ok { OnOk result (out.new.items ≡ out.old.items ++ text.entry_text mode entry.now) }
     ensures err { OnErr result (out.new.items ≡ out.old.items) }
 {
-    let Mode::Plain = mode;
-    let mut text = event_lines(alloc, &entry.event)?;
-    text.extend_from_slice(&names_lines(alloc, "", entry.broken.as_slice(), " refused 6 broken")?)?;
+    let mut text = Vec::new(alloc);
+    add_entry(alloc, mode, entry, &mut text)?;
     out.extend_from_slice(&text)
 }

@@ -1,6 +1,6 @@
 use Rattle.std.proofs.Common.{◌≡◌, take, fold}
 use Rattle.std.specs.List.{flat_map}
-use Rattle.journal.specs.World.{insert_key, call_keys}
+use Rattle.eden_shell.specs.World.{insert_key, call_keys}
 use Rattle.eden_shell.proofs.keys.add_call_keys.Given as goal
 
 abbrev pub invariant-loop-call : goal.invariant-loop-call

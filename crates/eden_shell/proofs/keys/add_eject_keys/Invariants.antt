@@ -1,6 +1,6 @@
 use Rattle.std.proofs.Common.{◌≡◌, take, fold}
 use Rattle.std.specs.List.{flat_map}
-use Rattle.journal.specs.World.{insert_key, eject_keys}
+use Rattle.eden_shell.specs.World.{insert_key, eject_keys}
 use Rattle.eden_shell.proofs.keys.add_eject_keys.Given as goal
 
 abbrev pub invariant-loop-eject : goal.invariant-loop-eject

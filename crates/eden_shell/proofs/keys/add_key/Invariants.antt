@@ -1,5 +1,5 @@
 use Rattle.std.proofs.Common.{◌≡◌, ◌≤◌, ◌-◌, ◌++◌, take, drop, length}
-use Rattle.journal.specs.World.{insert_key}
+use Rattle.eden_shell.specs.World.{insert_key}
 use Rattle.eden_shell.proofs.keys.add_key.Given as goal
 
 -- the key stands behind those before `at`

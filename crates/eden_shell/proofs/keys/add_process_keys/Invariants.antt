@@ -1,5 +1,5 @@
 use Rattle.std.proofs.Common.{◌≡◌, take, fold, map}
-use Rattle.journal.specs.World.{insert_key}
+use Rattle.eden_shell.specs.World.{insert_key}
 use Rattle.eden_shell.proofs.keys.add_process_keys.Given as goal
 
 abbrev pub invariant-loop-process : goal.invariant-loop-process

@@ -1,7 +1,7 @@
 use Rattle.std.proofs.Common.{◌≡◌, ◌+◌, [], Vec, drop, ap, sym, subst, refl, arith, ◌∙◌}
 use Rattle.std.specs.declared.alloc.Global.{Global}
-use Rattle.journal.specs.declared.world.Binding.{Binding}
-use Rattle.journal.specs.World.{World}
+use Rattle.eden_shell.specs.declared.world.Binding.{Binding}
+use Rattle.eden_shell.specs.World.{World}
 use Rattle.eden_shell.specs.Steps.{AllFit, names_of}
 use Rattle.eden_shell.specs.Worlds.{world_of}
 use Rattle.eden_shell.proofs.Grown.{reaches_none, boot_advances, advances_command, reaches_command, next_command}

@@ -1,5 +1,5 @@
-use Rattle.std.proofs.Common.{◌≤◌, vec_len, drop}
-use Rattle.journal.specs.Legal.{at, booting, opening}
+use Rattle.std.proofs.Common.{◌≡◌, ◌≤◌, vec_len, drop}
+use Rattle.eden_shell.specs.Legal.{at, booting, opening}
 use Rattle.eden_shell.specs.Steps.{Advances, AllFit, names_of}
 use Rattle.eden_shell.specs.Worlds.{world_of, IsReady}
 use Rattle.eden_shell.proofs.run.carry_all.Given as goal

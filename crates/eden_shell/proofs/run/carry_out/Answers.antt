@@ -1,4 +1,6 @@
-use Rattle.std.proofs.Common.{◌≡◌, ◌<◌}
+use Rattle.std.proofs.Common.{◌≡◌, ◌<◌, ◌∷◌}
+use Rattle.eden_shell.specs.Legal.{at}
+use Rattle.eden_shell.specs.Worlds.{world_of}
 use Rattle.eden_shell.proofs.Grown.{reaches_none, reaches_by, reaches_going}
 use Rattle.eden_shell.proofs.run.carry_out.Goals as goal
 

@@ -1,5 +1,5 @@
-use Rattle.std.proofs.Common.{◌+◌, ap, sym, ◌∙◌, refl}
-use Rattle.journal.specs.Legal.{plain}
+use Rattle.std.proofs.Common.{◌≡◌, ◌+◌, ap, sym, ◌∙◌, refl, arith}
+use Rattle.eden_shell.specs.Legal.{plain}
 use Rattle.eden_shell.specs.Worlds.{world_of}
 use Rattle.eden_shell.proofs.Grown.{advances_one, create_due}
 use Rattle.eden_shell.proofs.Sound.{sound-made}

@@ -1,6 +1,6 @@
-use Rattle.std.proofs.Common.{Some, refl, ap, sym, ◌∙◌}
-use Rattle.journal.specs.declared.world.NodeState.{NodeState}
-use Rattle.journal.specs.Legal.{plain}
+use Rattle.std.proofs.Common.{◌≡◌, Some, refl, ap, sym, ◌∙◌}
+use Rattle.eden_shell.specs.declared.world.NodeState.{NodeState}
+use Rattle.eden_shell.specs.Legal.{plain}
 use Rattle.eden_shell.specs.Worlds.{world_of}
 use Rattle.eden_shell.proofs.Grown.{advances_one, turn_due}
 use Rattle.eden_shell.proofs.Sound.{leaves-turn, sound-same}

@@ -1,5 +1,5 @@
-use Rattle.std.proofs.Common.{◌≡◌, ◌+◌, ◌-◌, ◌∙◌, sym, arith}
-use Rattle.journal.specs.Legal.{at}
+use Rattle.std.proofs.Common.{◌≡◌, ◌+◌, ◌-◌, ◌∙◌, sym, refl, arith}
+use Rattle.eden_shell.specs.Legal.{at}
 use Rattle.eden_shell.specs.Worlds.{world_of}
 use Rattle.eden_shell.proofs.Grown.{advances_one, advances_append, quiet_due}
 use Rattle.eden_shell.proofs.run.take_turns.Goals as goal

@@ -1,6 +1,6 @@
 use Rattle.std.proofs.Common.{◌≡◌, ◌≤◌, ◌-◌, List, vec_len}
-use Rattle.journal.specs.declared.script.Command.{Command}
-use Rattle.journal.specs.Legal.{going}
+use Rattle.eden_shell.specs.declared.script.Command.{Command}
+use Rattle.eden_shell.specs.Legal.{going}
 use Rattle.eden_shell.specs.Steps.{Advances}
 use Rattle.eden_shell.specs.Worlds.{world_of, IsReady}
 use Rattle.eden_shell.proofs.run.take_turns.Given as goal

@@ -1,8 +1,8 @@
-use Rattle.std.proofs.Common.{◌≡◌, refl, rules}
-use Rattle.journal.specs.Lines.{text}
+use Rattle.std.proofs.Common.{◌≡◌, refl, sym, ◌∙◌, rules}
+use Rattle.eden_shell.specs.Lines.{text}
 use Rattle.eden_shell.specs.declared.report.Outcome.TheVariants.{Ran, BadScript}
 use Rattle.eden_shell.specs.declared.report.ScriptCause.TheVariants.{BadForm}
-use Rattle.eden_shell.specs.Reports.{Writing, IsDueFor, IsBegunFor}
+use Rattle.eden_shell.specs.Reports.{Writing, IsDueFor, IsBegunFor, IsDelivered}
 use Rattle.eden_shell.proofs.Fitting.{bench_from_form}
 use Rattle.eden_shell.proofs.Answering.{answered}
 use Rattle.eden_shell.proofs.shell.run_bytes.Goals as goal

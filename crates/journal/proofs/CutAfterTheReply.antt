@@ -1,0 +1,110 @@
+-- A cut after the reply.
+use Rattle.std.proofs.Common.{◌≡◌, List, [], ◌∷◌, None, Some, true, false, refl, arith, codes}
+use Rattle.eden_value.specs.declared.status.Status.TheVariants as status
+use Rattle.journal.specs.Given.{plain as given}
+use Rattle.journal.specs.declared.command.Command.{Command}
+use Rattle.journal.specs.declared.command.Command.TheVariants as command
+use Rattle.journal.specs.declared.event.Event.TheVariants as event
+use Rattle.journal.specs.declared.event.Entry.{Entry}
+use Rattle.journal.specs.declared.event.Shown.TheVariants as shown
+use Rattle.journal.specs.declared.event.BootEnd.TheVariants as boot_end
+use Rattle.eden_model.specs.Crew.{least_number}
+use Rattle.journal.specs.World.{at_node, on_eject, on_node, on_traffic}
+use Rattle.journal.specs.Run.{Follows}
+use Rattle.journal.specs.declared.event.Mode.TheVariants as mode
+use Rattle.journal.specs.Lines.{text_of, entry_text, trace_text, shown_text}
+use Rattle.journal.proofs.Scenes.{one_node, plain, on_disk, c_uid, ref_c, int}
+use Rattle.journal.proofs.Decimals.{d1, d5}
+
+unfoldable pub commands : List Command
+commands = command.Create (codes "c") 1 (codes "Cell")
+    ∷ command.Call (codes "a") ref_c (codes "Set") (given (int 5) ∷ [])
+    ∷ command.Go 100
+    ∷ command.Cut 0 1
+    ∷ command.Join 0 1
+    ∷ command.Call (codes "b") ref_c (codes "Get") []
+    ∷ command.Go 100
+    ∷ command.End
+    ∷ []
+
+unfoldable pub history : List Entry
+history = on_disk 1 11 (event.Boot 1 1 boot_end.Up None true)
+    ∷ plain (event.Made (codes "c") status.Ok (Some c_uid))
+    ∷ plain (event.Asked 1 (codes "a") None)
+    ∷ plain (event.Request 1 0 1 None)
+    ∷ plain (event.Start 1 c_uid 1)
+    ∷ plain (event.Process c_uid 1 (shown.Return 1))
+    ∷ plain (event.Reply 1 1 0 (Some (codes "a")) status.Ok [])
+    ∷ plain event.Quiet
+    ∷ plain (event.Link 0 1 false)
+    ∷ plain (event.Link 0 1 true)
+    ∷ plain (event.Asked 2 (codes "b") None)
+    ∷ plain (event.Request 2 0 1 None)
+    ∷ plain (event.Start 2 c_uid 1)
+    ∷ plain (event.Process c_uid 1 (shown.Return 2))
+    ∷ plain (event.Reply 2 1 0 (Some (codes "b")) status.Ok (int 5 ∷ []))
+    ∷ plain event.Quiet
+    ∷ plain (event.Left [])
+    ∷ []
+
+pub follows : Follows one_node 1 commands history
+unfolding commands history at_node on_eject on_node on_traffic least_number
+follows = record {
+  whole = refl;
+  leads = (
+    record { event = (refl, record { is_down = refl; no_requests = refl; boots = record { opened = record { undamaged = refl; not_overfull = refl; picked = refl }; not_last = omega arith; next_one = refl; has_room = refl; begun = refl } }); broken = refl; disk = refl; clock = tt; store_clock = tt },
+    (
+      record { event = (refl, refl, (refl, refl)); broken = refl; disk = refl; clock = refl; store_clock = tt },
+      (
+        record { event = (refl, record { number = refl; refused = refl }); broken = refl; disk = refl; clock = refl; store_clock = tt },
+        (
+          record { key = refl; none_taken = tt; allowed = record { event = record { first_in_queue = refl; delivered = (refl, refl) }; broken = refl; disk = refl; clock = refl; store_clock = tt } },
+          (
+            record { key = refl; none_taken = tt; allowed = record { event = record { earliest = refl; number = refl }; broken = refl; disk = refl; clock = refl; store_clock = tt } },
+            (
+              record { key = refl; none_taken = tt; allowed = record { event = record { ready = refl; known = tt; shows = refl }; broken = refl; disk = refl; clock = refl; store_clock = tt } },
+              (
+                record { key = refl; none_taken = tt; allowed = record { event = record { first_in_queue = refl; delivered = (refl, refl) }; broken = refl; disk = refl; clock = refl; store_clock = tt } },
+                (
+                  record { key = refl; none_taken = refl; allowed = record { event = tt; broken = refl; disk = refl; clock = refl; store_clock = tt } },
+                  (
+                    record { event = (refl, refl, refl); broken = refl; disk = refl; clock = refl; store_clock = tt },
+                    (
+                      record { event = (refl, refl, refl); broken = refl; disk = refl; clock = refl; store_clock = tt },
+                      (
+                        record { event = (refl, record { number = refl; refused = refl }); broken = refl; disk = refl; clock = refl; store_clock = tt },
+                        (
+                          record { key = refl; none_taken = tt; allowed = record { event = record { first_in_queue = refl; delivered = (refl, refl) }; broken = refl; disk = refl; clock = refl; store_clock = tt } },
+                          (
+                            record { key = refl; none_taken = tt; allowed = record { event = record { earliest = refl; number = refl }; broken = refl; disk = refl; clock = refl; store_clock = tt } },
+                            (
+                              record { key = refl; none_taken = tt; allowed = record { event = record { ready = refl; known = tt; shows = refl }; broken = refl; disk = refl; clock = refl; store_clock = tt } },
+                              (
+                                record { key = refl; none_taken = tt; allowed = record { event = record { first_in_queue = refl; delivered = (refl, refl) }; broken = refl; disk = refl; clock = refl; store_clock = tt } },
+                                (
+                                  record { key = refl; none_taken = refl; allowed = record { event = tt; broken = refl; disk = refl; clock = refl; store_clock = tt } },
+                                  (
+                                    record { event = refl; broken = refl; disk = refl; clock = refl; store_clock = tt },
+                                    tt,
+                                  ),
+                                ),
+                              ),
+                            ),
+                          ),
+                        ),
+                      ),
+                    ),
+                  ),
+                ),
+              ),
+            ),
+          ),
+        ),
+      ),
+    ),
+  );
+}
+
+plain_text : text_of mode.Plain history ≡ codes "node 1 up epoch 1\nc is 1.1.1\na ok ()\nquiet\nb ok (5)\nquiet\n"
+unfolding history entry_text trace_text shown_text
+plain_text = rw (d1, d5) refl

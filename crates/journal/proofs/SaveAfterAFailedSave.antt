@@ -1,0 +1,322 @@
+-- The fourth device call of a save fails; the next save settles the doubt, and is kept.
+use Rattle.std.proofs.Common.{◌≡◌, List, [], ◌∷◌, None, Some, true, refl, arith, codes}
+use Rattle.eden_value.specs.declared.status.Status.TheVariants as status
+use Rattle.eden_disk.specs.declared.disk.Arm.TheVariants as arm
+use Rattle.eden_disk.specs.declared.disk.ImageMode.TheVariants.{Lose as lose}
+use Rattle.passive_store.specs.declared.store.Pick.TheVariants as pick
+use Rattle.journal.specs.Given.{plain as given}
+use Rattle.journal.specs.declared.command.Command.{Command}
+use Rattle.journal.specs.declared.command.Command.TheVariants as command
+use Rattle.journal.specs.declared.event.Event.TheVariants as event
+use Rattle.journal.specs.declared.event.Entry.{Entry}
+use Rattle.journal.specs.declared.event.Shown.TheVariants as shown
+use Rattle.journal.specs.declared.event.BootEnd.TheVariants as boot_end
+use Rattle.journal.specs.declared.event.StartEnd.TheVariants as start_end
+use Rattle.journal.specs.declared.event.RequestEnd.TheVariants as request_end
+use Rattle.eden_model.specs.Crew.{least_number}
+use Rattle.journal.specs.World.{at_node, on_eject, on_node, on_traffic}
+use Rattle.journal.specs.Run.{Follows}
+use Rattle.journal.specs.declared.event.Mode.TheVariants as mode
+use Rattle.journal.specs.Lines.{text_of, entry_text, trace_text, shown_text}
+use Rattle.journal.proofs.Scenes.{one_node, plain, on_disk, c_uid, ref_c, int}
+use Rattle.journal.proofs.Decimals.{d0, d1, d2, d7, d11}
+
+unfoldable pub commands : List Command
+commands = command.Create (codes "c") 1 (codes "Cell")
+    ∷ command.Call (codes "a") ref_c (codes "Set") (given (int 5) ∷ [])
+    ∷ command.Go 100
+    ∷ command.Call (codes "b") ref_c (codes "Save") []
+    ∷ command.Go 100
+    ∷ command.Call (codes "d") ref_c (codes "Set") (given (int 9) ∷ [])
+    ∷ command.Go 100
+    ∷ command.Fail 1 4
+    ∷ command.Call (codes "f") ref_c (codes "Save") []
+    ∷ command.Go 100
+    ∷ command.Call (codes "g") ref_c (codes "Set") (given (int 11) ∷ [])
+    ∷ command.Go 100
+    ∷ command.Call (codes "h") ref_c (codes "Save") []
+    ∷ command.Go 100
+    ∷ command.Crash 1 lose
+    ∷ command.Restart 1
+    ∷ command.Call (codes "i") ref_c (codes "Get") []
+    ∷ command.Go 100
+    ∷ command.End
+    ∷ []
+
+unfoldable pub history : List Entry
+history = on_disk 1 11 (event.Boot 1 1 boot_end.Up None true)
+    ∷ plain (event.Made (codes "c") status.Ok (Some c_uid))
+    ∷ plain (event.Asked 1 (codes "a") None)
+    ∷ plain (event.Request 1 0 1 None)
+    ∷ plain (event.Start 1 c_uid 1)
+    ∷ plain (event.Process c_uid 1 (shown.Return 1))
+    ∷ plain (event.Reply 1 1 0 (Some (codes "a")) status.Ok [])
+    ∷ plain event.Quiet
+    ∷ plain (event.Asked 2 (codes "b") None)
+    ∷ plain (event.Request 2 0 1 None)
+    ∷ plain (event.Start 2 c_uid 1)
+    ∷ plain (event.Process c_uid 1 shown.Checkpoint)
+    ∷ on_disk 1 12 (event.Store c_uid 12 request_end.Part None)
+    ∷ on_disk 1 13 (event.Store c_uid 13 request_end.Part None)
+    ∷ on_disk 1 14 (event.Store c_uid 14 request_end.Part None)
+    ∷ on_disk 1 15 (event.Store c_uid 15 request_end.Done None)
+    ∷ plain (event.Process c_uid 1 (shown.Return 2))
+    ∷ plain (event.Reply 2 1 0 (Some (codes "b")) status.Ok (int 0 ∷ []))
+    ∷ plain event.Quiet
+    ∷ plain (event.Asked 3 (codes "d") None)
+    ∷ plain (event.Request 3 0 1 None)
+    ∷ plain (event.Start 3 c_uid 1)
+    ∷ plain (event.Process c_uid 1 (shown.Return 3))
+    ∷ plain (event.Reply 3 1 0 (Some (codes "d")) status.Ok [])
+    ∷ plain event.Quiet
+    ∷ on_disk 1 15 (event.Armed 1 (arm.Fail 4))
+    ∷ plain (event.Asked 4 (codes "f") None)
+    ∷ plain (event.Request 4 0 1 None)
+    ∷ plain (event.Start 4 c_uid 1)
+    ∷ plain (event.Process c_uid 1 shown.Checkpoint)
+    ∷ on_disk 1 16 (event.Store c_uid 16 request_end.Part None)
+    ∷ on_disk 1 17 (event.Store c_uid 17 request_end.Part None)
+    ∷ on_disk 1 18 (event.Store c_uid 18 request_end.Part None)
+    ∷ on_disk 1 19 (event.Store c_uid 19 request_end.Fault None)
+    ∷ plain (event.Process c_uid 1 (shown.Return 4))
+    ∷ plain (event.Reply 4 1 0 (Some (codes "f")) status.Ok (int 7 ∷ []))
+    ∷ plain event.Quiet
+    ∷ plain (event.Asked 5 (codes "g") None)
+    ∷ plain (event.Request 5 0 1 None)
+    ∷ plain (event.Start 5 c_uid 1)
+    ∷ plain (event.Process c_uid 1 (shown.Return 5))
+    ∷ plain (event.Reply 5 1 0 (Some (codes "g")) status.Ok [])
+    ∷ plain event.Quiet
+    ∷ plain (event.Asked 6 (codes "h") None)
+    ∷ plain (event.Request 6 0 1 None)
+    ∷ plain (event.Start 6 c_uid 1)
+    ∷ plain (event.Process c_uid 1 shown.Checkpoint)
+    ∷ on_disk 1 20 (event.Store c_uid 20 request_end.Part None)
+    ∷ on_disk 1 21 (event.Store c_uid 21 request_end.Part (Some pick.New))
+    ∷ on_disk 1 22 (event.Store c_uid 22 request_end.Part None)
+    ∷ on_disk 1 23 (event.Store c_uid 23 request_end.Part None)
+    ∷ on_disk 1 24 (event.Store c_uid 24 request_end.Part None)
+    ∷ on_disk 1 25 (event.Store c_uid 25 request_end.Done None)
+    ∷ plain (event.Process c_uid 1 (shown.Return 6))
+    ∷ plain (event.Reply 6 1 0 (Some (codes "h")) status.Ok (int 0 ∷ []))
+    ∷ plain event.Quiet
+    ∷ on_disk 1 25 (event.Crash 1)
+    ∷ on_disk 1 37 (event.Boot 1 2 boot_end.Up None true)
+    ∷ plain (event.Asked 7 (codes "i") None)
+    ∷ plain (event.Request 7 0 1 None)
+    ∷ on_disk 1 38 (event.Activate c_uid start_end.Ok None)
+    ∷ plain (event.Start 7 c_uid 1)
+    ∷ plain (event.Process c_uid 1 (shown.Return 7))
+    ∷ plain (event.Reply 7 1 0 (Some (codes "i")) status.Ok (int 11 ∷ []))
+    ∷ plain event.Quiet
+    ∷ plain (event.Left [])
+    ∷ []
+
+pub follows : Follows one_node 1 commands history
+unfolding commands history at_node on_eject on_node on_traffic least_number
+follows = record {
+  whole = refl;
+  leads = (
+    record { event = (refl, record { is_down = refl; no_requests = refl; boots = record { opened = record { undamaged = refl; not_overfull = refl; picked = refl }; not_last = omega arith; next_one = refl; has_room = refl; begun = refl } }); broken = refl; disk = refl; clock = tt; store_clock = tt },
+    (
+      record { event = (refl, refl, (refl, refl)); broken = refl; disk = refl; clock = refl; store_clock = tt },
+      (
+        record { event = (refl, record { number = refl; refused = refl }); broken = refl; disk = refl; clock = refl; store_clock = tt },
+        (
+          record { key = refl; none_taken = tt; allowed = record { event = record { first_in_queue = refl; delivered = (refl, refl) }; broken = refl; disk = refl; clock = refl; store_clock = tt } },
+          (
+            record { key = refl; none_taken = tt; allowed = record { event = record { earliest = refl; number = refl }; broken = refl; disk = refl; clock = refl; store_clock = tt } },
+            (
+              record { key = refl; none_taken = tt; allowed = record { event = record { ready = refl; known = tt; shows = refl }; broken = refl; disk = refl; clock = refl; store_clock = tt } },
+              (
+                record { key = refl; none_taken = tt; allowed = record { event = record { first_in_queue = refl; delivered = (refl, refl) }; broken = refl; disk = refl; clock = refl; store_clock = tt } },
+                (
+                  record { key = refl; none_taken = refl; allowed = record { event = tt; broken = refl; disk = refl; clock = refl; store_clock = tt } },
+                  (
+                    record { event = (refl, record { number = refl; refused = refl }); broken = refl; disk = refl; clock = refl; store_clock = tt },
+                    (
+                      record { key = refl; none_taken = tt; allowed = record { event = record { first_in_queue = refl; delivered = (refl, refl) }; broken = refl; disk = refl; clock = refl; store_clock = tt } },
+                      (
+                        record { key = refl; none_taken = tt; allowed = record { event = record { earliest = refl; number = refl }; broken = refl; disk = refl; clock = refl; store_clock = tt } },
+                        (
+                          record { key = refl; none_taken = tt; allowed = record { event = record { ready = refl; known = tt; shows = refl }; broken = refl; disk = refl; clock = refl; store_clock = tt } },
+                          (
+                            record { key = refl; none_taken = tt; allowed = record { event = record { of_uid = refl; ends = refl; call_left = omega arith }; broken = refl; disk = refl; clock = omega arith; store_clock = (refl, refl) } },
+                            (
+                              record { key = refl; none_taken = tt; allowed = record { event = record { of_uid = refl; ends = refl; call_left = omega arith }; broken = refl; disk = refl; clock = omega arith; store_clock = (refl, refl) } },
+                              (
+                                record { key = refl; none_taken = tt; allowed = record { event = record { of_uid = refl; ends = refl; call_left = omega arith }; broken = refl; disk = refl; clock = omega arith; store_clock = (refl, refl) } },
+                                (
+                                  record { key = refl; none_taken = tt; allowed = record { event = record { of_uid = refl; ends = refl; call_left = omega arith }; broken = refl; disk = refl; clock = omega arith; store_clock = (refl, refl) } },
+                                  (
+                                    record { key = refl; none_taken = tt; allowed = record { event = record { ready = refl; known = tt; shows = refl }; broken = refl; disk = refl; clock = refl; store_clock = tt } },
+                                    (
+                                      record { key = refl; none_taken = tt; allowed = record { event = record { first_in_queue = refl; delivered = (refl, refl) }; broken = refl; disk = refl; clock = refl; store_clock = tt } },
+                                      (
+                                        record { key = refl; none_taken = refl; allowed = record { event = tt; broken = refl; disk = refl; clock = refl; store_clock = tt } },
+                                        (
+                                          record { event = (refl, record { number = refl; refused = refl }); broken = refl; disk = refl; clock = refl; store_clock = tt },
+                                          (
+                                            record { key = refl; none_taken = tt; allowed = record { event = record { first_in_queue = refl; delivered = (refl, refl) }; broken = refl; disk = refl; clock = refl; store_clock = tt } },
+                                            (
+                                              record { key = refl; none_taken = tt; allowed = record { event = record { earliest = refl; number = refl }; broken = refl; disk = refl; clock = refl; store_clock = tt } },
+                                              (
+                                                record { key = refl; none_taken = tt; allowed = record { event = record { ready = refl; known = tt; shows = refl }; broken = refl; disk = refl; clock = refl; store_clock = tt } },
+                                                (
+                                                  record { key = refl; none_taken = tt; allowed = record { event = record { first_in_queue = refl; delivered = (refl, refl) }; broken = refl; disk = refl; clock = refl; store_clock = tt } },
+                                                  (
+                                                    record { key = refl; none_taken = refl; allowed = record { event = tt; broken = refl; disk = refl; clock = refl; store_clock = tt } },
+                                                    (
+                                                      record { event = (refl, refl); broken = refl; disk = refl; clock = omega arith; store_clock = tt },
+                                                      (
+                                                        record { event = (refl, record { number = refl; refused = refl }); broken = refl; disk = refl; clock = refl; store_clock = tt },
+                                                        (
+                                                          record { key = refl; none_taken = tt; allowed = record { event = record { first_in_queue = refl; delivered = (refl, refl) }; broken = refl; disk = refl; clock = refl; store_clock = tt } },
+                                                          (
+                                                            record { key = refl; none_taken = tt; allowed = record { event = record { earliest = refl; number = refl }; broken = refl; disk = refl; clock = refl; store_clock = tt } },
+                                                            (
+                                                              record { key = refl; none_taken = tt; allowed = record { event = record { ready = refl; known = tt; shows = refl }; broken = refl; disk = refl; clock = refl; store_clock = tt } },
+                                                              (
+                                                                record { key = refl; none_taken = tt; allowed = record { event = record { of_uid = refl; ends = refl; call_left = omega arith }; broken = refl; disk = refl; clock = omega arith; store_clock = (refl, refl) } },
+                                                                (
+                                                                  record { key = refl; none_taken = tt; allowed = record { event = record { of_uid = refl; ends = refl; call_left = omega arith }; broken = refl; disk = refl; clock = omega arith; store_clock = (refl, refl) } },
+                                                                  (
+                                                                    record { key = refl; none_taken = tt; allowed = record { event = record { of_uid = refl; ends = refl; call_left = omega arith }; broken = refl; disk = refl; clock = omega arith; store_clock = (refl, refl) } },
+                                                                    (
+                                                                      record { key = refl; none_taken = tt; allowed = record { event = record { of_uid = refl; ends = refl; call_left = omega arith }; broken = refl; disk = refl; clock = omega arith; store_clock = (refl, refl) } },
+                                                                      (
+                                                                        record { key = refl; none_taken = tt; allowed = record { event = record { ready = refl; known = tt; shows = refl }; broken = refl; disk = refl; clock = refl; store_clock = tt } },
+                                                                        (
+                                                                          record { key = refl; none_taken = tt; allowed = record { event = record { first_in_queue = refl; delivered = (refl, refl) }; broken = refl; disk = refl; clock = refl; store_clock = tt } },
+                                                                          (
+                                                                            record { key = refl; none_taken = refl; allowed = record { event = tt; broken = refl; disk = refl; clock = refl; store_clock = tt } },
+                                                                            (
+                                                                              record { event = (refl, record { number = refl; refused = refl }); broken = refl; disk = refl; clock = refl; store_clock = tt },
+                                                                              (
+                                                                                record { key = refl; none_taken = tt; allowed = record { event = record { first_in_queue = refl; delivered = (refl, refl) }; broken = refl; disk = refl; clock = refl; store_clock = tt } },
+                                                                                (
+                                                                                  record { key = refl; none_taken = tt; allowed = record { event = record { earliest = refl; number = refl }; broken = refl; disk = refl; clock = refl; store_clock = tt } },
+                                                                                  (
+                                                                                    record { key = refl; none_taken = tt; allowed = record { event = record { ready = refl; known = tt; shows = refl }; broken = refl; disk = refl; clock = refl; store_clock = tt } },
+                                                                                    (
+                                                                                      record { key = refl; none_taken = tt; allowed = record { event = record { first_in_queue = refl; delivered = (refl, refl) }; broken = refl; disk = refl; clock = refl; store_clock = tt } },
+                                                                                      (
+                                                                                        record { key = refl; none_taken = refl; allowed = record { event = tt; broken = refl; disk = refl; clock = refl; store_clock = tt } },
+                                                                                        (
+                                                                                          record { event = (refl, record { number = refl; refused = refl }); broken = refl; disk = refl; clock = refl; store_clock = tt },
+                                                                                          (
+                                                                                            record { key = refl; none_taken = tt; allowed = record { event = record { first_in_queue = refl; delivered = (refl, refl) }; broken = refl; disk = refl; clock = refl; store_clock = tt } },
+                                                                                            (
+                                                                                              record { key = refl; none_taken = tt; allowed = record { event = record { earliest = refl; number = refl }; broken = refl; disk = refl; clock = refl; store_clock = tt } },
+                                                                                              (
+                                                                                                record { key = refl; none_taken = tt; allowed = record { event = record { ready = refl; known = tt; shows = refl }; broken = refl; disk = refl; clock = refl; store_clock = tt } },
+                                                                                                (
+                                                                                                  record { key = refl; none_taken = tt; allowed = record { event = record { of_uid = refl; ends = refl; call_left = tt }; broken = refl; disk = refl; clock = omega arith; store_clock = (refl, refl) } },
+                                                                                                  (
+                                                                                                    record { key = refl; none_taken = tt; allowed = record { event = record { of_uid = refl; ends = refl; call_left = tt }; broken = refl; disk = refl; clock = omega arith; store_clock = (refl, refl) } },
+                                                                                                    (
+                                                                                                      record { key = refl; none_taken = tt; allowed = record { event = record { of_uid = refl; ends = refl; call_left = omega arith }; broken = refl; disk = refl; clock = omega arith; store_clock = (refl, refl) } },
+                                                                                                      (
+                                                                                                        record { key = refl; none_taken = tt; allowed = record { event = record { of_uid = refl; ends = refl; call_left = omega arith }; broken = refl; disk = refl; clock = omega arith; store_clock = (refl, refl) } },
+                                                                                                        (
+                                                                                                          record { key = refl; none_taken = tt; allowed = record { event = record { of_uid = refl; ends = refl; call_left = omega arith }; broken = refl; disk = refl; clock = omega arith; store_clock = (refl, refl) } },
+                                                                                                          (
+                                                                                                            record { key = refl; none_taken = tt; allowed = record { event = record { of_uid = refl; ends = refl; call_left = omega arith }; broken = refl; disk = refl; clock = omega arith; store_clock = (refl, refl) } },
+                                                                                                            (
+                                                                                                              record { key = refl; none_taken = tt; allowed = record { event = record { ready = refl; known = tt; shows = refl }; broken = refl; disk = refl; clock = refl; store_clock = tt } },
+                                                                                                              (
+                                                                                                                record { key = refl; none_taken = tt; allowed = record { event = record { first_in_queue = refl; delivered = (refl, refl) }; broken = refl; disk = refl; clock = refl; store_clock = tt } },
+                                                                                                                (
+                                                                                                                  record { key = refl; none_taken = refl; allowed = record { event = tt; broken = refl; disk = refl; clock = refl; store_clock = tt } },
+                                                                                                                  (
+                                                                                                                    record { event = (refl, refl); broken = refl; disk = refl; clock = omega arith; store_clock = tt },
+                                                                                                                    (
+                                                                                                                      record { event = (refl, record { is_down = refl; no_requests = refl; boots = record { opened = record { undamaged = refl; not_overfull = refl; picked = refl }; not_last = omega arith; next_one = refl; has_room = refl; begun = refl } }); broken = refl; disk = refl; clock = omega arith; store_clock = tt },
+                                                                                                                      (
+                                                                                                                        record { event = (refl, record { number = refl; refused = refl }); broken = refl; disk = refl; clock = refl; store_clock = tt },
+                                                                                                                        (
+                                                                                                                          record { key = refl; none_taken = tt; allowed = record { event = record { first_in_queue = refl; delivered = (refl, refl) }; broken = refl; disk = refl; clock = refl; store_clock = tt } },
+                                                                                                                          (
+                                                                                                                            record { key = refl; none_taken = tt; allowed = record { event = record { is_passive = refl; has_queued = refl; not_worked_on = refl; starts = (refl, refl) }; broken = refl; disk = refl; clock = omega arith; store_clock = tt } },
+                                                                                                                            (
+                                                                                                                              record { key = refl; none_taken = tt; allowed = record { event = record { earliest = refl; number = refl }; broken = refl; disk = refl; clock = refl; store_clock = tt } },
+                                                                                                                              (
+                                                                                                                                record { key = refl; none_taken = tt; allowed = record { event = record { ready = refl; known = tt; shows = refl }; broken = refl; disk = refl; clock = refl; store_clock = tt } },
+                                                                                                                                (
+                                                                                                                                  record { key = refl; none_taken = tt; allowed = record { event = record { first_in_queue = refl; delivered = (refl, refl) }; broken = refl; disk = refl; clock = refl; store_clock = tt } },
+                                                                                                                                  (
+                                                                                                                                    record { key = refl; none_taken = refl; allowed = record { event = tt; broken = refl; disk = refl; clock = refl; store_clock = tt } },
+                                                                                                                                    (
+                                                                                                                                      record { event = refl; broken = refl; disk = refl; clock = refl; store_clock = tt },
+                                                                                                                                      tt,
+                                                                                                                                    ),
+                                                                                                                                  ),
+                                                                                                                                ),
+                                                                                                                              ),
+                                                                                                                            ),
+                                                                                                                          ),
+                                                                                                                        ),
+                                                                                                                      ),
+                                                                                                                    ),
+                                                                                                                  ),
+                                                                                                                ),
+                                                                                                              ),
+                                                                                                            ),
+                                                                                                          ),
+                                                                                                        ),
+                                                                                                      ),
+                                                                                                    ),
+                                                                                                  ),
+                                                                                                ),
+                                                                                              ),
+                                                                                            ),
+                                                                                          ),
+                                                                                        ),
+                                                                                      ),
+                                                                                    ),
+                                                                                  ),
+                                                                                ),
+                                                                              ),
+                                                                            ),
+                                                                          ),
+                                                                        ),
+                                                                      ),
+                                                                    ),
+                                                                  ),
+                                                                ),
+                                                              ),
+                                                            ),
+                                                          ),
+                                                        ),
+                                                      ),
+                                                    ),
+                                                  ),
+                                                ),
+                                              ),
+                                            ),
+                                          ),
+                                        ),
+                                      ),
+                                    ),
+                                  ),
+                                ),
+                              ),
+                            ),
+                          ),
+                        ),
+                      ),
+                    ),
+                  ),
+                ),
+              ),
+            ),
+          ),
+        ),
+      ),
+    ),
+  );
+}
+
+plain_text : text_of mode.Plain history ≡ codes "node 1 up epoch 1\nc is 1.1.1\na ok ()\nquiet\nb ok (0)\nquiet\nd ok ()\nquiet\nf ok (7)\nquiet\ng ok ()\nquiet\nh ok (0)\nquiet\nnode 1 down crash\nnode 1 up epoch 2\ni ok (11)\nquiet\n"
+unfolding history entry_text trace_text shown_text
+plain_text = rw (d0, d1, d2, d7, d11) refl

@@ -1,0 +1,64 @@
+-- A walk ends at a status that is not 0; its result has no value then.
+use Rattle.std.proofs.Common.{◌≡◌, List, [], ◌∷◌, None, Some, true, refl, arith, codes}
+use Rattle.eden_value.specs.declared.status.Status.TheVariants as status
+use Rattle.journal.specs.declared.command.Command.{Command}
+use Rattle.journal.specs.declared.command.Command.TheVariants as command
+use Rattle.journal.specs.declared.event.Event.TheVariants as event
+use Rattle.journal.specs.declared.event.Entry.{Entry}
+use Rattle.journal.specs.declared.event.BootEnd.TheVariants as boot_end
+use Rattle.eden_model.specs.Crew.{least_number}
+use Rattle.journal.specs.World.{at_node, on_eject, on_node, on_traffic}
+use Rattle.journal.specs.Run.{Follows}
+use Rattle.journal.specs.declared.event.Mode.TheVariants as mode
+use Rattle.journal.specs.Lines.{text_of, entry_text, trace_text, shown_text}
+use Rattle.journal.proofs.Scenes.{one_node, plain, on_disk, c_uid, ref_c}
+use Rattle.journal.proofs.Decimals.{d1, d2}
+
+unfoldable pub commands : List Command
+commands = command.Create (codes "c") 1 (codes "Cell")
+    ∷ command.Walk (codes "w") ref_c (codes "a/b")
+    ∷ command.Call (codes "b") (record { name = (codes "w"); result = 2 }) (codes "Get") []
+    ∷ command.End
+    ∷ []
+
+unfoldable pub history : List Entry
+history = on_disk 1 11 (event.Boot 1 1 boot_end.Up None true)
+    ∷ plain (event.Made (codes "c") status.Ok (Some c_uid))
+    ∷ plain (event.Asked 1 (codes "w") None)
+    ∷ plain (event.Request 1 0 1 (Some status.NoOperation))
+    ∷ plain (event.Reply 1 1 0 (Some (codes "w")) status.NoOperation [])
+    ∷ plain (event.Void (codes "b"))
+    ∷ plain (event.Left [])
+    ∷ []
+
+pub follows : Follows one_node 1 commands history
+unfolding commands history at_node on_eject on_node on_traffic least_number
+follows = record {
+  whole = refl;
+  leads = (
+    record { event = (refl, record { is_down = refl; no_requests = refl; boots = record { opened = record { undamaged = refl; not_overfull = refl; picked = refl }; not_last = omega arith; next_one = refl; has_room = refl; begun = refl } }); broken = refl; disk = refl; clock = tt; store_clock = tt },
+    (
+      record { event = (refl, refl, (refl, refl)); broken = refl; disk = refl; clock = refl; store_clock = tt },
+      (
+        ((refl, record { number = refl; refused = refl }), record { disk = refl; clock = refl; broken = refl }),
+        (
+          record { key = refl; none_taken = tt; allowed = record { event = record { first_in_queue = refl; delivered = (refl, refl) }; broken = refl; disk = refl; clock = refl; store_clock = tt } },
+          (
+            record { key = refl; none_taken = tt; allowed = record { event = record { first_in_queue = refl; delivered = (refl, refl) }; broken = refl; disk = refl; clock = refl; store_clock = tt } },
+            (
+              record { event = (refl, refl); broken = refl; disk = refl; clock = refl; store_clock = tt },
+              (
+                record { event = refl; broken = refl; disk = refl; clock = refl; store_clock = tt },
+                tt,
+              ),
+            ),
+          ),
+        ),
+      ),
+    ),
+  );
+}
+
+plain_text : text_of mode.Plain history ≡ codes "node 1 up epoch 1\nc is 1.1.1\nw refused 2 no operation\nb void\n"
+unfolding history entry_text trace_text shown_text
+plain_text = rw (d1, d2) refl

@@ -1,0 +1,12 @@
+-- What a request does to what is kept of an Eject.
+use Rattle.std.specs.Prelude.{ℕ, List, Option, None, Some}
+
+-- bytes are put, or what is kept is removed
+pub data Change : Type 0 where
+  body : List ℕ → Change
+  removal : Change
+
+-- the bytes that are kept after a change
+abbrev pub kept_of : Change → Option (List ℕ)
+kept_of (body bytes) = Some bytes
+kept_of removal = None

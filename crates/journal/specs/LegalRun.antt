@@ -1,0 +1,120 @@
+-- The statement about a whole run: its history follows the script, every start is whole, no other Eject is rolled back, only
+-- granted capabilities are used, no uid is given twice, and each disk stands for the history at every moment.
+use Rattle.std.specs.Prelude.{◌≡◌, ◌≢◌, ◌⊎◌, ℕ, ◌+◌, ◌==◌, Bool, true, false, List, [], ◌∷◌, map, Option, None, Some, is_some, IsTrue}
+use Rattle.std.specs.Ordering.{nat_cmp}
+use Rattle.capability.specs.declared.Uid.{Uid}
+use Rattle.eden_model.specs.Map.{with_item, value_at}
+use Rattle.eden_disk.specs.Told.{contents}
+use Rattle.passive_store.specs.declared.store.Pick.TheVariants as pick
+use Rattle.passive_store.specs.Kept.{Layout}
+use Rattle.journal.specs.declared.command.Script.{Script}
+use Rattle.journal.specs.declared.event.Event.{Event}
+use Rattle.journal.specs.declared.event.Event.TheVariants as event
+use Rattle.journal.specs.declared.event.Entry.{Entry}
+use Rattle.journal.specs.declared.event.Shown.TheVariants as shown
+use Rattle.journal.specs.declared.event.StartEnd.TheVariants as start_end
+use Rattle.journal.specs.declared.event.RequestEnd.TheVariants as request_end
+use Rattle.journal.specs.World.{World, eject_at}
+use Rattle.journal.specs.Run.{Follows, FollowsSoFar, Step, EachStep, beginning, steps, world_after}
+use Rattle.journal.specs.Opening.{opening, IsFitImage}
+use Rattle.journal.specs.Kept.{start_bytes, crashes, picked}
+use Rattle.journal.specs.Standing.{DiskRun, Added, StandsThroughout, nothing_added, unfinished}
+use Rattle.journal.specs.Granted.{AllGranted, uses, kept_after_pick}
+
+-- 1. Every start is whole
+
+abbrev pub kept_at : World → Uid → Option (List ℕ)
+kept_at w u = with_item (eject_at w u) (λ e. e.kept) None
+
+abbrev pub StartIsWhole : World → List Step → Step → Event → Type 0
+StartIsWhole opening past s (event.Activate u start_end.Ok p) =
+    kept_after_pick s.world u (event.Activate u start_end.Ok p) ≡ start_bytes (kept_at opening u) u p past
+StartIsWhole opening past s _ = Unit {0}
+
+-- 2. No other Eject is rolled back
+
+-- the event ends a put or a removal of u, or a pick of New settles one
+abbrev pub ChangesKept : World → Uid → Event → Type 0
+ChangesKept w u (event.Store v clock request_end.Done p) = v ≡ u
+ChangesKept w u e = (picked u.node e ≡ Some pick.New) × IsTrue (with_item (eject_at w u) (λ e. is_some e.doubt) false)
+
+abbrev pub is_active_at : World → Uid → Bool
+is_active_at w u = with_item (eject_at w u) (λ e. is_some e.active) false
+
+pub record NoneRolledBack (s : Step) : Type 0 where
+  -- what is kept of an Eject changes only by its own put or removal, acknowledged or found done
+  pub kept : (u : Uid) → (kept_at s.later u ≡ kept_at s.world u) ⊎ ChangesKept s.world u s.entry.event
+  -- a crash or a stop takes no active part from an Eject of another node
+  pub active : (n : ℕ) (u : Uid) → crashes n s.entry.event ≡ true → (u.node == n) ≡ false → is_active_at s.later u ≡ is_active_at s.world u
+
+-- 3. No uid is given twice
+
+abbrev pub created_by : Event → Option Uid
+created_by (event.Made name status u) = u
+created_by (event.Process u p (shown.Created v)) = Some v
+created_by _ = None
+
+-- none of the past created this one
+abbrev pub NotCreatedIn : List Step → Uid → Type 0
+NotCreatedIn [] u = Unit {0}
+NotCreatedIn (s ∷ past) u = (created_by s.entry.event ≢ Some u) × NotCreatedIn past u
+
+-- a created Eject is none that the world has, and so none that the images held; and none that was created before
+abbrev pub IsNew : World → List Step → Option Uid → Type 0
+IsNew w past None = Unit {0}
+IsNew w past (Some u) = (eject_at w u ≡ None) × NotCreatedIn past u
+
+-- 4. What every run keeps, whether it came to its end or not
+
+pub record IsSafeRun (layout : Layout) (opening last : World) (run : List Step) (added : Added) (disks : List (ℕ × DiskRun)) : Type 0 where
+  pub starts_are_whole : EachStep (λ past s. StartIsWhole opening past s s.entry.event) [] run
+  pub none_rolled_back : EachStep (λ past s. NoneRolledBack s) [] run
+  pub only_granted : EachStep (λ past s. AllGranted (uses s s.entry.event) past) [] run
+  pub no_uid_twice : EachStep (λ past s. IsNew s.world past (created_by s.entry.event)) [] run
+  pub each_disk_stands : (n : ℕ) (d : DiskRun) → value_at nat_cmp n disks ≡ Some d → StandsThroughout layout last run added n d
+
+-- the disks with the numbers of their nodes, in ascending order
+abbrev pub numbered_from : ℕ → List DiskRun → List (ℕ × DiskRun)
+numbered_from n [] = []
+numbered_from n (d ∷ disks) = (n, d) ∷ numbered_from (n + 1) disks
+
+-- nodes are numbered from 1
+abbrev pub numbered : List DiskRun → List (ℕ × DiskRun)
+numbered disks = numbered_from 1 disks
+
+abbrev pub images : List (ℕ × DiskRun) → List (ℕ × List ℕ)
+images disks = map (λ d. (d.0, (contents d.1.before).now)) disks
+
+-- the types that have a meaning so far are the native ones
+abbrev pub opening_world : Layout → Script → List DiskRun → World
+opening_world layout script disks = opening script.types.native layout (images (numbered disks))
+
+abbrev pub run_of : World → Script → List Entry → List Step
+run_of world script history = steps (beginning world script.nodes script.commands) history
+
+abbrev pub last_world : World → Script → List Entry → World
+last_world world script history = world_after world script.nodes script.commands history
+
+-- 5. The run
+
+-- what the theorem says of the run of a script over disks that told what became of them, in the order of their nodes
+pub record IsLegalRun (layout : Layout) (script : Script) (disks : List DiskRun) (history : List Entry) : Type 0 where
+  pub follows : Follows (opening_world layout script disks) script.nodes script.commands history
+  pub safe : IsSafeRun layout (opening_world layout script disks) (last_world (opening_world layout script disks) script history)
+      (run_of (opening_world layout script disks) script history) nothing_added (numbered disks)
+
+-- and of a run that want of memory ended
+pub record IsLegalSoFar (layout : Layout) (script : Script) (disks : List DiskRun) (history : List Entry) : Type 0 where
+  pub begins : FollowsSoFar (opening_world layout script disks) script.nodes script.commands history
+  pub safe : IsSafeRun layout (opening_world layout script disks) (last_world (opening_world layout script disks) script history)
+      (run_of (opening_world layout script disks) script history) (unfinished (last_world (opening_world layout script disks) script history)) (numbered disks)
+
+-- what it takes for granted of the disk that is handed in for node n: it is at rest, and its image is fit
+pub record IsHandedIn (layout : Layout) (n : ℕ) (d : DiskRun) : Type 0 where
+  pub nothing_unsynced : (contents d.before).marked ≡ []
+  pub same : (contents d.before).stable ≡ (contents d.before).now
+  pub fit : IsFitImage layout n (contents d.before).now
+
+-- each of the disks that are handed in
+abbrev pub AreHandedIn : Layout → List DiskRun → Type 0
+AreHandedIn layout disks = (n : ℕ) (d : DiskRun) → value_at nat_cmp n (numbered disks) ≡ Some d → IsHandedIn layout n d

@@ -1,0 +1,104 @@
+-- The world before the first event: what the images hold; all Ejects passive, all nodes down, all links joined.
+use Rattle.std.specs.Prelude.{ℕ, ◌+◌, ◌*◌, ◌==◌, ◌≤◌, ◌≡◌, Bool, false, cond, is_some, IsTrue, List, [], ◌∷◌, map, length, Option, None, Some, Result, Ok, Err}
+use Rattle.std.specs.List.{filter_map}
+use Rattle.capability.specs.declared.Uid.{Uid}
+use Rattle.eden_model.specs.Map.{with_item, value_at, uid_cmp}
+use Rattle.epl_syntax.specs.declared.types.Edentype.{Edentype}
+use Rattle.std.specs.FinMap as finite
+use Rattle.passive_store.specs.Kept.{Layout, Kept}
+use Rattle.journal.specs.World.{World, Eject, Node}
+use Rattle.journal.specs.Settling.{epoch_uid}
+
+abbrev pub passive : List ℕ → Eject
+passive bytes = record { active = None; queued = []; kept = Some bytes; doubt = None }
+
+-- the reserved uid is no Eject's
+abbrev pub passive_entry : Uid × List ℕ → Option (Uid × Eject)
+passive_entry e = cond (e.0.serial == 0) None (Some (e.0, passive e.1))
+
+-- a number in bytes, the highest first
+abbrev pub number_from : ℕ → List ℕ → ℕ
+number_from n [] = n
+number_from n (b ∷ bytes) = number_from (n * 256 + b) bytes
+
+abbrev pub epoch_in : ℕ → List (Uid × List ℕ) → Option ℕ
+epoch_in n kept = with_item (value_at uid_cmp (epoch_uid n) kept) (λ bytes. Some (number_from 0 bytes)) None
+
+-- until a boot raises the epoch, no serial of the stored one is free
+abbrev pub last_serial_of_all : ℕ
+last_serial_of_all = 4294967295
+
+-- a node by the size of its disk and what the image holds
+abbrev pub node_from : ℕ → ℕ → Result (List (Uid × List ℕ)) ℕ → Bool → List ℕ → Node
+node_from n size (Ok kept) overfull written = record {
+  size = size;
+  damaged = None;
+  overfull = overfull;
+  up = false;
+  epoch = epoch_in n kept;
+  epoch_doubt = None;
+  last_serial = last_serial_of_all;
+  clock = None;
+  requests = [];
+  synced = false;
+  written = written;
+  ejects = filter_map passive_entry kept;
+}
+node_from n size (Err place) overfull written = record {
+  size = size;
+  damaged = Some place;
+  overfull = overfull;
+  up = false;
+  epoch = None;
+  epoch_doubt = None;
+  last_serial = last_serial_of_all;
+  clock = None;
+  requests = [];
+  synced = false;
+  written = [];
+  ejects = [];
+}
+
+-- the bytes that are found under each uid, in ascending order, without the numbers of their records
+abbrev pub entries_of : Result Kept ℕ → Result (List (Uid × List ℕ)) ℕ
+entries_of (Ok kept) = Ok (finite.entries kept.bodies)
+entries_of (Err place) = Err place
+
+-- what an image of node n keeps, or its first damaged place
+abbrev pub found_in : Layout → ℕ → List ℕ → Result (List (Uid × List ℕ)) ℕ
+found_in layout n image = entries_of (layout.map_of n image)
+
+-- An image is fit where the layout can tell its room, and each uid under which it keeps bytes is of its node, with no epoch past the stored one.
+abbrev pub epoch_or_zero : Option ℕ → ℕ
+epoch_or_zero epoch = with_item epoch (λ e. e) 0
+
+pub record IsFitMap (n : ℕ) (kept : List (Uid × List ℕ)) : Type 0 where
+  pub of_node : (u : Uid) → IsTrue (is_some (value_at uid_cmp u kept)) → u.node ≡ n
+  pub epochs : (u : Uid) → IsTrue (is_some (value_at uid_cmp u kept)) → u.epoch ≤ epoch_or_zero (epoch_in n kept)
+  -- of 32 bits
+  pub serials : (u : Uid) → IsTrue (is_some (value_at uid_cmp u kept)) → u.serial ≤ 4294967295
+
+-- an image that has no map is fit
+pub record IsFitImage (layout : Layout) (n : ℕ) (image : List ℕ) : Type 0 where
+  pub room_is_told : IsTrue (layout.tells_room n image)
+  pub map : (kept : List (Uid × List ℕ)) → found_in layout n image ≡ Ok kept → IsFitMap n kept
+
+abbrev pub node_of : Layout → ℕ × List ℕ → Node
+node_of layout d = node_from d.0 (length d.1) (found_in layout d.0 d.1) (layout.is_overfull d.0 d.1) (layout.written_in d.0 d.1)
+
+-- the world of these nodes, whether they will be booted or not
+abbrev pub opening_of : List Edentype → Layout → List (ℕ × Node) → World
+opening_of types layout nodes = record {
+  types = types;
+  layout = layout;
+  nodes = nodes;
+  traffic = record { calls = []; transit = [] };
+  cuts = [];
+  names = [];
+  turns = 0;
+  last = None;
+}
+
+-- the images by the numbers of their nodes
+abbrev pub opening : List Edentype → Layout → List (ℕ × List ℕ) → World
+opening types layout images = opening_of types layout (map (λ d. (d.0, node_of layout d)) images)

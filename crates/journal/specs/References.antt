@@ -1,0 +1,49 @@
+-- What the names and arguments of a script stand for.
+use Rattle.std.specs.Prelude.{ℕ, zero, suc, nat_le, cond, List, ◌∷◌, Option, None, Some, slice_get}
+use Rattle.std.specs.List.{find}
+use Rattle.capability.specs.declared.Cap.{Cap}
+use Rattle.eden_value.specs.Datum.{Datum, Data, cap, list, no_data, data_and, items_of}
+use Rattle.eden_value.specs.Limits.{depths}
+use Rattle.eden_value.specs.declared.value.TheConstants.{DEPTH_LIMIT}
+use Rattle.eden_model.specs.Map.{with_item, same_text}
+use Rattle.journal.specs.declared.command.Ref.{Ref}
+use Rattle.journal.specs.Given.{Given, Givens, plain, named, several, no_givens, given_and, givens_of}
+use Rattle.journal.specs.World.{World, Meaning, capability, results}
+
+abbrev pub meaning_of : World → List ℕ → Option Meaning
+meaning_of w name = with_item (find (λ e. same_text e.0 name) w.names) (λ e. Some e.1) None
+
+abbrev pub with_name : List ℕ → Meaning → World → World
+with_name name m w = record w { names = (name, m) ∷ w.names }
+
+-- the value of a name alone (k = 0), and of its k-th result
+abbrev pub value_of_meaning : Meaning → ℕ → Option Datum
+value_of_meaning (capability c) zero = Some (cap (Some c))
+value_of_meaning (results ds) (suc k) = slice_get ds k
+value_of_meaning _ k = None
+
+abbrev pub value_at_name : World → List ℕ → ℕ → Option Datum
+value_at_name w name k = with_item (meaning_of w name) (λ m. value_of_meaning m k) None
+
+-- a present capability
+abbrev pub present_cap : Datum → Option Cap
+present_cap (cap c) = c
+present_cap _ = None
+
+abbrev pub cap_at : World → Ref → Option Cap
+cap_at w r = with_item (value_at_name w r.name r.result) present_cap None
+
+-- arguments; none where a name has no value
+abbrev mutual
+  pub value_of : World → Given → Option Datum
+  value_of w (plain d) = Some d
+  value_of w (named name k) = value_at_name w name k
+  value_of w (several gs) = with_item (values_of w gs) (λ ds. Some (list ds)) None
+
+  pub values_of : World → Givens → Option Data
+  values_of w no_givens = Some no_data
+  values_of w (given_and g gs) = with_item (value_of w g) (λ d. with_item (values_of w gs) (λ ds. Some (data_and d ds)) None) None
+
+-- the arguments of a call; none where a name has no value, or a list would be too deep
+abbrev pub args_of : World → List Given → Option (List Datum)
+args_of w gs = with_item (values_of w (givens_of gs)) (λ ds. cond (nat_le (depths ds) DEPTH_LIMIT) (Some (items_of ds)) None) None
