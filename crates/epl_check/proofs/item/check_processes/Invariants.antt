@@ -1,0 +1,12 @@
+use Rattle.std.proofs.Common.{◌≡◌, drop, map}
+use Rattle.std.specs.List.{flat_map}
+use Rattle.epl_syntax.specs.Tree.{edentype, process}
+use Rattle.epl_syntax.specs.Rules.First.{least}
+use Rattle.epl_syntax.specs.Rules.InItems.{broken_process}
+use Rattle.epl_check.specs.View.{types_seen}
+use Rattle.epl_check.proofs.item.check_processes.Given as goal
+
+abbrev pub invariant-loop-p : goal.invariant-loop-p
+invariant-loop-p l =
+    least l.first (flat_map (broken_process (edentype l.program) (types_seen l.program.name l.earlier)) (map process (drop l.p-index l.p-items)))
+    ≡ least l.fn.first (flat_map (broken_process (edentype l.program) (types_seen l.program.name l.earlier)) (map process l.p-items))

@@ -1,0 +1,107 @@
+-- What the code's short forms stand for.
+use Rattle.std.specs.Prelude.{Bool as Truth, true, false, nat_lt, ℕ, zero, suc, List, [], ◌∷◌, ◌++◌, map, Option, Some, None}
+use Rattle.std.specs.Borrow.{Bor}
+use Rattle.eden_value.specs.Shape.{Shape, ints, truths, texts, caps, lists, shape}
+use Rattle.epl_syntax.specs.declared.tree.WrittenKind.{WrittenKind}
+use Rattle.epl_syntax.specs.Tree.{PlacedShape, written, variable, local_of, parameter}
+use Rattle.epl_syntax.specs.Rules.OfTypes.{TypeList, names_of}
+use Rattle.epl_check.specs.declared.sort.Plain.{Plain}
+use Rattle.epl_check.specs.declared.sort.Plain.TheVariants.{Int, Bool, Text, Cap}
+use Rattle.epl_check.specs.declared.sort.Sort.{Sort}
+use Rattle.epl_check.specs.declared.scope.Scope.{Scope as Sight}
+use Rattle.epl_check.specs.declared.scope.Variable.{Variable}
+use Rattle.epl_syntax.specs.Tree.{Expression}
+use Rattle.epl_syntax.specs.declared.rule.Broken.{Broken}
+use Rattle.std.specs.List.{flat_map}
+use Rattle.epl_syntax.specs.declared.tree.Name.{Name}
+use Rattle.epl_syntax.specs.declared.tree.Number.{Number}
+use Rattle.epl_syntax.specs.Rules.Scopes.{Scope, Seen, clashes, same_number}
+use Rattle.epl_syntax.specs.Rules.InExpressions.{broken_expression}
+use Rattle.epl_syntax.specs.Rules.InStatements.{broken_as}
+
+abbrev pub plain : Plain → Shape
+plain Int = ints
+plain Bool = truths
+plain Text = texts
+plain Cap = caps
+
+-- so many lists in one another
+abbrev pub listed : ℕ → Shape → Shape
+listed zero s = s
+listed (suc n) s = lists (listed n s)
+
+abbrev pub kind_of_sort : Sort → Shape
+kind_of_sort s = listed s.lists (plain s.of)
+
+-- a kind that is known or not
+abbrev pub found : Option Sort → Option Shape
+found None = None
+found (Some s) = Some (kind_of_sort s)
+
+-- a variable that is there or not
+abbrev pub seen_of : Option Variable → Option Seen
+seen_of None = None
+seen_of (Some v) = Some (record { kind = shape v.kind.now; monitor = v.monitor })
+
+abbrev pub results_of : Option (Bor (List WrittenKind)) → Option (List PlacedShape)
+results_of None = None
+results_of (Some kinds) = Some (map written kinds.now)
+
+-- the names of the types that a type sees: its own and those of the types before it
+abbrev pub types_seen : Name → TypeList → List (List ℕ)
+types_seen own earlier = own.text ∷ names_of earlier
+
+unfoldable pub seen : Sight → Scope
+seen s = record {
+  locals = map local_of s.locals.now;
+  params = map parameter s.params.now;
+  vars = map variable s.vars.now;
+  monitors = s.monitors.now;
+  conditions = s.conditions.now;
+  types = types_seen s.own.now s.earlier.now;
+  results = results_of s.results;
+}
+
+-- the test at a place passes; behind the last one everything does
+abbrev pub passes_at : List (Shape → Truth) → ℕ → Shape → Truth
+passes_at [] i s = true
+passes_at (t ∷ ts) zero s = t s
+passes_at (t ∷ ts) (suc i) s = passes_at ts i s
+
+abbrev pub at_place : ℕ → Truth → Truth → Truth → Truth
+at_place zero first second third = first
+at_place (suc zero) first second third = second
+at_place (suc (suc zero)) first second third = third
+at_place (suc (suc (suc i))) first second third = true
+
+-- the first of several kinds, where so many came before this one
+abbrev pub first_of : ℕ → Option Shape → Option Shape → Option Shape
+first_of zero first this = this
+first_of (suc i) first this = first
+
+-- one value of a `return`, of the kind that is wanted at its place, if one is
+abbrev pub kind_wanted : Option (Bor WrittenKind) → Option PlacedShape
+kind_wanted None = None
+kind_wanted (Some k) = Some (written k.now)
+
+abbrev pub broken_value : Scope → Option ℕ → Option PlacedShape → Expression → List Broken
+broken_value scope held None e = broken_expression scope held e
+broken_value scope held (Some k) e = broken_as k.shape scope held e
+
+-- something before a place is told already
+abbrev pub is_past : Option Broken → ℕ → Truth
+is_past None place = false
+is_past (Some b) place = nat_lt b.place place
+
+-- names that stand again behind them, in their list or in what follows it
+abbrev pub doubled_before : List Name → List Name → List Broken
+doubled_before [] rest = []
+doubled_before (n ∷ ns) rest = clashes n (ns ++ rest) ++ doubled_before ns rest
+
+abbrev pub numbers_before : Number → List Number → List Broken
+numbers_before a ns = flat_map (same_number a) ns
+
+-- the kind that is written, if one is
+abbrev pub kind_found : Option (Bor WrittenKind) → Option Shape
+kind_found None = None
+kind_found (Some k) = Some (shape k.now.kind)

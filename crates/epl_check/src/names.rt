@@ -1,0 +1,209 @@
+//! Names that are declared twice, and counts of what is declared.
+ghost use Rattle.std.specs.Prelude.{◌≡◌, ◌+◌, ◌++◌, length, map};
+ghost use Rattle.epl_syntax.specs.Rules.First.{least};
+ghost use Rattle.epl_syntax.specs.Rules.Scopes as scopes;
+ghost use Rattle.epl_syntax.specs.Rules.InItems.{too_many, places_of};
+ghost use Rattle.epl_check.specs.View.{doubled_before, numbers_before, is_past};
+
+use crate::first::tell_if;
+use eden_value::Txt;
+use epl_syntax::{
+    Assignment, Broken, ClassDecl, CondDecl, LocalDecl, Name, Number, OpDecl, ParDecl, ProcDecl,
+    Rule, UpgradeDecl, VarDecl, same_text,
+};
+
+/// What has a name.
+pub(crate) trait Named {
+    ghost use Rattle.epl_syntax.specs.declared.tree.Name.{Name};
+
+    ghost named: { Self → Name };
+
+    fn name(&self) -> &Name
+        ensures { result.now ≡ named self.now };
+}
+
+impl Named for Name {
+    ghost named = { λ n. n };
+
+    fn name(&self) -> &Name {
+        self
+    }
+}
+
+impl Named for VarDecl {
+    ghost named = { λ v. v.name };
+
+    fn name(&self) -> &Name {
+        &self.name
+    }
+}
+
+impl Named for LocalDecl {
+    ghost named = { λ v. v.name };
+
+    fn name(&self) -> &Name {
+        &self.name
+    }
+}
+
+impl Named for ParDecl {
+    ghost named = { λ p. p.name };
+
+    fn name(&self) -> &Name {
+        &self.name
+    }
+}
+
+impl Named for ClassDecl {
+    ghost named = { λ c. c.name };
+
+    fn name(&self) -> &Name {
+        &self.name
+    }
+}
+
+impl Named for CondDecl {
+    ghost named = { λ c. c.name };
+
+    fn name(&self) -> &Name {
+        &self.name
+    }
+}
+
+impl Named for OpDecl {
+    ghost named = { λ o. o.name };
+
+    fn name(&self) -> &Name {
+        &self.name
+    }
+}
+
+impl Named for ProcDecl {
+    ghost named = { λ p. p.name };
+
+    fn name(&self) -> &Name {
+        &self.name
+    }
+}
+
+impl Named for Assignment {
+    ghost named = { λ a. a.name };
+
+    fn name(&self) -> &Name {
+        &self.name
+    }
+}
+
+/// Tells the first of what is declared past a limit.
+pub(crate) fn check_count<T: Named>(limit: usize, items: &[T], first: &mut Option<Broken>)
+    ensures { first.new ≡ least first.old (too_many limit (places_of (map T.named items.now))) }
+{
+    if let Some(item) = items.get(limit) {
+        tell_if(true, Rule::BadLimit, item.name().place, first);
+    }
+}
+
+/// Whether a name is among these.
+pub(crate) fn is_among<T: Named>(items: &[T], text: &Txt) -> bool
+    ensures { result ≡ scopes.is_among (map T.named items.now) text.now }
+{
+    for item in items {
+        if same_text(&item.name().text, text) {
+            return true;
+        }
+    }
+    false
+}
+
+/// Whether something before a place is told already.
+fn is_past(first: &Option<Broken>, place: u32) -> bool
+    ensures { result ≡ is_past first.now place }
+{
+    match first {
+        None => false,
+        Some(b) => b.place < place,
+    }
+}
+
+/// Tells which of these have a name, at the later of both places.
+fn check_clashes<T: Named>(name: &Name, others: &[T], first: &mut Option<Broken>)
+    ensures { first.new ≡ least first.old (scopes.clashes name.now (map T.named others.now)) }
+{
+    if is_past(first, name.place) {
+        return;
+    }
+    for other in others {
+        let other = other.name();
+        tell_if(
+            same_text(&name.text, &other.text),
+            Rule::Doubled,
+            name.place.max(other.place),
+            first,
+        );
+    }
+}
+
+/// Tells which names of the first list stand again behind them, there or in the other lists.
+pub(crate) fn check_doubled<A: Named, B: Named, C: Named>(
+    a: &[A],
+    b: &[B],
+    c: &[C],
+    first: &mut Option<Broken>,
+)
+    ensures { first.new ≡ least first.old (doubled_before (map A.named a.now) (map B.named b.now ++ map C.named c.now)) }
+{
+    for i in 0..a.len() {
+        let name = a[i].name();
+        check_clashes(name, &a[i + 1..], first);
+        check_clashes(name, b, first);
+        check_clashes(name, c, first);
+    }
+}
+
+/// Tells where a variable of the type has the name, too.
+fn check_as_variable(vars: &[VarDecl], name: &Name, first: &mut Option<Broken>)
+    ensures { first.new ≡ least first.old (scopes.as_variable (map (λ v. v.name) vars.now) name.now) }
+{
+    if is_past(first, name.place) {
+        return;
+    }
+    tell_if(is_among(vars, &name.text), Rule::Doubled, name.place, first);
+}
+
+/// Tells which names a variable of the type has, too.
+pub(crate) fn check_as_variables<T: Named>(
+    vars: &[VarDecl],
+    items: &[T],
+    first: &mut Option<Broken>,
+)
+    ensures { first.new ≡ least first.old (scopes.as_variables (map (λ v. v.name) vars.now) (map T.named items.now)) }
+{
+    for item in items {
+        check_as_variable(vars, item.name(), first);
+    }
+}
+
+fn check_same_numbers(number: Number, others: &[UpgradeDecl], first: &mut Option<Broken>)
+    ensures { first.new ≡ least first.old (numbers_before number (map (λ u. u.from) others.now)) }
+{
+    if is_past(first, number.place) {
+        return;
+    }
+    for other in others {
+        tell_if(
+            number.n == other.from.n,
+            Rule::Doubled,
+            number.place.max(other.from.place),
+            first,
+        );
+    }
+}
+
+/// Tells which upgrades are from one version.
+pub(crate) fn check_doubled_numbers(upgrades: &[UpgradeDecl], first: &mut Option<Broken>)
+    ensures { first.new ≡ least first.old (scopes.doubled_numbers (map (λ u. u.from) upgrades.now)) }
+{
+    for i in 0..upgrades.len() {
+        check_same_numbers(upgrades[i].from, &upgrades[i + 1..], first);
+    }
+}
