@@ -1,8 +1,8 @@
 -- Two grammars whose spellings begin with other symbols, and reading one or the other by the first symbol.
-use Rattle.std.specs.Prelude.{◌≡◌, ℕ, suc, ◌≤◌, ◌<◌, List, [], ◌∷◌, ◌++◌, length, Option, Some, None, Ok, Err, ◌⊎◌, refl}
-use Rattle.std.proofs.Common.{ap, sym, ◌∙◌, subst, arith, inl, inr}
+use Rattle.std.specs.Prelude.{◌≡◌, ℕ, ◌<◌, List, [], ◌∷◌, ◌++◌, length, Option, Some, None, Ok, Err, ◌⊎◌, refl}
+use Rattle.std.proofs.Common.{ap, sym, ◌∙◌, subst, inl, inr}
 use Rattle.grammar.specs.Grammar.{Grammar}
-use Rattle.grammar.specs.Depths.{Placed, bare, Shallow, Fault, bad, deep, spent, Look, Looker, led, SameHead, Took, FaultAt, StaysAt, Stuck, Passes, Reads}
+use Rattle.grammar.specs.Depths.{Placed, bare, Fault, bad, deep, spent, Looker, led, SameHead, Took, StaysAt, Stuck, Passes, Reads}
 use Rattle.grammar.specs.Choices.{BeginsBy}
 
 -- a spelling by one grammar or by the other
@@ -49,13 +49,15 @@ module _ {S A K : Type 0} (limit fuel : ℕ) (f : S → Option K) (G H : List (S
   lead_stays : (s : S) (w front rest : List S) (k : K) → f s ≡ Some k → s ∷ w ≡ front ++ rest → (e : Fault) → StaysAt e R front rest → StaysAt e (look_or f R T) front rest
   lead_stays s w front [] k h split (bad left) t = tt
   lead_stays s w front (b ∷ rest) k h split (bad left) t = λ more. lead s w front (b ∷ rest) (b ∷ more) k h split refl ∙ t more
-  lead_stays s w front rest k h split (deep left) t = tt
+  lead_stays s w front [] k h split (deep left) t = tt
+  lead_stays s w front (b ∷ rest) k h split (deep left) t = λ more. lead s w front (b ∷ rest) (b ∷ more) k h split refl ∙ t more
   lead_stays s w front rest k h split spent t = tt
 
   other_stays : (w front rest : List S) → ((v : List S) → SameHead rest v → look_or f R T (front ++ v) ≡ T (front ++ v)) → (e : Fault) → StaysAt e T front rest → StaysAt e (look_or f R T) front rest
   other_stays w front [] same (bad left) t = tt
   other_stays w front (b ∷ rest) same (bad left) t = λ more. same (b ∷ more) refl ∙ t more
-  other_stays w front rest same (deep left) t = tt
+  other_stays w front [] same (deep left) t = tt
+  other_stays w front (b ∷ rest) same (deep left) t = λ more. same (b ∷ more) refl ∙ t more
   other_stays w front rest same spent t = tt
 
   other_took : (w : List S) (b : A) (rest : List S) (t : Took limit H T w b rest) → ((v : List S) → SameHead rest v → look_or f R T (bare t.front ++ v) ≡ T (bare t.front ++ v)) → Took limit (Either G H) (look_or f R T) w b rest

@@ -1,8 +1,8 @@
 -- Readers with one symbol of lookahead: one symbol, none, a choice by the first symbol, and steps while it chooses one.
-use Rattle.std.specs.Prelude.{◌≡◌, ℕ, zero, suc, ◌+◌, ◌≤◌, ◌<◌, Bool, true, false, nat_le, List, [], ◌∷◌, ◌++◌, length, Option, Some, None, Result, Ok, Err, ◌⊎◌, refl}
-use Rattle.std.proofs.Common.{ap, sym, ◌∙◌, subst, arith, append_assoc, append-nil, length-append, inl, inr}
-use Rattle.grammar.specs.Grammar.{Grammar, Nothing, Then, Mapped}
-use Rattle.grammar.specs.Depths.{Placed, bare, Shallow, At, Perhaps, Steps, no_step, step_on, Fault, bad, deep, spent, Look, Looker, look_then, look_both, look_here, look_mapped, fits, found_at, look_at, led, look_if, look_many, SameHead, Took, FaultAt, StaysAt, Stuck, Passes, Reads}
+use Rattle.std.specs.Prelude.{◌≡◌, ℕ, suc, ◌≤◌, ◌<◌, Bool, true, false, nat_le, List, [], ◌∷◌, ◌++◌, length, Option, Some, None, Ok, Err, refl}
+use Rattle.std.proofs.Common.{ap, sym, ◌∙◌, subst, arith, append-nil, inl, inr}
+use Rattle.grammar.specs.Grammar.{Nothing, Then, Mapped}
+use Rattle.grammar.specs.Depths.{Placed, bare, At, Perhaps, Fault, bad, deep, spent, Look, Looker, look_here, look_mapped, fits, found_at, look_at, led, look_if, SameHead, Took, StaysAt, Stuck, Passes, Reads}
 use Rattle.grammar.specs.Lookers.{then_reads}
 
 abbrev pub Anything : {S : Type 0} → List S → Type 0
@@ -130,7 +130,7 @@ module _ {S A : Type 0} (limit fuel : ℕ) (depth : A → ℕ) (f : S → Option
         value = x;
         goes_on = (refl, c);
         fault = (refl, refl, far);
-        stays = tt;
+        stays = λ more. ap (λ o. found_at limit depth o more) c ∙ ap (λ b. fits b x more) d;
       })
 
   found_stops : (t : S) (x : A) → f t ≡ Some x → (s : S) (w : List S) (o : Option A) → f s ≡ o → (e : Fault) → found_at limit depth o w ≡ Err e → Stuck limit (At depth f) (look_at limit depth f) (s ∷ w) e
@@ -157,7 +157,14 @@ module _ {S A : Type 0} (limit fuel : ℕ) (depth : A → ℕ) (f : S → Option
 
   at_passes : (p : Placed S) (a : A) (v : List S) → p.1 ≡ depth a → (b : Bool) → nat_le (depth a) limit ≡ b → Passes limit fuel (p ∷ []) (fits b a v) a v
   at_passes p a v d true e = refl
-  at_passes p a v d false e = λ s. let le : p.1 ≤ limit = s.0 in let far : limit < depth a = grind arith in absurd (omega arith)
+  at_passes p a v d false e = record {
+    front = [];
+    symbol = p;
+    more = [];
+    split = refl;
+    place = omega arith;
+    past = λ s. let le : p.1 ≤ limit = s.0 in let far : limit < depth a = grind arith in absurd (omega arith);
+  }
 
   at_again : (ps : List (S × ℕ)) (a : A) → At depth f ps a → (v : List S) → Passes limit fuel ps (look_at limit depth f (bare ps ++ v)) a v
   at_again [] a h v = absurd h
@@ -203,7 +210,8 @@ module _ {S A K : Type 0} (limit fuel : ℕ) (f : S → Option K) (a : A) (G : L
   lead_stays : (s : S) (w front rest : List S) (k : K) → f s ≡ Some k → s ∷ w ≡ front ++ rest → (e : Fault) → StaysAt e R front rest → StaysAt e (look_if f a R) front rest
   lead_stays s w front [] k h split (bad left) t = tt
   lead_stays s w front (b ∷ rest) k h split (bad left) t = λ more. lead s w front (b ∷ rest) (b ∷ more) k h split refl ∙ t more
-  lead_stays s w front rest k h split (deep left) t = tt
+  lead_stays s w front [] k h split (deep left) t = tt
+  lead_stays s w front (b ∷ rest) k h split (deep left) t = λ more. lead s w front (b ∷ rest) (b ∷ more) k h split refl ∙ t more
   lead_stays s w front rest k h split spent t = tt
 
   none_again : (s : S) (w : List S) → f s ≡ None → (v : List S) → SameHead (s ∷ w) v → look_if f a R v ≡ Ok (a, v)

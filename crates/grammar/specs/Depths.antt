@@ -1,5 +1,5 @@
 -- Reading with one symbol of lookahead, where each symbol has a depth, and none may be past a limit.
-use Rattle.std.specs.Prelude.{◌≡◌, ℕ, zero, suc, ◌≤◌, ◌<◌, Bool, true, false, nat_le, List, [], ◌∷◌, ◌++◌, length, Option, Some, None, Result, Ok, Err, ◌⊎◌}
+use Rattle.std.specs.Prelude.{◌≡◌, ℕ, zero, suc, ◌+◌, ◌≤◌, ◌<◌, Bool, true, false, nat_le, List, [], ◌∷◌, ◌++◌, length, Option, Some, None, Result, Ok, Err, ◌⊎◌}
 use Rattle.grammar.specs.Grammar.{Grammar}
 
 -- a symbol and its depth
@@ -110,11 +110,12 @@ FaultAt limit (deep left) [] more = ⊥
 FaultAt limit (deep left) (s ∷ rest) [] = ⊥
 FaultAt limit spent rest more = ⊥
 
--- a reader that stops at a bad symbol does so whatever follows it
+-- a reader that stops at a symbol does so whatever follows it
 abbrev pub StaysAt : {S A : Type 0} → Fault → Looker S A → List S → List S → Type 0
 StaysAt (bad left) R front [] = Unit {0}
 StaysAt {S} (bad left) R front (s ∷ rest) = (more : List S) → R (front ++ s ∷ more) ≡ Err (bad (suc (length more)))
-StaysAt (deep left) R front rest = Unit {0}
+StaysAt (deep left) R front [] = Unit {0}
+StaysAt {S} (deep left) R front (s ∷ rest) = (more : List S) → R (front ++ s ∷ more) ≡ Err (deep (suc (length more)))
 StaysAt spent R front rest = Unit {0}
 
 -- The front of a spelling stands there, no symbol of it past the limit, and the fault is behind it.
@@ -129,11 +130,20 @@ pub record Stuck {S A : Type 0} (limit : ℕ) (G : List (S × ℕ) → A → Typ
   pub fault : FaultAt limit f rest more
   pub stays : StaysAt f R (bare front) rest
 
+-- Where so many symbols are left, with some behind these, one of these is past the limit already.
+pub record PastBy {S : Type 0} (limit : ℕ) (ps : List (S × ℕ)) (left behind : ℕ) : Type 0 where
+  pub front : List (S × ℕ)
+  pub symbol : S × ℕ
+  pub more : List (S × ℕ)
+  pub split : ps ≡ front ++ symbol ∷ more
+  pub place : left ≡ suc (length more + behind)
+  pub past : Shallow limit (front ++ symbol ∷ []) → ⊥
+
 -- a spelling is read, or some symbol of it is found past the limit, or it has more symbols than the fuel
 abbrev pub Passes : {S A : Type 0} → (limit fuel : ℕ) → List (Placed S) → Look S A → A → List S → Type 0
 Passes limit fuel ps (Ok x) a rest = x ≡ (a, rest)
 Passes limit fuel ps (Err (bad left)) a rest = ⊥
-Passes limit fuel ps (Err (deep left)) a rest = Shallow limit ps → ⊥
+Passes limit fuel ps (Err (deep left)) a rest = PastBy limit ps left (length rest)
 Passes limit fuel ps (Err spent) a rest = fuel ≤ length ps
 
 -- A reader reads what is spelled and nothing else, of fewer symbols than its fuel and before what may follow, and

@@ -1,10 +1,10 @@
 -- What a reader of all symbols answers, by the grammar alone: the value, or the first symbol that does not go on or
 -- is past the limit.
-use Rattle.std.specs.Prelude.{◌≡◌, ℕ, zero, suc, ◌+◌, ◌≤◌, ◌<◌, Bool, true, false, nat_le, List, [], ◌∷◌, ◌++◌, length, Option, Some, None, Result, Ok, Err, refl}
+use Rattle.std.specs.Prelude.{◌≡◌, ℕ, suc, ◌<◌, List, [], ◌∷◌, ◌++◌, length, Ok, Err, refl}
 use Rattle.std.proofs.Common.{ap, sym, ◌∙◌, subst, arith, append_assoc, append-nil, length-append}
 use Rattle.grammar.specs.Grammar.{Grammar, Nothing, Then}
-use Rattle.grammar.specs.Depths.{Placed, bare, Shallow, Fault, bad, deep, spent, Look, Looker, look_then, look_both, SameHead, Took, FaultAt, StaysAt, Stuck, Passes, Reads}
-use Rattle.grammar.specs.Lookers.{bare-append, length-bare, then_reads}
+use Rattle.grammar.specs.Depths.{Placed, bare, Shallow, Fault, bad, deep, spent, Look, Looker, look_then, look_both, SameHead, Took, FaultAt, StaysAt, Stuck, PastBy, Passes, Reads}
+use Rattle.grammar.specs.Lookers.{bare-append, length-bare, past_not_shallow, then_reads}
 use Rattle.grammar.specs.Choices.{same_reads}
 
 -- The symbols spell the value, none of them past the limit.
@@ -32,7 +32,12 @@ pub record Breaks {S A : Type 0} (limit : ℕ) (G : List (S × ℕ) → A → Ty
   pub goes_on : G (front ++ more) value
   pub none : NoneGoesOn G (bare front) rest
 
--- Behind the front of a spelling, no symbol of it past the limit, comes the first symbol that is.
+-- no spelling that begins with these symbols has them all within the limit
+abbrev pub NoneWithin : {S A : Type 0} → ℕ → Grammar (Placed S) A → List S → Type 0
+NoneWithin {S} {A} limit G front = (ps more : List (S × ℕ)) (a : A) → G (ps ++ more) a → bare ps ≡ front → Shallow limit ps → ⊥
+
+-- Behind the front of a spelling, no symbol of it past the limit, comes the first symbol that is; and no spelling that
+-- begins with the same symbols has them all within the limit.
 pub record Deepens {S A : Type 0} (limit : ℕ) (G : List (S × ℕ) → A → Type 0) (symbols : List S) (left : ℕ) : Type 0 where
   pub front : List (S × ℕ)
   pub symbol : S
@@ -45,6 +50,7 @@ pub record Deepens {S A : Type 0} (limit : ℕ) (G : List (S × ℕ) → A → T
   pub more : List (S × ℕ)
   pub value : A
   pub goes_on : G (front ++ (symbol, depth) ∷ more) value
+  pub none : NoneWithin limit G (bare front ++ symbol ∷ [])
 
 -- nothing is left
 abbrev pub look_end : {S A : Type 0} → A → Looker S A
@@ -59,6 +65,16 @@ Answered limit G symbols (Ok x) = Spells limit G symbols x.0
 Answered limit G symbols (Err (bad left)) = Breaks limit G symbols left
 Answered limit G symbols (Err (deep left)) = Deepens limit G symbols left
 Answered limit G symbols (Err spent) = ⊥
+
+-- two splits of one list whose backs are equally long have one front
+pub same_front : {S : Type 0} (front other back rest : List S) → front ++ back ≡ other ++ rest → length back ≡ length rest → front ≡ other
+same_front [] [] back rest e size = refl
+same_front [] (s ∷ other) back rest e size = absurd (omega (arith, ap length e, length-append other rest, size))
+same_front (s ∷ front) [] back rest e size = absurd (omega (arith, ap length e, length-append front back, size))
+same_front (s ∷ front) (t ∷ other) back rest e size =
+    let head : s ≡ t = cc in
+    let tail : front ++ back ≡ other ++ rest = cc in
+    ap (λ u. u ∷ front) head ∙ ap (λ l. t ∷ l) (same_front front other back rest tail size)
 
 module _ {S A : Type 0} (limit fuel : ℕ) (a : A) where
   end_takes : (w : List S) (b : A) (rest : List S) → look_end a w ≡ Ok (b, rest) → Took limit (Nothing {S = S × ℕ} a) (look_end a) w b rest
@@ -122,10 +138,22 @@ module _ {S A : Type 0} (limit fuel : ℕ) (G : List (S × ℕ) → A → Type 0
   none_goes_on front [] left e stays = λ ps a p same. not_bad ps a left p (ap (look_whole R) (same ∙ sym (append-nil front)) ∙ e)
   none_goes_on front (s ∷ rest) left e stays = λ ps a p more same. not_bad ps a (suc (length more)) p (ap (look_whole R) same ∙ stays more)
 
-  deepens : (w : List S) (left : ℕ) (s : Stuck limit G (look_whole R) w (deep left)) (rest : List S) (more : List (S × ℕ)) → w ≡ bare s.front ++ rest → G (s.front ++ more) s.value → FaultAt limit (deep left) rest more → Deepens limit G w left
-  deepens w left s [] more split p f = absurd f
-  deepens w left s (t ∷ rest) [] split p f = absurd f
-  deepens w left s (t ∷ rest) (q ∷ more) split p f = record {
+  past_by : (qs : List (Placed S)) (a : A) (left : ℕ) → G qs a → look_whole R (bare qs) ≡ Err (deep left) → PastBy limit qs left 0
+  past_by qs a left p e = subst (λ r. Passes limit fuel qs r a []) (ap (look_whole R) (append-nil (bare qs)) ∙ e) (whole_reads.again qs a p [] refl)
+
+  none_within : (front : List S) (s : S) → ((more : List S) → look_whole R (front ++ s ∷ more) ≡ Err (deep (suc (length more)))) → NoneWithin limit G (front ++ s ∷ [])
+  none_within front s stays ps more a p same shallow =
+      let read : bare (ps ++ more) ≡ front ++ s ∷ bare more = bare-append ps more ∙ ap (λ l. l ++ bare more) same ∙ append_assoc front (s ∷ []) (bare more) in
+      let past = past_by (ps ++ more) a (suc (length (bare more))) p (ap (look_whole R) read ∙ stays (bare more)) in
+      let size : length more ≡ length past.more = omega (arith, past.place, length-bare more) in
+      let these : ps ≡ past.front ++ past.symbol ∷ [] = same_front ps (past.front ++ past.symbol ∷ []) more past.more (past.split ∙ sym (append_assoc past.front (past.symbol ∷ []) past.more)) size in
+      past.past (subst (λ l. Shallow limit l) these shallow)
+
+  deepens : (w : List S) (left : ℕ) (s : Stuck limit G (look_whole R) w (deep left)) (rest : List S) (more : List (S × ℕ)) → w ≡ bare s.front ++ rest → G (s.front ++ more) s.value → FaultAt limit (deep left) rest more
+      → StaysAt (deep left) (look_whole R) (bare s.front) rest → Deepens limit G w left
+  deepens w left s [] more split p f stays = absurd f
+  deepens w left s (t ∷ rest) [] split p f stays = absurd f
+  deepens w left s (t ∷ rest) (q ∷ more) split p f stays = record {
     front = s.front;
     symbol = t;
     depth = q.1;
@@ -137,6 +165,7 @@ module _ {S A : Type 0} (limit fuel : ℕ) (G : List (S × ℕ) → A → Type 0
     more = more;
     value = s.value;
     goes_on = subst (λ (x : Placed S). G (s.front ++ x ∷ more) s.value) (sym (ap (λ (u : S). (u, q.1)) f.1)) p;
+    none = none_within (bare s.front) t stays;
   }
 
   answered : (w : List S) (r : Look S A) → look_whole R w ≡ r → length w < fuel → Answered limit G w r
@@ -159,7 +188,7 @@ module _ {S A : Type 0} (limit fuel : ℕ) (G : List (S × ℕ) → A → Type 0
       }
   answered w (Err (deep left)) e few =
       let s : Stuck limit G (look_whole R) w (deep left) = whole_reads.stops w (deep left) few e in
-      deepens w left s s.rest s.more s.split s.goes_on s.fault
+      deepens w left s s.rest s.more s.split s.goes_on s.fault s.stays
   answered w (Err spent) e few = (whole_reads.stops w spent few e).fault
 
   -- what is answered is so by the grammar
@@ -169,7 +198,7 @@ module _ {S A : Type 0} (limit fuel : ℕ) (G : List (S × ℕ) → A → Type 0
   spelled_passes : (w : List S) (a : A) (s : Spells limit G w a) → length w < fuel → (r : Look S A) → look_whole R w ≡ r → Passes limit fuel s.placed r a [] → r ≡ Ok (a, [])
   spelled_passes w a s few (Ok x) e k = ap (λ y. Ok y) k
   spelled_passes w a s few (Err (bad left)) e k = absurd k
-  spelled_passes w a s few (Err (deep left)) e k = absurd (k s.shallow)
+  spelled_passes w a s few (Err (deep left)) e k = absurd (past_not_shallow limit s.placed left 0 k s.shallow)
   spelled_passes w a s few (Err spent) e k = absurd (let size : length w ≡ length s.placed = ap length s.whole ∙ length-bare s.placed in omega arith)
 
   -- and what is spelled is answered

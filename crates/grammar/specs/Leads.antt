@@ -1,8 +1,9 @@
 -- A symbol at a depth, and what it leads to. Behind a symbol past the limit nothing has to be read.
 use Rattle.std.specs.Prelude.{◌≡◌, ℕ, suc, ◌≤◌, ◌<◌, Bool, true, false, nat_le, List, [], ◌∷◌, ◌++◌, length, Option, Some, None, Ok, Err, refl}
-use Rattle.std.proofs.Common.{ap, sym, ◌∙◌, subst, arith}
-use Rattle.grammar.specs.Grammar.{Grammar, Then}
-use Rattle.grammar.specs.Depths.{Placed, bare, Shallow, At, Fault, bad, deep, spent, Look, Looker, look_then, look_both, fits, found_at, look_at, SameHead, Took, FaultAt, StaysAt, Stuck, Passes, Reads}
+use Rattle.std.proofs.Common.{ap, sym, ◌∙◌, subst, arith, length-append}
+use Rattle.grammar.specs.Grammar.{Then}
+use Rattle.grammar.specs.Depths.{Placed, bare, At, Fault, bad, deep, spent, Look, Looker, look_then, look_both, fits, found_at, look_at, Took, StaysAt, Stuck, Passes, Reads}
+use Rattle.grammar.specs.Lookers.{length-bare, past_later}
 
 -- one symbol at a depth is one in a row
 pub at_one : {S A : Type 0} (depth : A → ℕ) (f : S → Option A) (ps : List (Placed S)) (a : A) → At depth f ps a → (s : S) × (f s ≡ Some a) × (ps ≡ (s, depth a) ∷ [])
@@ -42,7 +43,8 @@ module _ {S A B : Type 0} (limit fuel : ℕ) (depth : A → ℕ) (f : S → Opti
   stays_behind : (s : S) (a : A) → f s ≡ Some a → nat_le (depth a) limit ≡ true → (e : Fault) (front rest : List S) → StaysAt e (T a) front rest → StaysAt e (look_both (look_at limit depth f) T) (s ∷ front) rest
   stays_behind s a c d (bad left) front [] k = tt
   stays_behind s a c d (bad left) front (b ∷ rest) k = λ more. fit_read s a c d (front ++ b ∷ more) ∙ k more
-  stays_behind s a c d (deep left) front rest k = tt
+  stays_behind s a c d (deep left) front [] k = tt
+  stays_behind s a c d (deep left) front (b ∷ rest) k = λ more. fit_read s a c d (front ++ b ∷ more) ∙ k more
   stays_behind s a c d spent front rest k = tt
 
   stops_fit : (s : S) (w : List S) (a : A) → f s ≡ Some a → (c : Bool) → nat_le (depth a) limit ≡ c → (e : Fault) → length (s ∷ w) < fuel → look_then (fits c a w) T ≡ Err e
@@ -59,7 +61,7 @@ module _ {S A B : Type 0} (limit fuel : ℕ) (depth : A → ℕ) (f : S → Opti
         value = (some a).1;
         goes_on = member s a d (some a).0 (some a).1 (some a).2;
         fault = (refl, refl, far);
-        stays = tt;
+        stays = λ more. ap (λ o. look_then (found_at limit depth o more) T) d ∙ ap (λ b. look_then (fits b a more) T) c;
       })
   stops_fit s w a d true c e few k =
       let le : depth a ≤ limit = grind arith in
@@ -96,11 +98,18 @@ module _ {S A B : Type 0} (limit fuel : ℕ) (depth : A → ℕ) (f : S → Opti
   one_more : (p : Placed S) (ps : List (S × ℕ)) (r : Look S B) (b : B) (v : List S) → Passes limit fuel ps r b v → Passes limit fuel (p ∷ ps) r b v
   one_more p ps (Ok y) b v k = k
   one_more p ps (Err (bad left)) b v k = k
-  one_more p ps (Err (deep left)) b v k = λ s. k s.1
+  one_more p ps (Err (deep left)) b v k = past_later limit (p ∷ []) ps left (length v) k
   one_more p ps (Err spent) b v k = omega arith
 
   passes_fit : (p : Placed S) (back : List (S × ℕ)) (a : A) (b : B) → p.1 ≡ depth a → H a back b → (v : List S) → m v → (c : Bool) → nat_le (depth a) limit ≡ c → Passes limit fuel (p ∷ back) (look_then (fits c a (bare back ++ v)) T) b v
-  passes_fit p back a b d q v k false c = λ s. let le : p.1 ≤ limit = s.0 in let far : limit < depth a = grind arith in absurd (omega arith)
+  passes_fit p back a b d q v k false c = record {
+    front = [];
+    symbol = p;
+    more = back;
+    split = refl;
+    place = omega (arith, length-append (bare back) v, length-bare back);
+    past = λ s. let le : p.1 ≤ limit = s.0 in let far : limit < depth a = grind arith in absurd (omega arith);
+  }
   passes_fit p back a b d q v k true c = let le : depth a ≤ limit = grind arith in one_more p back (T a (bare back ++ v)) b v ((h a le).again back b q v k)
 
   passes_at : (front back : List (S × ℕ)) (a : A) (b : B) → At depth f front a → H a back b → (v : List S) → m v → Passes limit fuel (front ++ back) (look_both (look_at limit depth f) T (bare (front ++ back) ++ v)) b v

@@ -18,3 +18,4 @@ pub mod Alternatives
 pub mod Leads
 pub mod Separated
 pub mod Marked
+pub mod OneAnswer

@@ -1,9 +1,9 @@
 -- Readers with one symbol of lookahead compose: one behind another, a choice by the first symbol, and steps while
 -- the first symbol chooses one.
-use Rattle.std.specs.Prelude.{◌≡◌, ℕ, zero, suc, ◌+◌, ◌≤◌, ◌<◌, Bool, true, false, nat_le, List, [], ◌∷◌, ◌++◌, length, Option, Some, None, Result, Ok, Err, ◌⊎◌, refl}
-use Rattle.std.proofs.Common.{ap, sym, ◌∙◌, subst, arith, append_assoc, append-nil, length-append, inl, inr}
-use Rattle.grammar.specs.Grammar.{Grammar, Nothing, Then, Mapped}
-use Rattle.grammar.specs.Depths.{Placed, bare, Shallow, Fault, bad, deep, spent, Look, Looker, look_then, look_both, SameHead, Took, FaultAt, StaysAt, Stuck, Passes, Reads}
+use Rattle.std.specs.Prelude.{◌≡◌, ℕ, suc, ◌+◌, ◌≤◌, ◌<◌, List, [], ◌∷◌, ◌++◌, length, Ok, Err, refl}
+use Rattle.std.proofs.Common.{ap, sym, ◌∙◌, subst, arith, append_assoc, length-append}
+use Rattle.grammar.specs.Grammar.{Then}
+use Rattle.grammar.specs.Depths.{Placed, bare, Shallow, Fault, bad, deep, spent, Look, Looker, look_then, look_both, SameHead, Took, FaultAt, StaysAt, Stuck, PastBy, Passes, Reads}
 
 -- ---- lists of symbols with depths
 pub bare-append : {S : Type 0} (ps qs : List (Placed S)) → bare (ps ++ qs) ≡ bare ps ++ bare qs
@@ -30,6 +30,29 @@ module _ {S : Type 0} (limit : ℕ) where
   shallow_back [] qs h = h
   shallow_back (p ∷ ps) qs h = shallow_back ps qs h.1
 
+  pub past_not_shallow : (ps : List (Placed S)) (left behind : ℕ) → PastBy limit ps left behind → Shallow limit ps → ⊥
+  past_not_shallow ps left behind p h = p.past (shallow_front (p.front ++ p.symbol ∷ []) p.more (subst (λ l. Shallow limit l) (p.split ∙ sym (append_assoc p.front (p.symbol ∷ []) p.more)) h))
+
+  pub past_later : (ps qs : List (Placed S)) (left behind : ℕ) → PastBy limit qs left behind → PastBy limit (ps ++ qs) left behind
+  past_later ps qs left behind p = record {
+    front = ps ++ p.front;
+    symbol = p.symbol;
+    more = p.more;
+    split = ap (λ l. ps ++ l) p.split ∙ sym (append_assoc ps p.front (p.symbol ∷ p.more));
+    place = p.place;
+    past = λ h. p.past (shallow_back ps (p.front ++ p.symbol ∷ []) (subst (λ l. Shallow limit l) (append_assoc ps p.front (p.symbol ∷ [])) h));
+  }
+
+  pub past_sooner : (ps qs : List (Placed S)) (left between behind : ℕ) → between ≡ length qs + behind → PastBy limit ps left between → PastBy limit (ps ++ qs) left behind
+  past_sooner ps qs left between behind e p = record {
+    front = p.front;
+    symbol = p.symbol;
+    more = p.more ++ qs;
+    split = ap (λ l. l ++ qs) p.split ∙ append_assoc p.front (p.symbol ∷ p.more) qs;
+    place = omega (arith, e, p.place, length-append p.more qs);
+    past = p.past;
+  }
+
   fault_more : (f : Fault) (rest : List S) (more qs : List (Placed S)) → FaultAt limit f rest more → FaultAt limit f rest (more ++ qs)
   fault_more (bad left) rest more qs h = h
   fault_more (deep left) (s ∷ rest) (p ∷ more) qs h = h
@@ -47,18 +70,18 @@ same_itself (s ∷ w) = refl
 
 -- ---- one behind another
 module _ {S A B : Type 0} (limit : ℕ) (R : Looker S A) (T : A → Looker S B) where
-  passes_then : (fuel behind used : ℕ) (ps qs : List (Placed S)) (r : Look S A) (a : A) (u : List S) (b : B) (v : List S) → fuel ≤ used + behind → used ≤ length ps
+  passes_then : (fuel behind used : ℕ) (ps qs : List (Placed S)) (r : Look S A) (a : A) (u : List S) (b : B) (v : List S) → fuel ≤ used + behind → used ≤ length ps → length u ≡ length qs + length v
       → Passes limit fuel ps r a u → Passes limit behind qs (T a u) b v → Passes limit fuel (ps ++ qs) (look_then r T) b v
-  passes_then fuel behind used ps qs (Ok x) a u b v enough long h k = subst (λ (y : A × List S). Passes limit fuel (ps ++ qs) (T y.0 y.1) b v) (sym h) (later (T a u) k)
+  passes_then fuel behind used ps qs (Ok x) a u b v enough long size h k = subst (λ (y : A × List S). Passes limit fuel (ps ++ qs) (T y.0 y.1) b v) (sym h) (later (T a u) k)
     where
       later : (r : Look S B) → Passes limit behind qs r b v → Passes limit fuel (ps ++ qs) r b v
       later (Ok y) e = e
       later (Err (bad left)) e = e
-      later (Err (deep left)) e = λ s. e (shallow_back limit ps qs s)
+      later (Err (deep left)) e = past_later limit ps qs left (length v) e
       later (Err spent) e = omega (arith, length-append ps qs)
-  passes_then fuel behind used ps qs (Err (bad left)) a u b v enough long h k = h
-  passes_then fuel behind used ps qs (Err (deep left)) a u b v enough long h k = λ s. h (shallow_front limit ps qs s)
-  passes_then fuel behind used ps qs (Err spent) a u b v enough long h k = omega (arith, length-append ps qs)
+  passes_then fuel behind used ps qs (Err (bad left)) a u b v enough long size h k = h
+  passes_then fuel behind used ps qs (Err (deep left)) a u b v enough long size h k = past_sooner limit ps qs left (length u) (length v) size h
+  passes_then fuel behind used ps qs (Err spent) a u b v enough long size h k = omega (arith, length-append ps qs)
 
   -- what is read in front stays before what begins alike
   local_then : (w : List S) (a : A) (u : List S) (G : List (S × ℕ) → A → Type 0) (t : Took limit G R w a u) (qs : List (S × ℕ)) (rest v : List S) → u ≡ bare qs ++ rest → SameHead rest v
@@ -71,13 +94,15 @@ module _ {S A B : Type 0} (limit : ℕ) (R : Looker S A) (T : A → Looker S B) 
       → StaysAt f (look_both R T) (bare (t.front ++ qs)) rest
   stays_then w a u G t (bad left) qs [] e h = tt
   stays_then w a u G t (bad left) qs (s ∷ rest) e h = λ more. local_then w a u G t qs (s ∷ rest) (s ∷ more) e refl ∙ h more
-  stays_then w a u G t (deep left) qs rest e h = tt
+  stays_then w a u G t (deep left) qs [] e h = tt
+  stays_then w a u G t (deep left) qs (s ∷ rest) e h = λ more. local_then w a u G t qs (s ∷ rest) (s ∷ more) e refl ∙ h more
   stays_then w a u G t spent qs rest e h = tt
 
   stays_first : (f : Fault) (front rest : List S) → StaysAt f R front rest → StaysAt f (look_both R T) front rest
   stays_first (bad left) front [] h = tt
   stays_first (bad left) front (s ∷ rest) h = λ more. ap (λ r. look_then r T) (h more)
-  stays_first (deep left) front rest h = tt
+  stays_first (deep left) front [] h = tt
+  stays_first (deep left) front (s ∷ rest) h = λ more. ap (λ r. look_then r T) (h more)
   stays_first spent front rest h = tt
 
 -- The first reader takes at least so many symbols.
@@ -143,7 +168,7 @@ module _ {S A B : Type 0} (limit fuel behind used : ℕ) (G : List (S × ℕ) �
       let q : Passes limit behind t.back (T t.first (bare t.back ++ v)) b v = (h t.front t.first t.begins).again t.back b t.goes_on v k in
       subst (λ l. Passes limit fuel l (look_both R T (bare l ++ v)) b v) (sym t.whole)
       (subst (λ l. Passes limit fuel (t.front ++ t.back) (look_both R T l) b v) (sym (bare_before t.front t.back v))
-      (passes_then limit R T fuel behind used t.front t.back (R (bare t.front ++ (bare t.back ++ v))) t.first (bare t.back ++ v) b v enough (long t.front t.first t.begins) p q))
+      (passes_then limit R T fuel behind used t.front t.back (R (bare t.front ++ (bare t.back ++ v))) t.first (bare t.back ++ v) b v enough (long t.front t.first t.begins) (length-append (bare t.back) v ∙ ap (λ n. n + length v) (length-bare t.back)) p q))
 
   pub then_reads : Reads limit fuel (Then G H) m (look_both R T)
   then_reads = record {

@@ -1,6 +1,6 @@
 -- A spelling with the mark of its first symbol, as the place where it stands.
-use Rattle.std.specs.Prelude.{◌≡◌, ℕ, ◌<◌, List, [], ◌∷◌, ◌++◌, length, Result, Ok, Err, refl}
-use Rattle.std.proofs.Common.{ap, sym, ◌∙◌, subst, arith}
+use Rattle.std.specs.Prelude.{◌≡◌, ℕ, ◌<◌, List, [], ◌∷◌, ◌++◌, length, Ok, Err, refl}
+use Rattle.std.proofs.Common.{ap, sym, ◌∙◌, subst}
 use Rattle.grammar.specs.Grammar.{Grammar}
 use Rattle.grammar.specs.Depths.{Placed, bare, Shallow, Fault, bad, deep, spent, Look, Looker, look_then, look_mapped, look_here, SameHead, Took, StaysAt, Stuck, Passes, Reads}
 
@@ -35,7 +35,8 @@ module _ {S A : Type 0} (limit fuel : ℕ) (mark : S → ℕ) (G : List (S × �
   stays_marked : (f : Fault) (front rest : List S) → StaysAt f R front rest → StaysAt f (look_marked mark R) front rest
   stays_marked (bad left) front [] h = tt
   stays_marked (bad left) front (s ∷ rest) h = λ more. ap (λ r. look_then r (λ a. look_here (a, first_mark mark (front ++ s ∷ more)))) (h more)
-  stays_marked (deep left) front rest h = tt
+  stays_marked (deep left) front [] h = tt
+  stays_marked (deep left) front (s ∷ rest) h = λ more. ap (λ r. look_then r (λ a. look_here (a, first_mark mark (front ++ s ∷ more)))) (h more)
   stays_marked spent front rest h = tt
 
   pass_marked : (ps : List (S × ℕ)) (r : Look S A) (a : A) (v : List S) (k j : ℕ) → Passes limit fuel ps r a v → j ≡ k → Passes {S = S} {A = A × ℕ} limit fuel ps (look_then {B = A × ℕ} r (λ b. look_here (b, k))) (a, j) v

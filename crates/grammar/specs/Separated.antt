@@ -1,10 +1,10 @@
 -- Spellings with a symbol between each two, as commas, and what is read in front of a closing symbol.
-use Rattle.std.specs.Prelude.{◌≡◌, ℕ, ◌+◌, ◌≤◌, ◌<◌, List, [], ◌∷◌, ◌++◌, length, Option, Some, None, refl}
+use Rattle.std.specs.Prelude.{◌≡◌, ℕ, List, [], ◌∷◌, ◌++◌, Option, Some, refl}
 use Rattle.std.proofs.Common.{ap, sym, ◌∙◌, subst, arith, append_assoc, append-nil}
 use Rattle.grammar.specs.Grammar.{Grammar, Then, Mapped}
 use Rattle.grammar.specs.Depths.{Placed, bare, At, Steps, no_step, step_on, Looker, look_both, look_mapped, look_at, look_many, Reads}
 use Rattle.grammar.specs.Lookers.{then_reads}
-use Rattle.grammar.specs.Choices.{Anything, same_reads, mapped_reads, before_less, at_reads, EndsBefore, BeginsBy}
+use Rattle.grammar.specs.Choices.{Anything, same_reads, mapped_reads, at_reads, EndsBefore, BeginsBy}
 use Rattle.grammar.specs.InSteps.{many_reads}
 use Rattle.grammar.specs.Leads.{at_one}
 

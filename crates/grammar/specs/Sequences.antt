@@ -1,10 +1,10 @@
 -- Grammars written as rules: one spelling behind another, and as many as there are.
-use Rattle.std.specs.Prelude.{◌≡◌, ℕ, zero, suc, ◌+◌, ◌≤◌, ◌<◌, List, [], ◌∷◌, ◌++◌, length, Option, Some, None, refl}
-use Rattle.std.proofs.Common.{ap, sym, ◌∙◌, subst, arith, append_assoc, append-nil, inl, inr}
+use Rattle.std.specs.Prelude.{◌≡◌, ℕ, ◌≤◌, List, [], ◌∷◌, ◌++◌, Option, Some, refl}
+use Rattle.std.proofs.Common.{ap, sym, ◌∙◌, subst, arith, append_assoc, append-nil}
 use Rattle.grammar.specs.Grammar.{Grammar, Nothing, Then, Mapped}
-use Rattle.grammar.specs.Depths.{Placed, bare, At, Perhaps, Steps, no_step, step_on, Looker, look_both, look_here, look_mapped, look_at, look_if, look_many, Reads}
+use Rattle.grammar.specs.Depths.{Placed, bare, At, Steps, no_step, step_on, Looker, look_both, look_here, look_mapped, look_at, look_many, Reads}
 use Rattle.grammar.specs.Lookers.{then_reads}
-use Rattle.grammar.specs.Choices.{Anything, same_reads, here_reads, mapped_reads, at_reads, before_less, on_less, EndsBefore, BeginsBy, if_reads}
+use Rattle.grammar.specs.Choices.{Anything, same_reads, here_reads, mapped_reads, at_reads, before_less, EndsBefore, BeginsBy}
 use Rattle.grammar.specs.InSteps.{begins_longer, begins_before, many_reads}
 
 -- one behind another, so that a rule is written as a block

@@ -1,6 +1,6 @@
 -- What a function of the code read is what a reader with one symbol of lookahead gives, unless memory ran out.
-use Rattle.std.specs.Prelude.{◌≡◌, ℕ, Result, Ok, Err}
-use Rattle.grammar.specs.Depths.{Fault, bad, deep, spent}
+use Rattle.std.specs.Prelude.{◌≡◌, Result, Ok, Err}
+use Rattle.grammar.specs.Depths.{Fault, bad, deep}
 use Rattle.grammar.specs.declared.halt.Halt.{Halt}
 use Rattle.grammar.specs.declared.halt.Halt.TheVariants.{Memory, Bad, Deep}
 
