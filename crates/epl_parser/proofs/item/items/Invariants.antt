@@ -1,0 +1,13 @@
+use Rattle.std.proofs.Common.{◌≡◌}
+use Rattle.grammar.specs.Depths.{look_many}
+use Rattle.epl_syntax.specs.declared.token.Token.{Token}
+use Rattle.epl_syntax.specs.Tree.{edentype}
+use Rattle.epl_parser.specs.Items.{item_head}
+use Rattle.epl_parser.specs.ItemReader.{read_item, read_items}
+use Rattle.epl_parser.proofs.item.items.Given as goal
+
+abbrev pub invariant-loop-left : goal.invariant-loop-left
+invariant-loop-left l = look_many (λ (t : Token). item_head t.kind) (read_item l.source.text.now l.source.turns) l.left (edentype l.found) l.rest ≡ read_items l.source.text.now l.source.turns (edentype l.fn.program) l.tokens
+
+abbrev pub decreases-loop-left : goal.decreases-loop-left
+decreases-loop-left l = l.left

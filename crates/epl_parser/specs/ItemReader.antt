@@ -1,0 +1,198 @@
+-- How an Edentype is read: a reader for each rule of its items and upgrades.
+use Rattle.std.specs.Prelude.{ℕ, ◌+◌, Bool, true, false, List, [], length, Option, Some, None}
+use Rattle.grammar.specs.Blocks.{◌>>=◌, ◌>>◌}
+use Rattle.grammar.specs.Depths.{Looker, look_here, look_if, look_many}
+use Rattle.grammar.specs.FirstFault.{look_whole}
+use Rattle.grammar.specs.Separated.{look_separated}
+use Rattle.grammar.specs.Sequences.{look_row}
+use Rattle.epl_syntax.specs.declared.token.Mark.TheVariants as mark
+use Rattle.epl_syntax.specs.declared.token.Token.{Token}
+use Rattle.epl_syntax.specs.declared.token.TokenKind.{TokenKind}
+use Rattle.epl_syntax.specs.declared.token.TokenKind.TheVariants as kind
+use Rattle.epl_syntax.specs.declared.tree.Number.{Number}
+use Rattle.epl_syntax.specs.declared.tree.ClassDecl.{ClassDecl}
+use Rattle.epl_syntax.specs.declared.word.Word.TheVariants as word
+use Rattle.epl_parser.specs.declared.item.ItemHead.{ItemHead}
+use Rattle.epl_parser.specs.declared.item.ItemHead.TheVariants as item
+use Rattle.epl_parser.specs.declared.item.MemberHead.{MemberHead}
+use Rattle.epl_parser.specs.declared.item.MemberHead.TheVariants as member
+use Rattle.epl_syntax.specs.Tree.{PlacedShape, Local, Parameter, Operation, Process, Change, Upgrade, Edentype}
+use Rattle.epl_parser.specs.OneToken.{the_mark, the_word, the_lower, the_upper, the_number, look_one}
+use Rattle.epl_parser.specs.WrittenKinds.{read_written_kind}
+use Rattle.epl_parser.specs.Constants.{read_constant}
+use Rattle.epl_parser.specs.ExpressionReader.{read_expression}
+use Rattle.epl_parser.specs.StatementReader.{look_in_parens, read_body}
+use Rattle.epl_parser.specs.Items.{with_variable, with_class, with_monitor, with_condition, with_operation, with_process, with_upgrades, without_items, declared, member_head, item_head}
+
+-- a name with a small first letter
+unfoldable pub lower_kind : TokenKind → Option (Unit {0})
+lower_kind kind.Lower = Some tt
+lower_kind _ = None
+
+unfoldable pub read_version : Looker Token (Option Number)
+read_version =
+    look_if (the_word word.Version) None (do
+      look_one 0 (the_word word.Version)
+      number ← look_one 0 the_number
+      look_here (Some number))
+
+module _ (bytes : List ℕ) (turns : ℕ) where
+  -- ---- variables and parameters
+  unfoldable pub read_binding : Looker Token Local
+  read_binding = do
+    name ← look_one 0 (the_lower bytes)
+    look_one 0 (the_mark mark.Colon)
+    of_kind ← read_written_kind 0
+    look_one 0 (the_mark mark.Equal)
+    start ← read_constant bytes 0
+    look_here (record { name = name; kind = of_kind; start = start })
+
+  unfoldable pub read_local : Looker Token Local
+  read_local = do
+    look_one 0 (the_word word.Var)
+    read_binding
+
+  unfoldable pub read_locals : Looker Token (List Local)
+  read_locals = look_row (the_word word.Var) read_local turns []
+
+  unfoldable pub read_parameter : Looker Token Parameter
+  read_parameter = do
+    name ← look_one 0 (the_lower bytes)
+    look_one 0 (the_mark mark.Colon)
+    of_kind ← read_written_kind 0
+    look_here (record { name = name; kind = of_kind })
+
+  unfoldable pub read_parameters : Looker Token (List Parameter)
+  read_parameters = look_separated 32 0 (the_mark mark.Comma) turns read_parameter
+
+  unfoldable pub read_parameter_list : Looker Token (List Parameter)
+  read_parameter_list = look_in_parens 0 read_parameters
+
+  unfoldable pub read_kinds : Looker Token (List PlacedShape)
+  read_kinds = look_separated 32 0 (the_mark mark.Comma) turns (read_written_kind 0)
+
+  unfoldable pub read_results : Looker Token (List PlacedShape)
+  read_results = look_in_parens 0 read_kinds
+
+  -- ---- items, each behind its first word
+  unfoldable pub read_class : Looker Token ClassDecl
+  read_class = do
+    name ← look_one 0 (the_lower bytes)
+    look_one 0 (the_word word.Limit)
+    limit ← look_one 0 the_number
+    look_here (record { name = name; limit = limit })
+
+  unfoldable pub read_operation : Looker Token Operation
+  read_operation = do
+    name ← look_one 0 (the_upper bytes)
+    look_one 0 (the_word word.Needs)
+    needs ← look_one 0 the_number
+    look_one 0 (the_word word.Class)
+    class ← look_one 0 (the_lower bytes)
+    params ← read_parameter_list
+    look_one 0 (the_word word.Returns)
+    results ← read_results
+    locals ← read_locals
+    body ← read_body bytes turns
+    look_one 0 (the_word word.End)
+    look_here (record { name = name; needs = needs; class = class; params = params; results = results; locals = locals; body = body })
+
+  unfoldable pub read_process : Looker Token Process
+  read_process = do
+    name ← look_one 0 (the_upper bytes)
+    locals ← read_locals
+    body ← read_body bytes turns
+    look_one 0 (the_word word.End)
+    look_here (record { name = name; locals = locals; body = body })
+
+  -- a variable, added to the type
+  unfoldable pub read_variable : Bool → ℕ → Edentype → Looker Token Edentype
+  read_variable durable number e = do
+    x ← read_binding
+    look_here (with_variable (declared durable number x) e)
+
+  unfoldable pub read_condition : ℕ → Edentype → Looker Token Edentype
+  read_condition number e = do
+    name ← look_one 0 (the_lower bytes)
+    look_here (with_condition (record { name = name; monitor = number }) e)
+
+  abbrev pub read_member_rest : ℕ → Edentype → MemberHead → Looker Token Edentype
+  read_member_rest number e member.Durable = read_variable true number e
+  read_member_rest number e member.Working = read_variable false number e
+  read_member_rest number e member.Condition = read_condition number e
+
+  unfoldable pub read_member : ℕ → Edentype → Looker Token Edentype
+  read_member number e = do
+    h ← look_one 0 (λ t. member_head t.kind)
+    read_member_rest number e h
+
+  unfoldable pub read_members : ℕ → Edentype → Looker Token Edentype
+  read_members number e = look_many (λ t. member_head t.kind) (read_member number) turns e
+
+  unfoldable pub read_monitor : Edentype → Looker Token Edentype
+  read_monitor e = do
+    name ← look_one 0 (the_upper bytes)
+    inside ← read_members (length e.monitors + 1) (with_monitor name e)
+    look_one 0 (the_word word.End)
+    look_here inside
+
+  abbrev pub read_item_rest : Edentype → ItemHead → Looker Token Edentype
+  read_item_rest e item.Durable = read_variable true 0 e
+  read_item_rest e item.Working = read_variable false 0 e
+  read_item_rest e item.Class = do
+    c ← read_class
+    look_here (with_class c e)
+  read_item_rest e item.Monitor = read_monitor e
+  read_item_rest e item.Operation = do
+    o ← read_operation
+    look_here (with_operation o e)
+  read_item_rest e item.Process = do
+    p ← read_process
+    look_here (with_process p e)
+
+  unfoldable pub read_item : Edentype → Looker Token Edentype
+  read_item e = do
+    h ← look_one 0 (λ t. item_head t.kind)
+    read_item_rest e h
+
+  unfoldable pub read_items : Edentype → Looker Token Edentype
+  read_items e = look_many (λ t. item_head t.kind) read_item turns e
+
+  -- ---- upgrades
+  unfoldable pub read_change : Looker Token Change
+  read_change = do
+    name ← look_one 0 (the_lower bytes)
+    look_one 0 (the_mark mark.Assign)
+    value ← read_expression bytes turns 0
+    look_here (record { name = name; value = value })
+
+  unfoldable pub read_changes : Looker Token (List Change)
+  read_changes = look_row (λ t. lower_kind t.kind) read_change turns []
+
+  unfoldable pub read_upgrade : Looker Token Upgrade
+  read_upgrade = do
+    first ← look_one 0 (the_word word.Upgrade)
+    look_one 0 (the_word word.From)
+    from ← look_one 0 the_number
+    params ← read_parameter_list
+    changes ← read_changes
+    look_one 0 (the_word word.End)
+    look_here (record { from = from; params = params; changes = changes; place = first.start })
+
+  unfoldable pub read_upgrades : Looker Token (List Upgrade)
+  read_upgrades = look_row (the_word word.Upgrade) read_upgrade turns []
+
+  -- ---- the type
+  unfoldable pub read_edentype : Looker Token Edentype
+  read_edentype = do
+    look_one 0 (the_word word.Edentype)
+    name ← look_one 0 (the_upper bytes)
+    version ← read_version
+    e ← read_items (without_items name version)
+    upgrades ← read_upgrades
+    look_one 0 (the_word word.Endtype)
+    look_here (with_upgrades upgrades e)
+
+  -- all the tokens
+  unfoldable pub read_program : Looker Token Edentype
+  read_program = look_whole read_edentype

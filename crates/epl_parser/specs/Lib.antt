@@ -1,0 +1,11 @@
+pub mod Constants
+pub mod ExpressionReader
+pub mod Expressions
+pub mod Heads
+pub mod ItemReader
+pub mod Items
+pub mod OneToken
+pub mod Program
+pub mod StatementReader
+pub mod Statements
+pub mod WrittenKinds

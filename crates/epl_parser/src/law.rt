@@ -1,0 +1,15 @@
+//! What the grammar of a text promises, apart from any code.
+ghost use Rattle.std.specs.Prelude.{◌≡◌, ℕ, List};
+ghost use Rattle.epl_syntax.specs.Tree.{Edentype};
+ghost use Rattle.epl_parser.specs.Program.{SpellsType, RefusesType};
+
+/// A text spells at most one Edentype.
+pub fn types_are_one()
+    ensures one_tree { (text : List ℕ) (e f : Edentype) → SpellsType text e → SpellsType text f → e ≡ f }
+{}
+
+/// A text is refused at one place at most, and at none where it spells an Edentype.
+pub fn refusals_are_one()
+    ensures one_place { (text : List ℕ) (p q : ℕ) → RefusesType text p → RefusesType text q → p ≡ q }
+    ensures never_both { (text : List ℕ) (e : Edentype) (p : ℕ) → SpellsType text e → RefusesType text p → ⊥ }
+{}

@@ -1,0 +1,25 @@
+//! The parser of the language in which types of Ejects are written.
+//!
+//! Which tokens spell which type, and at which depth each token stands, is the grammar in `specs/`: kinds, constants,
+//! expressions, statements and items, a file each. What is answered for a whole text stands in `specs/Program.antt`.
+#![tactic(auto)]
+
+mod build;
+mod collect;
+mod constant_parser;
+mod expression_parser;
+#[cfg(test)]
+mod expression_tests;
+mod head;
+mod item;
+mod kind_parser;
+mod law;
+mod parens;
+mod program;
+mod reading;
+mod statement;
+#[cfg(test)]
+mod type_tests;
+
+pub use law::{refusals_are_one, types_are_one};
+pub use program::parse_edentype;
