@@ -1,16 +1,22 @@
 //! Whether a type of the language keeps its rules, and else which is broken first.
 #![tactic(auto)]
 
+#[cfg(test)]
+mod body_tests;
 mod checker;
+#[cfg(test)]
+mod count_tests;
 mod expression;
 mod first;
 mod fit;
 mod item;
+#[cfg(test)]
+mod marked;
 mod names;
 mod scope;
 mod sort;
 mod statement;
 #[cfg(test)]
-mod tests;
+mod type_tests;
 
 pub use checker::{CheckRefusal, check};
