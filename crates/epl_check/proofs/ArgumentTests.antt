@@ -1,5 +1,5 @@
 -- The tests of a built-in function's arguments, one by one.
-use Rattle.std.proofs.Common.{◌≡◌, ℕ, zero, suc, Bool, true, List, [], ◌∷◌, refl}
+use Rattle.std.proofs.Common.{◌≡◌, ℕ, zero, suc, Bool, true, [], ◌∷◌, refl}
 use Rattle.eden_value.specs.Shape.{Shape}
 use Rattle.epl_check.specs.View.{passes_at, at_place}
 

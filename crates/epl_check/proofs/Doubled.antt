@@ -1,5 +1,5 @@
 -- Names that are declared twice.
-use Rattle.std.proofs.Common.{◌≡◌, ℕ, zero, suc, ◌+◌, ◌-◌, ◌<◌, ◌≤◌, max, take, length-drop, Bool, true, false, refl, ap, sym, ◌∙◌, List, [], ◌∷◌, ◌++◌, map, length, drop, get_or, Option, append_assoc, arith}
+use Rattle.std.proofs.Common.{◌≡◌, ℕ, zero, suc, ◌+◌, ◌-◌, ◌<◌, ◌≤◌, max, take, length-drop, true, refl, ap, sym, ◌∙◌, List, [], ◌∷◌, ◌++◌, map, length, drop, get_or, Option, append_assoc, arith}
 use Rattle.std.specs.List.{flat_map}
 use Rattle.epl_syntax.specs.declared.tree.Name.{Name}
 use Rattle.epl_syntax.specs.declared.tree.Number.{Number}

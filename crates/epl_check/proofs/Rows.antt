@@ -1,11 +1,9 @@
 -- The turns of loops over the rows of a tree.
-use Rattle.std.proofs.Common.{◌≡◌, ℕ, zero, suc, ◌+◌, ◌<◌, ◌≤◌, Bool, true, false, refl, ap, sym, ◌∙◌, List, [], ◌∷◌, ◌++◌, map, length, take, drop, get_or, Option, Some, None, arith, subst}
+use Rattle.std.proofs.Common.{◌≡◌, ℕ, zero, suc, ◌+◌, ◌<◌, ◌≤◌, Bool, true, refl, ap, sym, ◌∙◌, List, [], ◌∷◌, ◌++◌, map, length, take, drop, get_or, Option, Some, None, arith}
 use Rattle.eden_value.specs.Shape.{Shape}
-use Rattle.epl_syntax.specs.Tree.{PlacedShape, written, Expression, Expressions, no_expressions, expression_and, expression, expression_row, expressions, statement_and, statement, statement_row, statements}
-use Rattle.epl_syntax.specs.declared.tree.Expr.{Expr, items-the_row-Expr}
-use Rattle.epl_syntax.specs.declared.tree.Expr as expr
-use Rattle.epl_syntax.specs.declared.tree.Stmt.{Stmt, items-the_row-Stmt}
-use Rattle.epl_syntax.specs.declared.tree.Stmt as stmt
+use Rattle.epl_syntax.specs.Tree.{PlacedShape, written, Expression, Expressions, expression_and, expression, expressions, statement, statements}
+use Rattle.epl_syntax.specs.declared.tree.Expr.{Expr}
+use Rattle.epl_syntax.specs.declared.tree.Stmt.{Stmt}
 use Rattle.epl_syntax.specs.declared.rule.Broken.{Broken}
 use Rattle.epl_syntax.specs.Rules.First.{least}
 use Rattle.epl_syntax.specs.Rules.Scopes.{Scope}
@@ -19,7 +17,6 @@ use Rattle.epl_syntax.specs.declared.tree.WrittenKind.{WrittenKind}
 use Rattle.epl_syntax.specs.Rules.InStatements.{broken_statement, broken_block, broken_values}
 use Rattle.epl_check.specs.View.{first_of, passes_at, kind_wanted, broken_value}
 use Rattle.epl_check.proofs.Least.{least_append, drop_item}
-use mathlib.Core.Former.{Count}
 
 pub count_is : (es : List Expr) → count (expressions es) ≡ length es
 count_is [] = refl

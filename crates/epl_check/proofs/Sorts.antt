@@ -1,5 +1,5 @@
 -- When two kinds in the code's form are the same.
-use Rattle.std.proofs.Common.{◌≡◌, ℕ, zero, suc, Bool as Truth, false, refl, ap, arith, ◌∙◌, sym, subst}
+use Rattle.std.proofs.Common.{◌≡◌, ℕ, zero, suc, false, refl, ap}
 use Rattle.epl_check.specs.declared.sort.Plain.{Plain}
 use Rattle.epl_check.specs.declared.sort.Plain.TheVariants.{Int, Bool, Text, Cap}
 use Rattle.epl_check.specs.contracts.sort.Plain.{the_type}

@@ -1,4 +1,4 @@
-use Rattle.std.proofs.Common.{◌≡◌, ℕ, ap, sym, ◌∙◌, subst, map, List, Option, None, Some, Result, Ok, Err, false}
+use Rattle.std.proofs.Common.{◌≡◌, ℕ, sym, ◌∙◌, subst, List, Result, Ok, Err, false}
 use Rattle.std.specs.Prelude.{OnOk}
 use Rattle.std.specs.Result.{is_err}
 use Rattle.epl_syntax.specs.Tree.{edentype}
@@ -7,9 +7,9 @@ use Rattle.epl_syntax.specs.declared.rule.Broken.{Broken}
 use Rattle.epl_syntax.specs.declared.rule.Rule.{Rule}
 use Rattle.epl_syntax.specs.declared.rule.Rule.TheVariants as rule
 use Rattle.epl_check.specs.declared.sort.Uncounted.{Uncounted}
-use Rattle.epl_syntax.specs.Rules.First.{least, broken_at, IsFirst}
+use Rattle.epl_syntax.specs.Rules.First.{broken_at, IsFirst}
 use Rattle.epl_syntax.specs.Rules.InItems.{broken_program}
-use Rattle.epl_check.specs.Refusals.{Refuses, refusal_of, refusal_for}
+use Rattle.epl_check.specs.Refusals.{Refuses, refusal_for}
 use Rattle.epl_check.proofs.Least.{none_told, first_told}
 use Rattle.epl_check.proofs.checker.check.Goals as goal
 

@@ -1,4 +1,4 @@
-use Rattle.std.proofs.Common.{◌≡◌, ◌++◌, ap, ◌∙◌, map, List}
+use Rattle.std.proofs.Common.{◌++◌, ap, ◌∙◌, map, List}
 use Rattle.epl_syntax.specs.Tree.{variable, operation, process}
 use Rattle.epl_syntax.specs.declared.rule.Broken.{Broken}
 use Rattle.epl_syntax.specs.Rules.First.{least}

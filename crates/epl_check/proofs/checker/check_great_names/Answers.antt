@@ -1,4 +1,4 @@
-use Rattle.std.proofs.Common.{◌≡◌, ◌++◌, ap, ◌∙◌, map}
+use Rattle.std.proofs.Common.{◌++◌, ap, ◌∙◌, map}
 use Rattle.epl_syntax.specs.Tree.{operation, process}
 use Rattle.epl_syntax.specs.Rules.First.{least}
 use Rattle.epl_syntax.specs.Rules.Scopes.{doubled}

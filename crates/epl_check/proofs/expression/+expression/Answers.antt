@@ -1,4 +1,4 @@
-use Rattle.std.proofs.Common.{rules, ◌≡◌, sym, ap, ◌∙◌}
+use Rattle.std.proofs.Common.{rules, ap, ◌∙◌}
 use Rattle.epl_syntax.specs.declared.tree.Expr.TheViews.{the_lemmas}
 use Rattle.epl_syntax.specs.Rules.KindsOf.{argument_tests}
 use Rattle.epl_syntax.specs.Rules.First.{least}

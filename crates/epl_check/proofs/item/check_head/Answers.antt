@@ -1,4 +1,4 @@
-use Rattle.std.proofs.Common.{◌≡◌, ap, ◌∙◌, map, not}
+use Rattle.std.proofs.Common.{ap, ◌∙◌, map, not}
 use Rattle.epl_syntax.specs.Tree.{written}
 use Rattle.epl_syntax.specs.declared.rule.Rule.TheVariants.{UnknownName}
 use Rattle.epl_syntax.specs.Rules.First.{least, broken_if}

@@ -1,4 +1,3 @@
-use Rattle.std.proofs.Common.{map}
 use Rattle.epl_syntax.specs.Tree.{edentype, upgrade}
 use Rattle.epl_syntax.specs.Rules.InItems.{broken_upgrade}
 use Rattle.epl_check.specs.View.{types_seen}

@@ -1,4 +1,4 @@
-use Rattle.std.proofs.Common.{◌∙◌, sym, map}
+use Rattle.std.proofs.Common.{sym, map}
 use Rattle.epl_check.proofs.Doubled.{past_clashes}
 use Rattle.epl_check.proofs.names.check_clashes.Goals as goal
 

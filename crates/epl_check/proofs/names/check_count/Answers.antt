@@ -1,9 +1,8 @@
-use Rattle.std.proofs.Common.{◌≡◌, ℕ, zero, suc, ◌+◌, ◌<◌, List, [], ◌∷◌, ◌++◌, map, drop, length, get_or, refl, ap, sym, ◌∙◌, arith}
+use Rattle.std.proofs.Common.{◌≡◌, ℕ, zero, suc, ◌<◌, List, [], ◌∷◌, map, length, get_or, ap, sym, ◌∙◌, arith}
 use Rattle.epl_syntax.specs.declared.tree.Name.{Name}
-use Rattle.epl_syntax.specs.declared.rule.Broken.{Broken}
 use Rattle.epl_syntax.specs.declared.rule.Rule.TheVariants.{BadLimit}
 use Rattle.epl_syntax.specs.Rules.First.{least, broken_at}
-use Rattle.epl_syntax.specs.Rules.InItems.{at_first, too_many, places_of}
+use Rattle.epl_syntax.specs.Rules.InItems.{too_many, places_of}
 use Rattle.epl_check.proofs.names.check_count.Goals as goal
 
 past_limit : {A : Type 0} (g : A → Name) (xs : List A) (i : ℕ) (x : A) → i < length xs → x ≡ get_or xs i x → too_many i (places_of (map g xs)) ≡ broken_at BadLimit (g x).place ∷ []

@@ -1,4 +1,4 @@
-use Rattle.std.proofs.Common.{◌∙◌, sym, map}
+use Rattle.std.proofs.Common.{sym, map}
 use Rattle.epl_check.proofs.Doubled.{past_numbers}
 use Rattle.epl_check.proofs.names.check_same_numbers.Goals as goal
 
