@@ -1,0 +1,6 @@
+use Rattle.std.proofs.Common.{rules}
+use Rattle.eden_script.proofs.Rows.{written_givens}
+use Rattle.eden_script.proofs.command.call.Goals as goal
+
+pub returns : goal.returns
+returns c = rw (written_givens c.in_ok-args-2.args.items) (search rules)

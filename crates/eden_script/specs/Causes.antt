@@ -1,0 +1,209 @@
+-- Why a line is refused: the tests of a line, in order.
+use Rattle.std.specs.Prelude.{◌≡◌, ◌⊎◌, ◌↔◌, ℕ, ℤ, pos, negsuc, ◌≤◌, ◌<◌, ◌^◌, Bool, true, false, List, [], ◌∷◌, ◌++◌, length, codes, Option, Some, None}
+use Rattle.std.specs.List.{take_while, list_all, list_any}
+use Rattle.epl_syntax.specs.Tree.{Edentype}
+use Rattle.eden_script.specs.Parts.{Part, line, declaration, unclosed, lines_of, line_at, line_of_place}
+use Rattle.eden_script.specs.Declarations.{DECLARED_LIMIT, Types, native_alone, type_names, declared_name, Declares, RefusedAt}
+use Rattle.eden_script.specs.Form.{is_printable, is_no_blank, is_among}
+use Rattle.eden_script.specs.Tree.{How, keep, lose, garble, Written, plain, named, several, Row, no_more, and_more, Order, create, hold, call, restrict, walk, turn, go, crash, restart, cut, join, fail, stop, finish, Line, idle, nodes, does, declares, unended}
+use Rattle.eden_value.specs.Datum.{Datum, number, truth, text, cap, list}
+use Rattle.eden_script.specs.Grammar.{Idle, Spells}
+use Rattle.eden_script.specs.declared.cause.ScriptCause.{ScriptCause}
+use Rattle.eden_script.specs.declared.cause.ScriptCause.TheVariants.{BadByte, LongLine, AfterEnd, NoCommand, Misplaced, BadForm, BadNumber, UnknownName, UnknownType, DoubledName, BadEdentype, NoEnd}
+
+-- What the parts so far leave: the types; the number of nodes, 0 before `nodes`; the names that were
+-- introduced, in the order of their bytes; whether `end` stood.
+pub record Seen : Type 0 where
+  pub types : Types
+  pub nodes : ℕ
+  pub names : List (List ℕ)
+  pub ended : Bool
+
+abbrev pub at_first : Seen
+at_first = record { types = native_alone; nodes = 0; names = []; ended = false }
+
+-- ## Words
+
+abbrev pub first_word : List ℕ → List ℕ
+first_word bytes = take_while is_no_blank bytes
+
+abbrev pub command_words : List (List ℕ)
+command_words = codes "create" ∷ codes "hold" ∷ codes "call" ∷ codes "restrict" ∷ codes "walk" ∷ codes "turn" ∷ codes "go" ∷ codes "crash" ∷ codes "restart" ∷ codes "cut" ∷ codes "join" ∷ codes "fail" ∷ codes "stop" ∷ codes "end" ∷ []
+
+-- ## Numbers
+
+abbrev pub Within : ℕ → ℕ → ℕ → Type 0
+Within low high n = (low ≤ n) × (n ≤ high)
+
+abbrev pub ResultFits : Option ℕ → Type 0
+ResultFits None = Unit {0}
+ResultFits (Some k) = Within 1 8 k
+
+abbrev pub IntFits : ℤ → Type 0
+IntFits (pos n) = n < 2 ^ 63
+IntFits (negsuc n) = n < 2 ^ 63
+
+abbrev pub PlainFits : Datum → Type 0
+PlainFits (number n) = IntFits n
+PlainFits (truth b) = Unit {0}
+PlainFits (text t) = Unit {0}
+PlainFits (cap c) = Unit {0}
+PlainFits (list ds) = Unit {0}
+
+abbrev mutual
+  pub WrittenFits : Written → Type 0
+  WrittenFits (plain d) = PlainFits d
+  WrittenFits (named r) = ResultFits r.result
+  WrittenFits (several gs) = RowFits gs
+
+  pub RowFits : Row → Type 0
+  RowFits no_more = Unit {0}
+  RowFits (and_more g gs) = WrittenFits g × RowFits gs
+
+abbrev pub HowFits : How → Type 0
+HowFits keep = Unit {0}
+HowFits lose = Unit {0}
+HowFits (garble b) = Within 0 255 b
+
+-- the numbers of a command, where there are so many nodes
+abbrev pub Fits : ℕ → Order → Type 0
+Fits most (create name n t) = Within 1 most n
+Fits most (hold name n e s) = Within 1 most n × Within 1 4294967295 e × Within 1 4294967295 s
+Fits most (call name r op args) = ResultFits r.result × RowFits args
+Fits most (restrict name r mask) = ResultFits r.result × Within 0 65535 mask
+Fits most (walk name r path) = ResultFits r.result
+Fits most (turn i) = Within 0 1000000 i
+Fits most (go n) = Within 1 1000000 n
+Fits most (crash n how) = Within 1 most n × HowFits how
+Fits most (restart n) = Within 1 most n
+Fits most (cut a b) = Within 0 most a × Within 0 most b
+Fits most (join a b) = Within 0 most a × Within 0 most b
+Fits most (fail n k) = Within 1 most n × Within 1 1000000 k
+Fits most (stop n k how) = Within 1 most n × Within 1 1000000 k × HowFits how
+Fits most finish = Unit {0}
+
+abbrev pub LineFits : ℕ → Line → Type 0
+LineFits most idle = Unit {0}
+LineFits most (nodes n) = Within 1 8 n
+LineFits most (does o) = Fits most o
+LineFits most (declares t) = Unit {0}
+LineFits most unended = Unit {0}
+
+-- ## Names
+
+abbrev mutual
+  pub names_in : Written → List (List ℕ)
+  names_in (named r) = r.name ∷ []
+  names_in (several gs) = names_of gs
+  names_in (plain d) = []
+
+  pub names_of : Row → List (List ℕ)
+  names_of no_more = []
+  names_of (and_more g gs) = names_in g ++ names_of gs
+
+-- the names that a line refers to
+abbrev pub uses : Line → List (List ℕ)
+uses (does (call name r op args)) = r.name ∷ names_of args
+uses (does (restrict name r mask)) = r.name ∷ []
+uses (does (walk name r path)) = r.name ∷ []
+uses _ = []
+
+-- the name that a line introduces
+abbrev pub brings : Line → List (List ℕ)
+brings (does (create name n t)) = name ∷ []
+brings (does (hold name n e s)) = name ∷ []
+brings (does (call name r op args)) = name ∷ []
+brings (does (restrict name r mask)) = name ∷ []
+brings (does (walk name r path)) = name ∷ []
+brings _ = []
+
+abbrev pub types : Line → List (List ℕ)
+types (does (create name n t)) = t ∷ []
+types _ = []
+
+-- ## The tests
+
+-- ### Lines
+
+-- a line says this, with its numbers in their ranges
+abbrev pub LineTells : Seen → List ℕ → Line → Type 0
+LineTells seen bytes l = Spells l bytes × LineFits seen.nodes l
+
+-- Whether a line passes the test that a cause stands for.
+abbrev pub LinePasses : ScriptCause → Seen → List ℕ → Type 0
+LinePasses BadByte seen bytes = list_all is_printable bytes ≡ true
+LinePasses LongLine seen bytes = length bytes ≤ 4096
+LinePasses AfterEnd seen bytes = Idle bytes ⊎ (seen.ended ≡ false)
+LinePasses NoCommand seen bytes = Idle bytes ⊎ (is_among (codes "nodes" ∷ command_words) (first_word bytes) ≡ true)
+LinePasses Misplaced seen bytes = Idle bytes ⊎ ((first_word bytes ≡ codes "nodes") ↔ (seen.nodes ≡ 0))
+LinePasses BadForm seen bytes = (l : Line) × Spells l bytes
+LinePasses BadNumber seen bytes = (l : Line) × LineTells seen bytes l
+LinePasses UnknownName seen bytes = (l : Line) × LineTells seen bytes l × (list_all (is_among seen.names) (uses l) ≡ true)
+LinePasses UnknownType seen bytes = (l : Line) × LineTells seen bytes l × (list_all (is_among (type_names seen.types)) (types l) ≡ true)
+LinePasses DoubledName seen bytes = (l : Line) × LineTells seen bytes l × (list_any (is_among seen.names) (brings l) ≡ false)
+LinePasses BadEdentype seen bytes = Unit {0}
+LinePasses NoEnd seen bytes = Unit {0}
+
+-- ### Edentypes
+
+-- how many types the script has declared
+abbrev pub declared_count : Seen → ℕ
+declared_count seen = length seen.types.declared
+
+-- Whether the line i of the text of an Edentype, counted from 0, passes the test that a cause stands for: the text of a type
+-- too many is refused at its first line, another bad text at the line of the place where it is refused.
+abbrev pub TypePasses : ScriptCause → Seen → List ℕ → ℕ → Type 0
+TypePasses BadByte seen body i = list_all is_printable (line_at (lines_of body) i) ≡ true
+TypePasses LongLine seen body i = length (line_at (lines_of body) i) ≤ 4096
+TypePasses AfterEnd seen body i = i ≡ 0 → seen.ended ≡ false
+TypePasses Misplaced seen body i = i ≡ 0 → seen.nodes ≡ 0
+TypePasses DoubledName seen body i =
+    (place : ℕ) (name : List ℕ) → declared_name body ≡ Some (place, name) → line_of_place body place ≡ i → is_among (type_names seen.types) name ≡ false
+TypePasses BadEdentype seen body i = (i ≡ 0 → declared_count seen < DECLARED_LIMIT) × ((place : ℕ) → RefusedAt seen.types body place → line_of_place body place ≡ i → ⊥)
+TypePasses _ seen body i = Unit {0}
+
+-- ### Parts
+
+-- Whether the line i of a part, counted from 0, passes the test that a cause stands for. Of an Edentype without `endtype`
+-- only the bytes and lengths of its lines are tested.
+abbrev pub UnclosedPasses : ScriptCause → List (List ℕ) → ℕ → Type 0
+UnclosedPasses BadByte lines i = list_all is_printable (line_at lines i) ≡ true
+UnclosedPasses LongLine lines i = length (line_at lines i) ≤ 4096
+UnclosedPasses _ lines i = Unit {0}
+
+abbrev pub Passes : ScriptCause → Seen → Part → ℕ → Type 0
+Passes c seen (line bytes) i = LinePasses c seen bytes
+Passes c seen (declaration body) i = TypePasses c seen body i
+Passes c seen (unclosed lines) i = UnclosedPasses c lines i
+
+-- the order of the tests on a line
+abbrev pub rank : ScriptCause → ℕ
+rank BadByte = 0
+rank LongLine = 1
+rank AfterEnd = 2
+rank NoCommand = 3
+rank Misplaced = 4
+rank BadForm = 5
+rank BadNumber = 6
+rank UnknownName = 7
+rank UnknownType = 8
+rank DoubledName = 9
+rank BadEdentype = 10
+rank NoEnd = 11
+
+-- The first test that a part does not pass: of its lines the first that fails one, and of that line's tests the first.
+pub record IsCause (seen : Seen) (part : Part) (i : ℕ) (cause : ScriptCause) : Type 0 where
+  pub earlier : (j : ℕ) (c : ScriptCause) → j < i → Passes c seen part j
+  pub before : (c : ScriptCause) → rank c < rank cause → Passes c seen part i
+  pub fails : Passes cause seen part i → ⊥
+
+-- what a part says
+abbrev pub Tells : Seen → Part → Line → Type 0
+Tells seen (line bytes) l = LineTells seen bytes l
+Tells seen (declaration body) l = (t : Edentype) × (l ≡ declares t) × Declares seen.types body t
+Tells seen (unclosed lines) l = l ≡ unended
+
+-- a part that passes all tests, and what it says
+pub record IsSaid (seen : Seen) (part : Part) (l : Line) : Type 0 where
+  pub passes : (i : ℕ) (c : ScriptCause) → Passes c seen part i
+  pub tells : Tells seen part l

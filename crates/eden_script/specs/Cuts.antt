@@ -1,0 +1,16 @@
+-- How the bytes of a script are cut.
+use Rattle.std.specs.Prelude.{◌≡◌, ◌⊎◌, ◌≤◌, ◌+◌, ℕ, true, List, [], ◌∷◌, ◌++◌, length, Option, Some, None}
+use Rattle.std.specs.Borrow.{Bor}
+use Rattle.std.specs.List.{list_all}
+use Rattle.eden_script.specs.Form.{is_no_feed}
+use Rattle.eden_script.specs.Parts.{lines_of, parts_of, declaration, unclosed}
+
+-- a first line with what is behind its line feed, or the last line
+pub record IsFirstLine (bytes line rest : List ℕ) : Type 0 where
+  pub clean : list_all is_no_feed line ≡ true
+  pub split : (bytes ≡ line ++ 10 ∷ rest) ⊎ ((bytes ≡ line) × (rest ≡ []))
+
+-- the first part of the bytes is an Edentype with its end, or they are the lines of one without
+abbrev pub IsDeclaration : List ℕ → Option (Bor (List ℕ) × Bor (List ℕ)) → Type 0
+IsDeclaration bytes (Some found) = (parts_of (lines_of bytes) ≡ declaration found.0.now ∷ parts_of (lines_of found.1.now)) × (8 ≤ length found.0.now) × (length found.0.now + length found.1.now ≤ length bytes)
+IsDeclaration bytes None = parts_of (lines_of bytes) ≡ unclosed (lines_of bytes) ∷ []

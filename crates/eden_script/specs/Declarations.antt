@@ -1,0 +1,75 @@
+-- What the text of an Edentype declares.
+use Rattle.std.specs.Prelude.{◌≡◌, ◌⊎◌, ℕ, Bool, ◌+◌, ◌==◌, ◌||◌, ◌&&◌, nat_lt, List, [], ◌∷◌, ◌++◌, length, map, drop, Option, Some, None, if◌then◌else◌}
+use Rattle.std.specs.List.{take_while}
+use Rattle.epl_syntax.specs.Meaning.{name_of, native_types}
+use Rattle.epl_syntax.specs.Rules.First.{broken_at, IsFirst}
+use Rattle.epl_syntax.specs.Rules.InItems.{broken_program}
+use Rattle.epl_syntax.specs.Rules.OfTypes.{TypeList}
+use Rattle.epl_syntax.specs.Tree.{Edentype, edentype}
+use Rattle.epl_syntax.specs.declared.rule.Rule.{Rule}
+use Rattle.epl_syntax.specs.declared.types.Edentype.{Edentype as Native}
+use Rattle.epl_parser.specs.Program.{SpellsType, RefusesType}
+use Rattle.eden_script.specs.Form.{is_name_byte, is_upper}
+use Rattle.eden_script.specs.declared.declared.Refused.{Refused}
+use Rattle.eden_script.specs.declared.declared.Refused.TheVariants.{At, Memory}
+
+-- the greatest number of types that a script may declare
+abbrev pub DECLARED_LIMIT : ℕ
+DECLARED_LIMIT = 64
+
+-- the types of a script: the native ones, and those that it declares, in order
+pub record Types : Type 0 where
+  pub native : List Native
+  pub declared : List Edentype
+
+abbrev pub native_alone : Types
+native_alone = record { native = native_types; declared = [] }
+
+-- one more at the end
+abbrev pub with_declared : Types → Edentype → Types
+with_declared types t = record { native = types.native; declared = types.declared ++ t ∷ [] }
+
+-- the types that the code keeps, without where they lie in memory
+abbrev pub types_in : TypeList → Types
+types_in types = record { native = types.native; declared = map edentype types.declared }
+
+-- the names of all of them
+abbrev pub type_names : Types → List (List ℕ)
+type_names types = map name_of types.native ++ map (λ t. t.name.text) types.declared
+
+-- blanks and line feeds part the tokens of a text
+abbrev pub is_space : ℕ → Bool
+is_space b = b == 32 || b == 10
+
+-- how far the name of a text's type is from its beginning: behind `edentype` and what parts it from the name
+abbrev pub name_place : List ℕ → ℕ
+name_place text = 8 + length (take_while is_space (drop 8 text))
+
+abbrev pub name_at : List ℕ → ℕ → List ℕ
+name_at text place = take_while is_name_byte (drop place text)
+
+-- the place and the bytes of the name of a text's type, where the text begins with `edentype` and a name
+abbrev pub declared_name : List ℕ → Option (ℕ × List ℕ)
+declared_name text =
+    if nat_lt 8 (name_place text) && is_upper (name_at text (name_place text)) then Some (name_place text, name_at text (name_place text)) else None
+
+-- The text spells this type, which keeps the rules behind these types.
+pub record Declares (types : Types) (text : List ℕ) (t : Edentype) : Type 0 where
+  pub spelled : SpellsType text t
+  pub keeps_rules : broken_program (type_names types) t ≡ []
+
+-- The text spells a type that breaks a rule behind these types, and the first broken rule is broken here.
+pub record BreaksRule (types : Types) (text : List ℕ) (place : ℕ) : Type 0 where
+  pub value : Edentype
+  pub spelled : SpellsType text value
+  pub rule : Rule
+  pub first : IsFirst (broken_program (type_names types) value) (broken_at rule place)
+
+-- The text is refused here: by the grammar, or, where it spells a type, by the rules.
+abbrev pub RefusedAt : Types → List ℕ → ℕ → Type 0
+RefusedAt types text place = RefusesType text place ⊎ BreaksRule types text place
+
+-- why a text declares no type; want of memory says nothing of the text
+abbrev pub IsRefused : Types → List ℕ → Refused → Type 0
+IsRefused types text (At place) = RefusedAt types text place
+IsRefused types text Memory = Unit {0}

@@ -1,0 +1,14 @@
+pub mod Form
+pub mod Names
+pub mod Parts
+pub mod Cuts
+pub mod Declarations
+pub mod Tree
+pub mod Grammar
+pub mod Causes
+pub mod Flaws
+pub mod Meaning
+pub mod Alone
+pub mod Script
+pub mod Reading
+pub mod View

@@ -1,0 +1,388 @@
+-- Reading a line from left to right.
+use Rattle.std.specs.Prelude.{ℕ, zero, suc, pos, Bool, true, false, ◌||◌, ◌&&◌, ◌==◌, not, nat_le, nat_lt, List, [], ◌∷◌, ◌++◌, length, take, drop, codes, Option, Some, None, Result, Ok, Err, if◌then◌else◌, slice_index}
+use Rattle.std.specs.List.{take_while, list_all, list_any}
+use Rattle.std.specs.Str.{bytes_eq}
+use Rattle.eden_script.specs.Form.{is_printable, is_digit, is_name_byte, is_lower, is_upper, is_number, number_of, is_constant, is_among}
+use Rattle.eden_script.specs.Tree.{Reference, How, keep, lose, garble, Written, plain, named, several, row_of, Order, create, hold, call, restrict, walk, turn, go, crash, restart, cut, join, fail, stop, finish, Line, idle, nodes, does}
+use Rattle.eden_value.specs.Datum.{number, truth, text, cap}
+use Rattle.eden_script.specs.Grammar.{minus}
+use Rattle.eden_script.specs.Causes.{Seen, uses, types, brings, command_words, first_word}
+use Rattle.eden_script.specs.Declarations.{type_names}
+use Rattle.eden_script.specs.declared.cause.ScriptCause.{ScriptCause}
+use Rattle.eden_script.specs.declared.cause.ScriptCause.TheVariants.{BadByte, LongLine, AfterEnd, NoCommand, Misplaced, BadForm, BadNumber, UnknownName, UnknownType, DoubledName}
+
+-- a value, or the cause
+abbrev pub Judged : Type 0 → Type 0
+Judged A = Result A ScriptCause
+
+-- a value and the bytes behind it
+abbrev pub Reading : Type 0 → Type 0
+Reading A = Result (A × List ℕ) ScriptCause
+
+infixl 10 ◌>>=◌
+abbrev pub ◌>>=◌ : {A B : Type 0} → Judged A → (A → Judged B) → Judged B
+(Ok x) >>= f = f x
+(Err e) >>= f = Err e
+
+-- ## Words, names and numbers
+
+-- what stands behind a word
+abbrev pub behind : List ℕ → List ℕ → Option (List ℕ)
+behind word bytes = if bytes_eq (take (length word) bytes) word then Some (drop (length word) bytes) else None
+
+abbrev pub form_of : {A : Type 0} → Option A → Judged A
+form_of None = Err BadForm
+form_of (Some x) = Ok x
+
+abbrev pub read_word : List ℕ → List ℕ → Judged (List ℕ)
+read_word word bytes = form_of (behind word bytes)
+
+abbrev pub read_end : List ℕ → Judged (Unit {0})
+read_end [] = Ok tt
+read_end (b ∷ bytes) = Err BadForm
+
+-- as many bytes as pass, where they are a whole word
+abbrev pub read_while : (ℕ → Bool) → (List ℕ → Bool) → List ℕ → Reading (List ℕ)
+read_while p whole bytes =
+    if whole (take_while p bytes) then Ok (take_while p bytes, drop (length (take_while p bytes)) bytes) else Err BadForm
+
+abbrev pub read_lower : List ℕ → Reading (List ℕ)
+read_lower bytes = read_while is_name_byte is_lower bytes
+
+abbrev pub read_upper : List ℕ → Reading (List ℕ)
+read_upper bytes = read_while is_name_byte is_upper bytes
+
+abbrev pub read_digits : List ℕ → Reading (List ℕ)
+read_digits bytes = read_while is_digit is_number bytes
+
+-- a number within its bounds
+abbrev pub up_to : ℕ → List ℕ → Option ℕ
+up_to most digits = if nat_le (number_of digits) most then Some (number_of digits) else None
+
+abbrev pub at_least : ℕ → Option ℕ → Judged ℕ
+at_least low None = Err BadNumber
+at_least low (Some n) = if nat_le low n then Ok n else Err BadNumber
+
+abbrev pub within : ℕ → ℕ → List ℕ → Judged ℕ
+within low high digits = at_least low (up_to high digits)
+
+-- ## Texts
+
+-- what is found behind a front
+abbrev pub with_front : List ℕ → Option (List ℕ × List ℕ) → Option (List ℕ × List ℕ)
+with_front front None = None
+with_front front (Some found) = Some (front ++ found.0, found.1)
+
+abbrev pub text_and : ℕ → Option (List ℕ × List ℕ) → Option (List ℕ × List ℕ)
+text_and b None = None
+text_and b (Some found) = Some (b ∷ found.0, found.1)
+
+-- behind the first quote: what stands there, and the bytes behind the last
+abbrev pub text_body : Bool → List ℕ → Option (List ℕ × List ℕ)
+text_body escaped [] = None
+text_body true (b ∷ bytes) = if b == 34 || b == 92 then text_and b (text_body false bytes) else None
+text_body false (b ∷ bytes) =
+    if b == 34 then Some ([], bytes)
+    else (if b == 92 then text_body true bytes
+    else (if is_printable b then text_and b (text_body false bytes) else None))
+
+abbrev pub short_text : List ℕ × List ℕ → Reading (List ℕ)
+short_text found = if nat_le (length found.0) 1024 then Ok found else Err BadForm
+
+abbrev pub read_text : List ℕ → Reading (List ℕ)
+read_text bytes = form_of (text_body false bytes) >>= short_text
+
+abbrev pub read_quoted : List ℕ → Reading (List ℕ)
+read_quoted bytes = read_word (codes "\"") bytes >>= read_text
+
+-- ## References
+
+-- a digit behind a point
+abbrev pub has_result : List ℕ → Bool
+has_result bytes = (slice_index bytes 0 == 46) && is_digit (slice_index bytes 1)
+
+-- NAME, and the digits of K, or none
+abbrev pub read_result : List ℕ → List ℕ → Reading (List ℕ × Option (List ℕ))
+read_result name rest =
+    if has_result rest then (read_digits (drop 1 rest) >>= λ k. Ok ((name, Some k.0), k.1)) else Ok ((name, None), rest)
+
+abbrev pub read_ref : List ℕ → Reading (List ℕ × Option (List ℕ))
+read_ref bytes = read_lower bytes >>= λ name. read_result name.0 name.1
+
+abbrev pub result_within : List ℕ → Judged ℕ → Judged Reference
+result_within name (Err e) = Err e
+result_within name (Ok k) = Ok (record { name = name; result = Some k })
+
+-- a reference whose number is from 1 to 8
+abbrev pub reference : List ℕ × Option (List ℕ) → Judged Reference
+reference (name, None) = Ok (record { name = name; result = None })
+reference (name, Some digits) = result_within name (within 1 8 digits)
+
+-- ## Values
+
+-- A value is read whole, and is none where a number in it is out of its range.
+abbrev pub Maybe : Type 0
+Maybe = Option Written
+
+abbrev pub positive : Option ℕ → Maybe
+positive None = None
+positive (Some n) = Some (plain (number (pos n)))
+
+abbrev pub negative : Option ℕ → Maybe
+negative None = None
+negative (Some n) = Some (plain (number (minus n)))
+
+abbrev pub read_positive : List ℕ → Reading Maybe
+read_positive bytes = read_digits bytes >>= λ d. Ok (positive (up_to 9223372036854775807 d.0), d.1)
+
+abbrev pub read_negative : List ℕ → Reading Maybe
+read_negative bytes = read_digits bytes >>= λ d. Ok (negative (up_to 9223372036854775808 d.0), d.1)
+
+-- the value of a word of values
+abbrev pub constant : List ℕ → Maybe
+constant word = if bytes_eq word (codes "true") then Some (plain (truth true)) else (if bytes_eq word (codes "false") then Some (plain (truth false)) else (if bytes_eq word (codes "none") then Some (plain (cap None)) else None))
+
+abbrev pub result_value' : List ℕ → Option ℕ → Maybe
+result_value' name None = None
+result_value' name (Some k) = if k == 0 then None else Some (named (record { name = name; result = Some k }))
+
+abbrev pub result_value : List ℕ → List ℕ → Maybe
+result_value name digits = result_value' name (up_to 8 digits)
+
+-- a name alone that is a word of values stands for that value
+abbrev pub name_value' : List ℕ → Maybe → Maybe
+name_value' name (Some g) = Some g
+name_value' name None = Some (named (record { name = name; result = None }))
+
+abbrev pub name_value : List ℕ → Maybe
+name_value name = name_value' name (constant name)
+
+abbrev pub named_value : List ℕ × Option (List ℕ) → Maybe
+named_value (name, None) = name_value name
+named_value (name, Some digits) = result_value name digits
+
+-- whether a name alone is a word of values
+abbrev pub is_value_word : List ℕ × Option (List ℕ) → Bool
+is_value_word (name, None) = is_constant name
+is_value_word (name, Some digits) = false
+
+-- where names are not read, only words of values are
+abbrev pub allowed : Bool → List ℕ × Option (List ℕ) → Judged (Unit {0})
+allowed names words = if names || is_value_word words then Ok tt else Err BadForm
+
+abbrev pub read_named : Bool → List ℕ → Reading Maybe
+read_named names bytes = read_ref bytes >>= λ r. allowed names r.0 >>= λ _. Ok (named_value r.0, r.1)
+
+abbrev pub read_text_value : List ℕ → Reading Maybe
+read_text_value bytes = read_text bytes >>= λ t. Ok (Some (plain (text t.0)), t.1)
+
+abbrev pub read_flat : Bool → List ℕ → Reading Maybe
+read_flat names [] = Err BadForm
+read_flat names (b ∷ bytes) =
+    if b == 34 then read_text_value bytes
+    else (if b == 45 then read_negative bytes
+    else (if is_digit b then read_positive (b ∷ bytes)
+    else read_named names (b ∷ bytes)))
+
+abbrev pub added : Option (List Written) → Maybe → Option (List Written)
+added None g = None
+added (Some gs) None = None
+added (Some gs) (Some g) = Some (gs ++ g ∷ [])
+
+abbrev pub read_close : List ℕ → Option (List Written) → List ℕ → Reading (Option (List Written))
+read_close close so_far bytes = read_word close bytes >>= λ rest. Ok (so_far, rest)
+
+abbrev pub more_by : Option (List ℕ) → Reading (Option (List Written)) → (List ℕ → Reading (Option (List Written))) → Reading (Option (List Written))
+more_by None else_ then_ = else_
+more_by (Some rest) else_ then_ = then_ rest
+
+-- the values behind the first, at most so many
+abbrev pub more_values : (List ℕ → Reading Maybe) → List ℕ → ℕ → Option (List Written) → List ℕ → Reading (Option (List Written))
+more_values value close zero so_far bytes = read_close close so_far bytes
+more_values value close (suc n) so_far bytes =
+    more_by (behind (codes ", ") bytes) (read_close close so_far bytes) (λ rest. value rest >>= λ x. more_values value close n (added so_far x.0) x.1)
+
+abbrev pub closed_by : Option (List ℕ) → Reading (Option (List Written)) → Reading (Option (List Written))
+closed_by None else_ = else_
+closed_by (Some rest) else_ = Ok (Some [], rest)
+
+-- values up to and with what closes them, at most so many and one
+abbrev pub read_values : (List ℕ → Reading Maybe) → List ℕ → ℕ → List ℕ → Reading (Option (List Written))
+read_values value close most bytes =
+    closed_by (behind close bytes) (value bytes >>= λ x. more_values value close most (added (Some []) x.0) x.1)
+
+abbrev pub listed : Option (List Written) → Maybe
+listed None = None
+listed (Some gs) = Some (several (row_of gs))
+
+abbrev pub list_by : Option (List ℕ) → Reading Maybe → (List ℕ → Reading Maybe) → Reading Maybe
+list_by None else_ then_ = else_
+list_by (Some rest) else_ then_ = then_ rest
+
+-- a value in which lists stand at most so deep, with names in it or without
+abbrev pub read_value : Bool → ℕ → List ℕ → Reading Maybe
+read_value names zero bytes = read_flat names bytes
+read_value names (suc n) bytes =
+    list_by (behind (codes "[") bytes) (read_flat names bytes) (λ rest. read_values (read_value names n) (codes "]") 255 rest >>= λ x. Ok (listed x.0, x.1))
+
+-- ## Commands, behind their words
+
+abbrev pub read_lower_and_blank : List ℕ → Reading (List ℕ)
+read_lower_and_blank bytes = read_lower bytes >>= λ n. read_word (codes " ") n.1 >>= λ rest. Ok (n.0, rest)
+
+abbrev pub read_digits_and : List ℕ → List ℕ → Reading (List ℕ)
+read_digits_and mark bytes = read_digits bytes >>= λ d. read_word mark d.1 >>= λ rest. Ok (d.0, rest)
+
+abbrev pub read_last_digits : List ℕ → Judged (List ℕ)
+read_last_digits bytes = read_digits bytes >>= λ d. read_end d.1 >>= λ _. Ok d.0
+
+abbrev pub read_two_digits : List ℕ → Judged (List ℕ × List ℕ)
+read_two_digits bytes = read_digits_and (codes " ") bytes >>= λ a. read_last_digits a.1 >>= λ b. Ok (a.0, b)
+
+abbrev pub in_range : {A : Type 0} → Option A → Judged A
+in_range None = Err BadNumber
+in_range (Some x) = Ok x
+
+-- a value alone, with no name in it
+abbrev pub read_alone : List ℕ → Judged Written
+read_alone bytes = read_value false 4 bytes >>= λ v. read_end v.1 >>= λ _. in_range v.0
+
+abbrev pub garbled : Option ℕ → Option How
+garbled None = None
+garbled (Some b) = Some (garble b)
+
+-- a mode is none where its byte is out of its range
+abbrev pub read_mode : List ℕ → Judged (Option How)
+read_mode bytes =
+    if bytes_eq bytes (codes " keep") then Ok (Some keep)
+    else (if bytes_eq bytes (codes " lose") then Ok (Some lose)
+    else (read_word (codes " garble ") bytes >>= λ rest. read_last_digits rest >>= λ d. Ok (garbled (up_to 255 d))))
+
+abbrev pub read_crash_mode : List ℕ → Judged (Option How)
+read_crash_mode [] = Ok (Some lose)
+read_crash_mode (b ∷ bytes) = read_mode (b ∷ bytes)
+
+abbrev pub read_create : ℕ → List ℕ → Judged Order
+read_create most bytes =
+    read_lower_and_blank bytes >>= λ n. read_digits_and (codes " ") n.1 >>= λ d. read_upper d.1 >>= λ t. read_end t.1 >>= λ _.
+    within 1 most d.0 >>= λ node. Ok (create n.0 node t.0)
+
+abbrev pub read_hold : ℕ → List ℕ → Judged Order
+read_hold most bytes =
+    read_lower_and_blank bytes >>= λ n. read_digits_and (codes ".") n.1 >>= λ d. read_digits_and (codes ".") d.1 >>= λ e. read_last_digits e.1 >>= λ s.
+    within 1 most d.0 >>= λ node. within 1 4294967295 e.0 >>= λ epoch. within 1 4294967295 s >>= λ serial. Ok (hold n.0 node epoch serial)
+
+abbrev pub read_call : List ℕ → Judged Order
+read_call bytes =
+    read_lower_and_blank bytes >>= λ n. read_ref n.1 >>= λ r. read_word (codes ".") r.1 >>= λ rest. read_upper rest >>= λ op. read_word (codes "(") op.1 >>= λ rest.
+    read_values (read_value true 4) (codes ")") 4096 rest >>= λ vs. read_end vs.1 >>= λ _.
+    reference r.0 >>= λ target. in_range vs.0 >>= λ args. Ok (call n.0 target op.0 (row_of args))
+
+abbrev pub read_restrict : List ℕ → Judged Order
+read_restrict bytes =
+    read_lower_and_blank bytes >>= λ n. read_ref n.1 >>= λ r. read_word (codes " ") r.1 >>= λ rest. read_last_digits rest >>= λ d.
+    reference r.0 >>= λ target. within 0 65535 d >>= λ mask. Ok (restrict n.0 target mask)
+
+abbrev pub read_walk : List ℕ → Judged Order
+read_walk bytes =
+    read_lower_and_blank bytes >>= λ n. read_ref n.1 >>= λ r. read_word (codes " ") r.1 >>= λ rest. read_quoted rest >>= λ path. read_end path.1 >>= λ _.
+    reference r.0 >>= λ target. Ok (walk n.0 target path.0)
+
+abbrev pub read_turn : List ℕ → Judged Order
+read_turn bytes = read_last_digits bytes >>= λ d. within 0 1000000 d >>= λ i. Ok (turn i)
+
+abbrev pub read_go : List ℕ → Judged Order
+read_go bytes = read_last_digits bytes >>= λ d. within 1 1000000 d >>= λ n. Ok (go n)
+
+abbrev pub read_crash : ℕ → List ℕ → Judged Order
+read_crash most bytes =
+    read_digits bytes >>= λ d. read_crash_mode d.1 >>= λ how. within 1 most d.0 >>= λ node. in_range how >>= λ how. Ok (crash node how)
+
+abbrev pub read_restart : ℕ → List ℕ → Judged Order
+read_restart most bytes = read_last_digits bytes >>= λ d. within 1 most d >>= λ node. Ok (restart node)
+
+abbrev pub two_stations : List ℕ × List ℕ → Judged (List ℕ × List ℕ)
+two_stations words = if number_of words.0 == number_of words.1 then Err BadForm else Ok words
+
+abbrev pub read_stations : ℕ → List ℕ → Judged (ℕ × ℕ)
+read_stations most bytes =
+    read_two_digits bytes >>= λ words. two_stations words >>= λ words. within 0 most words.0 >>= λ a. within 0 most words.1 >>= λ b. Ok (a, b)
+
+abbrev pub read_cut : ℕ → List ℕ → Judged Order
+read_cut most bytes = read_stations most bytes >>= λ s. Ok (cut s.0 s.1)
+
+abbrev pub read_join : ℕ → List ℕ → Judged Order
+read_join most bytes = read_stations most bytes >>= λ s. Ok (join s.0 s.1)
+
+abbrev pub read_fail : ℕ → List ℕ → Judged Order
+read_fail most bytes =
+    read_two_digits bytes >>= λ words. within 1 most words.0 >>= λ node. within 1 1000000 words.1 >>= λ k. Ok (fail node k)
+
+abbrev pub read_stop : ℕ → List ℕ → Judged Order
+read_stop most bytes =
+    read_digits_and (codes " ") bytes >>= λ d. read_digits d.1 >>= λ k. read_mode k.1 >>= λ how.
+    within 1 most d.0 >>= λ node. within 1 1000000 k.0 >>= λ after. in_range how >>= λ how. Ok (stop node after how)
+
+abbrev pub when : Option (List ℕ) → (List ℕ → Judged Order) → Judged Order → Judged Order
+when None read else_ = else_
+when (Some rest) read else_ = read rest
+
+abbrev pub read_link_or_fault : ℕ → List ℕ → Judged Order
+read_link_or_fault most bytes =
+    when (behind (codes "cut ") bytes) (read_cut most) (
+    when (behind (codes "join ") bytes) (read_join most) (
+    when (behind (codes "fail ") bytes) (read_fail most) (
+    when (behind (codes "stop ") bytes) (read_stop most) (
+    if bytes_eq bytes (codes "end") then Ok finish else Err BadForm))))
+
+abbrev pub read_run : ℕ → List ℕ → Judged Order
+read_run most bytes =
+    when (behind (codes "turn ") bytes) read_turn (
+    when (behind (codes "go ") bytes) read_go (
+    when (behind (codes "crash ") bytes) (read_crash most) (
+    when (behind (codes "restart ") bytes) (read_restart most) (
+    read_link_or_fault most bytes))))
+
+abbrev pub read_order : ℕ → List ℕ → Judged Order
+read_order most bytes =
+    when (behind (codes "create ") bytes) (read_create most) (
+    when (behind (codes "hold ") bytes) (read_hold most) (
+    when (behind (codes "call ") bytes) read_call (
+    when (behind (codes "restrict ") bytes) read_restrict (
+    when (behind (codes "walk ") bytes) read_walk (
+    read_run most bytes)))))
+
+abbrev pub read_nodes : List ℕ → Judged Line
+read_nodes bytes = read_word (codes "nodes ") bytes >>= λ rest. read_last_digits rest >>= λ d. within 1 8 d >>= λ n. Ok (nodes n)
+
+-- ## Lines
+
+abbrev pub is_idle : List ℕ → Bool
+is_idle [] = true
+is_idle (b ∷ bytes) = b == 35
+
+-- the names of a command that is read
+abbrev pub named_in : Seen → Line → Judged Line
+named_in seen l =
+    if not (list_all (is_among seen.names) (uses l)) then Err UnknownName
+    else (if not (list_all (is_among (type_names seen.types)) (types l)) then Err UnknownType
+    else (if list_any (is_among seen.names) (brings l) then Err DoubledName
+    else Ok l))
+
+abbrev pub judge_order : Seen → List ℕ → Judged Line
+judge_order seen bytes = read_order seen.nodes bytes >>= λ o. named_in seen (does o)
+
+abbrev pub judge_word : Seen → List ℕ → List ℕ → Judged Line
+judge_word seen word bytes =
+    if bytes_eq word (codes "nodes") then (if seen.nodes == 0 then read_nodes bytes else Err Misplaced)
+    else (if is_among command_words word then (if seen.nodes == 0 then Err Misplaced else judge_order seen bytes)
+    else Err NoCommand)
+
+-- what a line says, or its first cause
+abbrev pub judge : Seen → List ℕ → Judged Line
+judge seen bytes =
+    if not (list_all is_printable bytes) then Err BadByte
+    else (if nat_lt 4096 (length bytes) then Err LongLine
+    else (if is_idle bytes then Ok idle
+    else (if seen.ended then Err AfterEnd
+    else judge_word seen (first_word bytes) bytes)))

@@ -1,0 +1,110 @@
+//! Where the lines of a part fail a test.
+
+ghost use Rattle.std.specs.Prelude.{◌≡◌, ◌<◌, ◌≤◌, ◌^◌, length, Some, None};
+ghost use Rattle.std.specs.List.{list_all};
+ghost use Rattle.std.specs.Option.{option_map};
+ghost use Rattle.eden_script.specs.Causes.{rank};
+ghost use Rattle.eden_script.specs.Flaws as flaws;
+ghost use Rattle.eden_script.specs.Form as form;
+ghost use Rattle.eden_script.specs.Parts.{lines_of, line_of_place};
+ghost use Rattle.eden_script.specs.View.{place_of};
+
+use crate::cause::ScriptCause;
+use crate::cut::first_line;
+use crate::reader::is_printable;
+use std::alloc::AllocError;
+
+/// A line of a part, counted from 0, and a test that it fails.
+#[derive(Clone, Copy, Debug, PartialEq, Eq)]
+pub struct Place {
+    pub line: u32,
+    pub cause: ScriptCause,
+}
+
+/// Why the reading of a part stops.
+#[derive(Debug, Drop)]
+pub enum Flaw {
+    At { at: Place },
+    Memory,
+}
+
+impl From<AllocError> for Flaw {
+    ghost use Rattle.std.specs.Prelude.{◌≡◌};
+    ghost use Rattle.eden_script.specs.declared.flaw.Flaw.TheVariants.{Memory};
+
+    ghost from_gives = { λ _ e. e ≡ Memory };
+
+    fn from(_: AllocError) -> Flaw {
+        Flaw::Memory
+    }
+}
+
+pub fn all_printable(bytes: &[u8]) -> bool
+    ensures { result ≡ list_all form.is_printable bytes.now }
+{
+    bytes.iter().all(|b| is_printable(*b))
+}
+
+/// The first line that has a bad byte or is too long.
+pub fn line_flaw(bytes: &[u8]) -> Option<Place>
+    requires { length bytes.now < 2 ^ 32 }
+    ensures { option_map place_of result ≡ flaws.line_flaw 0 (lines_of bytes.now) }
+{
+    let mut rest = bytes;
+    let mut line = 0;
+    while !rest.is_empty() {
+        let (text, behind) = first_line(rest);
+        if !all_printable(text) {
+            return Some(Place {
+                line,
+                cause: ScriptCause::BadByte,
+            });
+        }
+        if text.len() > 4096 {
+            return Some(Place {
+                line,
+                cause: ScriptCause::LongLine,
+            });
+        }
+        rest = behind;
+        line += 1;
+    }
+    None
+}
+
+/// The place of a cause in the order of the tests.
+fn rank_of(cause: ScriptCause) -> u8
+    ensures { result ≡ rank cause }
+{
+    match cause {
+        ScriptCause::BadByte => 0,
+        ScriptCause::LongLine => 1,
+        ScriptCause::AfterEnd => 2,
+        ScriptCause::NoCommand => 3,
+        ScriptCause::Misplaced => 4,
+        ScriptCause::BadForm => 5,
+        ScriptCause::BadNumber => 6,
+        ScriptCause::UnknownName => 7,
+        ScriptCause::UnknownType => 8,
+        ScriptCause::DoubledName => 9,
+        ScriptCause::BadEdentype => 10,
+        ScriptCause::NoEnd => 11,
+    }
+}
+
+pub fn is_earlier(a: Place, b: Place) -> bool
+    ensures { result ≡ flaws.is_earlier (place_of a) (place_of b) }
+{
+    a.line < b.line || (a.line == b.line && rank_of(a.cause) <= rank_of(b.cause))
+}
+
+/// The earlier one of two, if any.
+pub fn earlier(a: Option<Place>, b: Option<Place>) -> Option<Place>
+    ensures { option_map place_of result ≡ flaws.earlier (option_map place_of a) (option_map place_of b) }
+{
+    match (a, b) {
+        (None, b) => b,
+        (Some(a), None) => Some(a),
+        (Some(a), Some(b)) => Some(if is_earlier(a, b) { a } else { b }),
+    }
+}
