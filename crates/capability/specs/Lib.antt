@@ -1,4 +1,3 @@
 pub mod Uids
 pub mod Rights
 pub mod Capability
-pub mod Laws

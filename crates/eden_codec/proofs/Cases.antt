@@ -5,7 +5,7 @@ use Rattle.eden_value.specs.Datum.{Datum, list, data_of}
 use Rattle.eden_value.specs.Code.{items_of-data_of}
 use Rattle.eden_value.specs.View.{datum, datums}
 use Rattle.eden_value.specs.Range.{InRange, AllInRange}
-use Rattle.eden_value.specs.Laws.{range_in_list}
+use Rattle.eden_value.proofs.Laws.{range_in_list}
 use Rattle.eden_value.specs.declared.value.Value.{Value}
 use Rattle.eden_value.specs.declared.value.Value.TheVariants.{List as Listed}
 use Rattle.eden_codec.specs.Spelling.{value_spelling, data_spelling, values_spelling}

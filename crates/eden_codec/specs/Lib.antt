@@ -2,8 +2,4 @@ pub mod Form
 pub mod Spells
 pub mod Spelling
 pub mod Reading
-pub mod OneSpelling
-pub mod Fields
-pub mod Values
-pub mod Whole
 pub mod Alphabet

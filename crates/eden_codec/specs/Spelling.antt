@@ -6,12 +6,16 @@ use Rattle.capability.specs.declared.Cap.{Cap}
 use Rattle.eden_value.specs.Datum.{Datum, Data, number, truth, text, cap, list, no_data, data_and, items_of}
 use Rattle.eden_codec.specs.declared.rep.Rep.{Rep}
 
+-- a text: its length in two bytes, and its bytes
 abbrev pub text_spelling : List ℕ → List ℕ
 text_spelling t = bytes_high_first 2 (length t) ++ t
 
+-- node in one byte, epoch and serial in four, rights in two
 abbrev pub cap_spelling : Cap → List ℕ
-cap_spelling c = bytes_high_first 1 c.uid.node ++ (bytes_high_first 4 c.uid.epoch ++ (bytes_high_first 4 c.uid.serial ++ bytes_high_first 2 c.rights.bits))
+cap_spelling c = bytes_high_first 1 c.uid.node
+    ++ (bytes_high_first 4 c.uid.epoch ++ (bytes_high_first 4 c.uid.serial ++ bytes_high_first 2 c.rights.bits))
 
+-- a capability or none, with the first byte that says which
 abbrev pub option_spelling : Option Cap → List ℕ
 option_spelling None = 4 ∷ []
 option_spelling (Some c) = 5 ∷ cap_spelling c
@@ -34,9 +38,11 @@ abbrev pub values_spelling : List Datum → List ℕ
 values_spelling [] = []
 values_spelling (d ∷ ds) = value_spelling d ++ values_spelling ds
 
+-- a name: its length in one byte, and its bytes
 abbrev pub name_spelling : List ℕ → List ℕ
 name_spelling name = bytes_high_first 1 (length name) ++ name
 
+-- the values of a representation: their number in one byte, and the values
 abbrev pub row_spelling : List Datum → List ℕ
 row_spelling ds = bytes_high_first 1 (length ds) ++ values_spelling ds
 

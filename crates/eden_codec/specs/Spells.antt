@@ -5,16 +5,18 @@ use Rattle.std.specs.Int.{w64}
 use mir.Val.{to_z}
 use Rattle.capability.specs.declared.Cap.{Cap}
 use Rattle.eden_value.specs.Datum.{Datum, number, truth, text, cap, list, items_of}
-use Rattle.eden_value.specs.Limits.{is_printable}
+use Rattle.eden_value.specs.Bytes.{is_printable}
 use Rattle.grammar.specs.Grammar.{Grammar, OneOf, Times, Counted}
 use Rattle.grammar.specs.Numbers.{Number}
 use Rattle.eden_codec.specs.declared.rep.Rep.{Rep}
-use Rattle.eden_codec.specs.Form.{is_upper, is_name_byte}
+use Rattle.std.specs.Char.{is_ascii_uppercase}
+use Rattle.eden_value.specs.Bytes.{is_name_byte}
 
 -- an integer as a word of 64 bits, in two's complement
 abbrev pub SpellsInt : Grammar ℕ ℤ
 SpellsInt bytes z = (n : ℕ) × Number 8 0 18446744073709551615 bytes n × (z ≡ to_z w64 n)
 
+-- a truth value as 1 or 0
 abbrev pub SpellsTruth : Grammar ℕ Bool
 SpellsTruth bytes true = bytes ≡ 1 ∷ []
 SpellsTruth bytes false = bytes ≡ 0 ∷ []
@@ -47,18 +49,23 @@ SpellsItems G bytes ds = Counted (Number 2 0 256) G bytes ds
 abbrev pub int_tag : ℕ
 int_tag = 1
 
+-- of a truth value
 abbrev pub truth_tag : ℕ
 truth_tag = 2
 
+-- of a text
 abbrev pub text_tag : ℕ
 text_tag = 3
 
+-- of the absent capability
 abbrev pub absent_tag : ℕ
 absent_tag = 4
 
+-- of a capability
 abbrev pub cap_tag : ℕ
 cap_tag = 5
 
+-- of a list
 abbrev pub list_tag : ℕ
 list_tag = 6
 
@@ -77,7 +84,8 @@ SpellsValue (suc depth) (b ∷ bytes) (list ds) = (b ≡ list_tag) × SpellsItem
 abbrev pub SpellsName : Grammar ℕ (List ℕ)
 SpellsName bytes [] = ⊥
 SpellsName bytes (a ∷ more) =
-    (size : List ℕ) × (rest : List ℕ) × (bytes ≡ size ++ a ∷ rest) × Number 1 1 32 size (suc (length more)) × (is_upper a ≡ true) × Times (length more) (OneOf is_name_byte) rest more
+    (size : List ℕ) × (rest : List ℕ) × (bytes ≡ size ++ a ∷ rest) × Number 1 1 32 size (suc (length more)) × (is_ascii_uppercase a ≡ true)
+    × Times (length more) (OneOf is_name_byte) rest more
 
 -- the byte 1, the type's name and version, and the values
 pub record Spells (bytes : List ℕ) (r : Rep) : Type 0 where

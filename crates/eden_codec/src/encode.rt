@@ -161,17 +161,20 @@ fn rep_size(rep: &Rep) -> u64
 }
 
 /// The bytes that spell a representation.
+///
+/// A length past the limit is told before any memory is taken. Else the memory of all the bytes is taken at once. What
+/// is no representation, as a name too long, has bytes too, but they spell none.
 pub fn encode_rep(alloc: Global, rep: &Rep) -> Result<Body, EncodeRefusal>
-    requires { IsRep rep.now }
-    ensures ok { IfOk result (λ body. Spells body rep.now) }
+    ensures ok { IsRep rep.now → IfOk result (λ body. Spells body rep.now) }
     ensures spelled { IfOk result (λ body. body ≡ spelled.spelling rep.now) }
     ensures within_limit { IfOk result (λ body. length body ≤ BODY_LIMIT) }
     ensures too_large { (result ≡ Err EncodeRefusal.TooLarge) ↔ (BODY_LIMIT < length (spelled.spelling rep.now)) }
 {
-    if rep_size(rep) > u64::from(BODY_LIMIT) {
+    let size = rep_size(rep);
+    if size > u64::from(BODY_LIMIT) {
         return Err(EncodeRefusal::TooLarge);
     }
-    let mut bytes = Vec::new(alloc);
+    let mut bytes = Vec::with_capacity(alloc, size as usize)?;
     add_rep(rep, &mut bytes)?;
     Ok(Body { bytes })
 }

@@ -5,6 +5,7 @@ ghost use Rattle.grammar.specs.Reading.{one_of};
 ghost use Rattle.eden_codec.specs.Alphabet.{in_alphabet};
 ghost use Rattle.eden_codec.specs.Reading.{truth_at};
 
+use eden_value::{is_name_byte, is_printable};
 use grammar::Stop;
 
 /// Which bytes may stand at a place.
@@ -19,9 +20,9 @@ fn is_in(alphabet: Alphabet, b: u8) -> bool
     ensures { result ≡ in_alphabet alphabet b }
 {
     match alphabet {
-        Alphabet::Printable => 0x20 <= b && b <= 0x7E,
+        Alphabet::Printable => is_printable(b),
         Alphabet::Upper => b.is_ascii_uppercase(),
-        Alphabet::Name => b.is_ascii_alphanumeric() || b == b'_',
+        Alphabet::Name => is_name_byte(b),
     }
 }
 

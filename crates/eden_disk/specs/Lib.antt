@@ -5,6 +5,6 @@ pub mod Moments
 pub mod Timed
 pub mod InCall
 pub mod Images
-pub mod Overlay
-pub mod Entries
+pub mod Spans
+pub mod Telling
 pub mod SimDisk

@@ -1,7 +1,5 @@
 -- The disk in memory as a machine: what each call leaves of it.
 use Rattle.std.specs.Prelude.{◌≡◌, ◌⊎◌, ℕ, ◌+◌, ◌^◌, ◌-◌, ◌==◌, true, false, List, [], length, replicate, Result, Err, Option, None, Some, if◌then◌else◌}
-use Rattle.std.proofs.Common.{refl, sym, ap, ◌∙◌}
-use Rattle.std.proofs.lemmas.List.{length-replicate}
 use Rattle.std.specs.Option.{option_map}
 use Rattle.eden_disk.specs.declared.disk.DiskRefusal.{DiskRefusal}
 use Rattle.eden_disk.specs.declared.disk.DiskRefusal.TheVariants.{Failed}
@@ -34,13 +32,6 @@ begun_with image = record {
 unfoldable pub zeros : ℕ → List ℕ
 zeros size = replicate size 0
 
-pub zeros_are : (size : ℕ) → zeros size ≡ replicate size 0
-unfolding zeros
-zeros_are size = refl
-
-pub length-zeros : (size : ℕ) → length (zeros size) ≡ size
-length-zeros size = ap length (zeros_are size) ∙ length-replicate size 0
-
 -- a disk of zero bytes likewise
 abbrev pub blank_of : ℕ → Simulated
 blank_of size = record {
@@ -50,14 +41,11 @@ blank_of size = record {
   stop = None;
 }
 
-pub begun_blank : (image : List ℕ) (size : ℕ) → image ≡ replicate size 0 → begun_with image ≡ blank_of size
-begun_blank image size e =
-    let is : image ≡ zeros size = e ∙ sym (zeros_are size) in
-    ap begun_with is ∙ ap (λ n. record (blank_of size) { counts = record (blank_of size).counts { size = n } }) (length-zeros size)
-
+-- the clock at which an armed stop falls due
 abbrev pub stop_due : ArmedStop → ℕ
 stop_due s = s.due
 
+-- what is armed, by the clocks at which it falls due
 abbrev pub due_of : Simulated → Due
 due_of d = record { failure = d.failure; stop = option_map stop_due d.stop }
 
@@ -82,13 +70,14 @@ changed act d = record d { told = noted act d.told }
 abbrev pub failed : Simulated → Simulated
 failed d = record d { counts = record d.counts { faults = one_more d.counts.faults } }
 
+-- a call that is stopped: its cut, and no power
 abbrev pub stopped : Simulated → Simulated
 stopped d = record d {
   counts = record d.counts { power = false; stops = one_more d.counts.stops };
   told = after_cut (mode_of d.stop) d.counts.clock d.told;
 }
 
--- A write or a sync that finds no memory is counted, and changes nothing else.
+-- A write that finds no memory is counted, and changes nothing else.
 abbrev pub without_memory : Simulated → Simulated
 without_memory d = record (failed (counted d)) { counts = record (failed (counted d)).counts { wants = one_more d.counts.wants } }
 
@@ -104,6 +93,7 @@ after_sync Fine d = changed (Synced (counted d).counts.clock) (counted d)
 after_sync AtFault d = failed (counted d)
 after_sync AtStop d = stopped (counted d)
 
+-- a write that is told
 abbrev pub written : ℕ → List ℕ → Simulated → Simulated
 written at bytes d = changed (Wrote d.counts.clock at bytes) d
 
@@ -111,17 +101,20 @@ written at bytes d = changed (Wrote d.counts.clock at bytes) d
 -- written all, and then loses the power.
 abbrev pub after_write : ℕ → List ℕ → End → Simulated → Simulated
 after_write at bytes Fine d = written at bytes (counted d)
-after_write at bytes AtFault d = failed (if d.counts.clock == 2 ^ 64 - 1 then counted d else written at (half_written at bytes (contents d.told).now) (counted d))
+after_write at bytes AtFault d =
+    failed (if d.counts.clock == 2 ^ 64 - 1 then counted d else written at (half_written at bytes (contents d.told).now) (counted d))
 after_write at bytes AtStop d = stopped (written at bytes (counted d))
 
 -- A power cut between two calls. The mode is that of the cut.
 abbrev pub after_power_cut : ImageMode → Simulated → Simulated
 after_power_cut mode d = record d { counts = record d.counts { power = false }; told = after_cut mode d.counts.clock d.told }
 
+-- a request, in place of an earlier one of its sort
 abbrev pub armed_with : Arm → Simulated → Simulated
 armed_with (Fail after) d = record d { failure = Some (d.counts.clock + after) }
 armed_with (Stop after mode) d = record d { stop = Some (record { due = d.counts.clock + after; mode = mode }) }
 
 -- The call ended as armed and left what it then leaves, or it found no memory.
 abbrev pub IsCall : (End → Simulated → Simulated) → Simulated → Simulated → Result (Unit {0}) DiskRefusal → Type 0
-IsCall after old new result = ((end_of result ≡ next_end old) × (new ≡ after (end_of result) old)) ⊎ ((result ≡ Err Failed) × (new ≡ without_memory old))
+IsCall after old new result = ((end_of result ≡ next_end old) × (new ≡ after (end_of result) old))
+    ⊎ ((result ≡ Err Failed) × (new ≡ without_memory old))

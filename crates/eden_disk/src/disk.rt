@@ -82,7 +82,8 @@ pub trait Disk {
         requires range { at + length out.old ≤ (counts self.old).size }
         ensures counts { DeviceCall (counts self.old) (counts self.new) (end_of result) }
         ensures obeys { IsTrue obeys → Obeys (due self.old) (due self.new) (counts self.old) (counts self.new) (end_of result) }
-        ensures spent { IsTrue tells → 2 ^ 64 - 1 ≤ (counts self.old).clock → IsSpent (counts self.old) (counts self.new) (told self.old) (told self.new) (end_of result) }
+        ensures spent { IsTrue tells → 2 ^ 64 - 1 ≤ (counts self.old).clock
+            → IsSpent (counts self.old) (counts self.new) (told self.old) (told self.new) (end_of result) }
         ensures told { IsTrue tells → ReadTold (counts self.new).clock (told self.old) (told self.new) (end_of result) }
         ensures bytes { IsTrue tells → OnOk result (out.new ≡ slice_range (contents (told self.old)).now at (at + length out.old)) };
 
@@ -93,7 +94,8 @@ pub trait Disk {
         requires range { at + length bytes.now ≤ (counts self.old).size }
         ensures counts { DeviceCall (counts self.old) (counts self.new) (end_of result) }
         ensures obeys { IsTrue obeys → Obeys (due self.old) (due self.new) (counts self.old) (counts self.new) (end_of result) }
-        ensures spent { IsTrue tells → 2 ^ 64 - 1 ≤ (counts self.old).clock → IsSpent (counts self.old) (counts self.new) (told self.old) (told self.new) (end_of result) }
+        ensures spent { IsTrue tells → 2 ^ 64 - 1 ≤ (counts self.old).clock
+            → IsSpent (counts self.old) (counts self.new) (told self.old) (told self.new) (end_of result) }
         ensures told { IsTrue tells → WriteTold (counts self.new).clock at bytes.now (told self.old) (told self.new) (end_of result) };
 
     /// Makes all that was written last through a power cut. A failed sync changes nothing.
@@ -101,7 +103,8 @@ pub trait Disk {
         requires { IsTrue (counts self.old).power }
         ensures counts { DeviceCall (counts self.old) (counts self.new) (end_of result) }
         ensures obeys { IsTrue obeys → Obeys (due self.old) (due self.new) (counts self.old) (counts self.new) (end_of result) }
-        ensures spent { IsTrue tells → 2 ^ 64 - 1 ≤ (counts self.old).clock → IsSpent (counts self.old) (counts self.new) (told self.old) (told self.new) (end_of result) }
+        ensures spent { IsTrue tells → 2 ^ 64 - 1 ≤ (counts self.old).clock
+            → IsSpent (counts self.old) (counts self.new) (told self.old) (told self.new) (end_of result) }
         ensures told { IsTrue tells → SyncTold (counts self.new).clock (told self.old) (told self.new) (end_of result) };
 
     /// Takes the power away, between two device calls. `mode` is a wish: the disk leaves one image that it may leave.

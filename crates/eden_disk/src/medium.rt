@@ -1,20 +1,14 @@
-// What a disk in memory holds, and an entry for each change of it.
+//! What a disk in memory holds.
 ghost use Rattle.std.specs.Prelude.{◌≡◌, ◌+◌, ◌≤◌, ◌<◌, ◌^◌, ℕ, length, List, [], ◌∷◌, ◌++◌, IfOk, OnOk, OnErr, slice_range, replicate, map, reverse, vec_len, vec_capacity};
-ghost use Rattle.eden_disk.specs.Told.{overlay, is_marked};
+ghost use Rattle.eden_disk.specs.Told.{overlay, is_unsynced};
 ghost use Rattle.eden_disk.specs.Images.{garbled, image_left, half_written, after_cut};
-ghost use Rattle.eden_disk.specs.Entries.{range_of, AllFit, copied, AgreeElsewhere};
+ghost use Rattle.eden_disk.specs.Telling.{told_with};
+ghost use Rattle.eden_disk.specs.Spans.{range_of, AllFit, copied, AgreeElsewhere};
 
 use crate::disk::ImageMode;
+use crate::telling::{Change, Telling};
 use std::alloc::{AllocError, Global};
 use std::marker::Model;
-
-/// A change of the contents, with the clock after it.
-#[derive(Debug, Drop)]
-pub enum Entry {
-    Written { clock: u64, at: u32, bytes: Vec<u8> },
-    Synced { clock: u64 },
-    Cut { clock: u64, mode: ImageMode },
-}
 
 /// Places that were written since the last sync.
 #[derive(Clone, Copy, Debug)]
@@ -25,26 +19,28 @@ pub struct Span {
 
 /// The bytes as a read sees them and as of the last sync, which differ at most at the unsynced places. A call costs
 /// time in the bytes that it is given, a sync and a cut in those that were written since the last one.
+///
+/// Contracts see what it tells, of which only what code reads takes memory.
 #[derive(Drop)]
 pub struct Medium {
     alloc: Global,
-    first: Vec<u8>,
     seen: Vec<u8>,
     stable: Vec<u8>,
     unsynced: Vec<Span>,
-    entries: Vec<Entry>,
+    telling: Telling,
 }
 
 impl Model for Medium {
-    ghost use Rattle.std.specs.Prelude.{◌≡◌, ◌+◌, ◌≤◌, ◌<◌, ◌^◌, ℕ, length, vec_len, vec_capacity};
+    ghost use Rattle.std.specs.Prelude.{◌<◌, ◌^◌, length};
     ghost use Rattle.eden_disk.specs.Told.{Told, contents};
-    ghost use Rattle.eden_disk.specs.Entries.{told_of, IsKeptBy};
+    ghost use Rattle.eden_disk.specs.Spans.{IsKeptBy};
 
     ghost Value = { Told };
 
-    ghost view = { λ p. told_of p.first.items p.entries.items };
+    ghost view = { λ p. p.telling.told };
 
-    ghost invariant = { λ p. IsKeptBy (contents (told_of p.first.items p.entries.items)) p.seen.items p.stable.items p.unsynced.items × (length p.seen.items < 2 ^ 32) × (1 ≤ length p.unsynced.items → vec_len p.entries + 1 ≤ vec_capacity p.entries) };
+    ghost invariant = { λ p. IsKeptBy (contents p.telling.told) p.seen.items p.stable.items p.unsynced.items
+        × (length p.seen.items < 2 ^ 32) };
 }
 
 impl Medium {
@@ -56,15 +52,14 @@ impl Medium {
         requires { length image.items < 2 ^ 32 }
         ensures { IfOk result (λ m. m ≡ record { image = image.items; acts = [] }) }
     {
-        let seen = Vec::from_slice(alloc, &image)?;
         let stable = Vec::from_slice(alloc, &image)?;
+        let telling = tell(&Telling::new(), Change::Begun { image: &image });
         Ok(Medium {
             alloc,
-            first: image,
-            seen,
+            seen: image,
             stable,
             unsynced: Vec::new(alloc),
-            entries: Vec::new(alloc),
+            telling,
         })
     }
 
@@ -89,16 +84,13 @@ impl Medium {
         out.copy_from_slice(&self.seen[from..from + out.len()]);
     }
 
-    /// Makes all bytes stable. Where there is no memory nothing changes.
-    pub fn sync(&mut self, clock: u64) -> Result<(), AllocError>
-        ensures ok { OnOk result (self.new ≡ noted (Synced clock) self.old) }
-        ensures err { OnErr result (self.new ≡ self.old) }
+    /// Makes all bytes stable.
+    pub fn sync(&mut self, clock: u64)
+        ensures { self.new ≡ noted (Synced clock) self.old }
     {
-        self.entries.reserve(2)?;
         copy_spans(&mut self.stable, &self.seen, &self.unsynced);
         self.unsynced.clear();
-        push_within(&mut self.entries, Entry::Synced { clock });
-        Ok(())
+        self.telling = tell(&self.telling, Change::Synced { clock });
     }
 
     /// Writes bytes. Where there is no memory nothing changes.
@@ -107,18 +99,11 @@ impl Medium {
         ensures ok { OnOk result (self.new ≡ noted (Wrote clock at bytes.now) self.old) }
         ensures err { OnErr result (self.new ≡ self.old) }
     {
-        self.entries.reserve(2)?;
         self.unsynced.reserve(1)?;
-        let kept = Vec::from_slice(self.alloc, bytes)?;
         let len = bytes.len() as u32;
         put(&mut self.seen, at as usize, bytes);
         push_within(&mut self.unsynced, Span { at, len });
-        let entry = Entry::Written {
-            clock,
-            at,
-            bytes: kept,
-        };
-        push_within(&mut self.entries, entry);
+        self.telling = tell(&self.telling, Change::Written { clock, at, bytes });
         Ok(())
     }
 
@@ -136,7 +121,7 @@ impl Medium {
         self.write(clock, at, &left)
     }
 
-    /// Leaves an image, as a power cut does. It takes no memory: the entry has its place since the write that it cuts.
+    /// Leaves an image, as a power cut does.
     pub fn cut(&mut self, clock: u64, mode: ImageMode)
         ensures exact { self.new ≡ after_cut mode clock self.old }
         ensures cut { IsCut clock self.old self.new }
@@ -147,9 +132,16 @@ impl Medium {
             return;
         }
         leave(&mut self.seen, &mut self.stable, &self.unsynced, mode);
-        push_within(&mut self.entries, Entry::Cut { clock, mode });
         self.unsynced.clear();
+        self.telling = tell(&self.telling, Change::Cut { clock, mode });
     }
+}
+
+/// What is told with one more change.
+fn tell(telling: &Telling, change: Change<'_>) -> Telling
+    ensures { result.told ≡ told_with change.entry telling.now.told }
+{
+    telling.then(&change)
 }
 
 /// Adds an item for which there is room.
@@ -167,7 +159,12 @@ fn leave(seen: &mut Vec<u8>, stable: &mut Vec<u8>, unsynced: &Vec<Span>, mode: I
     requires same { length seen.old.items ≡ length stable.old.items }
     requires fit { AllFit (length seen.old.items) unsynced.now.items }
     requires elsewhere { AgreeElsewhere (map range_of (reverse unsynced.now.items)) seen.old.items stable.old.items }
-    ensures seen { seen.new.items ≡ image_left mode (record { now = seen.old.items; stable = stable.old.items; marked = map range_of (reverse unsynced.now.items) }) }
+    ensures seen { seen.new.items
+        ≡ image_left mode (record {
+          now = seen.old.items;
+          stable = stable.old.items;
+          unsynced = map range_of (reverse unsynced.now.items);
+        }) }
     ensures stable { stable.new.items ≡ seen.new.items }
     ensures len { length seen.new.items ≡ length seen.old.items }
 {

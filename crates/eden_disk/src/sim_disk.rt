@@ -23,8 +23,8 @@ pub struct ArmedStop {
 /// written all its bytes when the power goes. The image that a power cut leaves has, at the unsynced places, the bytes
 /// of its mode, and elsewhere what was synced.
 ///
-/// Only `write` and `sync` take memory, before they do anything else. Where there is none they change nothing but the
-/// clock and the counts of faults and wants, and answer `Failed`.
+/// Beside the two images it holds where it is unsynced. Only `write` takes memory, before it does anything else. Where
+/// there is none it changes nothing but the clock and the counts of faults and wants, and answers `Failed`.
 #[derive(Drop)]
 pub struct SimDisk {
     medium: Medium,
@@ -45,7 +45,19 @@ impl Model for SimDisk {
 
     ghost Value = { Simulated };
 
-    ghost view = { λ d. record { counts = record { size = d.size; power = d.power; clock = d.clock; faults = d.faults; stops = d.stops; wants = d.wants }; told = d.medium; failure = d.failure; stop = d.stop } };
+    ghost view = { λ d. record {
+      counts = record {
+        size = d.size;
+        power = d.power;
+        clock = d.clock;
+        faults = d.faults;
+        stops = d.stops;
+        wants = d.wants;
+      };
+      told = d.medium;
+      failure = d.failure;
+      stop = d.stop;
+    } };
 
     ghost invariant = { λ d. length (contents d.medium).now ≡ d.size };
 }
@@ -134,7 +146,10 @@ impl SimDisk {
     }
 
     fn want(&mut self) -> DiskRefusal
-        ensures after { self.new ≡ record (failed self.old) { counts = record (failed self.old).counts { wants = one_more self.old.counts.wants } } }
+        ensures after { self.new ≡ record (failed self.old) {
+          counts = record
+              (failed self.old).counts { wants = one_more self.old.counts.wants };
+        } }
         ensures refusal { result ≡ DiskRefusal.Failed }
     {
         self.wants = self.wants.saturating_add(1);
@@ -178,7 +193,8 @@ impl Disk for SimDisk {
         requires range { at + length out.old ≤ self.old.counts.size }
         ensures counts { DeviceCall self.old.counts self.new.counts (end_of result) }
         ensures obeys { Obeys (due_of self.old) (due_of self.new) self.old.counts self.new.counts (end_of result) }
-        ensures spent { 2 ^ 64 - 1 ≤ self.old.counts.clock → IsSpent self.old.counts self.new.counts self.old.told self.new.told (end_of result) }
+        ensures spent { 2 ^ 64 - 1 ≤ self.old.counts.clock
+            → IsSpent self.old.counts self.new.counts self.old.told self.new.told (end_of result) }
         ensures told { ReadTold self.new.counts.clock self.old.told self.new.told (end_of result) }
         ensures bytes { OnOk result (out.new ≡ slice_range (contents self.old.told).now at (at + length out.old)) }
         ensures end { end_of result ≡ next_end self.old }
@@ -200,7 +216,8 @@ impl Disk for SimDisk {
         requires range { at + length bytes.now ≤ self.old.counts.size }
         ensures counts { DeviceCall self.old.counts self.new.counts (end_of result) }
         ensures obeys { Obeys (due_of self.old) (due_of self.new) self.old.counts self.new.counts (end_of result) }
-        ensures spent { 2 ^ 64 - 1 ≤ self.old.counts.clock → IsSpent self.old.counts self.new.counts self.old.told self.new.told (end_of result) }
+        ensures spent { 2 ^ 64 - 1 ≤ self.old.counts.clock
+            → IsSpent self.old.counts self.new.counts self.old.told self.new.told (end_of result) }
         ensures told { WriteTold self.new.counts.clock at bytes.now self.old.told self.new.told (end_of result) }
         ensures after { IsCall (after_write at bytes.now) self.old self.new result }
     {
@@ -234,15 +251,15 @@ impl Disk for SimDisk {
         requires { IsTrue self.old.counts.power }
         ensures counts { DeviceCall self.old.counts self.new.counts (end_of result) }
         ensures obeys { Obeys (due_of self.old) (due_of self.new) self.old.counts self.new.counts (end_of result) }
-        ensures spent { 2 ^ 64 - 1 ≤ self.old.counts.clock → IsSpent self.old.counts self.new.counts self.old.told self.new.told (end_of result) }
+        ensures spent { 2 ^ 64 - 1 ≤ self.old.counts.clock
+            → IsSpent self.old.counts self.new.counts self.old.told self.new.told (end_of result) }
         ensures told { SyncTold self.new.counts.clock self.old.told self.new.told (end_of result) }
-        ensures after { IsCall after_sync self.old self.new result }
+        ensures end { end_of result ≡ next_end self.old }
+        ensures after { self.new ≡ after_sync (end_of result) self.old }
     {
         match self.count_call() {
             Ok(()) => {
-                if self.medium.sync(self.clock).is_err() {
-                    return Err(self.want());
-                }
+                self.medium.sync(self.clock);
                 Ok(())
             }
             Err(DiskRefusal::Failed) => Err(self.fail()),

@@ -112,7 +112,8 @@ pub record Holds (crew : Crew) (p m : ℕ) : Type 0 where
 
 -- the head of the entry queue holds the monitor next
 abbrev pub left_free : ℕ → Monitor → Crew → Crew
-left_free m it crew = set_waits_of (first it.entering) nothing (set_monitor m (record { holder = first it.entering; entering = rest it.entering }) crew)
+left_free m it crew =
+    set_waits_of (first it.entering) nothing (set_monitor m (record { holder = first it.entering; entering = rest it.entering }) crew)
 
 abbrev pub left : ℕ → Crew → Crew
 left m crew = with_item (slice_get crew.monitors (m - 1)) (λ it. left_free m it crew) crew
@@ -172,11 +173,16 @@ started i crew = record crew { processes = put_at nat_cmp (least_free crew) (rec
 -- the monitors up to the n-th that the process holds are left
 abbrev pub leave_held : ℕ → ℕ → Crew → Crew
 leave_held p zero crew = crew
-leave_held p (suc n) crew = with_item (slice_get crew.monitors n) (λ it. cond (is_held_by p it.holder) (left (n + 1) (leave_held p n crew)) (leave_held p n crew)) (leave_held p n crew)
+leave_held p (suc n) crew =
+    with_item (slice_get crew.monitors n) (λ it. cond (is_held_by p it.holder) (left (n + 1) (leave_held p n crew)) (leave_held p n crew))
+    (leave_held p n crew)
 
 -- the monitors that the process holds are left, and the process is gone
 abbrev pub ended : ℕ → Crew → Crew
-ended p crew = record (leave_held p (length crew.monitors) crew) { processes = where_key nat_cmp (λ k. not (k == p)) (leave_held p (length crew.monitors) crew).processes }
+ended p crew = record (leave_held p (length crew.monitors) crew) {
+  processes = where_key nat_cmp (λ k. not (k == p))
+      (leave_held p (length crew.monitors) crew).processes;
+}
 
 -- the invocation starts
 abbrev pub started_in : Invocation → Coordination → Coordination

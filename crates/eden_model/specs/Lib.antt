@@ -1,10 +1,4 @@
 pub mod Map
-pub mod Laws
 pub mod Crew
 pub mod Lines
-pub mod Numbers
-pub mod LineLaws
-pub mod CrewLaws
-pub mod FreeNumbers
-pub mod Fresh
 pub mod Traffic

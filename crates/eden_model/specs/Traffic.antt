@@ -92,8 +92,10 @@ all_replied s (k ∷ ks) t = all_replied s ks (replied s [] k t)
 
 -- a new call is asked, and answered at once where a status is given
 abbrev pub new_call : Asker → Cap → List ℕ → List Datum → Option Status → Call
-new_call asker target operation args None = record { asker = asker; target = target; operation = operation; args = args; open_ = true; place = asked }
-new_call asker target operation args (Some s) = record { asker = asker; target = target; operation = operation; args = args; open_ = false; place = done }
+new_call asker target operation args None =
+    record { asker = asker; target = target; operation = operation; args = args; open_ = true; place = asked }
+new_call asker target operation args (Some s) =
+    record { asker = asker; target = target; operation = operation; args = args; open_ = false; place = done }
 
 abbrev pub with_call : ℕ → Asker → Cap → List ℕ → List Datum → Option Status → Traffic → Traffic
 with_call k asker target operation args at_once t = record {
@@ -121,7 +123,8 @@ touches n c = (target_station c == n) || (asking_station c.asker == n)
 
 -- a crash of a node: what stands there or goes there is lost
 abbrev pub crashed_call : ℕ → Call → Call
-crashed_call n c = cond (touches n c) (record c { open_ = false; place = cond ((target_station c == n) || in_transit c.place) done c.place }) c
+crashed_call n c = cond (touches n c)
+    (record c { open_ = false; place = cond ((target_station c == n) || in_transit c.place) done c.place }) c
 
 -- x and y are the two ends of the link between a and b; no link leads from a station to itself
 abbrev pub is_link : ℕ → ℕ → ℕ → ℕ → Bool

@@ -7,7 +7,7 @@ use Rattle.eden_value.specs.Shape.{Shape, lists, has_shape, have_shape}
 use Rattle.eden_value.specs.Printed.{printed, printed_items, printed_more, row_behind, printed_row}
 use Rattle.eden_value.specs.Limits.{depth, depths, depth_of}
 use Rattle.eden_value.specs.Caps.{caps, caps_of}
-use Rattle.eden_value.specs.Laws.{depths-data_of, caps-data_of, shape-data_of, same_values}
+use Rattle.eden_value.proofs.Laws.{depths-data_of, caps-data_of, shape-data_of, same_values}
 use Rattle.eden_value.specs.declared.value.Value.{Value}
 use Rattle.eden_value.specs.declared.value.Value.TheVariants.{List as Listed}
 

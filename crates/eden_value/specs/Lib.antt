@@ -1,3 +1,4 @@
+pub mod Bytes
 pub mod Datum
 pub mod Code
 pub mod View
@@ -8,4 +9,3 @@ pub mod Caps
 pub mod Status
 pub mod Shape
 pub mod Printed
-pub mod Laws

@@ -1,13 +1,10 @@
--- The limits of values: which bytes a text may have, how deep lists nest, and what a value may be.
-use Rattle.std.specs.Prelude.{true, ◌≡◌, ℕ, zero, suc, ◌≤◌, ◌&&◌, max, Bool, List, [], ◌∷◌, length, Some, None, nat_le}
+-- The limits of values: what a text may be, how deep lists nest, and what a value may be.
+use Rattle.std.specs.Prelude.{true, ◌≡◌, ℕ, zero, suc, ◌≤◌, max, List, [], ◌∷◌, length, Some, None}
 use Rattle.std.specs.List.{list_all}
 use Rattle.capability.specs.Capability.{IsEject}
+pub use Rattle.eden_value.specs.Bytes.{is_printable}
 use Rattle.eden_value.specs.Datum.{Datum, Data, number, truth, text, cap, list, no_data, data_and, items_of}
 use Rattle.eden_value.specs.declared.value.TheConstants.{TEXT_LIMIT, LIST_LIMIT}
-
--- a space, or a character of ASCII that is seen
-abbrev pub is_printable : ℕ → Bool
-is_printable b = nat_le 0x20 b && nat_le b 0x7E
 
 -- what a text may be
 pub record IsText (bytes : List ℕ) : Type 0 where
@@ -23,10 +20,12 @@ abbrev mutual
   depth (cap c) = 0
   depth (list ds) = suc (depths ds)
 
+  -- the deepest of a list's items
   pub depths : Data → ℕ
   depths no_data = 0
   depths (data_and d ds) = max (depth d) (depths ds)
 
+-- the deepest of values in a row
 abbrev pub depth_of : List Datum → ℕ
 depth_of [] = 0
 depth_of (d ∷ ds) = max (depth d) (depth_of ds)
@@ -43,10 +42,12 @@ abbrev mutual
   IsValue zero (list ds) = ⊥
   IsValue (suc most_deep) (list ds) = (length (items_of ds) ≤ LIST_LIMIT) × DataAreValues most_deep ds
 
+  -- each item of a list is one
   pub DataAreValues : (most_deep : ℕ) → Data → Type 0
   DataAreValues most_deep no_data = Unit {0}
   DataAreValues most_deep (data_and d ds) = IsValue most_deep d × DataAreValues most_deep ds
 
+-- each of values in a row is one
 abbrev pub AreValues : (most_deep : ℕ) → List Datum → Type 0
 AreValues most_deep [] = Unit {0}
 AreValues most_deep (d ∷ ds) = IsValue most_deep d × AreValues most_deep ds

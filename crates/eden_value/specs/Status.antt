@@ -3,6 +3,7 @@ use Rattle.std.specs.Prelude.{ℕ, List, codes}
 use Rattle.eden_value.specs.declared.status.Status.{Status}
 use Rattle.eden_value.specs.declared.status.Status.TheVariants.{Ok, NoRight, NoOperation, BadArguments, Gone, Unreachable, Broken, StoreFault, Damaged, Dropped, Busy, TooLarge, Full, TooMany, SerialsSpent}
 
+-- the number of each, as a program reads it
 abbrev pub status_number : Status → ℕ
 status_number Ok = 0
 status_number NoRight = 1
@@ -20,6 +21,7 @@ status_number Full = 12
 status_number TooMany = 13
 status_number SerialsSpent = 14
 
+-- the word of each, as it is printed
 abbrev pub status_word : Status → List ℕ
 status_word Ok = codes "ok"
 status_word NoRight = codes "no right"

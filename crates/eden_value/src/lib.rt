@@ -1,6 +1,7 @@
 //! Values that Ejects hold, send and keep, their kinds, and the statuses of what was asked.
 #![tactic(auto)]
 
+mod bytes;
 mod kind;
 mod limits;
 mod printing;
@@ -10,9 +11,10 @@ mod tests;
 mod value;
 mod walk;
 
+pub use bytes::{is_name_byte, is_printable};
 pub use kind::{Kind, has_kind};
 pub use limits::{list_of, text_of};
 pub use printing::print;
 pub use status::Status;
 pub use value::{DEPTH_LIMIT, Items, LIST_LIMIT, TEXT_LIMIT, Txt, Value, ValueRefusal};
-pub use walk::{caps, copy, equal};
+pub use walk::{caps, copy, copy_items, equal};

@@ -2,8 +2,10 @@
 ghost use Rattle.std.specs.Prelude.{◌≡◌, ◌≢◌, ◌↔◌, ◌≤◌, ◌<◌, suc, length, nat_lt, IfOk, IsTrue, IsFalse};
 ghost use Rattle.std.specs.List.{list_all};
 ghost use Rattle.eden_value.specs.View.{datum, datums, list_value};
-ghost use Rattle.eden_value.specs.Limits.{is_printable, IsText, depth, depth_of};
+ghost use Rattle.eden_value.specs.Bytes.{is_printable};
+ghost use Rattle.eden_value.specs.Limits.{IsText, depth, depth_of};
 
+use crate::bytes::is_printable;
 use crate::value::{DEPTH_LIMIT, Items, LIST_LIMIT, TEXT_LIMIT, Txt, Value, ValueRefusal};
 use std::alloc::Global;
 
@@ -11,7 +13,7 @@ fn are_printable(bytes: &[u8]) -> bool
     ensures { result ≡ list_all is_printable bytes.now }
 {
     for b in bytes {
-        if *b < 0x20 || *b > 0x7E {
+        if !is_printable(*b) {
             return false;
         }
     }

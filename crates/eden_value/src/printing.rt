@@ -6,20 +6,21 @@ ghost use Rattle.eden_value.specs.Printed as text;
 
 use crate::value::Value;
 use capability::{Cap, Uid};
+use itoa::Buffer;
 use std::alloc::{AllocError, Global};
 
-fn add_int(alloc: Global, n: i64, out: &mut Vec<u8>) -> Result<(), AllocError>
+fn add_int(n: i64, out: &mut Vec<u8>) -> Result<(), AllocError>
     ensures { OnOk result (out.new.items ≡ out.old.items ++ signed_decimal n) }
 {
-    let digits = n.to_string(alloc)?;
-    out.extend_from_slice(digits.as_bytes())
+    let mut digits = Buffer::new();
+    out.extend_from_slice(digits.format(n).as_bytes())
 }
 
-fn add_number(alloc: Global, n: u32, out: &mut Vec<u8>) -> Result<(), AllocError>
+fn add_number(n: u32, out: &mut Vec<u8>) -> Result<(), AllocError>
     ensures { OnOk result (out.new.items ≡ out.old.items ++ decimal n) }
 {
-    let digits = n.to_string(alloc)?;
-    out.extend_from_slice(digits.as_bytes())
+    let mut digits = Buffer::new();
+    out.extend_from_slice(digits.format(n).as_bytes())
 }
 
 fn add_quoted(bytes: &[u8], out: &mut Vec<u8>) -> Result<(), AllocError>
@@ -57,25 +58,25 @@ fn add_hex(n: u16, out: &mut Vec<u8>) -> Result<(), AllocError>
     out.extend_from_slice(&digits)
 }
 
-fn add_uid(alloc: Global, uid: Uid, out: &mut Vec<u8>) -> Result<(), AllocError>
+fn add_uid(uid: Uid, out: &mut Vec<u8>) -> Result<(), AllocError>
     ensures { OnOk result (out.new.items ≡ out.old.items ++ text.printed_uid uid) }
 {
-    add_number(alloc, u32::from(uid.node), out)?;
+    add_number(u32::from(uid.node), out)?;
     out.push(b'.')?;
-    add_number(alloc, uid.epoch, out)?;
+    add_number(uid.epoch, out)?;
     out.push(b'.')?;
-    add_number(alloc, uid.serial, out)?;
+    add_number(uid.serial, out)?;
     Ok(())
 }
 
-fn add_cap(alloc: Global, cap: Option<Cap>, out: &mut Vec<u8>) -> Result<(), AllocError>
+fn add_cap(cap: Option<Cap>, out: &mut Vec<u8>) -> Result<(), AllocError>
     ensures { OnOk result (out.new.items ≡ out.old.items ++ text.printed_cap cap) }
 {
     let Some(cap) = cap else {
         return out.extend_from_slice(b"<none>");
     };
     out.push(b'<')?;
-    add_uid(alloc, cap.uid, out)?;
+    add_uid(cap.uid, out)?;
     out.push(b':')?;
     add_hex(cap.rights.bits, out)?;
     out.push(b'>')?;
@@ -83,11 +84,11 @@ fn add_cap(alloc: Global, cap: Option<Cap>, out: &mut Vec<u8>) -> Result<(), All
 }
 
 #[cycle(print)]
-fn add_value(alloc: Global, value: &Value, out: &mut Vec<u8>) -> Result<(), AllocError>
+fn add_value(value: &Value, out: &mut Vec<u8>) -> Result<(), AllocError>
     ensures { OnOk result (out.new.items ≡ out.old.items ++ text.printed (datum value.now)) }
 {
     match value {
-        Value::Int { n } => add_int(alloc, *n, out),
+        Value::Int { n } => add_int(*n, out),
         Value::Bool { b } => out.extend_from_slice(if *b { b"true" } else { b"false" }),
         Value::Text { text } => {
             out.push(b'"')?;
@@ -95,10 +96,10 @@ fn add_value(alloc: Global, value: &Value, out: &mut Vec<u8>) -> Result<(), Allo
             out.push(b'"')?;
             Ok(())
         }
-        Value::Cap { cap } => add_cap(alloc, *cap, out),
+        Value::Cap { cap } => add_cap(*cap, out),
         Value::List { items } => {
             out.push(b'[')?;
-            add_row(alloc, &items.values, out)?;
+            add_row(&items.values, out)?;
             out.push(b']')?;
             Ok(())
         }
@@ -106,7 +107,7 @@ fn add_value(alloc: Global, value: &Value, out: &mut Vec<u8>) -> Result<(), Allo
 }
 
 #[cycle(print)]
-fn add_row(alloc: Global, values: &[Value], out: &mut Vec<u8>) -> Result<(), AllocError>
+fn add_row(values: &[Value], out: &mut Vec<u8>) -> Result<(), AllocError>
     ensures { OnOk result (out.new.items ≡ out.old.items ++ text.printed_row (datums values.now)) }
 {
     let mut first = true;
@@ -115,7 +116,7 @@ fn add_row(alloc: Global, values: &[Value], out: &mut Vec<u8>) -> Result<(), All
             out.extend_from_slice(b", ")?;
         }
         first = false;
-        add_value(alloc, value, out)?;
+        add_value(value, out)?;
     }
     Ok(())
 }
@@ -129,6 +130,6 @@ pub fn print(alloc: Global, value: &Value, out: &mut Vec<u8>) -> Result<(), Allo
     ensures err { OnErr result (out.new.items ≡ out.old.items) }
 {
     let mut text = Vec::new(alloc);
-    add_value(alloc, value, &mut text)?;
+    add_value(value, &mut text)?;
     out.extend_from_slice(&text)
 }

@@ -90,6 +90,17 @@ fn a_copy_equals_its_value(rt: HostRuntime) -> Result<(), AllocError> {
 }
 
 #[test]
+fn copied_items_equal_what_was_copied(rt: HostRuntime) -> Result<(), AllocError> {
+    let values = vec![in rt.alloc(); sample(rt.alloc())?, Value::Bool { b: true }]?;
+    let items = Items { values };
+    let copied = copy_items(rt.alloc(), &items)?;
+    assert_eq!(rt; copied.values.len(), 2);
+    assert!(rt; equal(&copied.values[0], &items.values[0]));
+    assert!(rt; equal(&copied.values[1], &Value::Bool { b: true }));
+    Ok(())
+}
+
+#[test]
 fn present_capabilities_are_listed(rt: HostRuntime) -> Result<(), AllocError> {
     let alloc = rt.alloc();
     let inner = Items {

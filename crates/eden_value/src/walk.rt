@@ -35,11 +35,19 @@ pub fn copy(alloc: Global, value: &Value) -> Result<Value, AllocError>
 fn copies(alloc: Global, values: &[Value]) -> Result<Vec<Value>, AllocError>
     ensures { IfOk result (λ v. v.items ≡ values.now) }
 {
-    let mut made = Vec::new(alloc);
+    let mut made = Vec::with_capacity(alloc, values.len())?;
     for value in values {
         made.push(copy(alloc, value)?)?;
     }
     Ok(made)
+}
+
+/// The same values in a row. Each list in them takes the memory of its items and no more.
+pub fn copy_items(alloc: Global, items: &Items) -> Result<Items, AllocError>
+    ensures { IfOk result (λ copied. copied ≡ items.now) }
+{
+    let values = copies(alloc, &items.values)?;
+    Ok(Items { values })
 }
 
 #[cycle(add_caps)]

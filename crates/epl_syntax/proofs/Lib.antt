@@ -1,2 +1,4 @@
 pub mod Leading
 pub mod KeptTypes
+pub mod OneList
+pub mod TreeRows

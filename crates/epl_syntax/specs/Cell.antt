@@ -22,9 +22,11 @@ pub record Operation : Type 0 where
   pub class : ℕ
   pub params : List Shape
 
+-- an operation of a type with one class, by its name, the rights that it needs and the kinds of its arguments
 abbrev pub of_one_class : List ℕ → ℕ → List Shape → Operation
 of_one_class name needs params = record { name = name; needs = needs; class = 0; params = params }
 
+-- the operations of a Cell
 abbrev pub operations : List Operation
 operations = of_one_class (codes "Set") 1 (ints ∷ []) ∷ of_one_class (codes "Get") 2 [] ∷ of_one_class (codes "Save") 4 []
     ∷ of_one_class (codes "Sleep") 8 [] ∷ of_one_class (codes "Kill") 16 [] ∷ []
@@ -47,6 +49,7 @@ abbrev pub sets_to : List Datum → Stage
 sets_to (number n ∷ []) = sets n
 sets_to _ = gets
 
+-- what is left to do of an operation that begins
 abbrev pub first_stage : List ℕ → List Datum → Stage
 first_stage name args =
     cond (same_text name (codes "Set")) (sets_to args)

@@ -1,17 +1,16 @@
 -- The forms of tokens, on lists of bytes.
 use Rattle.std.specs.Prelude.{◌≡◌, ℕ, ◌+◌, ◌-◌, ◌*◌, Bool, true, false, ◌||◌, ◌&&◌, ◌==◌, List, [], ◌∷◌, length, take, drop, Option, Some, None, nat_le, if◌then◌else◌}
 use Rattle.std.specs.List.{take_while}
-use Rattle.std.specs.Char.{is_ascii_alphanumeric}
+pub use Rattle.eden_value.specs.Bytes.{is_name_byte}
+use Rattle.eden_value.specs.Bytes.{is_printable}
 
+-- a space or a line feed
 abbrev pub is_blank : ℕ → Bool
 is_blank b = b == 32 || b == 10
 
+-- 0 to 9
 abbrev pub is_digit : ℕ → Bool
 is_digit b = nat_le 48 b && nat_le b 57
-
--- a letter, a digit or an underscore
-abbrev pub is_name_byte : ℕ → Bool
-is_name_byte b = is_ascii_alphanumeric b || b == 95
 
 -- a name takes as many bytes as it can
 abbrev pub name_length : List ℕ → ℕ
@@ -42,7 +41,7 @@ text_body true (b ∷ bytes) = if b == 34 || b == 92 then with_byte 1 (text_body
 text_body false (b ∷ bytes) =
     if b == 34 then Some (1, 0)
     else (if b == 92 then with_byte 0 (text_body true bytes)
-    else (if nat_le 32 b && nat_le b 126 then with_byte 1 (text_body false bytes) else None))
+    else (if is_printable b then with_byte 1 (text_body false bytes) else None))
 
 -- what is found behind a front of so many bytes, which stand for so many
 abbrev pub with_front : ℕ → ℕ → Option (ℕ × ℕ) → Option (ℕ × ℕ)

@@ -4,7 +4,5 @@ pub mod Meaning
 pub mod Form
 pub mod Words
 pub mod Token
-pub mod OneList
 pub mod Tree
-pub mod TreeRows
 pub mod Rules

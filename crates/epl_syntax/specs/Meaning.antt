@@ -18,9 +18,11 @@ use Rattle.epl_syntax.specs.Cell.{Stage, operations, first_stage, cell_turn}
 
 -- 1. Types
 
+-- a native type's name
 abbrev pub name_of : Edentype → List ℕ
 name_of Cell = codes "Cell"
 
+-- its version
 abbrev pub version_of : Edentype → ℕ
 version_of Cell = 1
 
@@ -28,6 +30,7 @@ version_of Cell = 1
 abbrev pub durable_kinds : Edentype → List Shape
 durable_kinds Cell = ints ∷ []
 
+-- its operations, in order
 abbrev pub operations_of : Edentype → List Operation
 operations_of Cell = operations
 
@@ -63,6 +66,7 @@ native_types = Cell ∷ []
 abbrev pub type_of : List Edentype → List ℕ → Option Edentype
 type_of types name = find (λ t. same_text (name_of t) name) types
 
+-- the operation of this name
 abbrev pub operation_of : Edentype → List ℕ → Option Operation
 operation_of t name = find (λ o. same_text o.name name) (operations_of t)
 
@@ -83,7 +87,8 @@ durable_from t rep me = cond (is_current t rep) (Some rep.values) (upgraded t re
 
 -- the type of a representation, and the durable values with which the Eject starts
 abbrev pub started_from : List Edentype → Rep → Uid → Option (Edentype × List Datum)
-started_from types rep me = with_item (type_of types rep.type_name) (λ t. with_item (durable_from t rep me) (λ durable. Some (t, durable)) None) None
+started_from types rep me =
+    with_item (type_of types rep.type_name) (λ t. with_item (durable_from t rep me) (λ durable. Some (t, durable)) None) None
 
 -- A representation fits: its type is one of these; and its version is that type's, its values are of the kinds of the
 -- durable variables and meet the type's condition, or the type has an upgrade from its version that takes its values and
@@ -105,6 +110,7 @@ begin Cell operation args = cell (first_stage operation args)
 abbrev pub declared : Edentype → List Rest
 declared Cell = []
 
+-- what a turn leaves: the values of all variables, what is left to do, and the effect
 pub record Turned : Type 0 where
   pub vars : List Datum
   pub rest : Rest

@@ -18,7 +18,8 @@ use Rattle.epl_syntax.specs.declared.token.ParseRefusal.TheVariants.{BadToken, T
 abbrev pub mark_of : ℕ → ℕ → Option (Mark × ℕ)
 mark_of first second =
     if first == 58 then (if second == 61 then Some (mark.Assign, 2) else Some (mark.Colon, 1)) else (
-    if first == 60 then (if second == 61 then Some (mark.LessEqual, 2) else (if second == 62 then Some (mark.Different, 2) else Some (mark.Less, 1))) else (
+    if first == 60 then (if second == 61 then Some (mark.LessEqual, 2) else
+    (if second == 62 then Some (mark.Different, 2) else Some (mark.Less, 1))) else (
     if first == 62 then (if second == 61 then Some (mark.GreaterEqual, 2) else Some (mark.Greater, 1)) else (
     if first == 44 then Some (mark.Comma, 1) else (
     if first == 46 then Some (mark.Dot, 1) else (
@@ -38,12 +39,14 @@ abbrev pub named : Option Word → ℕ → Option (TokenKind × ℕ)
 named None n = Some (kind.Lower, n)
 named (Some w) n = Some (kind.Word w, n)
 
+-- a name or a word in front, and how many bytes it takes
 abbrev pub name_token : List ℕ → Bool → Option (TokenKind × ℕ)
 name_token bytes upper =
     if nat_le (name_length bytes) 32 then
     (if upper then Some (kind.Upper, name_length bytes) else named (word_of (take (name_length bytes) bytes)) (name_length bytes))
     else None
 
+-- a number in front
 abbrev pub number_token : List ℕ → Option (TokenKind × ℕ)
 number_token bytes = option_and_then (λ value. Some (kind.Int value, digit_count bytes)) (number_of (take (digit_count bytes) bytes))
 
@@ -51,6 +54,7 @@ number_token bytes = option_and_then (λ value. Some (kind.Int value, digit_coun
 abbrev pub text_token : List ℕ → Option (TokenKind × ℕ)
 text_token body = option_and_then (λ found. if nat_le found.1 1024 then Some (kind.Text, found.0 + 1) else None) (text_body false body)
 
+-- a mark in front
 abbrev pub mark_token : ℕ → List ℕ → Option (TokenKind × ℕ)
 mark_token first rest = option_and_then (λ found. Some (kind.Mark found.0, found.1)) (mark_of first (slice_index rest 0))
 
@@ -76,7 +80,8 @@ pub record AreBlanks (text : List ℕ) (from to : ℕ) : Type 0 where
 abbrev pub Leads : List ℕ → ℕ → List Token → ℕ → Type 0
 Leads text from [] to = AreBlanks text from to
 Leads text from (t ∷ ts) to =
-    AreBlanks text from t.start × (t.start < length text) × (token_at (drop t.start text) ≡ Some (t.kind, t.end - t.start)) × (t.start ≤ t.end) × Leads text t.end ts to
+    AreBlanks text from t.start × (t.start < length text) × (token_at (drop t.start text) ≡ Some (t.kind, t.end - t.start))
+    × (t.start ≤ t.end) × Leads text t.end ts to
 
 -- the whole text spells these tokens
 abbrev pub Spells : List ℕ → List Token → Type 0

@@ -31,9 +31,11 @@ pub record PlacedShape : Type 0 where
   pub shape : Shape
   pub place : ℕ
 
+-- a kind that is written, and its place
 abbrev pub written : WrittenKind → PlacedShape
 written k = record { shape = shape k.kind; place = k.place }
 
+-- a constant
 pub data Constant : Type 0 where
   integer : ℤ → Constant
   text : List ℕ → Constant
@@ -41,6 +43,7 @@ pub data Constant : Type 0 where
   absent : Constant
   empty_list : PlacedShape → Constant
 
+-- the constant that one of the code is
 abbrev pub constant : Const → Constant
 constant (const.Int n) = integer n
 constant (const.Text t) = text t
@@ -84,6 +87,7 @@ abbrev mutual
   expression_row expr.end_of-Expr = no_expressions
   expression_row (expr.more_of-Expr e rest) = expression_and (expression e) (expression_row rest)
 
+-- expressions in a row
 abbrev pub expressions : List Expr → Expressions
 expressions es = in_order (map expression es)
 
@@ -126,13 +130,15 @@ abbrev mutual
   statement (stmt.Checkpoint status place) = Checkpoint status place
   statement (stmt.Destroy status place) = Destroy status place
   statement (stmt.Create type_name status gives place) = Create type_name status gives place
-  statement (stmt.Invoke target operation args status gives place) = Invoke target operation (map expression args.items) status gives.items place
+  statement (stmt.Invoke target operation args status gives place) =
+      Invoke target operation (map expression args.items) status gives.items place
   statement (stmt.Return results place) = Return (map expression results.items) place
 
   pub statement_row : {m : _} → stmt.Row_of-Stmt m → Statements
   statement_row stmt.end_of-Stmt = no_statements
   statement_row (stmt.more_of-Stmt s rest) = statement_and (statement s) (statement_row rest)
 
+-- statements in a row
 abbrev pub statements : List Stmt → Statements
 statements ss = block_of (map statement ss)
 
@@ -141,9 +147,11 @@ pub record Beginning : Type 0 where
   pub value : Constant
   pub place : ℕ
 
+-- what a variable starts with, and its place
 abbrev pub beginning : Start → Beginning
 beginning s = record { value = constant s.value; place = s.place }
 
+-- a variable of a type
 pub record Variable : Type 0 where
   pub name : Name
   pub kind : PlacedShape
@@ -151,24 +159,30 @@ pub record Variable : Type 0 where
   pub start : Beginning
   pub monitor : ℕ
 
+-- the variable that a declaration of the code is
 abbrev pub variable : VarDecl → Variable
 variable v = record { name = v.name; kind = written v.kind; durable = v.durable; start = beginning v.start; monitor = v.monitor }
 
+-- a variable of an operation or a process
 pub record Local : Type 0 where
   pub name : Name
   pub kind : PlacedShape
   pub start : Beginning
 
+-- the one that a declaration of the code is
 abbrev pub local_of : LocalDecl → Local
 local_of v = record { name = v.name; kind = written v.kind; start = beginning v.start }
 
+-- a parameter of an operation or an upgrade
 pub record Parameter : Type 0 where
   pub name : Name
   pub kind : PlacedShape
 
+-- the one that a declaration of the code is
 abbrev pub parameter : ParDecl → Parameter
 parameter p = record { name = p.name; kind = written p.kind }
 
+-- an operation
 pub record Operation : Type 0 where
   pub name : Name
   pub needs : Number
@@ -178,6 +192,7 @@ pub record Operation : Type 0 where
   pub locals : List Local
   pub body : List Statement
 
+-- the one that a declaration of the code is
 abbrev pub operation : OpDecl → Operation
 operation o = record {
   name = o.name;
@@ -189,30 +204,37 @@ operation o = record {
   body = map statement o.body.items;
 }
 
+-- a process
 pub record Process : Type 0 where
   pub name : Name
   pub locals : List Local
   pub body : List Statement
 
+-- the one that a declaration of the code is
 abbrev pub process : ProcDecl → Process
 process p = record { name = p.name; locals = map local_of p.locals.items; body = map statement p.body.items }
 
+-- an assignment of an upgrade
 pub record Change : Type 0 where
   pub name : Name
   pub value : Expression
 
+-- the one that an assignment of the code is
 abbrev pub change : Assignment → Change
 change a = record { name = a.name; value = expression a.value }
 
+-- an upgrade from an earlier version
 pub record Upgrade : Type 0 where
   pub from : Number
   pub params : List Parameter
   pub changes : List Change
   pub place : ℕ
 
+-- the one that a declaration of the code is
 abbrev pub upgrade : UpgradeDecl → Upgrade
 upgrade u = record { from = u.from; params = map parameter u.params.items; changes = map change u.assignments.items; place = u.place }
 
+-- a type, as it is written
 pub record Edentype : Type 0 where
   pub name : Name
   pub version : Option Number
@@ -224,6 +246,7 @@ pub record Edentype : Type 0 where
   pub processes : List Process
   pub upgrades : List Upgrade
 
+-- the type that a program of the code is
 abbrev pub edentype : Program → Edentype
 edentype p = record {
   name = p.name;

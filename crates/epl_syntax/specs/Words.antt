@@ -4,6 +4,7 @@ use Rattle.std.specs.Str.{bytes_eq}
 use Rattle.epl_syntax.specs.declared.word.Word.{Word}
 use Rattle.epl_syntax.specs.declared.word.Word.TheVariants as word
 
+-- each word, and how it is spelled
 abbrev pub spelled_words : List (List ℕ × Word)
 spelled_words =
     (codes "edentype", word.Edentype) ∷
@@ -62,6 +63,7 @@ spelled_words =
     (codes "restrict", word.Restrict) ∷
     []
 
+-- the word that is spelled so in a table
 abbrev pub word_in : List (List ℕ × Word) → List ℕ → Option Word
 word_in [] name = None
 word_in (w ∷ ws) name = if bytes_eq name w.0 then Some w.1 else word_in ws name

@@ -1,11 +1,11 @@
 //! Reading tokens. A token takes as many bytes as its form allows; blanks and line feeds part tokens.
 ghost use Rattle.std.specs.Prelude.{◌≡◌, ◌≤◌, ◌<◌, ◌^◌, length, drop, false, None, IfOk, IfSome};
-ghost use Rattle.epl_syntax.specs.Form.{is_name_byte, is_digit, is_blank, name_length, digit_count, number_of, text_body};
+ghost use Rattle.epl_syntax.specs.Form.{is_digit, is_blank, name_length, digit_count, number_of, text_body};
 ghost use Rattle.epl_syntax.specs.Token.{mark_of, name_token, number_token, text_token, token_at, AreBlanks, Leads, TokensAre, Spells, Breaks};
 
 use crate::token::{INT_LIMIT, Mark, NAME_LIMIT, ParseRefusal, Token, TokenKind};
 use crate::word::word_of;
-use eden_value::TEXT_LIMIT;
+use eden_value::{TEXT_LIMIT, is_name_byte, is_printable};
 use std::alloc::{AllocError, Global};
 
 fn is_blank(b: u8) -> bool
@@ -18,12 +18,6 @@ fn is_digit(b: u8) -> bool
     ensures { result ≡ is_digit b }
 {
     b'0' <= b && b <= b'9'
-}
-
-fn is_name_byte(b: u8) -> bool
-    ensures { result ≡ is_name_byte b }
-{
-    b.is_ascii_alphanumeric() || b == b'_'
 }
 
 /// How many bytes of a name stand in front.
@@ -100,7 +94,7 @@ fn text_body(bytes: &[u8]) -> Option<(usize, usize)>
             return Some((i + 1, stands));
         } else if *b == b'\\' {
             escaped = true;
-        } else if 0x20 <= *b && *b <= 0x7e {
+        } else if is_printable(*b) {
             stands += 1;
         } else {
             return None;

@@ -1,14 +1,16 @@
 //! The types of which a script may create Ejects.
-ghost use Rattle.std.specs.Prelude.{◌≡◌, [], map, IfOk, OnOk, OnErr};
-ghost use Rattle.std.specs.List.{list_any};
+ghost use Rattle.std.specs.Prelude.{◌≡◌, ◌+◌, ◌<◌, ◌^◌, [], map, length, false, IfOk, OnOk, OnErr, option_copied};
+ghost use Rattle.std.specs.List.{list_any, position_from};
 ghost use Rattle.eden_model.specs.Map.{same_text};
 ghost use Rattle.epl_syntax.specs.Meaning as meaning;
 ghost use Rattle.epl_syntax.specs.Tree.{edentype};
 ghost use Rattle.epl_syntax.specs.Rules.InItems.{broken_program};
-ghost use Rattle.epl_syntax.specs.Rules.OfTypes.{native_only, with_type, names_of};
+ghost use Rattle.epl_syntax.specs.Rules.OfTypes as rules;
+ghost use Rattle.epl_syntax.specs.Rules.OfTypes.{native_only, with_type, names_of, NamesDiffer, place_named};
 
 use crate::checked::Checked;
 use crate::text::same_text;
+use crate::tree::Program;
 use eden_value::Txt;
 use std::alloc::{AllocError, Global};
 use std::marker::Model;
@@ -21,7 +23,7 @@ pub enum Edentype {
 }
 
 /// The types of a script in order: the native ones, then those that the script declares, each of
-/// which keeps the rules with those before it. Contracts see both lists.
+/// which keeps the rules with those before it. No two have one name. Contracts see both lists.
 #[derive(Drop)]
 pub struct Types {
     native: Vec<Edentype>,
@@ -29,12 +31,14 @@ pub struct Types {
 }
 
 impl Model for Types {
-    ghost use Rattle.std.specs.Prelude.{◌≡◌, [], map};
+    ghost use Rattle.std.specs.Prelude.{◌≡◌, ◌++◌, [], map};
+    ghost use Rattle.std.specs.List.{IsDistinct};
+    ghost use Rattle.eden_model.specs.Map.{same_text};
     ghost use Rattle.std.specs.Coded.{codes};
     ghost use Rattle.eden_value.specs.contracts.kind.Kind as kind;
     ghost use Rattle.epl_syntax.specs.contracts.tree.Expr as expr;
     ghost use Rattle.epl_syntax.specs.contracts.tree.Stmt as stmt;
-    ghost use Rattle.epl_syntax.specs.Meaning.{name_of};
+    ghost use Rattle.epl_syntax.specs.Meaning.{name_of, native_types};
     ghost use Rattle.epl_syntax.specs.Rules.OfTypes.{TypeList, broken_types};
 
     ghost Value = { TypeList };
@@ -43,7 +47,9 @@ impl Model for Types {
 
     ghost view = { λ t. record { native = t.native.items; declared = map (λ c. c.program) t.declared.items } };
 
-    ghost invariant = { λ t. broken_types (map name_of t.native.items) (map (λ c. c.program) t.declared.items) ≡ [] };
+    ghost invariant = { λ t. (broken_types (map name_of t.native.items) (map (λ c. c.program) t.declared.items) ≡ [])
+        × (t.native.items ≡ native_types)
+        × IsDistinct same_text (map name_of t.native.items ++ map (λ p. p.name.text) (map (λ c. c.program) t.declared.items)) };
 }
 
 fn name_of(kind: &Edentype) -> &'static [u8]
@@ -76,6 +82,30 @@ fn has_declared(types: &[Checked], name: &Txt) -> bool
     false
 }
 
+fn find_native(types: &[Edentype], name: &Txt) -> Option<usize>
+    ensures { result ≡ position_from (λ t. same_text t name.now) 0 (map meaning.name_of types.now) }
+{
+    for (i, t) in types.iter().enumerate() {
+        if name.bytes.as_slice() == name_of(t) {
+            return Some(i);
+        }
+    }
+    None
+}
+
+/// The place of a declared type, where they stand from place `first` on.
+fn find_declared(types: &[Checked], first: usize, name: &Txt) -> Option<usize>
+    requires { first + length types.now < 2 ^ 64 }
+    ensures { result ≡ position_from (λ t. same_text t name.now) first (map (λ t. t.name.text) (map (λ c. c.program) types.now)) }
+{
+    for (i, t) in types.iter().enumerate() {
+        if same_text(&t.program.name.text, name) {
+            return Some(first + i);
+        }
+    }
+    None
+}
+
 impl Types {
     /// The types of a script that declares none.
     pub fn native(alloc: Global) -> Result<Types, AllocError>
@@ -96,9 +126,42 @@ impl Types {
         has_native(&self.native, name) || has_declared(&self.declared, name)
     }
 
-    /// One more type, behind those that are there. Where memory runs out, they stay as they are.
+    /// The place of the type of this name. Native types stand first, and places count from 0.
+    pub fn find(&self, name: &Txt) -> Option<usize>
+        ensures place { result ≡ place_named self.now name.now }
+        ensures names_differ { NamesDiffer self.now }
+    {
+        match find_native(&self.native, name) {
+            Some(place) => Some(place),
+            None => find_declared(&self.declared, self.native.len(), name),
+        }
+    }
+
+    /// The native type at a place.
+    pub fn native_at(&self, place: usize) -> Option<Edentype>
+        ensures { result ≡ rules.native_at self.now place }
+    {
+        self.native.get(place).copied()
+    }
+
+    /// The declared type at a place.
+    pub fn declared_at(&self, place: usize) -> Option<&Program>
+        ensures { option_copied result ≡ rules.declared_at self.now place }
+    {
+        if place < self.native.len() {
+            return None;
+        }
+        match self.declared.get(place - self.native.len()) {
+            Some(checked) => Some(&checked.program),
+            None => None,
+        }
+    }
+
+    /// One more type, behind those that are there, of a name that none of them has. Where memory runs out, they stay as
+    /// they are.
     pub fn add(&mut self, checked: Checked) -> Result<(), AllocError>
-        requires { broken_program (names_of self.old) (edentype checked.program) ≡ [] }
+        requires rules { broken_program (names_of self.old) (edentype checked.program) ≡ [] }
+        requires name { list_any (λ t. same_text t checked.program.name.text) (names_of self.old) ≡ false }
         ensures ok { OnOk result (self.new ≡ with_type self.old checked.program) }
         ensures err { OnErr result (self.new ≡ self.old) }
     {

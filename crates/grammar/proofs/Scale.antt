@@ -2,7 +2,7 @@
 use Rattle.std.proofs.Common.{◌≡◌, ◌≢◌, ℕ, suc, ◌+◌, ◌-◌, ◌*◌, ◌/◌, ◌^◌, ◌<◌, ◌≤◌, List, [], ◌∷◌, length, get_or, take, drop, if◌then◌else◌, Err, zero-le, refl, ap, sym, ◌∙◌, arith, subst}
 use Rattle.std.proofs.Math.Nat.{pow-suc, mul-le-mul_left, mul-le-mul_right, pow-le-pow_right, div-lt_iff_lt-mul, le-div_iff_mul-le}
 use Rattle.grammar.specs.Numbers.{number_from}
-use Rattle.grammar.specs.Numbers.{pow_above, test_true, test_false}
+use Rattle.grammar.proofs.Numbers.{pow_above, test_true, test_false}
 
 pub suc_of : (w : ℕ) → w ≢ 0 → w ≡ suc (w - 1)
 suc_of w h = omega arith

@@ -3,8 +3,9 @@ use Rattle.std.proofs.Common.{ℕ, ◌^◌, ◌≤◌, ◌<◌, List, Result, Ok
 use Rattle.grammar.specs.declared.stop.Stop.{Stop}
 use Rattle.grammar.specs.Gives.{Gives}
 use Rattle.grammar.specs.Numbers.{number_at}
-use Rattle.grammar.specs.Exact.{Taken}
-use Rattle.grammar.specs.Numbers.{Number, number_exact}
+use Rattle.grammar.proofs.Exact.{Taken}
+use Rattle.grammar.specs.Numbers.{Number}
+use Rattle.grammar.proofs.Numbers.{number_exact}
 
 pub within_bounds : (least most : ℕ) → least ≤ most → (k : ℕ) → least < 256 ^ k → (bytes : List ℕ) → {X : Type 0} → (first : X → ℕ) (rest : X → List ℕ) (r : Result X Stop)
     → Gives (λ x. (first x, rest x)) r (number_at k least most bytes) → IfOk r (λ x. (least ≤ first x) × (first x ≤ most))

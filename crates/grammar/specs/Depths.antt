@@ -40,22 +40,28 @@ pub data Fault : Type 0 where
   deep : (left : ℕ) → Fault
   spent : Fault
 
+-- what a reader with one symbol of lookahead found, and what is left, or why it stopped
 abbrev pub Look : Type 0 → Type 0 → Type 0
 Look S A = Result (A × List S) Fault
 
+-- a reader with one symbol of lookahead
 abbrev pub Looker : Type 0 → Type 0 → Type 0
 Looker S A = List S → Look S A
 
+-- what is read behind what was found
 abbrev pub look_then : {S A B : Type 0} → Look S A → (A → Looker S B) → Look S B
 look_then (Ok x) f = f x.0 x.1
 look_then (Err e) f = Err e
 
+-- one reader behind another
 abbrev pub look_both : {S A B : Type 0} → Looker S A → (A → Looker S B) → Looker S B
 look_both read f symbols = look_then (read symbols) f
 
+-- a reader that takes nothing
 abbrev pub look_here : {S A : Type 0} → A → Looker S A
 look_here a symbols = Ok (a, symbols)
 
+-- a reader whose value is changed
 abbrev pub look_mapped : {S A B : Type 0} → (A → B) → Looker S A → Looker S B
 look_mapped f read = look_both read (λ a. look_here (f a))
 
@@ -95,7 +101,8 @@ SameHead [] (t ∷ more) = ⊥
 SameHead (s ∷ symbols) [] = ⊥
 
 -- A spelling of the value stands in front of the rest, no symbol of it past the limit; and it is read so before all that begins like the rest.
-pub record Took {S A : Type 0} (limit : ℕ) (G : List (S × ℕ) → A → Type 0) (R : List S → Result (A × List S) Fault) (symbols : List S) (a : A) (rest : List S) : Type 0 where
+pub record Took {S A : Type 0} (limit : ℕ) (G : List (S × ℕ) → A → Type 0) (R : List S → Result (A × List S) Fault) (symbols : List S)
+    (a : A) (rest : List S) : Type 0 where
   pub front : List (S × ℕ)
   pub split : symbols ≡ bare front ++ rest
   pub shallow : Shallow limit front
@@ -119,7 +126,8 @@ StaysAt {S} (deep left) R front (s ∷ rest) = (more : List S) → R (front ++ s
 StaysAt spent R front rest = Unit {0}
 
 -- The front of a spelling stands there, no symbol of it past the limit, and the fault is behind it.
-pub record Stuck {S A : Type 0} (limit : ℕ) (G : List (S × ℕ) → A → Type 0) (R : List S → Result (A × List S) Fault) (symbols : List S) (f : Fault) : Type 0 where
+pub record Stuck {S A : Type 0} (limit : ℕ) (G : List (S × ℕ) → A → Type 0) (R : List S → Result (A × List S) Fault) (symbols : List S)
+    (f : Fault) : Type 0 where
   pub front : List (S × ℕ)
   pub rest : List S
   pub split : symbols ≡ bare front ++ rest
@@ -148,7 +156,8 @@ Passes limit fuel ps (Err spent) a rest = fuel ≤ length ps
 
 -- A reader reads what is spelled and nothing else, of fewer symbols than its fuel and before what may follow, and
 -- stops at the first symbol that does not go on or is past the limit.
-pub record Reads {S A : Type 0} (limit fuel : ℕ) (G : List (S × ℕ) → A → Type 0) (follow : List S → Type 0) (R : List S → Result (A × List S) Fault) : Type 0 where
+pub record Reads {S A : Type 0} (limit fuel : ℕ) (G : List (S × ℕ) → A → Type 0) (follow : List S → Type 0)
+    (R : List S → Result (A × List S) Fault) : Type 0 where
   pub made : (ps : List (S × ℕ)) × (a : A) × G ps a
   pub takes : (symbols : List S) (a : A) (rest : List S) → length symbols < fuel → R symbols ≡ Ok (a, rest) → Took limit G R symbols a rest
   pub again : (ps : List (S × ℕ)) (a : A) → G ps a → (v : List S) → follow v → Passes limit fuel ps (R (bare ps ++ v)) a v

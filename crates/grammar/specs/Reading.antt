@@ -2,9 +2,11 @@
 -- from the first bad place on.
 use Rattle.std.specs.Prelude.{ℕ, zero, suc, Bool, List, [], ◌∷◌, length, Option, Some, None, Result, Ok, Err, if◌then◌else◌}
 
+-- the value that was read and what is left, or how much was left where reading stopped
 abbrev pub Reading : Type 0 → Type 0 → Type 0
 Reading S A = Result (A × List S) ℕ
 
+-- a reader of symbols from left to right
 abbrev pub Reader : Type 0 → Type 0 → Type 0
 Reader S A = List S → Reading S A
 
@@ -26,10 +28,12 @@ abbrev pub found_one : {S A : Type 0} → Option A → Reader S A
 found_one None symbols = Err (suc (length symbols))
 found_one (Some a) symbols = Ok (a, symbols)
 
+-- one symbol that stands for a value
 abbrev pub one : {S A : Type 0} → (S → Option A) → Reader S A
 one f [] = Err 0
 one f (s ∷ symbols) = found_one (f s) symbols
 
+-- a symbol that passes a test
 abbrev pub if_passing : {S : Type 0} → (S → Bool) → S → Option S
 if_passing is s = if is s then Some s else None
 

@@ -4,6 +4,7 @@ use Rattle.epl_syntax.specs.declared.rule.Broken.{Broken}
 use Rattle.epl_syntax.specs.declared.rule.Rule.{Rule}
 use Rattle.epl_syntax.specs.declared.rule.Rule.TheVariants.{UnknownName, KindDiffers, Unguarded, Nested, Doubled, BadLimit}
 
+-- a rule that is broken at a place
 abbrev pub broken_at : Rule → ℕ → Broken
 broken_at rule place = record { rule = rule; place = place }
 
@@ -21,9 +22,11 @@ rank Nested = 3
 rank Doubled = 4
 rank BadLimit = 5
 
+-- whether one is told before another: by its place, then by its rule
 abbrev pub before : Broken → Broken → Bool
 before a b = nat_lt a.place b.place || (a.place == b.place && nat_lt (rank a.rule) (rank b.rule))
 
+-- the one of two that is told
 abbrev pub sooner : Option Broken → Broken → Option Broken
 sooner None b = Some b
 sooner (Some a) b = if before b a then Some b else Some a

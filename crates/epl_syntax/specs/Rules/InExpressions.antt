@@ -68,9 +68,11 @@ abbrev pub lists_in : Shape → ℕ
 lists_in (lists s) = suc (lists_in s)
 lists_in _ = 0
 
+-- what a written kind breaks
 abbrev pub broken_kind : PlacedShape → List Broken
 broken_kind k = broken_if (nat_lt 4 (lists_in k.shape)) BadLimit k.place
 
+-- what a constant breaks
 abbrev pub broken_constant : Constant → List Broken
 broken_constant (empty_list k) = broken_kind k
 broken_constant _ = []

@@ -31,6 +31,7 @@ at_first (place ∷ places) = broken_at BadLimit place ∷ []
 abbrev pub too_many : ℕ → List ℕ → List Broken
 too_many limit places = at_first (drop limit places)
 
+-- where names stand
 abbrev pub places_of : List Name → List ℕ
 places_of names = map (λ n. n.place) names
 
@@ -40,12 +41,15 @@ places_of names = map (λ n. n.place) names
 abbrev pub broken_start : PlacedShape → Beginning → List Broken
 broken_start kind start = broken_constant start.value ++ misfit kind.shape (Some (kind_of_constant start.value)) start.place
 
+-- what a variable of a type breaks
 abbrev pub broken_var : Variable → List Broken
 broken_var v = broken_kind v.kind ++ broken_start v.kind v.start
 
+-- what a variable of a body breaks
 abbrev pub broken_local : Local → List Broken
 broken_local v = broken_kind v.kind ++ broken_start v.kind v.start
 
+-- what a parameter breaks
 abbrev pub broken_param : Parameter → List Broken
 broken_param p = broken_kind p.kind
 
@@ -53,24 +57,31 @@ broken_param p = broken_kind p.kind
 abbrev pub names_of_vars : List Variable → List Name
 names_of_vars vs = map (λ v. v.name) vs
 
+-- of classes
 abbrev pub names_of_classes : List ClassDecl → List Name
 names_of_classes cs = map (λ c. c.name) cs
 
+-- of conditions
 abbrev pub names_of_conditions : List CondDecl → List Name
 names_of_conditions cs = map (λ c. c.name) cs
 
+-- of operations
 abbrev pub names_of_operations : List Operation → List Name
 names_of_operations os = map (λ o. o.name) os
 
+-- of processes
 abbrev pub names_of_processes : List Process → List Name
 names_of_processes ps = map (λ p. p.name) ps
 
+-- of parameters
 abbrev pub names_of_params : List Parameter → List Name
 names_of_params ps = map (λ p. p.name) ps
 
+-- of variables of a body
 abbrev pub names_of_locals : List Local → List Name
 names_of_locals vs = map (λ v. v.name) vs
 
+-- of assignments
 abbrev pub names_of_changes : List Change → List Name
 names_of_changes cs = map (λ c. c.name) cs
 
@@ -80,6 +91,7 @@ broken_names vars names = doubled names ++ as_variables vars names
 
 -- ---- classes, operations, processes
 
+-- what a class breaks
 abbrev pub broken_class : ClassDecl → List Broken
 broken_class c = outside 1 16 c.limit
 
@@ -95,21 +107,25 @@ scope_in t types params locals results = record {
   results = results;
 }
 
+-- what an operation's head breaks: its rights, its class and its counts
 abbrev pub broken_head : List Name → Operation → List Broken
 broken_head classes o =
     outside 0 65535 o.needs ++ broken_if (not (is_among classes o.class.text)) UnknownName o.class.place
     ++ too_many 8 (places_of (names_of_params o.params)) ++ too_many 8 (map (λ k. k.place) o.results)
     ++ too_many 32 (places_of (names_of_locals o.locals))
 
+-- what the parameters, results and variables of an operation break
 abbrev pub broken_declared : Operation → List Broken
 broken_declared o = flat_map broken_param o.params ++ flat_map broken_kind o.results ++ flat_map broken_local o.locals
 
+-- what an operation breaks
 abbrev pub broken_operation : Edentype → List (List ℕ) → Operation → List Broken
 broken_operation t types o =
     broken_head (names_of_classes t.classes) o ++ broken_names (names_of_vars t.vars) (names_of_params o.params ++ names_of_locals o.locals)
     ++ broken_declared o
     ++ broken_block (scope_in t types o.params o.locals (Some o.results)) None (block_of o.body)
 
+-- what a process breaks
 abbrev pub broken_process : Edentype → List (List ℕ) → Process → List Broken
 broken_process t types p =
     too_many 32 (places_of (names_of_locals p.locals)) ++ broken_names (names_of_vars t.vars) (names_of_locals p.locals)
@@ -117,6 +133,7 @@ broken_process t types p =
 
 -- ---- upgrades: their expressions see the parameters alone, and they give values to durable variables
 
+-- the names that an upgrade may use
 abbrev pub scope_of_upgrade : List (List ℕ) → List Parameter → Scope
 scope_of_upgrade types params =
     record { locals = []; params = params; vars = []; monitors = []; conditions = []; types = types; results = None }
@@ -126,10 +143,12 @@ abbrev pub durable_named : List Variable → List ℕ → Option Shape
 durable_named [] text = None
 durable_named (v ∷ vs) text = if v.durable && same_text v.name.text text then Some v.kind.shape else durable_named vs text
 
+-- a name that no durable variable has
 abbrev pub broken_durable : Option Shape → ℕ → List Broken
 broken_durable None place = broken_at UnknownName place ∷ []
 broken_durable (Some kind) place = []
 
+-- what an assignment of an upgrade breaks
 abbrev pub broken_change : Scope → List Variable → Change → List Broken
 broken_change scope vars change =
     let wanted = durable_named vars change.name.text in
@@ -141,6 +160,7 @@ abbrev pub version_number : Option Number → ℕ
 version_number None = 1
 version_number (Some number) = number.n
 
+-- what an upgrade breaks
 abbrev pub broken_upgrade : Edentype → List (List ℕ) → Upgrade → List Broken
 broken_upgrade t types u =
     outside 1 (version_number t.version - 1) u.from
@@ -150,6 +170,7 @@ broken_upgrade t types u =
 
 -- ---- the type
 
+-- what a version breaks
 abbrev pub broken_version : Option Number → List Broken
 broken_version None = []
 broken_version (Some number) = outside 1 65535 number
@@ -165,6 +186,7 @@ broken_counts t =
 abbrev pub broken_small_names : Edentype → List Broken
 broken_small_names t = doubled (names_of_vars t.vars ++ names_of_conditions t.conditions ++ names_of_classes t.classes)
 
+-- names of operations, processes and monitors that are declared twice
 abbrev pub broken_great_names : Edentype → List Broken
 broken_great_names t = doubled (names_of_operations t.operations ++ names_of_processes t.processes ++ t.monitors)
 

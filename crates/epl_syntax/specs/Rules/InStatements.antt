@@ -24,19 +24,23 @@ broken_variable wanted scope held name = broken_use scope held name ++ misfit wa
 -- an assignment: the value is of the variable's kind
 abbrev pub broken_assignment : Scope → Option ℕ → Name → Expression → List Broken
 broken_assignment scope held name value =
-    broken_use scope held name ++ (broken_expression scope held value ++ misfit_known (kind_named scope name.text) (kind_of scope value) (place_of value))
+    broken_use scope held name ++ (broken_expression scope held value ++ misfit_known (kind_named scope name.text) (kind_of scope value)
+    (place_of value))
 
 -- whom an invocation goes to: the Eject itself, or a variable with a capability
 abbrev pub broken_target : Scope → Option ℕ → Target → List Broken
 broken_target scope held (target.Name name) = broken_variable caps scope held name
 broken_target scope held (target.Me place) = []
 
+-- what expressions in a row break
 abbrev pub broken_expressions : Scope → Option ℕ → List Expression → List Broken
 broken_expressions scope held es = flat_map (broken_expression scope held) es
 
+-- what names that are used break
 abbrev pub broken_uses : Scope → Option ℕ → List Name → List Broken
 broken_uses scope held names = flat_map (broken_use scope held) names
 
+-- a type that is not declared before
 abbrev pub broken_type : Scope → Name → List Broken
 broken_type scope name = broken_if (not (is_type scope name.text)) UnknownName name.place
 
@@ -89,7 +93,8 @@ broken_create scope held type_name status gives =
 
 abbrev pub broken_invoke : Scope → Option ℕ → Target → List Expression → Name → List Name → List Broken
 broken_invoke scope held to args status gives =
-    broken_target scope held to ++ broken_expressions scope held args ++ broken_variable ints scope held status ++ broken_uses scope held gives
+    broken_target scope held to ++ broken_expressions scope held args ++ broken_variable ints scope held status
+    ++ broken_uses scope held gives
 
 -- `held` is the number of the monitor in whose `with` the statement stands
 abbrev mutual

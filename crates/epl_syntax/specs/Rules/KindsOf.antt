@@ -19,6 +19,7 @@ same_shape caps caps = true
 same_shape (lists s) (lists t) = same_shape s t
 same_shape _ _ = false
 
+-- whether a kind is one of lists
 abbrev pub is_list : Shape → Bool
 is_list (lists s) = true
 is_list _ = false
@@ -31,6 +32,7 @@ has_size _ = false
 
 -- ---- kinds that are known or not; an expression of unknown kind breaks no further rule
 
+-- the kind of a variable that is seen
 abbrev pub seen_kind : Option Seen → Option Shape
 seen_kind None = None
 seen_kind (Some v) = Some v.kind
@@ -62,6 +64,7 @@ kind_of_list (Some s) = Some (lists s)
 
 -- ---- expressions
 
+-- the kind of a constant
 abbrev pub kind_of_constant : Constant → Shape
 kind_of_constant (integer n) = ints
 kind_of_constant (text t) = texts

@@ -1,5 +1,7 @@
 -- The types of a script, each of which keeps the rules.
-use Rattle.std.specs.Prelude.{ℕ, List, [], ◌∷◌, ◌++◌, map}
+use Rattle.std.specs.Prelude.{ℕ, ◌-◌, List, [], ◌∷◌, ◌++◌, map, length, Option, None, nat_lt, slice_get, if◌then◌else◌}
+use Rattle.std.specs.List.{IsDistinct, position}
+use Rattle.eden_model.specs.Map.{same_text}
 use Rattle.epl_syntax.specs.declared.rule.Broken.{Broken}
 use Rattle.epl_syntax.specs.declared.types.Edentype.{Edentype as Native}
 use Rattle.epl_syntax.specs.Meaning.{name_of, native_types}
@@ -12,6 +14,7 @@ pub record TypeList : Type 0 where
   pub native : List Native
   pub declared : List Program
 
+-- those of a script that declares none
 abbrev pub native_only : TypeList
 native_only = record { native = native_types; declared = [] }
 
@@ -22,6 +25,22 @@ with_type ts t = record { native = ts.native; declared = ts.declared ++ t ∷ []
 -- the names of all of them
 abbrev pub names_of : TypeList → List (List ℕ)
 names_of ts = map name_of ts.native ++ map (λ t. t.name.text) ts.declared
+
+-- no two of them have one name
+abbrev pub NamesDiffer : TypeList → Type 0
+NamesDiffer ts = IsDistinct same_text (names_of ts)
+
+-- the place of the type of a name, where one has it: native types stand first, and places count from 0
+abbrev pub place_named : TypeList → List ℕ → Option ℕ
+place_named ts name = position (λ t. same_text t name) (names_of ts)
+
+-- the native type at a place
+abbrev pub native_at : TypeList → ℕ → Option Native
+native_at ts place = slice_get ts.native place
+
+-- the declared type at a place
+abbrev pub declared_at : TypeList → ℕ → Option Program
+declared_at ts place = if nat_lt place (length ts.native) then None else slice_get ts.declared (place - length ts.native)
 
 -- what types break, of which each sees those before it
 abbrev pub broken_types : List (List ℕ) → List Program → List Broken

@@ -36,17 +36,21 @@ abbrev pub or_else : Option Seen → Option Seen → Option Seen
 or_else None other = other
 or_else (Some v) other = Some v
 
+-- the variable of a body of this name
 abbrev pub local_named : List Local → List ℕ → Option Seen
 local_named [] text = None
 local_named (v ∷ vs) text = if same_text v.name.text text then Some (record { kind = v.kind.shape; monitor = 0 }) else local_named vs text
 
+-- the parameter of this name
 abbrev pub param_named : List Parameter → List ℕ → Option Seen
 param_named [] text = None
 param_named (p ∷ ps) text = if same_text p.name.text text then Some (record { kind = p.kind.shape; monitor = 0 }) else param_named ps text
 
+-- the variable of the type of this name
 abbrev pub var_named : List Variable → List ℕ → Option Seen
 var_named [] text = None
-var_named (v ∷ vs) text = if same_text v.name.text text then Some (record { kind = v.kind.shape; monitor = v.monitor }) else var_named vs text
+var_named (v ∷ vs) text =
+    if same_text v.name.text text then Some (record { kind = v.kind.shape; monitor = v.monitor }) else var_named vs text
 
 -- the variable of this name
 unfoldable pub variable_named : Scope → List ℕ → Option Seen
@@ -80,9 +84,11 @@ is_among names text = list_any (λ n. same_text n.text text) names
 abbrev pub clash : Name → Name → List Broken
 clash n m = broken_if (same_text n.text m.text) Doubled (max n.place m.place)
 
+-- a name that others have too
 abbrev pub clashes : Name → List Name → List Broken
 clashes n ns = flat_map (clash n) ns
 
+-- names that stand twice
 abbrev pub doubled : List Name → List Broken
 doubled [] = []
 doubled (n ∷ ns) = clashes n ns ++ doubled ns
@@ -98,6 +104,7 @@ as_variables vars ns = flat_map (as_variable vars) ns
 abbrev pub same_number : Number → Number → List Broken
 same_number a b = broken_if (a.n == b.n) Doubled (max a.place b.place)
 
+-- numbers that stand twice
 abbrev pub doubled_numbers : List Number → List Broken
 doubled_numbers [] = []
 doubled_numbers (a ∷ ns) = flat_map (same_number a) ns ++ doubled_numbers ns

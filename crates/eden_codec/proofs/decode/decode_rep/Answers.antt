@@ -1,9 +1,9 @@
 use Rattle.std.proofs.Common.{◌-◌, length}
-use Rattle.grammar.specs.FirstBad.{spelled_whole, bad_whole}
+use Rattle.grammar.proofs.FirstBad.{spelled_whole, bad_whole}
 use Rattle.eden_codec.specs.Spells.{Spells}
 use Rattle.eden_codec.specs.Reading.{rep_at}
-use Rattle.eden_codec.specs.Whole.{rep_exact}
-use Rattle.eden_codec.specs.OneSpelling.{spelled_has_form}
+use Rattle.eden_codec.proofs.Whole.{rep_exact}
+use Rattle.eden_codec.proofs.OneSpelling.{spelled_has_form}
 use Rattle.eden_codec.proofs.NotRep.{same_place}
 use Rattle.eden_codec.proofs.decode.decode_rep.Goals as goal
 

@@ -1,8 +1,8 @@
-use Rattle.grammar.specs.FirstBad.{one_value, no_prefix, one_place}
+use Rattle.grammar.proofs.FirstBad.{one_value, no_prefix, one_place}
 use Rattle.eden_codec.specs.Spells.{Spells}
 use Rattle.eden_codec.specs.Reading.{rep_at}
-use Rattle.eden_codec.specs.Whole.{rep_exact, reading_spelled, spelled_reading}
-use Rattle.eden_codec.specs.OneSpelling.{spelled, spelled_has_form, spelling_is, one_spelling}
+use Rattle.eden_codec.proofs.Whole.{rep_exact, reading_spelled, spelled_reading}
+use Rattle.eden_codec.proofs.OneSpelling.{spelled, spelled_has_form, spelling_is, one_spelling}
 use Rattle.eden_codec.proofs.law.each_rep_has_one_spelling.Goals as goal
 
 pub returns : goal.returns

@@ -4,7 +4,7 @@ use Rattle.std.proofs.lemmas.List.{map_push}
 use Rattle.eden_value.specs.View.{datum, datums}
 use Rattle.grammar.specs.Reading.{times}
 use Rattle.eden_codec.specs.Reading.{value_at}
-use Rattle.grammar.specs.Loop.{goes_on, ends, is_done}
+use Rattle.grammar.proofs.Loop.{goes_on, ends, is_done}
 use Rattle.eden_codec.proofs.Deeper.{deeper}
 use Rattle.eden_codec.proofs.value.+value.Goals as goal
 

@@ -2,7 +2,7 @@ use Rattle.std.proofs.Common.{◌≡◌, ◌-◌, ◌*◌, ◌+◌}
 use Rattle.eden_value.specs.View.{datums}
 use Rattle.grammar.specs.Reading.{times}
 use Rattle.eden_codec.specs.Reading.{value_at}
-use Rattle.grammar.specs.Loop.{with_front}
+use Rattle.grammar.proofs.Loop.{with_front}
 use Rattle.eden_codec.proofs.value.+value.Given as goal
 
 abbrev pub decreases-value_of : goal.decreases-value_of

@@ -2,7 +2,7 @@ use Rattle.std.proofs.lemmas.Result.{err_from_is_err_and}
 use Rattle.grammar.specs.Reading.{times}
 use Rattle.eden_codec.specs.Alphabet.{in_alphabet}
 use Rattle.grammar.specs.Reading.{one_of}
-use Rattle.grammar.specs.Loop.{goes_on, ends, is_done}
+use Rattle.grammar.proofs.Loop.{goes_on, ends, is_done}
 use Rattle.eden_codec.proofs.value.bytes_of.Goals as goal
 
 pub returns-in_err-b : goal.returns-in_err-b

@@ -1,5 +1,5 @@
 use Rattle.std.proofs.Common.{arith}
-use Rattle.eden_disk.specs.Timed.{timed_read, timed_sync, timed_write, timed_cut, timed_join}
+use Rattle.eden_disk.proofs.Timed.{timed_read, timed_sync, timed_write, timed_cut, timed_join}
 use Rattle.eden_disk.proofs.laws.calls_are_timed.Goals as goal
 
 pub returns-clause-read : goal.returns-clause-read

@@ -1,4 +1,4 @@
-use Rattle.eden_disk.specs.Timed.{after_earlier, in_earlier, after_later, in_later}
+use Rattle.eden_disk.proofs.Timed.{after_earlier, in_earlier, after_later, in_later}
 use Rattle.eden_disk.proofs.laws.earlier_moments_stay.Goals as goal
 
 pub returns-clause-after : goal.returns-clause-after

@@ -1,4 +1,4 @@
-use Rattle.eden_disk.specs.InCall.{behind_read, behind_sync, behind_write}
+use Rattle.eden_disk.proofs.InCall.{behind_read, behind_sync, behind_write}
 use Rattle.eden_disk.proofs.laws.left_after_a_call.Goals as goal
 
 pub returns-clause-read : goal.returns-clause-read

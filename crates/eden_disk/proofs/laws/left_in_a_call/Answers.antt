@@ -1,4 +1,4 @@
-use Rattle.eden_disk.specs.InCall.{in_read, in_sync, in_write}
+use Rattle.eden_disk.proofs.InCall.{in_read, in_sync, in_write}
 use Rattle.eden_disk.proofs.laws.left_in_a_call.Goals as goal
 
 pub returns-clause-read : goal.returns-clause-read

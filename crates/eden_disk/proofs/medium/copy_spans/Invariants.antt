@@ -1,5 +1,5 @@
 use Rattle.std.proofs.Common.{◌≡◌, length, map, reverse, take}
-use Rattle.eden_disk.specs.Entries.{range_of, copied}
+use Rattle.eden_disk.specs.Spans.{range_of, copied}
 use Rattle.eden_disk.proofs.medium.copy_spans.Given as goal
 
 abbrev pub invariant-loop-span : goal.invariant-loop-span

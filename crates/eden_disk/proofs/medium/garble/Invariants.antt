@@ -1,6 +1,6 @@
 use Rattle.std.proofs.Common.{◌≡◌, length, map, reverse, take}
 use Rattle.eden_disk.specs.Images.{garbled}
-use Rattle.eden_disk.specs.Entries.{range_of}
+use Rattle.eden_disk.specs.Spans.{range_of}
 use Rattle.eden_disk.proofs.medium.garble.Given as goal
 
 abbrev pub invariant-loop-span : goal.invariant-loop-span

@@ -1,4 +1,4 @@
-use Rattle.epl_syntax.specs.OneList.{one_list, one_place, never_both}
+use Rattle.epl_syntax.proofs.OneList.{one_list, one_place, never_both}
 use Rattle.epl_syntax.proofs.law.tokens_are_one.Goals as goal
 
 pub returns : goal.returns

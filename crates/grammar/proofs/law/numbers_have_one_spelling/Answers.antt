@@ -1,5 +1,5 @@
 use Rattle.std.proofs.Common.{sym, ◌∙◌}
-use Rattle.grammar.specs.Numbers.{number_is, number_spelled}
+use Rattle.grammar.proofs.Numbers.{number_is, number_spelled}
 use Rattle.grammar.proofs.Same.{same_number, no_longer}
 use Rattle.grammar.proofs.law.numbers_have_one_spelling.Goals as goal
 

@@ -1,5 +1,5 @@
 use Rattle.std.proofs.Common.{◌<◌, ◌≤◌, ◌+◌, ◌-◌, ◌*◌, ◌^◌, arith}
-use Rattle.grammar.specs.Numbers.{pow_above}
+use Rattle.grammar.proofs.Numbers.{pow_above}
 use Rattle.grammar.proofs.Scale.{suc_of, scale_fits, next_fits, next_room, goes_on_at, stops_at}
 use Rattle.grammar.proofs.number.+number_more.Goals as goal
 use Rattle.grammar.proofs.number.+number_more.Goals.{else-next-most-via-then-next-most+else-least-scale, else-next-most-via-else-next-most}

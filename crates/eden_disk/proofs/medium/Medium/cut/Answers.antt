@@ -10,7 +10,7 @@ returns-then-is_empty-clause-image c =
     rw (← c.self.view_is) (nothing_to_cut c.args.mode _ _ _ c.self.inside.unsynced.items none c.self.invariant.0).0
 
 pub returns-clause-cut : goal.returns-clause-cut
-returns-clause-cut c = rw (← c.self.view_is) (cut_told _ _ _ _ _ _ _ _ c.push_within.ensures.items c.self.invariant.0)
+returns-clause-cut c = rw (← c.self.view_is) (cut_told _ _ _ _ _ _ _ c.tell-self-inside.ensures c.self.invariant.0)
 
 pub returns-clause-size : goal.returns-clause-size
-returns-clause-size c = rw (← c.self.view_is) (cut_size _ _ _ _ _ _ _ _ c.push_within.ensures.items c.self.invariant.0)
+returns-clause-size c = rw (← c.self.view_is) (cut_size c.self.inside.telling.told c.tell-self-inside.result.told _ _ _ c.args.clock c.args.mode c.tell-self-inside.ensures c.self.invariant.0)

@@ -2,7 +2,8 @@ use Rattle.std.proofs.Common.{rules, ◌≡◌, ◌∙◌, replicate, IfOk, Ok, 
 use Rattle.std.specs.Prelude.{Result}
 use Rattle.std.specs.declared.alloc.AllocError.{AllocError}
 use Rattle.std.proofs.Common.{ℕ, List}
-use Rattle.eden_disk.specs.SimDisk.{Simulated, begun_with, blank_of, begun_blank}
+use Rattle.eden_disk.specs.SimDisk.{Simulated, begun_with, blank_of}
+use Rattle.eden_disk.proofs.SimDiskLaws.{begun_blank}
 use Rattle.eden_disk.proofs.sim_disk.SimDisk.new.Goals as goal
 
 blank_if : (r : Result Simulated AllocError) (image : List ℕ) (size : ℕ) → image ≡ replicate size 0 → IfOk r (λ d. d ≡ begun_with image) → IfOk r (λ d. d ≡ blank_of size)

@@ -1,7 +1,7 @@
 use Rattle.std.proofs.Common.{rules, ◌≡◌, ◌+◌, ◌≤◌, ℕ, List, length, inr, arith}
 use Rattle.eden_disk.specs.Told.{contents, noted, Wrote}
 use Rattle.eden_disk.specs.Images.{half_written}
-use Rattle.eden_disk.specs.Overlay.{length-half_written}
+use Rattle.eden_disk.proofs.Overlay.{length-half_written}
 use Rattle.eden_disk.proofs.sim_disk.SimDiskDisk.write.Goals as goal
 
 pub returns-else-is_err-2-clause-told : goal.returns-else-is_err-2-clause-told

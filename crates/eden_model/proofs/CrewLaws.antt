@@ -4,7 +4,7 @@ use Rattle.std.specs.Prelude.{slice_get, slice_set}
 use Rattle.eden_model.specs.Map.{with_item, first, rest}
 use Rattle.eden_model.specs.Crew.{Crew, Monitor, Condition, Waiting, nothing, outside, entry, condition, Waits, Runs, waits_at, with_waits, set_waits, set_waits_of, set_monitor, set_condition, locked, locked_by, match_holder, left, left_free, waited, signalled, queued_at, leave_held, is_held_by}
 use Rattle.eden_model.specs.Lines.{has, IsLine, AreLines, IsOut}
-use Rattle.eden_model.specs.LineLaws.{line-kept, line-rest, line-push, line-apart, set-same, set-free}
+use Rattle.eden_model.proofs.LineLaws.{line-kept, line-rest, line-push, line-apart, set-same, set-free}
 
 pub get-set_same : {X : Type 0} (xs : List X) (i : ℕ) (x y : X) → slice_get xs i ≡ Some y → slice_get (slice_set xs i x) i ≡ Some x
 get-set_same [] i x y h = cc

@@ -3,7 +3,8 @@
 use Rattle.std.specs.Prelude.{◌≡◌, ℕ, suc, Bool, true, false, List, [], ◌∷◌, ◌++◌, length, Option, Some, None, Result, Ok, Err, refl, if◌then◌else◌}
 use Rattle.std.proofs.Common.{ap, sym, ◌∙◌, subst, append_assoc, append-nil}
 use Rattle.grammar.specs.Reading.{Reading, Reader, read_then, nothing, mapped, found_one, one, if_passing, one_of, choose}
-use Rattle.grammar.specs.Grammar.{Grammar, Nothing, One, OneOf, Then, Choice, Mapped, Begins}
+use Rattle.grammar.specs.Grammar.{Grammar, Nothing, OneOf, Then, Mapped, Begins}
+use Rattle.grammar.proofs.Grammar.{One, Choice}
 
 pub ok_first : {S A B : Type 0} (a b : A) (m n : List S) → ◌≡◌ {A = Result (A × List S) B} (Ok (a, m)) (Ok (b, n)) → a ≡ b
 ok_first {S} {A} {B} a b m n e = let p : ◌≡◌ {A = A × List S} (a, m) (b, n) = cc in ap (λ x. x.0) p
@@ -25,6 +26,7 @@ abbrev pub Stays : {S A : Type 0} → Reader S A → List S → List S → Type 
 Stays R front [] = Unit {0}
 Stays {S} R front (b ∷ rest) = (more : List S) → R (front ++ b ∷ more) ≡ Err (suc (length more))
 
+-- where a reader stopped: the symbols before are begun right, and no symbol there goes on
 pub record Stopped {S A : Type 0} (G : Grammar S A) (R : Reader S A) (symbols : List S) (left : ℕ) : Type 0 where
   pub front : List S
   pub rest : List S
@@ -33,6 +35,7 @@ pub record Stopped {S A : Type 0} (G : Grammar S A) (R : Reader S A) (symbols : 
   pub begins : Begins G front
   pub stays : Stays R front rest
 
+-- a reader that reads what the grammar has and no more
 pub record Exact {S A : Type 0} (G : Grammar S A) (R : Reader S A) : Type 0 where
   pub takes : (symbols : List S) (a : A) (rest : List S) → R symbols ≡ Ok (a, rest) → Taken G symbols a rest
   pub again : (front : List S) (a : A) (rest : List S) → G front a → R (front ++ rest) ≡ Ok (a, rest)

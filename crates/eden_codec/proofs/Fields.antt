@@ -7,10 +7,12 @@ use Rattle.capability.specs.declared.Cap.{Cap}
 use Rattle.eden_value.specs.Datum.{Datum, number, truth, text, cap}
 use Rattle.eden_value.specs.Limits.{is_printable}
 use Rattle.grammar.specs.Reading.{Reader, read_then, mapped, one_of}
-use Rattle.grammar.specs.Grammar.{Grammar, Nothing, One, OneOf, Then, Mapped, Begins, begins_then, begins_mapped, begins_one_of, begins_same}
-use Rattle.grammar.specs.Exact.{Exact, then_exact, same_exact, nothing_exact, one_exact, one_of_exact, mapped_exact}
-use Rattle.grammar.specs.Repetition.{counted_exact}
-use Rattle.grammar.specs.Numbers.{Number, number_at, number_exact, begins_number}
+use Rattle.grammar.specs.Grammar.{Grammar, Nothing, OneOf, Then, Mapped, Begins}
+use Rattle.grammar.proofs.Grammar.{One, begins_then, begins_mapped, begins_one_of, begins_same}
+use Rattle.grammar.proofs.Exact.{Exact, then_exact, same_exact, nothing_exact, one_exact, one_of_exact, mapped_exact}
+use Rattle.grammar.proofs.Repetition.{counted_exact}
+use Rattle.grammar.specs.Numbers.{Number, number_at}
+use Rattle.grammar.proofs.Numbers.{number_exact, begins_number}
 use Rattle.eden_codec.specs.declared.value.Plain.{Plain}
 use Rattle.eden_codec.specs.declared.value.Plain.TheVariants.{Integer as is_int, Truth as is_truth, Text as is_text, Absent as is_none, Capability as is_cap}
 use Rattle.eden_codec.specs.Spells.{SpellsInt, SpellsTruth, SpellsText, SpellsCap}

@@ -2,8 +2,9 @@
 use Rattle.std.specs.Prelude.{◌≡◌, ℕ, zero, suc, List, [], ◌∷◌, length, refl}
 use Rattle.std.proofs.Common.{sym, subst}
 use Rattle.grammar.specs.Reading.{Reader, mapped, times, counted}
-use Rattle.grammar.specs.Grammar.{Grammar, Nothing, Then, Mapped, Times, Counted, Begins, begins_times, length-times}
-use Rattle.grammar.specs.Exact.{Exact, then_exact, same_exact, nothing_exact, mapped_exact}
+use Rattle.grammar.specs.Grammar.{Grammar, Nothing, Then, Mapped, Times, Counted, Begins}
+use Rattle.grammar.proofs.Grammar.{begins_times, length-times}
+use Rattle.grammar.proofs.Exact.{Exact, then_exact, same_exact, nothing_exact, mapped_exact}
 
 -- so many values
 module _ {S A : Type 0} (G : Grammar S A) (R : Reader S A) (g : Exact G R) (some : Begins G []) where

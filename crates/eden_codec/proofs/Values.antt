@@ -3,16 +3,18 @@ use Rattle.std.specs.Prelude.{◌≡◌, ℕ, zero, suc, List, [], ◌∷◌, �
 use Rattle.std.proofs.Common.{ap, sym, arith, subst}
 use Rattle.eden_value.specs.Datum.{Datum, number, truth, text, cap, list, data_of, items_of}
 use Rattle.eden_value.specs.Code.{items_of-data_of}
-use Rattle.eden_value.specs.Laws.{data_of-items_of}
-use Rattle.grammar.specs.Grammar.{Grammar, One, Choice, Mapped, Begins, begins_mapped}
-use Rattle.grammar.specs.Exact.{Exact, choice_exact, same_exact, mapped_exact}
-use Rattle.grammar.specs.Repetition.{counted_exact}
-use Rattle.grammar.specs.Numbers.{Number, number_at, number_exact}
+use Rattle.eden_value.proofs.Laws.{data_of-items_of}
+use Rattle.grammar.specs.Grammar.{Grammar, Mapped, Begins}
+use Rattle.grammar.proofs.Grammar.{One, Choice, begins_mapped}
+use Rattle.grammar.proofs.Exact.{Exact, choice_exact, same_exact, mapped_exact}
+use Rattle.grammar.proofs.Repetition.{counted_exact}
+use Rattle.grammar.specs.Numbers.{Number, number_at}
+use Rattle.grammar.proofs.Numbers.{number_exact}
 use Rattle.eden_codec.specs.declared.value.Plain.{Plain}
 use Rattle.eden_codec.specs.declared.value.Plain.TheVariants.{Integer as is_int, Truth as is_truth, Text as is_text, Absent as is_none, Capability as is_cap}
 use Rattle.eden_codec.specs.Reading.{items_at, plain_of, plain_at, kind_of, any_at, value_at}
 use Rattle.eden_codec.specs.Spells.{SpellsItems, SpellsValue}
-use Rattle.eden_codec.specs.Fields.{PlainSpelling, plain_exact, plain_begins}
+use Rattle.eden_codec.proofs.Fields.{PlainSpelling, plain_exact, plain_begins}
 
 abbrev tag : Plain → ℕ
 tag is_int = 1

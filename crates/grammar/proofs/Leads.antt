@@ -3,7 +3,7 @@ use Rattle.std.specs.Prelude.{◌≡◌, ℕ, suc, ◌≤◌, ◌<◌, Bool, tru
 use Rattle.std.proofs.Common.{ap, sym, ◌∙◌, subst, arith, length-append}
 use Rattle.grammar.specs.Grammar.{Then}
 use Rattle.grammar.specs.Depths.{Placed, bare, At, Fault, bad, deep, spent, Look, Looker, look_then, look_both, fits, found_at, look_at, Took, StaysAt, Stuck, Passes, Reads}
-use Rattle.grammar.specs.Lookers.{length-bare, past_later}
+use Rattle.grammar.proofs.Lookers.{length-bare, past_later}
 
 -- one symbol at a depth is one in a row
 pub at_one : {S A : Type 0} (depth : A → ℕ) (f : S → Option A) (ps : List (Placed S)) (a : A) → At depth f ps a → (s : S) × (f s ≡ Some a) × (ps ≡ (s, depth a) ∷ [])

@@ -3,8 +3,9 @@ use Rattle.std.specs.Prelude.{◌≡◌, ℕ, zero, suc, ◌≤◌, List, [], �
 use Rattle.std.proofs.Common.{sym, subst, arith, inl, inr}
 use Rattle.grammar.specs.Grammar.{Then}
 use Rattle.grammar.specs.Depths.{Placed, bare, Perhaps, Steps, no_step, step_on, Looker, look_both, look_many, Reads}
-use Rattle.grammar.specs.Lookers.{then_reads}
-use Rattle.grammar.specs.Choices.{same_reads, on_less, EndsBefore, BeginsBy, if_reads}
+use Rattle.grammar.proofs.Lookers.{then_reads}
+use Rattle.grammar.specs.Choices.{BeginsBy}
+use Rattle.grammar.proofs.Choices.{same_reads, on_less, EndsBefore, if_reads}
 
 -- ---- steps
 to_steps : {S A : Type 0} (G : A → List S → A → Type 0) (a : A) (ps : List S) (b : A) → Perhaps a (Then (G a) (λ c. Steps G c)) ps b → Steps G a ps b

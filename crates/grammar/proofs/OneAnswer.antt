@@ -4,7 +4,7 @@ use Rattle.std.specs.Prelude.{◌≡◌, ℕ, List, [], ◌∷◌, ◌++◌, len
 use Rattle.std.proofs.Common.{ap, sym, ◌∙◌, subst, append_assoc, append-nil}
 use Rattle.grammar.specs.Depths.{Placed, bare, Shallow}
 use Rattle.grammar.specs.FirstFault.{Spells, NoneGoesOn, Breaks, NoneWithin, Deepens}
-use Rattle.grammar.specs.Lookers.{bare-append, shallow_front}
+use Rattle.grammar.proofs.Lookers.{bare-append, shallow_front}
 
 -- ---- two splits of one list
 -- The second split is further on: behind the front of the first come this symbol and these.

@@ -11,9 +11,9 @@ use Rattle.std.specs.FinMap.Entries.{find-put, find-where_key}
 use Rattle.eden_model.specs.Map.{value_at, put_at, where_key}
 use Rattle.eden_model.specs.Crew.{Crew, Process, Waiting, Runs, entry, condition, waits_at, is_taken, free_from, least_number, least_free, Invocation, started, ended, leave_held}
 use Rattle.eden_model.specs.Lines.{has, Distinct, AllWait, AreLines, IsOut}
-use Rattle.eden_model.specs.Numbers.{same-true, same-self, no-more, AllIn}
-use Rattle.eden_model.specs.LineLaws.{keys_of, line-by}
-use Rattle.eden_model.specs.CrewLaws.{out-runs, leave_held-lines}
+use Rattle.eden_model.proofs.Numbers.{same-true, same-self, no-more, AllIn}
+use Rattle.eden_model.proofs.LineLaws.{keys_of, line-by}
+use Rattle.eden_model.proofs.CrewLaws.{out-runs, leave_held-lines}
 
 -- 1. Free numbers
 

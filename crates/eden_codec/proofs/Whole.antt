@@ -3,16 +3,19 @@ use Rattle.std.specs.Prelude.{◌≡◌, ℕ, suc, ◌-◌, true, List, [], ◌�
 use Rattle.std.proofs.Common.{ap, sym, ◌∙◌, arith, subst}
 use Rattle.eden_value.specs.Datum.{Datum}
 use Rattle.grammar.specs.Reading.{Reading, Reader, read_then, mapped, one_of, times, whole}
-use Rattle.grammar.specs.Grammar.{Grammar, OneOf, Then, Mapped, Times, Begins, begins_then, begins_mapped, begins_one_of, begins_times, begins_same, length-times}
-use Rattle.grammar.specs.Exact.{Exact, then_exact, same_exact, mapped_exact, one_of_exact}
-use Rattle.grammar.specs.Repetition.{times_exact, counted_exact}
-use Rattle.grammar.specs.Numbers.{Number, number_at, number_exact, begins_number}
-use Rattle.grammar.specs.FirstBad.{whole_spelled, spelled_whole}
+use Rattle.grammar.specs.Grammar.{Grammar, OneOf, Then, Mapped, Times, Begins}
+use Rattle.grammar.proofs.Grammar.{begins_then, begins_mapped, begins_one_of, begins_times, begins_same, length-times}
+use Rattle.grammar.proofs.Exact.{Exact, then_exact, same_exact, mapped_exact, one_of_exact}
+use Rattle.grammar.proofs.Repetition.{times_exact, counted_exact}
+use Rattle.grammar.specs.Numbers.{Number, number_at}
+use Rattle.grammar.proofs.Numbers.{number_exact, begins_number}
+use Rattle.grammar.proofs.FirstBad.{whole_spelled, spelled_whole}
 use Rattle.eden_codec.specs.declared.rep.Rep.{Rep}
-use Rattle.eden_codec.specs.Form.{is_upper, is_name_byte}
+use Rattle.std.specs.Char.{is_ascii_uppercase}
+use Rattle.eden_value.specs.Bytes.{is_name_byte}
 use Rattle.eden_codec.specs.Reading.{row_at, value_at, name_at, rep_at, if_read, reading}
 use Rattle.eden_codec.specs.Spells.{SpellsRow, SpellsValue, SpellsName, Spells}
-use Rattle.eden_codec.specs.Values.{value_exact, value_begins}
+use Rattle.eden_codec.proofs.Values.{value_exact, value_begins}
 
 -- ---- the name
 abbrev NameBytes : ℕ → Grammar ℕ (List ℕ)
@@ -22,13 +25,13 @@ abbrev AfterFirst : ℕ → ℕ → Grammar ℕ (List ℕ)
 AfterFirst n a = Mapped (λ more. a ∷ more) (NameBytes (n - 1))
 
 abbrev AfterLength : ℕ → Grammar ℕ (List ℕ)
-AfterLength n = Then (OneOf is_upper) (AfterFirst n)
+AfterLength n = Then (OneOf is_ascii_uppercase) (AfterFirst n)
 
 abbrev after_first : ℕ → ℕ → Reader ℕ (List ℕ)
 after_first n a = mapped (λ more. a ∷ more) (times (n - 1) (one_of is_name_byte))
 
 abbrev after_length : ℕ → Reader ℕ (List ℕ)
-after_length n bytes = read_then (one_of is_upper bytes) (after_first n)
+after_length n bytes = read_then (one_of is_ascii_uppercase bytes) (after_first n)
 
 letter_exact : Exact (OneOf is_name_byte) (one_of is_name_byte)
 letter_exact = one_of_exact is_name_byte 97 refl
@@ -43,15 +46,15 @@ first_exact : (n a : ℕ) → Exact (AfterFirst n a) (after_first n a)
 first_exact n a = mapped_exact (λ more. a ∷ more) (NameBytes (n - 1)) (times (n - 1) (one_of is_name_byte)) (times_exact (OneOf is_name_byte) (one_of is_name_byte) letter_exact letter_begins (n - 1))
 
 length_begins : (n : ℕ) → Begins (AfterLength n) []
-length_begins n = begins_then (OneOf is_upper) (AfterFirst n) (begins_one_of is_upper 65 refl) (first_begins n)
+length_begins n = begins_then (OneOf is_ascii_uppercase) (AfterFirst n) (begins_one_of is_ascii_uppercase 65 refl) (first_begins n)
 
 length_exact : (n : ℕ) → Exact (AfterLength n) (after_length n)
-length_exact n = then_exact (OneOf is_upper) (AfterFirst n) (one_of is_upper) (after_first n) (one_of_exact is_upper 65 refl) (first_exact n) (first_begins n)
+length_exact n = then_exact (OneOf is_ascii_uppercase) (AfterFirst n) (one_of is_ascii_uppercase) (after_first n) (one_of_exact is_ascii_uppercase 65 refl) (first_exact n) (first_begins n)
 
 abbrev NameParts : Grammar ℕ (List ℕ)
 NameParts = Then (Number 1 1 32) AfterLength
 
-name_from : (bytes size : List ℕ) (n : ℕ) → Number 1 1 32 size n → (first : List ℕ) (a : ℕ) → OneOf is_upper first a → (rest more : List ℕ) → bytes ≡ size ++ (first ++ rest) → NameBytes (n - 1) rest more → SpellsName bytes (a ∷ more)
+name_from : (bytes size : List ℕ) (n : ℕ) → Number 1 1 32 size n → (first : List ℕ) (a : ℕ) → OneOf is_ascii_uppercase first a → (rest more : List ℕ) → bytes ≡ size ++ (first ++ rest) → NameBytes (n - 1) rest more → SpellsName bytes (a ∷ more)
 name_from bytes size n s [] a f rest more whole letters = absurd f
 name_from bytes size n s (c ∷ []) a f rest more whole letters =
     let l : length more ≡ n - 1 = length-times (OneOf is_name_byte) (n - 1) rest more letters in
@@ -60,7 +63,7 @@ name_from bytes size n s (c ∷ []) a f rest more whole letters =
       rest,
       whole ∙ ap (λ x. size ++ x ∷ rest) f.0,
       subst (λ m. Number 1 1 32 size m) e s,
-      subst (λ x. is_upper x ≡ true) f.0 f.1,
+      subst (λ x. is_ascii_uppercase x ≡ true) f.0 f.1,
       subst (λ m. NameBytes m rest more) (sym l) letters,
     )
 name_from bytes size n s (c ∷ d ∷ first) a f rest more whole letters = absurd f

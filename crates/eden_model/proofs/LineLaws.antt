@@ -8,7 +8,7 @@ use Rattle.std.specs.Ordering.{nat_cmp, eq_by_cmp}
 use Rattle.eden_model.specs.Map.{value_at}
 use Rattle.eden_model.specs.Crew.{Process, Waiting, waits_at, with_waits}
 use Rattle.eden_model.specs.Lines.{has, Distinct, AllWait, IsLine}
-use Rattle.eden_model.specs.Numbers.{same-true, same-self, same-comm, no-more, AllIn}
+use Rattle.eden_model.proofs.Numbers.{same-true, same-self, same-comm, no-more, AllIn}
 
 pub or-left : (a b : Bool) → (a || b) ≡ false → a ≡ false
 or-left true b h = h

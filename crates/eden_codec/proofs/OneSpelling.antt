@@ -12,9 +12,10 @@ use Rattle.eden_value.specs.Datum.{Datum, Data, number, truth, text, cap, list, 
 use Rattle.eden_value.specs.Limits.{is_printable, IsText, IsValue, DataAreValues, AreValues}
 use Rattle.eden_value.specs.Range.{CapInRange, InRange, DataInRange, AllInRange}
 use Rattle.grammar.specs.Grammar.{OneOf, Times}
-use Rattle.grammar.specs.Numbers.{number_is, number_spelled}
+use Rattle.grammar.proofs.Numbers.{number_is, number_spelled}
 use Rattle.eden_codec.specs.declared.rep.Rep.{Rep}
-use Rattle.eden_codec.specs.Form.{is_name_byte, IsName, IsRep, RepInRange}
+use Rattle.eden_value.specs.Bytes.{is_name_byte}
+use Rattle.eden_codec.specs.Form.{IsName, IsRep, RepInRange}
 use Rattle.eden_codec.specs.Spells.{SpellsInt, SpellsText, SpellsCap, SpellsValue, SpellsName, Spells}
 use Rattle.eden_codec.specs.Spelling.{text_spelling, cap_spelling, value_spelling, data_spelling, values_spelling, spelling}
 
