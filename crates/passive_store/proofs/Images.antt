@@ -4,7 +4,7 @@ use Rattle.std.specs.Prelude.{◌==◌}
 use Rattle.std.proofs.lemmas.List.{ext_get_or, take-append-drop, take_at, drop_at, length-take-le, get_or-take, length-drop, drop-drop, get_or_append_left, get_or_at, get_or-append_right}
 use Rattle.std.proofs.lemmas.Bool.Decides.{nat_tests, eqb_tells}
 use Rattle.std.proofs.lemmas.Bool.{cases_lt}
-use Rattle.eden_disk.specs.Told.{at_rest, after_act, Wrote, overlay, is_marked}
+use Rattle.eden_disk.specs.Told.{at_rest, after_act, Wrote, overlay, is_unsynced}
 use Rattle.eden_disk.specs.Held.{Holds}
 use Rattle.passive_store.specs.Log.{HalfWritten, Unwritten}
 
@@ -28,7 +28,7 @@ with_front front rest image size same =
     let fronts : take (length front) image ≡ front = same_front (length front) image (front ++ rest) shorter longer same ∙ take_at front rest (length front) refl in
     sym (take-append-drop (length front) image) ∙ ap (λ l. l ++ drop (length front) image) fronts
 
-pub outside_range : (k at len : ℕ) → (k < at) ⊎ (at + len ≤ k) → is_marked k (record { at = at; len = len } ∷ []) ≡ false
+pub outside_range : (k at len : ℕ) → (k < at) ⊎ (at + len ≤ k) → is_unsynced k (record { at = at; len = len } ∷ []) ≡ false
 outside_range k at len h = grind (arith, nat_tests)
 
 behind : (front : List ℕ) (a b : ℕ) (rest : List ℕ) (k : ℕ) → length front < k → get_or (front ++ a ∷ rest) k 0 ≡ get_or (front ++ b ∷ rest) k 0
@@ -98,5 +98,5 @@ gate_written size clock gate front bytes rest left whole one =
     record {
       now = open_or_closed size x.0 front bytes rest _ (ap length is_now ∙ omega (arith, whole, length-append front (x.0 ∷ (bytes ++ rest)), length-append front (gate ∷ (bytes ++ rest)))) is_now;
       left = λ image l. open_or_closed size (get_or image (length front) 0) front bytes rest image (l.size ∙ whole)
-          (but_one front (bytes ++ rest) image gate l.size (λ k h. l.outside k (subst (λ n. is_marked k (record { at = length front; len = n } ∷ []) ≡ false) (sym one) (outside_range k (length front) 1 h))));
+          (but_one front (bytes ++ rest) image gate l.size (λ k h. l.outside k (subst (λ n. is_unsynced k (record { at = length front; len = n } ∷ []) ≡ false) (sym one) (outside_range k (length front) 1 h))));
     }

@@ -4,7 +4,8 @@ use Rattle.std.specs.Prelude.{Result, Ok, Err, OnOk}
 use Rattle.eden_disk.specs.declared.disk.DiskRefusal.{DiskRefusal}
 use Rattle.eden_disk.specs.Told.{Contents, Told, at_rest, contents, noted, Wrote, Synced, overlay}
 use Rattle.eden_disk.specs.Calls.{End, Fine, end_of, WriteTold, SyncTold}
-use Rattle.eden_disk.specs.Held.{Passes, passes_sync, passes_weaker}
+use Rattle.eden_disk.specs.Held.{Passes}
+use Rattle.eden_disk.proofs.Held.{passes_sync, passes_weaker}
 use Rattle.passive_store.specs.Log.{HalfWritten, Unwritten}
 use Rattle.passive_store.specs.LogState.{JobFacts, IsJobAfter, IsShut, IsOpened}
 use Rattle.passive_store.proofs.Images.{overlay_behind}

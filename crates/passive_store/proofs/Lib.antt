@@ -2,6 +2,7 @@ mod Getting
 mod Headers
 mod Images
 mod Jobs
+mod LogKept
 mod Openings
 mod Ordered
 mod Parsing
@@ -11,3 +12,6 @@ mod Tails
 mod Walk
 mod Walking
 mod Writing
+pub mod Changing
+pub mod Joining
+pub mod Marks

@@ -10,18 +10,21 @@ use Rattle.eden_disk.specs.Told.{Told, Contents, contents, at_rest, after_act, W
 use Rattle.eden_disk.specs.Calls.{Counts, End, Fine, AtFault, AtStop, end_of, ReadTold, SyncTold}
 use Rattle.eden_disk.specs.declared.disk.DiskRefusal.TheVariants.{Failed, Stopped}
 use Rattle.eden_disk.specs.Calls.{DeviceCalls}
-use Rattle.eden_disk.specs.Held.{Holds, Passes, holds_at_rest, passes_write, passes_sync, passes_read, passes_join, passes_weaker, calls_more}
+use Rattle.eden_disk.specs.Held.{Holds, Passes}
+use Rattle.eden_disk.proofs.Held.{holds_at_rest, passes_write, passes_sync, passes_read, passes_join, passes_weaker, calls_more}
 use Rattle.std.proofs.lemmas.Bool.Decides.{eqb_tells, nat_tests}
 use Rattle.passive_store.specs.declared.store.StoreRefusal.{StoreRefusal}
 use Rattle.passive_store.specs.declared.store.StoreRefusal.TheVariants.{Failed as StoreFailed, Stopped as StoreStopped, Full, Damaged, OutOfMemory}
 use Rattle.passive_store.specs.Kept.{IsDiskRefusal}
 use Rattle.passive_store.specs.declared.index.Slot.{Slot}
-use Rattle.passive_store.specs.Kept.{Change, Kept, Stands, HasNoMap, IsAnyOf, nothing_kept, refused, end_of_store, OpeningMade, OpeningTold}
+use Rattle.passive_store.specs.Kept.{Change, Kept, Stands, IsDamagedFrom, IsAnyOf, nothing_kept, refused, end_of_store, OpeningMade, OpeningTold}
 use Rattle.passive_store.specs.declared.opening.Found.{Found}
-use Rattle.passive_store.specs.Log.{log_map, kept_by, kept_from, records_of, records_behind}
-use Rattle.passive_store.specs.LogState.{records_before, records_or_none, records_found, records_up_to, records_read, IsLog, log_opening, looks}
+use Rattle.passive_store.specs.Kept.{kept_by, kept_from}
+use Rattle.passive_store.specs.Log.{log_map, records_of, records_behind}
+use Rattle.passive_store.specs.LogLayout.{log_layout, log_changes, records_before, records_or_none, records_up_to, records_read, log_opening, looks}
+use Rattle.passive_store.specs.LogState.{IsLog}
 use Rattle.passive_store.specs.Acts.{DiskCall, Sync, Read, AllTold, SomeTold, CallsTold}
-use Rattle.passive_store.specs.Joining.{all_more, all_some, some_more, call_done}
+use Rattle.passive_store.proofs.Joining.{all_more, all_some, some_more, call_done}
 use Rattle.passive_store.specs.Opening.{IsWalk, IsThrough, ThroughTold, IsEmptyImage, IsBlank, IsNewLog, OnFine, IsReadied, IsKeptThrough, ReadsMade}
 use Rattle.passive_store.proofs.Walk.{long_enough, log_stands_there, closed, passed_over}
 use Rattle.passive_store.proofs.Walking.{walk_closed, around}
@@ -148,28 +151,36 @@ keeps_by node Q old new end h long (inr blank) =
     let empty : Q (Ok nothing_kept) = subst Q (empty_map node (contents old).now (long, inl blank.0)) h.now in
     passes_weaker IsEmptyImage (λ image. Q (log_map node image)) old new (λ image e. subst Q (sym (empty_map node image e)) empty) blank.1
 
+-- what of a log stands or is damaged, by its map
+stands_by : (node told : ℕ) (kept : Kept) (changes : List Change) (old new : Told) → told ≤ log_changes → Passes (λ image. IsAnyOf kept changes (log_map node image)) old new → Passes (Stands log_layout node told kept changes) old new
+stands_by node told kept changes old new most p =
+    passes_weaker (λ image. IsAnyOf kept changes (log_map node image)) (Stands log_layout node told kept changes) old new (λ image found. record { found = found; opens = refl; told = most }) p
+
+found_by : (node told : ℕ) (kept : Kept) (changes : List Change) (c : Contents) → Holds (Stands log_layout node told kept changes) c → Holds (λ image. IsAnyOf kept changes (log_map node image)) c
+found_by node told kept changes c h = record { now = h.now.found; left = λ image l. (h.left image l).found }
+
 pub keeps_ready : (node : ℕ) (old new : Told) (end : End) → 17 ≤ length (contents old).now → IsReadied old new end → IsKeptThrough node old new
 keeps_ready node old new end long r = record {
-  mapped = λ kept changes h. keeps_by node (λ found. IsAnyOf kept changes found) old new end h long r;
-  unmapped = λ h. keeps_by node (λ found. (place : ℕ) × (found ≡ Err place)) old new end h long r;
+  mapped = λ told kept changes h. stands_by node told kept changes old new h.now.told (keeps_by node (λ found. IsAnyOf kept changes found) old new end (found_by node told kept changes (contents old) h) long r);
+  unmapped = λ place h. keeps_by node (λ found. found ≡ Err place) old new end h long r;
 }
 
 pub keeps_sync : (node clock : ℕ) (old new : Told) (end : End) → SyncTold clock old new end → IsKeptThrough node old new
-keeps_sync node clock old new end told = record {
-  mapped = λ kept changes h. passes_sync (Stands (log_map node) kept changes) clock old new end h told;
-  unmapped = λ h. passes_sync (HasNoMap (log_map node)) clock old new end h told;
+keeps_sync node clock old new end synced = record {
+  mapped = λ told kept changes h. passes_sync (Stands log_layout node told kept changes) clock old new end h synced;
+  unmapped = λ place h. passes_sync (IsDamagedFrom log_layout node place) clock old new end h synced;
 }
 
 pub keeps_read : (node clock : ℕ) (old new : Told) (end : End) → ReadTold clock old new end → IsKeptThrough node old new
-keeps_read node clock old new end told = record {
-  mapped = λ kept changes h. passes_read (Stands (log_map node) kept changes) clock old new end h told;
-  unmapped = λ h. passes_read (HasNoMap (log_map node)) clock old new end h told;
+keeps_read node clock old new end read = record {
+  mapped = λ told kept changes h. passes_read (Stands log_layout node told kept changes) clock old new end h read;
+  unmapped = λ place h. passes_read (IsDamagedFrom log_layout node place) clock old new end h read;
 }
 
 pub keeps_join : (node : ℕ) (old mid new : Told) → IsKeptThrough node old mid → IsKeptThrough node mid new → IsKeptThrough node old new
 keeps_join node old mid new a b = record {
-  mapped = λ kept changes h. let first = a.mapped kept changes h in passes_join (Stands (log_map node) kept changes) old mid new first (b.mapped kept changes first.after);
-  unmapped = λ h. let first = a.unmapped h in passes_join (HasNoMap (log_map node)) old mid new first (b.unmapped first.after);
+  mapped = λ told kept changes h. let first = a.mapped told kept changes h in passes_join (Stands log_layout node told kept changes) old mid new first (b.mapped told kept changes first.after);
+  unmapped = λ place h. let first = a.unmapped place h in passes_join (IsDamagedFrom log_layout node place) old mid new first (b.unmapped place first.after);
 }
 
 pub keeps_none : (node : ℕ) (t : Told) → IsKeptThrough node t t
@@ -216,7 +227,6 @@ synced_now c bytes e = e ∙ sym (ap (λ (d : Contents). at_rest d.now) e)
 pub record IsOpened (node size tail : ℕ) (before : List ℕ) (c : Contents) (index : BTreeMap Uid (Option Slot)) : Type 0 where
   pub log : IsLog node size tail c index None
   pub map_is : log_map node before ≡ Ok (kept_from nothing_kept (records_before node tail c.now))
-  pub found : records_before node tail c.now ≡ records_found node before
   pub read : records_before node tail c.now ≡ records_read node before
 
 same_number : (x y : ℕ) → (x == y) ≡ true → x ≡ y
@@ -230,7 +240,6 @@ opened_old node size tail bytes index long ends header w shut =
     record {
       log = record { whole = w.whole; header = first; front = w.front; indexed = w.indexed; sum = w.sum; end = (refl, shut) };
       map_is = log_stands_there node bytes long first ∙ ap kept_by records;
-      found = sym (ap (λ b. if b then records_or_none (records_of node bytes) else []) header ∙ ap records_or_none records);
       read = sym (ap (λ b. if b then records_up_to node bytes (records_of node bytes) else []) header ∙ ap (records_up_to node bytes) records);
     }
 
@@ -247,7 +256,6 @@ opened_new node size tail before c index long ends blank new w shut =
     record {
       log = record { whole = w.whole; header = new.header; front = w.front; indexed = w.indexed; sum = w.sum; end = (new.rest, shut) };
       map_is = empty_map node before (long, inl blank) ∙ ap (λ rs. Ok (kept_from nothing_kept rs)) (sym none);
-      found = none ∙ sym (ap (λ b. if b then records_or_none (records_of node before) else []) blank);
       read = none ∙ sym (ap (λ b. if b then records_up_to node before (records_of node before) else []) blank);
     }
 

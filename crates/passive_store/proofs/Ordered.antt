@@ -1,6 +1,6 @@
 -- The first entry of an index, in the order of uids, that is of a kind.
-use Rattle.std.proofs.Common.{◌≡◌, ◌⊎◌, ℕ, Bool, true, false, cond, IsTrue, List, [], ◌∷◌, ◌++◌, Option, None, Some, refl, sym, ap, subst, ◌∙◌, inl, inr}
-use Rattle.std.specs.Prelude.{◌==◌, ◌&&◌, not, is_some}
+use Rattle.std.proofs.Common.{◌≡◌, ◌⊎◌, ◌≤◌, arith, ℕ, Bool, true, false, cond, IsTrue, length, List, [], ◌∷◌, ◌++◌, Option, None, Some, refl, sym, ap, subst, ◌∙◌, inl, inr}
+use Rattle.std.specs.Prelude.{◌==◌, ◌≢◌, ◌&&◌, not, is_some, IfSome}
 use Rattle.std.specs.List.{find, filter, AllByRecursion}
 use Rattle.std.specs.List.Sorted.{IsStrictlySortedBy}
 use Rattle.std.specs.Map.{lookup, keys_of}
@@ -13,15 +13,16 @@ use Rattle.std.specs.declared.ops.Bound.TheVariants.{Excluded, Unbounded}
 use Rattle.std.specs.BTreeMap.{BTreeMap, is_at}
 use Rattle.std.specs.BTreeMap.Range.{range_contains}
 use Rattle.std.proofs.lemmas.Bool.{false≢true}
-use Rattle.std.proofs.lemmas.Bool.Decides.{eqb_tells}
+use Rattle.std.proofs.lemmas.Bool.Decides.{nat_tests}
 use Rattle.std.proofs.lemmas.Cmp.{tied_itself}
 use Rattle.std.proofs.lemmas.Map.Entries.{lookup_head, lookup_tail}
 use Rattle.std.proofs.lemmas.Map.Keys.{sorted_head, sorted_tail}
 use Rattle.capability.specs.declared.Uid.{Uid}
-use Rattle.capability.specs.Uids.{uid_cmp, uid_eq, uid_cmp_total, uid_cmp-IsAntisymmetric}
+use Rattle.capability.specs.Uids.{uid_cmp}
+use Rattle.capability.proofs.Uids.{uid_cmp_total, uid_cmp-IsAntisymmetric}
 use Rattle.passive_store.specs.declared.index.Slot.{Slot}
-use Rattle.passive_store.specs.Kept.{IsBehind, IsNextOf}
-use Rattle.passive_store.specs.LogState.{slot_at}
+use Rattle.passive_store.specs.Kept.{IsBehind, IsNextOf, IsEject, IsOwn, reserved_uid}
+use Rattle.passive_store.specs.LogState.{slot_at, is_eject}
 
 either : (b : Bool) → (b ≡ true) ⊎ (b ≡ false)
 either true = inl refl
@@ -112,7 +113,6 @@ first_of_all p test [] sorted = λ uid slot let_in h passes. absurd cc
 first_of_all p test (e ∷ es) sorted =
     by_tests p test e es (p e.0) (test e) refl refl sorted (first_of_all p test es (sorted_tail uid_cmp e.0 (keys_of es) sorted))
 
--- uids that are told to be equal are one
 both : (a b : Bool) → (a && b) ≡ true → (a ≡ true) × (b ≡ true)
 both true b e = (refl, e)
 both false b e = absurd (false≢true e)
@@ -121,35 +121,27 @@ joined : (a b : Bool) → a ≡ true → b ≡ true → (a && b) ≡ true
 joined true b p q = q
 joined false b p q = absurd (false≢true p)
 
-not_true : (b : Bool) → not b ≡ true → b ≡ true → ⊥
-not_true true n e = false≢true n
-not_true false n e = false≢true e
-
-not_false : (b : Bool) → (b ≡ true → ⊥) → not b ≡ true
-not_false true wrong = absurd (wrong refl)
-not_false false wrong = refl
-
-same_number : (x y : ℕ) → (x == y) ≡ true → x ≡ y
-same_number x y h = elim (eqb_tells x y) [ inl p ↦ p.1 | inr p ↦ absurd (false≢true (sym p.0 ∙ h)) ]
-
-equal_itself : (x : ℕ) → (x == x) ≡ true
-equal_itself x = elim (eqb_tells x x) [ inl p ↦ p.0 | inr p ↦ absurd (p.1 refl) ]
-
-eq_uid : (a b : Uid) → uid_eq a b ≡ true → a ≡ b
-eq_uid a b h =
-    let p = both (a.node == b.node) ((a.epoch == b.epoch) && (a.serial == b.serial)) h in
-    let q = both (a.epoch == b.epoch) (a.serial == b.serial) p.1 in
-    λ i. record { node = same_number a.node b.node p.0 i; epoch = same_number a.epoch b.epoch q.0 i; serial = same_number a.serial b.serial q.1 i }
-
-uid_eq_itself : (a : Uid) → uid_eq a a ≡ true
-uid_eq_itself a = joined (a.node == a.node) ((a.epoch == a.epoch) && (a.serial == a.serial)) (equal_itself a.node) (joined (a.epoch == a.epoch) (a.serial == a.serial) (equal_itself a.epoch) (equal_itself a.serial))
-
 abbrev pub bound_of : Option Uid → Bound Uid
 bound_of None = Unbounded
 bound_of (Some uid) = Excluded uid
 
-abbrev pub has_slot : Uid → Uid × Option Slot → Bool
-has_slot reserved e = is_some e.1 && not (uid_eq e.0 reserved)
+abbrev pub has_slot : ℕ → Uid × Option Slot → Bool
+has_slot node e = is_some e.1 && is_eject node e.0
+
+number_tests : (n node epoch serial : ℕ) → (n == node && (not (epoch == 0) && not (serial == 0))) ≡ true → (n ≡ node) × (1 ≤ epoch) × (1 ≤ serial)
+number_tests n node epoch serial h = (grind (arith, nat_tests), grind (arith, nat_tests), grind (arith, nat_tests))
+
+pub eject_told : (node : ℕ) (uid : Uid) → is_eject node uid ≡ true → IsEject node uid
+eject_told node uid h = number_tests uid.node node uid.epoch uid.serial h
+
+tests_number : (n node epoch serial : ℕ) → n ≡ node → 1 ≤ epoch → 1 ≤ serial → (n == node && (not (epoch == 0) && not (serial == 0))) ≡ true
+tests_number n node epoch serial same e s = grind (arith, nat_tests)
+
+pub eject_tests : (node : ℕ) (uid : Uid) → IsEject node uid → is_eject node uid ≡ true
+eject_tests node uid own = tests_number uid.node node uid.epoch uid.serial own.0 own.1 own.2
+
+not_reserved : (node : ℕ) (uid : Uid) → is_eject node uid ≡ true → uid ≢ reserved_uid node
+not_reserved node uid h e = omega (arith, (eject_told node uid h).1, ap (λ (u : Uid). u.epoch) e)
 
 is_less : (o : Ordering) → (is_lt o && true) ≡ true → o ≡ Less
 is_less Less h = refl
@@ -168,25 +160,45 @@ slot_is : (found : Option (Option Slot)) → IsTrue (is_some (option_and_then (�
 slot_is None h = absurd (false≢true h)
 slot_is (Some slot) h = (slot, refl, h)
 
-pub next_of : (index : BTreeMap Uid (Option Slot)) (from : Option Uid) (reserved : Uid) (found : Option (Uid × Option Slot)) → IsFirstOf (λ uid. range_contains uid_cmp (bound_of from) Unbounded uid) (has_slot reserved) index.entries found →
-    IsNextOf (λ uid. is_some (slot_at index uid)) reserved from (option_map (λ (e : Uid × Option Slot). e.0) found)
-next_of index from reserved None first = λ uid behind some other.
-    let s = slot_is (lookup (is_at (uid_cmp uid)) index.entries) some in
-    first uid s.0 (of_behind from uid behind) s.1 (joined (is_some s.0) (not (uid_eq uid reserved)) s.2 (not_false (uid_eq uid reserved) (λ e. other (eq_uid uid reserved e))))
-next_of index from reserved (Some f) first =
-    let t = both (is_some f.1) (not (uid_eq f.0 reserved)) first.1 in (
+pub next_of : (index : BTreeMap Uid (Option Slot)) (from : Option Uid) (node : ℕ) (found : Option (Uid × Option Slot)) → IsFirstOf (λ uid. range_contains uid_cmp (bound_of from) Unbounded uid) (has_slot node) index.entries found →
+    IsNextOf (λ uid. is_some (slot_at index uid) && is_eject node uid) (reserved_uid node) from (option_map (λ (e : Uid × Option Slot). e.0) found)
+next_of index from node None first = λ uid behind one other.
+    let t = both (is_some (slot_at index uid)) (is_eject node uid) one in
+    let s = slot_is (lookup (is_at (uid_cmp uid)) index.entries) t.0 in
+    first uid s.0 (of_behind from uid behind) s.1 (joined (is_some s.0) (is_eject node uid) s.2 t.1)
+next_of index from node (Some f) first =
+    let t = both (is_some f.1) (is_eject node f.0) first.1 in (
       behind_of from f.0 first.0,
-      ap (λ x. is_some (option_and_then (λ (s : Option Slot). s) x)) first.2 ∙ t.0,
-      λ e. not_true (uid_eq f.0 reserved) t.1 (ap (λ u. uid_eq u reserved) e ∙ uid_eq_itself reserved),
-      λ uid behind some other.
-          let s = slot_is (lookup (is_at (uid_cmp uid)) index.entries) some in
-          first.3 uid s.0 (of_behind from uid behind) s.1 (joined (is_some s.0) (not (uid_eq uid reserved)) s.2 (not_false (uid_eq uid reserved) (λ e. other (eq_uid uid reserved e)))),
+      joined (is_some (slot_at index f.0)) (is_eject node f.0) (ap (λ x. is_some (option_and_then (λ (s : Option Slot). s) x)) first.2 ∙ t.0) t.1,
+      not_reserved node f.0 t.1,
+      λ uid behind one other.
+          let u = both (is_some (slot_at index uid)) (is_eject node uid) one in
+          let s = slot_is (lookup (is_at (uid_cmp uid)) index.entries) u.0 in
+          first.3 uid s.0 (of_behind from uid behind) s.1 (joined (is_some s.0) (is_eject node uid) s.2 u.1),
     )
 
--- of the same kind is the same next
-pub next_as : (p q : Uid → Bool) (reserved : Uid) (from next : Option Uid) → ((uid : Uid) → q uid ≡ p uid) → IsNextOf p reserved from next → IsNextOf q reserved from next
-next_as p q reserved from None same next = λ uid behind one other. next uid behind (subst IsTrue (same uid) one) other
-next_as p q reserved from (Some x) same next = (next.0, subst IsTrue (sym (same x)) next.1, next.2, λ uid behind one other. next.3 uid behind (subst IsTrue (same uid) one) other)
+-- of the same kind, the reserved uid apart, is the same next
+pub next_as : (p q : Uid → Bool) (reserved : Uid) (from next : Option Uid) → ((uid : Uid) → uid ≢ reserved → q uid ≡ p uid) → IsNextOf p reserved from next → IsNextOf q reserved from next
+next_as p q reserved from None same next = λ uid behind one other. next uid behind (subst IsTrue (same uid other) one) other
+next_as p q reserved from (Some x) same next = (next.0, subst IsTrue (sym (same x next.2)) next.1, next.2, λ uid behind one other. next.3 uid behind (subst IsTrue (same uid other) one) other)
+
+-- an own uid that is not the reserved one is that of an Eject
+own_eject : (node : ℕ) (uid : Uid) (size : ℕ) → IsOwn node uid size → uid ≢ reserved_uid node → IsEject node uid
+own_eject node uid size (at, inl some) other = (at, some.0, some.1)
+own_eject node uid size (at, inr none) other = absurd (other (λ i. record { node = at i; epoch = none.0 i; serial = none.1 i }))
+
+kept_or_not : (node : ℕ) (uid : Uid) (body : Option (List ℕ)) → ((b : List ℕ) → body ≡ Some b → IsOwn node uid (length b)) → uid ≢ reserved_uid node → is_some body ≡ (is_some body && is_eject node uid)
+kept_or_not node uid None own other = refl
+kept_or_not node uid (Some b) own other = sym (eject_tests node uid (own_eject node uid (length b) (own b refl) other))
+
+-- of what is kept under own uids, all but what the reserved one has is that of Ejects
+pub only_ejects : (node : ℕ) (uid : Uid) (body : Option (List ℕ)) (slot : Bool) → is_some body ≡ slot → ((b : List ℕ) → body ≡ Some b → IsOwn node uid (length b)) → uid ≢ reserved_uid node → is_some body ≡ (slot && is_eject node uid)
+only_ejects node uid body slot same own other = kept_or_not node uid body own other ∙ ap (λ b. b && is_eject node uid) same
+
+-- what comes next is an Eject
+pub next_eject : (is_one : Uid → Bool) (node : ℕ) (reserved : Uid) (from found : Option Uid) → IsNextOf (λ uid. is_one uid && is_eject node uid) reserved from found → IfSome found (λ uid. IsEject node uid)
+next_eject is_one node reserved from None next = tt
+next_eject is_one node reserved from (Some uid) next = eject_told node uid (both (is_one uid) (is_eject node uid) next.1).1
 
 pub some_mapped : {A B : Type 0} (f : A → B) (o : Option A) → is_some (option_map f o) ≡ is_some o
 some_mapped f None = refl

@@ -1,10 +1,12 @@
 -- A record that is read is the spelling of what it says, wherever it stands: it depends on its own bytes alone.
 use Rattle.std.proofs.Common.{◌≡◌, ℕ, ◌+◌, ◌≤◌, true, List, ◌∷◌, ◌++◌, length, take, sym, ap, ◌∙◌, arith, length-append}
-use Rattle.std.specs.Prelude.{◌==◌, None, Some, slice_range, slice_index, if◌then◌else◌}
+use Rattle.std.specs.Prelude.{◌==◌, Option, None, Some, slice_range, slice_index, if◌then◌else◌}
 use Rattle.std.specs.Int.{w32, from_be_bytes}
 use Rattle.std.proofs.lemmas.Bool.Decides.{nat_tests}
 use Rattle.std.proofs.lemmas.List.{take-take, take-append-le, length-take-le}
-use Rattle.passive_store.specs.Log.{length_of, uid_of, kind_of, body_of, are_fields, is_record, Spells}
+use Rattle.passive_store.specs.Log.{length_of, uid_of, kind_of, body_of, log_grows, are_fields, is_record, Spells}
+use Rattle.capability.specs.declared.Uid.{Uid}
+use Rattle.passive_store.specs.Kept.{Change}
 use Rattle.passive_store.proofs.Tails.{same_below, same_part}
 
 pub same_length : (xs ys : List ℕ) → take 14 xs ≡ take 14 ys → length_of xs ≡ length_of ys
@@ -41,8 +43,9 @@ parsed node bs h =
       reads = λ place gate rest.
           let ys : List ℕ = take (14 + length_of bs) bs ++ gate ∷ rest in
           let part : slice_range ys 14 (14 + length_of bs) ≡ slice_range bs 14 (14 + length_of bs) = same_part ys bs (14 + length_of bs) 14 (14 + length_of bs) (same gate rest) (omega arith) in
-          ap (λ u. record { uid = u; body = body_of ys; mark = place }) (same_uid ys bs (head gate rest))
-          ∙ ap (λ k. record { uid = uid_of bs; body = (if k == 1 then Some (slice_range ys 14 (14 + length_of ys)) else None); mark = place }) (same_kind ys bs (head gate rest))
-          ∙ ap (λ l. record { uid = uid_of bs; body = (if kind_of bs == 1 then Some (slice_range ys 14 (14 + l)) else None); mark = place }) (same_length ys bs (head gate rest))
-          ∙ ap (λ b. record { uid = uid_of bs; body = (if kind_of bs == 1 then Some b else None); mark = place }) part;
+          let of_body : Uid → Option (List ℕ) → Change = λ u b. record { uid = u; body = b; mark = place; wrote = log_grows b } in
+          ap (λ u. of_body u (body_of ys)) (same_uid ys bs (head gate rest))
+          ∙ ap (λ k. of_body (uid_of bs) (if k == 1 then Some (slice_range ys 14 (14 + length_of ys)) else None)) (same_kind ys bs (head gate rest))
+          ∙ ap (λ l. of_body (uid_of bs) (if kind_of bs == 1 then Some (slice_range ys 14 (14 + l)) else None)) (same_length ys bs (head gate rest))
+          ∙ ap (λ b. of_body (uid_of bs) (if kind_of bs == 1 then Some b else None)) part;
     }

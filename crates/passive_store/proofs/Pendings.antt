@@ -8,26 +8,28 @@ use Rattle.std.specs.Option.{option_map}
 use Rattle.std.specs.FinMap as finite
 use Rattle.std.specs.Cmp.{eq_by_cmp_equiv}
 use Rattle.std.specs.BTreeMap.{BTreeMap}
-use Rattle.std.proofs.lemmas.List.{length-take-le, take-append-drop, drop_more, map-append}
+use Rattle.std.proofs.lemmas.List.{length-take-le, take-append-drop, drop_more}
 use Rattle.std.proofs.lemmas.Bool.{false≢true}
 use Rattle.capability.specs.declared.Uid.{Uid}
-use Rattle.capability.specs.Uids.{uid_cmp_total}
+use Rattle.capability.proofs.Uids.{uid_cmp_total}
 use Rattle.eden_disk.specs.Told.{Told, Contents, contents, at_rest, EachMoment, LeavesOnly}
 use Rattle.eden_disk.specs.declared.disk.DiskRefusal.{DiskRefusal}
 use Rattle.eden_disk.specs.declared.disk.DiskRefusal.TheVariants.{Failed as DiskFailed, Stopped as DiskStopped}
 use Rattle.eden_disk.specs.Calls.{Counts, End, ReadTold, SyncTold, end_of}
 use Rattle.passive_store.specs.Acts.{DiskCall, CallTold}
-use Rattle.eden_disk.specs.Held.{Holds, Passes, holds_at_rest, passes_read, passes_sync}
+use Rattle.eden_disk.specs.Held.{Holds, Passes}
+use Rattle.eden_disk.proofs.Held.{holds_at_rest, passes_read, passes_sync}
 use Rattle.passive_store.specs.declared.store.Pick.TheVariants.{New}
 use Rattle.passive_store.specs.declared.index.Slot.{Slot}
 use Rattle.passive_store.specs.declared.log_store.Pending.{Pending}
 use Rattle.passive_store.specs.declared.log_store.Stage.{Stage}
 use Rattle.passive_store.specs.declared.log_store.Stage.TheVariants.{Begun, Written, Synced, Opened, Ended}
-use Rattle.passive_store.specs.Kept.{Change, Kept, Shown, Work, Idle, Busy, Unsettled, nothing_kept, kept_after, IsFresh, Stands, changes_in, change_in, doubt_in, is_busy, made_in, Layout, shown_advanced, settled, is_unsettled, is_synced, unsynced, settling_calls, NextTold, HasJob, IsJobOf, work_begun, end_of_store, refused}
+use Rattle.passive_store.specs.Kept.{Change, Kept, Work, Idle, Busy, Unsettled, nothing_kept, kept_after, kept_from, kept_advanced, IsFresh, Stands, changes_in, change_in, doubt_in, is_busy, settled, is_unsettled, is_synced, unsynced, settling_calls, NextTold, HasJob, IsJobOf, work_begun, end_of_store, refused}
 use Rattle.passive_store.specs.declared.store.StoreRefusal.{StoreRefusal}
 use Rattle.passive_store.specs.declared.store.Progress.TheVariants.{Going, Done}
-use Rattle.passive_store.specs.Log.{HalfWritten, Unwritten, log_map, kept_from}
-use Rattle.passive_store.specs.LogState.{records_before, slot_of, SetsSlot, IsPendingOf, IsLog, IsPlaced, IsUntouched, IsAtStage, IsStaged, IsShut, IsOpened, IsJobAfter, JobFacts, made_at, stage_after, stage_synced, staged, change_of, pending_work, log_shown, log_layout, body_length, IsRecordOf, IsIndex, slot_at, within_room, WhereBegun, stage_call, record_job, log_job, log_tail, bytes_for, used_by}
+use Rattle.passive_store.specs.Log.{HalfWritten, Unwritten, log_grows}
+use Rattle.passive_store.specs.LogLayout.{log_layout, log_changes, log_kept, records_before, body_length, within_room, record_job, log_job, log_tail, bytes_for, used_by}
+use Rattle.passive_store.specs.LogState.{slot_of, SetsSlot, IsPendingOf, IsLog, IsPlaced, IsUntouched, IsAtStage, IsStaged, IsShut, IsOpened, IsJobAfter, JobFacts, made_at, stage_after, stage_synced, staged, change_of, pending_work, IsRecordOf, IsIndex, slot_at, WhereBegun, stage_call}
 use Rattle.passive_store.proofs.Walk.{kept_from_more}
 use Rattle.passive_store.proofs.Tails.{moved, half_front, same_records, placed_more, log_stands, writing_moments, unwritten_moments, whole_records, written_log, is_half, found_shut, found_open, fresh_value, rest_is}
 
@@ -66,9 +68,9 @@ pub keeps_records : (node size tail : ℕ) (old new : Told) (before after : Coun
 keeps_records node size tail old new before after index q p k = same_records node size tail (contents old) (contents new) p (omega (arith, k.log.whole, k.placed.ends)) k.passes.after.now
 
 pub keeps_shown : (node size tail : ℕ) (old new : Told) (before after : Counts) (index : BTreeMap Uid (Option Slot)) (q : Option Pending) (p : Pending) → Keeps node size tail old new before after index q p →
-    log_shown node tail (contents new).now ≡ log_shown node tail (contents old).now
+    log_kept node tail (contents new).now ≡ log_kept node tail (contents old).now
 keeps_shown node size tail old new before after index q p k =
-    ap (λ rs. record { kept = kept_from nothing_kept rs; written = map body_length rs }) (keeps_records node size tail old new before after index q p k)
+    ap (λ rs. kept_from nothing_kept rs) (keeps_records node size tail old new before after index q p k)
 
 staged_change : (tail : ℕ) (bytes : List ℕ) (c : Change) (s : Stage) → change_in (staged tail bytes c s) ≡ Some c
 staged_change tail bytes c Begun = refl
@@ -78,11 +80,11 @@ staged_change tail bytes c Opened = refl
 staged_change tail bytes c (Ended synced) = refl
 
 pub keeps_moments : (node size tail : ℕ) (old new : Told) (before after : Counts) (index : BTreeMap Uid (Option Slot)) (q : Option Pending) (p : Pending) → Keeps node size tail old new before after index q p →
-    EachMoment (Stands (log_map node) (kept_from nothing_kept (records_before node tail (contents old).now)) (changes_in (change_in (pending_work tail q)))) old new
+    EachMoment (Stands log_layout node log_changes (kept_from nothing_kept (records_before node tail (contents old).now)) (changes_in (change_in (pending_work tail q)))) old new
 keeps_moments node size tail old new before after index q p k =
     let l : IsLog node size tail (contents old) index (Some p) = subst (IsLog node size tail (contents old) index) k.is k.log in
     let change : change_in (pending_work tail q) ≡ Some (change_of tail p) = ap (λ x. change_in (pending_work tail x)) k.is ∙ staged_change tail p.bytes.items (change_of tail p) p.stage in
-    subst (λ x. EachMoment (Stands (log_map node) (kept_from nothing_kept (records_before node tail (contents old).now)) (changes_in x)) old new) (sym change)
+    subst (λ x. EachMoment (Stands log_layout node log_changes (kept_from nothing_kept (records_before node tail (contents old).now)) (changes_in x)) old new) (sym change)
     (writing_moments node size tail old new before index q p k.placed k.log l.end.1 k.passes.moments)
 
 where_begun : (P Q : Type 0) (stage : Stage) → (P → Q) → WhereBegun stage P → WhereBegun stage Q
@@ -102,9 +104,9 @@ by_stage P tail bytes c (Ended synced) first any = any
 -- In the first call of its job a record does not count.
 pub step_moments : (node size tail : ℕ) (old new : Told) (before after : Counts) (index : BTreeMap Uid (Option Slot)) (q : Option Pending) (p : Pending) → Keeps node size tail old new before after index q p →
     WhereBegun p.stage (Passes (Unwritten before.size (take tail (contents old).now)) old new) →
-    EachMoment (Stands (log_map node) (kept_from nothing_kept (records_before node tail (contents old).now)) (changes_in (doubt_in (pending_work tail q)))) old new
+    EachMoment (Stands log_layout node log_changes (kept_from nothing_kept (records_before node tail (contents old).now)) (changes_in (doubt_in (pending_work tail q)))) old new
 step_moments node size tail old new before after index q p k first =
-    let P : List Change → Type 0 = λ changes. EachMoment (Stands (log_map node) (kept_from nothing_kept (records_before node tail (contents old).now)) changes) old new in
+    let P : List Change → Type 0 = λ changes. EachMoment (Stands log_layout node log_changes (kept_from nothing_kept (records_before node tail (contents old).now)) changes) old new in
     let l : IsLog node size tail (contents old) index (Some p) = subst (IsLog node size tail (contents old) index) k.is k.log in
     subst (λ x. P (changes_in (doubt_in (pending_work tail x)))) (sym k.is)
     (by_stage P tail p.bytes.items (change_of tail p) p.stage
@@ -135,13 +137,13 @@ job_bounded size tail bytes = (omega arith, (0, omega arith, omega arith))
 
 -- a job that begins is the one of its layout
 pub begins_job : (node tail mark : ℕ) (image items : List ℕ) (uid : Uid) (body : Option (List ℕ)) (old v : Work) (r : Result (Unit {0}) StoreRefusal) → old ≡ Idle →
-    v ≡ work_begun (record { uid = uid; body = body; mark = mark }) (record_job tail items) old r → tail ≡ log_tail node image → items ≡ bytes_for node uid body → HasJob log_layout node image v
+    v ≡ work_begun (record { uid = uid; body = body; mark = mark; wrote = log_grows body }) (record_job tail items) old r → tail ≡ log_tail node image → items ≡ bytes_for node uid body → HasJob log_layout node None image v
 begins_job node tail mark image items uid body old v (Ok done) idle is at same =
-    subst (HasJob log_layout node image) (sym is) (ap (λ t. record_job t items) at ∙ ap (record_job (log_tail node image)) same)
-begins_job node tail mark image items uid body old v (Err e) idle is at same = subst (HasJob log_layout node image) (sym (is ∙ idle)) tt
+    subst (HasJob log_layout node None image) (sym is) (ap (λ t. record_job t items) at ∙ ap (record_job (log_tail node image)) same, refl)
+begins_job node tail mark image items uid body old v (Err e) idle is at same = subst (HasJob log_layout node None image) (sym (is ∙ idle)) tt
 
 -- a job at the tail is the one of its layout
-pub log_job_is : (node m tail : ℕ) (image other items : List ℕ) (uid : Uid) (body : Option (List ℕ)) → m ≡ node → other ≡ image → tail ≡ log_tail m other → items ≡ bytes_for node uid body → record_job tail items ≡ log_job node image uid body
+pub log_job_is : (node m tail : ℕ) (image other items : List ℕ) (uid : Uid) (body : Option (List ℕ)) → m ≡ node → other ≡ image → tail ≡ log_tail m other → items ≡ bytes_for node uid body → record_job tail items ≡ log_job node None image uid body
 log_job_is node m tail image other items uid body nodes images at same =
     ap (λ t. record_job t items) (at ∙ ap (λ n. log_tail n other) nodes ∙ ap (log_tail node) images) ∙ ap (record_job (log_tail node image)) same
 
@@ -224,7 +226,7 @@ pub job_done : (node size tail : ℕ) (old new : Told) (before after : Counts) (
     items ≡ p.bytes.items → stage_after p.stage ≡ None → is_busy (pending_work tail q) ≡ true → IsJobAfter before.size (take tail (contents old).now) items (made_at p.stage + 1) (contents new) →
     slot ≡ slot_of p.removal tail p.length → SetsSlot index more p.uid slot →
     IsPlaced size (tail + p.length + 15) after more None × IsLog node size (tail + p.length + 15) (contents new) more None
-    × (log_shown node (tail + p.length + 15) (contents new).now ≡ made_in log_layout (change_of tail p) (log_shown node tail (contents old).now))
+    × (log_kept node (tail + p.length + 15) (contents new).now ≡ kept_after (change_of tail p) (log_kept node tail (contents old).now))
 job_done node size tail old new before after index more q p items slot k same e busy job slots sets =
     let l : IsLog node size tail (contents old) index (Some p) = subst (IsLog node size tail (contents old) index) k.is k.log in
     let placed : IsPlaced size tail before index (Some p) = subst (IsPlaced size tail before index) k.is k.placed in
@@ -234,31 +236,30 @@ job_done node size tail old new before after index more q p items slot k same e 
     let done = written_log node size tail (contents old) (contents new) rest.0 before index more q p k.placed k.log l.end.1 rest.1 k.passes.after.now.0 set in (
       placed_more size tail p.length before after index more q p.uid p.removal k.placed k.sized (omega (arith, placed.placed.0, placed.placed.2)) set,
       done.0,
-      ap (λ rs. record { kept = kept_from nothing_kept rs; written = map body_length rs }) done.1
-          ∙ ap (λ x. record { kept = x; written = map body_length (records_before node tail (contents old).now ++ change_of tail p ∷ []) }) (kept_from_more nothing_kept (records_before node tail (contents old).now) (change_of tail p))
-          ∙ ap (λ w. record { kept = kept_after (change_of tail p) (kept_from nothing_kept (records_before node tail (contents old).now)); written = w }) (map-append body_length (records_before node tail (contents old).now) (change_of tail p ∷ [])),
+      ap (λ rs. kept_from nothing_kept rs) done.1
+          ∙ kept_from_more nothing_kept (records_before node tail (contents old).now) (change_of tail p),
     )
 
-pub shown_refused : (layout : Layout) (w : Work) (s : Shown) (e : StoreRefusal) → s ≡ shown_advanced layout w s (Err e)
-shown_refused layout Idle s e = refl
-shown_refused layout (Busy c made left) s e = refl
-shown_refused layout (Unsettled c synced) s e = refl
+pub shown_refused : (w : Work) (s : Kept) (e : StoreRefusal) → s ≡ kept_advanced w s (Err e)
+shown_refused Idle s e = refl
+shown_refused (Busy c made left) s e = refl
+shown_refused (Unsettled c synced) s e = refl
 
-pub shown_going : (layout : Layout) (w : Work) (s : Shown) → s ≡ shown_advanced layout w s (Ok Going)
-shown_going layout Idle s = refl
-shown_going layout (Busy c made left) s = refl
-shown_going layout (Unsettled c synced) s = refl
+pub shown_going : (w : Work) (s : Kept) → s ≡ kept_advanced w s (Ok Going)
+shown_going Idle s = refl
+shown_going (Busy c made left) s = refl
+shown_going (Unsettled c synced) s = refl
 
-staged_done : (tail : ℕ) (bytes : List ℕ) (c : Change) (stage : Stage) (s : Shown) → is_busy (staged tail bytes c stage) ≡ true → made_in log_layout c s ≡ shown_advanced log_layout (staged tail bytes c stage) s (Ok Done)
+staged_done : (tail : ℕ) (bytes : List ℕ) (c : Change) (stage : Stage) (s : Kept) → is_busy (staged tail bytes c stage) ≡ true → kept_after c s ≡ kept_advanced (staged tail bytes c stage) s (Ok Done)
 staged_done tail bytes c Begun s busy = refl
 staged_done tail bytes c Written s busy = refl
 staged_done tail bytes c Synced s busy = refl
 staged_done tail bytes c Opened s busy = refl
 staged_done tail bytes c (Ended synced) s busy = absurd (false≢true busy)
 
-pub shown_done : (tail : ℕ) (q : Option Pending) (p : Pending) (s : Shown) → q ≡ Some p → is_busy (pending_work tail q) ≡ true → made_in log_layout (change_of tail p) s ≡ shown_advanced log_layout (pending_work tail q) s (Ok Done)
+pub shown_done : (tail : ℕ) (q : Option Pending) (p : Pending) (s : Kept) → q ≡ Some p → is_busy (pending_work tail q) ≡ true → kept_after (change_of tail p) s ≡ kept_advanced (pending_work tail q) s (Ok Done)
 shown_done tail q p s e busy =
-    subst (λ x. is_busy (pending_work tail x) ≡ true → made_in log_layout (change_of tail p) s ≡ shown_advanced log_layout (pending_work tail x) s (Ok Done)) (sym e) (λ b. staged_done tail p.bytes.items (change_of tail p) p.stage s b) busy
+    subst (λ x. is_busy (pending_work tail x) ≡ true → kept_after (change_of tail p) s ≡ kept_advanced (pending_work tail x) s (Ok Done)) (sym e) (λ b. staged_done tail p.bytes.items (change_of tail p) p.stage s b) busy
 
 -- a sync, and a read of the gate
 pub keeps_sync : (node size tail clock : ℕ) (old new : Told) (before after : Counts) (index : BTreeMap Uid (Option Slot)) (q : Option Pending) (p : Pending) (end : End) → q ≡ Some p →
@@ -277,9 +278,9 @@ unsettled_doubt (Busy c made left) u = absurd (false≢true u)
 unsettled_doubt (Unsettled c synced) u = refl
 
 pub doubt_moments : (node size tail : ℕ) (old new : Told) (before after : Counts) (index : BTreeMap Uid (Option Slot)) (q : Option Pending) (p : Pending) → Keeps node size tail old new before after index q p → is_unsettled (pending_work tail q) ≡ true →
-    EachMoment (Stands (log_map node) (kept_from nothing_kept (records_before node tail (contents old).now)) (changes_in (doubt_in (pending_work tail q)))) old new
+    EachMoment (Stands log_layout node log_changes (kept_from nothing_kept (records_before node tail (contents old).now)) (changes_in (doubt_in (pending_work tail q)))) old new
 doubt_moments node size tail old new before after index q p k u =
-    subst (λ x. EachMoment (Stands (log_map node) (kept_from nothing_kept (records_before node tail (contents old).now)) (changes_in x)) old new) (sym (unsettled_doubt (pending_work tail q) u))
+    subst (λ x. EachMoment (Stands log_layout node log_changes (kept_from nothing_kept (records_before node tail (contents old).now)) (changes_in x)) old new) (sym (unsettled_doubt (pending_work tail q) u))
     (keeps_moments node size tail old new before after index q p k)
 
 synced_rest : (tail : ℕ) (items : List ℕ) (c : Contents) (stage : Stage) → stage_synced stage ≡ true → IsAtStage tail items c stage → c ≡ at_rest c.now
@@ -303,7 +304,7 @@ settled_old node size tail old new before after index q p k same rest shut = (
 pub settled_new : (node size tail : ℕ) (old new : Told) (before after : Counts) (index more : BTreeMap Uid (Option Slot)) (q : Option Pending) (p : Pending) (slot : Option Slot) → Keeps node size tail old new before after index q p →
     new ≡ old → contents old ≡ at_rest (contents old).now → (slice_index (contents old).now tail == 225) ≡ true → slot ≡ slot_of p.removal tail p.length → SetsSlot index more p.uid slot →
     IsPlaced size (tail + p.length + 15) after more None × IsLog node size (tail + p.length + 15) (contents new) more None
-    × (log_shown node (tail + p.length + 15) (contents new).now ≡ made_in log_layout (change_of tail p) (log_shown node tail (contents old).now))
+    × (log_kept node (tail + p.length + 15) (contents new).now ≡ kept_after (change_of tail p) (log_kept node tail (contents old).now))
 settled_new node size tail old new before after index more q p slot k same rest is_open slots sets =
     let placed : IsPlaced size tail before index (Some p) = subst (IsPlaced size tail before index) k.is k.placed in
     let set : SetsSlot index more p.uid (slot_of p.removal tail p.length) = subst (SetsSlot index more p.uid) slots sets in
@@ -311,22 +312,21 @@ settled_new node size tail old new before after index more q p slot k same rest 
     let at : contents new ≡ at_rest (contents old).now = ap contents same ∙ rest in (
       placed_more size tail p.length before after index more q p.uid p.removal k.placed k.sized (omega (arith, placed.placed.0, placed.placed.2)) set,
       subst (λ d. IsLog node size (tail + p.length + 15) d more None) (sym at) found.0,
-      ap (λ (d : Contents). log_shown node (tail + p.length + 15) d.now) at
-          ∙ ap (λ rs. record { kept = kept_from nothing_kept rs; written = map body_length rs }) found.1
-          ∙ ap (λ x. record { kept = x; written = map body_length (records_before node tail (contents old).now ++ change_of tail p ∷ []) }) (kept_from_more nothing_kept (records_before node tail (contents old).now) (change_of tail p))
-          ∙ ap (λ w. record { kept = kept_after (change_of tail p) (kept_from nothing_kept (records_before node tail (contents old).now)); written = w }) (map-append body_length (records_before node tail (contents old).now) (change_of tail p ∷ [])),
+      ap (λ (d : Contents). log_kept node (tail + p.length + 15) d.now) at
+          ∙ ap (λ rs. kept_from nothing_kept rs) found.1
+          ∙ kept_from_more nothing_kept (records_before node tail (contents old).now) (change_of tail p),
     )
 
-staged_new : (tail : ℕ) (bytes : List ℕ) (c : Change) (stage : Stage) (s : Shown) → is_unsettled (staged tail bytes c stage) ≡ true → made_in log_layout c s ≡ settled log_layout (Some New) (staged tail bytes c stage) s
+staged_new : (tail : ℕ) (bytes : List ℕ) (c : Change) (stage : Stage) (s : Kept) → is_unsettled (staged tail bytes c stage) ≡ true → kept_after c s ≡ settled (Some New) (staged tail bytes c stage) s
 staged_new tail bytes c Begun s u = absurd (false≢true u)
 staged_new tail bytes c Written s u = absurd (false≢true u)
 staged_new tail bytes c Synced s u = absurd (false≢true u)
 staged_new tail bytes c Opened s u = absurd (false≢true u)
 staged_new tail bytes c (Ended synced) s u = refl
 
-pub shown_new : (tail : ℕ) (q : Option Pending) (p : Pending) (s : Shown) → q ≡ Some p → is_unsettled (pending_work tail q) ≡ true → made_in log_layout (change_of tail p) s ≡ settled log_layout (Some New) (pending_work tail q) s
+pub shown_new : (tail : ℕ) (q : Option Pending) (p : Pending) (s : Kept) → q ≡ Some p → is_unsettled (pending_work tail q) ≡ true → kept_after (change_of tail p) s ≡ settled (Some New) (pending_work tail q) s
 shown_new tail q p s e u =
-    subst (λ x. is_unsettled (pending_work tail x) ≡ true → made_in log_layout (change_of tail p) s ≡ settled log_layout (Some New) (pending_work tail x) s) (sym e) (λ b. staged_new tail p.bytes.items (change_of tail p) p.stage s b) u
+    subst (λ x. is_unsettled (pending_work tail x) ≡ true → kept_after (change_of tail p) s ≡ settled (Some New) (pending_work tail x) s) (sym e) (λ b. staged_new tail p.bytes.items (change_of tail p) p.stage s b) u
 
 pub unless_not : (b : Bool) → not b ≡ false → b ≡ true
 unless_not true e = refl
@@ -337,7 +337,7 @@ none_marked None part some e = false≢true some
 none_marked (Some s) part some e = cc
 
 -- a removal of what is kept has a mark of its own, which is none
-fresh_removal : (index : BTreeMap Uid (Option Slot)) (kept : Kept) (tail : ℕ) (bytes : List ℕ) (uid : Uid) → IsIndex index kept tail bytes → IsSome (finite.get kept.bodies uid) → IsFresh (record { uid = uid; body = None; mark = tail }) kept
+fresh_removal : (index : BTreeMap Uid (Option Slot)) (kept : Kept) (tail : ℕ) (bytes : List ℕ) (uid : Uid) → IsIndex index kept tail bytes → IsSome (finite.get kept.bodies uid) → IsFresh (record { uid = uid; body = None; mark = tail; wrote = log_grows None }) kept
 fresh_removal index kept tail bytes uid i some = λ same. none_marked (slot_at index uid) (λ x. slice_range bytes (x.gate + 15) (x.gate + 15 + x.length)) (subst IsSome (i.bodies uid) some)
     (sym (finite.get-remove uid_cmp_total kept.marks uid uid ∙ ap (λ b. cond b None (finite.get kept.marks uid)) ((eq_by_cmp_equiv uid_cmp_total).refl uid)) ∙ same ∙ i.marks uid)
 
@@ -345,12 +345,12 @@ slice_long : (n : ℕ) (items : List ℕ) → 14 + n ≤ length items → length
 slice_long n items fits = ap (λ m. length (take m (drop 14 items))) (omega arith) ∙ length-take-le n (drop 14 items) (omega (arith, fits, length-drop 14 items))
 
 body_long : (tail : ℕ) (uid : Uid) (removal : Bool) (n : ℕ) (items : List ℕ) → (removal ≡ true → n ≡ 0) → 14 + n ≤ length items →
-    body_length (record { uid = uid; body = cond removal None (Some (slice_range items 14 (14 + n))); mark = tail }) ≡ n
+    body_length (record { uid = uid; body = cond removal None (Some (slice_range items 14 (14 + n))); mark = tail; wrote = log_grows (cond removal None (Some (slice_range items 14 (14 + n)))) }) ≡ n
 body_long tail uid true n items empty fits = sym (empty refl)
 body_long tail uid false n items empty fits = slice_long n items fits
 
 fresh_change : (index : BTreeMap Uid (Option Slot)) (kept : Kept) (tail : ℕ) (bytes body : List ℕ) (uid : Uid) (removal : Bool) → ((u : Uid) → IfSome (slot_at index u) (λ (s : Slot). s.gate + 15 + s.length ≤ tail)) → IsIndex index kept tail bytes →
-    (removal ≡ true → IsSome (finite.get kept.bodies uid)) → IsFresh (record { uid = uid; body = cond removal None (Some body); mark = tail }) kept
+    (removal ≡ true → IsSome (finite.get kept.bodies uid)) → IsFresh (record { uid = uid; body = cond removal None (Some body); mark = tail; wrote = log_grows (cond removal None (Some body)) }) kept
 fresh_change index kept tail bytes body uid true within i some = fresh_removal index kept tail bytes uid i (some refl)
 fresh_change index kept tail bytes body uid false within i some = fresh_value index kept tail bytes body uid within i
 
@@ -395,14 +395,35 @@ room_yes size used len fits =
     let t : nat_le (32 + used) size ≡ true = grind (arith, nat_tests) in
     ap (λ b. within_room (if b then Some (size - (32 + used)) else None) len) t ∙ within_yes (size - (32 + used)) len (omega arith)
 
+within_no : (room len : ℕ) → room < len → within_room (Some room) len ≡ false
+within_no room len over = grind (arith, nat_tests)
+
+room_by : (b : Bool) (size used len : ℕ) → nat_le (32 + used) size ≡ b → size < 32 + used + len → within_room (if b then Some (size - (32 + used)) else None) len ≡ false
+room_by true size used len t over = let fits : 32 + used ≤ size = grind (arith, nat_tests) in within_no (size - (32 + used)) len (omega (arith, fits, over))
+room_by false size used len t over = refl
+
+pub room_no : (size used len : ℕ) → size < 32 + used + len → within_room (if nat_le (32 + used) size then Some (size - (32 + used)) else None) len ≡ false
+room_no size used len over = room_by (nat_le (32 + used) size) size used len refl over
+
+-- the room of a log, by where it ends
+pub no_room : (size used : ℕ) → size < 32 + used → (if nat_le (32 + used) size then Some (size - (32 + used)) else None) ≡ None
+no_room size used over =
+    let t : nat_le (32 + used) size ≡ false = grind (arith, nat_tests) in
+    ap (λ b. if b then Some (size - (32 + used)) else None) t
+
+pub some_room : (size used : ℕ) → 32 + used ≤ size → (if nat_le (32 + used) size then Some (size - (32 + used)) else None) ≡ Some (size - (32 + used))
+some_room size used fits =
+    let t : nat_le (32 + used) size ≡ true = grind (arith, nat_tests) in
+    ap (λ b. if b then Some (size - (32 + used)) else None) t
+
 -- the same of a pending record that is equal, and of one whose settling begins anew
 pub stands_at : (node size tail : ℕ) (c : Contents) (counts : Counts) (index : BTreeMap Uid (Option Slot)) (q r : Option Pending) → q ≡ r → IsPlaced size tail counts index q → IsLog node size tail c index q →
-    LeavesOnly (Stands (log_map node) (kept_from nothing_kept (records_before node tail c.now)) (changes_in (doubt_in (pending_work tail r)))) c
+    LeavesOnly (Stands log_layout node log_changes (kept_from nothing_kept (records_before node tail c.now)) (changes_in (doubt_in (pending_work tail r)))) c
 stands_at node size tail c counts index q r e placed l =
-    subst (λ x. LeavesOnly (Stands (log_map node) (kept_from nothing_kept (records_before node tail c.now)) (changes_in (doubt_in (pending_work tail x)))) c) e (log_stands node size tail c counts index q placed l)
+    subst (λ x. LeavesOnly (Stands log_layout node log_changes (kept_from nothing_kept (records_before node tail c.now)) (changes_in (doubt_in (pending_work tail x)))) c) e (log_stands node size tail c counts index q placed l)
 
 pub stands_anew : (node size tail : ℕ) (c : Contents) (counts : Counts) (index : BTreeMap Uid (Option Slot)) (q : Option Pending) (p : Pending) → q ≡ Some p → IsPlaced size tail counts index q → IsLog node size tail c index q →
-    LeavesOnly (Stands (log_map node) (kept_from nothing_kept (records_before node tail c.now)) (changes_in (doubt_in (pending_work tail (Some (with_stage p (Ended false))))))) c
+    LeavesOnly (Stands log_layout node log_changes (kept_from nothing_kept (records_before node tail c.now)) (changes_in (doubt_in (pending_work tail (Some (with_stage p (Ended false))))))) c
 stands_anew node size tail c counts index q p e placed l =
     let pp : IsPlaced size tail counts index (Some p) = subst (IsPlaced size tail counts index) e placed in
     let lp : IsLog node size tail c index (Some p) = subst (IsLog node size tail c index) e l in
@@ -424,3 +445,15 @@ pub anew_unsettled : (w v : Work) → v ≡ unsynced w → is_unsettled w ≡ tr
 anew_unsettled Idle v e u = absurd (false≢true u)
 anew_unsettled (Busy c made left) v e u = absurd (false≢true u)
 anew_unsettled (Unsettled c synced) v e u = (ap is_unsettled e, ap is_synced e)
+
+staged_fresh : (tail : ℕ) (bytes : List ℕ) (c : Change) (stage : Stage) (kept : Kept) → IsFresh c kept → IfSome (doubt_in (staged tail bytes c stage)) (λ d. IsFresh d kept)
+staged_fresh tail bytes c Begun kept fresh = tt
+staged_fresh tail bytes c Written kept fresh = fresh
+staged_fresh tail bytes c Synced kept fresh = fresh
+staged_fresh tail bytes c Opened kept fresh = fresh
+staged_fresh tail bytes c (Ended synced) kept fresh = fresh
+
+-- the change in doubt gives its uid another mark
+pub doubt_fresh : (node size tail : ℕ) (c : Contents) (index : BTreeMap Uid (Option Slot)) (q : Option Pending) → IsLog node size tail c index q → IfSome (doubt_in (pending_work tail q)) (λ d. IsFresh d (log_kept node tail c.now))
+doubt_fresh node size tail c index None l = tt
+doubt_fresh node size tail c index (Some p) l = staged_fresh tail p.bytes.items (change_of tail p) p.stage (log_kept node tail c.now) l.end.1.fresh

@@ -6,10 +6,11 @@ use Rattle.std.proofs.lemmas.Nat.{from_be_bytes-to_be_bytes_4}
 use Rattle.std.proofs.lemmas.Bool.{false≢true}
 use Rattle.std.proofs.lemmas.Bool.Decides.{nat_tests}
 use Rattle.std.proofs.lemmas.List.{take_at}
-use Rattle.passive_store.specs.LogState.{IsRecordOf, spelled_record}
+use Rattle.passive_store.specs.LogLayout.{spelled_record}
+use Rattle.passive_store.specs.LogState.{IsRecordOf}
 use Rattle.capability.specs.declared.Uid.{Uid}
 use Rattle.passive_store.specs.Kept.{IsOwn, IsEject}
-use Rattle.passive_store.specs.Log.{length_of, uid_of, are_fields, Spells}
+use Rattle.passive_store.specs.Log.{length_of, uid_of, log_grows, are_fields, Spells}
 
 abbrev spelled_value : ℕ → Uid → ℕ → List ℕ → List ℕ
 spelled_value node uid n body = spelled_record node uid 1 n body
@@ -45,9 +46,9 @@ spells_value node n uid body size limit e s own =
       size = λ gate rest. ap (λ l. 14 + l) (length_is node n uid body (gate ∷ rest) fits) ∙ omega (arith, size);
       reads = λ place gate rest.
           let bs : List ℕ = spelled_value node uid n body ++ gate ∷ rest in
-          ap (λ l. record { uid = uid_of bs; body = Some (slice_range bs 14 (14 + l)); mark = place }) (length_is node n uid body (gate ∷ rest) fits)
-          ∙ ap (λ u. record { uid = u; body = Some (slice_range bs 14 (14 + n)); mark = place }) (uid_is node n uid body (gate ∷ rest) own.0 e s)
-          ∙ ap (λ b. record { uid = uid; body = Some b; mark = place }) (body_is node n uid body gate rest size);
+          ap (λ l. record { uid = uid_of bs; body = Some (slice_range bs 14 (14 + l)); mark = place; wrote = log_grows (Some (slice_range bs 14 (14 + l))) }) (length_is node n uid body (gate ∷ rest) fits)
+          ∙ ap (λ u. record { uid = u; body = Some (slice_range bs 14 (14 + n)); mark = place; wrote = log_grows (Some (slice_range bs 14 (14 + n))) }) (uid_is node n uid body (gate ∷ rest) own.0 e s)
+          ∙ ap (λ b. record { uid = uid; body = Some b; mark = place; wrote = log_grows (Some b) }) (body_is node n uid body gate rest size);
     }
 
 -- A removal's bytes are its spelling.
@@ -69,7 +70,7 @@ spells_removal node uid e s own =
           ap (λ u. test u (length (spelled_record node uid 2 0 [] ++ gate ∷ rest))) (removal_uid node uid (gate ∷ rest) own.0 e s)
           ∙ removal_tests node uid.epoch uid.serial uid.node (length (spelled_record node uid 2 0 [] ++ gate ∷ rest)) (omega arith) own.0 own.1 own.2;
       size = λ gate rest. refl;
-      reads = λ place gate rest. ap (λ u. record { uid = u; body = None; mark = place }) (removal_uid node uid (gate ∷ rest) own.0 e s);
+      reads = λ place gate rest. ap (λ u. record { uid = u; body = None; mark = place; wrote = log_grows (None) }) (removal_uid node uid (gate ∷ rest) own.0 e s);
     }
 
 pub record_of_removal : (node : ℕ) (uid : Uid) (items : List ℕ) → uid.epoch < 2 ^ 32 → uid.serial < 2 ^ 32 → IsEject node uid → items ≡ spelled_record node uid 2 0 [] ++ 0 ∷ [] → IsRecordOf node items uid true 0

@@ -10,18 +10,21 @@ use Rattle.std.specs.BTreeMap.{BTreeMap}
 use Rattle.std.proofs.lemmas.List.{length-take-le, take-append-drop, drop_more, take_all, take_at, drop_at, get_or_at, get_or-take, drop-drop, drop-append-le, take-append-le, length-drop, drop-take, take-take}
 use Rattle.std.proofs.lemmas.Bool.{cases_lt, false≢true}
 use Rattle.capability.specs.declared.Uid.{Uid}
-use Rattle.capability.specs.Uids.{uid_cmp, uid_cmp_total}
+use Rattle.capability.specs.Uids.{uid_cmp}
+use Rattle.capability.proofs.Uids.{uid_cmp_total}
 use Rattle.eden_disk.specs.Told.{Told, Contents, contents, at_rest, LeavesOnly}
 use Rattle.eden_disk.specs.Told.{Left, EachMoment}
 use Rattle.eden_disk.specs.Calls.{Counts}
-use Rattle.eden_disk.specs.Held.{Holds, only_now, moments_weaker}
+use Rattle.eden_disk.specs.Held.{Holds}
+use Rattle.eden_disk.proofs.Held.{only_now, moments_weaker}
 use Rattle.passive_store.specs.declared.index.Slot.{Slot}
 use Rattle.passive_store.specs.declared.log_store.Pending.{Pending}
-use Rattle.passive_store.specs.Kept.{Change, Kept, Idle, nothing_kept, kept_after, marks_after, bodies_after, IsFresh, Stands, changes_in, doubt_in}
-use Rattle.passive_store.specs.Log.{records_of, kept_from, IsFront, HalfWritten, Unwritten, log_map, kept_by}
+use Rattle.passive_store.specs.Kept.{Change, Kept, Idle, nothing_kept, kept_after, kept_from, kept_by, marks_after, bodies_after, IsAnyOf, IsFresh, Stands, changes_in, doubt_in}
+use Rattle.passive_store.specs.Log.{records_of, IsFront, HalfWritten, Unwritten, log_map, log_grows}
 use Rattle.passive_store.specs.declared.log_store.Stage.{Stage}
 use Rattle.passive_store.specs.declared.log_store.Stage.TheVariants.{Begun, Written, Synced, Opened, Ended}
-use Rattle.passive_store.specs.LogState.{records_before, records_or_none, records_found, pending_body, slot_at, slot_of, SetsSlot, IsIndex, IsTailOf, IsPendingOf, IsLog, IsPlaced, IsUntouched, staged, change_of, pending_work, used_by, body_length}
+use Rattle.passive_store.specs.LogLayout.{log_layout, log_changes, records_before, records_or_none, records_found, used_by, body_length}
+use Rattle.passive_store.specs.LogState.{pending_body, slot_at, slot_of, SetsSlot, IsIndex, IsTailOf, IsPendingOf, IsLog, IsPlaced, IsUntouched, staged, change_of, pending_work}
 use Rattle.passive_store.proofs.Walk.{front_more, front_closed, kept_from_more, log_stands_there}
 
 -- an image in which a record is being written begins with its front
@@ -106,7 +109,7 @@ pub index_set : (old new : BTreeMap Uid (Option Slot)) (kept : Kept) (tail end l
     take tail ys ≡ take tail xs → ((q : Uid) → IfSome (slot_at old q) (λ (s : Slot). s.gate + 15 + s.length ≤ tail)) →
     slice_range ys (tail + 15) (tail + 15 + length) ≡ body →
     IsIndex old kept tail xs → SetsSlot old new uid (slot_of removal tail length) →
-    IsIndex new (kept_after (record { uid = uid; body = cond removal None (Some body); mark = tail }) kept) end ys
+    IsIndex new (kept_after (record { uid = uid; body = cond removal None (Some body); mark = tail; wrote = log_grows (cond removal None (Some body)) }) kept) end ys
 index_set old new kept tail end length xs ys uid removal body same within part i sets = record {
   marks = λ q. marks_set removal uid q body tail length kept.marks ∙ ap (cond (eq_by_cmp uid_cmp q uid) _) (i.marks q)
       ∙ sym (ap (option_map (λ (s : Slot). s.gate)) (sets q) ∙ map_choice (λ (s : Slot). s.gate) (eq_by_cmp uid_cmp q uid) (slot_of removal tail length) (slot_at old q));
@@ -135,18 +138,18 @@ pub grown : (node size tail : ℕ) (c : Contents) (bytes rest : List ℕ) (old n
     IsLog node size tail c old q → IsPendingOf node tail (kept_from nothing_kept (records_before node tail c.now)) p →
     length bytes ≡ size → bytes ≡ take tail c.now ++ 225 ∷ (p.bytes.items ++ rest) → SetsSlot old new p.uid (slot_of p.removal tail p.length) →
     IsLog node size (tail + p.length + 15) (at_rest bytes) new None
-    × (records_before node (tail + p.length + 15) bytes ≡ records_before node tail c.now ++ record { uid = p.uid; body = pending_body p; mark = tail } ∷ [])
+    × (records_before node (tail + p.length + 15) bytes ≡ records_before node tail c.now ++ change_of tail p ∷ [])
 grown node size tail c bytes rest old new q p begins ends within l is whole stands sets =
     let front : List ℕ = take tail c.now in
     let at : length front ≡ tail = length-take-le tail c.now (omega (arith, l.whole)) in
     let more : List ℕ = front ++ 225 ∷ is.bytes in
-    let change : Change = record { uid = p.uid; body = pending_body p; mark = tail } in
+    let change : Change = change_of tail p in
     let rs : List Change = records_before node tail c.now in
     let split : bytes ≡ more ++ 0 ∷ rest = stands ∙ ap (λ r. front ++ 225 ∷ (r ++ rest)) is.is ∙ ap (λ r. front ++ 225 ∷ r) (append_assoc is.bytes (0 ∷ []) rest) ∙ sym (append_assoc front (225 ∷ is.bytes) (0 ∷ rest)) in
     let size_is : length more ≡ tail + p.length + 15 = omega (arith, at, is.size, length-append front (225 ∷ is.bytes)) in
     let new_front : take (tail + p.length + 15) bytes ≡ more = ap (take (tail + p.length + 15)) split ∙ take_at more (0 ∷ rest) (tail + p.length + 15) size_is in
     let same : take tail bytes ≡ take tail c.now = ap (take tail) stands ∙ take_at front (225 ∷ (p.bytes.items ++ rest)) tail at in
-    let goes_on : IsFront node more (rs ++ change ∷ []) = subst (λ n. IsFront node more (rs ++ record { uid = p.uid; body = pending_body p; mark = n } ∷ [])) at (front_more node front is.bytes rs p.uid (pending_body p) l.front is.spells) in
+    let goes_on : IsFront node more (rs ++ change ∷ []) = subst (λ n. IsFront node more (rs ++ change_of n p ∷ [])) at (front_more node front is.bytes rs p.uid (pending_body p) l.front is.spells) in
     let found : records_before node (tail + p.length + 15) bytes ≡ rs ++ change ∷ [] = before_is node (tail + p.length + 15) bytes more (rs ++ change ∷ []) new_front goes_on in
     let part : slice_range bytes (tail + 15) (tail + 15 + p.length) ≡ slice_range p.bytes.items 14 (14 + p.length) =
     ap (λ n. take n (drop (tail + 15) bytes)) (omega arith) ∙ ap (λ l. take p.length (drop (tail + 15) l)) stands
@@ -163,6 +166,10 @@ grown node size tail c bytes rest old new q p begins ends within l is whole stan
       found,
     )
 
+-- An image of a log can be opened, and its room is told for ever.
+pub log_image : (node : ℕ) (kept : Kept) (changes : List Change) (image : List ℕ) → IsAnyOf kept changes (log_map node image) → Stands log_layout node log_changes kept changes image
+log_image node kept changes image found = record { found = found; opens = refl; told = omega arith }
+
 -- While the gate of a record is closed, an image stands for what is kept.
 pub shut_stands : (node size tail : ℕ) (front : List ℕ) (rs : List Change) (image : List ℕ) → length front ≡ tail → 16 ≤ tail → slice_index front 0 ≡ 237 → IsFront node front rs → Unwritten size front image →
     log_map node image ≡ Ok (kept_from nothing_kept rs)
@@ -175,22 +182,22 @@ shut_stands node size tail front rs image at begins header f (whole, closed) =
 pub half_stands : (node size tail : ℕ) (kept_front : List ℕ) (rs : List Change) (p : Pending) (image : List ℕ) →
     length kept_front ≡ tail → 16 ≤ tail → slice_index kept_front 0 ≡ 237 → IsFront node kept_front rs → IsPendingOf node tail (kept_from nothing_kept rs) p →
     HalfWritten size kept_front p.bytes.items image →
-    Stands (log_map node) (kept_from nothing_kept rs) (record { uid = p.uid; body = pending_body p; mark = tail } ∷ []) image
+    Stands log_layout node log_changes (kept_from nothing_kept rs) (change_of tail p ∷ []) image
 half_stands node size tail front rs p image at begins header f is half =
-    let change : Change = record { uid = p.uid; body = pending_body p; mark = tail } in
+    let change : Change = change_of tail p in
     let first : slice_index image 0 ≡ 237 = same_below image front (length front) 0 (half_front size front p.bytes.items image half ∙ sym (take_all (length front) front (omega arith))) (omega arith) ∙ header in
     let opened_log : log_map node image ≡ kept_by (records_of node image) = log_stands_there node image (omega (arith, at, begins, half_long size front p.bytes.items image half)) first in
-    elim half.1 [
+    log_image node (kept_from nothing_kept rs) (change ∷ []) image (elim half.1 [
       | inl closed ↦ inl (shut_stands node size tail front rs image at begins header f (half.0, closed))
       | inr opened ↦ inr (
         is.fresh,
         opened_log ∙ ap kept_by (
             ap (records_of node) (opened.1 ∙ ap (λ r. front ++ 225 ∷ (r ++ opened.0)) is.is ∙ ap (λ r. front ++ 225 ∷ r) (append_assoc is.bytes (0 ∷ []) opened.0) ∙ sym (append_assoc front (225 ∷ is.bytes) (0 ∷ opened.0)))
             ∙ front_closed node 0 (front ++ 225 ∷ is.bytes) opened.0 (rs ++ change ∷ [])
-            (subst (λ n. IsFront node (front ++ 225 ∷ is.bytes) (rs ++ record { uid = p.uid; body = pending_body p; mark = n } ∷ [])) at (front_more node front is.bytes rs p.uid (pending_body p) f is.spells)) refl)
+            (subst (λ n. IsFront node (front ++ 225 ∷ is.bytes) (rs ++ change_of n p ∷ [])) at (front_more node front is.bytes rs p.uid (pending_body p) f is.spells)) refl)
             ∙ ap (λ k. Ok k) (kept_from_more nothing_kept rs change),
       )
-    ]
+    ])
 
 -- where the log ends with a closed gate, the whole image is the log
 pub whole_map : (node size tail : ℕ) (c : Contents) (index : BTreeMap Uid (Option Slot)) (q : Option Pending) → 16 ≤ tail → tail + 1 ≤ size → IsLog node size tail c index q → (slice_index c.now tail == 225) ≡ false →
@@ -216,7 +223,7 @@ pub rest_stands : (node size tail : ℕ) (c : Contents) (index : BTreeMap Uid (O
 rest_stands node size tail c index begins ends l = whole_map node size tail c index None begins ends l l.end.1
 
 half_map : (node size tail : ℕ) (c : Contents) (index : BTreeMap Uid (Option Slot)) (p : Pending) (image : List ℕ) → 16 ≤ tail → tail + 1 ≤ size → IsLog node size tail c index (Some p) → Left c image →
-    Stands (log_map node) (kept_from nothing_kept (records_before node tail c.now)) (change_of tail p ∷ []) image
+    Stands log_layout node log_changes (kept_from nothing_kept (records_before node tail c.now)) (change_of tail p ∷ []) image
 half_map node size tail c index p image begins ends l left =
     let at : length (take tail c.now) ≡ tail = length-take-le tail c.now (omega (arith, l.whole)) in
     half_stands node size tail (take tail c.now) (records_before node tail c.now) p image at begins
@@ -224,9 +231,10 @@ half_map node size tail c index p image begins ends l left =
 
 -- a job that has made no call leaves nothing in doubt, and any other its change
 rests_or_not : (node size tail : ℕ) (c : Contents) (index : BTreeMap Uid (Option Slot)) (p : Pending) (stage : Stage) → 16 ≤ tail → tail + 1 ≤ size →
-    IsLog node size tail c index (Some p) → IsUntouched tail c stage → LeavesOnly (Stands (log_map node) (kept_from nothing_kept (records_before node tail c.now)) (changes_in (doubt_in (staged tail p.bytes.items (change_of tail p) stage)))) c
+    IsLog node size tail c index (Some p) → IsUntouched tail c stage → LeavesOnly (Stands log_layout node log_changes (kept_from nothing_kept (records_before node tail c.now)) (changes_in (doubt_in (staged tail p.bytes.items (change_of tail p) stage)))) c
 rests_or_not node size tail c index p Begun begins ends l untouched = λ image left.
-    ap (log_map node) (only_now c.now image (subst (λ d. Left d image) untouched.0 left)) ∙ whole_map node size tail c index (Some p) begins ends l untouched.1
+    log_image node (kept_from nothing_kept (records_before node tail c.now)) [] image
+    (ap (log_map node) (only_now c.now image (subst (λ d. Left d image) untouched.0 left)) ∙ whole_map node size tail c index (Some p) begins ends l untouched.1)
 rests_or_not node size tail c index p Written begins ends l untouched = λ image left. half_map node size tail c index p image begins ends l left
 rests_or_not node size tail c index p Synced begins ends l untouched = λ image left. half_map node size tail c index p image begins ends l left
 rests_or_not node size tail c index p Opened begins ends l untouched = λ image left. half_map node size tail c index p image begins ends l left
@@ -235,10 +243,10 @@ rests_or_not node size tail c index p (Ended synced) begins ends l untouched = �
 -- A crash leaves only images that stand for what the store shows.
 pub log_stands : (node size tail : ℕ) (c : Contents) (counts : Counts) (index : BTreeMap Uid (Option Slot)) (q : Option Pending) →
     IsPlaced size tail counts index q → IsLog node size tail c index q →
-    LeavesOnly (Stands (log_map node) (kept_from nothing_kept (records_before node tail c.now)) (changes_in (doubt_in (pending_work tail q)))) c
+    LeavesOnly (Stands log_layout node log_changes (kept_from nothing_kept (records_before node tail c.now)) (changes_in (doubt_in (pending_work tail q)))) c
 log_stands node size tail c counts index None placed l = λ image left.
     let same : image ≡ c.now = only_now c.now image (subst (λ d. Left d image) l.end.0 left) in
-    ap (log_map node) same ∙ rest_stands node size tail c index placed.begins placed.ends l
+    log_image node (kept_from nothing_kept (records_before node tail c.now)) [] image (ap (log_map node) same ∙ rest_stands node size tail c index placed.begins placed.ends l)
 log_stands node size tail c counts index (Some p) placed l = rests_or_not node size tail c index p p.stage placed.begins placed.ends l l.end.2
 
 pub is_half : (node size tail : ℕ) (c : Contents) (index : BTreeMap Uid (Option Slot)) (q : Option Pending) (p : Pending) → q ≡ Some p → IsLog node size tail c index q →
@@ -254,7 +262,7 @@ same_records node size tail c d p long h =
 pub found_open : (node size tail : ℕ) (c : Contents) (counts : Counts) (old new : BTreeMap Uid (Option Slot)) (q : Option Pending) (p : Pending) →
     q ≡ Some p → IsPlaced size tail counts old q → IsLog node size tail c old q → (slice_index c.now tail == 225) ≡ true → SetsSlot old new p.uid (slot_of p.removal tail p.length) →
     IsLog node size (tail + p.length + 15) (at_rest c.now) new None
-    × (records_before node (tail + p.length + 15) c.now ≡ records_before node tail c.now ++ record { uid = p.uid; body = pending_body p; mark = tail } ∷ [])
+    × (records_before node (tail + p.length + 15) c.now ≡ records_before node tail c.now ++ change_of tail p ∷ [])
 found_open node size tail c counts old new q p e placed l is_open sets =
     let at : length (take tail c.now) ≡ tail = length-take-le tail c.now (omega (arith, l.whole, placed.ends)) in
     let tail_is : IsTailOf node size tail c (Some p) = subst (IsTailOf node size tail c) e l.end in
@@ -306,7 +314,7 @@ not_tail (Some s) tail within e = let same : tail ≡ s.gate = cc in omega (arit
 
 -- a new value at the tail has a mark of its own
 pub fresh_value : (index : BTreeMap Uid (Option Slot)) (kept : Kept) (tail : ℕ) (bytes body : List ℕ) (uid : Uid) → ((u : Uid) → IfSome (slot_at index u) (λ (s : Slot). s.gate + 15 + s.length ≤ tail)) → IsIndex index kept tail bytes →
-    IsFresh (record { uid = uid; body = Some body; mark = tail }) kept
+    IsFresh (record { uid = uid; body = Some body; mark = tail; wrote = log_grows (Some body) }) kept
 fresh_value index kept tail bytes body uid within i = λ same.
     not_tail (slot_at index uid) tail (within uid)
     (sym (finite.get-insert uid_cmp_total kept.marks uid tail uid ∙ ap (λ b. cond b (Some tail) (finite.get kept.marks uid)) ((eq_by_cmp_equiv uid_cmp_total).refl uid)) ∙ same ∙ i.marks uid)
@@ -315,7 +323,7 @@ fresh_value index kept tail bytes body uid within i = λ same.
 pub writing_moments : (node size tail : ℕ) (old new : Told) (counts : Counts) (index : BTreeMap Uid (Option Slot)) (q : Option Pending) (p : Pending) →
     IsPlaced size tail counts index q → IsLog node size tail (contents old) index q → IsPendingOf node tail (kept_from nothing_kept (records_before node tail (contents old).now)) p →
     EachMoment (HalfWritten size (take tail (contents old).now) p.bytes.items) old new →
-    EachMoment (Stands (log_map node) (kept_from nothing_kept (records_before node tail (contents old).now)) (record { uid = p.uid; body = pending_body p; mark = tail } ∷ [])) old new
+    EachMoment (Stands log_layout node log_changes (kept_from nothing_kept (records_before node tail (contents old).now)) (change_of tail p ∷ [])) old new
 writing_moments node size tail old new counts index q p placed l is m =
     let c : Contents = contents old in
     let at : length (take tail c.now) ≡ tail = length-take-le tail c.now (omega (arith, l.whole, placed.ends)) in
@@ -326,20 +334,21 @@ writing_moments node size tail old new counts index q p placed l is m =
 -- what a crash leaves while nothing of a record counts
 pub unwritten_moments : (node size tail : ℕ) (old new : Told) (counts : Counts) (index : BTreeMap Uid (Option Slot)) (q : Option Pending) →
     IsPlaced size tail counts index q → IsLog node size tail (contents old) index q → EachMoment (Unwritten size (take tail (contents old).now)) old new →
-    EachMoment (Stands (log_map node) (kept_from nothing_kept (records_before node tail (contents old).now)) []) old new
+    EachMoment (Stands log_layout node log_changes (kept_from nothing_kept (records_before node tail (contents old).now)) []) old new
 unwritten_moments node size tail old new counts index q placed l m =
     let c : Contents = contents old in
     let at : length (take tail c.now) ≡ tail = length-take-le tail c.now (omega (arith, l.whole, placed.ends)) in
     moments_weaker (Unwritten size (take tail c.now)) _ old new
-    (λ image shut. shut_stands node size tail (take tail c.now) (records_before node tail c.now) image at placed.begins
-    (get_or-take tail c.now 0 0 (omega (arith, placed.begins)) ∙ l.header) l.front shut) m
+    (λ image shut. log_image node (kept_from nothing_kept (records_before node tail c.now)) [] image
+    (shut_stands node size tail (take tail c.now) (records_before node tail c.now) image at placed.begins
+    (get_or-take tail c.now 0 0 (omega (arith, placed.begins)) ∙ l.header) l.front shut)) m
 
 -- the log once the record was written
 pub written_log : (node size tail : ℕ) (c d : Contents) (rest : List ℕ) (counts : Counts) (old new : BTreeMap Uid (Option Slot)) (q : Option Pending) (p : Pending) →
     IsPlaced size tail counts old q → IsLog node size tail c old q → IsPendingOf node tail (kept_from nothing_kept (records_before node tail c.now)) p →
     d ≡ at_rest (take tail c.now ++ 225 ∷ (p.bytes.items ++ rest)) → length d.now ≡ size → SetsSlot old new p.uid (slot_of p.removal tail p.length) →
     IsLog node size (tail + p.length + 15) d new None
-    × (records_before node (tail + p.length + 15) d.now ≡ records_before node tail c.now ++ record { uid = p.uid; body = pending_body p; mark = tail } ∷ [])
+    × (records_before node (tail + p.length + 15) d.now ≡ records_before node tail c.now ++ change_of tail p ∷ [])
 written_log node size tail c d rest counts old new q p placed l is stands whole sets =
     let bytes : List ℕ = take tail c.now ++ 225 ∷ (p.bytes.items ++ rest) in
     let done = grown node size tail c bytes rest old new q p placed.begins placed.ends placed.slots l is (sym (ap (λ (x : Contents). length x.now) stands) ∙ whole) refl sets in

@@ -12,13 +12,16 @@ use Rattle.capability.specs.declared.Uid.{Uid}
 use Rattle.capability.specs.Uids.{uid_cmp}
 use Rattle.eden_disk.specs.Told.{Told, contents}
 use Rattle.eden_disk.specs.Calls.{Counts, Due, DeviceCalls, Obeyed, Fine}
-use Rattle.eden_disk.specs.Timed.{Timed, timed_join}
-use Rattle.passive_store.specs.Joining.{timed_still}
+use Rattle.eden_disk.specs.Timed.{Timed}
+use Rattle.eden_disk.proofs.Timed.{timed_join}
+use Rattle.passive_store.proofs.Joining.{timed_still}
 use Rattle.passive_store.specs.declared.index.Slot.{Slot}
 use Rattle.passive_store.specs.declared.records.Header.{Header}
 use Rattle.passive_store.specs.Kept.{Change, nothing_kept, kept_after}
-use Rattle.passive_store.specs.Log.{length_of, uid_of, kind_of, body_of, records_of, records_behind, with_record, with_records, record_of, IsFront, kept_from}
-use Rattle.passive_store.specs.LogState.{records_before, IsIndex, IsPlaced, SetsSlot, slot_at, slot_of, used_by, body_length}
+use Rattle.passive_store.specs.Kept.{kept_from}
+use Rattle.passive_store.specs.Log.{length_of, uid_of, kind_of, body_of, records_of, records_behind, with_record, with_records, record_of, log_grows, IsFront}
+use Rattle.passive_store.specs.LogLayout.{records_before, used_by, body_length}
+use Rattle.passive_store.specs.LogState.{IsIndex, IsPlaced, SetsSlot, slot_at, slot_of}
 use Rattle.passive_store.specs.Records.{IsHeaderAt, IsDamagedAt}
 use Rattle.passive_store.specs.Opening.{IsWalk}
 use Rattle.passive_store.proofs.Walk.{passed_over, front_more, front_closed, opened_gate, kept_from_more}
@@ -60,14 +63,14 @@ walk_begun node size bytes index room whole none =
 
 -- the record that a header tells of
 abbrev pub change_at : ℕ → List ℕ → Change
-change_at place bytes = let bs = drop (place + 1) bytes in record { uid = uid_of bs; body = body_of bs; mark = place }
+change_at place bytes = let bs = drop (place + 1) bytes in record { uid = uid_of bs; body = body_of bs; mark = place; wrote = log_grows (body_of bs) }
 
 empty_removal : (node size uid_node epoch serial kind : ℕ) →
     (nat_le size 262144 && (kind == 1 || (kind == 2 && size == 0)) && uid_node == node && ((epoch == 0 && serial == 0 && kind == 1 && size == 4) || (not (epoch == 0) && not (serial == 0)))) ≡ true → (kind == 1) ≡ false → size ≡ 0
 empty_removal node size uid_node epoch serial kind fields other = grind (arith, nat_tests)
 
 long_body : (tail size : ℕ) (bs : List ℕ) (uid : Uid) (b : Bool) → (b ≡ false → size ≡ 0) → 14 + size ≤ length bs →
-    body_length (record { uid = uid; body = (if b then Some (slice_range bs 14 (14 + size)) else None); mark = tail }) ≡ size
+    body_length (record { uid = uid; body = (if b then Some (slice_range bs 14 (14 + size)) else None); mark = tail; wrote = log_grows (if b then Some (slice_range bs 14 (14 + size)) else None) }) ≡ size
 long_body tail size bs uid true empty fits = ap (λ m. length (take m (drop 14 bs))) (omega arith) ∙ length-take-le size (drop 14 bs) (omega (arith, fits, length-drop 14 bs))
 long_body tail size bs uid false empty fits = sym (empty refl)
 
@@ -100,15 +103,16 @@ walk_more node size tail bytes old mid new h slot within ends w at same slots se
     around bytes tail (omega (arith, w.whole, ends)) ∙ ap (λ g. front ++ g ∷ bs) at.0 ∙ ap (λ l. front ++ 225 ∷ l) (sym (take-append-drop (14 + len) bs)) ∙ sym (append_assoc front (225 ∷ bytes_of) (drop (14 + len) bs)) in
     let new_front : take (tail + h.length + 15) bytes ≡ more = ap (take (tail + h.length + 15)) split ∙ take_at more (drop (14 + len) bs) (tail + h.length + 15) more_long in
     let goes_on : IsFront node more (rs ++ change ∷ []) =
-    subst (λ n. IsFront node more (rs ++ record { uid = uid_of bs; body = body_of bs; mark = n } ∷ [])) front_long (front_more node front bytes_of rs (uid_of bs) (body_of bs) w.front (parsed node bs at.1)) in
+    subst (λ n. IsFront node more (rs ++ record { uid = uid_of bs; body = body_of bs; mark = n; wrote = log_grows (body_of bs) } ∷ [])) front_long (front_more node front bytes_of rs (uid_of bs) (body_of bs) w.front (parsed node bs at.1)) in
     let found : records_before node (tail + h.length + 15) bytes ≡ rs ++ change ∷ [] = before_is node (tail + h.length + 15) bytes more (rs ++ change ∷ []) new_front goes_on in
     let body : List ℕ = slice_range bytes (tail + 15) (tail + 15 + h.length) in
     let part : slice_range bs 14 (14 + len) ≡ body =
     ap (λ m. take m (drop 14 bs)) (omega (arith, size_is)) ∙ ap (take (tail + 15 + h.length - (tail + 15))) (drop-drop 14 (tail + 1) bytes ∙ ap (λ n. drop n bytes) (omega arith)) in
-    let change_is : record { uid = h.uid; body = cond h.removal None (Some body); mark = tail } ≡ change =
-    ap (λ u. record { uid = u; body = cond h.removal None (Some body); mark = tail }) at.2.uid
-    ∙ ap (λ b. record { uid = uid_of bs; body = cond b None (Some body); mark = tail }) at.2.removal
-    ∙ ap (λ b. record { uid = uid_of bs; body = b; mark = tail }) (sym (body_by (kind_of bs == 1) body) ∙ ap (λ l. if kind_of bs == 1 then Some l else None) (sym part)) in
+    let of_body : Uid → Option (List ℕ) → Change = λ u b. record { uid = u; body = b; mark = tail; wrote = log_grows b } in
+    let change_is : of_body h.uid (cond h.removal None (Some body)) ≡ change =
+    ap (λ u. of_body u (cond h.removal None (Some body))) at.2.uid
+    ∙ ap (λ b. of_body (uid_of bs) (cond b None (Some body))) at.2.removal
+    ∙ ap (λ b. of_body (uid_of bs) b) (sym (body_by (kind_of bs == 1) body) ∙ ap (λ l. if kind_of bs == 1 then Some l else None) (sym part)) in
     let set : SetsSlot old new h.uid (slot_of h.removal tail h.length) = sets_same old mid new h.uid (slot_of h.removal tail h.length) slot same slots sets in (
       record {
         whole = w.whole;

@@ -3,7 +3,8 @@ use Rattle.std.proofs.Common.{◌≡◌, ℕ, ◌+◌, ◌≤◌, false, List, [
 use Rattle.std.specs.Prelude.{◌==◌}
 use Rattle.eden_disk.specs.Told.{Contents, Told, at_rest, after_act, contents, noted, Wrote, Synced, overlay}
 use Rattle.eden_disk.specs.Calls.{End, WriteTold, SyncTold}
-use Rattle.eden_disk.specs.Held.{Holds, Passes, holds_at_rest, passes_write, passes_sync, passes_join}
+use Rattle.eden_disk.specs.Held.{Holds, Passes}
+use Rattle.eden_disk.proofs.Held.{holds_at_rest, passes_write, passes_sync, passes_join}
 use Rattle.passive_store.specs.Log.{HalfWritten, Unwritten}
 use Rattle.passive_store.proofs.Images.{overlay_behind, written_behind, gate_written}
 

@@ -23,7 +23,8 @@ AllTold (call ∷ calls) old new = (mid : Told) × (clock : ℕ) × CallTold cal
 -- of these calls, made one behind the other, one was refused, which was the last
 abbrev pub SomeTold : List DiskCall → Told → Told → End → Type 0
 SomeTold [] old new end = ⊥
-SomeTold (call ∷ calls) old new end = ((clock : ℕ) × CallTold call clock old new end) ⊎ ((mid : Told) × (clock : ℕ) × CallTold call clock old mid Fine × SomeTold calls mid new end)
+SomeTold (call ∷ calls) old new end = ((clock : ℕ) × CallTold call clock old new end)
+    ⊎ ((mid : Told) × (clock : ℕ) × CallTold call clock old mid Fine × SomeTold calls mid new end)
 
 -- what a telling disk notes of these calls, made in their order, by how the last of them ended
 abbrev pub CallsTold : List DiskCall → Told → Told → End → Type 0

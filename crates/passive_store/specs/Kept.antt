@@ -1,5 +1,5 @@
 -- What a store shows: a finite map from uids to bytes, and at most one change that is under way or in doubt.
-use Rattle.std.specs.Prelude.{◌≡◌, ◌≢◌, ◌⊎◌, ℕ, suc, zero, ◌+◌, ◌*◌, ◌≤◌, Bool, true, false, IsTrue, is_some, List, [], ◌∷◌, ◌++◌, length, replicate, drop, Option, None, Some, Result, Ok, Err}
+use Rattle.std.specs.Prelude.{◌≡◌, ◌≢◌, ◌⊎◌, ℕ, suc, zero, ◌+◌, ◌*◌, ◌≤◌, Bool, true, false, IsTrue, is_some, List, [], ◌∷◌, ◌++◌, length, replicate, take, drop, Option, None, Some, Result, Ok, Err}
 use Rattle.std.specs.FinMap as map
 use Rattle.std.specs.FinMap.{FinMap}
 use Rattle.capability.specs.declared.Uid.{Uid}
@@ -15,21 +15,25 @@ use Rattle.eden_disk.specs.declared.disk.DiskRefusal.{DiskRefusal}
 use Rattle.eden_disk.specs.declared.disk.DiskRefusal.TheVariants.{Failed as DiskFailed, Stopped as DiskStopped}
 use Rattle.eden_disk.specs.Told.{Told, contents, EachMoment, LeavesOnly}
 use Rattle.eden_disk.specs.Calls.{End, Fine, AtFault, AtStop, Counts, DeviceCalls}
-use Rattle.passive_store.specs.Acts.{DiskCall, Sync, Read, CallTold, AllTold, SomeTold, CallsTold}
+use Rattle.passive_store.specs.Acts.{DiskCall, Write, Sync, Read, CallTold, AllTold, SomeTold}
 
 -- new bytes of a uid, or its removal, and the number of the record that says so
 pub record Change : Type 0 where
   pub uid : Uid
   pub body : Option (List ℕ)
   pub mark : ℕ
+  -- what it adds to the ledger
+  pub wrote : List ℕ
 
 -- what is kept under each uid, and the number of the record that keeps it
 pub record Kept : Type 0 where
   pub bodies : FinMap uid_cmp (List ℕ)
   pub marks : FinMap uid_cmp ℕ
+  -- what else decides the room, in the words of the layout: of a log the lengths of all bodies written, of blocks nothing
+  pub ledger : List ℕ
 
 abbrev pub nothing_kept : Kept
-nothing_kept = record { bodies = map.empty; marks = map.empty }
+nothing_kept = record { bodies = map.empty; marks = map.empty; ledger = [] }
 
 abbrev pub bodies_after : Uid → Option (List ℕ) → FinMap uid_cmp (List ℕ) → FinMap uid_cmp (List ℕ)
 bodies_after uid None m = map.remove m uid
@@ -40,17 +44,24 @@ marks_after uid None mark m = map.remove m uid
 marks_after uid (Some body) mark m = map.insert m uid mark
 
 abbrev pub kept_after : Change → Kept → Kept
-kept_after c k = record { bodies = bodies_after c.uid c.body k.bodies; marks = marks_after c.uid c.body c.mark k.marks }
+kept_after c k = record {
+  bodies = bodies_after c.uid c.body k.bodies;
+  marks = marks_after c.uid c.body c.mark k.marks;
+  ledger = k.ledger ++ c.wrote;
+}
+
+-- what is kept after these changes, the first of them first
+abbrev pub kept_from : Kept → List Change → Kept
+kept_from kept [] = kept
+kept_from kept (c ∷ cs) = kept_from (kept_after c kept) cs
+
+abbrev pub kept_by : Result (List Change) ℕ → Result Kept ℕ
+kept_by (Ok cs) = Ok (kept_from nothing_kept cs)
+kept_by (Err place) = Err place
 
 -- the change gives its uid another mark, None being that of an absent one
 abbrev pub IsFresh : Change → Kept → Type 0
 IsFresh c k = map.get (marks_after c.uid c.body c.mark k.marks) c.uid ≢ map.get k.marks c.uid
-
--- what a store over a telling disk keeps
-pub record Shown : Type 0 where
-  pub kept : Kept
-  -- the lengths of the bodies of all records written, where the layout counts them
-  pub written : List ℕ
 
 -- the change that a store works on, or that is in doubt
 pub data Work : Type 0 where
@@ -129,17 +140,17 @@ pub record Layout : Type 0 where
   pub map_of : ℕ → List ℕ → Result Kept ℕ
   -- whether an image, which was written by another layout, keeps too much to be brought over, so that it is not opened
   pub is_overfull : ℕ → List ℕ → Bool
-  -- the lengths of the records that are found in an image, and after a put of this body or a removal
-  pub written_in : ℕ → List ℕ → List ℕ
-  pub written_after : Option (List ℕ) → List ℕ → List ℕ
-  -- the longest body that finds room, or none: by the size of the disk, what is kept and the lengths written
+  -- what a put of this body, or a removal, adds to the ledger
+  pub grows : Option (List ℕ) → List ℕ
+  -- the longest body that finds room, or none: by the size of the disk, what is kept and the ledger
   pub room_of : ℕ → FinMap uid_cmp (List ℕ) → List ℕ → Option ℕ
   -- whether this change finds room, where that is the room
   pub has_room : Option ℕ → Uid → Option (List ℕ) → Bool
-  -- whether the room of an image is told
-  pub tells_room : ℕ → List ℕ → Bool
-  -- the device calls of the job of a put of this body, or of a removal, on this image, in their order
-  pub job_calls : ℕ → List ℕ → Uid → Option (List ℕ) → List DiskCall
+  -- for how many more changes the room of an image is what room_of and has_room say
+  pub changes_told : ℕ → List ℕ → ℕ
+  -- The device calls of the job of a put of this body, or of a removal, on this image, in their order. The number, where there
+  -- is one, is the place of a byte that a write was refused and that has neither been read nor written since.
+  pub job_calls : ℕ → Option ℕ → List ℕ → Uid → Option (List ℕ) → List DiskCall
   -- whether the job of a put of this body, or of a removal, may have so many of them
   pub is_job : Option (List ℕ) → ℕ → Bool
   -- the device calls that open an image, or find that it cannot be opened, in their order
@@ -156,38 +167,41 @@ abbrev pub changes_in : Option Change → List Change
 changes_in None = []
 changes_in (Some c) = c ∷ []
 
--- by a layout, an image stands for what is kept with any of these changes
-abbrev pub Stands : (List ℕ → Result Kept ℕ) → Kept → List Change → List ℕ → Type 0
-Stands map_of kept changes image = IsAnyOf kept changes (map_of image)
+-- An image that a store leaves: it can be opened, and stands for what is kept with any of these changes; and for so many
+-- more changes its room is told.
+pub record Stands (layout : Layout) (node more : ℕ) (kept : Kept) (changes : List Change) (image : List ℕ) : Type 0 where
+  pub found : IsAnyOf kept changes (layout.map_of node image)
+  pub opens : layout.is_overfull node image ≡ false
+  pub told : more ≤ layout.changes_told node image
 
--- an image that keeps nothing that can be told
-abbrev pub HasNoMap : (List ℕ → Result Kept ℕ) → List ℕ → Type 0
-HasNoMap map_of image = (place : ℕ) × (map_of image ≡ Err place)
+-- an image that keeps nothing that can be told, damaged first at this place
+abbrev pub IsDamagedFrom : Layout → ℕ → ℕ → List ℕ → Type 0
+IsDamagedFrom layout node place image = layout.map_of node image ≡ Err place
 
--- A crash leaves only images that stand for what is shown, with or without the change in doubt.
-abbrev pub LeavesShown : Layout → ℕ → Shown → Work → Told → Type 0
-LeavesShown layout node s work told = LeavesOnly (Stands (layout.map_of node) s.kept (changes_in (doubt_in work))) (contents told)
+-- an image that keeps this, and too much of it to be opened
+abbrev pub IsOverfull : Layout → ℕ → Kept → List ℕ → Type 0
+IsOverfull layout node kept image = (layout.map_of node image ≡ Ok kept) × (layout.is_overfull node image ≡ true)
+
+-- A crash leaves only images that stand for what is kept, with or without the change in doubt.
+abbrev pub LeavesKept : Layout → ℕ → ℕ → Kept → Work → Told → Type 0
+LeavesKept layout node more kept work told = LeavesOnly (Stands layout node more kept (changes_in (doubt_in work))) (contents told)
 
 -- At each moment from one state of the disk to another, in or between any two device calls, a crash leaves only images
--- that stand for what is shown, with any of these changes made.
-abbrev pub StandsThrough : Layout → ℕ → Shown → List Change → Told → Told → Type 0
-StandsThrough layout node s changes old new = EachMoment (Stands (layout.map_of node) s.kept changes) old new
+-- that stand for what is kept, with any of these changes made.
+abbrev pub StandsThrough : Layout → ℕ → ℕ → Kept → List Change → Told → Told → Type 0
+StandsThrough layout node more kept changes old new = EachMoment (Stands layout node more kept changes) old new
 
 -- whether a change finds room on a disk of this size
-abbrev pub finds_room : Layout → ℕ → Shown → Uid → Option (List ℕ) → Bool
-finds_room layout size s uid body = layout.has_room (layout.room_of size s.kept.bodies s.written) uid body
-
--- what is kept once a change is made
-abbrev pub made_in : Layout → Change → Shown → Shown
-made_in layout c s = record { kept = kept_after c s.kept; written = layout.written_after c.body s.written }
+abbrev pub finds_room : Layout → ℕ → Kept → Uid → Option (List ℕ) → Bool
+finds_room layout size k uid body = layout.has_room (layout.room_of size k.bodies k.ledger) uid body
 
 -- what is kept once the doubt is settled by what was found
-abbrev pub settled : Layout → Option Pick → Work → Shown → Shown
-settled layout None work s = s
-settled layout (Some Old) work s = s
-settled layout (Some New) Idle s = s
-settled layout (Some New) (Busy c made left) s = s
-settled layout (Some New) (Unsettled c synced) s = made_in layout c s
+abbrev pub settled : Option Pick → Work → Kept → Kept
+settled None work s = s
+settled (Some Old) work s = s
+settled (Some New) Idle s = s
+settled (Some New) (Busy c made left) s = s
+settled (Some New) (Unsettled c synced) s = kept_after c s
 
 abbrev pub work_settled : Option Pick → Work → Work
 work_settled pick Idle = Idle
@@ -217,18 +231,34 @@ work_advanced (Busy c made left) (Ok Done) = Idle
 work_advanced (Busy c made left) (Err e) = Unsettled c false
 work_advanced (Unsettled c synced) r = Unsettled c synced
 
-abbrev pub shown_advanced : Layout → Work → Shown → Result Progress StoreRefusal → Shown
-shown_advanced layout Idle s r = s
-shown_advanced layout (Busy c made left) s (Ok Going) = s
-shown_advanced layout (Busy c made left) s (Ok Done) = made_in layout c s
-shown_advanced layout (Busy c made left) s (Err e) = s
-shown_advanced layout (Unsettled c synced) s r = s
+abbrev pub kept_advanced : Work → Kept → Result Progress StoreRefusal → Kept
+kept_advanced Idle s r = s
+kept_advanced (Busy c made left) s (Ok Going) = s
+kept_advanced (Busy c made left) s (Ok Done) = kept_after c s
+kept_advanced (Busy c made left) s (Err e) = s
+kept_advanced (Unsettled c synced) s r = s
 
 -- a job that was begun has all the device calls of its layout before it, by what its disk held then
-abbrev pub HasJob : Layout → ℕ → List ℕ → Work → Type 0
-HasJob layout node image Idle = Unit {0}
-HasJob layout node image (Busy c made left) = left ≡ layout.job_calls node image c.uid c.body
-HasJob layout node image (Unsettled c synced) = Unit {0}
+abbrev pub HasJob : Layout → ℕ → Option ℕ → List ℕ → Work → Type 0
+HasJob layout node refused image Idle = Unit {0}
+HasJob layout node refused image (Busy c made left) =
+    (left ≡ layout.job_calls node refused image c.uid c.body) × (c.wrote ≡ layout.grows c.body)
+HasJob layout node refused image (Unsettled c synced) = Unit {0}
+
+-- A place where a write was refused joins by a refused call of these alone; it may be forgotten once it does not matter.
+abbrev pub place_of : DiskCall → Option ℕ
+place_of (Write at bytes) = Some at
+place_of Sync = None
+place_of Read = None
+
+abbrev pub IsRefusedIn : List DiskCall → Option ℕ → Option ℕ → Type 0
+IsRefusedIn [] old new = (new ≡ None) ⊎ (new ≡ old)
+IsRefusedIn (call ∷ calls) old new = (new ≡ place_of call) ⊎ IsRefusedIn calls old new
+
+-- the same after one call of a job
+abbrev pub IsRefusedAfter : List DiskCall → Result Progress StoreRefusal → Option ℕ → Option ℕ → Type 0
+IsRefusedAfter calls (Ok progress) old new = IsRefusedIn [] old new
+IsRefusedAfter calls (Err e) old new = IsRefusedIn (take 1 calls) old new
 
 -- a telling disk has noted the first of the device calls that a job had left, and nothing else
 abbrev pub NextTold : Work → ℕ → Told → Told → End → Type 0
@@ -288,16 +318,6 @@ abbrev pub work_begun : {T : Type 0} → Change → List DiskCall → Work → R
 work_begun c calls old (Ok done) = Busy c 0 calls
 work_begun c calls old (Err e) = old
 
--- A job that was begun, or refused.
-pub record Begins {T : Type 0} (layout : Layout) (uid : Uid) (body : Option (List ℕ)) (size : ℕ) (old new : Work) (result : Result T StoreRefusal) : Type 0 where
-  -- the number of its record
-  pub mark : ℕ
-  -- its device calls
-  pub calls : List DiskCall
-  pub bounded : IsJobOf size (length calls)
-  pub job : IsTrue (layout.is_job body (length calls))
-  pub work : new ≡ work_begun (record { uid = uid; body = body; mark = mark }) calls old result
-
 -- Where a device refused a call: a change whose settling failed has not begun; any other is in doubt.
 abbrev pub work_refused : Option Pick → Change → Work → Work
 work_refused (Some pick) c old = Unsettled c false
@@ -314,9 +334,9 @@ work_changed pick c old (Err Full) = Idle
 work_changed pick c old (Err (Damaged place)) = old
 work_changed pick c old (Err OutOfMemory) = old
 
-abbrev pub shown_changed : {T : Type 0} → Layout → Option Pick → Change → Work → Shown → Result T StoreRefusal → Shown
-shown_changed layout pick c work s (Ok done) = made_in layout c (settled layout pick work s)
-shown_changed layout pick c work s (Err e) = settled layout pick work s
+abbrev pub kept_changed : {T : Type 0} → Option Pick → Change → Work → Kept → Result T StoreRefusal → Kept
+kept_changed pick c work s (Ok done) = kept_after c (settled pick work s)
+kept_changed pick c work s (Err e) = settled pick work s
 
 -- What a call found that settles first. It tells of a settling exactly where it ended one.
 abbrev pub SettlesFirst : {T : Type 0} → Option Pick → Work → Result T StoreRefusal → Type 0
@@ -397,21 +417,7 @@ changes_begun pick c old (Err Full) = changes_in (doubt_in old)
 changes_begun pick c old (Err (Damaged place)) = changes_in (doubt_in old)
 changes_begun pick c old (Err OutOfMemory) = changes_in (doubt_in old)
 
--- A whole put or removal: its device calls, what is kept and in doubt after it, and what a crash at any moment of it
--- leaves.
-pub record Changes {T : Type 0} (tells : Bool) (layout : Layout) (node : ℕ) (uid : Uid) (body : Option (List ℕ)) (pick : Option Pick) (result : Result T StoreRefusal)
-    (old new : Work) (before after : Counts) (kept_before kept_behind : Shown) (told_before told_behind : Told) : Type 0 where
-  pub mark : ℕ
-  pub calls : List DiskCall
-  pub bounded : IsJobOf before.size (length calls)
-  pub job : IsTrue (layout.is_job body (length calls))
-  pub ran : Ran (settling_before old result) (length calls) result before after
-  pub by_layout : IsTrue tells → calls ≡ layout.job_calls node (contents told_before).now uid body
-  pub order : IsTrue tells → CallsTold (calls_due old calls result) told_before told_behind (end_of_store result)
-  pub work : new ≡ work_changed pick (record { uid = uid; body = body; mark = mark }) old result
-  pub shown : IsTrue tells → kept_behind ≡ shown_changed layout pick (record { uid = uid; body = body; mark = mark }) old kept_before result
-  pub moments : IsTrue tells → EachMoment (Stands (layout.map_of node) kept_before.kept (changes_begun pick (record { uid = uid; body = body; mark = mark }) old result)) told_before told_behind
-
+-- after a removal of what is not kept once the doubt is settled, which is done with the settling
 abbrev pub work_unchanged : {T : Type 0} → Option Pick → Work → Result T StoreRefusal → Work
 work_unchanged pick old (Ok done) = work_settled pick old
 work_unchanged pick old (Err Failed) = work_settled pick old
@@ -419,15 +425,6 @@ work_unchanged pick old (Err Stopped) = work_settled pick old
 work_unchanged pick old (Err Full) = work_settled pick old
 work_unchanged pick old (Err (Damaged place)) = old
 work_unchanged pick old (Err OutOfMemory) = old
-
--- A removal of what is not kept once the doubt is settled: it is done with the settling.
-pub record Settles {T : Type 0} (tells : Bool) (layout : Layout) (node : ℕ) (pick : Option Pick) (result : Result T StoreRefusal)
-    (old new : Work) (before after : Counts) (kept_before kept_behind : Shown) (told_before told_behind : Told) : Type 0 where
-  pub ran : Ran (settling_before old result) 0 result before after
-  pub order : IsTrue tells → CallsTold (settling_due old result) told_before told_behind (end_of_store result)
-  pub work : new ≡ work_unchanged pick old result
-  pub shown : IsTrue tells → kept_behind ≡ settled layout pick old kept_before
-  pub moments : IsTrue tells → EachMoment (Stands (layout.map_of node) kept_before.kept (changes_in (doubt_in old))) told_before told_behind
 
 -- the uid of an Eject of this node
 abbrev pub IsEject : ℕ → Uid → Type 0
@@ -441,21 +438,12 @@ abbrev pub reserved_uid : ℕ → Uid
 reserved_uid node = record { node = node; epoch = 0; serial = 0 }
 
 -- what is kept under a uid, once the doubt is settled
-abbrev pub body_at : Shown → Uid → Option (List ℕ)
-body_at s uid = map.get s.kept.bodies uid
+abbrev pub body_at : Kept → Uid → Option (List ℕ)
+body_at s uid = map.get s.bodies uid
 
 -- The room goes on being told where another value is put only once the epoch is kept.
-abbrev pub KeepsTelling : ℕ → Shown → Uid → Type 0
+abbrev pub KeepsTelling : ℕ → Kept → Uid → Type 0
 KeepsTelling node s uid = (uid ≡ reserved_uid node) ⊎ IsTrue (is_some (body_at s (reserved_uid node)))
-
--- the disk that an opening leaves, in a store or in a refusal
-abbrev pub disk_after : {S D : Type 0} → (S → D) → Result S (D × StoreRefusal) → D
-disk_after device (Ok store) = device store
-disk_after device (Err refusal) = refusal.0
-
-abbrev pub without_disk : {S D : Type 0} → Result S (D × StoreRefusal) → Result S StoreRefusal
-without_disk (Ok store) = Ok store
-without_disk (Err refusal) = Err refusal.1
 
 -- The device calls of an opening: all that its image takes, unless the disk or want of memory ended it before.
 abbrev pub OpeningMade : {S : Type 0} → ℕ → Result S StoreRefusal → ℕ → Type 0
@@ -473,7 +461,8 @@ OpeningTold calls old new (Err Failed) = SomeTold calls old new AtFault
 OpeningTold calls old new (Err Stopped) = SomeTold calls old new AtStop
 OpeningTold calls old new (Err Full) = AllTold calls old new
 OpeningTold calls old new (Err (Damaged place)) = AllTold calls old new
-OpeningTold calls old new (Err OutOfMemory) = (done : List DiskCall) × (rest : List DiskCall) × (calls ≡ done ++ rest) × AllTold done old new
+OpeningTold calls old new (Err OutOfMemory) =
+    (done : List DiskCall) × (rest : List DiskCall) × (calls ≡ done ++ rest) × AllTold done old new
 
 -- an opening is refused as Full where its image is overfull, and no such image is opened
 abbrev pub IsOverfullBy : {S : Type 0} → Bool → Result S StoreRefusal → Type 0
@@ -501,7 +490,7 @@ IsNextOf is_one reserved from (Some next) =
     × ((uid : Uid) → IsBehind from uid → IsTrue (is_one uid) → uid ≢ reserved → (uid ≡ next) ⊎ (uid_cmp next uid ≡ Less))
 
 -- the next kept uid of an Eject
-abbrev pub IsNextKept : ℕ → Shown → Option Uid → Option Uid → Type 0
+abbrev pub IsNextKept : ℕ → Kept → Option Uid → Option Uid → Type 0
 IsNextKept node s from next = IsNextOf (λ uid. is_some (body_at s uid)) (reserved_uid node) from next
 
 -- after the rest of a job
@@ -511,8 +500,8 @@ work_finished (Busy c made left) (Ok done) = Idle
 work_finished (Busy c made left) (Err e) = Unsettled c false
 work_finished (Unsettled c synced) r = Unsettled c synced
 
-abbrev pub shown_finished : {T : Type 0} → Layout → Work → Shown → Result T StoreRefusal → Shown
-shown_finished layout Idle s r = s
-shown_finished layout (Busy c made left) s (Ok done) = made_in layout c s
-shown_finished layout (Busy c made left) s (Err e) = s
-shown_finished layout (Unsettled c synced) s r = s
+abbrev pub kept_finished : {T : Type 0} → Work → Kept → Result T StoreRefusal → Kept
+kept_finished Idle s r = s
+kept_finished (Busy c made left) s (Ok done) = kept_after c s
+kept_finished (Busy c made left) s (Err e) = s
+kept_finished (Unsettled c synced) s r = s

@@ -1,9 +1,10 @@
 pub mod Acts
 pub mod Kept
 pub mod Log
+pub mod LogLayout
+pub mod Layout
+pub mod Seen
 pub mod LogState
 pub mod Records
 pub mod Opening
-pub mod Joining
-pub mod Changing
 pub mod Marks

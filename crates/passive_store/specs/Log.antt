@@ -2,20 +2,29 @@
 use Rattle.std.specs.Prelude.{◌≡◌, ◌⊎◌, ℕ, ◌+◌, Bool, true, false, ◌&&◌, ◌||◌, not, ◌==◌, nat_le, nat_lt, suc, zero, List, [], ◌∷◌, ◌++◌, length, take, slice_index, slice_range, Option, None, Some, Result, Ok, Err, if◌then◌else◌}
 use Rattle.std.specs.Int.{w32, from_be_bytes}
 use Rattle.capability.specs.declared.Uid.{Uid}
-use Rattle.passive_store.specs.Kept.{Change, Kept, nothing_kept, kept_after}
+use Rattle.passive_store.specs.Kept.{Change, Kept, nothing_kept, kept_by}
 
 -- the fields of a record, of the bytes behind its gate
 abbrev pub length_of : List ℕ → ℕ
 length_of bytes = from_be_bytes w32 (take 4 bytes)
 
 abbrev pub uid_of : List ℕ → Uid
-uid_of bytes = record { node = slice_index bytes 4; epoch = from_be_bytes w32 (slice_range bytes 5 9); serial = from_be_bytes w32 (slice_range bytes 9 13) }
+uid_of bytes = record
+    { node = slice_index bytes 4; epoch = from_be_bytes w32 (slice_range bytes 5 9); serial = from_be_bytes w32 (slice_range bytes 9 13) }
 
 abbrev pub kind_of : List ℕ → ℕ
 kind_of bytes = slice_index bytes 13
 
 abbrev pub body_of : List ℕ → Option (List ℕ)
 body_of bytes = if kind_of bytes == 1 then Some (slice_range bytes 14 (14 + length_of bytes)) else None
+
+-- what a record adds to the ledger: the length of its body
+abbrev pub body_size : Option (List ℕ) → ℕ
+body_size None = 0
+body_size (Some body) = length body
+
+abbrev pub log_grows : Option (List ℕ) → List ℕ
+log_grows body = body_size body ∷ []
 
 -- the fields of a record are of the format: a body within its limit, a kind that there is, and a uid of this node
 abbrev pub are_fields : ℕ → ℕ → Uid → ℕ → Bool
@@ -30,7 +39,7 @@ abbrev pub is_record : ℕ → List ℕ → Bool
 is_record node bytes = nat_le (14 + length_of bytes + 1) (length bytes) && are_fields node (length_of bytes) (uid_of bytes) (kind_of bytes)
 
 abbrev pub record_of : ℕ → List ℕ → Change
-record_of place bytes = record { uid = uid_of bytes; body = body_of bytes; mark = place }
+record_of place bytes = record { uid = uid_of bytes; body = body_of bytes; mark = place; wrote = log_grows (body_of bytes) }
 
 abbrev pub with_record : Change → Result (List Change) ℕ → Result (List Change) ℕ
 with_record r (Ok rs) = Ok (r ∷ rs)
@@ -42,7 +51,8 @@ records_behind node skip place [] = Ok []
 records_behind node (suc skip) place (byte ∷ bytes) = records_behind node skip (place + 1) bytes
 records_behind node zero place (gate ∷ bytes) =
     if gate == 225 then
-    (if is_record node bytes then with_record (record_of place bytes) (records_behind node (14 + length_of bytes) (place + 1) bytes) else Err place)
+    (if is_record node bytes then with_record (record_of place bytes) (records_behind node (14 + length_of bytes) (place + 1) bytes) else
+    Err place)
     else Ok []
 
 abbrev pub with_records : List Change → Result (List Change) ℕ → Result (List Change) ℕ
@@ -53,29 +63,23 @@ with_records rs (Err place) = Err place
 abbrev pub records_of : ℕ → List ℕ → Result (List Change) ℕ
 records_of node image = records_behind node 16 0 image
 
--- what is kept after these records, the first of them first
-abbrev pub kept_from : Kept → List Change → Kept
-kept_from kept [] = kept
-kept_from kept (r ∷ rs) = kept_from (kept_after r kept) rs
-
-abbrev pub kept_by : Result (List Change) ℕ → Result Kept ℕ
-kept_by (Ok rs) = Ok (kept_from nothing_kept rs)
-kept_by (Err place) = Err place
-
 -- What an image keeps: nothing where no log stands on it, and else what its open records leave. One of fewer than 17
 -- bytes has no room for a log, and is damaged at its first byte.
 abbrev pub log_map : ℕ → List ℕ → Result Kept ℕ
-log_map node image = if nat_lt (length image) 17 then Err 0 else (if slice_index image 0 == 237 then kept_by (records_of node image) else Ok nothing_kept)
+log_map node image = if nat_lt (length image) 17 then Err 0 else
+    (if slice_index image 0 == 237 then kept_by (records_of node image) else Ok nothing_kept)
 
 -- These bytes are whole records from byte 16 on, and the log goes on behind them.
 abbrev pub IsFront : ℕ → List ℕ → List Change → Type 0
-IsFront node front rs = (gate : ℕ) (rest : List ℕ) → records_of node (front ++ gate ∷ rest) ≡ with_records rs (records_behind node 0 (length front) (gate ∷ rest))
+IsFront node front rs = (gate : ℕ) (rest : List ℕ)
+    → records_of node (front ++ gate ∷ rest) ≡ with_records rs (records_behind node 0 (length front) (gate ∷ rest))
 
 -- These bytes stand for a change, as a record behind its gate, wherever they stand.
 pub record Spells (node : ℕ) (bytes : List ℕ) (uid : Uid) (body : Option (List ℕ)) : Type 0 where
   pub whole : (gate : ℕ) (rest : List ℕ) → is_record node (bytes ++ gate ∷ rest) ≡ true
   pub size : (gate : ℕ) (rest : List ℕ) → 14 + length_of (bytes ++ gate ∷ rest) ≡ length bytes
-  pub reads : (place gate : ℕ) (rest : List ℕ) → record_of place (bytes ++ gate ∷ rest) ≡ record { uid = uid; body = body; mark = place }
+  pub reads : (place gate : ℕ) (rest : List ℕ)
+      → record_of place (bytes ++ gate ∷ rest) ≡ record { uid = uid; body = body; mark = place; wrote = log_grows body }
 
 -- the gate behind a front is closed
 abbrev pub IsShutBehind : List ℕ → List ℕ → Type 0

@@ -1,33 +1,14 @@
 -- How the mark of a uid tells which state of a change in doubt is there.
-use Rattle.std.specs.Prelude.{◌≡◌, ◌≢◌, ◌⊎◌, ◌↔◌, ℕ, List, [], ◌∷◌, Option, None, Some, Result, Ok, Bool, true, false}
-use Rattle.std.proofs.Common.{refl, ap, ◌∙◌, inl, inr, cond}
+use Rattle.std.specs.Prelude.{◌≡◌, ◌≢◌, ◌⊎◌, ◌↔◌, ℕ, Option, Some, Result, Ok, Bool}
 use Rattle.std.specs.FinMap as map
-use Rattle.std.specs.FinMap.{FinMap}
-use Rattle.std.specs.Ordering.{eq_by_cmp, is_eq}
-use Rattle.std.specs.declared.cmp.Ordering.{Ordering}
-use Rattle.std.specs.declared.cmp.Ordering.TheVariants.{Less, Equal, Greater}
-use Rattle.std.specs.Cmp.{eq_by_cmp_equiv}
-use Rattle.std.proofs.lemmas.Bool.{false≢true}
 use Rattle.capability.specs.declared.Uid.{Uid}
-use Rattle.capability.specs.Uids.{uid_cmp, uid_cmp_total, uid_cmp-IsAntisymmetric}
 use Rattle.passive_store.specs.declared.store.Pick.{Pick}
-use Rattle.passive_store.specs.declared.store.Pick.TheVariants.{Old, New}
-use Rattle.passive_store.specs.Kept.{Layout, Kept, Shown, Change, Unsettled, IsAnyOf, IsFresh, bodies_after, marks_after, kept_after, settled}
+use Rattle.passive_store.specs.declared.store.Pick.TheVariants.{New}
+use Rattle.passive_store.specs.Kept.{Kept, Change, Unsettled, settled}
 
 -- The settling found the new state exactly where it changed the mark of the uid in doubt.
-abbrev pub PickTellsMark : Layout → Option Pick → Change → Bool → Shown → Type 0
-PickTellsMark layout pick c synced s = (pick ≡ Some New) ↔ (map.get (settled layout pick (Unsettled c synced) s).kept.marks c.uid ≢ map.get s.kept.marks c.uid)
-
-old_is_not_new : Option.Some Old ≡ Some New → ⊥
-old_is_not_new e = cc
-
-none_is_not_new : Option.None ≡ Some New → ⊥
-none_is_not_new e = cc
-
-pub pick_tells_mark : (layout : Layout) (pick : Option Pick) (c : Change) (synced : Bool) (s : Shown) → IsFresh c s.kept → PickTellsMark layout pick c synced s
-pick_tells_mark layout None c synced s fresh = (λ e. absurd (none_is_not_new e), λ other. absurd (other refl))
-pick_tells_mark layout (Some Old) c synced s fresh = (λ e. absurd (old_is_not_new e), λ other. absurd (other refl))
-pick_tells_mark layout (Some New) c synced s fresh = (λ e. fresh, λ other. refl)
+abbrev pub PickTellsMark : Option Pick → Change → Bool → Kept → Type 0
+PickTellsMark pick c synced s = (pick ≡ Some New) ↔ (map.get (settled pick (Unsettled c synced) s).marks c.uid ≢ map.get s.marks c.uid)
 
 -- What is found in an image: the uid of the change has its old mark and body, or another mark and its new body; and every
 -- other uid has its mark and body.
@@ -38,37 +19,3 @@ pub record IsOldOrNew (kept : Kept) (c : Change) (found : Result Kept ℕ) : Typ
       ⊎ ((map.get there.marks c.uid ≢ map.get kept.marks c.uid) × (map.get there.bodies c.uid ≡ c.body))
   pub marks : (uid : Uid) → uid ≢ c.uid → map.get there.marks uid ≡ map.get kept.marks uid
   pub bodies : (uid : Uid) → uid ≢ c.uid → map.get there.bodies uid ≡ map.get kept.bodies uid
-
-tied : (o : Ordering) → is_eq o ≡ true → o ≡ Equal
-tied Less h = absurd (false≢true h)
-tied Equal h = refl
-tied Greater h = absurd (false≢true h)
-
-unless_true : (b : Bool) → (b ≡ true → ⊥) → b ≡ false
-unless_true true wrong = absurd (wrong refl)
-unless_true false wrong = refl
-
-other_uid : (uid other : Uid) → uid ≢ other → eq_by_cmp uid_cmp uid other ≡ false
-other_uid uid other apart = unless_true (eq_by_cmp uid_cmp uid other) (λ same. apart (uid_cmp-IsAntisymmetric uid other (tied (uid_cmp uid other) same)))
-
-new_body : (uid : Uid) (body : Option (List ℕ)) (m : FinMap uid_cmp (List ℕ)) → map.get (bodies_after uid body m) uid ≡ body
-new_body uid None m = map.get-remove uid_cmp_total m uid uid ∙ ap (λ b. cond b None (map.get m uid)) ((eq_by_cmp_equiv uid_cmp_total).refl uid)
-new_body uid (Some body) m = map.get-insert uid_cmp_total m uid body uid ∙ ap (λ b. cond b (Some body) (map.get m uid)) ((eq_by_cmp_equiv uid_cmp_total).refl uid)
-
-other_body : (uid q : Uid) (body : Option (List ℕ)) (m : FinMap uid_cmp (List ℕ)) → q ≢ uid → map.get (bodies_after uid body m) q ≡ map.get m q
-other_body uid q None m apart = map.get-remove uid_cmp_total m uid q ∙ ap (λ b. cond b None (map.get m q)) (other_uid q uid apart)
-other_body uid q (Some body) m apart = map.get-insert uid_cmp_total m uid body q ∙ ap (λ b. cond b (Some body) (map.get m q)) (other_uid q uid apart)
-
-other_mark : (uid q : Uid) (body : Option (List ℕ)) (mark : ℕ) (m : FinMap uid_cmp ℕ) → q ≢ uid → map.get (marks_after uid body mark m) q ≡ map.get m q
-other_mark uid q None mark m apart = map.get-remove uid_cmp_total m uid q ∙ ap (λ b. cond b None (map.get m q)) (other_uid q uid apart)
-other_mark uid q (Some body) mark m apart = map.get-insert uid_cmp_total m uid mark q ∙ ap (λ b. cond b (Some mark) (map.get m q)) (other_uid q uid apart)
-
-pub old_or_new : (kept : Kept) (c : Change) (found : Result Kept ℕ) → IsAnyOf kept (c ∷ []) found → IsOldOrNew kept c found
-old_or_new kept c found (inl old) = record { there = kept; is = old; state = inl (refl, refl); marks = λ uid apart. refl; bodies = λ uid apart. refl }
-old_or_new kept c found (inr new) = record {
-  there = kept_after c kept;
-  is = new.1;
-  state = inr (new.0, new_body c.uid c.body kept.bodies);
-  marks = λ uid apart. other_mark c.uid uid c.body c.mark kept.marks apart;
-  bodies = λ uid apart. other_body c.uid uid c.body kept.bodies apart;
-}

@@ -10,15 +10,16 @@ use Rattle.passive_store.specs.declared.index.Slot.{Slot}
 use Rattle.passive_store.specs.declared.opening.Found.{Found}
 use Rattle.passive_store.specs.declared.store.StoreRefusal.{StoreRefusal}
 use Rattle.passive_store.specs.declared.store.StoreRefusal.TheVariants.{Failed, Stopped, Full, Damaged, OutOfMemory}
-use Rattle.passive_store.specs.Kept.{Change, Kept, Stands, HasNoMap, nothing_kept}
-use Rattle.passive_store.specs.Log.{IsFront, kept_from, log_map}
-use Rattle.passive_store.specs.LogState.{records_before, IsIndex, used_by, body_length}
+use Rattle.passive_store.specs.Kept.{Change, Kept, Stands, IsDamagedFrom}
+use Rattle.passive_store.specs.Log.{IsFront}
+use Rattle.passive_store.specs.LogLayout.{log_kept, log_layout, records_before, used_by, body_length}
+use Rattle.passive_store.specs.LogState.{IsIndex}
 
 -- The walk over these bytes has come to this tail, and the index goes along.
 pub record IsWalk (node size tail : ℕ) (bytes : List ℕ) (index : BTreeMap Uid (Option Slot)) : Type 0 where
   pub whole : length bytes ≡ size
   pub front : IsFront node (take tail bytes) (records_before node tail bytes)
-  pub indexed : IsIndex index (kept_from nothing_kept (records_before node tail bytes)) tail bytes
+  pub indexed : IsIndex index (log_kept node tail bytes) tail bytes
   pub sum : tail ≡ 16 + used_by (map body_length (records_before node tail bytes))
 
 -- the reads of a walk: one at the place of each record, and one at the place where it ended
@@ -32,7 +33,8 @@ ReadsMade node bytes (Err OutOfMemory) made = Unit {0}
 
 -- bytes that were written and synced
 abbrev pub IsThrough : ℕ → List ℕ → Told → Told → End → Type 0
-IsThrough at bytes old new end = (mid : Told) × (wrote : ℕ) × (synced : ℕ) × (mid ≡ noted (Wrote wrote at bytes) old) × SyncTold synced mid new end
+IsThrough at bytes old new end = (mid : Told) × (wrote : ℕ) × (synced : ℕ) × (mid ≡ noted (Wrote wrote at bytes) old)
+    × SyncTold synced mid new end
 
 -- the same of a write or a sync that was refused
 abbrev pub ThroughTold : ℕ → List ℕ → Told → Told → End → Type 0
@@ -70,5 +72,8 @@ IsReadied old new end =
 
 -- Whatever the images of a disk stood for, they stand for it at each moment of this stretch of time, and behind it.
 pub record IsKeptThrough (node : ℕ) (old new : Told) : Type 0 where
-  pub mapped : (kept : Kept) (changes : List Change) → Holds (Stands (log_map node) kept changes) (contents old) → Passes (Stands (log_map node) kept changes) old new
-  pub unmapped : Holds (HasNoMap (log_map node)) (contents old) → Passes (HasNoMap (log_map node)) old new
+  pub mapped : (told : ℕ) (kept : Kept) (changes : List Change) → Holds (Stands log_layout node told kept changes) (contents old)
+      → Passes (Stands log_layout node told kept changes) old new
+  -- and a damaged disk stays damaged at its place
+  pub unmapped : (place : ℕ) → Holds (IsDamagedFrom log_layout node place) (contents old)
+      → Passes (IsDamagedFrom log_layout node place) old new

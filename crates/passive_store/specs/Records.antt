@@ -12,7 +12,8 @@ pub record IsHeader (h : Header) (bytes : List ℕ) : Type 0 where
 -- at a place the gate is closed, or a whole record stands there with this header
 abbrev pub IsHeaderAt : ℕ → List ℕ → ℕ → Option Header → Type 0
 IsHeaderAt node bytes place None = (slice_index bytes place == 225) ≡ false
-IsHeaderAt node bytes place (Some h) = (slice_index bytes place ≡ 225) × (is_record node (drop (place + 1) bytes) ≡ true) × IsHeader h (drop (place + 1) bytes)
+IsHeaderAt node bytes place (Some h) = (slice_index bytes place ≡ 225) × (is_record node (drop (place + 1) bytes) ≡ true)
+    × IsHeader h (drop (place + 1) bytes)
 
 -- at a place the gate is open, and no record stands there
 abbrev pub IsDamagedAt : ℕ → List ℕ → ℕ → Type 0

@@ -1,9 +1,9 @@
 // The index of a log: each kept uid, and where its record stands.
-ghost use Rattle.std.specs.Prelude.{◌≡◌, ◌&&◌, not, IsSome, OnOk, is_some};
+ghost use Rattle.std.specs.Prelude.{◌≡◌, ◌&&◌, IsSome, OnOk, is_some};
 ghost use Rattle.std.specs.BTreeMap as tree;
-ghost use Rattle.capability.specs.Uids.{uid_cmp, uid_eq};
-ghost use Rattle.passive_store.specs.Kept.{IsNextOf};
-ghost use Rattle.passive_store.specs.LogState.{SetsSlot, slot_of, slot_at};
+ghost use Rattle.capability.specs.Uids.{uid_cmp};
+ghost use Rattle.passive_store.specs.Kept.{IsNextOf, reserved_uid};
+ghost use Rattle.passive_store.specs.LogState.{SetsSlot, slot_of, slot_at, is_eject};
 
 use capability::Uid;
 use std::alloc::AllocError;
@@ -59,27 +59,23 @@ pub fn find_slot(index: &BTreeMap<Uid, Option<Slot>>, uid: Uid) -> Option<Slot>
     }
 }
 
-/// Whether an entry has a slot, and its uid is not the reserved one.
-fn is_eject_slot(uid: Uid, slot: Option<Slot>, reserved: Uid) -> bool
-    ensures { result ≡ (is_some slot && not (uid_eq uid reserved)) }
+/// Whether an entry has a slot, and its uid is that of an Eject of the node.
+fn is_eject_slot(uid: Uid, slot: Option<Slot>, node: u8) -> bool
+    ensures { result ≡ (is_some slot && is_eject node uid) }
 {
-    slot.is_some() && uid != reserved
+    slot.is_some() && uid.node == node && uid.epoch != 0 && uid.serial != 0
 }
 
-/// The first uid behind a given one, or of all, that has a slot; but not the reserved one.
-pub fn next_slot(
-    index: &BTreeMap<Uid, Option<Slot>>,
-    from: Option<Uid>,
-    reserved: Uid,
-) -> Option<Uid>
-    ensures { IsNextOf (λ uid. is_some (slot_at index.now uid)) reserved from result }
+/// The first uid of an Eject of the node behind a given one, or of all, that has a slot.
+pub fn next_slot(index: &BTreeMap<Uid, Option<Slot>>, from: Option<Uid>, node: u8) -> Option<Uid>
+    ensures { IsNextOf (λ uid. is_some (slot_at index.now uid) && is_eject node uid) (reserved_uid node) from result }
 {
     let start = match from {
         Some(uid) => Bound::Excluded(uid),
         None => Bound::Unbounded,
     };
     for (uid, slot) in index.range((start, Bound::Unbounded)) {
-        if is_eject_slot(*uid, *slot, reserved) {
+        if is_eject_slot(*uid, *slot, node) {
             return Some(*uid);
         }
     }

@@ -9,10 +9,11 @@ ghost use Rattle.eden_disk.specs.Told.{Told, contents, at_rest, EachMoment, Leav
 ghost use Rattle.eden_disk.specs.Calls.{DeviceCalls, Obeyed, ReadTold, end_of};
 ghost use Rattle.eden_disk.specs.Held.{Holds, Passes};
 ghost use Rattle.eden_disk.specs.Timed.{Timed};
-ghost use Rattle.passive_store.specs.Log.{HalfWritten, Unwritten};
+ghost use Rattle.passive_store.specs.Log.{HalfWritten, Unwritten, log_grows};
 ghost use Rattle.passive_store.specs.Acts.{CallTold, CallsTold, settling_call};
-ghost use Rattle.passive_store.specs.Kept.{IsOwn, IsEject, IsFresh, Idle, is_busy, end_of_store, IsDiskRefusal, IsEarlyRefusal, Begins, Ran, work_begun, body_at};
-ghost use Rattle.passive_store.specs.LogState.{SetsSlot, slot_of, slot_at, IsRecordOf, IsJobAfter, made_at, stage_after, stage_synced, stage_ended, spelled_record, within_room, shown_room, reads_for, WhereBegun, stage_call, record_job, log_tail, bytes_for};
+ghost use Rattle.passive_store.specs.Kept.{IsOwn, IsEject, IsFresh, Idle, is_busy, end_of_store, IsDiskRefusal, Ran, work_begun, body_at};
+ghost use Rattle.passive_store.specs.LogState.{SetsSlot, slot_of, slot_at, IsRecordOf, IsJobAfter, made_at, stage_after, stage_synced, stage_ended, WhereBegun, stage_call};
+ghost use Rattle.passive_store.specs.LogLayout.{within_room, log_room, reads_for, record_job, log_tail, bytes_for};
 
 use crate::index::{Slot, find_slot, make_entry, make_slot, next_slot, set_slot};
 use crate::opening::{Found, open_log};
@@ -63,9 +64,18 @@ impl<D: Disk> Model for LogStore<D> {
 
     ghost Value = { LogState D };
 
-    ghost view = { λ s. record { device = s.disk; node = s.node; tail = s.tail; work = pending_work s.tail s.pending; picked = s.picked; entries = s.index.entries } };
+    ghost view = { λ s. record {
+      device = s.disk;
+      node = s.node;
+      tail = s.tail;
+      work = pending_work s.tail s.pending;
+      picked = s.picked;
+      entries = s.index.entries;
+    } };
 
-    ghost invariant = { λ s. IsPlaced s.size s.tail (D.counts s.disk) s.index s.pending × (IsTrue D.tells → IsLog s.node s.size s.tail (contents (D.told s.disk)) s.index s.pending) × (IsTrue D.tells → IsTrue (D.counts s.disk).power → IsStaged s.tail (contents (D.told s.disk)) s.pending) };
+    ghost invariant = { λ s. IsPlaced s.size s.tail (D.counts s.disk) s.index s.pending
+        × (IsTrue D.tells → IsLog s.node s.size s.tail (contents (D.told s.disk)) s.index s.pending)
+        × (IsTrue D.tells → IsTrue (D.counts s.disk).power → IsStaged s.tail (contents (D.told s.disk)) s.pending) };
 }
 
 /// Makes the next device call of the job of a record.
@@ -81,12 +91,16 @@ fn make_call<D: Disk>(
     ensures counts { DeviceCalls 1 (D.counts disk.old) (D.counts disk.new) (end_of result) }
     ensures obeyed { IsTrue D.obeys → Obeyed (D.due disk.old) (D.due disk.new) (D.counts disk.old) (D.counts disk.new) (end_of result) }
     ensures timed { IsTrue D.tells → Timed (D.counts disk.old).clock (D.told disk.old) (D.counts disk.new).clock (D.told disk.new) }
-    ensures told { IsTrue D.tells → CallTold (stage_call tail bytes.now stage) (D.counts disk.new).clock (D.told disk.old) (D.told disk.new) (end_of result) }
-    ensures first { IsTrue D.tells → (front : List ℕ) → length front ≡ tail → IsJobAfter (D.counts disk.old).size front bytes.now (made_at stage) (contents (D.told disk.old))
+    ensures told { IsTrue D.tells
+        → CallTold (stage_call tail bytes.now stage) (D.counts disk.new).clock (D.told disk.old) (D.told disk.new) (end_of result) }
+    ensures first { IsTrue D.tells → (front : List ℕ) → length front ≡ tail
+        → IsJobAfter (D.counts disk.old).size front bytes.now (made_at stage) (contents (D.told disk.old))
         → WhereBegun stage (Passes (Unwritten (D.counts disk.old).size front) (D.told disk.old) (D.told disk.new)) }
-    ensures whole { IsTrue D.tells → (front : List ℕ) → length front ≡ tail → IsJobAfter (D.counts disk.old).size front bytes.now (made_at stage) (contents (D.told disk.old))
+    ensures whole { IsTrue D.tells → (front : List ℕ) → length front ≡ tail
+        → IsJobAfter (D.counts disk.old).size front bytes.now (made_at stage) (contents (D.told disk.old))
         → Passes (HalfWritten (D.counts disk.old).size front bytes.now) (D.told disk.old) (D.told disk.new) }
-    ensures next { IsTrue D.tells → (front : List ℕ) → length front ≡ tail → IsJobAfter (D.counts disk.old).size front bytes.now (made_at stage) (contents (D.told disk.old))
+    ensures next { IsTrue D.tells → (front : List ℕ) → length front ≡ tail
+        → IsJobAfter (D.counts disk.old).size front bytes.now (made_at stage) (contents (D.told disk.old))
         → OnOk result (IsJobAfter (D.counts disk.old).size front bytes.now (made_at stage + 1) (contents (D.told disk.new))) }
 {
     match stage {
@@ -111,9 +125,10 @@ fn next_stage(stage: Stage) -> Option<Stage>
 }
 
 impl<D: Disk> LogStore<D> {
-    ghost use Rattle.passive_store.specs.Kept.{Work, Stands, changes_in, change_in, doubt_in, is_unsettled, is_synced, work_settled, work_stepped, settling_calls, Changes, Settles, work_advanced, work_finished, shown_advanced, shown_finished, unsynced, progress_at, calls_left, job_left, settling_of, settled, SettlesFirst, IsFullBy, NextTold, reads_due};
-    ghost use Rattle.passive_store.specs.Log.{log_map};
-    ghost use Rattle.passive_store.specs.LogState.{state_shown, log_layout, HasEntry};
+    ghost use Rattle.passive_store.specs.Kept.{Work, Stands, changes_in, change_in, doubt_in, is_unsettled, is_synced, work_settled, work_stepped, settling_calls, work_advanced, kept_advanced, unsynced, progress_at, calls_left, job_left, settling_of, settled, SettlesFirst, IsFullBy, NextTold, reads_due};
+    ghost use Rattle.passive_store.specs.LogLayout.{log_layout, log_changes};
+    ghost use Rattle.passive_store.specs.LogState.{state_kept, log_seen, HasEntry};
+    ghost use Rattle.passive_store.specs.Seen.{asked, Finishes, Changes, Settles};
 
     /// Makes the next device call of the job.
     fn advance_job(&mut self) -> Result<Progress, StoreRefusal>
@@ -121,16 +136,25 @@ impl<D: Disk> LogStore<D> {
         requires busy { IsTrue (is_busy self.old.work) }
         ensures node { self.new.node ≡ self.old.node }
         ensures counts { DeviceCalls 1 (D.counts self.old.device) (D.counts self.new.device) (end_of_store result) }
-        ensures obeyed { IsTrue D.obeys → Obeyed (D.due self.old.device) (D.due self.new.device) (D.counts self.old.device) (D.counts self.new.device) (end_of_store result) }
-        ensures timed { IsTrue D.tells → Timed (D.counts self.old.device).clock (D.told self.old.device) (D.counts self.new.device).clock (D.told self.new.device) }
+        ensures obeyed { IsTrue D.obeys
+            → Obeyed (D.due self.old.device) (D.due self.new.device) (D.counts self.old.device) (D.counts self.new.device)
+            (end_of_store result) }
+        ensures timed { IsTrue D.tells
+            → Timed (D.counts self.old.device).clock (D.told self.old.device) (D.counts self.new.device).clock (D.told self.new.device) }
         ensures only { IfErr result IsDiskRefusal }
         ensures last { IfOk result (λ progress. progress ≡ progress_at (nat_le (calls_left self.old.work) 1)) }
-        ensures told { IsTrue D.tells → NextTold self.old.work (D.counts self.new.device).clock (D.told self.old.device) (D.told self.new.device) (end_of_store result) }
+        ensures told { IsTrue D.tells
+            → NextTold self.old.work (D.counts self.new.device).clock (D.told self.old.device) (D.told self.new.device)
+            (end_of_store result) }
         ensures work { self.new.work ≡ work_advanced self.old.work result }
         ensures picked { self.new.picked ≡ self.old.picked }
-        ensures shown { IsTrue D.tells → state_shown D.told self.new ≡ shown_advanced log_layout self.old.work (state_shown D.told self.old) result }
-        ensures stands { IsTrue D.tells → LeavesOnly (Stands (log_map self.new.node) (state_shown D.told self.new).kept (changes_in (doubt_in self.new.work))) (contents (D.told self.new.device)) }
-        ensures moments { IsTrue D.tells → EachMoment (Stands (log_map self.old.node) (state_shown D.told self.old).kept (changes_in (doubt_in self.old.work))) (D.told self.old.device) (D.told self.new.device) }
+        ensures kept { IsTrue D.tells → state_kept D.told self.new ≡ kept_advanced self.old.work (state_kept D.told self.old) result }
+        ensures stands { IsTrue D.tells
+            → LeavesOnly (Stands log_layout self.new.node log_changes (state_kept D.told self.new) (changes_in (doubt_in self.new.work)))
+            (contents (D.told self.new.device)) }
+        ensures moments { IsTrue D.tells
+            → EachMoment (Stands log_layout self.old.node log_changes (state_kept D.told self.old) (changes_in (doubt_in self.old.work)))
+            (D.told self.old.device) (D.told self.new.device) }
     {
         let Some(mut pending) = self.pending.take() else {
             return Ok(Progress::Done);
@@ -163,18 +187,27 @@ impl<D: Disk> LogStore<D> {
         requires unsettled { IsTrue (is_unsettled self.old.work) }
         ensures node { self.new.node ≡ self.old.node }
         ensures counts { DeviceCalls 1 (D.counts self.old.device) (D.counts self.new.device) (end_of_store result) }
-        ensures obeyed { IsTrue D.obeys → Obeyed (D.due self.old.device) (D.due self.new.device) (D.counts self.old.device) (D.counts self.new.device) (end_of_store result) }
-        ensures timed { IsTrue D.tells → Timed (D.counts self.old.device).clock (D.told self.old.device) (D.counts self.new.device).clock (D.told self.new.device) }
+        ensures obeyed { IsTrue D.obeys
+            → Obeyed (D.due self.old.device) (D.due self.new.device) (D.counts self.old.device) (D.counts self.new.device)
+            (end_of_store result) }
+        ensures timed { IsTrue D.tells
+            → Timed (D.counts self.old.device).clock (D.told self.old.device) (D.counts self.new.device).clock (D.told self.new.device) }
         ensures only { IfErr result IsDiskRefusal }
         ensures last { IfOk result (λ progress. progress ≡ progress_at (is_synced self.old.work)) }
-        ensures told { IsTrue D.tells → CallTold (settling_call (is_synced self.old.work)) (D.counts self.new.device).clock (D.told self.old.device) (D.told self.new.device) (end_of_store result) }
+        ensures told { IsTrue D.tells
+            → CallTold (settling_call (is_synced self.old.work)) (D.counts self.new.device).clock (D.told self.old.device)
+            (D.told self.new.device) (end_of_store result) }
         ensures work { self.new.work ≡ work_stepped self.old.work result }
         ensures picked { is_some self.new.picked ≡ (is_ok result && is_synced self.old.work) }
         ensures entries { (q : _) → HasEntry self.old.entries q → HasEntry self.new.entries q }
-        ensures shown { IsTrue D.tells → state_shown D.told self.new ≡ settled log_layout self.new.picked self.old.work (state_shown D.told self.old) }
-        ensures fresh { IsTrue D.tells → IfSome (doubt_in self.old.work) (λ c. IsFresh c (state_shown D.told self.old).kept) }
-        ensures stands { IsTrue D.tells → LeavesOnly (Stands (log_map self.new.node) (state_shown D.told self.new).kept (changes_in (doubt_in self.new.work))) (contents (D.told self.new.device)) }
-        ensures moments { IsTrue D.tells → EachMoment (Stands (log_map self.old.node) (state_shown D.told self.old).kept (changes_in (doubt_in self.old.work))) (D.told self.old.device) (D.told self.new.device) }
+        ensures kept { IsTrue D.tells → state_kept D.told self.new ≡ settled self.new.picked self.old.work (state_kept D.told self.old) }
+        ensures fresh { IsTrue D.tells → IfSome (doubt_in self.old.work) (λ c. IsFresh c (state_kept D.told self.old)) }
+        ensures stands { IsTrue D.tells
+            → LeavesOnly (Stands log_layout self.new.node log_changes (state_kept D.told self.new) (changes_in (doubt_in self.new.work)))
+            (contents (D.told self.new.device)) }
+        ensures moments { IsTrue D.tells
+            → EachMoment (Stands log_layout self.old.node log_changes (state_kept D.told self.old) (changes_in (doubt_in self.old.work)))
+            (D.told self.old.device) (D.told self.new.device) }
     {
         self.picked = None;
         let Some(mut pending) = self.pending.take() else {
@@ -222,9 +255,11 @@ impl<D: Disk> LogStore<D> {
         ensures picked { self.new.picked ≡ Option.None }
         ensures work { self.new.work ≡ unsynced self.old.work }
         ensures entries { self.new.entries ≡ self.old.entries }
-        ensures shown { IsTrue D.tells → state_shown D.told self.new ≡ state_shown D.told self.old }
-        ensures fresh { IsTrue D.tells → IfSome (doubt_in self.old.work) (λ c. IsFresh c (state_shown D.told self.old).kept) }
-        ensures stands { IsTrue D.tells → LeavesOnly (Stands (log_map self.new.node) (state_shown D.told self.new).kept (changes_in (doubt_in self.new.work))) (contents (D.told self.new.device)) }
+        ensures kept { IsTrue D.tells → state_kept D.told self.new ≡ state_kept D.told self.old }
+        ensures fresh { IsTrue D.tells → IfSome (doubt_in self.old.work) (λ c. IsFresh c (state_kept D.told self.old)) }
+        ensures stands { IsTrue D.tells
+            → LeavesOnly (Stands log_layout self.new.node log_changes (state_kept D.told self.new) (changes_in (doubt_in self.new.work)))
+            (contents (D.told self.new.device)) }
     {
         self.picked = None;
         let Some(mut pending) = self.pending.take() else {
@@ -243,19 +278,27 @@ impl<D: Disk> LogStore<D> {
     fn settle_log(&mut self) -> Result<(), StoreRefusal>
         requires { IsTrue (D.counts self.old.device).power }
         ensures node { self.new.node ≡ self.old.node }
-        ensures order { IsTrue D.tells → CallsTold (settling_of self.old.work) (D.told self.old.device) (D.told self.new.device) (end_of_store result) }
+        ensures order { IsTrue D.tells
+            → CallsTold (settling_of self.old.work) (D.told self.old.device) (D.told self.new.device) (end_of_store result) }
         ensures ran { Ran (settling_calls self.old.work) 0 result (D.counts self.old.device) (D.counts self.new.device) }
-        ensures obeyed { IsTrue D.obeys → Obeyed (D.due self.old.device) (D.due self.new.device) (D.counts self.old.device) (D.counts self.new.device) (end_of_store result) }
-        ensures timed { IsTrue D.tells → Timed (D.counts self.old.device).clock (D.told self.old.device) (D.counts self.new.device).clock (D.told self.new.device) }
+        ensures obeyed { IsTrue D.obeys
+            → Obeyed (D.due self.old.device) (D.due self.new.device) (D.counts self.old.device) (D.counts self.new.device)
+            (end_of_store result) }
+        ensures timed { IsTrue D.tells
+            → Timed (D.counts self.old.device).clock (D.told self.old.device) (D.counts self.new.device).clock (D.told self.new.device) }
         ensures only { IfErr result IsDiskRefusal }
         ensures refused { OnErr result (IsTrue (is_unsettled self.old.work)) }
         ensures picked { is_some self.new.picked ≡ (is_ok result && is_unsettled self.old.work) }
         ensures work { self.new.work ≡ work_settled self.new.picked self.old.work }
         ensures entries { (q : _) → HasEntry self.old.entries q → HasEntry self.new.entries q }
-        ensures shown { IsTrue D.tells → state_shown D.told self.new ≡ settled log_layout self.new.picked self.old.work (state_shown D.told self.old) }
-        ensures fresh { IsTrue D.tells → IfSome (doubt_in self.old.work) (λ c. IsFresh c (state_shown D.told self.old).kept) }
-        ensures stands { IsTrue D.tells → LeavesOnly (Stands (log_map self.new.node) (state_shown D.told self.new).kept (changes_in (doubt_in self.new.work))) (contents (D.told self.new.device)) }
-        ensures moments { IsTrue D.tells → EachMoment (Stands (log_map self.old.node) (state_shown D.told self.old).kept (changes_in (doubt_in self.old.work))) (D.told self.old.device) (D.told self.new.device) }
+        ensures kept { IsTrue D.tells → state_kept D.told self.new ≡ settled self.new.picked self.old.work (state_kept D.told self.old) }
+        ensures fresh { IsTrue D.tells → IfSome (doubt_in self.old.work) (λ c. IsFresh c (state_kept D.told self.old)) }
+        ensures stands { IsTrue D.tells
+            → LeavesOnly (Stands log_layout self.new.node log_changes (state_kept D.told self.new) (changes_in (doubt_in self.new.work)))
+            (contents (D.told self.new.device)) }
+        ensures moments { IsTrue D.tells
+            → EachMoment (Stands log_layout self.old.node log_changes (state_kept D.told self.old) (changes_in (doubt_in self.old.work)))
+            (D.told self.old.device) (D.told self.new.device) }
     {
         if self.begin_settling() {
             self.settle_once()?;
@@ -276,15 +319,27 @@ impl<D: Disk> LogStore<D> {
         requires entry { HasEntry self.old.entries uid }
         requires limit { length ≤ 262144 }
         requires spelled { IsRecordOf self.old.node record_bytes.items uid Bool.false length }
-        requires written { record_bytes.items ≡ bytes_for self.old.node uid (Option.Some (slice_range record_bytes.items 14 (14 + length))) }
+        requires written { record_bytes.items ≡
+            bytes_for self.old.node uid (Option.Some (slice_range record_bytes.items 14 (14 + length))) }
         ensures node { self.new.node ≡ self.old.node }
-        ensures changes { Changes D.tells log_layout self.old.node uid (Option.Some (slice_range record_bytes.items 14 (14 + length))) self.new.picked result self.old.work self.new.work (D.counts self.old.device) (D.counts self.new.device) (state_shown D.told self.old) (state_shown D.told self.new) (D.told self.old.device) (D.told self.new.device) }
-        ensures obeyed { IsTrue D.obeys → Obeyed (D.due self.old.device) (D.due self.new.device) (D.counts self.old.device) (D.counts self.new.device) (end_of_store result) }
-        ensures timed { IsTrue D.tells → Timed (D.counts self.old.device).clock (D.told self.old.device) (D.counts self.new.device).clock (D.told self.new.device) }
+        ensures changes { let seen = log_seen D.counts D.told D.due in
+            let body = slice_range record_bytes.items 14 (14 + length) in
+            Changes D.tells log_layout (asked uid (Option.Some body)) result (seen self.old) (seen self.new) }
+        ensures obeyed { IsTrue D.obeys
+            → Obeyed (D.due self.old.device) (D.due self.new.device) (D.counts self.old.device) (D.counts self.new.device)
+            (end_of_store result) }
+        ensures timed { IsTrue D.tells
+            → Timed (D.counts self.old.device).clock (D.told self.old.device) (D.counts self.new.device).clock (D.told self.new.device) }
         ensures picked { SettlesFirst self.new.picked self.old.work result }
         ensures undamaged { IfErr result (λ e. IsDiskRefusal e ⊎ (e ≡ Full)) }
-        ensures full { IsTrue D.tells → IsFullBy (within_room (shown_room (D.counts self.old.device).size (settled log_layout self.new.picked self.old.work (state_shown D.told self.old))) length) self.new.picked self.old.work result }
-        ensures stands { IsTrue D.tells → LeavesOnly (Stands (log_map self.new.node) (state_shown D.told self.new).kept (changes_in (doubt_in self.new.work))) (contents (D.told self.new.device)) }
+        ensures full { IsTrue D.tells
+            → IsFullBy (within_room
+            (log_room (D.counts self.old.device).size (settled self.new.picked self.old.work (state_kept D.told self.old)).ledger) length)
+            self.new.picked self.old.work result }
+        ensures fresh { IsTrue D.tells → IfSome (doubt_in self.new.work) (λ c. IsFresh c (state_kept D.told self.new)) }
+        ensures stands { IsTrue D.tells
+            → LeavesOnly (Stands log_layout self.new.node log_changes (state_kept D.told self.new) (changes_in (doubt_in self.new.work)))
+            (contents (D.told self.new.device)) }
     {
         self.settle_log()?;
         self.start(uid, false, length, record_bytes)?;
@@ -299,17 +354,25 @@ impl<D: Disk> LogStore<D> {
         requires spelled { IsRecordOf self.old.node record_bytes.items uid Bool.true 0 }
         requires written { record_bytes.items ≡ bytes_for self.old.node uid Option.None }
         ensures node { self.new.node ≡ self.old.node }
-        ensures changes { (Settles D.tells log_layout self.old.node self.new.picked result self.old.work self.new.work (D.counts self.old.device) (D.counts self.new.device) (state_shown D.told self.old) (state_shown D.told self.new) (D.told self.old.device) (D.told self.new.device)
-            × IfErr result IsDiskRefusal
-            × (IsTrue D.tells → OnOk result (body_at (settled log_layout self.new.picked self.old.work (state_shown D.told self.old)) uid ≡ Option.None)))
-            ⊎ (Changes D.tells log_layout self.old.node uid Option.None self.new.picked result self.old.work self.new.work (D.counts self.old.device) (D.counts self.new.device) (state_shown D.told self.old) (state_shown D.told self.new) (D.told self.old.device) (D.told self.new.device)
-            × (IsTrue D.tells → IsSome (body_at (settled log_layout self.new.picked self.old.work (state_shown D.told self.old)) uid))
-            × (IsTrue D.tells → IsFullBy (within_room (shown_room (D.counts self.old.device).size (settled log_layout self.new.picked self.old.work (state_shown D.told self.old))) 0) self.new.picked self.old.work result)) }
-        ensures obeyed { IsTrue D.obeys → Obeyed (D.due self.old.device) (D.due self.new.device) (D.counts self.old.device) (D.counts self.new.device) (end_of_store result) }
-        ensures timed { IsTrue D.tells → Timed (D.counts self.old.device).clock (D.told self.old.device) (D.counts self.new.device).clock (D.told self.new.device) }
+        ensures changes { let seen = log_seen D.counts D.told D.due in
+            let then = settled self.new.picked self.old.work (state_kept D.told self.old) in
+            (Settles D.tells log_layout result (seen self.old) (seen self.new) × IfErr result IsDiskRefusal
+            × (IsTrue D.tells → OnOk result (body_at then uid ≡ Option.None)))
+            ⊎ (Changes D.tells log_layout (asked uid Option.None) result (seen self.old) (seen self.new)
+            × (IsTrue D.tells → IsSome (body_at then uid))
+            × (IsTrue D.tells → IsFullBy (within_room (log_room (D.counts self.old.device).size then.ledger) 0) self.new.picked
+            self.old.work result)) }
+        ensures obeyed { IsTrue D.obeys
+            → Obeyed (D.due self.old.device) (D.due self.new.device) (D.counts self.old.device) (D.counts self.new.device)
+            (end_of_store result) }
+        ensures timed { IsTrue D.tells
+            → Timed (D.counts self.old.device).clock (D.told self.old.device) (D.counts self.new.device).clock (D.told self.new.device) }
         ensures picked { SettlesFirst self.new.picked self.old.work result }
         ensures undamaged { IfErr result (λ e. IsDiskRefusal e ⊎ (e ≡ Full)) }
-        ensures stands { IsTrue D.tells → LeavesOnly (Stands (log_map self.new.node) (state_shown D.told self.new).kept (changes_in (doubt_in self.new.work))) (contents (D.told self.new.device)) }
+        ensures fresh { IsTrue D.tells → IfSome (doubt_in self.new.work) (λ c. IsFresh c (state_kept D.told self.new)) }
+        ensures stands { IsTrue D.tells
+            → LeavesOnly (Stands log_layout self.new.node log_changes (state_kept D.told self.new) (changes_in (doubt_in self.new.work)))
+            (contents (D.told self.new.device)) }
     {
         self.settle_log()?;
         if !self.is_kept(uid) {
@@ -321,7 +384,7 @@ impl<D: Disk> LogStore<D> {
 
     /// Whether a uid is kept.
     fn is_kept(&self, uid: Uid) -> bool
-        ensures { IsTrue D.tells → result ≡ is_some (body_at (state_shown D.told self.now) uid) }
+        ensures { IsTrue D.tells → result ≡ is_some (body_at (state_kept D.told self.now) uid) }
     {
         find_slot(&self.index, uid).is_some()
     }
@@ -331,17 +394,7 @@ impl<D: Disk> LogStore<D> {
         requires power { IsTrue (D.counts self.old.device).power }
         requires busy { IsTrue (is_busy self.old.work) }
         requires some { 1 ≤ calls_left self.old.work }
-        ensures node { self.new.node ≡ self.old.node }
-        ensures order { IsTrue D.tells → CallsTold (job_left self.old.work) (D.told self.old.device) (D.told self.new.device) (end_of_store result) }
-        ensures ran { Ran 0 (calls_left self.old.work) result (D.counts self.old.device) (D.counts self.new.device) }
-        ensures obeyed { IsTrue D.obeys → Obeyed (D.due self.old.device) (D.due self.new.device) (D.counts self.old.device) (D.counts self.new.device) (end_of_store result) }
-        ensures timed { IsTrue D.tells → Timed (D.counts self.old.device).clock (D.told self.old.device) (D.counts self.new.device).clock (D.told self.new.device) }
-        ensures only { IfErr result IsDiskRefusal }
-        ensures work { self.new.work ≡ work_finished self.old.work result }
-        ensures picked { self.new.picked ≡ self.old.picked }
-        ensures shown { IsTrue D.tells → state_shown D.told self.new ≡ shown_finished log_layout self.old.work (state_shown D.told self.old) result }
-        ensures stands { IsTrue D.tells → LeavesOnly (Stands (log_map self.new.node) (state_shown D.told self.new).kept (changes_in (doubt_in self.new.work))) (contents (D.told self.new.device)) }
-        ensures moments { IsTrue D.tells → EachMoment (Stands (log_map self.old.node) (state_shown D.told self.old).kept (changes_in (change_in self.old.work))) (D.told self.old.device) (D.told self.new.device) }
+        ensures { let seen = log_seen D.counts D.told D.due in Finishes D.tells D.obeys log_layout result (seen self.old) (seen self.new) }
     {
         while let Progress::Going = self.advance_job()? {}
         Ok(())
@@ -359,17 +412,22 @@ impl<D: Disk> LogStore<D> {
         requires entry { HasEntry self.old.entries uid }
         requires limit { length ≤ 262144 }
         requires spelled { IsRecordOf self.old.node record_bytes.items uid removal length }
-        requires kept { IsTrue removal → IsTrue D.tells → IsSome (body_at (state_shown D.told self.old) uid) }
+        requires kept { IsTrue removal → IsTrue D.tells → IsSome (body_at (state_kept D.told self.old) uid) }
         ensures node { self.new.node ≡ self.old.node }
         ensures device { self.new.device ≡ self.old.device }
         ensures picked { self.new.picked ≡ self.old.picked }
         ensures only { IfErr result (λ e. e ≡ Full) }
-        ensures work { self.new.work ≡ work_begun (record { uid = uid; body = cond removal Option.None (Option.Some (slice_range record_bytes.items 14 (14 + length))); mark = self.old.tail }) (record_job self.old.tail record_bytes.items) self.old.work result }
+        ensures work { let body = cond removal Option.None (Option.Some (slice_range record_bytes.items 14 (14 + length))) in
+            self.new.work ≡ work_begun (record { uid = uid; body = body; mark = self.old.tail; wrote = log_grows body })
+            (record_job self.old.tail record_bytes.items) self.old.work result }
         ensures tail { IsTrue D.tells → self.old.tail ≡ log_tail self.old.node (contents (D.told self.old.device)).now }
-        ensures room { IsTrue D.tells → OnOk result (IsTrue (within_room (shown_room (D.counts self.old.device).size (state_shown D.told self.old)) length)) }
-        ensures full { IsTrue D.tells → OnErr result (within_room (shown_room (D.counts self.old.device).size (state_shown D.told self.old)) length ≡ Bool.false) }
-        ensures shown { IsTrue D.tells → state_shown D.told self.new ≡ state_shown D.told self.old }
-        ensures fresh { IsTrue D.tells → IfSome (change_in self.new.work) (λ c. IsFresh c (state_shown D.told self.new).kept) }
+        ensures room { IsTrue D.tells
+            → OnOk result (IsTrue (within_room (log_room (D.counts self.old.device).size (state_kept D.told self.old).ledger) length)) }
+        ensures full { IsTrue D.tells
+            → OnErr result (within_room (log_room (D.counts self.old.device).size (state_kept D.told self.old).ledger) length ≡
+            Bool.false) }
+        ensures kept { IsTrue D.tells → state_kept D.told self.new ≡ state_kept D.told self.old }
+        ensures fresh { IsTrue D.tells → IfSome (change_in self.new.work) (λ c. IsFresh c (state_kept D.told self.new)) }
     {
         if self.tail as u64 + length as u64 + 16 > self.size as u64 {
             return Err(StoreRefusal::Full);
@@ -391,14 +449,25 @@ impl<D: Disk> LogStore<D> {
         ensures picked { self.new.picked ≡ self.old.picked }
         ensures work { self.new.work ≡ self.old.work }
         ensures only { IfErr result (λ e. IsDiskRefusal e ⊎ (e ≡ OutOfMemory)) }
-        ensures ran { (calls : ℕ) × (Ran 0 calls result (D.counts self.old.device) (D.counts self.new.device) × IfOk result (λ found. calls ≡ reads_for found)
-            × (IsTrue D.tells → CallsTold (reads_due Idle calls result) (D.told self.old.device) (D.told self.new.device) (end_of_store result))) }
-        ensures obeyed { IsTrue D.obeys → Obeyed (D.due self.old.device) (D.due self.new.device) (D.counts self.old.device) (D.counts self.new.device) (end_of_store result) }
-        ensures timed { IsTrue D.tells → Timed (D.counts self.old.device).clock (D.told self.old.device) (D.counts self.new.device).clock (D.told self.new.device) }
-        ensures shown { IsTrue D.tells → state_shown D.told self.new ≡ state_shown D.told self.old }
-        ensures body { IsTrue D.tells → IfOk result (λ found. found ≡ body_at (state_shown D.told self.old) uid) }
-        ensures stands { IsTrue D.tells → LeavesOnly (Stands (log_map self.new.node) (state_shown D.told self.new).kept (changes_in (doubt_in self.new.work))) (contents (D.told self.new.device)) }
-        ensures moments { IsTrue D.tells → EachMoment (Stands (log_map self.old.node) (state_shown D.told self.old).kept (changes_in (doubt_in self.old.work))) (D.told self.old.device) (D.told self.new.device) }
+        ensures ran { (calls : ℕ)
+            × (Ran 0 calls result (D.counts self.old.device) (D.counts self.new.device) × IfOk result (λ found. calls ≡ reads_for found)
+            × (IsTrue D.tells → calls ≡ reads_for (body_at (state_kept D.told self.old) uid))
+            × (IsTrue D.tells → CallsTold (reads_due Idle calls result) (D.told self.old.device) (D.told self.new.device)
+            (end_of_store result))) }
+        ensures obeyed { IsTrue D.obeys
+            → Obeyed (D.due self.old.device) (D.due self.new.device) (D.counts self.old.device) (D.counts self.new.device)
+            (end_of_store result) }
+        ensures timed { IsTrue D.tells
+            → Timed (D.counts self.old.device).clock (D.told self.old.device) (D.counts self.new.device).clock (D.told self.new.device) }
+        ensures kept { IsTrue D.tells → state_kept D.told self.new ≡ state_kept D.told self.old }
+        ensures body { IsTrue D.tells → IfOk result (λ found. found ≡ body_at (state_kept D.told self.old) uid) }
+        ensures reads { IsTrue D.tells → IfErr result (λ e. IsDiskRefusal e → IsSome (body_at (state_kept D.told self.old) uid)) }
+        ensures stands { IsTrue D.tells
+            → LeavesOnly (Stands log_layout self.new.node log_changes (state_kept D.told self.new) (changes_in (doubt_in self.new.work)))
+            (contents (D.told self.new.device)) }
+        ensures moments { IsTrue D.tells
+            → EachMoment (Stands log_layout self.old.node log_changes (state_kept D.told self.old) (changes_in (doubt_in self.old.work)))
+            (D.told self.old.device) (D.told self.new.device) }
     {
         let Some(slot) = find_slot(&self.index, uid) else {
             return Ok(None);
@@ -425,22 +494,12 @@ fn has_synced(stage: Stage) -> bool
 impl<D: Disk> Store for LogStore<D> {
     type Device = D;
 
-    ghost use Rattle.std.specs.Prelude.{true};
-    ghost use Rattle.passive_store.specs.LogState.{log_layout, log_shown};
+    ghost use Rattle.passive_store.specs.LogLayout.{log_layout};
+    ghost use Rattle.passive_store.specs.LogState.{log_seen};
 
     ghost layout = { log_layout };
 
-    ghost node_of = { λ s. s.node };
-
-    ghost device = { λ s. s.device };
-
-    ghost work = { λ s. s.work };
-
-    ghost picked = { λ s. s.picked };
-
-    ghost shown = { λ s. log_shown s.node s.tail (contents (D.told s.device)).now };
-
-    ghost fit = { λ s. true };
+    ghost seen = { λ s. log_seen D.counts D.told D.due s };
 
     fn open_disk(alloc: Global, mut disk: D, node: u8) -> Result<Self, (D, StoreRefusal)> {
         match open_log(alloc, &mut disk, node) {
@@ -500,12 +559,7 @@ impl<D: Disk> Store for LogStore<D> {
     }
 
     fn after(&self, uid: Option<Uid>) -> Option<Uid> {
-        let reserved = Uid {
-            node: self.node,
-            epoch: 0,
-            serial: 0,
-        };
-        next_slot(&self.index, uid, reserved)
+        next_slot(&self.index, uid, self.node)
     }
 
     fn room(&self) -> Option<u32> {

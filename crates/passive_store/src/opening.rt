@@ -6,9 +6,10 @@ ghost use Rattle.eden_disk.specs.Calls.{DeviceCalls, Obeyed, ReadTold, end_of};
 ghost use Rattle.eden_disk.specs.Held.{Passes};
 ghost use Rattle.passive_store.specs.declared.store.StoreRefusal.TheVariants.{Full, Damaged};
 ghost use Rattle.passive_store.specs.Acts.{CallsTold, Write, Sync};
-ghost use Rattle.passive_store.specs.Kept.{end_of_store, nothing_kept, OpeningMade, OpeningTold};
-ghost use Rattle.passive_store.specs.Log.{records_of, kept_from, log_map};
-ghost use Rattle.passive_store.specs.LogState.{IsPlaced, IsLog, records_before, records_found, body_length, log_opening, log_format, looks};
+ghost use Rattle.passive_store.specs.Kept.{end_of_store, OpeningMade, OpeningTold};
+ghost use Rattle.passive_store.specs.Log.{records_of, log_map};
+ghost use Rattle.passive_store.specs.LogLayout.{log_kept, log_opening, log_format, looks};
+ghost use Rattle.passive_store.specs.LogState.{IsPlaced, IsLog};
 ghost use Rattle.passive_store.specs.Opening.{IsWalk, ThroughTold, IsEmptyImage, IsBlank, IsNewLog, IsReadied, IsKeptThrough, ReadsMade};
 
 use crate::index::{Slot, make_entry, make_slot, set_slot};
@@ -78,11 +79,15 @@ fn has_log<D: Disk>(disk: &mut D) -> Result<bool, DiskRefusal>
 fn ready<D: Disk>(disk: &mut D) -> Result<(), DiskRefusal>
     requires power { IsTrue (D.counts disk.old).power }
     requires range { 17 ≤ (D.counts disk.old).size }
-    ensures ran { (made : ℕ) × (DeviceCalls made (D.counts disk.old) (D.counts disk.new) (end_of result) × (1 ≤ made) × (IsTrue D.tells → OnOk result (made ≡ (if slice_index (contents (D.told disk.old)).now 0 == 237 then 1 else 5)))) }
+    ensures ran { (made : ℕ)
+        × (DeviceCalls made (D.counts disk.old) (D.counts disk.new) (end_of result) × (1 ≤ made)
+        × (IsTrue D.tells → OnOk result (made ≡ (if slice_index (contents (D.told disk.old)).now 0 == 237 then 1 else 5)))) }
     ensures obeyed { IsTrue D.obeys → Obeyed (D.due disk.old) (D.due disk.new) (D.counts disk.old) (D.counts disk.new) (end_of result) }
     ensures timed { IsTrue D.tells → Timed (D.counts disk.old).clock (D.told disk.old) (D.counts disk.new).clock (D.told disk.new) }
-    ensures order { IsTrue D.tells → CallsTold (looks (slice_index (contents (D.told disk.old)).now 0 == 237)) (D.told disk.old) (D.told disk.new) (end_of result) }
-    ensures readied { IsTrue D.tells → contents (D.told disk.old) ≡ at_rest (contents (D.told disk.old)).now → 17 ≤ length (contents (D.told disk.old)).now → IsReadied (D.told disk.old) (D.told disk.new) (end_of result) }
+    ensures order { IsTrue D.tells
+        → CallsTold (looks (slice_index (contents (D.told disk.old)).now 0 == 237)) (D.told disk.old) (D.told disk.new) (end_of result) }
+    ensures readied { IsTrue D.tells → contents (D.told disk.old) ≡ at_rest (contents (D.told disk.old)).now
+        → 17 ≤ length (contents (D.told disk.old)).now → IsReadied (D.told disk.old) (D.told disk.new) (end_of result) }
 {
     if has_log(disk)? {
         return Ok(());
@@ -94,15 +99,19 @@ fn ready<D: Disk>(disk: &mut D) -> Result<(), DiskRefusal>
 fn read_records<D: Disk>(alloc: Global, disk: &mut D, node: u8) -> Result<Found, StoreRefusal>
     requires power { IsTrue (D.counts disk.old).power }
     requires range { 17 ≤ (D.counts disk.old).size }
-    ensures ran { (made : ℕ) × (DeviceCalls made (D.counts disk.old) (D.counts disk.new) (end_of_store result) × (IsTrue D.tells → ReadsMade node (contents (D.told disk.old)).now result made)) }
-    ensures obeyed { IsTrue D.obeys → Obeyed (D.due disk.old) (D.due disk.new) (D.counts disk.old) (D.counts disk.new) (end_of_store result) }
+    ensures ran { (made : ℕ)
+        × (DeviceCalls made (D.counts disk.old) (D.counts disk.new) (end_of_store result)
+        × (IsTrue D.tells → ReadsMade node (contents (D.told disk.old)).now result made)) }
+    ensures obeyed { IsTrue D.obeys
+        → Obeyed (D.due disk.old) (D.due disk.new) (D.counts disk.old) (D.counts disk.new) (end_of_store result) }
     ensures timed { IsTrue D.tells → Timed (D.counts disk.old).clock (D.told disk.old) (D.counts disk.new).clock (D.told disk.new) }
     ensures never_full { IfErr result (λ e. e ≢ Full) }
     ensures told { IsTrue D.tells → ReadTold (D.counts disk.new).clock (D.told disk.old) (D.told disk.new) (end_of_store result) }
     ensures placed { IfOk result (λ f. IsPlaced f.size f.tail (D.counts disk.new) f.index Option.None) }
     ensures walk { IsTrue D.tells → IfOk result (λ f. IsWalk node f.size f.tail (contents (D.told disk.old)).now f.index) }
     ensures shut { IsTrue D.tells → IfOk result (λ f. (slice_index (contents (D.told disk.old)).now f.tail == 225) ≡ false) }
-    ensures damaged { IsTrue D.tells → IfErr result (λ e. (place : ℕ) → e ≡ Damaged place → records_of node (contents (D.told disk.old)).now ≡ Result.Err place) }
+    ensures damaged { IsTrue D.tells
+        → IfErr result (λ e. (place : ℕ) → e ≡ Damaged place → records_of node (contents (D.told disk.old)).now ≡ Result.Err place) }
 {
     let size = disk.size();
     let mut index = BTreeMap::new(alloc);
@@ -119,17 +128,24 @@ fn read_records<D: Disk>(alloc: Global, disk: &mut D, node: u8) -> Result<Found,
 /// Opens the log of a disk. One of fewer than 17 bytes has no room for a log, and no call is made on it.
 pub fn open_log<D: Disk>(alloc: Global, disk: &mut D, node: u8) -> Result<Found, StoreRefusal>
     requires { IsTrue (D.counts disk.old).power }
+    ensures whole { IsTrue D.tells → length (contents (D.told disk.old)).now ≡ (D.counts disk.old).size }
     ensures small { (D.counts disk.old).size < 17 → (result ≡ Result.Err (Damaged 0)) × (disk.new ≡ disk.old) }
-    ensures ran { (made : ℕ) × (DeviceCalls made (D.counts disk.old) (D.counts disk.new) (end_of_store result) × (IsTrue D.tells → OpeningMade (length (log_opening node (contents (D.told disk.old)).now)) result made)) }
-    ensures order { IsTrue D.tells → OpeningTold (log_opening node (contents (D.told disk.old)).now) (D.told disk.old) (D.told disk.new) result }
-    ensures obeyed { IsTrue D.obeys → Obeyed (D.due disk.old) (D.due disk.new) (D.counts disk.old) (D.counts disk.new) (end_of_store result) }
+    ensures ran { (made : ℕ)
+        × (DeviceCalls made (D.counts disk.old) (D.counts disk.new) (end_of_store result)
+        × (IsTrue D.tells → OpeningMade (length (log_opening node (contents (D.told disk.old)).now)) result made)) }
+    ensures order { IsTrue D.tells
+        → OpeningTold (log_opening node (contents (D.told disk.old)).now) (D.told disk.old) (D.told disk.new) result }
+    ensures obeyed { IsTrue D.obeys
+        → Obeyed (D.due disk.old) (D.due disk.new) (D.counts disk.old) (D.counts disk.new) (end_of_store result) }
     ensures timed { IsTrue D.tells → Timed (D.counts disk.old).clock (D.told disk.old) (D.counts disk.new).clock (D.told disk.new) }
     ensures never_full { IfErr result (λ e. e ≢ Full) }
     ensures placed { IfOk result (λ f. IsPlaced f.size f.tail (D.counts disk.new) f.index Option.None) }
     ensures log { IsTrue D.tells → IfOk result (λ f. IsLog node f.size f.tail (contents (D.told disk.new)) f.index Option.None) }
-    ensures map { IsTrue D.tells → IfOk result (λ f. log_map node (contents (D.told disk.old)).now ≡ Result.Ok (kept_from nothing_kept (records_before node f.tail (contents (D.told disk.new)).now))) }
-    ensures written { IsTrue D.tells → IfOk result (λ f. records_before node f.tail (contents (D.told disk.new)).now ≡ records_found node (contents (D.told disk.old)).now) }
-    ensures damaged { IsTrue D.tells → IfErr result (λ e. (place : ℕ) → e ≡ Damaged place → log_map node (contents (D.told disk.old)).now ≡ Result.Err place) }
+    ensures map { IsTrue D.tells
+        → IfOk result (λ f. log_map node (contents (D.told disk.old)).now ≡
+        Result.Ok (log_kept node f.tail (contents (D.told disk.new)).now)) }
+    ensures damaged { IsTrue D.tells
+        → IfErr result (λ e. (place : ℕ) → e ≡ Damaged place → log_map node (contents (D.told disk.old)).now ≡ Result.Err place) }
     ensures keeps { IsTrue D.tells → IsKeptThrough node (D.told disk.old) (D.told disk.new) }
 {
     if disk.size() < 17 {

@@ -7,7 +7,7 @@ ghost use Rattle.eden_disk.specs.Calls.{DeviceCalls, Obeyed, ReadTold, end_of};
 ghost use Rattle.passive_store.specs.declared.store.StoreRefusal.TheVariants.{Damaged};
 ghost use Rattle.passive_store.specs.Kept.{end_of_store, IsDiskRefusal};
 ghost use Rattle.passive_store.specs.Log.{length_of, uid_of, kind_of, are_fields};
-ghost use Rattle.passive_store.specs.LogState.{spelled_record};
+ghost use Rattle.passive_store.specs.LogLayout.{spelled_record};
 ghost use Rattle.passive_store.specs.Records.{IsHeader, IsHeaderAt, IsDamagedAt};
 
 use crate::store::StoreRefusal;
@@ -66,7 +66,8 @@ fn number_at(bytes: &[u8], at: usize) -> u32
 /// The header that 14 bytes spell, where its record fits before the end of a disk that many bytes behind its gate.
 fn parse_header(fields: &[u8], node: u8, left: u32) -> Option<Header>
     requires { length fields.now ≡ 14 }
-    ensures found { is_some result ≡ (nat_le (14 + length_of fields.now + 1) left && are_fields node (length_of fields.now) (uid_of fields.now) (kind_of fields.now)) }
+    ensures found { is_some result ≡
+        (nat_le (14 + length_of fields.now + 1) left && are_fields node (length_of fields.now) (uid_of fields.now) (kind_of fields.now)) }
     ensures header { IfSome result (λ h. IsHeader h fields.now) }
 {
     let length = number_at(fields, 0);
@@ -100,7 +101,8 @@ pub fn read_header<D: Disk>(
     requires power { IsTrue (D.counts disk.old).power }
     requires range { place + 1 ≤ (D.counts disk.old).size }
     ensures counts { DeviceCalls 1 (D.counts disk.old) (D.counts disk.new) (end_of_store result) }
-    ensures obeyed { IsTrue D.obeys → Obeyed (D.due disk.old) (D.due disk.new) (D.counts disk.old) (D.counts disk.new) (end_of_store result) }
+    ensures obeyed { IsTrue D.obeys
+        → Obeyed (D.due disk.old) (D.due disk.new) (D.counts disk.old) (D.counts disk.new) (end_of_store result) }
     ensures timed { IsTrue D.tells → Timed (D.counts disk.old).clock (D.told disk.old) (D.counts disk.new).clock (D.told disk.new) }
     ensures only { IfErr result (λ e. IsDiskRefusal e ⊎ (e ≡ Damaged place)) }
     ensures told { IsTrue D.tells → ReadTold (D.counts disk.new).clock (D.told disk.old) (D.told disk.new) (end_of_store result) }

@@ -1,14 +1,10 @@
 // A store: a finite map from uids to bytes, with at most one change under way or in doubt.
-ghost use Rattle.std.specs.Prelude.{◌≡◌, ◌≢◌, ◌⊎◌, ◌≤◌, nat_le, ℕ, Bool, IsTrue, IsSome, is_some, ◌&&◌, List, [], length, OnOk, OnErr, IfOk, IfErr, IfSome, Option, Result, is_ok};
+ghost use Rattle.std.specs.Prelude.{◌≡◌, ◌≢◌, ◌≤◌, ℕ, Bool, IsTrue, IsSome, is_some, List, length, IfSome, Option, Result};
 ghost use Rattle.std.specs.FinMap as map;
-ghost use Rattle.eden_disk.specs.Told.{contents, EachMoment};
-ghost use Rattle.eden_disk.specs.Calls.{DeviceCalls, Obeyed, armed, calls_until};
-ghost use Rattle.eden_disk.specs.Held.{Holds};
-ghost use Rattle.eden_disk.specs.Timed.{Timed};
-ghost use Rattle.passive_store.specs.declared.store.Pick.{Pick};
-ghost use Rattle.passive_store.specs.declared.store.StoreRefusal.TheVariants.{OutOfMemory, Full, Damaged};
-ghost use Rattle.passive_store.specs.Acts.{CallTold, CallsTold, settling_call};
-ghost use Rattle.passive_store.specs.Kept.{Layout, Kept, Shown, Work, Idle, Change, Stands, HasNoMap, LeavesShown, StandsThrough, changes_in, doubt_in, change_in, unsure_in, worked_on, is_busy, is_unsettled, is_synced, calls_left, settling_calls, settling_of, settled, work_settled, work_stepped, work_advanced, shown_advanced, progress_at, end_of_store, refused, Begins, Changes, Settles, Ran, SettlesFirst, SettlesAfterMemory, finds_room, IsFullBy, IsOwn, IsEject, IsFresh, IsDiskRefusal, IsEarlyRefusal, KeepsTelling, body_at, disk_after, without_disk, IsNextKept, HasJob, NextTold, reads_due, OpeningMade, OpeningTold, IsOverfullBy, NeverOverfull};
+ghost use Rattle.eden_disk.specs.Calls.{armed, calls_until};
+ghost use Rattle.passive_store.specs.declared.store.StoreRefusal.TheVariants.{OutOfMemory, Damaged};
+ghost use Rattle.passive_store.specs.Kept.{Layout, Idle, unsure_in, worked_on, is_busy, is_unsettled, refused, IsOwn, IsEject, body_at, IsNextKept};
+ghost use Rattle.passive_store.specs.Seen.{Seen, disk_seen, opened, disk_opened, asked, Opens, SettlesOneCall, Settled, Begins, Advances, Arms, Puts, Deletes, Gets};
 
 use capability::{Body, Uid};
 use eden_disk::{Arm, Disk, DiskRefusal};
@@ -79,6 +75,9 @@ pub struct Doubt {
 /// tell which of the two states is there (`picked`).
 /// At most one change is under way or in doubt.
 ///
+/// Where the clock of the disk stands at 2^64 - 1, each call that makes a device call is refused, as the disk's is:
+/// `DeviceCalls` says so (`counted`).
+///
 /// After `Stopped` only `unsure`, `picked`, `mark`, `disk` and `close` are of use. What the contracts say of contents
 /// they say of a disk that tells its own.
 pub trait Store: Sized {
@@ -87,22 +86,8 @@ pub trait Store: Sized {
     /// What the layout says of images, and of the room on them.
     ghost layout: { Layout };
 
-    /// The node whose Ejects are kept.
-    ghost node_of: { Self → ℕ };
-
-    ghost device: { Self → Self.Device };
-
-    /// The change that is worked on or in doubt.
-    ghost work: { Self → Work };
-
-    /// What the last settling call found.
-    ghost picked: { Self → Option Pick };
-
-    /// What is kept, with the old state of a uid in doubt; where the disk tells.
-    ghost shown: { Self → Shown };
-
-    /// Whether the layout tells the room.
-    ghost fit: { Self → Bool };
+    /// What is seen of a store: what it keeps and works on, and what its disk shows.
+    ghost seen: { Self → Seen };
 
     /// Opens the disk of a node. On a blank disk an empty store is made. A refusal hands the disk back.
     ///
@@ -114,216 +99,103 @@ pub trait Store: Sized {
     ) -> Result<Self, (Self::Device, StoreRefusal)>
         requires power { IsTrue (Self.Device.counts disk).power }
         requires node { (1 ≤ node) × (node ≤ 8) }
-        ensures node { IfOk result (λ s. node_of s ≡ node) }
-        ensures idle { IfOk result (λ s. (work s ≡ Idle) × (picked s ≡ Option.None)) }
         ensures size { layout.allows (Self.Device.counts disk).size ≡ Bool.false → result ≡ Result.Err (disk, Damaged 0) }
-        ensures ran { (made : ℕ) × (DeviceCalls made (Self.Device.counts disk) (Self.Device.counts (disk_after device result)) (end_of_store (without_disk result)) × (IsTrue Self.Device.tells → OpeningMade (length (layout.opening_calls node (contents (Self.Device.told disk)).now)) (without_disk result) made)) }
-        ensures order { IsTrue Self.Device.tells → OpeningTold (layout.opening_calls node (contents (Self.Device.told disk)).now) (Self.Device.told disk) (Self.Device.told (disk_after device result)) (without_disk result) }
-        ensures obeyed { IsTrue Self.Device.obeys → Obeyed (Self.Device.due disk) (Self.Device.due (disk_after device result)) (Self.Device.counts disk) (Self.Device.counts (disk_after device result)) (end_of_store (without_disk result)) }
-        ensures timed { IsTrue Self.Device.tells → Timed (Self.Device.counts disk).clock (Self.Device.told disk) (Self.Device.counts (disk_after device result)).clock (Self.Device.told (disk_after device result)) }
-        ensures map { IsTrue Self.Device.tells → IfOk result (λ s. layout.map_of node (contents (Self.Device.told disk)).now ≡ Result.Ok (shown s).kept) }
-        ensures written { IsTrue Self.Device.tells → IfOk result (λ s. (shown s).written ≡ layout.written_in node (contents (Self.Device.told disk)).now) }
-        ensures damaged { IsTrue Self.Device.tells → IfErr result (λ r. (place : ℕ) → r.1 ≡ Damaged place → layout.map_of node (contents (Self.Device.told disk)).now ≡ Result.Err place) }
-        ensures full { IsTrue Self.Device.tells → IsOverfullBy (layout.is_overfull node (contents (Self.Device.told disk)).now) (without_disk result) }
-        ensures never_full { NeverOverfull layout → IfErr result (λ r. r.1 ≢ Full) }
-        ensures fit { IsTrue Self.Device.tells → IfOk result (λ s. IsTrue (layout.tells_room node (contents (Self.Device.told disk)).now) → IsTrue (fit s)) }
-        ensures stands { IsTrue Self.Device.tells → IfOk result (λ s. LeavesShown layout node (shown s) Idle (Self.Device.told (device s))) }
-        // whatever the images stood for, they go on standing for it at each moment of the opening
-        ensures moments { IsTrue Self.Device.tells → (kept : Kept) (changes : List Change) → Holds (Stands (layout.map_of node) kept changes) (contents (Self.Device.told disk))
-            → EachMoment (Stands (layout.map_of node) kept changes) (Self.Device.told disk) (Self.Device.told (disk_after device result)) }
-        ensures unmapped { IsTrue Self.Device.tells → Holds (HasNoMap (layout.map_of node)) (contents (Self.Device.told disk))
-            → EachMoment (HasNoMap (layout.map_of node)) (Self.Device.told disk) (Self.Device.told (disk_after device result)) };
+        ensures opens { let of = disk_seen Self.Device.counts Self.Device.told Self.Device.due in
+            Opens Self.Device.tells Self.Device.obeys layout node (opened seen result) (of disk) (disk_opened seen of result) };
 
     fn disk(&self) -> &Self::Device
-        ensures { result.now ≡ device self.now };
+        ensures { disk_seen Self.Device.counts Self.Device.told Self.Device.due result.now ≡ (seen self.now).disk };
 
     /// Gives the disk back.
     fn close(self) -> Self::Device
-        ensures { result ≡ device self };
+        ensures { disk_seen Self.Device.counts Self.Device.told Self.Device.due result ≡ (seen self).disk };
 
     /// Hands a request for a failure or a stop to the disk. It is counted from now, and no other call asks for one.
     fn disk_mut_arm(&mut self, what: Arm)
         requires { 1 ≤ calls_until what }
-        ensures node { node_of self.new ≡ node_of self.old }
-        ensures work { work self.new ≡ work self.old }
-        ensures picked { picked self.new ≡ picked self.old }
-        ensures fit { fit self.new ≡ fit self.old }
-        ensures counts { Self.Device.counts (device self.new) ≡ Self.Device.counts (device self.old) }
-        ensures told { Self.Device.told (device self.new) ≡ Self.Device.told (device self.old) }
-        ensures due { IsTrue Self.Device.obeys → Self.Device.due (device self.new) ≡ armed what (Self.Device.counts (device self.old)).clock (Self.Device.due (device self.old)) }
-        ensures shown { IsTrue Self.Device.tells → shown self.new ≡ shown self.old };
+        ensures { Arms Self.Device.tells Self.Device.obeys what (seen self.old) (seen self.new) };
 
     /// The uid of the change in doubt.
     fn unsure(&self) -> Option<Uid>
-        ensures { result ≡ unsure_in (work self.now) };
+        ensures { result ≡ unsure_in (seen self.now).work };
 
     /// The uid that a job works on, from its begin to its end.
     fn working_on(&self) -> Option<Uid>
-        ensures { result ≡ worked_on (work self.now) };
+        ensures { result ≡ worked_on (seen self.now).work };
 
     /// What the settling of the last `put`, `delete`, `get`, `settle` or `settle_step` found; None where it ended none.
     fn picked(&self) -> Option<Pick>
-        ensures { result ≡ picked self.now };
+        ensures { result ≡ (seen self.now).picked };
 
     /// The number of the record that counts for a uid, or None where it is not kept.
     fn mark(&self, uid: Uid) -> Option<u64>
-        ensures { IsTrue Self.Device.tells → result ≡ map.get (shown self.now).kept.marks uid };
+        ensures { IsTrue Self.Device.tells → result ≡ map.get (seen self.now).kept.marks uid };
 
     /// Whether bytes are kept under a uid.
     fn holds(&self, uid: Uid) -> bool
-        ensures { IsTrue Self.Device.tells → result ≡ is_some (body_at (shown self.now) uid) };
+        ensures { IsTrue Self.Device.tells → result ≡ is_some (body_at (seen self.now).kept uid) };
 
     /// The next kept uid of an Eject behind a given one, or the first, in ascending order.
     fn after(&self, uid: Option<Uid>) -> Option<Uid>
-        ensures { IsTrue Self.Device.tells → IsNextKept (node_of self.now) (shown self.now) uid result };
+        ensures next { IsTrue Self.Device.tells → IsNextKept (seen self.now).node (seen self.now).kept uid result }
+        ensures own { IfSome result (λ u. IsEject (seen self.now).node u) };
 
     /// The length of the longest body that a put finds room for, or None where there is room for none.
     fn room(&self) -> Option<u32>
-        ensures { IsTrue Self.Device.tells → IsTrue (fit self.now) → result ≡ layout.room_of (Self.Device.counts (device self.now)).size (shown self.now).kept.bodies (shown self.now).written };
+        ensures { let s = seen self.now in
+            IsTrue Self.Device.tells → 1 ≤ s.more → result ≡ layout.room_of s.disk.counts.size s.kept.bodies s.kept.ledger };
 
     /// Makes the next device call of a settling: its sync, or then its read. A refusal begins the settling anew.
     fn settle_step(&mut self) -> Result<Progress, StoreRefusal>
-        requires power { IsTrue (Self.Device.counts (device self.old)).power }
-        requires unsettled { IsTrue (is_unsettled (work self.old)) }
-        ensures node { node_of self.new ≡ node_of self.old }
-        ensures counts { DeviceCalls 1 (Self.Device.counts (device self.old)) (Self.Device.counts (device self.new)) (end_of_store result) }
-        ensures obeyed { IsTrue Self.Device.obeys → Obeyed (Self.Device.due (device self.old)) (Self.Device.due (device self.new)) (Self.Device.counts (device self.old)) (Self.Device.counts (device self.new)) (end_of_store result) }
-        ensures timed { IsTrue Self.Device.tells → Timed (Self.Device.counts (device self.old)).clock (Self.Device.told (device self.old)) (Self.Device.counts (device self.new)).clock (Self.Device.told (device self.new)) }
-        ensures only { IfErr result IsDiskRefusal }
-        ensures last { IfOk result (λ progress. progress ≡ progress_at (is_synced (work self.old))) }
-        ensures told { IsTrue Self.Device.tells → CallTold (settling_call (is_synced (work self.old))) (Self.Device.counts (device self.new)).clock (Self.Device.told (device self.old)) (Self.Device.told (device self.new)) (end_of_store result) }
-        ensures work { work self.new ≡ work_stepped (work self.old) result }
-        ensures picked { is_some (picked self.new) ≡ (is_ok result && is_synced (work self.old)) }
-        ensures fit { IsTrue (fit self.old) → IsTrue (fit self.new) }
-        ensures shown { IsTrue Self.Device.tells → shown self.new ≡ settled layout (picked self.new) (work self.old) (shown self.old) }
-        // the change in doubt gives its uid a mark of its own, so that its mark tells which state was found
-        ensures fresh { IsTrue Self.Device.tells → IfSome (doubt_in (work self.old)) (λ c. IsFresh c (shown self.old).kept) }
-        ensures stands { IsTrue Self.Device.tells → LeavesShown layout (node_of self.new) (shown self.new) (work self.new) (Self.Device.told (device self.new)) }
-        ensures moments { IsTrue Self.Device.tells → StandsThrough layout (node_of self.old) (shown self.old) (changes_in (doubt_in (work self.old))) (Self.Device.told (device self.old)) (Self.Device.told (device self.new)) };
+        requires power { IsTrue (seen self.old).disk.counts.power }
+        requires unsettled { IsTrue (is_unsettled (seen self.old).work) }
+        ensures { SettlesOneCall Self.Device.tells Self.Device.obeys layout result (seen self.old) (seen self.new) };
 
     /// Begins a job that puts bytes under a uid. It makes no device call, and a refusal leaves all as it was.
     fn begin_put(&mut self, alloc: Global, uid: Uid, body: &[u8]) -> Result<(), StoreRefusal>
-        requires idle { work self.old ≡ Idle }
-        requires own { IsOwn (node_of self.old) uid (length body.now) }
+        requires idle { (seen self.old).work ≡ Idle }
+        requires own { IsOwn (seen self.old).node uid (length body.now) }
         requires limit { length body.now ≤ 262144 }
-        ensures node { node_of self.new ≡ node_of self.old }
-        ensures device { device self.new ≡ device self.old }
-        ensures only { IfErr result IsEarlyRefusal }
-        ensures picked { picked self.new ≡ picked self.old }
-        ensures begun { Begins layout uid (Option.Some body.now) (Self.Device.counts (device self.old)).size (work self.old) (work self.new) result }
-        ensures fit { KeepsTelling (node_of self.old) (shown self.old) uid → IsTrue (fit self.old) → IsTrue (fit self.new) }
-        ensures room { IsTrue Self.Device.tells → IsTrue (fit self.old) → OnOk result (IsTrue (finds_room layout (Self.Device.counts (device self.old)).size (shown self.old) uid (Option.Some body.now))) }
-        ensures full { IsTrue Self.Device.tells → IsTrue (fit self.old) → IfErr result (λ e. e ≡ Full → finds_room layout (Self.Device.counts (device self.old)).size (shown self.old) uid (Option.Some body.now) ≡ Bool.false) }
-        ensures shown { IsTrue Self.Device.tells → shown self.new ≡ shown self.old }
-        ensures job { IsTrue Self.Device.tells → HasJob layout (node_of self.new) (contents (Self.Device.told (device self.new))).now (work self.new) }
-        ensures fresh { IsTrue Self.Device.tells → IfSome (change_in (work self.new)) (λ c. IsFresh c (shown self.new).kept) };
+        ensures { Begins Self.Device.tells layout (asked uid (Option.Some body.now)) result (seen self.old) (seen self.new) };
 
     /// Begins a job that removes a kept uid. It makes no device call, and a refusal leaves all as it was.
     fn begin_delete(&mut self, alloc: Global, uid: Uid) -> Result<(), StoreRefusal>
-        requires idle { work self.old ≡ Idle }
-        requires eject { IsEject (node_of self.old) uid }
-        requires kept { IsTrue Self.Device.tells → IsSome (body_at (shown self.old) uid) }
-        ensures node { node_of self.new ≡ node_of self.old }
-        ensures device { device self.new ≡ device self.old }
-        ensures only { IfErr result IsEarlyRefusal }
-        ensures picked { picked self.new ≡ picked self.old }
-        ensures begun { Begins layout uid Option.None (Self.Device.counts (device self.old)).size (work self.old) (work self.new) result }
-        ensures fit { IsTrue (fit self.old) → IsTrue (fit self.new) }
-        ensures room { IsTrue Self.Device.tells → IsTrue (fit self.old) → OnOk result (IsTrue (finds_room layout (Self.Device.counts (device self.old)).size (shown self.old) uid Option.None)) }
-        ensures full { IsTrue Self.Device.tells → IsTrue (fit self.old) → IfErr result (λ e. e ≡ Full → finds_room layout (Self.Device.counts (device self.old)).size (shown self.old) uid Option.None ≡ Bool.false) }
-        ensures shown { IsTrue Self.Device.tells → shown self.new ≡ shown self.old }
-        ensures job { IsTrue Self.Device.tells → HasJob layout (node_of self.new) (contents (Self.Device.told (device self.new))).now (work self.new) }
-        ensures fresh { IsTrue Self.Device.tells → IfSome (change_in (work self.new)) (λ c. IsFresh c (shown self.new).kept) };
+        requires idle { (seen self.old).work ≡ Idle }
+        requires eject { IsEject (seen self.old).node uid }
+        requires kept { IsTrue Self.Device.tells → IsSome (body_at (seen self.old).kept uid) }
+        ensures { Begins Self.Device.tells layout (asked uid Option.None) result (seen self.old) (seen self.new) };
 
     /// Makes the next device call of the job. The last one makes the change; a refused one ends the job in doubt.
     /// The first begins the doubt: a crash in the middle of it leaves the change not made.
     fn advance(&mut self) -> Result<Progress, StoreRefusal>
-        requires power { IsTrue (Self.Device.counts (device self.old)).power }
-        requires busy { IsTrue (is_busy (work self.old)) }
-        ensures node { node_of self.new ≡ node_of self.old }
-        ensures counts { DeviceCalls 1 (Self.Device.counts (device self.old)) (Self.Device.counts (device self.new)) (end_of_store result) }
-        ensures obeyed { IsTrue Self.Device.obeys → Obeyed (Self.Device.due (device self.old)) (Self.Device.due (device self.new)) (Self.Device.counts (device self.old)) (Self.Device.counts (device self.new)) (end_of_store result) }
-        ensures timed { IsTrue Self.Device.tells → Timed (Self.Device.counts (device self.old)).clock (Self.Device.told (device self.old)) (Self.Device.counts (device self.new)).clock (Self.Device.told (device self.new)) }
-        ensures only { IfErr result IsDiskRefusal }
-        ensures last { IfOk result (λ progress. progress ≡ progress_at (nat_le (calls_left (work self.old)) 1)) }
-        ensures told { IsTrue Self.Device.tells → NextTold (work self.old) (Self.Device.counts (device self.new)).clock (Self.Device.told (device self.old)) (Self.Device.told (device self.new)) (end_of_store result) }
-        ensures work { work self.new ≡ work_advanced (work self.old) result }
-        ensures picked { picked self.new ≡ picked self.old }
-        ensures fit { IsTrue (fit self.old) → IsTrue (fit self.new) }
-        ensures shown { IsTrue Self.Device.tells → shown self.new ≡ shown_advanced layout (work self.old) (shown self.old) result }
-        ensures stands { IsTrue Self.Device.tells → LeavesShown layout (node_of self.new) (shown self.new) (work self.new) (Self.Device.told (device self.new)) }
-        ensures moments { IsTrue Self.Device.tells → StandsThrough layout (node_of self.old) (shown self.old) (changes_in (doubt_in (work self.old))) (Self.Device.told (device self.old)) (Self.Device.told (device self.new)) };
+        requires power { IsTrue (seen self.old).disk.counts.power }
+        requires busy { IsTrue (is_busy (seen self.old).work) }
+        ensures { Advances Self.Device.tells Self.Device.obeys layout result (seen self.old) (seen self.new) };
 
     /// Settles the change in doubt by a sync and a read. Without one, or while a job goes on, it makes no device call.
     fn settle(&mut self) -> Result<(), StoreRefusal>
-        requires { IsTrue (Self.Device.counts (device self.old)).power }
-        ensures node { node_of self.new ≡ node_of self.old }
-        ensures order { IsTrue Self.Device.tells → CallsTold (settling_of (work self.old)) (Self.Device.told (device self.old)) (Self.Device.told (device self.new)) (end_of_store result) }
-        ensures ran { Ran (settling_calls (work self.old)) 0 result (Self.Device.counts (device self.old)) (Self.Device.counts (device self.new)) }
-        ensures obeyed { IsTrue Self.Device.obeys → Obeyed (Self.Device.due (device self.old)) (Self.Device.due (device self.new)) (Self.Device.counts (device self.old)) (Self.Device.counts (device self.new)) (end_of_store result) }
-        ensures timed { IsTrue Self.Device.tells → Timed (Self.Device.counts (device self.old)).clock (Self.Device.told (device self.old)) (Self.Device.counts (device self.new)).clock (Self.Device.told (device self.new)) }
-        ensures only { IfErr result IsDiskRefusal }
-        ensures refused { OnErr result (IsTrue (is_unsettled (work self.old))) }
-        ensures picked { is_some (picked self.new) ≡ (is_ok result && is_unsettled (work self.old)) }
-        ensures work { work self.new ≡ work_settled (picked self.new) (work self.old) }
-        ensures fit { IsTrue (fit self.old) → IsTrue (fit self.new) }
-        ensures shown { IsTrue Self.Device.tells → shown self.new ≡ settled layout (picked self.new) (work self.old) (shown self.old) }
-        ensures fresh { IsTrue Self.Device.tells → IfSome (doubt_in (work self.old)) (λ c. IsFresh c (shown self.old).kept) }
-        ensures stands { IsTrue Self.Device.tells → LeavesShown layout (node_of self.new) (shown self.new) (work self.new) (Self.Device.told (device self.new)) }
-        ensures moments { IsTrue Self.Device.tells → StandsThrough layout (node_of self.old) (shown self.old) (changes_in (doubt_in (work self.old))) (Self.Device.told (device self.old)) (Self.Device.told (device self.new)) };
+        requires { IsTrue (seen self.old).disk.counts.power }
+        ensures { Settled Self.Device.tells Self.Device.obeys layout result (seen self.old) (seen self.new) };
 
     /// Puts bytes under a uid: takes its memory, settles, looks for room, and makes all device calls of the job.
     fn put(&mut self, alloc: Global, uid: Uid, body: &[u8]) -> Result<(), StoreRefusal>
-        requires power { IsTrue (Self.Device.counts (device self.old)).power }
-        requires idle { is_busy (work self.old) ≡ Bool.false }
-        requires own { IsOwn (node_of self.old) uid (length body.now) }
+        requires power { IsTrue (seen self.old).disk.counts.power }
+        requires idle { is_busy (seen self.old).work ≡ Bool.false }
+        requires own { IsOwn (seen self.old).node uid (length body.now) }
         requires limit { length body.now ≤ 262144 }
-        ensures node { node_of self.new ≡ node_of self.old }
-        ensures changes { Changes Self.Device.tells layout (node_of self.old) uid (Option.Some body.now) (picked self.new) result (work self.old) (work self.new) (Self.Device.counts (device self.old)) (Self.Device.counts (device self.new)) (shown self.old) (shown self.new) (Self.Device.told (device self.old)) (Self.Device.told (device self.new)) }
-        ensures obeyed { IsTrue Self.Device.obeys → Obeyed (Self.Device.due (device self.old)) (Self.Device.due (device self.new)) (Self.Device.counts (device self.old)) (Self.Device.counts (device self.new)) (end_of_store result) }
-        ensures timed { IsTrue Self.Device.tells → Timed (Self.Device.counts (device self.old)).clock (Self.Device.told (device self.old)) (Self.Device.counts (device self.new)).clock (Self.Device.told (device self.new)) }
-        ensures picked { SettlesAfterMemory (picked self.new) (work self.old) result }
-        ensures undamaged { IfErr result (λ e. IsDiskRefusal e ⊎ IsEarlyRefusal e) }
-        ensures unchanged { IfErr result (λ e. e ≡ OutOfMemory → device self.new ≡ device self.old) }
-        ensures fit { KeepsTelling (node_of self.old) (shown self.old) uid → IsTrue (fit self.old) → IsTrue (fit self.new) }
-        ensures full { IsTrue Self.Device.tells → IsTrue (fit self.old) → IsFullBy (finds_room layout (Self.Device.counts (device self.old)).size (settled layout (picked self.new) (work self.old) (shown self.old)) uid (Option.Some body.now)) (picked self.new) (work self.old) result }
-        ensures stands { IsTrue Self.Device.tells → LeavesShown layout (node_of self.new) (shown self.new) (work self.new) (Self.Device.told (device self.new)) };
+        ensures { let ask = asked uid (Option.Some body.now) in
+            Puts Self.Device.tells Self.Device.obeys layout ask result (seen self.old) (seen self.new) };
 
     /// Removes what is kept under a uid, likewise. Where nothing is, it is done with the settling, whatever the room.
     fn delete(&mut self, alloc: Global, uid: Uid) -> Result<(), StoreRefusal>
-        requires power { IsTrue (Self.Device.counts (device self.old)).power }
-        requires idle { is_busy (work self.old) ≡ Bool.false }
-        requires eject { IsEject (node_of self.old) uid }
-        ensures node { node_of self.new ≡ node_of self.old }
-        ensures changes { (Settles Self.Device.tells layout (node_of self.old) (picked self.new) result (work self.old) (work self.new) (Self.Device.counts (device self.old)) (Self.Device.counts (device self.new)) (shown self.old) (shown self.new) (Self.Device.told (device self.old)) (Self.Device.told (device self.new))
-            × IfErr result (λ e. e ≢ Full)
-            × (IsTrue Self.Device.tells → OnOk result (body_at (settled layout (picked self.new) (work self.old) (shown self.old)) uid ≡ Option.None)))
-            ⊎ (Changes Self.Device.tells layout (node_of self.old) uid Option.None (picked self.new) result (work self.old) (work self.new) (Self.Device.counts (device self.old)) (Self.Device.counts (device self.new)) (shown self.old) (shown self.new) (Self.Device.told (device self.old)) (Self.Device.told (device self.new))
-            × (IsTrue Self.Device.tells → IsSome (body_at (settled layout (picked self.new) (work self.old) (shown self.old)) uid))
-            × (IsTrue Self.Device.tells → IsTrue (fit self.old) → IsFullBy (finds_room layout (Self.Device.counts (device self.old)).size (settled layout (picked self.new) (work self.old) (shown self.old)) uid Option.None) (picked self.new) (work self.old) result)) }
-        ensures obeyed { IsTrue Self.Device.obeys → Obeyed (Self.Device.due (device self.old)) (Self.Device.due (device self.new)) (Self.Device.counts (device self.old)) (Self.Device.counts (device self.new)) (end_of_store result) }
-        ensures timed { IsTrue Self.Device.tells → Timed (Self.Device.counts (device self.old)).clock (Self.Device.told (device self.old)) (Self.Device.counts (device self.new)).clock (Self.Device.told (device self.new)) }
-        ensures picked { SettlesAfterMemory (picked self.new) (work self.old) result }
-        ensures undamaged { IfErr result (λ e. IsDiskRefusal e ⊎ IsEarlyRefusal e) }
-        ensures unchanged { IfErr result (λ e. e ≡ OutOfMemory → device self.new ≡ device self.old) }
-        ensures fit { IsTrue (fit self.old) → IsTrue (fit self.new) }
-        ensures stands { IsTrue Self.Device.tells → LeavesShown layout (node_of self.new) (shown self.new) (work self.new) (Self.Device.told (device self.new)) };
+        requires power { IsTrue (seen self.old).disk.counts.power }
+        requires idle { is_busy (seen self.old).work ≡ Bool.false }
+        requires eject { IsEject (seen self.old).node uid }
+        ensures { Deletes Self.Device.tells Self.Device.obeys layout (asked uid Option.None) result (seen self.old) (seen self.new) };
 
     /// What is kept under a uid that no job works on, once the doubt is settled.
     fn get(&mut self, alloc: Global, uid: Uid) -> Result<Option<Body>, StoreRefusal>
-        requires power { IsTrue (Self.Device.counts (device self.old)).power }
-        requires other { worked_on (work self.old) ≢ Option.Some uid }
-        ensures node { node_of self.new ≡ node_of self.old }
-        ensures ran { (calls : ℕ) × (Ran (settling_calls (work self.old)) calls result (Self.Device.counts (device self.old)) (Self.Device.counts (device self.new)) × IfOk result (λ found. calls ≡ layout.reading_calls found)
-            × (IsTrue Self.Device.tells → CallsTold (reads_due (work self.old) calls result) (Self.Device.told (device self.old)) (Self.Device.told (device self.new)) (end_of_store result))) }
-        ensures obeyed { IsTrue Self.Device.obeys → Obeyed (Self.Device.due (device self.old)) (Self.Device.due (device self.new)) (Self.Device.counts (device self.old)) (Self.Device.counts (device self.new)) (end_of_store result) }
-        ensures timed { IsTrue Self.Device.tells → Timed (Self.Device.counts (device self.old)).clock (Self.Device.told (device self.old)) (Self.Device.counts (device self.new)).clock (Self.Device.told (device self.new)) }
-        ensures only { IfErr result (λ e. IsDiskRefusal e ⊎ (e ≡ OutOfMemory)) }
-        ensures picked { SettlesFirst (picked self.new) (work self.old) result }
-        ensures work { work self.new ≡ work_settled (picked self.new) (work self.old) }
-        ensures fit { IsTrue (fit self.old) → IsTrue (fit self.new) }
-        ensures shown { IsTrue Self.Device.tells → shown self.new ≡ settled layout (picked self.new) (work self.old) (shown self.old) }
-        ensures body { IsTrue Self.Device.tells → IfOk result (λ found. found ≡ body_at (shown self.new) uid) }
-        ensures stands { IsTrue Self.Device.tells → LeavesShown layout (node_of self.new) (shown self.new) (work self.new) (Self.Device.told (device self.new)) }
-        ensures moments { IsTrue Self.Device.tells → StandsThrough layout (node_of self.old) (shown self.old) (changes_in (doubt_in (work self.old))) (Self.Device.told (device self.old)) (Self.Device.told (device self.new)) };
+        requires power { IsTrue (seen self.old).disk.counts.power }
+        requires other { worked_on (seen self.old).work ≢ Option.Some uid }
+        ensures { Gets Self.Device.tells Self.Device.obeys layout uid result (seen self.old) (seen self.new) };
 }

@@ -3,7 +3,7 @@ ghost use Rattle.passive_store.specs.Kept.{IsOwn, Idle, is_busy, is_unsettled, i
 
 use crate::{
     LogStore, Pick, Progress, Store, StoreRefusal, finish, images_are_told_by_marks,
-    picks_are_told_by_marks, settle_whole,
+    log_layout_is_a_layout, picks_are_told_by_marks, settle_whole,
 };
 use capability::{Body, Uid};
 use eden_disk::{Arm, Disk, ImageMode, SimDisk};
@@ -46,12 +46,12 @@ const CHANGES: u32 = 5;
 
 /// One of five changes: the epoch, three puts and a removal.
 fn change<St: Store>(alloc: Global, store: &mut St, number: u32) -> Result<(), StoreRefusal>
-    requires power { IsTrue (St.Device.counts (St.device store.old)).power }
-    requires idle { St.work store.old ≡ Idle }
-    requires node { St.node_of store.old ≡ 1 }
-    ensures power { OnOk result (IsTrue (St.Device.counts (St.device store.new)).power) }
-    ensures idle { OnOk result (St.work store.new ≡ Idle) }
-    ensures node { St.node_of store.new ≡ 1 }
+    requires power { IsTrue (St.seen store.old).disk.counts.power }
+    requires idle { (St.seen store.old).work ≡ Idle }
+    requires node { (St.seen store.old).node ≡ 1 }
+    ensures power { OnOk result (IsTrue (St.seen store.new).disk.counts.power) }
+    ensures idle { OnOk result ((St.seen store.new).work ≡ Idle) }
+    ensures node { (St.seen store.new).node ≡ 1 }
 {
     match number {
         0 => {
@@ -79,12 +79,12 @@ fn change<St: Store>(alloc: Global, store: &mut St, number: u32) -> Result<(), S
 
 /// Begins the job of one of the five changes.
 fn begin<St: Store>(alloc: Global, store: &mut St, number: u32) -> Result<(), StoreRefusal>
-    requires power { IsTrue (St.Device.counts (St.device store.old)).power }
-    requires idle { St.work store.old ≡ Idle }
-    requires node { St.node_of store.old ≡ 1 }
-    ensures power { IsTrue (St.Device.counts (St.device store.new)).power }
-    ensures busy { OnOk result (IsTrue (is_busy (St.work store.new))) }
-    ensures calls { OnOk result (1 ≤ calls_left (St.work store.new)) }
+    requires power { IsTrue (St.seen store.old).disk.counts.power }
+    requires idle { (St.seen store.old).work ≡ Idle }
+    requires node { (St.seen store.old).node ≡ 1 }
+    ensures power { IsTrue (St.seen store.new).disk.counts.power }
+    ensures busy { OnOk result (IsTrue (is_busy (St.seen store.new).work)) }
+    ensures calls { OnOk result (1 ≤ calls_left (St.seen store.new).work) }
 {
     match number {
         0 => {
@@ -115,12 +115,12 @@ fn begin<St: Store>(alloc: Global, store: &mut St, number: u32) -> Result<(), St
 
 /// Makes the first changes, so many. Where one is refused it answers how many were acknowledged.
 fn make_changes<St: Store>(alloc: Global, store: &mut St, count: u32) -> Result<(), u32>
-    requires power { IsTrue (St.Device.counts (St.device store.old)).power }
-    requires idle { St.work store.old ≡ Idle }
-    requires node { St.node_of store.old ≡ 1 }
-    ensures power { OnOk result (IsTrue (St.Device.counts (St.device store.new)).power) }
-    ensures idle { OnOk result (St.work store.new ≡ Idle) }
-    ensures node { OnOk result (St.node_of store.new ≡ 1) }
+    requires power { IsTrue (St.seen store.old).disk.counts.power }
+    requires idle { (St.seen store.old).work ≡ Idle }
+    requires node { (St.seen store.old).node ≡ 1 }
+    ensures power { OnOk result (IsTrue (St.seen store.new).disk.counts.power) }
+    ensures idle { OnOk result ((St.seen store.new).work ≡ Idle) }
+    ensures node { OnOk result ((St.seen store.new).node ≡ 1) }
 {
     for number in 0..count {
         match change(alloc, store, number) {
@@ -138,9 +138,9 @@ fn make_part<St: Store>(
     number: u32,
     calls: u32,
 ) -> Result<(), StoreRefusal>
-    requires power { IsTrue (St.Device.counts (St.device store.old)).power }
-    requires idle { St.work store.old ≡ Idle }
-    requires node { St.node_of store.old ≡ 1 }
+    requires power { IsTrue (St.seen store.old).disk.counts.power }
+    requires idle { (St.seen store.old).work ≡ Idle }
+    requires node { (St.seen store.old).node ≡ 1 }
 {
     begin(alloc, store, number)?;
     for _ in 0..calls {
@@ -153,11 +153,11 @@ fn make_part<St: Store>(
 
 /// What is kept under a uid.
 fn read<St: Store>(alloc: Global, store: &mut St, uid: Uid) -> Result<Option<Body>, StoreRefusal>
-    requires power { IsTrue (St.Device.counts (St.device store.old)).power }
-    requires idle { St.work store.old ≡ Idle }
-    ensures power { OnOk result (IsTrue (St.Device.counts (St.device store.new)).power) }
-    ensures idle { St.work store.new ≡ Idle }
-    ensures node { St.node_of store.new ≡ St.node_of store.old }
+    requires power { IsTrue (St.seen store.old).disk.counts.power }
+    requires idle { (St.seen store.old).work ≡ Idle }
+    ensures power { OnOk result (IsTrue (St.seen store.new).disk.counts.power) }
+    ensures idle { (St.seen store.new).work ≡ Idle }
+    ensures node { (St.seen store.new).node ≡ (St.seen store.old).node }
 {
     let found = store.get(alloc, uid)?;
     Ok(found)
@@ -173,10 +173,10 @@ fn is_body(found: Option<Body>, kept: bool, bytes: &[u8]) -> bool {
 
 /// Whether a store keeps what so many changes leave.
 fn keeps<St: Store>(alloc: Global, store: &mut St, made: u32) -> Result<bool, StoreRefusal>
-    requires power { IsTrue (St.Device.counts (St.device store.old)).power }
-    requires idle { St.work store.old ≡ Idle }
-    ensures power { OnOk result (IsTrue (St.Device.counts (St.device store.new)).power) }
-    ensures idle { St.work store.new ≡ Idle }
+    requires power { IsTrue (St.seen store.old).disk.counts.power }
+    requires idle { (St.seen store.old).work ≡ Idle }
+    ensures power { OnOk result (IsTrue (St.seen store.new).disk.counts.power) }
+    ensures idle { (St.seen store.new).work ≡ Idle }
 {
     let epoch = read(alloc, store, EPOCH)?;
     let first = read(alloc, store, FIRST)?;
@@ -301,15 +301,15 @@ fn fail_to_put<St: Store>(
     uid: Uid,
     body: &[u8],
 ) -> Result<(), StoreRefusal>
-    requires power { IsTrue (St.Device.counts (St.device store.old)).power }
-    requires idle { St.work store.old ≡ Idle }
-    requires own { IsOwn (St.node_of store.old) uid (length body.now) }
+    requires power { IsTrue (St.seen store.old).disk.counts.power }
+    requires idle { (St.seen store.old).work ≡ Idle }
+    requires own { IsOwn (St.seen store.old).node uid (length body.now) }
     requires limit { length body.now ≤ 262144 }
-    ensures power { OnOk result (IsTrue (St.Device.counts (St.device store.new)).power) }
-    ensures idle { OnOk result (is_busy (St.work store.new) ≡ false) }
-    ensures unsettled { OnOk result (IsTrue (is_unsettled (St.work store.new))) }
-    ensures unsynced { OnOk result (is_synced (St.work store.new) ≡ false) }
-    ensures node { St.node_of store.new ≡ St.node_of store.old }
+    ensures power { OnOk result (IsTrue (St.seen store.new).disk.counts.power) }
+    ensures idle { OnOk result (is_busy (St.seen store.new).work ≡ false) }
+    ensures unsettled { OnOk result (IsTrue (is_unsettled (St.seen store.new).work)) }
+    ensures unsynced { OnOk result (is_synced (St.seen store.new).work ≡ false) }
+    ensures node { (St.seen store.new).node ≡ (St.seen store.old).node }
 {
     match store.put(alloc, uid, body) {
         Err(StoreRefusal::Failed) => Ok(()),
@@ -320,20 +320,20 @@ fn fail_to_put<St: Store>(
 
 /// Removes the first uid.
 fn remove_first<St: Store>(alloc: Global, store: &mut St) -> Result<(), StoreRefusal>
-    requires power { IsTrue (St.Device.counts (St.device store.old)).power }
-    requires idle { St.work store.old ≡ Idle }
-    requires node { St.node_of store.old ≡ 1 }
+    requires power { IsTrue (St.seen store.old).disk.counts.power }
+    requires idle { (St.seen store.old).work ≡ Idle }
+    requires node { (St.seen store.old).node ≡ 1 }
 {
     store.delete(alloc, FIRST)
 }
 
 /// Settles a store on which no job goes on.
 fn settle_all<St: Store>(store: &mut St) -> Result<(), StoreRefusal>
-    requires power { IsTrue (St.Device.counts (St.device store.old)).power }
-    requires idle { is_busy (St.work store.old) ≡ false }
-    ensures power { OnOk result (IsTrue (St.Device.counts (St.device store.new)).power) }
-    ensures idle { OnOk result (St.work store.new ≡ Idle) }
-    ensures node { St.node_of store.new ≡ St.node_of store.old }
+    requires power { IsTrue (St.seen store.old).disk.counts.power }
+    requires idle { is_busy (St.seen store.old).work ≡ false }
+    ensures power { OnOk result (IsTrue (St.seen store.new).disk.counts.power) }
+    ensures idle { OnOk result ((St.seen store.new).work ≡ Idle) }
+    ensures node { (St.seen store.new).node ≡ (St.seen store.old).node }
 {
     store.settle()?;
     Ok(())
@@ -396,9 +396,9 @@ fn change_by_steps<St: Store>(
     store: &mut St,
     number: u32,
 ) -> Result<(), StoreRefusal>
-    requires power { IsTrue (St.Device.counts (St.device store.old)).power }
-    requires idle { St.work store.old ≡ Idle }
-    requires node { St.node_of store.old ≡ 1 }
+    requires power { IsTrue (St.seen store.old).disk.counts.power }
+    requires idle { (St.seen store.old).work ≡ Idle }
+    requires node { (St.seen store.old).node ≡ 1 }
 {
     begin(alloc, store, number)?;
     finish(store)
@@ -406,13 +406,13 @@ fn change_by_steps<St: Store>(
 
 /// Settles a store by its steps.
 fn settle_by_steps<St: Store>(store: &mut St) -> Result<(), StoreRefusal>
-    requires power { IsTrue (St.Device.counts (St.device store.old)).power }
-    requires idle { is_busy (St.work store.old) ≡ false }
-    requires unsettled { IsTrue (is_unsettled (St.work store.old)) }
-    requires unsynced { is_synced (St.work store.old) ≡ false }
-    ensures power { OnOk result (IsTrue (St.Device.counts (St.device store.new)).power) }
-    ensures idle { OnOk result (St.work store.new ≡ Idle) }
-    ensures node { St.node_of store.new ≡ St.node_of store.old }
+    requires power { IsTrue (St.seen store.old).disk.counts.power }
+    requires idle { is_busy (St.seen store.old).work ≡ false }
+    requires unsettled { IsTrue (is_unsettled (St.seen store.old).work) }
+    requires unsynced { is_synced (St.seen store.old).work ≡ false }
+    ensures power { OnOk result (IsTrue (St.seen store.new).disk.counts.power) }
+    ensures idle { OnOk result ((St.seen store.new).work ≡ Idle) }
+    ensures node { (St.seen store.new).node ≡ (St.seen store.old).node }
 {
     settle_whole(store)?;
     Ok(())
@@ -483,5 +483,6 @@ fn answers_without_a_device_call(rt: HostRuntime) -> Result<(), Fail> {
 #[test]
 fn laws_are_there_to_be_called(_rt: HostRuntime) {
     picks_are_told_by_marks();
+    log_layout_is_a_layout();
     images_are_told_by_marks();
 }

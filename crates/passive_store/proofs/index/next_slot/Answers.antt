@@ -20,11 +20,11 @@ returns c =
     c.into_iter-uid-iterator.ensures.into_iter_gives ∙ c.range-uid-items.ensures.between tt ∙ ap (λ b. entries_between uid_cmp b Unbounded es) from_is in
     let split : c.into_iter-uid-iterator.result ≡ map deref_pair c.loop-uid.yielded =
     rest_so_far deref_pair c.loop-uid.yielded c.into_iter-uid-iterator.result c.loop-uid.uid-iterator c.loop-uid.yielded_by ∙ ap (λ t. map deref_pair c.loop-uid.yielded ++ t) c.in-None-2.ensures.steps.0 ∙ append-nil (map deref_pair c.loop-uid.yielded) in
-    let nothing : find (has_slot c.args.reserved) (filter (λ (e : Uid × Option Slot). range_contains uid_cmp (bound_of c.args.from) Unbounded e.0) es) ≡ None =
-    ap (find (has_slot c.args.reserved)) (sym start ∙ split) ∙ found_none (has_slot c.args.reserved) (map deref_pair c.loop-uid.yielded) c.loop-uid.invariant in
-    next_of c.args.index.now c.args.from c.args.reserved None
-    (subst (IsFirstOf (λ uid. range_contains uid_cmp (bound_of c.args.from) Unbounded uid) (has_slot c.args.reserved) es) nothing
-    (first_of_all (λ uid. range_contains uid_cmp (bound_of c.args.from) Unbounded uid) (has_slot c.args.reserved) es c.range-uid-items.ensures.ordered))
+    let nothing : find (has_slot c.args.node) (filter (λ (e : Uid × Option Slot). range_contains uid_cmp (bound_of c.args.from) Unbounded e.0) es) ≡ None =
+    ap (find (has_slot c.args.node)) (sym start ∙ split) ∙ found_none (has_slot c.args.node) (map deref_pair c.loop-uid.yielded) c.loop-uid.invariant in
+    next_of c.args.index.now c.args.from c.args.node None
+    (subst (IsFirstOf (λ uid. range_contains uid_cmp (bound_of c.args.from) Unbounded uid) (has_slot c.args.node) es) nothing
+    (first_of_all (λ uid. range_contains uid_cmp (bound_of c.args.from) Unbounded uid) (has_slot c.args.node) es c.range-uid-items.ensures.ordered))
 
 pub returns-then-is_eject_slot : goal.returns-then-is_eject_slot
 returns-then-is_eject_slot c =
@@ -35,14 +35,14 @@ returns-then-is_eject_slot c =
     c.into_iter-uid-iterator.ensures.into_iter_gives ∙ c.range-uid-items.ensures.between tt ∙ ap (λ b. entries_between uid_cmp b Unbounded es) from_is in
     let split : c.into_iter-uid-iterator.result ≡ map deref_pair c.loop-uid.yielded ++ e ∷ c.next.new.self =
     rest_so_far deref_pair c.loop-uid.yielded c.into_iter-uid-iterator.result c.loop-uid.uid-iterator c.loop-uid.yielded_by ∙ ap (λ t. map deref_pair c.loop-uid.yielded ++ t) c.in-Some-2.ensures.steps in
-    let first : find (has_slot c.args.reserved) (filter (λ (x : Uid × Option Slot). range_contains uid_cmp (bound_of c.args.from) Unbounded x.0) es) ≡ Some e =
-    ap (find (has_slot c.args.reserved)) (sym start ∙ split)
-    ∙ found_behind (has_slot c.args.reserved) (map deref_pair c.loop-uid.yielded) c.next.new.self e c.loop-uid.invariant (sym c.is_eject_slot.ensures ∙ c.if-is_eject_slot.true) in
-    next_of c.args.index.now c.args.from c.args.reserved (Some e)
-    (subst (IsFirstOf (λ uid. range_contains uid_cmp (bound_of c.args.from) Unbounded uid) (has_slot c.args.reserved) es) first
-    (first_of_all (λ uid. range_contains uid_cmp (bound_of c.args.from) Unbounded uid) (has_slot c.args.reserved) es c.range-uid-items.ensures.ordered))
+    let first : find (has_slot c.args.node) (filter (λ (x : Uid × Option Slot). range_contains uid_cmp (bound_of c.args.from) Unbounded x.0) es) ≡ Some e =
+    ap (find (has_slot c.args.node)) (sym start ∙ split)
+    ∙ found_behind (has_slot c.args.node) (map deref_pair c.loop-uid.yielded) c.next.new.self e c.loop-uid.invariant (sym c.is_eject_slot.ensures ∙ c.if-is_eject_slot.true) in
+    next_of c.args.index.now c.args.from c.args.node (Some e)
+    (subst (IsFirstOf (λ uid. range_contains uid_cmp (bound_of c.args.from) Unbounded uid) (has_slot c.args.node) es) first
+    (first_of_all (λ uid. range_contains uid_cmp (bound_of c.args.from) Unbounded uid) (has_slot c.args.node) es c.range-uid-items.ensures.ordered))
 
 pub loop-uid-preserved : goal.loop-uid-preserved
 loop-uid-preserved c =
-    subst (NonePasses (has_slot c.args.reserved)) (sym (map-append deref_pair c.loop-uid.yielded ((c.in-Some-2.uid, c.in-Some-2.slot) ∷ [])))
-    (none_more (has_slot c.args.reserved) (map deref_pair c.loop-uid.yielded) (c.in-Some-2.uid.now, c.in-Some-2.slot.now) c.loop-uid.invariant (sym c.is_eject_slot.ensures ∙ c.if-is_eject_slot.false))
+    subst (NonePasses (has_slot c.args.node)) (sym (map-append deref_pair c.loop-uid.yielded ((c.in-Some-2.uid, c.in-Some-2.slot) ∷ [])))
+    (none_more (has_slot c.args.node) (map deref_pair c.loop-uid.yielded) (c.in-Some-2.uid.now, c.in-Some-2.slot.now) c.loop-uid.invariant (sym c.is_eject_slot.ensures ∙ c.if-is_eject_slot.false))

@@ -6,7 +6,8 @@ use Rattle.std.specs.Cmp.{eq_by_cmp_equiv}
 use Rattle.std.specs.BTreeMap as tree
 use Rattle.std.specs.BTreeMap.{BTreeMap, Updates}
 use Rattle.capability.specs.declared.Uid.{Uid}
-use Rattle.capability.specs.Uids.{uid_cmp, uid_cmp_total}
+use Rattle.capability.specs.Uids.{uid_cmp}
+use Rattle.capability.proofs.Uids.{uid_cmp_total}
 use Rattle.passive_store.specs.declared.index.Slot.{Slot}
 use Rattle.passive_store.specs.LogState.{slot_at}
 use Rattle.passive_store.proofs.index.set_slot.Goals as goal

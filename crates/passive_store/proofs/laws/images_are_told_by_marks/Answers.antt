@@ -1,4 +1,4 @@
-use Rattle.passive_store.specs.Marks.{old_or_new}
+use Rattle.passive_store.proofs.Marks.{old_or_new}
 use Rattle.passive_store.proofs.laws.images_are_told_by_marks.Goals as goal
 
 pub returns : goal.returns

@@ -2,7 +2,7 @@ use Rattle.std.proofs.Common.{◌+◌, [], ◌∷◌, sym, ap, subst}
 use Rattle.std.specs.Prelude.{OnOk}
 use Rattle.eden_disk.specs.Told.{contents}
 use Rattle.passive_store.specs.LogState.{IsJobAfter, made_at, WhereBegun}
-use Rattle.eden_disk.specs.Timed.{timed_write, timed_sync}
+use Rattle.eden_disk.proofs.Timed.{timed_write, timed_sync}
 use Rattle.eden_disk.specs.Held.{Passes}
 use Rattle.passive_store.specs.Log.{Unwritten}
 use Rattle.passive_store.proofs.Jobs.{record_first, record_next, gate_next, record_sync_next, gate_sync_next, other_sync_next}

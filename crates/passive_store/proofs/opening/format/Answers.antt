@@ -1,11 +1,11 @@
 use Rattle.std.proofs.Common.{[], ◌∷◌, replicate, subst}
-use Rattle.eden_disk.specs.Timed.{timed_join}
+use Rattle.eden_disk.proofs.Timed.{timed_join}
 use Rattle.eden_disk.specs.Calls.{Fine, DeviceCalls}
-use Rattle.eden_disk.specs.Held.{passes_join}
+use Rattle.eden_disk.proofs.Held.{passes_join}
 use Rattle.passive_store.specs.Opening.{IsEmptyImage}
 use Rattle.std.proofs.lemmas.Result.{err_from_is_err_and}
 use Rattle.passive_store.specs.Acts.{Write, Sync}
-use Rattle.passive_store.specs.Joining.{disk_refused_more, calls_told_more}
+use Rattle.passive_store.proofs.Joining.{disk_refused_more, calls_told_more}
 use Rattle.passive_store.proofs.Openings.{first_passes, first_done, second_passes, second_log, ran_more}
 use Rattle.passive_store.proofs.opening.format.Goals as goal
 

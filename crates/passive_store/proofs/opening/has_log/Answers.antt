@@ -1,4 +1,4 @@
-use Rattle.eden_disk.specs.Timed.{timed_read}
+use Rattle.eden_disk.proofs.Timed.{timed_read}
 use Rattle.passive_store.proofs.opening.has_log.Goals as goal
 
 pub returns-in_err-read-clause-timed : goal.returns-in_err-read-clause-timed

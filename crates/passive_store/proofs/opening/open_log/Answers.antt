@@ -1,14 +1,14 @@
 use Rattle.std.proofs.Common.{◌≡◌, ◌+◌, ◌≤◌, ℕ, Bool, replicate, length, sym, ap, subst, arith, refl}
-use Rattle.eden_disk.specs.Timed.{timed_sync, timed_join}
-use Rattle.passive_store.specs.Joining.{timed_still}
+use Rattle.eden_disk.proofs.Timed.{timed_sync, timed_join}
+use Rattle.passive_store.proofs.Joining.{timed_still}
 use Rattle.std.proofs.lemmas.Result.{err_from_is_err_and}
 use Rattle.eden_disk.specs.Told.{Told, contents, at_rest}
 use Rattle.eden_disk.specs.Calls.{Fine, end_of}
-use Rattle.eden_disk.specs.Held.{calls_one, calls_more}
+use Rattle.eden_disk.proofs.Held.{calls_one, calls_more}
 use Rattle.std.specs.Prelude.{Err, slice_index, ◌==◌}
 use Rattle.passive_store.specs.declared.opening.Found.{Found}
 use Rattle.passive_store.specs.Acts.{Read, AllTold, CallsTold}
-use Rattle.passive_store.specs.LogState.{looks, records_read}
+use Rattle.passive_store.specs.LogLayout.{looks, records_read}
 use Rattle.passive_store.proofs.Openings.{keeps_sync, keeps_ready, keeps_read, keeps_join, refused_calls, synced_now, opened_log, opened_damaged, opening_number, refused_number, refused_made, too_small, opening_is, sync_told_refused, look_told_refused, walk_told_refused, walk_told_whole}
 use Rattle.passive_store.proofs.opening.open_log.Goals as goal
 
@@ -112,19 +112,6 @@ returns-clause-map g c = λ tells.
     let found = c.in_ok-found.found in
     (opened_log c.args.node found.size found.tail t0 t1 t2 t3 found.index synced whole (c.in_ok-ready.ensures.readied tells (synced_now (contents t1) (contents t0).now synced) long)
     (c.in_ok-found.ensures.told tells) (omega (arith, c.in_ok-found.ensures.placed.ends)) (c.in_ok-found.ensures.walk tells) (c.in_ok-found.ensures.shut tells)).map_is
-
-pub returns-clause-written : goal.returns-clause-written
-returns-clause-written g c = λ tells.
-    let t0 : Told = g.D.Disk.told c.args.disk.now in
-    let t1 : Told = g.D.Disk.told c.sync.new.self in
-    let t2 : Told = g.D.Disk.told c.ready.new.disk in
-    let t3 : Told = g.D.Disk.told c.read_records.new.disk in
-    let synced : contents t1 ≡ at_rest (contents t0).now = ap contents (c.in_ok-sync.ensures.told tells) in
-    let whole : 17 ≤ length (contents t0).now = omega (arith, c.size.ensures.told tells, c.if-size-lt17.false) in
-    let long : 17 ≤ length (contents t1).now = omega (arith, ap (λ x. length x.now) synced, whole) in
-    let found = c.in_ok-found.found in
-    (opened_log c.args.node found.size found.tail t0 t1 t2 t3 found.index synced whole (c.in_ok-ready.ensures.readied tells (synced_now (contents t1) (contents t0).now synced) long)
-    (c.in_ok-found.ensures.told tells) (omega (arith, c.in_ok-found.ensures.placed.ends)) (c.in_ok-found.ensures.walk tells) (c.in_ok-found.ensures.shut tells)).found
 
 pub returns-clause-ran : goal.returns-clause-ran
 returns-clause-ran g c =

@@ -3,10 +3,11 @@ use Rattle.std.specs.Prelude.{IfSome}
 use Rattle.std.proofs.lemmas.Result.{err_from_is_err_and}
 use Rattle.eden_disk.specs.Told.{Told, contents}
 use Rattle.eden_disk.specs.Calls.{Fine}
-use Rattle.eden_disk.specs.Held.{calls_none, calls_more, obeyed_none, obeyed_more}
+use Rattle.eden_disk.proofs.Held.{calls_none, calls_more, obeyed_none, obeyed_more}
 use Rattle.passive_store.specs.declared.index.Slot.{Slot}
 use Rattle.passive_store.specs.declared.records.Header.{Header}
-use Rattle.passive_store.specs.LogState.{records_before, SetsSlot, slot_of}
+use Rattle.passive_store.specs.LogLayout.{records_before}
+use Rattle.passive_store.specs.LogState.{SetsSlot, slot_of}
 use Rattle.passive_store.specs.Records.{IsHeaderAt, IsDamagedAt}
 use Rattle.passive_store.proofs.Tails.{placed_more}
 use Rattle.passive_store.proofs.Walking.{walk_timed, walk_begun, walk_more, walk_damaged, change_at, empty_slots, sets_same}

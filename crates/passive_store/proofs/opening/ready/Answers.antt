@@ -1,13 +1,13 @@
 use Rattle.std.proofs.Common.{◌≡◌, ◌+◌, [], ◌∷◌, sym, ap, subst, ◌∙◌, arith}
-use Rattle.eden_disk.specs.Timed.{timed_join}
+use Rattle.eden_disk.proofs.Timed.{timed_join}
 use Rattle.std.specs.Prelude.{if◌then◌else◌, slice_index, ◌==◌}
 use Rattle.eden_disk.specs.Told.{contents}
 use Rattle.eden_disk.specs.Calls.{end_of}
 use Rattle.passive_store.specs.Acts.{Read, AllTold, CallsTold}
-use Rattle.passive_store.specs.LogState.{looks, log_format}
-use Rattle.passive_store.specs.Joining.{call_done, calls_told_more}
+use Rattle.passive_store.specs.LogLayout.{looks, log_format}
+use Rattle.passive_store.proofs.Joining.{call_done, calls_told_more}
 use Rattle.std.proofs.lemmas.Result.{err_from_is_err_and, on_ok_weaker}
-use Rattle.eden_disk.specs.Held.{calls_more}
+use Rattle.eden_disk.proofs.Held.{calls_more}
 use Rattle.passive_store.proofs.Openings.{look_refused, look_told}
 use Rattle.passive_store.proofs.opening.ready.Goals as goal
 

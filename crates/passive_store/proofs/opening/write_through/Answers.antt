@@ -1,9 +1,9 @@
 use Rattle.std.proofs.Common.{[], ◌∷◌, refl}
-use Rattle.eden_disk.specs.Timed.{timed_write, timed_sync, timed_join}
-use Rattle.eden_disk.specs.Held.{calls_one, calls_more}
+use Rattle.eden_disk.proofs.Timed.{timed_write, timed_sync, timed_join}
+use Rattle.eden_disk.proofs.Held.{calls_one, calls_more}
 use Rattle.std.proofs.lemmas.Result.{err_from_is_err_and}
 use Rattle.passive_store.specs.Acts.{Write, Sync}
-use Rattle.passive_store.specs.Joining.{disk_refused_more, call_ended, call_done, calls_told_more}
+use Rattle.passive_store.proofs.Joining.{disk_refused_more, call_ended, call_done, calls_told_more}
 use Rattle.passive_store.proofs.Openings.{always_ok}
 use Rattle.passive_store.proofs.opening.write_through.Goals as goal
 

@@ -1,5 +1,5 @@
 use Rattle.std.proofs.Common.{◌≡◌, ◌+◌, ℕ, List, length, take, drop, replicate, slice_range, ap, ◌∙◌, arith, ◌++◌}
-use Rattle.eden_disk.specs.Timed.{timed_read}
+use Rattle.eden_disk.proofs.Timed.{timed_read}
 use Rattle.std.proofs.lemmas.List.{length-take-le}
 use Rattle.eden_disk.specs.Told.{contents}
 use Rattle.passive_store.proofs.Headers.{header_read, damage_read}

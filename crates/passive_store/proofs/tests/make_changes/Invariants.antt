@@ -4,4 +4,4 @@ use Rattle.passive_store.proofs.tests.make_changes.Given as goal
 
 abbrev pub invariant-loop-number : goal.invariant-loop-number
 invariant-loop-number g l =
-    IsTrue (g.St.Device.Disk.counts (g.St.Store.device l.store)).power × (g.St.Store.work l.store ≡ Idle) × (g.St.Store.node_of l.store ≡ 1)
+    IsTrue (g.St.Store.seen l.store).disk.counts.power × ((g.St.Store.seen l.store).work ≡ Idle) × ((g.St.Store.seen l.store).node ≡ 1)

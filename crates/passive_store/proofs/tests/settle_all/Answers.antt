@@ -1,4 +1,4 @@
-use Rattle.passive_store.specs.Changing.{idle_then}
+use Rattle.passive_store.proofs.Changing.{idle_then}
 use Rattle.passive_store.proofs.tests.settle_all.Goals as goal
 
 pub returns-clause-idle : goal.returns-clause-idle

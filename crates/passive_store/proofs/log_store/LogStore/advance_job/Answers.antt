@@ -4,7 +4,8 @@ use Rattle.eden_disk.specs.Calls.{Counts}
 use Rattle.passive_store.specs.declared.log_store.Pending.{Pending}
 use Rattle.passive_store.specs.declared.log_store.Stage.TheVariants.{Ended}
 use Rattle.passive_store.specs.Kept.{is_busy}
-use Rattle.passive_store.specs.LogState.{IsPlaced, IsLog, IsStaged, SetsSlot, pending_work, log_layout, log_shown, stage_call}
+use Rattle.passive_store.specs.LogLayout.{log_kept}
+use Rattle.passive_store.specs.LogState.{IsPlaced, IsLog, IsStaged, SetsSlot, pending_work, stage_call}
 use Rattle.passive_store.specs.declared.store.Progress.{Progress}
 use Rattle.passive_store.proofs.Tails.{log_stands, placed_more}
 use Rattle.passive_store.proofs.Pendings.{Keeps, keeps_of, keeps_placed, keeps_log, keeps_shown, step_moments, next_told, told_refused, keeps_next, job_at, front_long, job_done, with_stage, shown_refused, shown_going, shown_done}
@@ -30,8 +31,8 @@ invariant_of-self-in-Err g c =
       λ tells on. tt,
     )
 
-pub returns-in-Err-clause-shown : goal.returns-in-Err-clause-shown
-returns-in-Err-clause-shown g c = λ tells.
+pub returns-in-Err-clause-kept : goal.returns-in-Err-clause-kept
+returns-in-Err-clause-kept g c = λ tells.
     let s = c.self.inside in
     let p : Pending = c.in-Some.pending in
     let e : s.pending ≡ Some p = sym c.take.ensures.value ∙ c.in-Some.is in
@@ -43,7 +44,7 @@ returns-in-Err-clause-shown g c = λ tells.
     let job = job_at s.node s.size s.tail (contents t0) k0 s.index s.pending p c.deref.result.now e c.deref.ensures.value c.self.invariant.0 (c.self.invariant.1 tells) (c.self.invariant.2 tells power) in
     let at = front_long s.node s.size s.tail (contents t0) k0 s.index s.pending c.self.invariant.0 (c.self.invariant.1 tells) in
     let k : Keeps s.node s.size s.tail t0 t1 k0 k1 s.index s.pending p = keeps_of s.node s.size s.tail t0 t1 k0 k1 s.index s.pending p c.deref.result.now e c.deref.ensures.value c.self.invariant.0 (c.self.invariant.1 tells) c.in-Err.ensures.counts.size (c.in-Err.ensures.whole tells (take s.tail (contents t0).now) at job) in
-    rw (← c.self.view_is) (keeps_shown s.node s.size s.tail t0 t1 k0 k1 s.index s.pending p k ∙ shown_refused log_layout (pending_work s.tail s.pending) (log_shown s.node s.tail (contents t0).now) _)
+    rw (← c.self.view_is) (keeps_shown s.node s.size s.tail t0 t1 k0 k1 s.index s.pending p k ∙ shown_refused (pending_work s.tail s.pending) (log_kept s.node s.tail (contents t0).now) _)
 
 pub returns-in-Err-clause-stands : goal.returns-in-Err-clause-stands
 returns-in-Err-clause-stands g c = λ tells.
@@ -101,8 +102,8 @@ invariant_of-self-in-Some-next_stage g c =
           facts.1,
     )
 
-pub returns-in-Some-next_stage-clause-shown : goal.returns-in-Some-next_stage-clause-shown
-returns-in-Some-next_stage-clause-shown g c = λ tells.
+pub returns-in-Some-next_stage-clause-kept : goal.returns-in-Some-next_stage-clause-kept
+returns-in-Some-next_stage-clause-kept g c = λ tells.
     let s = c.self.inside in
     let p : Pending = c.in-Some.pending in
     let e : s.pending ≡ Some p = sym c.take.ensures.value ∙ c.in-Some.is in
@@ -114,7 +115,7 @@ returns-in-Some-next_stage-clause-shown g c = λ tells.
     let job = job_at s.node s.size s.tail (contents t0) k0 s.index s.pending p c.deref.result.now e c.deref.ensures.value c.self.invariant.0 (c.self.invariant.1 tells) (c.self.invariant.2 tells power) in
     let at = front_long s.node s.size s.tail (contents t0) k0 s.index s.pending c.self.invariant.0 (c.self.invariant.1 tells) in
     let k : Keeps s.node s.size s.tail t0 t1 k0 k1 s.index s.pending p = keeps_of s.node s.size s.tail t0 t1 k0 k1 s.index s.pending p c.deref.result.now e c.deref.ensures.value c.self.invariant.0 (c.self.invariant.1 tells) c.in-Ok.ensures.counts.size (c.in-Ok.ensures.whole tells (take s.tail (contents t0).now) at job) in
-    rw (← c.self.view_is) (keeps_shown s.node s.size s.tail t0 t1 k0 k1 s.index s.pending p k ∙ shown_going log_layout (pending_work s.tail s.pending) (log_shown s.node s.tail (contents t0).now))
+    rw (← c.self.view_is) (keeps_shown s.node s.size s.tail t0 t1 k0 k1 s.index s.pending p k ∙ shown_going (pending_work s.tail s.pending) (log_kept s.node s.tail (contents t0).now))
 
 pub returns-in-Some-next_stage-clause-stands : goal.returns-in-Some-next_stage-clause-stands
 returns-in-Some-next_stage-clause-stands g c = λ tells.
@@ -172,8 +173,8 @@ invariant_of-self-in-None-next_stage g c =
       λ tells on. subst (IsStaged (s.tail + p.length + 15) (contents t1)) (sym none) tt,
     )
 
-pub returns-in-None-clause-shown : goal.returns-in-None-clause-shown
-returns-in-None-clause-shown g c = λ tells.
+pub returns-in-None-clause-kept : goal.returns-in-None-clause-kept
+returns-in-None-clause-kept g c = λ tells.
     let s = c.self.inside in
     let p : Pending = c.in-Some.pending in
     let e : s.pending ≡ Some p = sym c.take.ensures.value ∙ c.in-Some.is in
@@ -187,7 +188,7 @@ returns-in-None-clause-shown g c = λ tells.
     let k : Keeps s.node s.size s.tail t0 t1 k0 k1 s.index s.pending p = keeps_of s.node s.size s.tail t0 t1 k0 k1 s.index s.pending p c.deref.result.now e c.deref.ensures.value c.self.invariant.0 (c.self.invariant.1 tells) c.in-Ok.ensures.counts.size (c.in-Ok.ensures.whole tells (take s.tail (contents t0).now) at job) in
     let busy = subst (λ v. IsTrue (is_busy v.work)) (sym c.self.view_is) c.requires.busy in
     let done = job_done s.node s.size s.tail t0 t1 k0 k1 s.index c.set_slot.new.index s.pending p c.deref.result.now c.make_slot-slot.result k c.deref.ensures.value (sym c.next_stage.ensures ∙ c.in-None.is) busy (c.in-Ok.ensures.next tells (take s.tail (contents t0).now) at job) c.make_slot-slot.ensures c.set_slot.ensures.sets in
-    rw (← c.self.view_is) (done.2 ∙ shown_done s.tail s.pending p (log_shown s.node s.tail (contents t0).now) e busy)
+    rw (← c.self.view_is) (done.2 ∙ shown_done s.tail s.pending p (log_kept s.node s.tail (contents t0).now) e busy)
 
 pub returns-in-None-clause-stands : goal.returns-in-None-clause-stands
 returns-in-None-clause-stands g c = λ tells.

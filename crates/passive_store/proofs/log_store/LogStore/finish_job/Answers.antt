@@ -1,12 +1,12 @@
-use Rattle.std.proofs.Common.{[], refl, sym, ap, ◌∙◌, arith, inl}
+use Rattle.std.proofs.Common.{[], refl, subst, arith, inl}
+use Rattle.std.specs.Prelude.{Ok, Err}
 use Rattle.std.proofs.lemmas.Result.{err_from_is_err_and}
-use Rattle.eden_disk.specs.Timed.{timed_join}
-use Rattle.eden_disk.specs.Held.{calls_none, obeyed_none}
-use Rattle.std.specs.Prelude.{Ok}
-use Rattle.passive_store.specs.declared.store.Progress.{Progress}
-use Rattle.passive_store.specs.Kept.{work_advanced, shown_advanced}
-use Rattle.passive_store.specs.LogState.{log_layout, state_shown}
-use Rattle.passive_store.specs.Joining.{all_told, stopped_told, timed_still, on_moments, on_ran, goes_on}
+use Rattle.eden_disk.proofs.Held.{calls_none, obeyed_none}
+use Rattle.passive_store.specs.Kept.{job_left}
+use Rattle.passive_store.specs.LogLayout.{log_layout}
+use Rattle.passive_store.specs.LogState.{log_seen}
+use Rattle.passive_store.specs.Seen.{Seen, Advances}
+use Rattle.passive_store.proofs.Joining.{timed_still, none_refused_after, goes_on, last_done, last_refused}
 use Rattle.passive_store.proofs.log_store.LogStore.finish_job.Goals as goal
 
 pub loop-init : goal.loop-init
@@ -20,45 +20,74 @@ loop-init g c = record {
   told = λ so. refl;
   node = refl;
   picked = refl;
-  fit = λ so. so;
+  more = refl;
   busy = c.requires.busy;
   change = refl;
   left = omega arith;
   some = c.requires.some;
-  shown = λ so. refl;
+  kept = λ so. refl;
   moments = λ so. inl refl;
 }
 
-pub returns-in_err-advance_job-clause-ran : goal.returns-in_err-advance_job-clause-ran
-returns-in_err-advance_job-clause-ran g c =
-    let p = err_from_is_err_and c.from_residual.result c.from_residual.ensures.1 in
-    rw (p.1, p.2) (on_ran Progress (Unit {0}) _ _ _ _ _ _ _ _ _ _ _ _ _ _ _ _ _ _ _ _ _ c.loop.invariant c.in_err-advance_job.ensures.only c.in_err-advance_job.ensures.counts)
-
-pub returns-in_err-advance_job-clause-moments : goal.returns-in_err-advance_job-clause-moments
-returns-in_err-advance_job-clause-moments g c = λ tells. on_moments _ _ _ _ _ _ _ _ _ _ _ _ _ _ _ _ _ _ _ _ tells c.loop.invariant (c.in_err-advance_job.ensures.moments tells)
-
 pub loop-preserved : goal.loop-preserved
-loop-preserved g c = goes_on _ _ _ _ _ _ _ _ _ _ _ _ _ _ _ _ _ _ _ _ _ _ _ _ _ _ _ c.loop.invariant c.in_ok-advance_job.ensures.node
-    c.in_ok-advance_job.ensures.counts c.in_ok-advance_job.ensures.obeyed c.in_ok-advance_job.ensures.timed c.in_ok-advance_job.ensures.told (sym c.in-Going.is ∙ c.in_ok-advance_job.ensures.last)
-    (c.in_ok-advance_job.ensures.work ∙ ap (λ x. work_advanced c.loop.self.work (Ok x)) c.in-Going.is)
-    c.in_ok-advance_job.ensures.picked (λ so. so)
-    (λ so. c.in_ok-advance_job.ensures.shown so ∙ ap (λ x. shown_advanced log_layout c.loop.self.work (state_shown g.D.Disk.told c.loop.self) (Ok x)) c.in-Going.is)
-    c.in_ok-advance_job.ensures.moments
+loop-preserved g c =
+    let here : Seen = log_seen g.D.Disk.counts g.D.Disk.told g.D.Disk.due c.loop.self in
+    let next : Seen = log_seen g.D.Disk.counts g.D.Disk.told g.D.Disk.due c.advance_job.new.self in
+    let e = c.in_ok-advance_job.ensures in
+    let went : Advances g.D.Disk.tells g.D.Disk.obeys log_layout (Ok c.in_ok-advance_job.field-0) here next = record {
+      goes = record { node = e.node; obeyed = e.obeyed; timed = e.timed; stands = e.stands };
+      only = e.only;
+      counts = e.counts;
+      last = e.last;
+      told = e.told;
+      work = e.work;
+      picked = e.picked;
+      more = refl;
+      at = none_refused_after (job_left here.work) (Ok c.in_ok-advance_job.field-0);
+      kept = e.kept;
+      moments = e.moments;
+    } in
+    goes_on _ _ _ _ here next c.loop.invariant
+    (subst (λ p. Advances g.D.Disk.tells g.D.Disk.obeys log_layout (Ok p) here next) c.in-Going.is went)
 
-pub returns-clause-moments : goal.returns-clause-moments
-returns-clause-moments g c = λ tells. on_moments _ _ _ _ _ _ _ _ _ _ _ _ _ _ _ _ _ _ _ _ tells c.loop.invariant (c.advance_job.ensures.moments tells)
-
-pub returns-in_err-advance_job-clause-timed : goal.returns-in_err-advance_job-clause-timed
-returns-in_err-advance_job-clause-timed g c = λ tells. timed_join _ _ _ _ _ _ (c.loop.invariant.timed tells) (c.in_err-advance_job.ensures.timed tells)
-
-pub returns-clause-timed : goal.returns-clause-timed
-returns-clause-timed g c = λ tells. timed_join _ _ _ _ _ _ (c.loop.invariant.timed tells) (c.advance_job.ensures.timed tells)
-
-pub returns-in_err-advance_job-clause-order : goal.returns-in_err-advance_job-clause-order
-returns-in_err-advance_job-clause-order g c =
+pub returns-in_err-advance_job : goal.returns-in_err-advance_job
+returns-in_err-advance_job g c =
     let p = err_from_is_err_and c.from_residual.result c.from_residual.ensures.1 in
-    rw (p.1, p.2) (λ tells. stopped_told Progress (Unit {0}) _ _ _ _ _ _ _ _ _ _ _ _ _ _ _ _ _ _ _ _ _ _ tells c.loop.invariant c.in_err-advance_job.ensures.only (c.in_err-advance_job.ensures.told tells))
+    let here : Seen = log_seen g.D.Disk.counts g.D.Disk.told g.D.Disk.due c.loop.self in
+    let next : Seen = log_seen g.D.Disk.counts g.D.Disk.told g.D.Disk.due c.advance_job.new.self in
+    let e = c.in_err-advance_job.ensures in
+    let went : Advances g.D.Disk.tells g.D.Disk.obeys log_layout (Err c.in_err-advance_job.field-0.0) here next = record {
+      goes = record { node = e.node; obeyed = e.obeyed; timed = e.timed; stands = e.stands };
+      only = e.only;
+      counts = e.counts;
+      last = e.last;
+      told = e.told;
+      work = e.work;
+      picked = e.picked;
+      more = refl;
+      at = none_refused_after (job_left here.work) (Err c.in_err-advance_job.field-0.0);
+      kept = e.kept;
+      moments = e.moments;
+    } in
+    rw (p.1, p.2) (last_refused _ _ _ _ here next _ c.requires.busy c.loop.invariant went)
 
-pub returns-clause-order : goal.returns-clause-order
-returns-clause-order g c = λ tells.
-    all_told _ _ _ _ _ _ _ _ _ _ _ _ _ _ _ _ _ _ _ _ _ tells c.loop.invariant (sym c.in_default.is ∙ c.in_ok-advance_job.ensures.last) (c.in_ok-advance_job.ensures.told tells)
+pub returns : goal.returns
+returns g c =
+    let here : Seen = log_seen g.D.Disk.counts g.D.Disk.told g.D.Disk.due c.loop.self in
+    let next : Seen = log_seen g.D.Disk.counts g.D.Disk.told g.D.Disk.due c.advance_job.new.self in
+    let e = c.in_ok-advance_job.ensures in
+    let went : Advances g.D.Disk.tells g.D.Disk.obeys log_layout (Ok c.in_ok-advance_job.field-0) here next = record {
+      goes = record { node = e.node; obeyed = e.obeyed; timed = e.timed; stands = e.stands };
+      only = e.only;
+      counts = e.counts;
+      last = e.last;
+      told = e.told;
+      work = e.work;
+      picked = e.picked;
+      more = refl;
+      at = none_refused_after (job_left here.work) (Ok c.in_ok-advance_job.field-0);
+      kept = e.kept;
+      moments = e.moments;
+    } in
+    last_done _ _ _ _ here next c.requires.busy c.loop.invariant
+    (subst (λ p. Advances g.D.Disk.tells g.D.Disk.obeys log_layout (Ok p) here next) c.in_default.is went)

@@ -1,11 +1,12 @@
 use Rattle.std.proofs.Common.{◌≡◌, ◌+◌, true, false, IsTrue, None, Some, sym, ap, subst, ◌∙◌, arith}
 use Rattle.eden_disk.specs.Told.{Told, contents, at_rest}
-use Rattle.eden_disk.specs.Timed.{timed_sync}
+use Rattle.eden_disk.proofs.Timed.{timed_sync}
 use Rattle.eden_disk.specs.Calls.{Counts, Fine}
 use Rattle.passive_store.specs.declared.log_store.Pending.{Pending}
 use Rattle.passive_store.specs.declared.log_store.Stage.TheVariants.{Ended}
 use Rattle.passive_store.specs.Kept.{is_unsettled}
-use Rattle.passive_store.specs.LogState.{IsPlaced, IsLog, IsStaged, SetsSlot, pending_work, log_shown}
+use Rattle.passive_store.specs.LogLayout.{log_kept}
+use Rattle.passive_store.specs.LogState.{IsPlaced, IsLog, IsStaged, SetsSlot, pending_work}
 use Rattle.passive_store.proofs.Tails.{log_stands, placed_more}
 use Rattle.passive_store.proofs.Jobs.{rests}
 use Rattle.passive_store.proofs.Pendings.{Keeps, keeps_sync, keeps_read, keeps_placed, keeps_log, keeps_shown, doubt_moments, read_rest, settled_old, settled_new, with_stage, shown_new}
@@ -29,8 +30,8 @@ invariant_of-self-in-Ok g c =
       λ tells on. rests (contents (g.D.Disk.told c.self.inside.disk)) (contents (g.D.Disk.told c.sync.new.self)) (ap contents (c.in-Ok.ensures.told tells)),
     )
 
-pub returns-in-Ok-clause-shown : goal.returns-in-Ok-clause-shown
-returns-in-Ok-clause-shown g c = λ tells.
+pub returns-in-Ok-clause-kept : goal.returns-in-Ok-clause-kept
+returns-in-Ok-clause-kept g c = λ tells.
     let s = c.self.inside in
     let p : Pending = c.in-Some.pending in
     let e : s.pending ≡ Some p = sym c.take.ensures.value ∙ c.in-Some.is in
@@ -86,8 +87,8 @@ invariant_of-self-in-Err g c =
       λ tells on. tt,
     )
 
-pub returns-in-Err-clause-shown : goal.returns-in-Err-clause-shown
-returns-in-Err-clause-shown g c = λ tells.
+pub returns-in-Err-clause-kept : goal.returns-in-Err-clause-kept
+returns-in-Err-clause-kept g c = λ tells.
     let s = c.self.inside in
     let p : Pending = c.in-Some.pending in
     let e : s.pending ≡ Some p = sym c.take.ensures.value ∙ c.in-Some.is in
@@ -143,8 +144,8 @@ invariant_of-self-in-Err-read_gate g c =
       λ tells on. tt,
     )
 
-pub returns-in-Err-read_gate-clause-shown : goal.returns-in-Err-read_gate-clause-shown
-returns-in-Err-read_gate-clause-shown g c = λ tells.
+pub returns-in-Err-read_gate-clause-kept : goal.returns-in-Err-read_gate-clause-kept
+returns-in-Err-read_gate-clause-kept g c = λ tells.
     let s = c.self.inside in
     let p : Pending = c.in-Some.pending in
     let e : s.pending ≡ Some p = sym c.take.ensures.value ∙ c.in-Some.is in
@@ -260,8 +261,8 @@ invariant_of-self-in-Ok-true g c =
       λ tells on. subst (IsStaged (s.tail + p.length + 15) (contents t1)) (sym none) tt,
     )
 
-pub returns-clause-shown : goal.returns-clause-shown
-returns-clause-shown g c = λ tells.
+pub returns-clause-kept : goal.returns-clause-kept
+returns-clause-kept g c = λ tells.
     let s = c.self.inside in
     let p : Pending = c.in-Some.pending in
     let e : s.pending ≡ Some p = sym c.take.ensures.value ∙ c.in-Some.is in
@@ -275,7 +276,7 @@ returns-clause-shown g c = λ tells.
     let k : Keeps s.node s.size s.tail t0 t1 k0 k1 s.index s.pending p = keeps_read s.node s.size s.tail 0 t0 t1 k0 k1 s.index s.pending p Fine e c.self.invariant.0 (c.self.invariant.1 tells) c.in-Ok-true.ensures.counts.size (c.in-Ok-true.ensures.told tells) in
     let rest : contents t0 ≡ at_rest (contents t0).now = read_rest s.tail (contents t0) s.pending p e (sym c.has_synced.ensures ∙ c.if-not-has_synced.false) (c.self.invariant.2 tells power) in
     let done = settled_new s.node s.size s.tail t0 t1 k0 k1 s.index c.set_slot.new.index s.pending p c.make_slot-slot.result k (c.in-Ok-true.ensures.told tells) rest (sym (c.in-Ok-true.ensures.gate tells) ∙ c.in-Ok-true.field-0-test) c.make_slot-slot.ensures c.set_slot.ensures.sets in
-    rw (← c.self.view_is) (done.2 ∙ shown_new s.tail s.pending p (log_shown s.node s.tail (contents t0).now) e unsettled)
+    rw (← c.self.view_is) (done.2 ∙ shown_new s.tail s.pending p (log_kept s.node s.tail (contents t0).now) e unsettled)
 
 pub returns-clause-stands : goal.returns-clause-stands
 returns-clause-stands g c = λ tells.
