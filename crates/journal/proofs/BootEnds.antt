@@ -25,7 +25,7 @@ unfolding on_node
 overfull = record { is_down = refl; no_requests = refl; boots = inl (record { undamaged = refl; overfull = refl; nothing = record { no_pick = refl; no_epoch = refl; not_begun = refl } }) }
 
 -- the log has no room for the next epoch: 1048576 - 16 - (15 + 1048526) - 16 leaves 3 bytes
-no_room : AllowsBoot (at (record blank_node { written = 1048526 ∷ [] })) 0 end.Full None false
+no_room : AllowsBoot (at (record blank_node { ledger = 1048526 ∷ [] })) 0 end.Full None false
 unfolding on_node
 no_room = record { is_down = refl; no_requests = refl; boots = inr (record { nothing = record { opened = record { undamaged = refl; not_overfull = refl; picked = refl }; no_epoch = refl; not_begun = refl }; not_last = omega arith; no_room = refl }) }
 

@@ -16,8 +16,8 @@ use Rattle.eden_model.specs.Traffic.{Traffic, held, call_at, changed_call, at_pl
 use Rattle.eden_model.specs.declared.Asker.{Asker}
 use Rattle.eden_model.specs.declared.Asker.TheVariants.{Shell, Eject as Process}
 use Rattle.eden_model.specs.Crew.{Invocation, outside, set_waits, locked, left, waited, signalled, running}
-use Rattle.capability.specs.Uids.{uid_cmp_total, uid_cmp-IsAntisymmetric}
-use Rattle.eden_model.specs.Laws.{eq-same}
+use Rattle.capability.proofs.Uids.{uid_cmp_total, uid_cmp-IsAntisymmetric}
+use Rattle.eden_model.proofs.Laws.{eq-same}
 use Rattle.epl_syntax.specs.declared.effect.Answer.{Answer}
 use Rattle.epl_syntax.specs.declared.effect.Answer.TheVariants.{Code, Reply as Told, Created as Made}
 use Rattle.epl_syntax.specs.declared.effect.Effect.{Effect}
@@ -31,7 +31,8 @@ use Rattle.journal.specs.Deliveries.{requested, tells_asker, received, heard}
 use Rattle.journal.specs.Processes.{turn_of, turned, serving, with_start, start, without_process, asks_store, answers, refused_at_once, waits_or_told, creates, checkpoints, effected, process_turn}
 use Rattle.journal.specs.Crashes.{fallen, down, crashed}
 use Rattle.journal.specs.Starts.{start_of, misfits_answered, awake}
-use Rattle.journal.proofs.Changes.{Facts, facts_of, facts_in, begun_by, begun, AllUnmade, AllThere, Queue}
+use Rattle.journal.specs.Sites.{AllUnmade, AllThere}
+use Rattle.journal.proofs.Changes.{Facts, facts_of, facts_in, begun_by, begun, Queue}
 use Rattle.journal.proofs.Frame.{eject-on_eject}
 use Rattle.journal.proofs.KeptTurns.{value-each}
 use Rattle.journal.proofs.SafeRuns.{same-number}

@@ -6,6 +6,7 @@ use Rattle.journal.specs.Change.{Change}
 use Rattle.journal.specs.World.{World, Node, Site, Eject, StoreRequest, node_at, eject_at, eject_in}
 use Rattle.journal.specs.Run.{Step}
 use Rattle.journal.specs.Kept.{in_progress, cut_short, last_kept}
+use Rattle.journal.specs.Sites.{AllUnmade, AllThere}
 
 -- 1. At a node
 
@@ -28,15 +29,6 @@ begun_by u r = cond (same_uid r.uid u && nat_lt 0 r.made) (Some r.change) None
 
 abbrev pub begun : List StoreRequest → Uid → Option Change
 begun rs u = with_item (first rs) (begun_by u) None
-
--- none of these requests has made a device call
-abbrev pub AllUnmade : List StoreRequest → Type 0
-AllUnmade [] = Unit {0}
-AllUnmade (r ∷ rs) = (r.made ≡ 0) × AllUnmade rs
-
-abbrev pub AllThere : List StoreRequest → List (Uid × Eject) → Type 0
-AllThere [] es = Unit {0}
-AllThere (r ∷ rs) es = (is_some (value_at uid_cmp r.uid es) ≡ true) × AllThere rs es
 
 -- only the first request has made device calls, and each is of an Eject of the node
 pub record Queue (rs : List StoreRequest) (es : List (Uid × Eject)) : Type 0 where

@@ -1,8 +1,8 @@
 -- What was saved outlives a crash, and what was set after it does not.
-use Rattle.std.proofs.Common.{◌≡◌, List, [], ◌∷◌, None, Some, true, refl, arith, codes}
+use Rattle.std.proofs.Common.{◌≡◌, List, [], ◌∷◌, None, Some, true, refl, codes}
 use Rattle.eden_value.specs.declared.status.Status.TheVariants as status
 use Rattle.eden_disk.specs.declared.disk.ImageMode.TheVariants.{Lose as lose}
-use Rattle.journal.specs.Given.{plain as given}
+use Rattle.journal.specs.Argument.{plain as given}
 use Rattle.journal.specs.declared.command.Command.{Command}
 use Rattle.journal.specs.declared.command.Command.TheVariants as command
 use Rattle.journal.specs.declared.event.Event.TheVariants as event
@@ -13,10 +13,10 @@ use Rattle.journal.specs.declared.event.StartEnd.TheVariants as start_end
 use Rattle.journal.specs.declared.event.RequestEnd.TheVariants as request_end
 use Rattle.eden_model.specs.Crew.{least_number}
 use Rattle.journal.specs.World.{at_node, on_eject, on_node, on_traffic}
-use Rattle.journal.specs.Run.{Follows}
 use Rattle.journal.specs.declared.event.Mode.TheVariants as mode
 use Rattle.journal.specs.Lines.{text_of, entry_text, trace_text, shown_text}
-use Rattle.journal.proofs.Scenes.{one_node, plain, on_disk, c_uid, ref_c, int}
+use Rattle.journal.proofs.Blank.{FollowsOverBlank, follows-over-blank}
+use Rattle.journal.proofs.Scenes.{plain, on_disk, c_uid, ref_c, int}
 use Rattle.journal.proofs.Decimals.{d0, d1, d2, d5}
 
 unfoldable pub commands : List Command
@@ -72,117 +72,9 @@ history = on_disk 1 11 (event.Boot 1 1 boot_end.Up None true)
     ∷ plain (event.Left [])
     ∷ []
 
-pub follows : Follows one_node 1 commands history
+pub follows : FollowsOverBlank 1 commands history
 unfolding commands history at_node on_eject on_node on_traffic least_number
-follows = record {
-  whole = refl;
-  leads = (
-    record { event = (refl, record { is_down = refl; no_requests = refl; boots = record { opened = record { undamaged = refl; not_overfull = refl; picked = refl }; not_last = omega arith; next_one = refl; has_room = refl; begun = refl } }); broken = refl; disk = refl; clock = tt; store_clock = tt },
-    (
-      record { event = (refl, refl, (refl, refl)); broken = refl; disk = refl; clock = refl; store_clock = tt },
-      (
-        record { event = (refl, record { number = refl; refused = refl }); broken = refl; disk = refl; clock = refl; store_clock = tt },
-        (
-          record { key = refl; none_taken = tt; allowed = record { event = record { first_in_queue = refl; delivered = (refl, refl) }; broken = refl; disk = refl; clock = refl; store_clock = tt } },
-          (
-            record { key = refl; none_taken = tt; allowed = record { event = record { earliest = refl; number = refl }; broken = refl; disk = refl; clock = refl; store_clock = tt } },
-            (
-              record { key = refl; none_taken = tt; allowed = record { event = record { ready = refl; known = tt; shows = refl }; broken = refl; disk = refl; clock = refl; store_clock = tt } },
-              (
-                record { key = refl; none_taken = tt; allowed = record { event = record { first_in_queue = refl; delivered = (refl, refl) }; broken = refl; disk = refl; clock = refl; store_clock = tt } },
-                (
-                  record { key = refl; none_taken = refl; allowed = record { event = tt; broken = refl; disk = refl; clock = refl; store_clock = tt } },
-                  (
-                    record { event = (refl, record { number = refl; refused = refl }); broken = refl; disk = refl; clock = refl; store_clock = tt },
-                    (
-                      record { key = refl; none_taken = tt; allowed = record { event = record { first_in_queue = refl; delivered = (refl, refl) }; broken = refl; disk = refl; clock = refl; store_clock = tt } },
-                      (
-                        record { key = refl; none_taken = tt; allowed = record { event = record { earliest = refl; number = refl }; broken = refl; disk = refl; clock = refl; store_clock = tt } },
-                        (
-                          record { key = refl; none_taken = tt; allowed = record { event = record { ready = refl; known = tt; shows = refl }; broken = refl; disk = refl; clock = refl; store_clock = tt } },
-                          (
-                            record { key = refl; none_taken = tt; allowed = record { event = record { of_uid = refl; ends = refl; call_left = omega arith }; broken = refl; disk = refl; clock = omega arith; store_clock = (refl, refl) } },
-                            (
-                              record { key = refl; none_taken = tt; allowed = record { event = record { of_uid = refl; ends = refl; call_left = omega arith }; broken = refl; disk = refl; clock = omega arith; store_clock = (refl, refl) } },
-                              (
-                                record { key = refl; none_taken = tt; allowed = record { event = record { of_uid = refl; ends = refl; call_left = omega arith }; broken = refl; disk = refl; clock = omega arith; store_clock = (refl, refl) } },
-                                (
-                                  record { key = refl; none_taken = tt; allowed = record { event = record { of_uid = refl; ends = refl; call_left = omega arith }; broken = refl; disk = refl; clock = omega arith; store_clock = (refl, refl) } },
-                                  (
-                                    record { key = refl; none_taken = tt; allowed = record { event = record { ready = refl; known = tt; shows = refl }; broken = refl; disk = refl; clock = refl; store_clock = tt } },
-                                    (
-                                      record { key = refl; none_taken = tt; allowed = record { event = record { first_in_queue = refl; delivered = (refl, refl) }; broken = refl; disk = refl; clock = refl; store_clock = tt } },
-                                      (
-                                        record { key = refl; none_taken = refl; allowed = record { event = tt; broken = refl; disk = refl; clock = refl; store_clock = tt } },
-                                        (
-                                          record { event = (refl, record { number = refl; refused = refl }); broken = refl; disk = refl; clock = refl; store_clock = tt },
-                                          (
-                                            record { key = refl; none_taken = tt; allowed = record { event = record { first_in_queue = refl; delivered = (refl, refl) }; broken = refl; disk = refl; clock = refl; store_clock = tt } },
-                                            (
-                                              record { key = refl; none_taken = tt; allowed = record { event = record { earliest = refl; number = refl }; broken = refl; disk = refl; clock = refl; store_clock = tt } },
-                                              (
-                                                record { key = refl; none_taken = tt; allowed = record { event = record { ready = refl; known = tt; shows = refl }; broken = refl; disk = refl; clock = refl; store_clock = tt } },
-                                                (
-                                                  record { key = refl; none_taken = tt; allowed = record { event = record { first_in_queue = refl; delivered = (refl, refl) }; broken = refl; disk = refl; clock = refl; store_clock = tt } },
-                                                  (
-                                                    record { key = refl; none_taken = refl; allowed = record { event = tt; broken = refl; disk = refl; clock = refl; store_clock = tt } },
-                                                    (
-                                                      record { event = (refl, refl); broken = refl; disk = refl; clock = omega arith; store_clock = tt },
-                                                      (
-                                                        record { event = (refl, record { is_down = refl; no_requests = refl; boots = record { opened = record { undamaged = refl; not_overfull = refl; picked = refl }; not_last = omega arith; next_one = refl; has_room = refl; begun = refl } }); broken = refl; disk = refl; clock = omega arith; store_clock = tt },
-                                                        (
-                                                          record { event = (refl, record { number = refl; refused = refl }); broken = refl; disk = refl; clock = refl; store_clock = tt },
-                                                          (
-                                                            record { key = refl; none_taken = tt; allowed = record { event = record { first_in_queue = refl; delivered = (refl, refl) }; broken = refl; disk = refl; clock = refl; store_clock = tt } },
-                                                            (
-                                                              record { key = refl; none_taken = tt; allowed = record { event = record { is_passive = refl; has_queued = refl; not_worked_on = refl; starts = (refl, refl) }; broken = refl; disk = refl; clock = omega arith; store_clock = tt } },
-                                                              (
-                                                                record { key = refl; none_taken = tt; allowed = record { event = record { earliest = refl; number = refl }; broken = refl; disk = refl; clock = refl; store_clock = tt } },
-                                                                (
-                                                                  record { key = refl; none_taken = tt; allowed = record { event = record { ready = refl; known = tt; shows = refl }; broken = refl; disk = refl; clock = refl; store_clock = tt } },
-                                                                  (
-                                                                    record { key = refl; none_taken = tt; allowed = record { event = record { first_in_queue = refl; delivered = (refl, refl) }; broken = refl; disk = refl; clock = refl; store_clock = tt } },
-                                                                    (
-                                                                      record { key = refl; none_taken = refl; allowed = record { event = tt; broken = refl; disk = refl; clock = refl; store_clock = tt } },
-                                                                      (
-                                                                        record { event = refl; broken = refl; disk = refl; clock = refl; store_clock = tt },
-                                                                        tt,
-                                                                      ),
-                                                                    ),
-                                                                  ),
-                                                                ),
-                                                              ),
-                                                            ),
-                                                          ),
-                                                        ),
-                                                      ),
-                                                    ),
-                                                  ),
-                                                ),
-                                              ),
-                                            ),
-                                          ),
-                                        ),
-                                      ),
-                                    ),
-                                  ),
-                                ),
-                              ),
-                            ),
-                          ),
-                        ),
-                      ),
-                    ),
-                  ),
-                ),
-              ),
-            ),
-          ),
-        ),
-      ),
-    ),
-  );
-}
+follows = follows-over-blank 1 commands history refl
 
 plain_text : text_of mode.Plain history ≡ codes "node 1 up epoch 1\nc is 1.1.1\na ok ()\nquiet\nb ok (0)\nquiet\nd ok ()\nquiet\nnode 1 down crash\nnode 1 up epoch 2\ne ok (5)\nquiet\n"
 unfolding history entry_text trace_text shown_text

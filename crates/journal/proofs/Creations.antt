@@ -5,7 +5,7 @@ use Rattle.std.specs.Option.{option_map}
 use Rattle.std.specs.FinMap.Entries.{find-put}
 use Rattle.std.proofs.lemmas.Cmp.{tied_itself}
 use Rattle.capability.specs.declared.Uid.{Uid}
-use Rattle.capability.specs.Uids.{uid_cmp_total}
+use Rattle.capability.proofs.Uids.{uid_cmp_total}
 use Rattle.eden_value.specs.Datum.{Datum}
 use Rattle.eden_value.specs.declared.status.Status.{Status}
 use Rattle.eden_value.specs.declared.status.Status.TheVariants as status
@@ -24,10 +24,11 @@ use Rattle.journal.specs.Ejects.{fresh, next_uid, on_active, is_there, born}
 use Rattle.journal.specs.Processes.{CreatesKnown, turn_of, turned, turn_taken, active_turn, process_turn, serving, worker_at, shown_of, shown_creation, creates, effected}
 use Rattle.journal.specs.Commands.{AllowsCommand, born_as, made, type_name_of}
 use Rattle.journal.specs.Step.{AllowsAt}
+use Rattle.journal.specs.Sites.{InOrder}
 use Rattle.journal.proofs.Frame.{node-at_same, after_at}
 use Rattle.journal.proofs.ChangeLaw.{there-on_eject}
 use Rattle.journal.proofs.EveryNode.{IsNext, next-following, made-next}
-use Rattle.journal.proofs.Ordered.{InOrder, count-changed, there-active}
+use Rattle.journal.proofs.Ordered.{count-changed, there-active}
 
 -- 1. At a site
 

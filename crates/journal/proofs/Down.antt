@@ -151,7 +151,7 @@ calm-activation v start_end.Damaged p s up = inl (up-activation v start_end.Dama
 
 -- 3. Every turn
 
-not-active : (s : Site) (u : Uid) (P : Eject → Active → Type 0) → Rests s.node → IsActiveAnd s u P → ⊥
+pub not-active : (s : Site) (u : Uid) (P : Eject → Active → Type 0) → Rests s.node → IsActiveAnd s u P → ⊥
 not-active s u P h a = go (eject_in s u) refl a
   where
     by_active : (e : Eject) (o : Option Active) → e.active ≡ o → IsIdle e → IsSomeAnd o (λ it. P e it) → ⊥

@@ -1,4 +1,4 @@
--- At the end of every history each node that is down is at rest.
+-- In every world of a history each node is up or at rest, and calls that are asked go to nodes that are up.
 use Rattle.std.proofs.Common.{◌≡◌, inl, inr, ◌==◌, ℕ, Bool, true, false, cond, not, ◌&&◌, ◌||◌, List, [], ◌∷◌, map, Option, None, Some, Result, Ok, Err, is_some, refl, sym, ◌∙◌, ap, subst}
 use Rattle.std.specs.Prelude.{IsSomeAnd, IfSome}
 use Rattle.std.specs.List.{filter_map, cons_option}
@@ -11,6 +11,7 @@ use Rattle.eden_model.specs.Map.{with_item, uid_cmp, value_at}
 use Rattle.eden_model.specs.Traffic.{asked, done as over, Traffic, Call, call_at, asking_station, target_station, goes_by, goes, in_transit, touches, crashed_call, without_node, processes_of, broken_by_node}
 use Rattle.passive_store.specs.declared.store.Pick.{Pick}
 use Rattle.passive_store.specs.Kept.{Layout}
+use Rattle.passive_store.specs.Layout.{IsLayout}
 use Rattle.journal.specs.declared.command.Command.{Command}
 use Rattle.journal.specs.declared.command.Command.TheVariants as command
 use Rattle.journal.specs.declared.command.Script.{Script}
@@ -38,18 +39,19 @@ use Rattle.journal.specs.Run.{AllowsLookUp, looked_up, beginning}
 use Rattle.journal.specs.Standing.{DiskRun}
 use Rattle.journal.specs.LegalRun.{AreHandedIn, numbered, images, opening_world, last_world}
 use Rattle.journal.specs.Laws.{Begins, IsAtRest}
+use Rattle.journal.specs.Sites.{AskedAll, SoundWorld}
 use Rattle.journal.proofs.Lifts.{traffic-after}
 use Rattle.journal.proofs.SafeRuns.{same-number}
 use Rattle.journal.proofs.Runs.{Any, of-any, no-turn, end-keeps, world-booting, nodes-looked_up}
 use Rattle.journal.proofs.EveryNode.{IsKeptAt, IsAt, all-next, all-same_nodes}
-use Rattle.journal.proofs.Messages.{AskedAll, value-calls}
-use Rattle.journal.proofs.SoundWorld.{SoundWorld, ask-tells_each, ask-counted, ask-happened, ask-looked_up, sound-next, sound-looked_up}
+use Rattle.journal.proofs.Messages.{value-calls}
+use Rattle.journal.proofs.SoundWorld.{ask-tells_each, ask-counted, ask-happened, ask-looked_up, sound-next, sound-looked_up}
 use Rattle.journal.proofs.EntryLists.{first-passes}
 use Rattle.journal.proofs.EnabledRuns.{sound-opening-world}
 use Rattle.journal.proofs.StaysUp.{IsUp, up-on_node, up-settled, up-requested, up-heard, up-start, up-process_turn, up-store_turn, up-activation, up-tells, up-born}
 use Rattle.journal.proofs.Down.{IsIdle, Rests, Calm, rest-crashed, rest-tells, ComesUp, calm-site_turn}
 
-false-true : {A : Type 0} → false ≡ true → A
+pub false-true : {A : Type 0} → false ≡ true → A
 false-true e = absurd (cc e)
 
 both-true : (a b : Bool) → (a && b) ≡ true → (a ≡ true) × (b ≡ true)
@@ -70,7 +72,7 @@ up-booted s e (boot_end.Damaged place) began it up = up
 up-booted s e boot_end.EpochsSpent began it up = up
 up-booted s e boot_end.Full began it up = up
 
-crashing : (n m : ℕ) → n ≡ m → (n == m) ≡ false → {A : Type 0} → A
+pub crashing : (n m : ℕ) → n ≡ m → (n == m) ≡ false → {A : Type 0} → A
 crashing n m same off = absurd (let bad : true ≡ false = sym (eq-eqb n m same) ∙ off in cc bad)
 
 up-turn : (w : World) (e : Event) (n : ℕ) (s : Site) → IsAt e n → AllowsAt s e → crashes n e ≡ false → IsUp s → IsUp (site_turn (reaches w n) e s)
@@ -110,10 +112,10 @@ kept-up w e = record {
   clocks = λ n c it h. h;
 }
 
-node-up : (w : World) (n : ℕ) (it : Node) → node_at w n ≡ Some it → is_up w n ≡ true → it.up ≡ true
+pub node-up : (w : World) (n : ℕ) (it : Node) → node_at w n ≡ Some it → is_up w n ≡ true → it.up ≡ true
 node-up w n it at up = sym (ap (λ o. with_item o (λ (x : Node). x.up) false) at) ∙ up
 
-up-next : (H : ℕ → Bool) (w : World) (c : Option Command) (e : Entry) → Allows w c e → SoundWorld H w → (m : ℕ) → crashes m e.event ≡ false → is_up w m ≡ true → is_up (next w c e) m ≡ true
+pub up-next : (H : ℕ → Bool) (w : World) (c : Option Command) (e : Entry) → Allows w c e → SoundWorld H w → (m : ℕ) → crashes m e.event ≡ false → is_up w m ≡ true → is_up (next w c e) m ≡ true
 up-next H w c e allowed h m calm up = go (node_at (next w c e) m) refl ((sound-next H w c e allowed h).place.present m ∙ (sym (h.place.present m) ∙ present (node_at w m) refl))
   where
     present : (o : Option Node) → node_at w m ≡ o → is_some (node_at w m) ≡ true
@@ -227,7 +229,7 @@ off-happened w (Some c) e n is allowed = off-command w c e n is allowed
 
 -- 3. Calls that are asked go to nodes that are up
 
-abbrev AskedUp : World → Type 0
+abbrev pub AskedUp : World → Type 0
 AskedUp w = AskedAll (λ n. is_up w n ≡ true) w.traffic
 
 reached-up : (w : World) (a n : ℕ) → reaches w a n ≡ true → is_up w n ≡ true
@@ -248,7 +250,7 @@ asked-next H w c e allowed h all = record { at = λ k d is place. go (target_sta
 
 -- 4. Each node is up or at rest
 
-abbrev AllCalm : World → Type 0
+abbrev pub AllCalm : World → Type 0
 AllCalm w = (n : ℕ) (it : Node) → node_at w n ≡ Some it → Calm it
 
 comes-up : (w : World) → AskedUp w → (e : Event) (n : ℕ) (it : Node) → node_at w n ≡ Some it → IsAt e n → AllowsAt (site_of w n it) e → ComesUp (site_of w n it) e
@@ -285,14 +287,14 @@ pub record DownWorld (H : ℕ → Bool) (w : World) : Type 0 where
   pub asked_up : AskedUp w
   pub calm : AllCalm w
 
-down-next : (H : ℕ → Bool) (w : World) (c : Option Command) (e : Entry) → Allows w c e → DownWorld H w → DownWorld H (next w c e)
+pub down-next : (H : ℕ → Bool) (w : World) (c : Option Command) (e : Entry) → Allows w c e → DownWorld H w → DownWorld H (next w c e)
 down-next H w c e allowed h = record {
   sound = sound-next H w c e allowed h.sound;
   asked_up = asked-next H w c e allowed h.sound h.asked_up;
   calm = all-next (λ n it. Calm it) w c e (kept-calm w e.event h.asked_up) allowed h.calm;
 }
 
-down-looked_up : (H : ℕ → Bool) (w : World) (name : List ℕ) (target : Option Cap) (path : List (List ℕ)) (e : Event) → AllowsLookUp w name target path e → DownWorld H w → DownWorld H (looked_up w name target path e)
+pub down-looked_up : (H : ℕ → Bool) (w : World) (name : List ℕ) (target : Option Cap) (path : List (List ℕ)) (e : Event) → AllowsLookUp w name target path e → DownWorld H w → DownWorld H (looked_up w name target path e)
 down-looked_up H w name target path e allowed h = record {
   sound = sound-looked_up H w name target path e allowed h.sound;
   asked_up = asked-mono (looked_up w name target path e).traffic (λ n up. ap (λ ns. with_item (value_at nat_cmp n ns) (λ (it : Node). it.up) false) (nodes-looked_up w name target path e) ∙ up)
@@ -313,42 +315,14 @@ idle-passive u e (x ∷ xs) is = go (x.0.serial == 0) (idle-passive u e xs) is
     go true later is = later is
     go false later is = found (eq_by_cmp uid_cmp u x.0) later is
 
-rest-node : (n size : ℕ) (found : Result (List (Uid × List ℕ)) ℕ) (overfull : Bool) (written : List ℕ) → Rests (node_from n size found overfull written)
-rest-node n size (Ok kept) overfull written = record { no_request = refl; idle = λ u e is. idle-passive u e kept is }
-rest-node n size (Err place) overfull written = record { no_request = refl; idle = λ u e is. absurd (cc is) }
+pub rest-node : (n size : ℕ) (found : Result (List (Uid × List ℕ)) ℕ) (overfull : Bool) (ledger : List ℕ) → Rests (node_from n size found overfull ledger)
+rest-node n size (Ok kept) overfull ledger = record { no_request = refl; idle = λ u e is. idle-passive u e kept is }
+rest-node n size (Err place) overfull ledger = record { no_request = refl; idle = λ u e is. absurd (cc is) }
 
-calm-opening : (layout : Layout) (images : List (ℕ × List ℕ)) (n : ℕ) (it : Node) → value_at nat_cmp n (map (λ d. (d.0, node_of layout d)) images) ≡ Some it → Calm it
+pub calm-opening : (layout : Layout) (images : List (ℕ × List ℕ)) (n : ℕ) (it : Node) → value_at nat_cmp n (map (λ d. (d.0, node_of layout d)) images) ≡ Some it → Calm it
 calm-opening layout [] n it is = absurd (cc is)
 calm-opening layout (d ∷ ds) n it is = go (eq_by_cmp nat_cmp n d.0) (calm-opening layout ds n it) is
   where
     go : (b : Bool) → (value_at nat_cmp n (map (λ d. (d.0, node_of layout d)) ds) ≡ Some it → Calm it) → cond b (Some (node_of layout d)) (value_at nat_cmp n (map (λ d. (d.0, node_of layout d)) ds)) ≡ Some it → Calm it
     go true later e = subst (λ o. IfSome o Calm) e (inr (rest-node d.0 _ (found_in layout d.0 d.1) _ _))
     go false later e = later e
-
-at-rest : (H : ℕ → Bool) (w : World) → DownWorld H w → (n : ℕ) (it : Node) → node_at w n ≡ Some it → it.up ≡ false → IsAtRest w n it
-at-rest H w h n it at off = go (h.calm n it at)
-  where
-    go : Calm it → IsAtRest w n it
-    go (inl up) = false-true (sym off ∙ up)
-    go (inr rest) = record {
-      no_request = rest.no_request;
-      no_active = λ u e is. (rest.idle u e is).no_active;
-      no_queued = λ u e is. (rest.idle u e is).no_queued;
-      no_message = λ k c is place target. false-true (sym off ∙ node-up w n it at (ap (is_up w) (sym target) ∙ h.asked_up.at k c is place));
-    }
-
-pub down-nodes-rest : (layout : Layout) (script : Script) (disks : List DiskRun) (history : List Entry) → AreHandedIn layout disks → Begins layout script disks history
-    → (n : ℕ) (it : Node) → node_at (last_world (opening_world layout script disks) script history) n ≡ Some it → it.up ≡ false → IsAtRest (last_world (opening_world layout script disks) script history) n it
-down-nodes-rest layout script disks history fits begins = at-rest here (last_world w script history) (end-keeps Any (DownWorld here) (record {
-  entries = λ past w c e any allowed i. (tt, down-next here w c e allowed i);
-  look_ups = λ past w name target path e any allowed plain i. (tt, down-looked_up here w name target path e.event allowed i);
-}) (beginning w script.nodes script.commands) [] history (of-any 1 script.nodes w script.commands) (subst (DownWorld here) (sym (world-booting 1 script.nodes w script.commands)) opening) begins)
-  where
-    w : World
-    w = opening_world layout script disks
-
-    here : ℕ → Bool
-    here n = is_some (node_at w n)
-
-    opening : DownWorld here w
-    opening = record { sound = sound-opening-world layout script disks fits; asked_up = record { at = λ k c is. absurd (cc is) }; calm = calm-opening layout (images (numbered disks)) }

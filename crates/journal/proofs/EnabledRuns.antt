@@ -10,19 +10,21 @@ use Rattle.capability.specs.declared.Uid.{Uid}
 use Rattle.eden_model.specs.Map.{uid_cmp, value_at}
 use Rattle.eden_disk.specs.Told.{contents}
 use Rattle.passive_store.specs.Kept.{Layout}
+use Rattle.passive_store.specs.Layout.{IsLayout}
 use Rattle.journal.specs.declared.command.Script.{Script}
 use Rattle.journal.specs.declared.event.Entry.{Entry}
 use Rattle.journal.specs.World.{World, Node, Eject, node_at}
-use Rattle.journal.specs.Opening.{IsFitMap, IsFitImage, found_in, node_of, node_from, passive, passive_entry}
+use Rattle.journal.specs.Opening.{found_in, node_of, node_from, passive, passive_entry}
 use Rattle.journal.specs.Run.{beginning}
 use Rattle.journal.specs.Standing.{DiskRun}
-use Rattle.journal.specs.LegalRun.{AreHandedIn, numbered, numbered_from, images, opening_world, last_world}
+use Rattle.journal.specs.LegalRun.{IsHandedIn, AreHandedIn, numbered, numbered_from, images, opening_world, last_world}
 use Rattle.journal.specs.Enabled.{enabled}
 use Rattle.journal.specs.Laws.{Begins, HasTurn}
+use Rattle.journal.specs.Sites.{MannedEject, Sound, SoundWorld}
 use Rattle.journal.proofs.Runs.{Any, of-any, world-booting, end-keeps}
 use Rattle.journal.proofs.Ordered.{order-passive}
-use Rattle.journal.proofs.Sound.{Sound, MannedEject}
-use Rattle.journal.proofs.SoundWorld.{SoundWorld, sound-next, sound-looked_up}
+use Rattle.journal.proofs.SoundWorld.{sound-next, sound-looked_up}
+use Rattle.journal.proofs.HandedIn.{IsOwnMap, own-map}
 use Rattle.journal.proofs.NoUidTwice.{kept-there, in-order, disk-node}
 use Rattle.journal.proofs.EnabledTurns.{enabled-turns}
 
@@ -41,9 +43,9 @@ manned-passive u e (x ∷ xs) is = go (x.0.serial == 0) (manned-passive u e xs) 
     go true later is = later is
     go false later is = found (eq_by_cmp uid_cmp u x.0) later is
 
-sound-node : (n size : ℕ) (found : Result (List (Uid × List ℕ)) ℕ) (overfull : Bool) (written : List ℕ) → ((kept : List (Uid × List ℕ)) → found ≡ Ok kept → IsFitMap n kept × T (is_sorted uid_cmp kept))
-    → Sound n (node_from n size found overfull written)
-sound-node n size (Ok kept) overfull written fits = let x = fits kept refl in record {
+sound-node : (n size : ℕ) (found : Result (List (Uid × List ℕ)) ℕ) (overfull : Bool) (ledger : List ℕ) → ((kept : List (Uid × List ℕ)) → found ≡ Ok kept → IsOwnMap n kept × T (is_sorted uid_cmp kept))
+    → Sound n (node_from n size found overfull ledger)
+sound-node n size (Ok kept) overfull ledger fits = let x = fits kept refl in record {
   in_order = order-passive kept x.1;
   of_node = λ u there. x.0.of_node u (kept-there u kept there);
   manned = λ u e is. manned-passive u e kept is;
@@ -51,16 +53,16 @@ sound-node n size (Ok kept) overfull written fits = let x = fits kept refl in re
   unmade = tt;
   call_left = tt;
 }
-sound-node n size (Err place) overfull written fits = record { in_order = tt; of_node = λ u there. absurd (cc there); manned = λ u e is. absurd (cc is); there = tt; unmade = tt; call_left = tt }
+sound-node n size (Err place) overfull ledger fits = record { in_order = tt; of_node = λ u there. absurd (cc there); manned = λ u e is. absurd (cc is); there = tt; unmade = tt; call_left = tt }
 
-sound-opening : (layout : Layout) (disks : List (ℕ × DiskRun)) → ((n : ℕ) (d : DiskRun) → value_at nat_cmp n disks ≡ Some d → IsFitImage layout n (contents d.before).now)
+sound-opening : (layout : Layout) (disks : List (ℕ × DiskRun)) → IsLayout layout → ((n : ℕ) (d : DiskRun) → value_at nat_cmp n disks ≡ Some d → IsHandedIn layout n d)
     → (n : ℕ) (it : Node) → value_at nat_cmp n (map (λ d. (d.0, node_of layout d)) (images disks)) ≡ Some it → Sound n it
-sound-opening layout disks fits n it is = go (value_at nat_cmp n disks) refl (disk-node layout n it disks is)
+sound-opening layout disks lays fits n it is = go (value_at nat_cmp n disks) refl (disk-node layout n it disks is)
   where
     go : (o : Option DiskRun) → value_at nat_cmp n disks ≡ o → IsSomeAnd o (λ d. node_of layout (n, (contents d.before).now) ≡ it) → Sound n it
     go None at x = absurd x
     go (Some d) at x = subst (Sound n) x (sound-node n _ (found_in layout n (contents d.before).now) _ _
-        (λ kept found. ((fits n d at).map kept found, in-order layout n (contents d.before).now kept found)))
+        (λ kept found. (own-map layout n d lays (fits n d at) kept found, in-order layout n (contents d.before).now kept found)))
 
 -- nodes are numbered upward
 abbrev nodes_from : Layout → ℕ → List DiskRun → List (ℕ × Node)
@@ -78,22 +80,22 @@ ordered-from : (layout : Layout) (n : ℕ) (disks : List DiskRun) → T (is_sort
 ordered-from layout n [] = tt
 ordered-from layout n (d ∷ disks) = both (below_all nat_cmp n (nodes_from layout (n + 1) disks)) (is_sorted nat_cmp (nodes_from layout (n + 1) disks)) (below-from layout n (n + 1) disks (omega arith)) (ordered-from layout (n + 1) disks)
 
-pub sound-opening-world : (layout : Layout) (script : Script) (disks : List DiskRun) → AreHandedIn layout disks
+pub sound-opening-world : (layout : Layout) (script : Script) (disks : List DiskRun) → IsLayout layout → AreHandedIn layout disks
     → SoundWorld (λ n. is_some (node_at (opening_world layout script disks) n)) (opening_world layout script disks)
-sound-opening-world layout script disks fits = record {
+sound-opening-world layout script disks lays fits = record {
   place = record { ordered = ordered-from layout 1 disks; present = λ n. refl };
-  nodes = sound-opening layout (numbered disks) (λ n d at. (fits n d at).fit);
+  nodes = sound-opening layout (numbered disks) lays fits;
   asked = record { at = λ k c is. absurd (cc is) };
 }
 
 -- 2. Every history
 
-pub enabled-keys-have-turns : (layout : Layout) (script : Script) (disks : List DiskRun) (history : List Entry) → AreHandedIn layout disks → Begins layout script disks history
+pub enabled-keys-have-turns : (layout : Layout) (script : Script) (disks : List DiskRun) (history : List Entry) → IsLayout layout → AreHandedIn layout disks → Begins layout script disks history
     → All (HasTurn (last_world (opening_world layout script disks) script history)) (enabled (last_world (opening_world layout script disks) script history))
-enabled-keys-have-turns layout script disks history fits begins = enabled-turns here (last_world w script history) (end-keeps Any (SoundWorld here) (record {
+enabled-keys-have-turns layout script disks history lays fits begins = enabled-turns here (last_world w script history) (end-keeps Any (SoundWorld here) (record {
   entries = λ past w c e any allowed i. (tt, sound-next here w c e allowed i);
   look_ups = λ past w name target path e any allowed plain i. (tt, sound-looked_up here w name target path e.event allowed i);
-}) (beginning w script.nodes script.commands) [] history (of-any 1 script.nodes w script.commands) (subst (SoundWorld here) (sym (world-booting 1 script.nodes w script.commands)) (sound-opening-world layout script disks fits)) begins)
+}) (beginning w script.nodes script.commands) [] history (of-any 1 script.nodes w script.commands) (subst (SoundWorld here) (sym (world-booting 1 script.nodes w script.commands)) (sound-opening-world layout script disks lays fits)) begins)
   where
     w : World
     w = opening_world layout script disks

@@ -6,7 +6,7 @@ use Rattle.std.specs.Ordering.{nat_cmp}
 use Rattle.std.specs.Cmp.{nat_cmp_total}
 use Rattle.std.proofs.lemmas.List.Elements.{All-append, All-map}
 use Rattle.capability.specs.declared.Uid.{Uid}
-use Rattle.capability.specs.Uids.{uid_cmp_total}
+use Rattle.capability.proofs.Uids.{uid_cmp_total}
 use Rattle.eden_value.specs.Datum.{Datum}
 use Rattle.eden_value.specs.declared.status.Status.{Status}
 use Rattle.eden_model.specs.Map.{with_item, first, value_at, uid_cmp}
@@ -33,11 +33,9 @@ use Rattle.journal.specs.Starts.{StartsFrom, is_worked_on}
 use Rattle.journal.specs.Enabled.{no_uid, stations, delivery, deliveries, activity, is_to_activate, is_startable, is_ready, ready, activations, starts, processes, store_of, node_keys, enabled}
 use Rattle.journal.specs.Step.{AllowsAt, AllowsInTurn, touched, touches_store, node_if, last_clock, one_more, clock_before, ClockFits, StoreClock, StoreClockFits, breaks, key_of}
 use Rattle.journal.specs.Laws.{HasTurn}
+use Rattle.journal.specs.Sites.{IsManned, Sound, SoundWorld}
 use Rattle.journal.proofs.SafeRuns.{same-number}
 use Rattle.journal.proofs.StoreLaw.{first-there}
-use Rattle.journal.proofs.Sound.{Sound}
-use Rattle.journal.proofs.SoundWorld.{SoundWorld}
-use Rattle.journal.proofs.Manned.{IsManned}
 use Rattle.journal.proofs.EntryLists.{all-none, all-one, all-where, all-flat, all-found, first-passes, found-mapped}
 
 -- 1. Entries

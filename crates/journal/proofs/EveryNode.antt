@@ -10,7 +10,7 @@ use Rattle.eden_value.specs.declared.status.Status.{Status}
 use Rattle.eden_value.specs.declared.status.Status.TheVariants as status
 use Rattle.eden_model.specs.Map.{with_item, value_at, changed_at}
 use Rattle.eden_model.specs.Traffic.{processes_of, broken_by_node, broken_by_link, without_link}
-use Rattle.eden_model.specs.Laws.{eq-same, value-changed}
+use Rattle.eden_model.proofs.Laws.{eq-same, value-changed}
 use Rattle.epl_syntax.specs.declared.effect.Answer.{Answer}
 use Rattle.epl_syntax.specs.declared.effect.Answer.TheVariants.{Reply as Told}
 use Rattle.epl_syntax.specs.declared.types.Edentype.{Edentype}
@@ -32,6 +32,7 @@ use Rattle.journal.specs.Boots.{AllowsBoot}
 use Rattle.journal.specs.References.{cap_at}
 use Rattle.journal.specs.Commands.{creation, IsCreation, AllowsCommand, born_as, made, held_by, restricted_by, asked_by, ready_call, type_name_of}
 use Rattle.journal.specs.Step.{AllowsAt, AllowsInTurn, AllowsEvent, Allows, next, after_turn, after_command, happened, at_site, stopped_at, site_turn, counted, clocked, key_of}
+use Rattle.journal.specs.Sites.{Everywhere}
 use Rattle.journal.proofs.Frame.{node-at_node, after_at}
 use Rattle.journal.proofs.NoneRolledBack.{with_clock}
 
@@ -48,15 +49,12 @@ next-following s u is = go (nat_le 4096 (count s.node)) (nat_le 4294967295 s.nod
     go false true e = absurd (cc e)
     go false false e = cc
 
--- F holds of every node
-abbrev pub Everywhere : (ℕ → Node → Type 0) → World → Type 0
-Everywhere F w = (n : ℕ) (it : Node) → node_at w n ≡ Some it → F n it
-
 -- the node at which these events are
 abbrev pub IsAt : Event → ℕ → Type 0
 IsAt (event.Request k a b refused) n = b ≡ n
 IsAt (event.Store u clock how p) n = u.node ≡ n
 IsAt (event.Crash m) n = m ≡ n
+IsAt (event.Boot m e how p began) n = m ≡ n
 IsAt (event.Activate u how p) n = u.node ≡ n
 IsAt _ n = Unit {0}
 
@@ -162,7 +160,7 @@ all-boot : (F : ℕ → Node → Type 0) (w : World) (c : Command) (n e : ℕ) (
 all-boot F w (command.Restart m) n e how p began kept allowed all =
     let same : n ≡ m = allowed.0 in
     let at : IsSomeAnd (site_at w n) (λ s. AllowsBoot s e how p began) = rw same allowed.1 in
-    all-turn F w n (event.Boot n e how p began) tt kept at all
+    all-turn F w n (event.Boot n e how p began) refl kept at all
 all-boot F w _ n e how p began kept allowed all = absurd allowed
 
 -- 4. Creations
@@ -260,7 +258,7 @@ all-counted : (F : ℕ → Node → Type 0) (k : Option Key) (w : World) → Eve
 all-counted F None w all = all
 all-counted F (Some k) w all = all
 
-all-clocked : (F : ℕ → Node → Type 0) → ((n c : ℕ) (it : Node) → F n it → F n (with_clock c it)) → (n c : ℕ) (w : World) → Everywhere F w → Everywhere F (clocked n c w)
+pub all-clocked : (F : ℕ → Node → Type 0) → ((n c : ℕ) (it : Node) → F n it → F n (with_clock c it)) → (n c : ℕ) (w : World) → Everywhere F w → Everywhere F (clocked n c w)
 all-clocked F kept n c w all = go (n == 0)
   where
     here : (m : ℕ) (jt : Node) (b : Bool) (o : Option Node) → node_at w m ≡ o → cond b (option_map (with_clock c) o) o ≡ Some jt → F m jt

@@ -10,8 +10,8 @@ use Rattle.std.proofs.lemmas.Cmp.{tied_itself}
 use Rattle.capability.specs.declared.Uid.{Uid}
 use Rattle.eden_model.specs.Map.{uid_cmp}
 use Rattle.eden_model.specs.Traffic.{Traffic}
-use Rattle.capability.specs.Uids.{uid_cmp_total, uid_cmp-IsAntisymmetric}
-use Rattle.eden_model.specs.Laws.{value-changed, changed-changed, eq-same}
+use Rattle.capability.proofs.Uids.{uid_cmp_total, uid_cmp-IsAntisymmetric}
+use Rattle.eden_model.proofs.Laws.{value-changed, changed-changed, eq-same}
 use Rattle.journal.specs.World.{World, Site, Node, Eject, node_at, eject_at, site_of, at_node, eject_in, on_eject, on_node, on_traffic}
 
 -- the site with which f leaves a node, numbered as it was
@@ -32,7 +32,7 @@ node-at_node m n f w = go (node_at w n) refl (eq_by_cmp nat_cmp m n) refl
     go (Some it) is true b = rw (is, find-put nat_cmp nat_cmp_total m n (after_at n f w it) w.nodes, b) (let e : m ≡ n = eq-same nat_cmp nat_cmp-IsAntisymmetric m n b in rw (e, is) refl)
     go (Some it) is false b = rw (is, find-put nat_cmp nat_cmp_total m n (after_at n f w it) w.nodes, b) refl
 
-other-node : (m n : ℕ) → (m == n) ≡ false → eq_by_cmp nat_cmp m n ≡ false
+pub other-node : (m n : ℕ) → (m == n) ≡ false → eq_by_cmp nat_cmp m n ≡ false
 other-node m n h = go (eq_by_cmp nat_cmp m n) refl
   where
     go : (b : Bool) → eq_by_cmp nat_cmp m n ≡ b → b ≡ false

@@ -6,8 +6,8 @@ use Rattle.std.specs.Ordering.{nat_cmp, eq_by_cmp}
 use Rattle.capability.specs.declared.Uid.{Uid}
 use Rattle.capability.specs.declared.Cap.{Cap}
 use Rattle.capability.specs.Capability.{full, restricted}
-use Rattle.capability.specs.Uids.{uid_cmp_total}
-use Rattle.capability.specs.Laws.{below_self}
+use Rattle.capability.proofs.Uids.{uid_cmp_total}
+use Rattle.capability.proofs.Laws.{below_self}
 use Rattle.std.specs.Cmp.{eq_by_cmp_equiv}
 use Rattle.eden_value.specs.Datum.{Datum}
 use Rattle.eden_value.specs.Caps.{caps_of}
@@ -88,8 +88,8 @@ replied-names : (D : List Cap) (w : World) (e : Entry) (later : World) (k a b : 
     (cond (with_item (call_at w.traffic k) (λ c. c.open_) false) ((name, meaning_of_reply why values) ∷ w.names) w.names)
 replied-names D w e later k a b name why values allowed h = go (call_at w.traffic k) allowed.delivered
   where
-    Given-to : Option Call → List Cap
-    Given-to o = granted_to the_shell (with_item o (λ c. cond (is_ok why && c.open_) ((holder_of c.asker, caps_of values) ∷ []) []) [])
+    Argument-to : Option Call → List Cap
+    Argument-to o = granted_to the_shell (with_item o (λ c. cond (is_ok why && c.open_) ((holder_of c.asker, caps_of values) ∷ []) []) [])
 
     shell : (a : Asker) → Some name ≡ shell_name a → same_holder the_shell (holder_of a) ≡ true
     shell (Shell said) e = refl
@@ -104,7 +104,7 @@ replied-names D w e later k a b name why values allowed h = go (call_at w.traffi
     one c e true at = names-with _ name (meaning_of_reply why values) w.names (meant why c e) (names-more D _ w.names h)
     one c e false at = names-more D _ w.names h
 
-    go : (o : Option Call) → IsSomeAnd o (λ c. (c.place ≡ answered why values) × (Some name ≡ shell_name c.asker)) → NamesHold (D ++ Given-to o) (cond (with_item o (λ c. c.open_) false) ((name, meaning_of_reply why values) ∷ w.names) w.names)
+    go : (o : Option Call) → IsSomeAnd o (λ c. (c.place ≡ answered why values) × (Some name ≡ shell_name c.asker)) → NamesHold (D ++ Argument-to o) (cond (with_item o (λ c. c.open_) false) ((name, meaning_of_reply why values) ∷ w.names) w.names)
     go None x = absurd x
     go (Some c) x = one c x.1 c.open_ refl
 
@@ -342,9 +342,9 @@ passive-caps u (e ∷ es) = go (e.0.serial == 0) (passive-caps u es)
     go true h = h
     go false h = found (eq_by_cmp uid_cmp u e.0) h
 
-nothing-held : (n m size : ℕ) (D : Uid → List Cap) (found : Result (List (Uid × List ℕ)) ℕ) (overfull : Bool) (written : List ℕ) → Holds m D (node_from n size found overfull written).ejects
-nothing-held n m size D (Ok kept) overfull written = record { at = λ u number. subst (λ cs. AllBelow cs (D u)) (sym (passive-caps u kept)) tt }
-nothing-held n m size D (Err place) overfull written = record { at = λ u number. tt }
+nothing-held : (n m size : ℕ) (D : Uid → List Cap) (found : Result (List (Uid × List ℕ)) ℕ) (overfull : Bool) (ledger : List ℕ) → Holds m D (node_from n size found overfull ledger).ejects
+nothing-held n m size D (Ok kept) overfull ledger = record { at = λ u number. subst (λ cs. AllBelow cs (D u)) (sym (passive-caps u kept)) tt }
+nothing-held n m size D (Err place) overfull ledger = record { at = λ u number. tt }
 
 opening-holds : (layout : Layout) (D : Uid → List Cap) (images : List (ℕ × List ℕ)) (n : ℕ) (it : Node) → value_at nat_cmp n (map (λ d. (d.0, node_of layout d)) images) ≡ Some it → Holds n D it.ejects
 opening-holds layout D [] n it is = absurd (cc is)

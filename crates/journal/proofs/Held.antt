@@ -9,7 +9,7 @@ use Rattle.capability.specs.declared.Uid.{Uid}
 use Rattle.capability.specs.declared.Cap.{Cap}
 use Rattle.capability.specs.declared.TheConstants.{BODY_LIMIT}
 use Rattle.capability.specs.Capability.{full}
-use Rattle.capability.specs.Uids.{uid_cmp_total, uid_cmp-IsAntisymmetric}
+use Rattle.capability.proofs.Uids.{uid_cmp_total, uid_cmp-IsAntisymmetric}
 use Rattle.eden_value.specs.Datum.{Datum}
 use Rattle.eden_value.specs.Caps.{caps_of}
 use Rattle.eden_value.specs.declared.status.Status.{Status}
@@ -18,7 +18,7 @@ use Rattle.eden_codec.specs.declared.rep.Rep.{Rep}
 use Rattle.eden_codec.specs.Spelling.{spelling}
 use Rattle.eden_codec.specs.Reading.{reading}
 use Rattle.eden_model.specs.Map.{with_item, rest, uid_cmp, value_at, each_value}
-use Rattle.eden_model.specs.Laws.{eq-same}
+use Rattle.eden_model.proofs.Laws.{eq-same}
 use Rattle.eden_model.specs.Traffic.{Traffic, held, call_at, changed_call, at_place, taken, replied, all_replied, orphaned, next_call, with_call, without_node}
 use Rattle.eden_model.specs.declared.Asker.{Asker}
 use Rattle.eden_model.specs.declared.Asker.TheVariants.{Shell, Eject as Process}
@@ -331,7 +331,7 @@ holds-doubted : {n : ℕ} {D : Uid → List Cap} (r : StoreRequest) (s : Site) �
 holds-doubted r s h = holds-on_eject r.uid (λ e. record e { doubt = Some r.change }) s (λ e is x. x) h
 
 holds-stored : {n : ℕ} {D : Uid → List Cap} (r : StoreRequest) (s : Site) → HoldsAt n D s → HoldsAt n D (stored r s)
-holds-stored r s h = holds-on_node (λ it. record it { written = written_with s.layout r.change it.written }) (on_eject r.uid (λ e. record e { kept = kept_of r.change; doubt = None }) s)
+holds-stored r s h = holds-on_node (λ it. record it { ledger = written_with s.layout r.change it.ledger }) (on_eject r.uid (λ e. record e { kept = kept_of r.change; doubt = None }) s)
     (holds-on_eject r.uid (λ e. record e { kept = kept_of r.change; doubt = None }) s (λ e is x. x) h)
 
 holds-worked : {n : ℕ} {D : Uid → List Cap} (w : Work) (r : StoreRequest) (how : RequestEnd) (p : Option Pick) (s : Site) → HoldsAt n D s → HoldsAt n D (worked w r how p s)

@@ -14,8 +14,8 @@ use Rattle.eden_model.specs.Map.{with_item, uid_cmp, value_at}
 use Rattle.eden_model.specs.Traffic.{Traffic, all_replied, orphaned, next_call, with_call}
 use Rattle.eden_model.specs.declared.Asker.TheVariants.{Eject as Process}
 use Rattle.eden_model.specs.Crew.{Invocation, outside, set_waits, locked, left, waited, signalled, running}
-use Rattle.capability.specs.Uids.{uid_cmp_total, uid_cmp-IsAntisymmetric}
-use Rattle.eden_model.specs.Laws.{eq-same}
+use Rattle.capability.proofs.Uids.{uid_cmp_total, uid_cmp-IsAntisymmetric}
+use Rattle.eden_model.proofs.Laws.{eq-same}
 use Rattle.epl_syntax.specs.declared.effect.Answer.{Answer}
 use Rattle.epl_syntax.specs.declared.effect.Answer.TheVariants.{Code, Created as Made}
 use Rattle.epl_syntax.specs.declared.effect.Effect.{Effect}

@@ -12,8 +12,8 @@ use Rattle.eden_model.specs.declared.Asker.{Asker}
 use Rattle.eden_model.specs.declared.Asker.TheVariants.{Shell, Eject as Process}
 use Rattle.eden_model.specs.Map.{with_item, uid_cmp, value_at, each_value, rest}
 use Rattle.eden_model.specs.Traffic.{held, call_at, changed_call, at_place, taken, replied, without_node}
-use Rattle.capability.specs.Uids.{uid_cmp-IsAntisymmetric}
-use Rattle.eden_model.specs.Laws.{eq-same}
+use Rattle.capability.proofs.Uids.{uid_cmp-IsAntisymmetric}
+use Rattle.eden_model.proofs.Laws.{eq-same}
 use Rattle.epl_syntax.specs.declared.effect.Answer.TheVariants.{Reply as Told, Code}
 use Rattle.passive_store.specs.declared.store.Pick.{Pick}
 use Rattle.passive_store.specs.declared.store.Pick.TheVariants as pick
@@ -124,7 +124,7 @@ kept-stored u r s = go (eq_by_cmp uid_cmp u r.uid) refl
   where
     go : (b : Bool) → eq_by_cmp uid_cmp u r.uid ≡ b → (kept_in (stored r s) u ≡ kept_in s u) ⊎ (r.uid ≡ u)
     go true is = inr (sym (eq-same uid_cmp uid_cmp-IsAntisymmetric u r.uid is))
-    go false is = inl (kept-on_node u (λ it. record it { written = written_with s.layout r.change it.written }) (λ it. refl) (on_eject r.uid (λ e. record e { kept = kept_of r.change; doubt = None }) s)
+    go false is = inl (kept-on_node u (λ it. record it { ledger = written_with s.layout r.change it.ledger }) (λ it. refl) (on_eject r.uid (λ e. record e { kept = kept_of r.change; doubt = None }) s)
         ∙ rw (eject-on_eject r.uid u (λ e. record e { kept = kept_of r.change; doubt = None }) s, is) refl)
 
 -- how the end of a request may change what is kept of u

@@ -9,7 +9,7 @@ use Rattle.eden_value.specs.Datum.{Datum}
 use Rattle.eden_model.specs.Map.{with_item, first, value_at, changed_at, where_key}
 use Rattle.eden_model.specs.Crew.{Waiting, nothing, outside, Process, Monitor, Crew, with_waits, set_waits, set_waits_of, set_monitor, set_condition, match_holder, locked_by, locked, left, waited, queued_at, signalled, least_free, is_held_by, leave_held, entry, condition}
 use Rattle.eden_model.specs.Traffic.{Traffic, Call}
-use Rattle.eden_model.specs.Laws.{value-changed}
+use Rattle.eden_model.proofs.Laws.{value-changed}
 use Rattle.epl_syntax.specs.declared.effect.Answer.{Answer}
 use Rattle.epl_syntax.specs.declared.types.Edentype.{Edentype}
 use Rattle.epl_syntax.specs.declared.types.Edentype.TheVariants.{Cell}
@@ -19,10 +19,7 @@ use Rattle.eden_value.specs.declared.status.Status.{Status}
 use Rattle.journal.specs.World.{Task, Active}
 use Rattle.journal.specs.Ejects.{on_crew, told, fresh}
 use Rattle.journal.specs.Processes.{invocation, with_start, turned, without_process, waits_or_told}
-
-pub record IsManned (it : Active) : Type 0 where
-  pub numbered : T (is_sorted nat_cmp it.crew.processes)
-  pub tasked : (p : ℕ) → is_some (value_at nat_cmp p it.crew.processes) ≡ true → is_some (value_at nat_cmp p it.tasks) ≡ true
+use Rattle.journal.specs.Sites.{IsManned}
 
 -- 1. Changes that leave the numbers of a crew as they are
 
@@ -40,7 +37,7 @@ below-waits : (k p : ℕ) (w : Waiting) (es : List (ℕ × Process)) → below_a
 below-waits k p w [] = refl
 below-waits k p w (e ∷ es) = ap (λ b. is_lt (nat_cmp k e.0) && b) (below-waits k p w es)
 
-sorted-waits : (p : ℕ) (w : Waiting) (es : List (ℕ × Process)) → is_sorted nat_cmp (map (with_waits p w) es) ≡ is_sorted nat_cmp es
+pub sorted-waits : (p : ℕ) (w : Waiting) (es : List (ℕ × Process)) → is_sorted nat_cmp (map (with_waits p w) es) ≡ is_sorted nat_cmp es
 sorted-waits p w [] = refl
 sorted-waits p w (e ∷ es) = λ i. below-waits e.0 p w es i && sorted-waits p w es i
 

@@ -14,7 +14,7 @@ use Rattle.eden_value.specs.declared.status.Status.{Status}
 use Rattle.eden_value.specs.declared.status.Status.TheVariants as status
 use Rattle.eden_codec.specs.Spelling.{spelling, values_size}
 use Rattle.eden_model.specs.Map.{with_item, rest, value_at, each_value}
-use Rattle.eden_model.specs.Laws.{value-changed}
+use Rattle.eden_model.proofs.Laws.{value-changed}
 use Rattle.eden_model.specs.Traffic.{Place, asked, held, answered, done as over, Traffic, Call, call_at, target_station, next_call, changed_call, at_place, closed, sent, taken, replied, all_replied, new_call, with_call, asks, orphaned, in_transit, touches, crashed_call, on_link, cut_call, without_node, without_link}
 use Rattle.eden_model.specs.declared.Asker.{Asker}
 use Rattle.eden_model.specs.declared.Asker.TheVariants.{Shell, Eject as Process}
@@ -44,10 +44,7 @@ use Rattle.journal.specs.Stores.{Work, syncs, reads, unkept, without_room, calls
 use Rattle.journal.specs.Starts.{start_of, misfits_answered, activated, start_settled, activation_turn}
 use Rattle.journal.specs.Boots.{booted_node, boot_turn}
 use Rattle.journal.specs.Step.{site_turn}
-
--- Q holds of the node of each call that is asked
-pub record AskedAll (Q : ℕ → Type 0) (t : Traffic) : Type 0 where
-  pub at : (k : ℕ) (c : Call) → call_at t k ≡ Some c → c.place ≡ asked → Q (target_station c)
+use Rattle.journal.specs.Sites.{AskedAll}
 
 -- 1. Changes of the traffic
 
@@ -310,7 +307,7 @@ asks-doubted : {Q : ℕ → Type 0} (r : StoreRequest) (s : Site) → Asks Q s �
 asks-doubted r s h = asks-on_eject r.uid (λ e. record e { doubt = Some r.change }) s h
 
 asks-stored : {Q : ℕ → Type 0} (r : StoreRequest) (s : Site) → Asks Q s → Asks Q (stored r s)
-asks-stored r s h = asks-on_node (λ it. record it { written = written_with s.layout r.change it.written }) (on_eject r.uid (λ e. record e { kept = kept_of r.change; doubt = None }) s)
+asks-stored r s h = asks-on_node (λ it. record it { ledger = written_with s.layout r.change it.ledger }) (on_eject r.uid (λ e. record e { kept = kept_of r.change; doubt = None }) s)
     (asks-on_eject r.uid (λ e. record e { kept = kept_of r.change; doubt = None }) s h)
 
 asks-worked : {Q : ℕ → Type 0} (w : Work) (r : StoreRequest) (how : RequestEnd) (p : Option Pick) (s : Site) → Asks Q s → Asks Q (worked w r how p s)

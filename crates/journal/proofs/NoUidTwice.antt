@@ -8,19 +8,21 @@ use Rattle.std.specs.FinMap.{nat_cmp-IsAntisymmetric}
 use Rattle.std.specs.FinMap.Entries.{is_sorted}
 use Rattle.capability.specs.declared.Uid.{Uid}
 use Rattle.eden_model.specs.Map.{uid_cmp, value_at}
-use Rattle.eden_model.specs.Laws.{eq-same}
+use Rattle.eden_model.proofs.Laws.{eq-same}
 use Rattle.eden_disk.specs.Told.{contents}
 use Rattle.passive_store.specs.Kept.{Layout, Kept}
+use Rattle.passive_store.specs.Layout.{IsLayout}
 use Rattle.journal.specs.declared.command.Script.{Script}
 use Rattle.journal.specs.declared.event.Entry.{Entry}
 use Rattle.journal.specs.World.{World, Node, Eject}
-use Rattle.journal.specs.Opening.{IsFitMap, IsFitImage, entries_of, found_in, node_of, node_from, passive, passive_entry}
+use Rattle.journal.specs.Opening.{entries_of, found_in, node_of, node_from, passive, passive_entry}
 use Rattle.journal.specs.Run.{EachStep}
 use Rattle.journal.specs.Standing.{DiskRun}
-use Rattle.journal.specs.LegalRun.{IsNew, created_by, AreHandedIn, numbered, images, opening_world, run_of}
+use Rattle.journal.specs.LegalRun.{IsNew, created_by, IsHandedIn, AreHandedIn, numbered, images, opening_world, run_of}
 use Rattle.journal.specs.Laws.{Begins}
 use Rattle.journal.proofs.Uids.{Fit, OfNode, AllFit, CreatedIn}
 use Rattle.journal.proofs.Runs.{world-booting}
+use Rattle.journal.proofs.HandedIn.{IsOwnMap, own-map}
 use Rattle.journal.proofs.Ordered.{order-passive}
 use Rattle.journal.proofs.UidRuns.{each-uid-new}
 
@@ -46,15 +48,15 @@ in-order layout n image kept is = go (layout.map_of n image) is
     go (Ok k) same = let e : finite.entries k.bodies ≡ kept = cc same in subst (λ es. T (is_sorted uid_cmp es)) e (finite.entries_sorted k.bodies)
     go (Err place) same = absurd (cc same)
 
-fit-node : (n size : ℕ) (found : Result (List (Uid × List ℕ)) ℕ) (overfull : Bool) (written : List ℕ) → ((kept : List (Uid × List ℕ)) → found ≡ Ok kept → IsFitMap n kept × T (is_sorted uid_cmp kept))
-    → Fit (OfNode (CreatedIn []) n) (node_from n size found overfull written)
-fit-node n size (Ok kept) overfull written fits = let x = fits kept refl in let fit : IsFitMap n kept = x.0 in record {
+fit-node : (n size : ℕ) (found : Result (List (Uid × List ℕ)) ℕ) (overfull : Bool) (ledger : List ℕ) → ((kept : List (Uid × List ℕ)) → found ≡ Ok kept → IsOwnMap n kept × T (is_sorted uid_cmp kept))
+    → Fit (OfNode (CreatedIn []) n) (node_from n size found overfull ledger)
+fit-node n size (Ok kept) overfull ledger fits = let x = fits kept refl in let fit : IsOwnMap n kept = x.0 in record {
   doubt_is_next = tt;
   in_order = order-passive kept x.1;
   behind = λ u there. record { epoch_given = fit.epochs u (kept-there u kept there); serial_given = λ same. fit.serials u (kept-there u kept there) };
   all_given = λ u g. absurd g.1;
 }
-fit-node n size (Err place) overfull written fits = record { doubt_is_next = tt; in_order = tt; behind = λ u there. absurd (cc there); all_given = λ u g. absurd g.1 }
+fit-node n size (Err place) overfull ledger fits = record { doubt_is_next = tt; in_order = tt; behind = λ u there. absurd (cc there); all_given = λ u g. absurd g.1 }
 
 -- each node is that of its disk
 pub disk-node : (layout : Layout) (n : ℕ) (it : Node) (disks : List (ℕ × DiskRun)) → value_at nat_cmp n (map (λ d. (d.0, node_of layout d)) (images disks)) ≡ Some it
@@ -72,21 +74,21 @@ disk-node layout n it (d ∷ ds) is = go (eq_by_cmp nat_cmp n d.0) refl (disk-no
         rw b mine
     go false b later = rw b (later (subst (λ c. cond c (Some (node_of layout (d.0, (contents d.1.before).now))) (value_at nat_cmp n (map (λ d. (d.0, node_of layout d)) (images ds))) ≡ Some it) b is))
 
-fit-opening : (layout : Layout) (disks : List (ℕ × DiskRun)) → ((n : ℕ) (d : DiskRun) → value_at nat_cmp n disks ≡ Some d → IsFitImage layout n (contents d.before).now)
+pub fit-opening : (layout : Layout) (disks : List (ℕ × DiskRun)) → IsLayout layout → ((n : ℕ) (d : DiskRun) → value_at nat_cmp n disks ≡ Some d → IsHandedIn layout n d)
     → (n : ℕ) (it : Node) → value_at nat_cmp n (map (λ d. (d.0, node_of layout d)) (images disks)) ≡ Some it → Fit (OfNode (CreatedIn []) n) it
-fit-opening layout disks fits n it is = go (value_at nat_cmp n disks) refl (disk-node layout n it disks is)
+fit-opening layout disks lays fits n it is = go (value_at nat_cmp n disks) refl (disk-node layout n it disks is)
   where
     go : (o : Option DiskRun) → value_at nat_cmp n disks ≡ o → IsSomeAnd o (λ d. node_of layout (n, (contents d.before).now) ≡ it) → Fit (OfNode (CreatedIn []) n) it
     go None at x = absurd x
     go (Some d) at x = subst (Fit (OfNode (CreatedIn []) n)) x (fit-node n _ (found_in layout n (contents d.before).now) _ _
-        (λ kept found. ((fits n d at).map kept found, in-order layout n (contents d.before).now kept found)))
+        (λ kept found. (own-map layout n d lays (fits n d at) kept found, in-order layout n (contents d.before).now kept found)))
 
 -- 2. Every history of every script
 
-pub no-uid-twice : (layout : Layout) (script : Script) (disks : List DiskRun) (history : List Entry) → AreHandedIn layout disks → Begins layout script disks history
+pub no-uid-twice : (layout : Layout) (script : Script) (disks : List DiskRun) (history : List Entry) → IsLayout layout → AreHandedIn layout disks → Begins layout script disks history
     → EachStep (λ past s. IsNew s.world past (created_by s.entry.event)) [] (run_of (opening_world layout script disks) script history)
-no-uid-twice layout script disks history fits follows = each-uid-new w script.nodes script.commands history
-    (subst (AllFit (CreatedIn [])) (sym (world-booting 1 script.nodes w script.commands)) (fit-opening layout (numbered disks) (λ n d at. (fits n d at).fit))) follows
+no-uid-twice layout script disks history lays fits follows = each-uid-new w script.nodes script.commands history
+    (subst (AllFit (CreatedIn [])) (sym (world-booting 1 script.nodes w script.commands)) (fit-opening layout (numbered disks) lays fits)) follows
   where
     w : World
     w = opening_world layout script disks

@@ -11,7 +11,7 @@ use Rattle.eden_model.specs.Map.{with_item, uid_cmp, value_at, changed_at}
 use Rattle.eden_model.specs.Traffic.{processes_of, broken_by_node, broken_by_link, without_link}
 use Rattle.std.proofs.lemmas.Bool.{eq-eqb}
 use Rattle.epl_syntax.specs.declared.effect.Answer.TheVariants.{Reply as Told}
-use Rattle.eden_model.specs.Laws.{eq-same, value-changed}
+use Rattle.eden_model.proofs.Laws.{eq-same, value-changed}
 use Rattle.std.specs.Cmp.{nat_cmp_total}
 use Rattle.eden_value.specs.declared.status.Status.{Status}
 use Rattle.epl_syntax.specs.declared.types.Edentype.{Edentype}

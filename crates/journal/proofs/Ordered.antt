@@ -5,15 +5,13 @@ use Rattle.std.specs.Option.{option_map}
 use Rattle.std.specs.Ordering.{eq_by_cmp, is_lt}
 use Rattle.std.specs.FinMap.Entries.{is_sorted, below_all, is_sorted-put, same_entries}
 use Rattle.capability.specs.declared.Uid.{Uid}
-use Rattle.capability.specs.Uids.{uid_cmp_total, uid_cmp-IsAntisymmetric}
+use Rattle.capability.proofs.Uids.{uid_cmp_total, uid_cmp-IsAntisymmetric}
 use Rattle.eden_model.specs.Map.{with_item, uid_cmp, value_at, put_at, changed_at, each_value}
-use Rattle.eden_model.specs.Laws.{eq-same, value-changed}
+use Rattle.eden_model.proofs.Laws.{eq-same, value-changed}
 use Rattle.journal.specs.World.{Eject, Active}
 use Rattle.journal.specs.Ejects.{with_active, on_active, is_there}
 use Rattle.journal.specs.Opening.{passive, passive_entry}
-
-abbrev pub InOrder : List (Uid × Eject) → Type 0
-InOrder es = T (is_sorted uid_cmp es)
+use Rattle.journal.specs.Sites.{InOrder}
 
 -- 1. A change of values alone
 

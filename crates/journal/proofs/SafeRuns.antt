@@ -9,7 +9,7 @@ use Rattle.capability.specs.declared.Uid.{Uid}
 use Rattle.eden_value.specs.declared.status.Status.TheVariants as status
 use Rattle.eden_model.specs.Map.{with_item, uid_cmp, value_at, changed_at}
 use Rattle.eden_model.specs.Traffic.{processes_of, broken_by_node}
-use Rattle.eden_model.specs.Laws.{value-changed}
+use Rattle.eden_model.proofs.Laws.{value-changed}
 use Rattle.epl_syntax.specs.declared.effect.Answer.TheVariants.{Reply as Told}
 use Rattle.journal.specs.declared.command.Command.{Command}
 use Rattle.journal.specs.declared.event.Key.{Key}

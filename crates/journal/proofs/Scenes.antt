@@ -1,53 +1,46 @@
 -- Words for short histories: blank nodes with a log, and entries.
-use Rattle.std.proofs.Common.{ℕ, false, List, [], ◌∷◌, None, codes, pos}
-use Rattle.eden_value.specs.Datum.{Datum, number}
-use Rattle.capability.specs.declared.Uid.{Uid}
-use Rattle.passive_store.specs.LogState.{log_layout}
-use Rattle.epl_syntax.specs.declared.types.Edentype.TheVariants.{Cell}
-use Rattle.journal.specs.declared.command.Ref.{Ref}
-use Rattle.journal.specs.declared.event.Event.{Event}
+use Rattle.std.proofs.Common.{ℕ, zero, suc, ◌+◌, false, List, [], ◌∷◌, None}
+use Rattle.passive_store.specs.LogLayout.{log_layout}
+use Rattle.epl_syntax.specs.Meaning.{native_types}
 use Rattle.journal.specs.declared.event.Entry.{Entry}
 use Rattle.journal.specs.World.{World, Node}
+use Rattle.journal.specs.Opening.{last_serial_of_all}
+pub use Rattle.journal.specs.RefusedRuns.{plain, on_disk, c_uid, ref_c, int}
 
-abbrev pub blank_node : Node
-blank_node = record {
-  size = 1048576;
+-- a node whose disk has this size, and nothing on it
+abbrev pub blank_node_of : ℕ → Node
+blank_node_of size = record {
+  size = size;
   damaged = None;
   overfull = false;
   up = false;
   epoch = None;
   epoch_doubt = None;
-  last_serial = 0;
+  last_serial = last_serial_of_all;
   clock = None;
   requests = [];
   synced = false;
-  written = [];
+  ledger = [];
   ejects = [];
 }
 
-abbrev pub blank : List (ℕ × Node) → World
-blank nodes = record { types = Cell ∷ []; layout = log_layout; nodes = nodes; traffic = record { calls = []; transit = [] }; cuts = []; names = []; turns = 0; last = None }
+abbrev pub blank_node : Node
+blank_node = blank_node_of 1048576
+
+-- so many blank nodes, numbered from k on
+abbrev pub blank_nodes : ℕ → ℕ → List (ℕ × Node)
+blank_nodes k zero = []
+blank_nodes k (suc n) = (k, blank_node) ∷ blank_nodes (k + 1) n
+
+-- the world of blank nodes; `Blank` has the proof that blank disks open as it
+abbrev pub blank_world : ℕ → World
+blank_world n = record { types = native_types; layout = log_layout; nodes = blank_nodes 1 n; traffic = record { calls = []; transit = [] }; cuts = []; names = []; turns = 0; last = None }
 
 abbrev pub one_node : World
-one_node = blank ((1, blank_node) ∷ [])
+one_node = blank_world 1
 
-abbrev pub plain : Event → Entry
-plain e = record { event = e; node = 0; clock = 0; broken = [] }
-
-abbrev pub on_disk : ℕ → ℕ → Event → Entry
-on_disk n c e = record { event = e; node = n; clock = c; broken = [] }
+abbrev pub two_blank_nodes : World
+two_blank_nodes = blank_world 2
 
 abbrev pub breaking : List (List ℕ) → Entry → Entry
 breaking names e = record e { broken = names }
-
-abbrev pub c_uid : Uid
-c_uid = record { node = 1; epoch = 1; serial = 1 }
-
-abbrev pub ref_c : Ref
-ref_c = record { name = codes "c"; result = 0 }
-
-abbrev pub int : ℕ → Datum
-int n = number (pos n)
-
-abbrev pub two_blank_nodes : World
-two_blank_nodes = blank ((1, blank_node) ∷ (2, blank_node) ∷ [])

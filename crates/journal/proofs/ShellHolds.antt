@@ -9,7 +9,7 @@ use Rattle.std.proofs.lemmas.Cmp.{tied_itself}
 use Rattle.capability.specs.declared.Cap.{Cap}
 use Rattle.capability.specs.declared.Rights.{Rights}
 use Rattle.capability.specs.Capability.{restricted}
-use Rattle.capability.specs.Laws.{below_through, restricted_below}
+use Rattle.capability.proofs.Laws.{below_through, restricted_below}
 use Rattle.eden_value.specs.Datum.{Datum, Data, number, truth, text, cap, list, no_data, data_and, items_of}
 use Rattle.eden_value.specs.Caps.{caps, data_caps, caps_of}
 use Rattle.eden_value.specs.Limits.{depths}
@@ -18,7 +18,7 @@ use Rattle.eden_value.specs.declared.status.Status.{Status}
 use Rattle.eden_model.specs.Map.{with_item, same_text}
 use Rattle.eden_model.specs.declared.Asker.TheVariants.{Shell}
 use Rattle.eden_model.specs.Traffic.{Traffic, call_at, new_call, with_call}
-use Rattle.journal.specs.Given.{Given, Givens, plain, named, several, no_givens, given_and, givens_of}
+use Rattle.journal.specs.Argument.{Argument, Arguments, plain, named, several, no_arguments, argument_and, arguments_of}
 use Rattle.journal.specs.declared.command.Ref.{Ref}
 use Rattle.journal.specs.World.{World, Meaning, capability, results, nothing}
 use Rattle.journal.specs.References.{meaning_of, value_of_meaning, value_at_name, present_cap, cap_at, value_of, values_of, args_of}
@@ -135,22 +135,22 @@ joined D (Some d) None ds is x y = absurd (cc is)
 joined D (Some d) (Some es) ds is x y = let same : data_and d es ≡ ds = cc is in subst (λ z. AllBelow (data_caps z) D) same (below-both (caps d) (data_caps es) D (x d refl) (y es refl))
 
 mutual
-  given-held : (w : World) (D : List Cap) → NamesHold D w.names → (g : Given) (d : Datum) → written_in g ≡ [] → value_of w g ≡ Some d → AllBelow (caps d) D
+  given-held : (w : World) (D : List Cap) → NamesHold D w.names → (g : Argument) (d : Datum) → written_in g ≡ [] → value_of w g ≡ Some d → AllBelow (caps d) D
   given-held w D h (plain x) d none is = let same : x ≡ d = cc is in subst (λ y. AllBelow (caps y) D) same (none-below (caps x) D none)
   given-held w D h (named name k) d none is = value-held w D h name k d is
   given-held w D h (several gs) d none is = listed D (values_of w gs) d is (λ ds at. givens-held w D h gs ds none at)
 
-  givens-held : (w : World) (D : List Cap) → NamesHold D w.names → (gs : Givens) (ds : Data) → written_in_each gs ≡ [] → values_of w gs ≡ Some ds → AllBelow (data_caps ds) D
-  givens-held w D h no_givens ds none is = let same : no_data ≡ ds = cc is in subst (λ y. AllBelow (data_caps y) D) same tt
-  givens-held w D h (given_and g gs) ds none is = joined D (value_of w g) (values_of w gs) ds is
+  givens-held : (w : World) (D : List Cap) → NamesHold D w.names → (gs : Arguments) (ds : Data) → written_in_each gs ≡ [] → values_of w gs ≡ Some ds → AllBelow (data_caps ds) D
+  givens-held w D h no_arguments ds none is = let same : no_data ≡ ds = cc is in subst (λ y. AllBelow (data_caps y) D) same tt
+  givens-held w D h (argument_and g gs) ds none is = joined D (value_of w g) (values_of w gs) ds is
       (λ d at. given-held w D h g d (empty-first (written_in g) (written_in_each gs) none) at) (λ es at. givens-held w D h gs es (empty-second (written_in g) (written_in_each gs) none) at)
 
 items-caps : (ds : Data) → caps_of (items_of ds) ≡ data_caps ds
 items-caps no_data = refl
 items-caps (data_and d ds) = ap (λ cs. caps d ++ cs) (items-caps ds)
 
-pub args-held : (w : World) (D : List Cap) → NamesHold D w.names → (gs : List Given) (ds : List Datum) → written_in_each (givens_of gs) ≡ [] → args_of w gs ≡ Some ds → AllBelow (caps_of ds) D
-args-held w D h gs ds none is = go (values_of w (givens_of gs)) is (λ es at. givens-held w D h (givens_of gs) es none at)
+pub args-held : (w : World) (D : List Cap) → NamesHold D w.names → (gs : List Argument) (ds : List Datum) → written_in_each (arguments_of gs) ≡ [] → args_of w gs ≡ Some ds → AllBelow (caps_of ds) D
+args-held w D h gs ds none is = go (values_of w (arguments_of gs)) is (λ es at. givens-held w D h (arguments_of gs) es none at)
   where
     one : (es : Data) (b : Bool) → cond b (Some (items_of es)) None ≡ Some ds → AllBelow (data_caps es) D → AllBelow (caps_of ds) D
     one es true e x = let same : items_of es ≡ ds = cc e in subst (λ y. AllBelow (caps_of y) D) same (subst (λ cs. AllBelow cs D) (sym (items-caps es)) x)

@@ -9,13 +9,13 @@ use Rattle.std.specs.FinMap.Entries.{find-put}
 use Rattle.capability.specs.declared.Uid.{Uid}
 use Rattle.capability.specs.declared.TheConstants.{BODY_LIMIT}
 use Rattle.capability.specs.Capability.{full}
-use Rattle.capability.specs.Uids.{uid_cmp_total, uid_cmp-IsAntisymmetric}
+use Rattle.capability.proofs.Uids.{uid_cmp_total, uid_cmp-IsAntisymmetric}
 use Rattle.eden_value.specs.Datum.{Datum}
 use Rattle.eden_value.specs.declared.status.Status.{Status}
 use Rattle.eden_value.specs.declared.status.Status.TheVariants as status
 use Rattle.eden_codec.specs.Spelling.{spelling}
 use Rattle.eden_model.specs.Map.{with_item, first, rest, uid_cmp, same_uid, value_at, each_value}
-use Rattle.eden_model.specs.Laws.{eq-same}
+use Rattle.eden_model.proofs.Laws.{eq-same}
 use Rattle.eden_model.specs.Traffic.{Traffic, Call, held, call_at, changed_call, at_place, taken, replied, all_replied, orphaned, next_call, with_call, without_node}
 use Rattle.eden_model.specs.declared.Asker.{Asker}
 use Rattle.eden_model.specs.declared.Asker.TheVariants.{Shell, Eject as Process}
@@ -47,33 +47,14 @@ use Rattle.journal.specs.Stores.{Work, syncs, reads, unkept, without_room, calls
 use Rattle.journal.specs.Starts.{start_of, misfits_answered, activated, start_settled, activation_turn}
 use Rattle.journal.specs.Boots.{booted_node, boot_turn}
 use Rattle.journal.specs.Step.{AllowsAt, IsActiveAnd, site_turn}
+use Rattle.journal.specs.Sites.{IsManned, AllUnmade, AllThere, MannedEject, HasLeft, IsSound, Sound}
 use Rattle.journal.proofs.Frame.{eject-on_eject}
 use Rattle.journal.proofs.KeptTurns.{value-each}
-use Rattle.journal.proofs.Changes.{AllUnmade, AllThere}
 use Rattle.journal.proofs.ChangeLaw.{all-there, there-changed, there-on_eject, there-more, rest-more, without_one, unmade-without, there-without, rest-without, rest-unmade}
 use Rattle.journal.proofs.StoreLaw.{requests-doubted}
 use Rattle.journal.proofs.EveryNode.{IsKeptAt, next-following}
-use Rattle.journal.proofs.Ordered.{InOrder, order-put, order-changed, order-each}
-use Rattle.journal.proofs.Manned.{IsManned, manned-crew, manned-told, manned-turned, manned-waits_or_told, manned-start, manned-without, manned-fresh, same-waits, same-locked, same-left, same-waited, same-signalled}
-
--- the active part, where there is one
-abbrev pub MannedEject : Eject → Type 0
-MannedEject e = IfSome e.active IsManned
-
--- the first request has a device call left
-abbrev pub HasLeft : ℕ → List StoreRequest → Type 0
-HasLeft size rs = IfSome (first rs) (λ r. r.made + 1 ≤ 2 * (size / 1024) + 4)
-
-pub record IsSound (n size : ℕ) (rs : List StoreRequest) (es : List (Uid × Eject)) : Type 0 where
-  pub in_order : InOrder es
-  pub of_node : (u : Uid) → is_some (value_at uid_cmp u es) ≡ true → u.node ≡ n
-  pub manned : (u : Uid) (e : Eject) → value_at uid_cmp u es ≡ Some e → MannedEject e
-  pub there : AllThere rs es
-  pub unmade : AllUnmade (rest rs)
-  pub call_left : HasLeft size rs
-
-abbrev pub Sound : ℕ → Node → Type 0
-Sound n it = IsSound n it.size it.requests it.ejects
+use Rattle.journal.proofs.Ordered.{order-put, order-changed, order-each}
+use Rattle.journal.proofs.Manned.{manned-crew, manned-told, manned-turned, manned-waits_or_told, manned-start, manned-without, manned-fresh, same-waits, same-locked, same-left, same-waited, same-signalled}
 
 -- 1. The primitives
 
@@ -365,7 +346,7 @@ sound-part {n = n} r s is left h = sound-on_node (λ it. record it { requests = 
     (subst (λ size. r.made + 2 ≤ 2 * (size / 1024) + 4) (sym (size-doubted r s)) left) (sound-doubted r s h))
 
 sound-stored : {n : ℕ} (r : StoreRequest) (s : Site) → Sound n s.node → Sound n (stored r s).node
-sound-stored r s h = sound-on_node (λ it. record it { written = written_with s.layout r.change it.written }) (on_eject r.uid (λ e. record e { kept = kept_of r.change; doubt = None }) s)
+sound-stored r s h = sound-on_node (λ it. record it { ledger = written_with s.layout r.change it.ledger }) (on_eject r.uid (λ e. record e { kept = kept_of r.change; doubt = None }) s)
     (sound-on_eject r.uid (λ e. record e { kept = kept_of r.change; doubt = None }) s (λ e is m. m) h)
 
 sound-worked : {n : ℕ} (w : Work) (r : StoreRequest) (how : RequestEnd) (p : Option Pick) (s : Site) → first_request s.node ≡ Some r → HasCallLeft (makes_own_call w) how r s.node → Sound n s.node → Sound n (worked w r how p s).node

@@ -11,7 +11,7 @@ use Rattle.eden_value.specs.Datum.{Datum}
 use Rattle.eden_value.specs.declared.status.Status.{Status}
 use Rattle.eden_value.specs.declared.status.Status.TheVariants as status
 use Rattle.eden_model.specs.Map.{with_item, value_at, put_at, changed_at}
-use Rattle.eden_model.specs.Laws.{eq-same}
+use Rattle.eden_model.proofs.Laws.{eq-same}
 use Rattle.eden_model.specs.declared.Asker.TheVariants.{Shell}
 use Rattle.eden_model.specs.Traffic.{processes_of, broken_by_node, broken_by_link, without_link}
 use Rattle.epl_syntax.specs.declared.effect.Answer.TheVariants.{Reply as Told}
@@ -32,21 +32,12 @@ use Rattle.journal.specs.References.{cap_at}
 use Rattle.journal.specs.Commands.{AllowsAsked, AllowsCommand, asked, born_as, made, held_by, restricted_by, asked_by, ready_call, type_name_of}
 use Rattle.journal.specs.Step.{AllowsEvent, Allows, next, after_turn, after_command, happened, at_site, stopped_at, site_turn, counted, clocked, key_of}
 use Rattle.journal.specs.Run.{AllowsLookUp, looked_up, lookup_args}
+use Rattle.journal.specs.Sites.{Sound, AskedAll, InPlace, SoundWorld}
 use Rattle.journal.proofs.NoneRolledBack.{with_clock}
 use Rattle.journal.proofs.Runs.{nodes-looked_up}
-use Rattle.journal.proofs.EveryNode.{Everywhere, all-next, all-same_nodes}
-use Rattle.journal.proofs.Sound.{Sound, kept-sound}
-use Rattle.journal.proofs.Messages.{AskedAll, asked-received, asked-with_call, asked-without_link, none-refused, asks-tells, asks-born, asks-site_turn}
-
--- the nodes stand in ascending order, and are those that H names
-pub record InPlace (H : ℕ → Bool) (ns : List (ℕ × Node)) : Type 0 where
-  pub ordered : T (is_sorted nat_cmp ns)
-  pub present : (n : ℕ) → is_some (value_at nat_cmp n ns) ≡ H n
-
-pub record SoundWorld (H : ℕ → Bool) (w : World) : Type 0 where
-  pub place : InPlace H w.nodes
-  pub nodes : Everywhere Sound w
-  pub asked : AskedAll (λ n. H n ≡ true) w.traffic
+use Rattle.journal.proofs.EveryNode.{all-next, all-same_nodes}
+use Rattle.journal.proofs.Sound.{kept-sound}
+use Rattle.journal.proofs.Messages.{asked-received, asked-with_call, asked-without_link, none-refused, asks-tells, asks-born, asks-site_turn}
 
 -- 1. The nodes stay in their places
 

@@ -12,8 +12,8 @@ use Rattle.eden_value.specs.declared.status.Status.{Status}
 use Rattle.eden_value.specs.declared.status.Status.TheVariants as status
 use Rattle.eden_model.specs.Map.{with_item, uid_cmp, same_uid, value_at, changed_at}
 use Rattle.eden_model.specs.Traffic.{processes_of, broken_by_node, broken_by_link, without_link}
-use Rattle.capability.specs.Uids.{uid_cmp-IsAntisymmetric}
-use Rattle.eden_model.specs.Laws.{eq-same, value-changed}
+use Rattle.capability.proofs.Uids.{uid_cmp-IsAntisymmetric}
+use Rattle.eden_model.proofs.Laws.{eq-same, value-changed}
 use Rattle.epl_syntax.specs.declared.effect.Answer.TheVariants.{Reply as Told}
 use Rattle.epl_syntax.specs.declared.types.Edentype.{Edentype}
 use Rattle.epl_syntax.specs.Meaning.{type_of, first_values}

@@ -36,9 +36,9 @@ no-doubt u (e ∷ es) = go (e.0.serial == 0) (no-doubt u es)
     go true h = h
     go false h = found (eq_by_cmp uid_cmp u e.0) (value_at uid_cmp u (filter_map passive_entry es)) h
 
-rests : (n size : ℕ) (found : Result (List (Uid × List ℕ)) ℕ) (overfull : Bool) (written : List ℕ) → IsAtRest (node_from n size found overfull written)
-rests n size (Ok kept) overfull written = record { no_doubt = λ u. no-doubt u kept; no_request = refl }
-rests n size (Err place) overfull written = record { no_doubt = λ u. refl; no_request = refl }
+rests : (n size : ℕ) (found : Result (List (Uid × List ℕ)) ℕ) (overfull : Bool) (ledger : List ℕ) → IsAtRest (node_from n size found overfull ledger)
+rests n size (Ok kept) overfull ledger = record { no_doubt = λ u. no-doubt u kept; no_request = refl }
+rests n size (Err place) overfull ledger = record { no_doubt = λ u. refl; no_request = refl }
 
 all-rest : (layout : Layout) (disks : List (ℕ × List ℕ)) (n : ℕ) (it : Node) → value_at nat_cmp n (map (λ d. (d.0, node_of layout d)) disks) ≡ Some it → IsAtRest it
 all-rest layout [] n it is = absurd (cc is)

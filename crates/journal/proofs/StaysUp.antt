@@ -162,7 +162,7 @@ up-doubted : (r : StoreRequest) (s : Site) → IsUp s → IsUp (doubted r s)
 up-doubted r s h = up-on_eject r.uid (λ e. record e { doubt = Some r.change }) s h
 
 up-stored : (r : StoreRequest) (s : Site) → IsUp s → IsUp (stored r s)
-up-stored r s h = up-on_node (λ it. record it { written = written_with s.layout r.change it.written }) (on_eject r.uid (λ e. record e { kept = kept_of r.change; doubt = None }) s)
+up-stored r s h = up-on_node (λ it. record it { ledger = written_with s.layout r.change it.ledger }) (on_eject r.uid (λ e. record e { kept = kept_of r.change; doubt = None }) s)
     (up-on_eject r.uid (λ e. record e { kept = kept_of r.change; doubt = None }) s h)
 
 up-worked : (w : Work) (r : StoreRequest) (how : RequestEnd) (p : Option Pick) (s : Site) → is_stop how ≡ false → IsUp s → IsUp (worked w r how p s)

@@ -8,8 +8,8 @@ use Rattle.capability.specs.declared.Uid.{Uid}
 use Rattle.eden_value.specs.declared.status.Status.{Status}
 use Rattle.eden_value.specs.declared.status.Status.TheVariants as status
 use Rattle.eden_model.specs.Map.{with_item, or_else, uid_cmp, same_uid, value_at, each_value, rest, first}
-use Rattle.capability.specs.Uids.{uid_cmp_total, uid_cmp-IsAntisymmetric}
-use Rattle.eden_model.specs.Laws.{eq-same}
+use Rattle.capability.proofs.Uids.{uid_cmp_total, uid_cmp-IsAntisymmetric}
+use Rattle.eden_model.proofs.Laws.{eq-same}
 use Rattle.epl_syntax.specs.declared.effect.Answer.TheVariants.{Code}
 use Rattle.passive_store.specs.declared.store.Pick.{Pick}
 use Rattle.passive_store.specs.declared.store.Pick.TheVariants as pick
@@ -23,7 +23,8 @@ use Rattle.journal.specs.Crashes.{crashed}
 use Rattle.journal.specs.Stores.{Work, syncs, reads, unkept, without_room, calls, work_of, EndsSo, makes_own_call, more_made, doubted, tells_code, request_ended, removed, stored, done, worked, store_turn}
 use Rattle.journal.specs.Run.{Step}
 use Rattle.journal.specs.Kept.{picked, crashes, own_call, own_call_of, under_way, in_progress, cut_by, cut_short, acknowledged, with_pick, last_kept}
-use Rattle.journal.proofs.Changes.{Facts, facts_of, facts_in, begun_by, begun, AllUnmade, AllThere, IsTold}
+use Rattle.journal.specs.Sites.{AllUnmade, AllThere}
+use Rattle.journal.proofs.Changes.{Facts, facts_of, facts_in, begun_by, begun, IsTold}
 use Rattle.journal.proofs.Frame.{eject-on_eject}
 use Rattle.journal.proofs.KeptTurns.{value-each}
 use Rattle.journal.proofs.SafeRuns.{same-number}
@@ -80,7 +81,7 @@ keeps-tells_code : (v : Uid) (p : Option ℕ) (why : Status) (s : Site) → Keep
 keeps-tells_code v None why s = stays s
 keeps-tells_code v (Some p) why s = keeps-tells v p (Code why) s
 
-comes-ended : (r : StoreRequest) (why : Status) (s : Site) → Queued s → Comes s (request_ended r why s) (facts_in s) (λ u. None)
+pub comes-ended : (r : StoreRequest) (why : Status) (s : Site) → Queued s → Comes s (request_ended r why s) (facts_in s) (λ u. None)
 comes-ended r why s q = comes-then s (on_node (λ it. record it { requests = rest it.requests }) s) (request_ended r why s) (facts_in s) (λ u. None) (comes-rest s q)
     (keeps-tells_code r.uid r.process why (on_node (λ it. record it { requests = rest it.requests }) s))
 
@@ -88,7 +89,7 @@ keeps-removed : (c : Change) (v : Uid) (s : Site) → Keeps s (removed c v s)
 keeps-removed (body bytes) v s = stays s
 keeps-removed removal v s = and-then s (deactivated v s) _ (keeps-deactivated v s) (keeps-turned_away v status.Gone (deactivated v s))
 
-comes-done : (r : StoreRequest) (s : Site) → Queued s → Comes s (done r s) (facts_in s) (λ u. None)
+pub comes-done : (r : StoreRequest) (s : Site) → Queued s → Comes s (done r s) (facts_in s) (λ u. None)
 comes-done r s q = comes-then s (request_ended r status.Ok s) (done r s) (facts_in s) (λ u. None) (comes-ended r status.Ok s q) (keeps-removed r.change r.uid (request_ended r status.Ok s))
 
 -- one change, then another, of which the first has an equation for each
@@ -125,14 +126,14 @@ store_facts r f = (kept_of r.change, None)
 comes-doubted : (r : StoreRequest) (s : Site) → is_some (eject_in s r.uid) ≡ true → Queued s → Comes s (doubted r s) (changed_facts r.uid (doubt_facts r) s) (begun s.node.requests)
 comes-doubted r s held q = comes-on_eject r.uid (λ e. record e { doubt = Some r.change }) (doubt_facts r) (λ e. refl) s held q
 
-keeps-written : (f : List ℕ → List ℕ) (s : Site) → Keeps s (on_node (λ it. record it { written = f it.written }) s)
+keeps-ledger : (f : List ℕ → List ℕ) (s : Site) → Keeps s (on_node (λ it. record it { ledger = f it.ledger }) s)
 unfolding on_node
-keeps-written f s q = record { facts = λ u. refl; works = λ u. refl; there = λ u h. h; queue = q }
+keeps-ledger f s q = record { facts = λ u. refl; works = λ u. refl; there = λ u h. h; queue = q }
 
 comes-stored : (r : StoreRequest) (s : Site) → is_some (eject_in s r.uid) ≡ true → Queued s → Comes s (stored r s) (changed_facts r.uid (store_facts r) s) (begun s.node.requests)
 comes-stored r s held q = comes-then s (on_eject r.uid (λ e. record e { kept = kept_of r.change; doubt = None }) s) (stored r s) (changed_facts r.uid (store_facts r) s) (begun s.node.requests)
     (comes-on_eject r.uid (λ e. record e { kept = kept_of r.change; doubt = None }) (store_facts r) (λ e. refl) s held q)
-    (keeps-written (written_with s.layout r.change) (on_eject r.uid (λ e. record e { kept = kept_of r.change; doubt = None }) s))
+    (keeps-ledger (written_with s.layout r.change) (on_eject r.uid (λ e. record e { kept = kept_of r.change; doubt = None }) s))
 
 unmade-made : (rs : List StoreRequest) → AllUnmade (rest rs) → AllUnmade (rest (more_made rs))
 unmade-made [] all = tt

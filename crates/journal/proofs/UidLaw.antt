@@ -16,8 +16,8 @@ use Rattle.eden_model.specs.Traffic.{Traffic, held, call_at, changed_call, at_pl
 use Rattle.eden_model.specs.declared.Asker.{Asker}
 use Rattle.eden_model.specs.declared.Asker.TheVariants.{Shell, Eject as Process}
 use Rattle.eden_model.specs.Crew.{Invocation, outside, set_waits, locked, left, waited, signalled, running}
-use Rattle.capability.specs.Uids.{uid_cmp_total, uid_cmp-IsAntisymmetric}
-use Rattle.eden_model.specs.Laws.{eq-same}
+use Rattle.capability.proofs.Uids.{uid_cmp_total, uid_cmp-IsAntisymmetric}
+use Rattle.eden_model.proofs.Laws.{eq-same}
 use Rattle.epl_syntax.specs.declared.effect.Answer.{Answer}
 use Rattle.epl_syntax.specs.declared.effect.Answer.TheVariants.{Code, Reply as Told, Created as Made}
 use Rattle.epl_syntax.specs.declared.effect.Effect.{Effect}
@@ -40,9 +40,10 @@ use Rattle.journal.specs.Crashes.{fallen, down, crashed}
 use Rattle.journal.specs.Stores.{Work, syncs, reads, unkept, without_room, calls, work_of, more_made, doubted, tells_code, request_ended, removed, stored, done, worked, store_turn}
 use Rattle.journal.specs.Starts.{start_of, misfits_answered, awake_as, activated, start_settled, activation_turn}
 use Rattle.journal.specs.Opening.{epoch_or_zero}
+use Rattle.journal.specs.Sites.{InOrder}
 use Rattle.journal.proofs.Uids.{IsBehind, UidsFit, Fit}
 use Rattle.journal.proofs.EveryNode.{following_uid, next-following}
-use Rattle.journal.proofs.Ordered.{InOrder, order-put, order-changed, order-each}
+use Rattle.journal.proofs.Ordered.{order-put, order-changed, order-each}
 use Rattle.journal.proofs.Frame.{eject-on_eject}
 
 -- 1. The primitives
@@ -229,7 +230,7 @@ fit-doubted : {G : Uid → Type 0} (r : StoreRequest) (s : Site) → Fit G s.nod
 fit-doubted r s fit = fit-on_eject r.uid (λ e. record e { doubt = Some r.change }) s fit
 
 fit-stored : {G : Uid → Type 0} (r : StoreRequest) (s : Site) → Fit G s.node → Fit G (stored r s).node
-fit-stored r s fit = fit-on_node (λ it. record it { written = written_with s.layout r.change it.written }) (on_eject r.uid (λ e. record e { kept = kept_of r.change; doubt = None }) s)
+fit-stored r s fit = fit-on_node (λ it. record it { ledger = written_with s.layout r.change it.ledger }) (on_eject r.uid (λ e. record e { kept = kept_of r.change; doubt = None }) s)
     (fit-on_eject r.uid (λ e. record e { kept = kept_of r.change; doubt = None }) s fit)
 
 fit-worked : {G : Uid → Type 0} (w : Work) (r : StoreRequest) (how : RequestEnd) (p : Option Pick) (s : Site) → Fit G s.node → Fit G (worked w r how p s).node

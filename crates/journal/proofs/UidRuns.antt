@@ -8,7 +8,7 @@ use Rattle.std.specs.FinMap.{nat_cmp-IsAntisymmetric}
 use Rattle.capability.specs.declared.Uid.{Uid}
 use Rattle.capability.specs.declared.Cap.{Cap}
 use Rattle.eden_model.specs.Map.{with_item, uid_cmp, value_at, changed_at}
-use Rattle.eden_model.specs.Laws.{value-changed}
+use Rattle.eden_model.proofs.Laws.{value-changed}
 use Rattle.journal.specs.declared.command.Command.{Command}
 use Rattle.journal.specs.declared.event.Key.{Key}
 use Rattle.journal.specs.declared.event.Shown.TheVariants as shown

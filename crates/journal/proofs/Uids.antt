@@ -6,7 +6,7 @@ use Rattle.journal.specs.World.{World, Node, Eject, node_at}
 use Rattle.journal.specs.Opening.{epoch_or_zero}
 use Rattle.journal.specs.Run.{Step}
 use Rattle.journal.specs.LegalRun.{created_by}
-use Rattle.journal.proofs.Ordered.{InOrder}
+use Rattle.journal.specs.Sites.{InOrder}
 
 -- of an earlier epoch, or of this one with a serial that was given
 pub record IsBehind (u : Uid) (epoch last : ℕ) : Type 0 where

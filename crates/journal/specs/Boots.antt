@@ -92,7 +92,8 @@ pub record AllowsBoot (s : Site) (e : ℕ) (how : BootEnd) (p : Option Pick) (be
 
 -- a node that is up has the new epoch; one whose put began and did not succeed has it in doubt
 abbrev pub booted_node : Site → ℕ → BootEnd → Bool → Node → Node
-booted_node s e end.Up began it = record it { up = true; epoch = Some e; last_serial = 0; written = written_with s.layout (body (epoch_bytes e)) it.written }
+booted_node s e end.Up began it =
+    record it { up = true; epoch = Some e; last_serial = 0; ledger = written_with s.layout (body (epoch_bytes e)) it.ledger }
 booted_node s e how began it = record it { epoch_doubt = cond began (Some e) it.epoch_doubt }
 
 abbrev pub boot_turn : ℕ → BootEnd → Option Pick → Bool → Site → Site

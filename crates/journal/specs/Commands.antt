@@ -48,11 +48,13 @@ pub record AllowsAsked (w : World) (k : ℕ) (at_once : Option Status) (target :
   pub refused : at_once ≡ refused_at_once (reaches w 0 target.uid.node) args
 
 abbrev pub asked : List ℕ → Cap → List ℕ → List Datum → ℕ → Option Status → World → World
-asked name target operation args k at_once w = with_name name nothing (record w { traffic = with_call k (Shell name) target operation args at_once w.traffic })
+asked name target operation args k at_once w =
+    with_name name nothing (record w { traffic = with_call k (Shell name) target operation args at_once w.traffic })
 
 -- a present capability, and arguments that have values
 abbrev pub ready_call : World → Command → Option (Cap × List Datum)
-ready_call w (command.Call name target operation args) = with_item (cap_at w target) (λ c. with_item (args_of w args) (λ ds. Some (c, ds)) None) None
+ready_call w (command.Call name target operation args) =
+    with_item (cap_at w target) (λ c. with_item (args_of w args) (λ ds. Some (c, ds)) None) None
 ready_call w _ = None
 
 abbrev pub asked_by : Command → ℕ → Option Status → World → World
@@ -86,13 +88,16 @@ open_names w = names_of is_open w.traffic
 -- 5. Which events a command allows
 
 abbrev pub AllowsCommand : World → Command → Event → Type 0
-AllowsCommand w (command.Create name n type_name) (event.Made said s u) = (said ≡ name) × IsTrue (is_some (type_of w.types type_name)) × IsCreation (creation w n) s u
+AllowsCommand w (command.Create name n type_name) (event.Made said s u) =
+    (said ≡ name) × IsTrue (is_some (type_of w.types type_name)) × IsCreation (creation w n) s u
 AllowsCommand w (command.Hold name u) (event.Bound said held) = (said ≡ name) × (held ≡ true)
-AllowsCommand w (command.Restrict name target mask) (event.Bound said held) = (said ≡ name) × (held ≡ false) × IsTrue (is_some (cap_at w target))
+AllowsCommand w (command.Restrict name target mask) (event.Bound said held) =
+    (said ≡ name) × (held ≡ false) × IsTrue (is_some (cap_at w target))
 AllowsCommand w (command.Restrict name target mask) (event.Void said) = (said ≡ name) × (cap_at w target ≡ None)
 AllowsCommand w (command.Call name target operation args) (event.Asked k said at_once) =
     (said ≡ name) × IsSomeAnd (ready_call w (command.Call name target operation args)) (λ c. AllowsAsked w k at_once c.0 c.1)
-AllowsCommand w (command.Call name target operation args) (event.Void said) = (said ≡ name) × (ready_call w (command.Call name target operation args) ≡ None)
+AllowsCommand w (command.Call name target operation args) (event.Void said) =
+    (said ≡ name) × (ready_call w (command.Call name target operation args) ≡ None)
 AllowsCommand w (command.Crash n mode) (event.Crash m) = (m ≡ n) × IsTrue (is_up w n)
 AllowsCommand w (command.Crash n mode) (event.Still m up) = (m ≡ n) × (up ≡ false) × (is_up w n ≡ false)
 AllowsCommand w (command.Restart n) (event.Still m up) = (m ≡ n) × (up ≡ true) × IsTrue (is_up w n)

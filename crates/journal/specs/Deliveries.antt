@@ -42,7 +42,8 @@ pub record AllowsRequest (s : Site) (k a b : ℕ) (refused : Option Status) : Ty
 abbrev pub requested : ℕ → Option Status → Site → Site
 requested k (Some status) s = on_traffic (λ t. replied status [] k (taken k t)) s
 requested k None s = with_item (call_at s.traffic k)
-    (λ c. on_eject c.target.uid (λ e. record e { queued = e.queued ++ k ∷ [] }) (on_traffic (λ t. changed_call k (at_place held) (taken k t)) s)) s
+    (λ c. on_eject c.target.uid (λ e. record e { queued = e.queued ++ k ∷ [] })
+    (on_traffic (λ t. changed_call k (at_place held) (taken k t)) s)) s
 
 -- 2. Replies
 

@@ -98,7 +98,8 @@ newborn it = record { active = Some it; queued = []; kept = None; doubt = None }
 
 -- the node has the Eject with this active part; one that it had already gets it
 abbrev pub born_in : Uid → Active → Node → Option Eject → Node
-born_in u it node old = record node { last_serial = u.serial; ejects = put_at uid_cmp u (with_item old (with_active (Some it)) (newborn it)) node.ejects }
+born_in u it node old =
+    record node { last_serial = u.serial; ejects = put_at uid_cmp u (with_item old (with_active (Some it)) (newborn it)) node.ejects }
 
 abbrev pub born : Uid → Active → Site → Site
 born u it s = on_node (λ node. born_in u it node (eject_in s u)) s

@@ -1,5 +1,5 @@
 -- Which entries show a failed or a stopped device call of a node's disk, how many, and which command asked for it.
-use Rattle.std.specs.Prelude.{ℕ, ◌+◌, ◌==◌, ◌≤◌, ◌<◌, Bool, true, false, cond, List, [], ◌∷◌, Option, None, Some, IsSomeAnd}
+use Rattle.std.specs.Prelude.{◌≡◌, ℕ, ◌+◌, ◌-◌, ◌^◌, ◌==◌, ◌≤◌, ◌<◌, Bool, true, false, cond, List, [], ◌∷◌, Option, None, Some, IsSomeAnd, IfSome, IsTrue}
 use Rattle.eden_model.specs.Map.{with_item, or_else}
 use Rattle.eden_disk.specs.declared.disk.Arm.{Arm}
 use Rattle.eden_disk.specs.declared.disk.Arm.TheVariants as arm
@@ -9,7 +9,8 @@ use Rattle.journal.specs.declared.event.Entry.{Entry}
 use Rattle.journal.specs.declared.event.BootEnd.TheVariants as boot_end
 use Rattle.journal.specs.declared.event.StartEnd.TheVariants as start_end
 use Rattle.journal.specs.declared.event.RequestEnd.TheVariants as request_end
-use Rattle.journal.specs.Run.{Step}
+use Rattle.journal.specs.Run.{Step, EachStep}
+use Rattle.journal.specs.Standing.{DiskRun}
 
 -- 1. Entries that show one, on node n
 
@@ -30,7 +31,28 @@ abbrev pub number_of : (Event → Bool) → List Entry → ℕ
 number_of test [] = 0
 number_of test (e ∷ es) = cond (test e.event) 1 0 + number_of test es
 
--- 2. The command that asked for it; the past has the newest step first
+-- 2. Their number, by the counts of the disk
+
+-- a count that does not stand at the greatest number of 64 bits has risen by exactly so many
+abbrev pub RoseBy : ℕ → ℕ → ℕ → Type 0
+RoseBy shown before after = after < 2 ^ 64 - 1 → after ≡ before + shown
+
+-- by so many or more
+abbrev pub RoseByAtLeast : ℕ → ℕ → ℕ → Type 0
+RoseByAtLeast shown before after = after < 2 ^ 64 - 1 → before + shown ≤ after
+
+-- Each fault of the disk of node n is shown by an entry of its own, and each such entry shows one: none is made up, and none is hidden. So is
+-- each stop.
+pub record ShowsEach (history : List Entry) (n : ℕ) (d : DiskRun) : Type 0 where
+  pub faults : RoseBy (number_of (shows_fault n) history) d.first.faults d.last.faults
+  pub stops : RoseBy (number_of (shows_stop n) history) d.first.stops d.last.stops
+
+-- None is made up. A device call that found no memory is a fault as well, and no entry may show it: it may have ended the run.
+pub record ShowsNoMore (history : List Entry) (n : ℕ) (d : DiskRun) : Type 0 where
+  pub faults : RoseByAtLeast (number_of (shows_fault n) history) d.first.faults d.last.faults
+  pub stops : RoseByAtLeast (number_of (shows_stop n) history) d.first.stops d.last.stops
+
+-- 3. The command that asked for it; the past has the newest step first
 
 abbrev pub fail_after : Arm → Option ℕ
 fail_after (arm.Fail k) = Some k
@@ -60,7 +82,21 @@ abbrev pub IsAsked : (Arm → Option ℕ) → Bool → ℕ → ℕ → List Step
 IsAsked after false n began past s = Unit {0}
 IsAsked after true n began past s = IsSomeAnd (last_due after n past) (λ due. (clock_of n began past < due) × (due ≤ s.entry.clock))
 
--- of a disk that obeys and had nothing armed: each fault and each stop has its command
+-- each fault and each stop has its command
 pub record HasItsCommand (n began : ℕ) (past : List Step) (s : Step) : Type 0 where
   pub fault : IsAsked fail_after (shows_fault n s.entry.event) n began past s
   pub stop : IsAsked stop_after (shows_stop n s.entry.event) n began past s
+
+-- A disk of which that holds: it does what is asked of it, nothing that was asked before it was handed in is still to come, its clock has not
+-- reached its end, and no device call has wanted memory.
+pub record IsObedient (d : DiskRun) : Type 0 where
+  pub obeys : IsTrue d.obeys
+  pub no_failure : IfSome d.due.failure (λ clock. clock ≤ d.first.clock)
+  pub no_stop : IfSome d.due.stop (λ clock. clock ≤ d.first.clock)
+  pub below : d.last.clock < 2 ^ 64 - 1
+  pub no_wants : d.last.wants ≡ d.first.wants
+  -- of a count that stands at its end it is not told whether it rose
+  pub wants_told : d.first.wants < 2 ^ 64 - 1
+
+abbrev pub EachHasItsCommand : List Step → ℕ → DiskRun → Type 0
+EachHasItsCommand run n d = IsObedient d → EachStep (HasItsCommand n d.first.clock) [] run

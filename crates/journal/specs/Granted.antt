@@ -81,7 +81,8 @@ grants s (event.Bound name true) = (the_shell, with_item (meaning_of s.later nam
 grants s (event.Start k u p) = (eject u, with_item (call_at s.world.traffic k) (λ c. caps_of c.args) []) ∷ []
 grants s (event.Reply k a b name status results) =
     with_item (call_at s.world.traffic k) (λ c. cond (is_ok status && c.open_) ((holder_of c.asker, caps_of results) ∷ []) []) []
-grants s (event.Activate u start_end.Ok p) = (eject u, full u ∷ with_item (kept_after_pick s.world u (event.Activate u start_end.Ok p)) stored_caps []) ∷ []
+grants s (event.Activate u start_end.Ok p) =
+    (eject u, full u ∷ with_item (kept_after_pick s.world u (event.Activate u start_end.Ok p)) stored_caps []) ∷ []
 grants s _ = []
 
 abbrev pub granted_to : Holder → List Grant → List Cap

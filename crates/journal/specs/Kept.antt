@@ -51,7 +51,8 @@ under_way (c, how) = None
 
 abbrev pub in_progress : Uid → List Step → Option Change
 in_progress u [] = None
-in_progress u (s ∷ past) = cond (crashes u.node s.entry.event) None (with_item (own_call u s.world s.entry.event) under_way (in_progress u past))
+in_progress u (s ∷ past) =
+    cond (crashes u.node s.entry.event) None (with_item (own_call u s.world s.entry.event) under_way (in_progress u past))
 
 -- a failure or a stop cuts it short
 abbrev pub cut_by : Change × RequestEnd → Option Change
@@ -78,7 +79,8 @@ with_pick _ cut = None
 
 -- the change that the entry made: one acknowledged, or one cut short that it found done
 abbrev pub change_by : Uid → Step → List Step → Option Change
-change_by u s past = or_else (with_item (own_call u s.world s.entry.event) acknowledged None) (with_pick (picked u.node s.entry.event) (cut_short u past))
+change_by u s past = or_else (with_item (own_call u s.world s.entry.event) acknowledged None)
+    (with_pick (picked u.node s.entry.event) (cut_short u past))
 
 -- by the last change, else what the opening image held
 abbrev pub last_kept : Option (List ℕ) → Uid → List Step → Option (List ℕ)

@@ -1,6 +1,7 @@
 -- The statement about a whole run: its history follows the script, every start is whole, no other Eject is rolled back, only
 -- granted capabilities are used, no uid is given twice, and each disk stands for the history at every moment.
-use Rattle.std.specs.Prelude.{◌≡◌, ◌≢◌, ◌⊎◌, ℕ, ◌+◌, ◌==◌, Bool, true, false, List, [], ◌∷◌, map, Option, None, Some, is_some, IsTrue}
+use Rattle.std.specs.Prelude.{◌≡◌, ◌≢◌, ◌⊎◌, ℕ, ◌+◌, ◌==◌, Bool, true, false, List, [], ◌∷◌, map, Option, None, Some, is_some, IsTrue, ◌<◌}
+use Rattle.std.specs.List.{All}
 use Rattle.std.specs.Ordering.{nat_cmp}
 use Rattle.capability.specs.declared.Uid.{Uid}
 use Rattle.eden_model.specs.Map.{with_item, value_at}
@@ -15,10 +16,12 @@ use Rattle.journal.specs.declared.event.Shown.TheVariants as shown
 use Rattle.journal.specs.declared.event.StartEnd.TheVariants as start_end
 use Rattle.journal.specs.declared.event.RequestEnd.TheVariants as request_end
 use Rattle.journal.specs.World.{World, eject_at}
+use Rattle.journal.specs.Step.{clock_before}
 use Rattle.journal.specs.Run.{Follows, FollowsSoFar, Step, EachStep, beginning, steps, world_after}
 use Rattle.journal.specs.Opening.{opening, IsFitImage}
 use Rattle.journal.specs.Kept.{start_bytes, crashes, picked}
 use Rattle.journal.specs.Standing.{DiskRun, Added, StandsThroughout, nothing_added, unfinished}
+use Rattle.journal.specs.Faults.{ShowsEach, ShowsNoMore, EachHasItsCommand}
 use Rattle.journal.specs.Granted.{AllGranted, uses, kept_after_pick}
 
 -- 1. Every start is whole
@@ -67,10 +70,15 @@ IsNew w past (Some u) = (eject_at w u ≡ None) × NotCreatedIn past u
 -- 4. What every run keeps, whether it came to its end or not
 
 pub record IsSafeRun (layout : Layout) (opening last : World) (run : List Step) (added : Added) (disks : List (ℕ × DiskRun)) : Type 0 where
+  -- an activation starts from what was kept last, or from what was cut short since
   pub starts_are_whole : EachStep (λ past s. StartIsWhole opening past s s.entry.event) [] run
+  -- nothing else changes what is kept of an Eject, and no crash elsewhere ends its active part
   pub none_rolled_back : EachStep (λ past s. NoneRolledBack s) [] run
+  -- each capability that an entry uses is below one that its user was granted before
   pub only_granted : EachStep (λ past s. AllGranted (uses s s.entry.event) past) [] run
+  -- a created Eject is new
   pub no_uid_twice : EachStep (λ past s. IsNew s.world past (created_by s.entry.event)) [] run
+  -- at each moment each disk stands for the history up to there
   pub each_disk_stands : (n : ℕ) (d : DiskRun) → value_at nat_cmp n disks ≡ Some d → StandsThroughout layout last run added n d
 
 -- the disks with the numbers of their nodes, in ascending order
@@ -95,26 +103,58 @@ run_of world script history = steps (beginning world script.nodes script.command
 abbrev pub last_world : World → Script → List Entry → World
 last_world world script history = world_after world script.nodes script.commands history
 
+-- the steps of a history over these disks, and the world in which it ends
+abbrev pub run_over : Layout → Script → List DiskRun → List Entry → List Step
+run_over layout script disks history = run_of (opening_world layout script disks) script history
+
+abbrev pub end_over : Layout → Script → List DiskRun → List Entry → World
+end_over layout script disks history = last_world (opening_world layout script disks) script history
+
 -- 5. The run
+
+-- P holds of each disk, by the number of its node
+abbrev pub EachDisk : List DiskRun → (ℕ → DiskRun → Type 0) → Type 0
+EachDisk disks P = (n : ℕ) (d : DiskRun) → value_at nat_cmp n (numbered disks) ≡ Some d → P n d
+
+-- The last entry on a disk shows the clock with which the disk is given back, so that no device call is made behind it. A disk with no entry
+-- has the clock with which it was handed in.
+abbrev pub EndsAt : Option ℕ → DiskRun → Type 0
+EndsAt None d = d.last.clock ≡ d.first.clock
+EndsAt (Some clock) d = d.last.clock ≡ clock
 
 -- what the theorem says of the run of a script over disks that told what became of them, in the order of their nodes
 pub record IsLegalRun (layout : Layout) (script : Script) (disks : List DiskRun) (history : List Entry) : Type 0 where
+  -- the entries are those that the script gives, up to its end
   pub follows : Follows (opening_world layout script disks) script.nodes script.commands history
-  pub safe : IsSafeRun layout (opening_world layout script disks) (last_world (opening_world layout script disks) script history)
-      (run_of (opening_world layout script disks) script history) nothing_added (numbered disks)
+  -- and they keep what every run keeps
+  pub safe : IsSafeRun layout (opening_world layout script disks) (end_over layout script disks history)
+      (run_over layout script disks history) nothing_added (numbered disks)
+  -- each disk is given back right behind its last entry
+  pub ends : EachDisk disks (λ n d. EndsAt (clock_before (end_over layout script disks history) n) d)
+  -- each fault and each stop of a disk is shown once, and no other is shown
+  pub faults : EachDisk disks (ShowsEach history)
+  -- where a disk fails and stops at no will but that of the script, each has its command
+  pub commands : EachDisk disks (EachHasItsCommand (run_over layout script disks history))
 
 -- and of a run that want of memory ended
 pub record IsLegalSoFar (layout : Layout) (script : Script) (disks : List DiskRun) (history : List Entry) : Type 0 where
+  -- the entries are those with which the script begins
   pub begins : FollowsSoFar (opening_world layout script disks) script.nodes script.commands history
-  pub safe : IsSafeRun layout (opening_world layout script disks) (last_world (opening_world layout script disks) script history)
-      (run_of (opening_world layout script disks) script history) (unfinished (last_world (opening_world layout script disks) script history)) (numbered disks)
+  -- and they keep what every run keeps
+  pub safe : IsSafeRun layout (opening_world layout script disks) (end_over layout script disks history)
+      (run_over layout script disks history) (unfinished (end_over layout script disks history)) (numbered disks)
+  -- no fault and no stop is made up
+  pub faults : EachDisk disks (ShowsNoMore history)
 
--- what it takes for granted of the disk that is handed in for node n: it is at rest, and its image is fit
+-- What it takes for granted of the disk that is handed in for node n. What a layout owes of every image is no part of it (IsLayout).
 pub record IsHandedIn (layout : Layout) (n : ℕ) (d : DiskRun) : Type 0 where
-  pub nothing_unsynced : (contents d.before).marked ≡ []
+  -- the disk is at rest
+  pub nothing_unsynced : (contents d.before).unsynced ≡ []
   pub same : (contents d.before).stable ≡ (contents d.before).now
+  -- it holds bytes
+  pub bytes : All (λ byte. byte < 256) (contents d.before).now
   pub fit : IsFitImage layout n (contents d.before).now
 
 -- each of the disks that are handed in
 abbrev pub AreHandedIn : Layout → List DiskRun → Type 0
-AreHandedIn layout disks = (n : ℕ) (d : DiskRun) → value_at nat_cmp n (numbered disks) ≡ Some d → IsHandedIn layout n d
+AreHandedIn layout disks = EachDisk disks (IsHandedIn layout)

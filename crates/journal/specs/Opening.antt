@@ -8,6 +8,7 @@ use Rattle.std.specs.FinMap as finite
 use Rattle.passive_store.specs.Kept.{Layout, Kept}
 use Rattle.journal.specs.World.{World, Eject, Node}
 use Rattle.journal.specs.Settling.{epoch_uid}
+use Rattle.journal.specs.Run.{most_turns}
 
 abbrev pub passive : List ℕ → Eject
 passive bytes = record { active = None; queued = []; kept = Some bytes; doubt = None }
@@ -30,7 +31,7 @@ last_serial_of_all = 4294967295
 
 -- a node by the size of its disk and what the image holds
 abbrev pub node_from : ℕ → ℕ → Result (List (Uid × List ℕ)) ℕ → Bool → List ℕ → Node
-node_from n size (Ok kept) overfull written = record {
+node_from n size (Ok kept) overfull ledger = record {
   size = size;
   damaged = None;
   overfull = overfull;
@@ -41,10 +42,10 @@ node_from n size (Ok kept) overfull written = record {
   clock = None;
   requests = [];
   synced = false;
-  written = written;
+  ledger = ledger;
   ejects = filter_map passive_entry kept;
 }
-node_from n size (Err place) overfull written = record {
+node_from n size (Err place) overfull ledger = record {
   size = size;
   damaged = Some place;
   overfull = overfull;
@@ -55,7 +56,7 @@ node_from n size (Err place) overfull written = record {
   clock = None;
   requests = [];
   synced = false;
-  written = [];
+  ledger = [];
   ejects = [];
 }
 
@@ -64,27 +65,31 @@ abbrev pub entries_of : Result Kept ℕ → Result (List (Uid × List ℕ)) ℕ
 entries_of (Ok kept) = Ok (finite.entries kept.bodies)
 entries_of (Err place) = Err place
 
+abbrev pub ledger_of : Result Kept ℕ → List ℕ
+ledger_of (Ok kept) = kept.ledger
+ledger_of (Err place) = []
+
 -- what an image of node n keeps, or its first damaged place
 abbrev pub found_in : Layout → ℕ → List ℕ → Result (List (Uid × List ℕ)) ℕ
 found_in layout n image = entries_of (layout.map_of n image)
 
--- An image is fit where the layout can tell its room, and each uid under which it keeps bytes is of its node, with no epoch past the stored one.
 abbrev pub epoch_or_zero : Option ℕ → ℕ
 epoch_or_zero epoch = with_item epoch (λ e. e) 0
 
-pub record IsFitMap (n : ℕ) (kept : List (Uid × List ℕ)) : Type 0 where
-  pub of_node : (u : Uid) → IsTrue (is_some (value_at uid_cmp u kept)) → u.node ≡ n
-  pub epochs : (u : Uid) → IsTrue (is_some (value_at uid_cmp u kept)) → u.epoch ≤ epoch_or_zero (epoch_in n kept)
-  -- of 32 bits
-  pub serials : (u : Uid) → IsTrue (is_some (value_at uid_cmp u kept)) → u.serial ≤ 4294967295
+-- A run makes fewer changes on a disk than this: each entry makes at most one, a script of at most 1,048,576 bytes has fewer commands than
+-- that, with the boots of its nodes, and all else are turns.
+abbrev pub most_changes : ℕ
+most_changes = 1048576 + most_turns
 
--- an image that has no map is fit
+-- An image is fit where it keeps nothing of an epoch past the stored one, and its room is told for all that a run can change. An image that
+-- has no map is fit.
 pub record IsFitImage (layout : Layout) (n : ℕ) (image : List ℕ) : Type 0 where
-  pub room_is_told : IsTrue (layout.tells_room n image)
-  pub map : (kept : List (Uid × List ℕ)) → found_in layout n image ≡ Ok kept → IsFitMap n kept
+  pub epochs : (kept : List (Uid × List ℕ)) → found_in layout n image ≡ Ok kept → (u : Uid) → IsTrue (is_some (value_at uid_cmp u kept))
+      → u.epoch ≤ epoch_or_zero (epoch_in n kept)
+  pub room_is_told : (kept : Kept) → layout.map_of n image ≡ Ok kept → most_changes ≤ layout.changes_told n image
 
 abbrev pub node_of : Layout → ℕ × List ℕ → Node
-node_of layout d = node_from d.0 (length d.1) (found_in layout d.0 d.1) (layout.is_overfull d.0 d.1) (layout.written_in d.0 d.1)
+node_of layout d = node_from d.0 (length d.1) (found_in layout d.0 d.1) (layout.is_overfull d.0 d.1) (ledger_of (layout.map_of d.0 d.1))
 
 -- the world of these nodes, whether they will be booted or not
 abbrev pub opening_of : List Edentype → Layout → List (ℕ × Node) → World

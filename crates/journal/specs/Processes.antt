@@ -70,17 +70,20 @@ without_process p it = record it { tasks = where_key nat_cmp (λ k. not (k == p)
 
 -- the process waits for the store
 abbrev pub asks_store : Uid → ℕ → Change → Site → Site
-asks_store u p change s = on_node (λ it. record it { requests = it.requests ++ record { uid = u; process = Some p; change = change; made = 0 } ∷ [] })
+asks_store u p change s =
+    on_node (λ it. record it { requests = it.requests ++ record { uid = u; process = Some p; change = change; made = 0 } ∷ [] })
     (on_eject u (on_active (on_crew (set_waits p outside))) s)
 
 -- results that are too large are refused
 abbrev pub answers : Option Invocation → List Datum → Traffic → Traffic
 answers None results traffic = traffic
-answers (Some i) results traffic = cond (nat_le (values_size results) MESSAGE_LIMIT) (replied status.Ok results i.call traffic) (replied status.TooLarge [] i.call traffic)
+answers (Some i) results traffic = cond (nat_le (values_size results) MESSAGE_LIMIT) (replied status.Ok results i.call traffic)
+    (replied status.TooLarge [] i.call traffic)
 
 -- the status that answers a call as it is sent, if any: from this site to that node, which is reached or not
 abbrev pub refused_at_once : Bool → List Datum → Option Status
-refused_at_once reached args = cond (nat_le (values_size args) MESSAGE_LIMIT) (cond reached None (Some status.Unreachable)) (Some status.TooLarge)
+refused_at_once reached args = cond (nat_le (values_size args) MESSAGE_LIMIT) (cond reached None (Some status.Unreachable))
+    (Some status.TooLarge)
 
 abbrev pub waits_or_told : ℕ → Option Status → Active → Active
 waits_or_told p None it = on_crew (set_waits p outside) it
@@ -109,7 +112,8 @@ effected reach u p i t vars effect.Destroy s = asks_store u p removal s
 effected reach u p i t vars effect.Deactivate s = gone_if_unkept u (deactivated u s)
 effected reach u p i t vars (effect.Fault cause) s = turned_away u status.Dropped (deactivated u s)
 effected reach u p i t vars (effect.Create type_name) s = creates u p (type_of s.types type_name) (next_uid s) s
-effected reach u p i t vars (effect.Invoke target operation args) s = invokes u p target operation args (refused_at_once (reach target.uid.node) args) s
+effected reach u p i t vars (effect.Invoke target operation args) s =
+    invokes u p target operation args (refused_at_once (reach target.uid.node) args) s
 effected reach u p i t vars (effect.Lock m) s = on_eject u (on_active (on_crew (locked p m))) s
 effected reach u p i t vars (effect.Leave m) s = on_eject u (on_active (on_crew (left m))) s
 effected reach u p i t vars (effect.Wait c) s = on_eject u (on_active (on_crew (waited p c))) s

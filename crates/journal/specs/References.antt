@@ -7,7 +7,7 @@ use Rattle.eden_value.specs.Limits.{depths}
 use Rattle.eden_value.specs.declared.value.TheConstants.{DEPTH_LIMIT}
 use Rattle.eden_model.specs.Map.{with_item, same_text}
 use Rattle.journal.specs.declared.command.Ref.{Ref}
-use Rattle.journal.specs.Given.{Given, Givens, plain, named, several, no_givens, given_and, givens_of}
+use Rattle.journal.specs.Argument.{Argument, Arguments, plain, named, several, no_arguments, argument_and, arguments_of}
 use Rattle.journal.specs.World.{World, Meaning, capability, results}
 
 abbrev pub meaning_of : World → List ℕ → Option Meaning
@@ -35,15 +35,15 @@ cap_at w r = with_item (value_at_name w r.name r.result) present_cap None
 
 -- arguments; none where a name has no value
 abbrev mutual
-  pub value_of : World → Given → Option Datum
+  pub value_of : World → Argument → Option Datum
   value_of w (plain d) = Some d
   value_of w (named name k) = value_at_name w name k
   value_of w (several gs) = with_item (values_of w gs) (λ ds. Some (list ds)) None
 
-  pub values_of : World → Givens → Option Data
-  values_of w no_givens = Some no_data
-  values_of w (given_and g gs) = with_item (value_of w g) (λ d. with_item (values_of w gs) (λ ds. Some (data_and d ds)) None) None
+  pub values_of : World → Arguments → Option Data
+  values_of w no_arguments = Some no_data
+  values_of w (argument_and g gs) = with_item (value_of w g) (λ d. with_item (values_of w gs) (λ ds. Some (data_and d ds)) None) None
 
 -- the arguments of a call; none where a name has no value, or a list would be too deep
-abbrev pub args_of : World → List Given → Option (List Datum)
-args_of w gs = with_item (values_of w (givens_of gs)) (λ ds. cond (nat_le (depths ds) DEPTH_LIMIT) (Some (items_of ds)) None) None
+abbrev pub args_of : World → List Argument → Option (List Datum)
+args_of w gs = with_item (values_of w (arguments_of gs)) (λ ds. cond (nat_le (depths ds) DEPTH_LIMIT) (Some (items_of ds)) None) None

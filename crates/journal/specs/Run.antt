@@ -146,7 +146,8 @@ is_found w name = with_item (value_at_name w name 1) is_zero false
 -- the call of a walk was answered
 abbrev pub walked : World → List ℕ → List (List ℕ) → List Command → Position
 walked w name [] cs = at_commands w cs
-walked w name (c ∷ more) cs = cond (is_found w name) (record { world = w; due = looks_up name (next_directory w name) (c ∷ more); commands = cs }) (at_commands w cs)
+walked w name (c ∷ more) cs =
+    cond (is_found w name) (record { world = w; due = looks_up name (next_directory w name) (c ∷ more); commands = cs }) (at_commands w cs)
 
 abbrev pub is_open_call : World → ℕ → Bool
 is_open_call w k = with_item (call_at w.traffic k) (λ c. c.open_) false
@@ -154,7 +155,8 @@ is_open_call w k = with_item (call_at w.traffic k) (λ c. c.open_) false
 -- a turn of a walk
 abbrev pub walking : Option Key → List ℕ → ℕ → List (List ℕ) → World → List Command → Position
 walking None name k more w cs = at_commands w cs
-walking (Some key) name k more w cs = cond (is_open_call w k) (record { world = w; due = waits_for name k more; commands = cs }) (walked w name more cs)
+walking (Some key) name k more w cs = cond (is_open_call w k) (record { world = w; due = waits_for name k more; commands = cs })
+    (walked w name more cs)
 
 abbrev pub after_first : List (List ℕ) → List (List ℕ)
 after_first [] = []

@@ -53,18 +53,18 @@ abbrev pub settled_epoch : Pick → Node → Option ℕ
 settled_epoch pick.Old it = it.epoch
 settled_epoch pick.New it = with_item it.epoch_doubt (λ e. Some e) it.epoch
 
--- the lengths of the records, where the layout counts them, after one more change
+-- the ledger after one more change
 abbrev pub written_with : Layout → Change → List ℕ → List ℕ
-written_with layout c lengths = layout.written_after (kept_of c) lengths
+written_with layout c ledger = ledger ++ layout.grows (kept_of c)
 
 -- the same after these changes
 abbrev pub all_written : Layout → List (Uid × Change) → List ℕ → List ℕ
-all_written layout [] lengths = lengths
-all_written layout (c ∷ cs) lengths = all_written layout cs (written_with layout c.1 lengths)
+all_written layout [] ledger = ledger
+all_written layout (c ∷ cs) ledger = all_written layout cs (written_with layout c.1 ledger)
 
-abbrev pub settled_written : Layout → ℕ → Pick → Node → List ℕ
-settled_written layout n pick.Old it = it.written
-settled_written layout n pick.New it = all_written layout (doubts n it) it.written
+abbrev pub settled_ledger : Layout → ℕ → Pick → Node → List ℕ
+settled_ledger layout n pick.Old it = it.ledger
+settled_ledger layout n pick.New it = all_written layout (doubts n it) it.ledger
 
 -- the old state or the new one holds, and nothing is in doubt
 abbrev pub settled_node : Layout → ℕ → Pick → Node → Node
@@ -72,7 +72,7 @@ settled_node layout n p it = record it {
   epoch = settled_epoch p it;
   epoch_doubt = None;
   synced = false;
-  written = settled_written layout n p it;
+  ledger = settled_ledger layout n p it;
   ejects = each_value (settled_eject p) it.ejects;
 }
 
@@ -99,7 +99,7 @@ kept_map n it = epoch_entries n it.epoch ++ filter_map kept_entry it.ejects
 
 -- the longest body that finds room
 abbrev pub room : Site → Option ℕ
-room s = s.layout.room_of s.node.size (finite.from_entries (kept_map s.number s.node)) s.node.written
+room s = s.layout.room_of s.node.size (finite.from_entries (kept_map s.number s.node)) s.node.ledger
 
 abbrev pub finds_room : Uid → Change → Site → Bool
 finds_room u c s = s.layout.has_room (room s) u (kept_of c)

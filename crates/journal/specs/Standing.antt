@@ -2,8 +2,11 @@
 use Rattle.std.specs.Prelude.{◌≡◌, ◌⊎◌, ℕ, ◌+◌, ◌-◌, ◌==◌, ◌≤◌, ◌<◌, nat_lt, Bool, true, cond, not, ◌&&◌, List, [], ◌∷◌, ◌++◌, Option, None, Some, Result, Ok, Err, is_some}
 use Rattle.capability.specs.declared.Uid.{Uid}
 use Rattle.eden_model.specs.Map.{with_item, put_at, where_key, uid_cmp, same_uid}
+use Rattle.std.specs.List.{All}
 use Rattle.eden_disk.specs.Told.{Told}
+use Rattle.eden_disk.specs.Calls.{Counts, Due}
 use Rattle.eden_disk.specs.Moments.{LeftAfter, LeftIn}
+use Rattle.eden_disk.specs.Timed.{Timed}
 use Rattle.passive_store.specs.Kept.{Layout}
 use Rattle.journal.specs.Change.{Change, body, removal}
 use Rattle.journal.specs.declared.event.Event.{Event}
@@ -48,7 +51,8 @@ put_behind n e = cond (nat_lt e last_epoch) ((epoch_uid n, body (epoch_bytes (e 
 
 -- the epoch that a boot of this node puts, or would put, after its pick
 abbrev pub epoch_put : ℕ → World → Event → List (Uid × Change)
-epoch_put n w (event.Boot m e how p began) = cond (m == n) (with_item (site_at w n) (λ s. put_behind n (stored_epoch (settled p s).node)) []) []
+epoch_put n w (event.Boot m e how p began) =
+    cond (m == n) (with_item (site_at w n) (λ s. put_behind n (stored_epoch (settled p s).node)) []) []
 epoch_put n w _ = []
 
 abbrev pub with_changes : List (Uid × Change) → Standing → Standing
@@ -86,12 +90,18 @@ Stands layout n s image = StandsFor s.kept s.changes (found_in layout n image)
 
 -- 4. Disks
 
--- what a disk told and its clock, as it was handed in and as it was given back
+-- a disk, as it was handed in and as it was given back
 pub record DiskRun : Type 0 where
+  -- whether it does what `fail` and `stop` ask
+  pub obeys : Bool
+  -- the clocks at which a failure and a stop fall due that were asked for before it was handed in
+  pub due : Due
+  -- what it told of its contents as it was handed in, and its counts: the first clock is among them
   pub before : Told
-  pub began : ℕ
+  pub first : Counts
+  -- the same as it was given back
   pub after : Told
-  pub ended : ℕ
+  pub last : Counts
 
 -- what may be under way besides, at a moment of a node's disk
 abbrev pub Added : Type 0
@@ -119,9 +129,18 @@ is_past_last it m = with_item it.clock (λ c. nat_lt c m) true
 abbrev pub unfinished : World → Added
 unfinished last n m = with_item (node_at last n) (λ it. cond (is_past_last it m) (unfinished_at n it) []) []
 
--- behind each device call, and in the middle of each, a crash leaves only images that stand for the history up to there
+-- an entry on this disk shows a clock between that with which the disk was handed in and that with which it was given back
+abbrev pub ShowsItsClock : ℕ → DiskRun → Step → Type 0
+ShowsItsClock n d s = s.entry.node ≡ n → (d.first.clock ≤ s.entry.clock) × (s.entry.clock ≤ d.last.clock)
+
 pub record StandsThroughout (layout : Layout) (last : World) (run : List Step) (added : Added) (n : ℕ) (d : DiskRun) : Type 0 where
-  pub behind : (m : ℕ) (image : List ℕ) → d.began ≤ m → m ≤ d.ended → LeftAfter d.before d.began d.after m image
+  -- the disk that is given back is the one that was handed in, and what it tells changed between its two clocks
+  pub same : Timed d.first.clock d.before d.last.clock d.after
+  -- so the clocks of its entries are its own
+  pub clocks : All (ShowsItsClock n d) run
+  -- behind each device call a crash leaves only images that stand for the history up to there
+  pub behind : (m : ℕ) (image : List ℕ) → d.first.clock ≤ m → m ≤ d.last.clock → LeftAfter d.before d.first.clock d.after m image
       → Stands layout n (with_changes (added n m) (at last run n m)) image
-  pub within : (m : ℕ) (image : List ℕ) → d.began < m → m ≤ d.ended → LeftIn d.before d.began d.after m image
+  -- and in the middle of each only images that stand for the history up to the call before
+  pub within : (m : ℕ) (image : List ℕ) → d.first.clock < m → m ≤ d.last.clock → LeftIn d.before d.first.clock d.after m image
       → Stands layout n (with_changes (added n m) (at last run n (m - 1))) image

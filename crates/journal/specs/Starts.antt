@@ -69,7 +69,10 @@ fits_at t traffic k = with_item (call_at traffic k) (λ c. not (is_some (misfit 
 
 abbrev pub awake_as : Uid → Eject → Edentype × List Datum → Site → Site
 awake_as u e start s = on_traffic (misfits_answered start.0 e.queued)
-    (on_eject u (λ old. record old { active = Some (fresh start.0 (values_from start.0 start.1)); queued = filter (fits_at start.0 s.traffic) e.queued }) s)
+    (on_eject u (λ old. record old {
+      active = Some (fresh start.0 (values_from start.0 start.1));
+      queued = filter (fits_at start.0 s.traffic) e.queued;
+    }) s)
 
 -- from these bytes
 abbrev pub awake_from : Uid → Eject → List ℕ → Site → Site

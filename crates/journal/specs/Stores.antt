@@ -102,7 +102,7 @@ removed removal u s = turned_away u status.Gone (deactivated u s)
 
 -- what was put is kept, or nothing is, and nothing is in doubt
 abbrev pub stored : StoreRequest → Site → Site
-stored r s = on_node (λ it. record it { written = written_with s.layout r.change it.written })
+stored r s = on_node (λ it. record it { ledger = written_with s.layout r.change it.ledger })
     (on_eject r.uid (λ e. record e { kept = kept_of r.change; doubt = None }) s)
 
 abbrev pub done : StoreRequest → Site → Site

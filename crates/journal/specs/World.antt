@@ -59,8 +59,8 @@ pub record Node : Type 0 where
   pub requests : List StoreRequest
   -- the settling's sync was made
   pub synced : Bool
-  -- the lengths of the records on the disk, where the layout counts them
-  pub written : List ℕ
+  -- what else decides the room, in the words of the layout: of a log the lengths of all bodies written, of blocks nothing
+  pub ledger : List ℕ
   -- all Ejects that were ever on the node, in ascending order
   pub ejects : List (Uid × Eject)
 

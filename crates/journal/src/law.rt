@@ -1,5 +1,6 @@
 //! What holds of every history of every script, apart from any code.
-ghost use Rattle.journal.specs.Laws.{NoEjectIsRolledBack, EveryStartIsWhole, NoUidIsGivenTwice, RunsAreLegal, RunsAreLegalSoFar, FirstPartsFollow, FirstPartsFollowSoFar, EnabledKeysHaveTurns, OnlyGrantedAreUsed, DownNodesRest};
+ghost use Rattle.journal.specs.RefusedRuns.{UnwrittenDiskIsRefused, ExchangedDisksAreRefused, InventedFaultsAreRefused, UnaskedStopIsRefused, OtherClockIsRefused, BlankDisksMayBeHandedIn};
+ghost use Rattle.journal.specs.Laws.{NoEjectIsRolledBack, EveryStartIsWhole, NoUidIsGivenTwice, RunsAreLegal, RunsAreLegalSoFar, FirstPartsFollow, FirstPartsFollowSoFar, EnabledKeysHaveTurns, OnlyGrantedAreUsed, DownNodesRest, DisksStandAtTheOpening, DisksStandAtTheEnd};
 
 /// No Eject is rolled back but by its own put or removal, acknowledged or found done; a crash of one
 /// node takes no active part from an Eject of another.
@@ -13,8 +14,9 @@ pub fn every_start_is_whole()
     ensures { EveryStartIsWhole }
 {}
 
-/// No uid is given twice: a created Eject is none that the world has, none that the images held, and
-/// none that was created before.
+/// No uid is given twice, over disks that are handed in as they have to be and a layout that keeps what
+/// layouts owe: a created Eject is none that the world has, none that the images held, and none that was
+/// created before.
 pub fn no_uid_twice()
     ensures { NoUidIsGivenTwice }
 {}
@@ -26,8 +28,9 @@ pub fn only_granted_are_used()
 {}
 
 /// A run over disks that are handed in as they have to be, of a script that writes out no capability, is
-/// legal once its history follows its script and each disk stands for the history: the rest are the laws
-/// above. The same holds of a run that want of memory ended.
+/// legal once its history follows its script, each disk stands for the history and is given back right
+/// behind its last entry, and the entries show each of its faults and stops, each by its command: the
+/// rest are the laws above. So is a run that want of memory ended, once no fault is made up.
 pub fn what_makes_a_run_legal()
     ensures whole { RunsAreLegal }
     ensures so_far { RunsAreLegalSoFar }
@@ -50,4 +53,47 @@ pub fn an_enabled_key_has_its_turn()
 /// is at rest: no request, no active part, no queued call, and no call on its way to it.
 pub fn a_node_that_is_down_rests()
     ensures { DownNodesRest }
+{}
+
+/// At the beginning each image that a crash may leave of a disk that is handed in as it has to be stands
+/// for the state of its node, over a layout that keeps what layouts owe.
+pub fn disks_stand_at_the_opening()
+    ensures { DisksStandAtTheOpening }
+{}
+
+/// At the end of a legal run each image that a crash may leave of a disk stands for the state of its
+/// node.
+pub fn disks_stand_at_the_end()
+    ensures { DisksStandAtTheEnd }
+{}
+
+/// A save is acknowledged, and its value found after a crash, over a disk that was never written: that is
+/// no legal run.
+pub fn an_unwritten_disk_is_refused()
+    ensures { UnwrittenDiskIsRefused }
+{}
+
+/// Nor is one whose disks are given back in each other's place.
+pub fn exchanged_disks_are_refused()
+    ensures { ExchangedDisksAreRefused }
+{}
+
+/// Nor one whose boots fail, on a disk that counted no fault.
+pub fn invented_faults_are_refused()
+    ensures { InventedFaultsAreRefused }
+{}
+
+/// Nor one that stops, on a disk that does what is asked of it, where nothing asked for a stop.
+pub fn an_unasked_stop_is_refused()
+    ensures { UnaskedStopIsRefused }
+{}
+
+/// Nor one that shows a clock which its disk has not reached.
+pub fn another_clock_is_refused()
+    ensures { OtherClockIsRefused }
+{}
+
+/// Blank disks are handed in as they have to be, so none of these is refused for that.
+pub fn blank_disks_may_be_handed_in()
+    ensures { BlankDisksMayBeHandedIn }
 {}

@@ -1,4 +1,4 @@
-use Rattle.journal.proofs.DownRuns.{down-nodes-rest}
+use Rattle.journal.proofs.CutOff.{down-nodes-rest}
 use Rattle.journal.proofs.law.a_node_that_is_down_rests.Goals as goal
 
 pub returns : goal.returns

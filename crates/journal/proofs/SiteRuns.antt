@@ -1,0 +1,556 @@
+-- Every site of every history is sound.
+use Rattle.std.proofs.Common.{◌≡◌, ◌==◌, ◌+◌, ◌≤◌, ℕ, Bool, true, false, cond, ◌&&◌, List, [], ◌∷◌, map, Option, None, Some, Ok, is_some, refl, sym, ◌∙◌, ap, subst, arith, inl, inr}
+use Rattle.std.specs.Prelude.{IsSomeAnd, IfSome, ◌⊎◌}
+use Rattle.std.specs.Ordering.{nat_cmp, eq_by_cmp}
+use Rattle.capability.specs.declared.Uid.{Uid}
+use Rattle.capability.specs.declared.Cap.{Cap}
+use Rattle.eden_value.specs.Datum.{Datum}
+use Rattle.eden_value.specs.declared.status.Status.{Status}
+use Rattle.eden_model.specs.Map.{with_item, first, uid_cmp, value_at}
+use Rattle.eden_model.proofs.Numbers.{same-true}
+use Rattle.eden_model.specs.Traffic.{Traffic, Call, held, answered, call_at, next_call, new_call, with_call, asking_station, target_station, goes_by, goes, without_node, shell_name}
+use Rattle.eden_model.specs.declared.Asker.TheVariants.{Shell, Eject as Asking}
+use Rattle.epl_syntax.specs.declared.types.Edentype.{Edentype}
+use Rattle.epl_syntax.specs.Meaning.{type_of, first_values}
+use Rattle.passive_store.specs.declared.store.Pick.{Pick}
+use Rattle.passive_store.specs.Kept.{Layout}
+use Rattle.passive_store.specs.Layout.{IsLayout}
+use Rattle.journal.specs.declared.command.Command.{Command}
+use Rattle.journal.specs.declared.command.Command.TheVariants as command
+use Rattle.journal.specs.declared.command.Script.{Script}
+use Rattle.journal.specs.declared.event.StartEnd.{StartEnd}
+use Rattle.journal.specs.declared.event.StartEnd.TheVariants as start_end
+use Rattle.journal.specs.declared.event.RequestEnd.{RequestEnd}
+use Rattle.journal.specs.declared.event.RequestEnd.TheVariants as end
+use Rattle.journal.specs.declared.event.Event.{Event}
+use Rattle.journal.specs.declared.event.Event.TheVariants as event
+use Rattle.journal.specs.declared.event.Entry.{Entry}
+use Rattle.journal.specs.declared.event.Key.{Key}
+use Rattle.journal.specs.World.{World, Site, Node, Eject, Active, StoreRequest, node_at, site_of, site_at, eject_in, on_eject, on_node, on_traffic, is_up, reaches}
+use Rattle.journal.specs.Ejects.{fresh, next_uid, born}
+use Rattle.journal.specs.References.{cap_at}
+use Rattle.journal.specs.Deliveries.{AllowsReply, received}
+use Rattle.journal.specs.Settling.{first_request, settled, unsynced, to_settle}
+use Rattle.journal.specs.Crashes.{crashed, linked}
+use Rattle.journal.specs.Starts.{AllowsActivate, start_settled, activation_turn}
+use Rattle.journal.specs.Stores.{AllowsStore, EndsSo, Work, syncs, reads, unkept, without_room, calls, work_of, doubted, worked, store_turn}
+use Rattle.journal.specs.Commands.{AllowsCommand, AllowsAsked, asked, asked_by, ready_call, born_as, made, type_name_of, held_by, restricted_by}
+use Rattle.journal.specs.Opening.{epoch_or_zero, node_of, found_in}
+use Rattle.journal.specs.Step.{AllowsAt, AllowsInTurn, AllowsEvent, Allows, next, after_turn, after_command, happened, at_site, stopped_at, site_turn, heard_by_shell, clocked, counted, key_of}
+use Rattle.journal.specs.Run.{AllowsLookUp, looked_up, beginning}
+use Rattle.journal.specs.Standing.{DiskRun}
+use Rattle.journal.specs.LegalRun.{AreHandedIn, numbered, images, opening_world, last_world}
+use Rattle.journal.specs.Laws.{Begins}
+use Rattle.journal.specs.Sites.{AllSound, active_in, IsHeldAt, IsOpenOf, at_store, AreNumbered, IsManned, AllThere, SoundWorld}
+use Rattle.journal.proofs.Fits.{times_in, Fits, SoundSite}
+use Rattle.journal.proofs.SafeRuns.{same-number}
+use Rattle.journal.proofs.EntryLists.{first-passes}
+use Rattle.journal.proofs.Runs.{Any, of-any, end-keeps, world-booting, nodes-looked_up}
+use Rattle.journal.proofs.EveryNode.{IsNext, next-following, following_uid, at-its-site, made-next, all-clocked, all-next, all-same_nodes}
+use Rattle.journal.proofs.SoundWorld.{sound-next, sound-looked_up}
+use Rattle.journal.proofs.EnabledRuns.{sound-opening-world}
+use Rattle.journal.proofs.Uids.{IsBehind, Fit, OfNode, AllFit, CreatedIn}
+use Rattle.journal.proofs.UidLaw.{fit-on_eject}
+use Rattle.journal.proofs.UidTurns.{kept-fit}
+use Rattle.journal.proofs.NoUidTwice.{fit-opening}
+use Rattle.journal.proofs.Down.{IsIdle, Rests}
+use Rattle.journal.proofs.DownRuns.{rest-node}
+use Rattle.journal.proofs.Times.{passes-closed, numbered-more, held-more}
+use Rattle.journal.proofs.SiteChanges.{AddsNothing, nothing-sound, StaysSound, nothing-stays, nothing-on_traffic}
+use Rattle.journal.proofs.SiteCalls.{open-more}
+use Rattle.journal.proofs.SiteForms.{sound-site}
+use Rattle.journal.proofs.SiteTurns.{IsNew, nothing-born}
+use Rattle.journal.proofs.SiteEvents.{stays-process_turn, stays-refused, stays-accepted, stays-heard, stays-start, stays-crashed}
+use Rattle.journal.proofs.SiteStores.{stays-store_turn, stays-activation, stays-boot}
+use Rattle.journal.proofs.SiteWorlds.{AllSites, sound-like, sites-at, sites-crash, sites-cut}
+
+-- 1. What is known besides
+
+pub record KnownWorld (H : ℕ → Bool) (w : World) : Type 0 where
+  pub sound : SoundWorld H w
+  pub fit : AllFit (CreatedIn []) w
+
+-- the next uid is that of no Eject
+pub new-by : {G : Uid → Type 0} (s : Site) → Fit G s.node → IsNew s
+new-by s fit u is = go (eject_in s u) refl
+  where
+    clash : IsBehind u (epoch_or_zero s.node.epoch) s.node.last_serial → ⊥
+    clash b = let same : u ≡ following_uid s = next-following s u is in
+        let le : u.serial ≤ s.node.last_serial = b.serial_given (ap (λ (v : Uid). v.epoch) same) in
+        omega (arith, le, ap (λ (v : Uid). v.serial) same)
+
+    go : (o : Option Eject) → eject_in s u ≡ o → o ≡ None
+    go None at = refl
+    go (Some e) at = absurd (clash (fit.behind u (ap is_some at)))
+
+pub both-true : (a b : Bool) → (a && b) ≡ true → (a ≡ true) × (b ≡ true)
+both-true true b e = (refl, e)
+both-true false b e = absurd (cc e)
+
+pub on-call : {P Q : Call → Type 0} (o : Option Call) (f : Call → Bool) → ((c : Call) → P c → f c ≡ true → Q c) → IsSomeAnd o P
+    → with_item o f false ≡ true → IsSomeAnd o Q
+on-call None f each p is = p
+on-call (Some c) f each p is = each c p is
+
+-- 2. Turns
+
+sites-request : (w : World) (k a b : ℕ) (refused : Option Status) → AllowsInTurn w (event.Request k a b refused) → AllSites w
+    → AllSites (at_site w b (event.Request k a b refused))
+sites-request w k a b None allowed all = sites-at b (site_turn (reaches w b) (event.Request k a b None)) w (λ it is. let x =
+    at-its-site w b (λ s. AllowsAt s (event.Request k a b None)) it is allowed in
+    stays-accepted k (site_of w b it) (on-call (call_at w.traffic k) (λ c. goes_by c.place (asking_station c.asker) (target_station c) a b)
+    (λ c p g. (
+      p.0,
+      same-number (target_station c) b (both-true (asking_station c.asker == a) (target_station c == b)
+          (sym (ap (λ q. goes_by q (asking_station c.asker) (target_station c) a b) p.0) ∙ g)).1,
+    ))
+    x.delivered (first-passes (goes w.traffic a b) w.traffic.transit k x.first_in_queue)) (all b it is)) all
+sites-request w k a b (Some why) allowed all = sites-at b (site_turn (reaches w b) (event.Request k a b (Some why))) w (λ it is. let x =
+    at-its-site w b (λ s. AllowsAt s (event.Request k a b (Some why))) it is allowed in
+    stays-refused k why (site_of w b it) (on-call (call_at w.traffic k) (λ c.
+    goes_by c.place (asking_station c.asker) (target_station c) a b) (λ c p g. p.0)
+    x.delivered (first-passes (goes w.traffic a b) w.traffic.transit k x.first_in_queue)) (all b it is)) all
+
+sites-reply : (w : World) (k a b : ℕ) (why : Status) (values : List Datum) → AllowsReply w.traffic k a b None why values → AllSites w
+    → AllSites (at_site w b (event.Reply k a b None why values))
+sites-reply w k a b why values allowed all = sites-at b (site_turn (reaches w b) (event.Reply k a b None why values)) w (λ it is.
+    stays-heard k why values (site_of w b it) (on-call (call_at w.traffic k) (λ c.
+    goes_by c.place (asking_station c.asker) (target_station c) a b)
+    (λ c p g. (
+      p.0,
+      λ u q asker. ap asking_station (sym asker)
+          ∙ same-number (asking_station c.asker) b (both-true (asking_station c.asker == b) (target_station c == a)
+          (sym (ap (λ x. goes_by x (asking_station c.asker) (target_station c) a b) p.0) ∙ g)).0,
+    ))
+    allowed.delivered (first-passes (goes w.traffic a b) w.traffic.transit k allowed.first_in_queue)) (all b it is)) all
+
+nothing-received : (k : ℕ) (why : Status) (values : List Datum) (s : Site)
+    → IsSomeAnd (call_at s.traffic k) (λ c. c.place ≡ answered why values) → AddsNothing s (on_traffic (received k) s)
+nothing-received k why values s is_answered = nothing-on_traffic (k ∷ []) (received k) s (passes-closed k s.traffic) (λ u j on has.
+    absurd (apart u j on (eq_by_cmp nat_cmp j k) refl has))
+  where
+    never : (u : Uid) (o : Option Call) → IsSomeAnd o (λ c. c.place ≡ answered why values)
+        → IsSomeAnd o (λ c. (c.place ≡ held) × (c.target.uid ≡ u)) → ⊥
+    never u None a b = a
+    never u (Some c) a b = let bad : answered why values ≡ held = sym a ∙ b.0 in cc bad
+
+    apart : (u : Uid) (j : ℕ) → IsHeldAt s.traffic u j → (b : Bool) → eq_by_cmp nat_cmp j k ≡ b → 1 ≤ cond b (0 + 1) 0 → ⊥
+    apart u j on true same has = never u (call_at s.traffic k) is_answered (subst (IsHeldAt s.traffic u) (same-true j k same) on)
+    apart u j on false same has = omega (arith, has)
+
+sites-heard : (w : World) (k a b : ℕ) (name : List ℕ) (why : Status) (values : List Datum)
+    → AllowsReply w.traffic k a b (Some name) why values → AllSites w → AllSites (heard_by_shell k name why values w)
+unfolding on_traffic
+sites-heard w k a b name why values allowed all m jt is = sound-like m jt (on_traffic (received k) (site_of w m jt))
+    (heard_by_shell k name why values w) refl refl refl
+    (nothing-sound (site_of w m jt) (on_traffic (received k) (site_of w m jt))
+    (nothing-received k why values (site_of w m jt) (place (call_at w.traffic k) allowed.delivered)) (all m jt is))
+  where
+    place : (o : Option Call) → IsSomeAnd o (λ c. (c.place ≡ answered why values) × (Some name ≡ shell_name c.asker))
+        → IsSomeAnd o (λ c. c.place ≡ answered why values)
+    place None p = p
+    place (Some c) p = p.0
+
+sites-activate : (w : World) (v : Uid) (how : StartEnd) (p : Option Pick) → AllowsInTurn w (event.Activate v how p) → (it : Node)
+    → node_at w v.node ≡ Some it → AllSites w → StaysSound (site_of w v.node it) (activation_turn v how p (site_of w v.node it))
+sites-activate w v how p allowed it is all = stays-activation v how p (site_of w v.node it) refl
+    (passive (eject_in (site_of w v.node it) v) (at-its-site w v.node (λ s. AllowsAt s (event.Activate v how p)) it is allowed))
+    (all v.node it is)
+  where
+    passive : (o : Option Eject) → IsSomeAnd o (λ e. AllowsActivate (site_of w v.node it) v how p e) → active_in o ≡ None
+    passive None a = absurd a
+    passive (Some e) a = a.is_passive
+
+traffic-crashed : (s : Site) → (crashed s).traffic ≡ without_node s.number s.traffic
+unfolding on_traffic on_node
+traffic-crashed s = refl
+
+traffic-settled : (p : Option Pick) (s : Site) → (crashed (settled p (unsynced s))).traffic ≡ without_node s.number s.traffic
+unfolding on_traffic on_node
+traffic-settled None s = refl
+traffic-settled (Some p) s = refl
+
+traffic-started : (p : Option Pick) (s : Site) → (crashed (start_settled p s)).traffic ≡ without_node s.number s.traffic
+traffic-started p s = go (to_settle s)
+  where
+    go : (b : Bool) → (crashed (cond b (settled p (unsynced s)) s)).traffic ≡ without_node s.number s.traffic
+    go true = traffic-settled p s
+    go false = traffic-crashed s
+
+traffic-doubted : (r : StoreRequest) (s : Site) → (crashed (doubted r s)).traffic ≡ without_node s.number s.traffic
+unfolding on_traffic on_node on_eject
+traffic-doubted r s = refl
+
+traffic-stopped : (v : Uid) (p : Option Pick) (s : Site) → IsSomeAnd (first_request s.node) (λ r. AllowsStore s v end.Stop p r)
+    → (store_turn end.Stop p s).traffic ≡ without_node s.number s.traffic
+traffic-stopped v p s allowed = go (first_request s.node) allowed
+  where
+    by_work : (x : Work) (r : StoreRequest) → EndsSo x end.Stop p → (worked x r end.Stop p s).traffic ≡ without_node s.number s.traffic
+    by_work syncs r e = traffic-crashed s
+    by_work reads r e = traffic-crashed s
+    by_work unkept r e = absurd e
+    by_work without_room r e = absurd e
+    by_work calls r e = traffic-doubted r s
+
+    go : (o : Option StoreRequest) → IsSomeAnd o (λ r. AllowsStore s v end.Stop p r)
+        → (with_item o (λ r. worked (work_of s r) r end.Stop p s) s).traffic ≡ without_node s.number s.traffic
+    go None a = absurd a
+    go (Some r) a = by_work (work_of s r) r a.ends
+
+first-there : (rs : List StoreRequest) (es : List (Uid × Eject)) (r : StoreRequest) → AllThere rs es → first rs ≡ Some r
+    → is_some (value_at uid_cmp r.uid es) ≡ true
+first-there [] es r all is = absurd (cc is)
+first-there (x ∷ rs) es r all is = let same : x ≡ r = cc is in
+    subst (λ (y : StoreRequest). is_some (value_at uid_cmp y.uid es) ≡ true) same all.0
+
+sites-store : (H : ℕ → Bool) (w : World) (v : Uid) (clock : ℕ) (how : RequestEnd) (p : Option Pick) → KnownWorld H w → (it : Node)
+    → node_at w v.node ≡ Some it → AllSites w → StaysSound (site_of w v.node it) (store_turn how p (site_of w v.node it))
+sites-store H w v clock how p known it is all = let s = known.sound.nodes v.node it is in
+    stays-store_turn how p (site_of w v.node it) (λ r is_first. s.of_node r.uid (first-there it.requests it.ejects r s.there is_first))
+    (all v.node it is)
+
+-- a node that crashes is there
+sites-stopped : (w : World) (n : ℕ) (e : Event) → IsSomeAnd (site_at w n) (λ s. Unit {0})
+    → ((it : Node) → node_at w n ≡ Some it → StaysSound (site_of w n it) (site_turn (reaches w n) e (site_of w n it)))
+    → ((it : Node) → node_at w n ≡ Some it → (site_turn (reaches w n) e (site_of w n it)).traffic ≡ without_node n w.traffic) → AllSites w
+    → AllSites (stopped_at w n e)
+sites-stopped w n e there done lost all = go (node_at w n) refl there
+  where
+    go : (o : Option Node) → node_at w n ≡ o → IsSomeAnd (with_item o (λ it. Some (site_of w n it)) None) (λ s. Unit {0})
+        → AllSites (stopped_at w n e)
+    go None at a = absurd a
+    go (Some it) at a = sites-crash w n (site_turn (reaches w n) e) it at (done it at) (lost it at) all
+
+some-site : (o : Option Site) (P : Site → Type 0) → IsSomeAnd o P → IsSomeAnd o (λ s. Unit {0})
+some-site None P p = p
+some-site (Some s) P p = tt
+
+sites-turn : (H : ℕ → Bool) (w : World) (e : Event) → KnownWorld H w → AllowsInTurn w e → AllSites w → AllSites (after_turn w e)
+sites-turn H w (event.Request k a b refused) known allowed all = sites-request w k a b refused allowed all
+sites-turn H w (event.Reply k a b None why values) known allowed all = sites-reply w k a b why values allowed all
+sites-turn H w (event.Reply k a b (Some name) why values) known allowed all = sites-heard w k a b name why values allowed all
+sites-turn H w (event.Activate v start_end.Ok p) known allowed all =
+    sites-at v.node (site_turn (reaches w v.node) (event.Activate v start_end.Ok p)) w (λ it is.
+    sites-activate w v start_end.Ok p allowed it is all) all
+sites-turn H w (event.Activate v start_end.Gone p) known allowed all =
+    sites-at v.node (site_turn (reaches w v.node) (event.Activate v start_end.Gone p)) w (λ it is.
+    sites-activate w v start_end.Gone p allowed it is all) all
+sites-turn H w (event.Activate v start_end.Fault p) known allowed all =
+    sites-at v.node (site_turn (reaches w v.node) (event.Activate v start_end.Fault p)) w (λ it is.
+    sites-activate w v start_end.Fault p allowed it is all) all
+sites-turn H w (event.Activate v start_end.Damaged p) known allowed all =
+    sites-at v.node (site_turn (reaches w v.node) (event.Activate v start_end.Damaged p)) w (λ it is.
+    sites-activate w v start_end.Damaged p allowed it is all) all
+sites-turn H w (event.Activate v start_end.Stop p) known allowed all =
+    sites-stopped w v.node (event.Activate v start_end.Stop p)
+    (some-site (site_at w v.node) (λ s. AllowsAt s (event.Activate v start_end.Stop p)) allowed) (λ it is.
+    sites-activate w v start_end.Stop p allowed it is all) (λ it is. traffic-started p (site_of w v.node it)) all
+sites-turn H w (event.Start k v p) known allowed all = sites-at v.node (site_turn (reaches w v.node) (event.Start k v p)) w (λ it is.
+    stays-start v k p (site_of w v.node it) (at-its-site w v.node (λ s. AllowsAt s (event.Start k v p)) it is allowed) (all v.node it is))
+    all
+sites-turn H w (event.Process v p said) known allowed all = sites-at v.node (site_turn (reaches w v.node) (event.Process v p said)) w
+    (λ it is.
+    stays-process_turn (reaches w v.node) v p said (site_of w v.node it) refl
+    (at-its-site w v.node (λ s. AllowsAt s (event.Process v p said)) it is allowed)
+    (λ f. new-by (on_eject v f (site_of w v.node it)) (fit-on_eject v f (site_of w v.node it) (known.fit v.node it is)))
+    (all v.node it is)) all
+sites-turn H w (event.Store v clock end.Part p) known allowed all =
+    sites-at v.node (site_turn (reaches w v.node) (event.Store v clock end.Part p)) w (λ it is.
+    sites-store H w v clock end.Part p known it is all) all
+sites-turn H w (event.Store v clock end.Done p) known allowed all =
+    sites-at v.node (site_turn (reaches w v.node) (event.Store v clock end.Done p)) w (λ it is.
+    sites-store H w v clock end.Done p known it is all) all
+sites-turn H w (event.Store v clock end.Fault p) known allowed all =
+    sites-at v.node (site_turn (reaches w v.node) (event.Store v clock end.Fault p)) w (λ it is.
+    sites-store H w v clock end.Fault p known it is all) all
+sites-turn H w (event.Store v clock end.Full p) known allowed all =
+    sites-at v.node (site_turn (reaches w v.node) (event.Store v clock end.Full p)) w (λ it is.
+    sites-store H w v clock end.Full p known it is all) all
+sites-turn H w (event.Store v clock end.Stop p) known allowed all =
+    sites-stopped w v.node (event.Store v clock end.Stop p) (some-site (site_at w v.node) (λ s.
+    AllowsAt s (event.Store v clock end.Stop p)) allowed) (λ it is. sites-store H w v clock end.Stop p known it is all)
+    (λ it is. traffic-stopped v p (site_of w v.node it) (at-its-site w v.node (λ s. AllowsAt s (event.Store v clock end.Stop p)) it is
+    allowed)) all
+sites-turn H w (event.Boot n e how q began) known allowed all = all
+sites-turn H w (event.Crash n) known allowed all = all
+sites-turn H w (event.Still n up) known allowed all = all
+sites-turn H w (event.Link a b joined) known allowed all = all
+sites-turn H w (event.Armed n what) known allowed all = all
+sites-turn H w (event.Made name why v) known allowed all = all
+sites-turn H w (event.Bound name kept) known allowed all = all
+sites-turn H w (event.Void name) known allowed all = all
+sites-turn H w (event.Asked k name at_once) known allowed all = all
+sites-turn H w event.Quiet known allowed all = all
+sites-turn H w event.Spent known allowed all = all
+sites-turn H w (event.Left names) known allowed all = all
+
+-- 3. Commands
+
+sites-shell : (w : World) (name : List ℕ) (target : Cap) (operation : List ℕ) (args : List Datum) (k : ℕ) (at_once : Option Status)
+    → k ≡ next_call w.traffic → AllSites w → AllSites (asked name target operation args k at_once w)
+sites-shell w name target operation args k at_once number all =
+    subst (λ j. AllSites (asked name target operation args j at_once w)) (sym number) each
+  where
+    new : Traffic
+    new = with_call (next_call w.traffic) (Shell name) target operation args at_once w.traffic
+
+    was : (u : Uid) (q j : ℕ) → IsOpenOf new u q j → IsOpenOf w.traffic u q j
+    was u q j is = go (open-more (Shell name) target operation args at_once w.traffic u q j is)
+      where
+        go : IsOpenOf w.traffic u q j ⊎ ((j ≡ next_call w.traffic) × (at_once ≡ None) × (Shell name ≡ Asking u q))
+            → IsOpenOf w.traffic u q j
+        go (inl x) = x
+        go (inr x) = absurd (let bad : Shell name ≡ Asking u q = x.2 in cc bad)
+
+    each : AllSites (asked name target operation args (next_call w.traffic) at_once w)
+    each m it is = let s = all m it is in record {
+      numbered = numbered-more w.traffic.calls s.numbered (new_call (Shell name) target operation args at_once);
+      fits = λ u at. let fit = s.fits u at in record {
+        held = λ j has. held-more (Shell name) target operation args at_once w.traffic u j s.numbered (fit.held j has);
+        once = fit.once;
+        asks = λ q j on. fit.asks q j (was u q j on);
+        single = λ q i j x y. fit.single q i j (was u q i x) (was u q j y);
+        stores = fit.stores;
+        alone = fit.alone;
+        laid = fit.laid;
+      };
+    }
+
+sites-asked : (w : World) (c : Command) (k : ℕ) (name : List ℕ) (at_once : Option Status) → AllowsCommand w c (event.Asked k name at_once)
+    → AllSites w → AllSites (asked_by c k at_once w)
+sites-asked w (command.Call said target operation args) k name at_once allowed all =
+    go (ready_call w (command.Call said target operation args)) allowed.1
+  where
+    go : (o : Option (Cap × List Datum)) → IsSomeAnd o (λ c. AllowsAsked w k at_once c.0 c.1)
+        → AllSites (with_item o (λ c. asked said c.0 operation c.1 k at_once w) w)
+    go None a = absurd a
+    go (Some c) a = sites-shell w said c.0 operation c.1 k at_once a.number all
+sites-asked w _ k name at_once allowed all = absurd allowed
+
+sites-held : (c : Command) (w : World) → AllSites w → AllSites (held_by c w)
+sites-held (command.Hold name v) w all = all
+sites-held _ w all = all
+
+sites-item : {X : Type 0} (w : World) (o : Option X) (f : X → World) → ((x : X) → AllSites (f x)) → AllSites w → AllSites (with_item o f w)
+sites-item w None f each all = all
+sites-item w (Some x) f each all = each x
+
+sites-restricted : (c : Command) (w : World) → AllSites w → AllSites (restricted_by c w)
+sites-restricted (command.Restrict name target mask) w all = sites-item w (cap_at w target) _ (λ c. all) all
+sites-restricted _ w all = all
+
+sites-linked : (a b : ℕ) (joined : Bool) (w : World) → AreNumbered 1 w.traffic.calls → AllSites w → AllSites (linked a b joined w)
+sites-linked a b true w ordered all = all
+sites-linked a b false w ordered all = sites-cut w a b ((a, b) ∷ w.cuts) all ordered
+
+sites-born : (H : ℕ → Bool) (w : World) (u : Uid) (t : Option Edentype) → KnownWorld H w → IsNext w u → AllSites w
+    → AllSites (born_as u t w)
+sites-born H w u None known is_next all = all
+sites-born H w u (Some t) known is_next all = sites-at u.node (born u (fresh t (first_values t))) w (λ it is.
+    nothing-stays (site_of w u.node it) _ (nothing-born u t (first_values t) (site_of w u.node it)
+    (new-by (site_of w u.node it) (known.fit u.node it is) u (at-its-site w u.node (λ s. next_uid s ≡ Ok u) it is is_next)))
+    (all u.node it is)) all
+
+sites-made : (H : ℕ → Bool) (w : World) (c : Command) (name : List ℕ) (why : Status) (u : Option Uid) → KnownWorld H w
+    → AllowsCommand w c (event.Made name why u) → AllSites w → AllSites (made name (type_name_of c) u w)
+sites-made H w c name why None known allowed all = all
+sites-made H w c name why (Some u) known allowed all = sites-born H w u (type_of w.types (type_name_of c)) known
+    (made-next w c name why u allowed) all
+
+up-there : (w : World) (n : ℕ) → is_up w n ≡ true → IsSomeAnd (site_at w n) (λ s. Unit {0})
+up-there w n is = go (node_at w n) is
+  where
+    go : (o : Option Node) → with_item o (λ it. it.up) false ≡ true
+        → IsSomeAnd (with_item o (λ it. Some (site_of w n it)) None) (λ s. Unit {0})
+    go None e = absurd (cc e)
+    go (Some it) e = tt
+
+sites-crashed : (w : World) (c : Command) (n : ℕ) → AllowsCommand w c (event.Crash n) → AllSites w
+    → AllSites (stopped_at w n (event.Crash n))
+sites-crashed w (command.Crash m mode) n allowed all = sites-stopped w n (event.Crash n)
+    (up-there w n (ap (is_up w) allowed.0 ∙ allowed.1)) (λ it is. stays-crashed (site_of w n it) (all n it is)) (λ it is.
+    traffic-crashed (site_of w n it)) all
+sites-crashed w _ n allowed all = absurd allowed
+
+sites-command : (H : ℕ → Bool) (w : World) (c : Command) (e : Event) → KnownWorld H w → AreNumbered 1 w.traffic.calls → AllowsCommand w c e
+    → AllSites w → AllSites (after_command w c e)
+sites-command H w c (event.Boot n e how q began) known ordered allowed all =
+    sites-at n (site_turn (reaches w n) (event.Boot n e how q began)) w (λ it is. stays-boot e how q began (site_of w n it) (all n it is))
+    all
+sites-command H w c (event.Crash n) known ordered allowed all = sites-crashed w c n allowed all
+sites-command H w c (event.Link a b joined) known ordered allowed all = sites-linked a b joined w ordered all
+sites-command H w c (event.Made name why v) known ordered allowed all = sites-made H w c name why v known allowed all
+sites-command H w c (event.Bound name true) known ordered allowed all = sites-held c w all
+sites-command H w c (event.Bound name false) known ordered allowed all = sites-restricted c w all
+sites-command H w c (event.Asked k name at_once) known ordered allowed all = sites-asked w c k name at_once allowed all
+sites-command H w c (event.Still n up) known ordered allowed all = all
+sites-command H w c (event.Armed n what) known ordered allowed all = all
+sites-command H w c (event.Void name) known ordered allowed all = all
+sites-command H w c (event.Request k a b refused) known ordered allowed all = all
+sites-command H w c (event.Reply k a b name why values) known ordered allowed all = all
+sites-command H w c (event.Activate v how q) known ordered allowed all = all
+sites-command H w c (event.Start k v q) known ordered allowed all = all
+sites-command H w c (event.Process v q said) known ordered allowed all = all
+sites-command H w c (event.Store v clock how q) known ordered allowed all = all
+sites-command H w c event.Quiet known ordered allowed all = all
+sites-command H w c event.Spent known ordered allowed all = all
+sites-command H w c (event.Left names) known ordered allowed all = all
+
+sites-happened : (H : ℕ → Bool) (w : World) (c : Option Command) (e : Event) → KnownWorld H w → AreNumbered 1 w.traffic.calls
+    → AllowsEvent w c e → AllSites w → AllSites (happened w c e)
+sites-happened H w None e known ordered allowed all = sites-turn H w e known allowed all
+sites-happened H w (Some c) e known ordered allowed all = sites-command H w c e known ordered allowed all
+
+-- 4. Every history
+
+sites-counted : (k : Option Key) (w : World) → AllSites w → AllSites (counted k w)
+sites-counted None w all = all
+sites-counted (Some k) w all = all
+
+sites-clocked : (n c : ℕ) (w : World) → AllSites w → AllSites (clocked n c w)
+sites-clocked n c w all = all-clocked (λ m it. SoundSite (site_of w m it)) (λ m d it h.
+    record {
+      numbered = h.numbered;
+      fits = λ u at. let fit = h.fits u at in
+          record {
+            held = fit.held;
+            once = fit.once;
+            asks = fit.asks;
+            single = fit.single;
+            stores = fit.stores;
+            alone = fit.alone;
+            laid =
+                fit.laid;
+          };
+    }) n c w all
+
+pub record SiteWorld (H : ℕ → Bool) (w : World) : Type 0 where
+  pub known : KnownWorld H w
+  pub sites : AllSites w
+
+pub site-next : (H : ℕ → Bool) (w : World) (c : Option Command) (e : Entry) → Allows w c e → SiteWorld H w → SiteWorld H (next w c e)
+site-next H w c e allowed h = record {
+  known = after;
+  sites = λ m jt is.
+      go m (node_at w m) refl (h.known.sound.place.present m ∙ sym (after.sound.place.present m) ∙ ap is_some is) m jt is;
+}
+  where
+    after : KnownWorld H (next w c e)
+    after = record {
+      sound = sound-next H w c e allowed h.known.sound;
+      fit =
+          all-next (λ n it. Fit (OfNode (CreatedIn []) n) it) w c e (kept-fit (CreatedIn []) w e.event) allowed h.known.fit;
+    }
+
+    go : (m : ℕ) (o : Option Node) → node_at w m ≡ o → is_some (node_at w m) ≡ true → AllSites (next w c e)
+    go m None at there = absurd (let bad : false ≡ true = sym (ap is_some at) ∙ there in cc bad)
+    go m (Some it) at there = sites-counted (key_of e.event) (clocked e.node e.clock (happened w c e.event))
+        (sites-clocked e.node e.clock (happened w c e.event) (sites-happened H w c e.event h.known (h.sites m it at).numbered allowed.event
+        h.sites))
+
+sites-looked_up : (w : World) (name : List ℕ) (target : Option Cap) (path : List (List ℕ)) (e : Event) → AllowsLookUp w name target path e
+    → AllSites w → AllSites (looked_up w name target path e)
+sites-looked_up w name (Some target) path (event.Asked k said at_once) allowed all =
+    sites-shell w name target _ _ k at_once allowed.1.number all
+sites-looked_up w name (Some target) path (event.Void said) allowed all = absurd allowed
+sites-looked_up w name None path (event.Void said) allowed all = all
+sites-looked_up w name target path _ allowed all = absurd allowed
+
+pub site-looked_up : (H : ℕ → Bool) (w : World) (name : List ℕ) (target : Option Cap) (path : List (List ℕ)) (e : Event)
+    → AllowsLookUp w name target path e → SiteWorld H w → SiteWorld H (looked_up w name target path e)
+site-looked_up H w name target path e allowed h = record {
+  known = record {
+    sound = sound-looked_up H w name target path e allowed h.known.sound;
+    fit =
+        all-same_nodes (λ n it. Fit (OfNode (CreatedIn []) n) it) w (looked_up w name target path e) (nodes-looked_up w name target path e)
+        h.known.fit;
+  };
+  sites = sites-looked_up w name target path e allowed h.sites;
+}
+
+-- a node at rest, before any call
+resting : (w : World) (n : ℕ) (it : Node) → w.traffic.calls ≡ [] → Rests it → SoundSite (site_of w n it)
+resting w n it none rest = record {
+  numbered = subst (AreNumbered 1) (sym none) tt;
+  fits =
+      λ u at. one u (value_at uid_cmp u it.ejects) (λ e is. rest.idle u e is);
+}
+  where
+    no-open : (u : Uid) (p k : ℕ) → IsOpenOf w.traffic u p k → ⊥
+    no-open u p k is = subst (λ cs. IsSomeAnd (value_at nat_cmp k cs) (λ (c : Call). (c.open_ ≡ true) × (c.asker ≡ Asking u p))) none is
+
+    idle-times : (k : ℕ) (o : Option Eject) → ((e : Eject) → o ≡ Some e → IsIdle e) → times_in k o ≡ 0
+    idle-times k None idle = refl
+    idle-times k (Some e) idle = rw ((idle e refl).no_active, (idle e refl).no_queued) refl
+
+    idle-laid : (o : Option Eject) → ((e : Eject) → o ≡ Some e → IsIdle e) → active_in o ≡ None
+    idle-laid None idle = refl
+    idle-laid (Some e) idle = (idle e refl).no_active
+
+    empty : (u : Uid) (p : ℕ) → at_store u p it.requests ≡ 0
+    empty u p = ap (at_store u p) rest.no_request
+
+    one : (u : Uid) (o : Option Eject) → ((e : Eject) → o ≡ Some e → IsIdle e) → Fits w.traffic it.requests u o
+    one u o idle = record {
+      held = λ k has. absurd (omega (arith, has, idle-times k o idle));
+      once = λ k. omega (arith, idle-times k o idle);
+      asks = λ p k is. absurd (no-open u p k is);
+      single = λ p j k a b. absurd (no-open u p j a);
+      stores = λ p some. absurd (omega (arith, some, empty u p));
+      alone = λ p. omega (arith, empty u p);
+      laid = rw (idle-laid o idle) tt;
+    }
+
+rests-opening : (layout : Layout) (images : List (ℕ × List ℕ)) (n : ℕ) (it : Node)
+    → value_at nat_cmp n (map (λ d. (d.0, node_of layout d)) images) ≡ Some it → Rests it
+rests-opening layout [] n it is = absurd (cc is)
+rests-opening layout (d ∷ ds) n it is = go (eq_by_cmp nat_cmp n d.0) (rests-opening layout ds n it) is
+  where
+    go : (b : Bool) → (value_at nat_cmp n (map (λ d. (d.0, node_of layout d)) ds) ≡ Some it → Rests it)
+        → cond b (Some (node_of layout d)) (value_at nat_cmp n (map (λ d. (d.0, node_of layout d)) ds)) ≡ Some it → Rests it
+    go true later e = subst (λ o. IfSome o Rests) e (rest-node d.0 _ (found_in layout d.0 d.1) _ _)
+    go false later e = later e
+
+pub site-opening : (layout : Layout) (script : Script) (disks : List DiskRun) → IsLayout layout → AreHandedIn layout disks
+    → SiteWorld (λ n. is_some (node_at (opening_world layout script disks) n)) (opening_world layout script disks)
+site-opening layout script disks lays fits = record {
+  known = record {
+    sound = sound-opening-world layout script disks lays fits;
+    fit = fit-opening layout (numbered disks) lays fits;
+  };
+  sites = λ n it at. resting (opening_world layout script disks) n it refl (rests-opening layout (images (numbered disks)) n it at);
+}
+
+pub all-sound : (H : ℕ → Bool) (w : World) → SiteWorld H w → AllSound w
+all-sound H w h n it at = sound-site (site_of w n it) (h.known.sound.nodes n it at) (h.sites n it at)
+
+-- 5. The laws
+
+reached : (layout : Layout) (script : Script) (disks : List DiskRun) (history : List Entry) → IsLayout layout → AreHandedIn layout disks
+    → Begins layout script disks history
+    → SiteWorld (λ n. is_some (node_at (opening_world layout script disks) n))
+    (last_world (opening_world layout script disks) script history)
+reached layout script disks history lays fits begins = end-keeps Any (SiteWorld here) (record {
+  entries = λ past w c e any allowed i. (tt, site-next here w c e allowed i);
+  look_ups = λ past w name target path e any allowed plain i. (tt, site-looked_up here w name target path e.event allowed i);
+}) (beginning w script.nodes script.commands) [] history (of-any 1 script.nodes w script.commands)
+    (subst (SiteWorld here) (sym (world-booting 1 script.nodes w script.commands)) (site-opening layout script disks lays fits)) begins
+  where
+    w : World
+    w = opening_world layout script disks
+
+    here : ℕ → Bool
+    here n = is_some (node_at w n)
+
+pub worlds-are-sound : (layout : Layout) (script : Script) (disks : List DiskRun) (history : List Entry) → IsLayout layout
+    → AreHandedIn layout disks
+    → Begins layout script disks history
+    → SoundWorld (λ n. is_some (node_at (opening_world layout script disks) n))
+    (last_world (opening_world layout script disks) script history)
+worlds-are-sound layout script disks history lays fits begins = (reached layout script disks history lays fits begins).known.sound
+
+pub sites-are-sound : (layout : Layout) (script : Script) (disks : List DiskRun) (history : List Entry) → IsLayout layout
+    → AreHandedIn layout disks
+    → Begins layout script disks history → AllSound (last_world (opening_world layout script disks) script history)
+sites-are-sound layout script disks history lays fits begins = all-sound (λ n. is_some (node_at (opening_world layout script disks) n))
+    (last_world (opening_world layout script disks) script history) (reached layout script disks history lays fits begins)

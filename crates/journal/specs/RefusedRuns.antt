@@ -1,0 +1,159 @@
+-- Runs that are not legal: for each thing that a program could say wrong of its disks, a history that says it.
+use Rattle.std.specs.Prelude.{◌≡◌, ℕ, ◌≤◌, ◌<◌, List, [], ◌∷◌, replicate, true, false, None, Some, codes, pos}
+use Rattle.capability.specs.declared.Uid.{Uid}
+use Rattle.eden_value.specs.declared.status.Status.TheVariants as status
+use Rattle.eden_value.specs.Datum.{Datum, number}
+use Rattle.eden_disk.specs.declared.disk.ImageMode.TheVariants.{Lose as lose}
+use Rattle.eden_disk.specs.Told.{Told}
+use Rattle.passive_store.specs.Kept.{Layout}
+use Rattle.passive_store.specs.LogLayout.{log_layout}
+use Rattle.epl_syntax.specs.Rules.OfTypes.{native_only}
+use Rattle.journal.specs.Argument.{plain as given}
+use Rattle.journal.specs.declared.command.Command.{Command}
+use Rattle.journal.specs.declared.command.Command.TheVariants as command
+use Rattle.journal.specs.declared.command.Script.{Script}
+use Rattle.journal.specs.declared.command.Ref.{Ref}
+use Rattle.journal.specs.declared.event.Event.{Event}
+use Rattle.journal.specs.declared.event.Event.TheVariants as event
+use Rattle.journal.specs.declared.event.Entry.{Entry}
+use Rattle.journal.specs.declared.event.BootEnd.TheVariants as boot_end
+use Rattle.journal.specs.declared.event.StartEnd.TheVariants as start_end
+use Rattle.journal.specs.declared.event.RequestEnd.TheVariants as request_end
+use Rattle.journal.specs.declared.event.Shown.TheVariants as shown
+use Rattle.journal.specs.Standing.{DiskRun}
+use Rattle.journal.specs.Faults.{IsObedient}
+use Rattle.journal.specs.LegalRun.{IsHandedIn, IsLegalRun}
+
+-- 1. Words for them
+
+-- an entry that touches no disk
+abbrev pub plain : Event → Entry
+plain e = record { event = e; node = 0; clock = 0; broken = [] }
+
+-- an entry on the disk of this node, at this clock
+abbrev pub on_disk : ℕ → ℕ → Event → Entry
+on_disk n c e = record { event = e; node = n; clock = c; broken = [] }
+
+abbrev pub c_uid : Uid
+c_uid = record { node = 1; epoch = 1; serial = 1 }
+
+abbrev pub ref_c : Ref
+ref_c = record { name = codes "c"; result = 0 }
+
+abbrev pub int : ℕ → Datum
+int n = number (pos n)
+
+abbrev pub script_of : ℕ → List Command → Script
+script_of n cs = record { types = native_only; nodes = n; commands = cs }
+
+abbrev pub zeros : ℕ → List ℕ
+zeros size = replicate size 0
+
+-- a disk of so many zeros, on which nothing was ever written
+abbrev pub blank_told : ℕ → Told
+blank_told size = record { image = zeros size; acts = [] }
+
+-- 2. A save is acknowledged, a crash loses what is unsynced, and the value is found; but the disk was never written.
+
+unfoldable pub saving : List Command
+saving = command.Create (codes "c") 1 (codes "Cell")
+    ∷ command.Call (codes "a") ref_c (codes "Set") (given (int 5) ∷ [])
+    ∷ command.Go 100
+    ∷ command.Call (codes "b") ref_c (codes "Save") []
+    ∷ command.Go 100
+    ∷ command.Crash 1 lose
+    ∷ command.Restart 1
+    ∷ command.Call (codes "e") ref_c (codes "Get") []
+    ∷ command.Go 100
+    ∷ command.End
+    ∷ []
+
+unfoldable pub saved : List Entry
+saved = on_disk 1 11 (event.Boot 1 1 boot_end.Up None true)
+    ∷ plain (event.Made (codes "c") status.Ok (Some c_uid))
+    ∷ plain (event.Asked 1 (codes "a") None)
+    ∷ plain (event.Request 1 0 1 None)
+    ∷ plain (event.Start 1 c_uid 1)
+    ∷ plain (event.Process c_uid 1 (shown.Return 1))
+    ∷ plain (event.Reply 1 1 0 (Some (codes "a")) status.Ok [])
+    ∷ plain event.Quiet
+    ∷ plain (event.Asked 2 (codes "b") None)
+    ∷ plain (event.Request 2 0 1 None)
+    ∷ plain (event.Start 2 c_uid 1)
+    ∷ plain (event.Process c_uid 1 shown.Checkpoint)
+    ∷ on_disk 1 12 (event.Store c_uid 12 request_end.Part None)
+    ∷ on_disk 1 13 (event.Store c_uid 13 request_end.Part None)
+    ∷ on_disk 1 14 (event.Store c_uid 14 request_end.Part None)
+    ∷ on_disk 1 15 (event.Store c_uid 15 request_end.Done None)
+    ∷ plain (event.Process c_uid 1 (shown.Return 2))
+    ∷ plain (event.Reply 2 1 0 (Some (codes "b")) status.Ok (int 0 ∷ []))
+    ∷ plain event.Quiet
+    ∷ on_disk 1 15 (event.Crash 1)
+    ∷ on_disk 1 25 (event.Boot 1 2 boot_end.Up None true)
+    ∷ plain (event.Asked 3 (codes "e") None)
+    ∷ plain (event.Request 3 0 1 None)
+    ∷ on_disk 1 26 (event.Activate c_uid start_end.Ok None)
+    ∷ plain (event.Start 3 c_uid 1)
+    ∷ plain (event.Process c_uid 1 (shown.Return 3))
+    ∷ plain (event.Reply 3 1 0 (Some (codes "e")) status.Ok (int 5 ∷ []))
+    ∷ plain event.Quiet
+    ∷ plain (event.Left [])
+    ∷ []
+
+abbrev pub UnwrittenDiskIsRefused : Type 0
+UnwrittenDiskIsRefused = (d : DiskRun) → d.before ≡ blank_told 1048576 → d.after ≡ blank_told 1048576
+    → IsLegalRun log_layout (script_of 1 saving) (d ∷ []) saved → ⊥
+
+-- 3. Two disks are given back in each other's place.
+
+abbrev pub ExchangedDisksAreRefused : Type 0
+ExchangedDisksAreRefused =
+    (layout : Layout) (script : Script) (history : List Entry) (d e : DiskRun) → d.before ≡ blank_told 65536 → e.before ≡ blank_told 1048576
+    → d.after ≡ e.before → e.after ≡ d.before → IsLegalRun layout script (d ∷ e ∷ []) history → ⊥
+
+-- 4. Each boot fails, on a disk that counted no fault.
+
+abbrev pub failed_boot : Entry
+failed_boot = on_disk 1 1 (event.Boot 1 0 boot_end.DiskFault None false)
+
+unfoldable pub faults : List Entry
+faults = failed_boot
+    ∷ plain (event.Made (codes "c") status.Unreachable None)
+    ∷ plain (event.Void (codes "a"))
+    ∷ plain event.Quiet
+    ∷ plain (event.Void (codes "b"))
+    ∷ plain event.Quiet
+    ∷ plain (event.Still 1 false)
+    ∷ failed_boot
+    ∷ plain (event.Void (codes "e"))
+    ∷ plain event.Quiet
+    ∷ plain (event.Left [])
+    ∷ []
+
+abbrev pub InventedFaultsAreRefused : Type 0
+InventedFaultsAreRefused =
+    (layout : Layout) (d : DiskRun) → d.first.faults ≡ 0 → d.last.faults ≡ 0 → IsLegalRun layout (script_of 1 saving) (d ∷ []) faults → ⊥
+
+-- 5. A disk that does what is asked of it stops in its first boot, and nothing asked for that.
+
+abbrev pub stopped : List Entry
+stopped = on_disk 1 1 (event.Boot 1 0 boot_end.Stop None false) ∷ plain (event.Left []) ∷ []
+
+abbrev pub UnaskedStopIsRefused : Type 0
+UnaskedStopIsRefused =
+    (layout : Layout) (d : DiskRun) → IsObedient d → IsLegalRun layout (script_of 1 (command.End ∷ [])) (d ∷ []) stopped → ⊥
+
+-- 6. A boot shows a clock that its disk has not reached.
+
+abbrev pub booted : List Entry
+booted = on_disk 1 11 (event.Boot 1 1 boot_end.Up None true) ∷ plain (event.Left []) ∷ []
+
+abbrev pub OtherClockIsRefused : Type 0
+OtherClockIsRefused =
+    (layout : Layout) (d : DiskRun) → d.last.clock < 11 → IsLegalRun layout (script_of 1 (command.End ∷ [])) (d ∷ []) booted → ⊥
+
+-- 7. None of them is refused for the disks that were handed in: a disk of zeros, on which nothing was ever written, is handed in as it has to
+-- be wherever a log has room on it.
+
+abbrev pub BlankDisksMayBeHandedIn : Type 0
+BlankDisksMayBeHandedIn = (n size : ℕ) (d : DiskRun) → 17 ≤ size → d.before ≡ blank_told size → IsHandedIn log_layout n d
