@@ -6,7 +6,7 @@ use Rattle.std.proofs.lemmas.List.Sums.{sum_by-cons}
 use Rattle.std.proofs.lemmas.List.{map-append, take_more}
 use Rattle.std.proofs.lemmas.List.Elements.{filter_map-append}
 use Rattle.std.proofs.Common.{append_assoc}
-use Rattle.std.specs.Prelude.{◌||◌, count_by, filter_map, option_to_list}
+use Rattle.std.specs.Prelude.{◌||◌, ◌↔◌, count_by, filter_map, option_to_list}
 use Rattle.std.specs.List.{filter, find, list_any, insert, cons_option}
 use Rattle.std.specs.Option.{option_map}
 use Rattle.std.specs.Ordering.{nat_cmp, eq_by_cmp}
@@ -14,14 +14,15 @@ use Rattle.std.specs.declared.cmp.Ordering.{Ordering}
 use Rattle.std.specs.declared.cmp.Ordering.TheVariants.{Less, Equal, Greater}
 use Rattle.std.specs.FinMap.Entries.{by_order}
 use Rattle.std.specs.FinMap.{nat_cmp-IsAntisymmetric}
-use Rattle.eden_model.specs.Map.{value_at, put_at, where_key}
-use Rattle.eden_model.specs.Crew.{Process, Monitor, Condition, Invocation, nothing, waits_at, with_waits, declared_from, is_taken, class_is, serves_class, may_start, without_call, pair_of, serving_pairs}
-use Rattle.eden_model.specs.Numbers.{same-true, same-self}
+use Rattle.eden_model.specs.Map.{value_at, put_at, where_key, with_item}
+use Rattle.eden_model.specs.Crew.{Process, Monitor, Condition, Invocation, nothing, outside, waits_at, with_waits, declared_from, is_taken, class_is, serves_class, may_start, pair_of, serving_pairs}
+use Rattle.eden_model.proofs.Numbers.{same-true, same-self}
 use Rattle.coordinator.specs.declared.slots.Slot.{Slot}
 use Rattle.coordinator.specs.declared.slots.Serving.{Serving}
 use Rattle.coordinator.specs.declared.slots.Waits.{Waits}
 use Rattle.coordinator.specs.declared.slots.Waits.TheVariants as waits
-use Rattle.coordinator.specs.Fields.{slot_pair, with_slot, is_class, slot_serves, next_serving}
+use Rattle.coordinator.specs.Fields.{slot_pair, with_slot, is_class, slot_serves, next_serving, is_slot_past}
+use Rattle.coordinator.specs.Ready.{call_served, is_ready, is_ready_past, next_ready}
 use Rattle.coordinator.specs.View.{process_of, invocation_of, waiting_of}
 
 -- 1. New slots
@@ -41,24 +42,66 @@ pub slots-wait : (p : ℕ) (w : Waits) (slots : List Slot) → map process_of (m
 slots-wait p w [] = refl
 slots-wait p w (s ∷ slots) = rw (slot-waits p w s, slots-wait p w slots) refl
 
-pub waits-found : (p : ℕ) (slots : List Slot) → waits_at p (map process_of slots) ≡ option_map (λ (s : Slot). waiting_of s.waits) (find (λ s. s.number == p) slots)
-waits-found p [] = refl
-waits-found p (s ∷ slots) = go (eq_by_cmp nat_cmp p s.number) refl (s.number == p) refl (waits-found p slots)
+pub value-found : (p : ℕ) (slots : List Slot) → value_at nat_cmp p (map process_of slots) ≡ option_map (λ (s : Slot). (process_of s).1) (find (λ s. s.number == p) slots)
+value-found p [] = refl
+value-found p (s ∷ slots) = go (eq_by_cmp nat_cmp p s.number) refl (s.number == p) refl (value-found p slots)
   where
     go : (a : Bool) → eq_by_cmp nat_cmp p s.number ≡ a → (b : Bool) → (s.number == p) ≡ b
-        → waits_at p (map process_of slots) ≡ option_map (λ (t : Slot). waiting_of t.waits) (find (λ t. t.number == p) slots)
-        → option_map (λ (it : Process). it.waits) (cond (eq_by_cmp nat_cmp p s.number) (Some (process_of s).1) (value_at nat_cmp p (map process_of slots)))
-        ≡ option_map (λ (t : Slot). waiting_of t.waits) (cond (s.number == p) (Some s) (find (λ t. t.number == p) slots))
+        → value_at nat_cmp p (map process_of slots) ≡ option_map (λ (t : Slot). (process_of t).1) (find (λ t. t.number == p) slots)
+        → cond (eq_by_cmp nat_cmp p s.number) (Some (process_of s).1) (value_at nat_cmp p (map process_of slots))
+        ≡ option_map (λ (t : Slot). (process_of t).1) (cond (s.number == p) (Some s) (find (λ t. t.number == p) slots))
     go true a true b ih = rw (a, b) refl
     go true a false b ih = let x : p ≡ s.number = same-true p s.number a in absurd (let bad : true ≡ false = sym (grind (arith, x)) ∙ b in cc)
     go false a true b ih = let x : s.number ≡ p = eqb-true s.number p b in let bad : true ≡ false = sym (same-self p) ∙ ap (λ k. eq_by_cmp nat_cmp p k) (sym x) ∙ a in cc
     go false a false b ih = rw (a, b) ih
+
+pub waits-found : (p : ℕ) (slots : List Slot) → waits_at p (map process_of slots) ≡ option_map (λ (s : Slot). waiting_of s.waits) (find (λ s. s.number == p) slots)
+waits-found p slots = ap (option_map (λ (it : Process). it.waits)) (value-found p slots) ∙ go (find (λ s. s.number == p) slots)
+  where
+    go : (o : Option Slot) → option_map (λ (it : Process). it.waits) (option_map (λ (s : Slot). (process_of s).1) o) ≡ option_map (λ (s : Slot). waiting_of s.waits) o
+    go None = refl
+    go (Some s) = refl
+
+-- the call that a process serves is that of its slot
+pub served-found : (p : ℕ) (slots : List Slot) → call_served p (map process_of slots) ≡ with_item (find (λ s. s.number == p) slots) (λ (s : Slot). option_map (λ (t : Serving). t.call) s.serves) None
+served-found p slots = ap (λ o. with_item o (λ (it : Process). option_map (λ (i : Invocation). i.call) it.serves) None) (value-found p slots) ∙ go (find (λ s. s.number == p) slots)
+  where
+    by : (o : Option Serving) → option_map (λ (i : Invocation). i.call) (option_map invocation_of o) ≡ option_map (λ (t : Serving). t.call) o
+    by None = refl
+    by (Some t) = refl
+
+    go : (o : Option Slot) → with_item (option_map (λ (s : Slot). (process_of s).1) o) (λ (it : Process). option_map (λ (i : Invocation). i.call) it.serves) None ≡ with_item o (λ (s : Slot). option_map (λ (t : Serving). t.call) s.serves) None
+    go None = refl
+    go (Some s) = by s.serves
+
+-- the first process past a number that waits for nothing is that of the first such slot
+pub ready-found : (n : ℕ) (slots : List Slot) → next_ready n (map process_of slots) ≡ option_map (λ (s : Slot). s.number) (find (is_slot_past n) slots)
+ready-found n [] = refl
+ready-found n (s ∷ slots) = go (is_slot_past n s) (ready-found n slots)
+  where
+    go : (b : Bool) → next_ready n (map process_of slots) ≡ option_map (λ (t : Slot). t.number) (find (is_slot_past n) slots)
+        → option_map (λ (e : ℕ × Process). e.0) (cond b (Some (process_of s)) (find (is_ready_past n) (map process_of slots))) ≡ option_map (λ (t : Slot). t.number) (cond b (Some s) (find (is_slot_past n) slots))
+    go true ih = refl
+    go false ih = ih
 
 pub is-nothing : (w : Waits) → waiting_of w ≡ nothing → w ≡ waits.Nothing
 is-nothing waits.Nothing e = refl
 is-nothing waits.Outside e = cc
 is-nothing (waits.Entry m) e = cc
 is-nothing (waits.Condition c) e = cc
+
+pub is-outside : (w : Waits) → waiting_of w ≡ outside → w ≡ waits.Outside
+is-outside waits.Nothing e = cc
+is-outside waits.Outside e = refl
+is-outside (waits.Entry m) e = cc
+is-outside (waits.Condition c) e = cc
+
+-- it waits for nothing where its slot says so
+pub ready-is : (w : Waits) → (is_ready (waiting_of w) ≡ true) ↔ (w ≡ waits.Nothing)
+ready-is waits.Nothing = (λ h. refl, λ h. refl)
+ready-is waits.Outside = (λ h. absurd (let bad : false ≡ true = h in cc), λ h. cc)
+ready-is (waits.Entry m) = (λ h. absurd (let bad : false ≡ true = h in cc), λ h. cc)
+ready-is (waits.Condition c) = (λ h. absurd (let bad : false ≡ true = h in cc), λ h. cc)
 
 -- 3. Free numbers
 
@@ -104,24 +147,10 @@ served-is c (s ∷ slots) =
     ∙ ap (λ n. cond (is_class c s.serves) 1 0 + n) (served-is c slots)
     ∙ sym (sum_by-cons (λ (t : Slot). cond (slot_serves c t) 1 0) s slots)
 
-pub startable-found : (slots : List Slot) (limits : List ℕ) (ms : List Monitor) (cs : List Condition) (queued : List Serving)
-    → option_map invocation_of (find (next_serving slots limits) queued) ≡ find (may_start (record { limits = limits; processes = map process_of slots; monitors = ms; conditions = cs })) (map invocation_of queued)
+pub startable-found : (slots : List Slot) (limits : List ℕ) (ms : List Monitor) (cs : List Condition) (queued : List Invocation)
+    → find (next_serving slots limits) queued ≡ find (may_start (record { limits = limits; processes = map process_of slots; monitors = ms; conditions = cs })) queued
 startable-found slots limits ms cs [] = refl
-startable-found slots limits ms cs (q ∷ queued) = rw (served-is q.class slots) (go (next_serving slots limits q) (startable-found slots limits ms cs queued))
-  where
-    go : (b : Bool) → option_map invocation_of (find (next_serving slots limits) queued) ≡ find (may_start (record { limits = limits; processes = map process_of slots; monitors = ms; conditions = cs })) (map invocation_of queued)
-        → option_map invocation_of (cond b (Some q) (find (next_serving slots limits) queued)) ≡ cond b (Some (invocation_of q)) (find (may_start (record { limits = limits; processes = map process_of slots; monitors = ms; conditions = cs })) (map invocation_of queued))
-    go true ih = refl
-    go false ih = ih
-
-pub without-served : (k : ℕ) (queued : List Serving) → map invocation_of (filter (λ s. not (s.call == k)) queued) ≡ without_call k (map invocation_of queued)
-without-served k [] = refl
-without-served k (q ∷ queued) = go (q.call == k) (without-served k queued)
-  where
-    go : (b : Bool) → map invocation_of (filter (λ s. not (s.call == k)) queued) ≡ without_call k (map invocation_of queued)
-        → map invocation_of (cond (not b) (q ∷ filter (λ s. not (s.call == k)) queued) (filter (λ s. not (s.call == k)) queued)) ≡ cond (not b) (invocation_of q ∷ without_call k (map invocation_of queued)) (without_call k (map invocation_of queued))
-    go true ih = ih
-    go false ih = ap (λ xs. invocation_of q ∷ xs) ih
+startable-found slots limits ms cs (q ∷ queued) = rw (served-is q.class slots) (ap (cond (next_serving slots limits q) (Some q)) (startable-found slots limits ms cs queued))
 
 pub slots-removed : (p : ℕ) (slots : List Slot) → map process_of (filter (λ s. not (s.number == p)) slots) ≡ where_key nat_cmp (λ k. not (k == p)) (map process_of slots)
 slots-removed p [] = refl
@@ -158,10 +187,6 @@ pair-is s = go s.serves
 pub pairs-are : (slots : List Slot) → filter_map slot_pair slots ≡ serving_pairs (map process_of slots)
 pairs-are [] = refl
 pairs-are (s ∷ slots) = rw (pair-is s, pairs-are slots) refl
-
-pub calls-are : (queued : List Serving) → map (λ (s : Serving). s.call) queued ≡ map (λ (i : Invocation). i.call) (map invocation_of queued)
-calls-are [] = refl
-calls-are (q ∷ queued) = ap (λ xs. q.call ∷ xs) (calls-are queued)
 
 pub pairs-more : (slots : List Slot) (i : ℕ) (d : Slot) → i < length slots → filter_map slot_pair (take (i + 1) slots) ≡ filter_map slot_pair (take i slots) ++ option_to_list (slot_pair (get_or slots i d))
 pairs-more slots i d h = ap (filter_map slot_pair) (take_more slots i d h) ∙ filter_map-append slot_pair (take i slots) (get_or slots i d ∷ []) ∙ ap (λ xs. filter_map slot_pair (take i slots) ++ xs) (go (slot_pair (get_or slots i d)))

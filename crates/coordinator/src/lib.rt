@@ -8,28 +8,34 @@
 //! by `Coordinator::new`; every other call succeeds without any.
 #![tactic(auto)]
 
-mod gates;
-mod line;
+mod monitors;
 mod parts;
+mod process_queue;
+mod queue;
 mod slots;
 #[cfg(test)]
 mod tests;
 
-ghost use Rattle.std.specs.Prelude.{◌≡◌, ◌<◌, ◌≤◌, ◌+◌, ◌==◌, ◌↔◌, ◌++◌, ◌∷◌, [], ℕ, List, length, map, Some, None, IsSome, IfSome, IfOk, MatchResult, IsTrue, slice_get};
+ghost use Rattle.std.specs.Prelude.{◌≡◌, ◌<◌, ◌≤◌, ◌+◌, ◌==◌, ◌↔◌, ◌++◌, ◌∷◌, [], ℕ, List, length, map, Some, None, IfSome, IfOk};
+ghost use Rattle.std.specs.Prelude.{MatchResult, IsTrue, slice_get};
 ghost use Rattle.std.specs.List.{All};
 ghost use Rattle.std.specs.Option.{option_map};
-ghost use Rattle.eden_model.specs.Crew.{Crew, Coordination, Runs, Waits as WaitsFor, Holds, outside, nothing, is_free, locked, left, waited, signalled, set_waits, ended, startable, started_in, least_free, fresh, serving_pairs};
+ghost use Rattle.eden_model.specs.Crew.{Crew, Coordination, Runs, Waits as WaitsFor, Holds, outside, nothing, is_free, locked, left};
+ghost use Rattle.eden_model.specs.Crew.{waited, signalled, set_waits, ended, startable, started_in, least_free, fresh, serving_pairs};
+ghost use Rattle.eden_model.specs.Map.{with_item};
+ghost use Rattle.coordinator.specs.Ready.{call_served, next_ready, AscendPast};
 ghost use Rattle.coordinator.specs.View.{setup_of};
 
-use crate::gates::{admit, free_gates, join, pass_on, pass_on_all, quiet_bells};
+use crate::monitors::{admit, is_held, join, new_conditions, new_monitors, pass_on, pass_on_all};
+use crate::queue::Queue;
 use crate::slots::{
-    declared_slots, insert_slot, is_running, least_free, next_to_start, queued_calls, remove_slot,
-    served_pairs, set_slots,
+    call_of, declared_slots, insert_slot, is_outside, is_running, least_free, next_past,
+    next_to_start, remove_slot, served_pairs, set_slots,
 };
 use capability::CallNumbers;
-pub use gates::{Bell, Gate};
-pub use line::Line;
+pub use monitors::{Condition, Monitor};
 pub use parts::{Busy, CondMonitors, Limits, Pairs, Parts, Setup, Started};
+pub use process_queue::ProcessQueue;
 pub use slots::{Serving, Slot, Waits};
 use std::alloc::{AllocError, Global};
 use std::marker::Model;
@@ -39,12 +45,9 @@ use std::marker::Model;
 pub struct Coordinator {
     limits: Limits,
     slots: Vec<Slot>,
-    gates: Vec<Gate>,
-    bells: Vec<Bell>,
-    queued: Vec<Serving>,
-    // Empty, with room for what `into_parts` gives.
-    running_room: Vec<(u8, u32)>,
-    queued_room: Vec<u32>,
+    monitors: Vec<Monitor>,
+    conditions: Vec<Condition>,
+    queued: Queue,
 }
 
 impl Model for Coordinator {
@@ -70,32 +73,27 @@ impl Coordinator {
         ensures { IfOk result (λ c. c ≡ fresh (setup_of setup)) }
     {
         let slots = declared_slots(alloc, setup.declared)?;
-        let gates = free_gates(alloc, setup.monitors)?;
-        let bells = quiet_bells(alloc, setup.conditions.as_slice())?;
-        let queued = Vec::with_capacity(alloc, 64)?;
-        let running_room = Vec::with_capacity(alloc, 16)?;
-        let queued_room = Vec::with_capacity(alloc, 64)?;
+        let monitors = new_monitors(alloc, setup.monitors)?;
+        let conditions = new_conditions(alloc, setup.conditions.as_slice())?;
+        let queued = Queue::new(alloc)?;
         Ok(Coordinator {
             limits: setup.limits,
             slots,
-            gates,
-            bells,
+            monitors,
+            conditions,
             queued,
-            running_room,
-            queued_room,
         })
     }
 
     /// Whether 64 invocations are queued, so that the next one is refused.
     pub fn is_full(&self) -> bool
-        ensures { IsTrue result ↔ (length self.now.queued ≡ 64) }
+        ensures { IsTrue result ↔ (64 ≤ length self.now.queued) }
     {
-        self.queued.len() == 64
+        self.queued.len() >= 64
     }
 
     /// The invocation goes to the back of the queue, unless 64 are queued.
     pub fn offer(&mut self, call: u32, class: u8) -> Result<(), Busy>
-        requires { class < length self.old.crew.limits }
         ensures { MatchResult result
             (λ _. (length self.old.queued < 64)
             × (self.new ≡ record self.old {
@@ -103,10 +101,10 @@ impl Coordinator {
             }))
             (λ _. (length self.old.queued ≡ 64) × (self.new ≡ self.old)) }
     {
-        if self.queued.len() == 64 {
+        if self.queued.len() >= 64 {
             return Err(Busy);
         }
-        self.queued.push_reserved(Serving { call, class });
+        self.queued.push(call, class);
         Ok(())
     }
 
@@ -122,22 +120,74 @@ impl Coordinator {
     }
 
     /// The startable invocation leaves the queue and runs, in a process of the least free number.
-    pub fn start(&mut self) -> Started
-        requires { IsSome (startable self.old.crew self.old.queued) }
-        ensures { IfSome (startable self.old.crew self.old.queued)
-            (λ i. (result.call ≡ i.call) × (result.process ≡ least_free self.old.crew)
-            × (self.new ≡ started_in i self.old)) }
+    /// None exactly where there is none, and then nothing changes.
+    pub fn start(&mut self) -> Option<Started>
+        ensures call { option_map (λ s. s.call) result ≡ option_map (λ i. i.call) (startable self.old.crew self.old.queued) }
+        ensures process { IfSome result (λ s. s.process ≡ least_free self.old.crew) }
+        ensures after { self.new ≡ with_item (startable self.old.crew self.old.queued) (λ i. started_in i self.old) self.old }
     {
         match next_to_start(&self.slots, self.limits.as_slice(), &self.queued) {
             Some(next) => {
                 let call = next.call;
                 let process = least_free(&self.slots);
                 insert_slot(&mut self.slots, process, next);
-                self.queued.retain(|s| s.call != call);
-                Started { call, process }
+                self.queued.remove(call);
+                Some(Started { call, process })
             }
-            None => unreachable!(),
+            None => None,
         }
+    }
+
+    /// The call that the process serves. None where there is no such process, or it serves none.
+    pub fn serves(&self, process: u8) -> Option<u32>
+        ensures { result ≡ call_served process self.now.crew.processes }
+    {
+        call_of(&self.slots, process)
+    }
+
+    /// The first process past a number that waits for nothing. None exactly where there is none.
+    pub fn next_ready(&self, after: u8) -> Option<u8>
+        ensures { result ≡ next_ready after self.now.crew.processes }
+    {
+        next_past(&self.slots, after)
+    }
+
+    /// The numbers of the processes ascend, and are 1 to 16.
+    pub fn processes_ascend(&self)
+        ensures { AscendPast 0 self.now.crew.processes }
+    {
+        let _slots = &self.slots;
+    }
+
+    /// How many monitors there are.
+    pub fn monitors(&self) -> usize
+        ensures { result ≡ length self.now.crew.monitors }
+    {
+        self.monitors.len()
+    }
+
+    /// How many conditions there are.
+    pub fn conditions(&self) -> usize
+        ensures { result ≡ length self.now.crew.conditions }
+    {
+        self.conditions.len()
+    }
+
+    /// The monitor of a condition. None exactly where there is no such condition.
+    pub fn monitor_of(&self, condition: u8) -> Option<u8>
+        ensures { result ≡ option_map (λ it. it.monitor) (slice_get self.now.crew.conditions condition) }
+    {
+        match self.conditions.get(condition as usize) {
+            Some(target) => Some(target.monitor),
+            None => None,
+        }
+    }
+
+    /// Whether the process holds the monitor.
+    pub fn holds(&self, process: u8, monitor: u8) -> bool
+        ensures { IsTrue result ↔ Holds self.now.crew process monitor }
+    {
+        monitor > 0 && is_held(&self.monitors, process, (monitor - 1) as usize)
     }
 
     /// Whether the process is there and waits for nothing.
@@ -145,6 +195,13 @@ impl Coordinator {
         ensures { IsTrue result ↔ Runs self.now.crew process }
     {
         is_running(&self.slots, process)
+    }
+
+    /// Whether the process is there and waits for a reply or for the store.
+    pub fn awaits(&self, process: u8) -> bool
+        ensures { IsTrue result ↔ WaitsFor self.now.crew process outside }
+    {
+        is_outside(&self.slots, process)
     }
 
     /// The process waits for a reply or for the store.
@@ -172,7 +229,7 @@ impl Coordinator {
         ensures held { result ≡ is_free self.old.crew monitor }
         ensures after { self.new ≡ record self.old { crew = locked process monitor self.old.crew } }
     {
-        admit(&mut self.slots, &mut self.gates, process, monitor)
+        admit(&mut self.slots, &mut self.monitors, process, monitor)
     }
 
     /// The monitor passes from the process to the head of the entry queue, or is free.
@@ -181,7 +238,7 @@ impl Coordinator {
         requires holds { Holds self.old.crew process monitor }
         ensures { self.new ≡ record self.old { crew = left monitor self.old.crew } }
     {
-        pass_on(&mut self.slots, &mut self.gates, monitor);
+        pass_on(&mut self.slots, &mut self.monitors, monitor);
     }
 
     /// The process leaves the condition's monitor, and is the last of those who wait on it.
@@ -192,10 +249,10 @@ impl Coordinator {
             (λ it. Holds self.old.crew process it.monitor) }
         ensures { self.new ≡ record self.old { crew = waited process condition self.old.crew } }
     {
-        let bell = &mut self.bells[condition as usize];
-        let monitor = bell.monitor;
-        bell.waiters.push(process);
-        pass_on(&mut self.slots, &mut self.gates, monitor);
+        let target = &mut self.conditions[condition as usize];
+        let monitor = target.monitor;
+        target.waiters.push(process);
+        pass_on(&mut self.slots, &mut self.monitors, monitor);
         set_slots(&mut self.slots, process, Waits::Condition { condition });
     }
 
@@ -208,10 +265,10 @@ impl Coordinator {
             (λ it. Holds self.old.crew process it.monitor) }
         ensures { self.new ≡ record self.old { crew = signalled condition self.old.crew } }
     {
-        let bell = &mut self.bells[condition as usize];
-        let monitor = bell.monitor;
-        if let Some(next) = bell.waiters.pop() {
-            join(&mut self.slots, &mut self.gates, next, monitor);
+        let target = &mut self.conditions[condition as usize];
+        let monitor = target.monitor;
+        if let Some(next) = target.waiters.pop() {
+            join(&mut self.slots, &mut self.monitors, next, monitor);
         }
     }
 
@@ -220,7 +277,7 @@ impl Coordinator {
         requires { Runs self.old.crew process }
         ensures { self.new ≡ record self.old { crew = ended process self.old.crew } }
     {
-        pass_on_all(&mut self.slots, &mut self.gates, process);
+        pass_on_all(&mut self.slots, &mut self.monitors, process);
         remove_slot(&mut self.slots, process);
     }
 
@@ -229,10 +286,8 @@ impl Coordinator {
         ensures running { result.running ≡ serving_pairs self.crew.processes }
         ensures queued { result.queued ≡ map (λ i. i.call) self.queued }
     {
-        let running_room = self.running_room;
-        let queued_room = self.queued_room;
-        let pairs = served_pairs(&self.slots, running_room);
-        let numbers = queued_calls(&self.queued, queued_room);
+        let pairs = served_pairs(&self.slots);
+        let numbers = self.queued.into_numbers();
         Parts {
             running: Pairs { pairs },
             queued: CallNumbers { numbers },

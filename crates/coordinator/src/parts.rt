@@ -1,6 +1,7 @@
 //! What a coordinator is made of, and what is left of it.
 ghost use Rattle.std.specs.Prelude.{◌≡◌};
 
+use arrayvec::ArrayVec;
 use capability::CallNumbers;
 use std::marker::Model;
 
@@ -53,7 +54,7 @@ impl CondMonitors {
 /// Numbers of processes, each with the number of the call that it serves.
 #[derive(Drop)]
 pub struct Pairs {
-    pub pairs: Vec<(u8, u32)>,
+    pub pairs: ArrayVec<(u8, u32), 16>,
 }
 
 impl Model for Pairs {

@@ -1,14 +1,18 @@
 //! The processes, each with what it serves and what it waits for.
-ghost use Rattle.std.specs.Prelude.{◌≡◌, ◌<◌, ◌≤◌, ◌+◌, ◌↔◌, ◌==◌, IsTrue, ℕ, false, map, filter_map, [], ◌++◌, option_to_list, not, length, Some, OnSome, IfOk, List, slice_index, slice_index_or, count_by, vec_len};
+ghost use Rattle.std.specs.Prelude.{◌≡◌, ◌<◌, ◌≤◌, ◌+◌, ◌↔◌, ◌==◌, IsTrue, ℕ, false, map, filter_map, [], ◌++◌, option_to_list, not};
+ghost use Rattle.std.specs.Prelude.{length, Some, OnSome, IfOk, List, slice_index, slice_index_or, count_by, vec_len};
 ghost use Rattle.std.specs.List.{filter, find, list_any, insert};
 ghost use Rattle.std.specs.Vec.{vec_capacity};
 ghost use Rattle.std.specs.Option.{option_map};
 ghost use Rattle.eden_model.specs.Map.{put_at};
 ghost use Rattle.std.specs.Ordering.{nat_cmp};
-ghost use Rattle.eden_model.specs.Crew.{Monitor, Condition, waits_at, nothing, least_number, is_taken, declared_from, startable};
-ghost use Rattle.coordinator.specs.Fields.{slot_pair, with_slot, slot_serves, next_serving, started_slot};
+ghost use Rattle.eden_model.specs.Crew.{Monitor, Condition, waits_at, nothing, outside, least_number, is_taken, declared_from, startable};
+ghost use Rattle.coordinator.specs.Fields.{slot_pair, with_slot, slot_serves, next_serving, started_slot, is_slot_past};
+ghost use Rattle.coordinator.specs.Ready.{call_served, next_ready};
 ghost use Rattle.coordinator.specs.View.{process_of, invocation_of};
 
+use crate::queue::Queue;
+use arrayvec::ArrayVec;
 use std::alloc::{AllocError, Global};
 
 /// What a process waits for.
@@ -28,9 +32,9 @@ pub struct Serving {
 
 #[derive(Clone, Copy)]
 pub struct Slot {
+    pub waits: Waits,
     pub number: u8,
     pub serves: Option<Serving>,
-    pub waits: Waits,
 }
 
 impl Slot {
@@ -51,6 +55,29 @@ impl Slot {
             Some(serving) => serving.class == class,
             None => false,
         }
+    }
+
+    /// The call that it serves.
+    fn call(&self) -> Option<u32>
+        ensures { result ≡ option_map (λ s. s.call) self.now.serves }
+    {
+        match self.serves {
+            Some(serving) => Some(serving.call),
+            None => None,
+        }
+    }
+
+    /// Whether its number is past this one, and it waits for nothing.
+    fn is_past(&self, number: u8) -> bool
+        ensures { result ≡ is_slot_past number self.now }
+    {
+        number < self.number && self.is_idle()
+    }
+
+    fn is_away(&self) -> bool
+        ensures { IsTrue result ↔ (self.now.waits ≡ Waits.Outside) }
+    {
+        matches!(self.waits, Waits::Outside)
     }
 
     fn is_idle(&self) -> bool
@@ -104,25 +131,29 @@ fn limit_of(limits: &[u8], class: u8) -> u8
 }
 
 fn may_start(slots: &[Slot], limits: &[u8], serving: Serving) -> bool
-    ensures { result ≡ next_serving slots.now limits.now serving }
+    ensures { result ≡ next_serving slots.now limits.now (invocation_of serving) }
 {
     served(slots, serving.class) < limit_of(limits, serving.class) as usize
 }
 
-fn first_to_start(slots: &[Slot], limits: &[u8], queued: &[Serving]) -> Option<Serving>
-    ensures { result ≡ find (next_serving slots.now limits.now) queued.now }
+/// The earliest invocation that is below its class's limit.
+fn first_to_start(slots: &[Slot], limits: &[u8], queued: &Queue) -> Option<Serving>
+    ensures { option_map invocation_of result ≡ find (next_serving slots.now limits.now) queued.now }
 {
-    queued
-        .iter()
-        .copied()
-        .find(|serving| may_start(slots, limits, *serving))
+    for place in 0..queued.len() {
+        let serving = queued.at(place);
+        if may_start(slots, limits, serving) {
+            return Some(serving);
+        }
+    }
+    None
 }
 
 /// The earliest invocation that may start, while fewer than sixteen processes exist.
-pub fn next_to_start(slots: &[Slot], limits: &[u8], queued: &[Serving]) -> Option<Serving>
+pub fn next_to_start(slots: &[Slot], limits: &[u8], queued: &Queue) -> Option<Serving>
     ensures few { OnSome result (length slots.now < 16) }
     ensures found { (ms : List Monitor) (cs : List Condition) → option_map invocation_of result
-        ≡ startable (record { limits = limits.now; processes = map process_of slots.now; monitors = ms; conditions = cs }) (map invocation_of queued.now) }
+        ≡ startable (record { limits = limits.now; processes = map process_of slots.now; monitors = ms; conditions = cs }) queued.now }
 {
     if slots.len() < 16 {
         first_to_start(slots, limits, queued)
@@ -206,38 +237,61 @@ pub fn is_running(slots: &[Slot], process: u8) -> bool
     }
 }
 
-fn push_pair(pairs: &mut Vec<(u8, u32)>, slot: Slot)
-    requires { vec_len pairs.old < vec_capacity pairs.old }
-    ensures pairs { pairs.new.items ≡ pairs.old.items ++ option_to_list (slot_pair slot) }
-    ensures few { length pairs.new.items ≤ length pairs.old.items + 1 }
-    ensures room { vec_capacity pairs.new ≡ vec_capacity pairs.old }
+/// Whether the process waits for a reply or for the store.
+pub fn is_outside(slots: &[Slot], process: u8) -> bool
+    ensures { IsTrue result ↔ (waits_at process (map process_of slots.now) ≡ Some outside) }
 {
-    if let Some(serving) = slot.serves {
-        pairs.push_reserved((slot.number, serving.call));
+    match slot_of(slots, process) {
+        Some(slot) => slot.is_away(),
+        None => false,
     }
 }
 
-/// The processes that serve a call, each with the call, in an empty list that has room for them.
-pub fn served_pairs(slots: &Vec<Slot>, mut pairs: Vec<(u8, u32)>) -> Vec<(u8, u32)>
-    requires empty { pairs.items ≡ [] }
-    requires room { length slots.now.items ≤ vec_capacity pairs }
+/// The call that the process serves.
+pub fn call_of(slots: &[Slot], process: u8) -> Option<u32>
+    ensures { result ≡ call_served process (map process_of slots.now) }
+{
+    match slot_of(slots, process) {
+        Some(slot) => slot.call(),
+        None => None,
+    }
+}
+
+/// The first process past a number that waits for nothing.
+pub fn next_past(slots: &[Slot], after: u8) -> Option<u8>
+    ensures { result ≡ next_ready after (map process_of slots.now) }
+{
+    match first_past(slots, after) {
+        Some(slot) => Some(slot.number),
+        None => None,
+    }
+}
+
+fn first_past(slots: &[Slot], after: u8) -> Option<Slot>
+    ensures { result ≡ find (is_slot_past after) slots.now }
+{
+    slots.iter().copied().find(|slot| slot.is_past(after))
+}
+
+fn push_pair(pairs: &mut ArrayVec<(u8, u32), 16>, slot: Slot)
+    requires { length pairs.old.items < 16 }
+    ensures pairs { pairs.new.items ≡ pairs.old.items ++ option_to_list (slot_pair slot) }
+    ensures few { length pairs.new.items ≤ length pairs.old.items + 1 }
+{
+    if let Some(serving) = slot.serves {
+        pairs.push((slot.number, serving.call));
+    }
+}
+
+/// The processes that serve a call, each with the call.
+pub fn served_pairs(slots: &Vec<Slot>) -> ArrayVec<(u8, u32), 16>
+    requires { length slots.now.items ≤ 16 }
     ensures { result.items ≡ filter_map slot_pair slots.now.items }
 {
+    let mut pairs = ArrayVec::new();
     for i in 0..slots.len() {
         let slot = slots[i];
         push_pair(&mut pairs, slot);
     }
     pairs
-}
-
-/// The calls that are queued, in an empty list that has room for them.
-pub fn queued_calls(queued: &[Serving], mut calls: Vec<u32>) -> Vec<u32>
-    requires empty { calls.items ≡ [] }
-    requires room { length queued.now ≤ vec_capacity calls }
-    ensures { result.items ≡ map (λ s. s.call) queued.now }
-{
-    for serving in queued {
-        calls.push_reserved(serving.call);
-    }
-    calls
 }

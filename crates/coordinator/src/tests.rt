@@ -25,7 +25,7 @@ fn one_of_a_class_with_limit_one(rt: HostRuntime) -> Result<(), AllocError> {
     assert!(rt; c.is_full());
     assert!(rt; c.offer(164, 0).is_err());
     assert_eq!(rt; c.startable(), Some(100));
-    match start_next(&mut c) {
+    match c.start() {
         Some(started) => {
             assert_eq!(rt; started.call, 100);
             assert_eq!(rt; started.process, 1);
@@ -33,20 +33,15 @@ fn one_of_a_class_with_limit_one(rt: HostRuntime) -> Result<(), AllocError> {
         None => panic!(rt; "nothing started"),
     }
     assert!(rt; c.runnable(1));
+    assert_eq!(rt; c.serves(1), Some(100));
+    assert_eq!(rt; c.serves(2), None);
     assert_eq!(rt; c.startable(), None);
+    assert!(rt; c.start().is_none());
     let parts = c.into_parts();
     assert_eq!(rt; parts.running.pairs.len(), 1);
     assert_eq!(rt; parts.queued.numbers.len(), 63);
     assert_eq!(rt; parts.queued.numbers.first().copied(), Some(101));
     Ok(())
-}
-
-/// Starts the next invocation, where there is one.
-fn start_next(c: &mut Coordinator) -> Option<Started> {
-    match c.startable() {
-        Some(_) => Some(c.start()),
-        None => None,
-    }
 }
 
 #[test]
@@ -66,8 +61,18 @@ fn a_monitor_passes_in_order(rt: HostRuntime) -> Result<(), AllocError> {
             conditions,
         },
     )?;
+    assert_eq!(rt; c.monitors(), 1);
+    assert_eq!(rt; c.conditions(), 1);
+    assert_eq!(rt; c.monitor_of(0), Some(1));
+    assert_eq!(rt; c.monitor_of(1), None);
     assert!(rt; c.enter(1, 1));
+    assert!(rt; c.holds(1, 1));
+    assert!(rt; !c.holds(2, 1));
+    assert!(rt; !c.holds(1, 0));
     assert!(rt; !c.enter(2, 1));
+    assert_eq!(rt; c.next_ready(0), Some(1));
+    assert_eq!(rt; c.next_ready(1), Some(3));
+    assert_eq!(rt; c.next_ready(3), None);
     assert!(rt; !c.runnable(2));
     c.wait(1, 0);
     assert!(rt; c.runnable(2), "the monitor was left to it");
@@ -79,8 +84,11 @@ fn a_monitor_passes_in_order(rt: HostRuntime) -> Result<(), AllocError> {
     c.end(3);
     assert!(rt; c.runnable(1));
     assert!(rt; !c.runnable(3));
+    assert!(rt; !c.awaits(1));
     c.block(1);
     assert!(rt; !c.runnable(1));
+    assert!(rt; c.awaits(1));
+    assert_eq!(rt; c.next_ready(0), Some(2));
     c.resume(1);
     c.leave(1, 1);
     assert!(rt; c.enter(2, 1), "free again");

@@ -12,9 +12,10 @@ use Rattle.std.specs.FinMap.{FinMap, entries, len, len-entries, entries-from_sor
 use Rattle.std.specs.FinMap.Entries.{is_sorted, below_all}
 use Rattle.slab.specs.Slab.{Slab, get as get_slab, Updates, with_value}
 use Rattle.capability.specs.declared.Uid.{Uid}
-use Rattle.capability.specs.Uids.{uid_cmp, uid_cmp_total, uid_cmp-IsAntisymmetric}
+use Rattle.capability.specs.Uids.{uid_cmp}
+use Rattle.capability.proofs.Uids.{uid_cmp_total, uid_cmp-IsAntisymmetric}
 use Rattle.eden_model.specs.Map.{each_value, value_at, with_item}
-use Rattle.eden_model.specs.Laws.{eq-same}
+use Rattle.eden_model.proofs.Laws.{eq-same}
 use Rattle.eject_table.specs.Table.{item_of, map_of, IsWhole, active_in, dropped, dropped_in, place_standing, standing_of}
 use Rattle.eject_table.specs.declared.Standing.TheVariants.{Active}
 

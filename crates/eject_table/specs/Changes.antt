@@ -15,6 +15,7 @@ pub data Change (A : Type 0) : Type 0 where
   dropped_out : Uid → Bool → Change A
   forgotten : Uid → Change A
 
+-- the table after a change
 abbrev pub changed : {A : Type 0} → Change A → Table A → Table A
 changed (created u a) t = record t { last_serial = t.last_serial + 1; standings = insert t.standings u (Some a) }
 changed (noted u) t = with_entry t u None

@@ -13,22 +13,28 @@ use Rattle.eden_model.specs.Map.{each_value, value_at, first}
 use Rattle.eject_table.specs.declared.Standing.{Standing}
 use Rattle.eject_table.specs.declared.Standing.TheVariants.{Active, Passive, Absent}
 
+-- a node in one epoch: the last serial that it gave, and how each Eject stands: with its active part, or with none where it is passive
 pub record Table (A : Type 0) : Type 0 where
   pub node : ℕ
   pub epoch : ℕ
   pub last_serial : ℕ
   pub standings : FinMap uid_cmp (Option A)
 
+-- a table is told by its four parts
 abbrev pub table_code : {A : Type 0} → Coded A → Coded (Table A)
 table_code {A} code =
-    code_by (ℕ × (ℕ × (ℕ × FinMap uid_cmp (Option A)))) (coded× coded_ℕ (coded× coded_ℕ (coded× coded_ℕ (finite.code coded_uid (coded_option code)))))
-    (λ t. (t.node, (t.epoch, (t.last_serial, t.standings)))) (λ p. record { node = p.0; epoch = p.1.0; last_serial = p.1.1.0; standings = p.1.1.1 }) (λ _. refl)
+    code_by (ℕ × (ℕ × (ℕ × FinMap uid_cmp (Option A))))
+    (coded× coded_ℕ (coded× coded_ℕ (coded× coded_ℕ (finite.code coded_uid (coded_option code)))))
+    (λ t. (t.node, (t.epoch, (t.last_serial, t.standings))))
+    (λ p. record { node = p.0; epoch = p.1.0; last_serial = p.1.1.0; standings = p.1.1.1 })
+    (λ _. refl)
 
--- the map that a slab and the places in it stand for
+-- the active part at a place of the slab, where there is a place
 abbrev pub item_of : {A : Type 0} → Slab A → Option ℕ → Option A
 item_of slab None = None
 item_of slab (Some k) = get_slab slab k
 
+-- the map that a slab and the places in it stand for
 abbrev pub map_of : {A : Type 0} → Slab A → List (Uid × Option ℕ) → FinMap uid_cmp (Option A)
 map_of slab places = from_sorted (each_value (item_of slab) places)
 
@@ -44,18 +50,22 @@ empty_table node epoch last = record { node = node; epoch = epoch; last_serial =
 
 -- 1. Look-ups
 
+-- the active part that is looked up, where there is one
 abbrev pub active_in : {A : Type 0} → Option (Option A) → Option A
 active_in None = None
 active_in (Some a) = a
 
+-- the active part of an Eject
 abbrev pub active_at : {A : Type 0} → Table A → Uid → Option A
 active_at t u = active_in (get t.standings u)
 
+-- how an Eject stands, by what is looked up
 abbrev pub standing_of : {A : Type 0} → Option (Option A) → Standing
 standing_of None = Absent
 standing_of (Some None) = Passive
 standing_of (Some (Some a)) = Active
 
+-- how an Eject stands in a table
 abbrev pub standing_at : {A : Type 0} → Table A → Uid → Standing
 standing_at t u = standing_of (get t.standings u)
 
@@ -66,9 +76,11 @@ next_key (Some u) us = find_first (λ v. is_lt (uid_cmp u v)) us
 
 -- 2. Changes
 
+-- the Eject stands so from now on
 abbrev pub with_entry : {A : Type 0} → Table A → Uid → Option A → Table A
 with_entry t u a = record t { standings = insert t.standings u a }
 
+-- the Eject is in the table no more
 abbrev pub without_entry : {A : Type 0} → Table A → Uid → Table A
 without_entry t u = record t { standings = remove t.standings u }
 
@@ -85,6 +97,7 @@ abbrev pub dropped_in : {A : Type 0} → Option A → FinMap uid_cmp (Option A) 
 dropped_in None m u stays = m
 dropped_in (Some a) m u stays = cond stays (insert m u None) (remove m u)
 
+-- the same, by its uid; nothing changes where it is not active
 abbrev pub dropped : {A : Type 0} → FinMap uid_cmp (Option A) → Uid → Bool → FinMap uid_cmp (Option A)
 dropped m u stays = dropped_in (active_in (get m u)) m u stays
 

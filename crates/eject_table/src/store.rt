@@ -73,7 +73,8 @@ pub fn put_passive<A>(
 /// The Eject, which is in the index, has no place.
 fn make_passive(places: &mut BTreeMap<Uid, Option<usize>>, uid: Uid)
     requires { IsSome (value_at uid_cmp uid places.old.entries) }
-    ensures at { (q : Uid) → value_at uid_cmp q places.new.entries ≡ cond (eq_by_cmp uid_cmp uid q) (Some None) (value_at uid_cmp q places.old.entries) }
+    ensures at { (q : Uid) → value_at uid_cmp q places.new.entries
+        ≡ cond (eq_by_cmp uid_cmp uid q) (Some None) (value_at uid_cmp q places.old.entries) }
     ensures sorted { IsOrdered uid_cmp places.new }
 {
     match places.insert(uid, None) {
@@ -84,7 +85,8 @@ fn make_passive(places: &mut BTreeMap<Uid, Option<usize>>, uid: Uid)
 
 /// The Eject is no longer in the index.
 fn make_absent(places: &mut BTreeMap<Uid, Option<usize>>, uid: Uid)
-    ensures at { (q : Uid) → value_at uid_cmp q places.new.entries ≡ cond (eq_by_cmp uid_cmp uid q) None (value_at uid_cmp q places.old.entries) }
+    ensures at { (q : Uid) → value_at uid_cmp q places.new.entries
+        ≡ cond (eq_by_cmp uid_cmp uid q) None (value_at uid_cmp q places.old.entries) }
     ensures sorted { IsOrdered uid_cmp places.new }
 {
     let _ = places.remove(&uid);
@@ -93,7 +95,8 @@ fn make_absent(places: &mut BTreeMap<Uid, Option<usize>>, uid: Uid)
 /// The Eject, which is in the index, is passive, or absent.
 fn unplace(places: &mut BTreeMap<Uid, Option<usize>>, uid: Uid, stays: bool)
     requires { IsSome (value_at uid_cmp uid places.old.entries) }
-    ensures at { (q : Uid) → value_at uid_cmp q places.new.entries ≡ cond (eq_by_cmp uid_cmp uid q) (cond stays (Some None) None) (value_at uid_cmp q places.old.entries) }
+    ensures at { (q : Uid) → value_at uid_cmp q places.new.entries
+        ≡ cond (eq_by_cmp uid_cmp uid q) (cond stays (Some None) None) (value_at uid_cmp q places.old.entries) }
     ensures sorted { IsOrdered uid_cmp places.new }
 {
     if stays {

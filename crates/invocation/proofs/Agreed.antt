@@ -1,21 +1,19 @@
 -- The calls of the code and of the model, changed together.
 use Rattle.std.proofs.Common.{subst, ◌≡◌, ◌≤◌, ◌<◌, ℕ, zero, suc, ◌+◌, ◌-◌, ◌==◌, Bool, true, false, cond, List, [], ◌∷◌, ◌++◌, map, length, Option, None, Some, refl, sym, ◌∙◌, ap, arith}
-use Rattle.std.specs.Prelude.{slice_get, filter_map}
+use Rattle.std.specs.Prelude.{filter_map}
+use Rattle.std.specs.List.{All}
+use Rattle.std.proofs.lemmas.List.Elements.{All-head, All-tail}
 use Rattle.std.specs.declared.cmp.Ordering.TheVariants.{Less, Equal, Greater}
 use Rattle.std.specs.Ordering.{nat_cmp, eq_by_cmp}
 use Rattle.eden_model.specs.Map.{each_value, with_item, value_at, put_at, changed_at}
 use Rattle.eden_model.specs.Crew.{change}
-use Rattle.eden_model.specs.Numbers.{same-true}
 use Rattle.eden_model.specs.Traffic as traffic
 use Rattle.invocation.specs.declared.call.Call.{Call}
 use Rattle.invocation.specs.Numbers.{numbers_where}
-use Rattle.invocation.specs.Carries.{Same, Agree}
-
-pub agree-length : (n : ℕ) (cs : List Call) (es : List (ℕ × traffic.Call)) → Agree n cs es → length es ≡ length cs
-agree-length n [] [] h = refl
-agree-length n (c ∷ cs) (e ∷ es) h = ap suc (agree-length (n + 1) cs es h.2)
-agree-length n [] (e ∷ es) h = absurd h
-agree-length n (c ∷ cs) [] h = absurd h
+use Rattle.invocation.specs.Carries.{Same, Agree, is_awaited}
+use Rattle.invocation.specs.Mail.{spent, let_go, number_of}
+use Rattle.invocation.specs.declared.call.Message.{Message}
+use Rattle.invocation.proofs.CarriesLaws.{apart-numbers, equal-numbers}
 
 -- 1. Look-ups
 
@@ -25,27 +23,13 @@ less-than j n h = grind (arith, h)
 greater-than : (j n : ℕ) → n < j → nat_cmp j n ≡ Greater
 greater-than j n h = grind (arith, h)
 
-apart-numbers : (j n : ℕ) → (j ≡ n → ⊥) → eq_by_cmp nat_cmp j n ≡ false
-apart-numbers j n other = go (eq_by_cmp nat_cmp j n) refl
-  where
-    go : (b : Bool) → eq_by_cmp nat_cmp j n ≡ b → b ≡ false
-    go true e = absurd (other (same-true j n e))
-    go false e = refl
-
--- a number before the first, or after the last, is none
+-- a number before the first is none
 pub none-before : (n : ℕ) (cs : List Call) (es : List (ℕ × traffic.Call)) → Agree n cs es → (j : ℕ) → j < n → value_at nat_cmp j es ≡ None
 none-before n [] [] h j before = refl
 none-before n (c ∷ cs) (e ∷ es) h j before =
     rw (apart-numbers j e.0 (λ same. omega (arith, same, h.0, before))) (none-before (n + 1) cs es h.2 j (omega (arith, before)))
 none-before n [] (e ∷ es) h j before = absurd h
 none-before n (c ∷ cs) [] h j before = absurd h
-
-pub none-after : (n : ℕ) (cs : List Call) (es : List (ℕ × traffic.Call)) → Agree n cs es → (j : ℕ) → n + length cs ≤ j → value_at nat_cmp j es ≡ None
-none-after n [] [] h j after = refl
-none-after n (c ∷ cs) (e ∷ es) h j after =
-    rw (apart-numbers j e.0 (λ same. omega (arith, same, h.0, after))) (none-after (n + 1) cs es h.2 j (omega (arith, after)))
-none-after n [] (e ∷ es) h j after = absurd h
-none-after n (c ∷ cs) [] h j after = absurd h
 
 -- 2. Changes
 
@@ -73,9 +57,6 @@ changed-later k g e es h = go (value_at nat_cmp k es) refl
 
 changed-first : (k : ℕ) (g : traffic.Call → traffic.Call) (e : ℕ × traffic.Call) (es : List (ℕ × traffic.Call)) → nat_cmp k e.0 ≡ Equal → changed_at nat_cmp k g (e ∷ es) ≡ (e.0, g e.1) ∷ es
 changed-first k g e es h = rw h refl
-
-equal-numbers : (k n : ℕ) → k ≡ n → nat_cmp k n ≡ Equal
-equal-numbers k n h = grind (arith, h)
 
 -- the call of this number is changed on both sides
 abbrev Both : (f : Call → Call) (g : traffic.Call → traffic.Call) (k : ℕ) (es : List (ℕ × traffic.Call)) → Type 0
@@ -140,23 +121,44 @@ agree-numbers p q both n (c ∷ cs) (e ∷ es) h = go (p c) refl (agree-numbers 
 agree-numbers p q both n [] (e ∷ es) h = absurd h
 agree-numbers p q both n (c ∷ cs) [] h = absurd h
 
--- 4. The call of a number
+-- 4. Arguments that are let go, of calls whose arguments are read no more
 
-pub record FoundCall (c : Call) (o : Option traffic.Call) : Type 0 where
-  pub call : traffic.Call
-  pub is : o ≡ Some call
-  pub same : Same c call
+abbrev pub IsRead : ℕ → List (ℕ × traffic.Call) → Type 0
+IsRead k es = (d : traffic.Call) → value_at nat_cmp k es ≡ Some d → is_awaited d.place ≡ false
 
-pub found-at : (n : ℕ) (cs : List Call) (es : List (ℕ × traffic.Call)) → Agree n cs es → (i : ℕ) (c : Call) → slice_get cs i ≡ Some c → FoundCall c (value_at nat_cmp (n + i) es)
-found-at n [] [] h i c e = absurd (let bad : None ≡ Some c = e in cc)
-found-at n (x ∷ cs) (e ∷ es) h zero c is =
-    let same : x ≡ c = cc in
-    let n0 : n + 0 ≡ e.0 = omega (arith, h.0) in
-    record { call = e.1; is = rw (equal-numbers (n + 0) e.0 n0) refl; same = subst (λ y. Same y e.1) same h.1 }
-found-at n (x ∷ cs) (e ∷ es) h (suc i) c is =
-    let next : n + 1 + i ≡ n + suc i = omega arith in
-    let other : eq_by_cmp nat_cmp (n + suc i) e.0 ≡ false = apart-numbers (n + suc i) e.0 (λ same. omega (arith, same, h.0)) in
-    let r : FoundCall c (value_at nat_cmp (n + suc i) es) = subst (λ k. FoundCall c (value_at nat_cmp k es)) next (found-at (n + 1) cs es h.2 i c is) in
-    record { call = r.call; is = rw other r.is; same = r.same }
-found-at n [] (e ∷ es) h i c is = absurd h
-found-at n (x ∷ cs) [] h i c is = absurd h
+spent-same : (c : Call) (d : traffic.Call) → is_awaited d.place ≡ false → Same c d → Same (spent c) d
+spent-same c d read same = record {
+  asker = same.asker;
+  target = same.target;
+  operation = same.operation;
+  open_ = same.open_;
+  args = λ awaited. let bad : true ≡ false = sym awaited ∙ read in cc;
+}
+
+agree-spent : (k n : ℕ) (cs : List Call) (es : List (ℕ × traffic.Call)) → IsRead k es → n ≤ k → Agree n cs es → Agree n (change (k - n) spent cs) es
+agree-spent k n [] [] read from h = tt
+agree-spent k n (c ∷ cs) (e ∷ es) read from h = go (n == k) refl (λ later more. agree-spent k (n + 1) cs es later more h.2)
+  where
+    go : (b : Bool) → (n == k) ≡ b → (IsRead k es → n + 1 ≤ k → Agree (n + 1) (change (k - (n + 1)) spent cs) es) → Agree n (change (k - n) spent (c ∷ cs)) (e ∷ es)
+    go true is ih =
+        let same : n ≡ k = grind arith in
+        let none : k - n ≡ 0 = omega (arith, same) in
+        let here : value_at nat_cmp k (e ∷ es) ≡ Some e.1 = rw (equal-numbers k e.0 (sym same ∙ sym h.0)) refl in
+        rw none (h.0, spent-same c e.1 (read e.1 here) h.1, h.2)
+    go false is ih =
+        let apart : n ≡ k → ⊥ = (λ same. let bad : true ≡ false = sym (grind (arith, same)) ∙ is in cc) in
+        let more : n < k = omega (arith, apart, from) in
+        let next : k - n ≡ suc (k - (n + 1)) = omega (arith, more) in
+        let other : eq_by_cmp nat_cmp k e.0 ≡ false = apart-numbers k e.0 (λ same. apart (sym (same ∙ h.0))) in
+        rw next (h.0, h.1, ih (λ d found. read d (rw other found)) (omega (arith, more)))
+agree-spent k n [] (e ∷ es) read from h = absurd h
+agree-spent k n (c ∷ cs) [] read from h = absurd h
+
+abbrev pub AllRead : List (ℕ × traffic.Call) → List Message → Type 0
+AllRead es ms = All (λ m. (1 ≤ number_of m) × IsRead (number_of m) es) ms
+
+pub agree-let_go : (ms : List Message) (cs : List Call) (es : List (ℕ × traffic.Call)) → AllRead es ms → Agree 1 cs es → Agree 1 (let_go ms cs) es
+agree-let_go [] cs es all h = h
+agree-let_go (m ∷ ms) cs es all h =
+    let one = All-head (λ x. (1 ≤ number_of x) × IsRead (number_of x) es) m ms all in
+    agree-let_go ms (change (number_of m - 1) spent cs) es (All-tail (λ x. (1 ≤ number_of x) × IsRead (number_of x) es) m ms all) (agree-spent (number_of m) 1 cs es one.1 one.0 h)

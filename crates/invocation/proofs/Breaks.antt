@@ -1,25 +1,28 @@
 -- What closes calls, as changes of the model's traffic.
-use Rattle.std.proofs.Common.{subst, ◌≡◌, ◌≢◌, ◌≤◌, ◌<◌, ℕ, zero, suc, ◌+◌, ◌*◌, ◌==◌, Bool, true, false, cond, not, ◌&&◌, ◌||◌, List, [], ◌∷◌, map, length, get_or, Option, None, Some, refl, sym, ◌∙◌, ap, arith}
+use Rattle.std.proofs.Common.{subst, ◌≡◌, ◌≢◌, ◌≤◌, ◌<◌, ℕ, zero, suc, ◌+◌, ◌*◌, ◌==◌, Bool, true, false, cond, not, ◌&&◌, ◌||◌, List, [], ◌∷◌, ◌++◌, map, length, get_or, Option, None, Some, refl, sym, ◌∙◌, ap, arith}
 use Rattle.std.specs.Prelude.{slice_set}
-use Rattle.std.specs.List.{filter}
+use Rattle.std.specs.List.{All, filter}
+use Rattle.std.proofs.lemmas.List.Elements.{All-nil, All-cons, All-append}
 use Rattle.std.specs.Option.{option_map}
 use Rattle.std.specs.declared.cmp.Ordering.{Ordering}
 use Rattle.std.specs.Ordering.{nat_cmp, eq_by_cmp}
 use Rattle.std.proofs.lemmas.Bool.{eqb-true}
 use Rattle.std.proofs.lemmas.List.{length-set, get_or-set_same, get_or-set_other}
 use Rattle.capability.specs.declared.Uid.{Uid}
+use Rattle.capability.specs.declared.Cap.{Cap}
 use Rattle.eden_model.specs.Map.{with_item, each_value, value_at}
 use Rattle.eden_model.specs.Lines.{has}
 use Rattle.eden_model.specs.Traffic.{Traffic, Place, asked, held, answered, done, call_at, goes, goes_by, queue, asking_station, target_station, in_transit, is_link, asks, on_link, touches, lost, cut_call, crashed_call, broken_by_link, broken_by_node, numbers_of, without_link, without_node}
 use Rattle.eden_model.specs.Traffic as traffic
 use Rattle.invocation.specs.declared.call.Call.{Call}
 use Rattle.invocation.specs.declared.call.Message.{Message}
-use Rattle.invocation.specs.Queues.{Rows, row, with_row, cut_between, cleared}
-use Rattle.invocation.specs.Mail.{Mail, target_of, is_open, closed_if, closed_where, asked_by, crosses, enters, broken_where, orphaned, cut_link, cut_node}
+use Rattle.invocation.specs.Queues.{Rows, row, with_row, cut_between, cleared, on_way, sent_from}
+use Rattle.invocation.specs.Mail.{Mail, target_of, is_open, over, number_of, let_go, closed_if, closed_where, asked_by, crosses, enters, broken_where, orphaned, cut_link, cut_node}
 use Rattle.invocation.specs.Mail as mail
 use Rattle.invocation.specs.Carries.{Carries, Same, Agree, is_awaited, is_sent, message_at, message_of}
-use Rattle.invocation.proofs.Filters.{has-filter, keep-all, drop-all, filter-same, map-same, eq-self, eq-apart}
-use Rattle.invocation.proofs.Agreed.{agree-each, agree-numbers}
+use Rattle.invocation.proofs.Filters.{has-here, has-later, has-filter, keep-all, drop-all, filter-same, map-same, eq-self, eq-apart}
+use Rattle.invocation.proofs.Agreed.{AllRead, IsRead, agree-each, agree-let_go, agree-numbers}
+use Rattle.invocation.proofs.CarriesLaws.{asked-call}
 use Rattle.invocation.proofs.Moves.{messages-left, once-left, sent-left, tells-queue, goes_of}
 use Rattle.invocation.proofs.Mails.{length-cleared}
 
@@ -301,21 +304,102 @@ link-both a b x y =
     ap (λ e. not e && (((x == a) && (y == b)) || ((x == b) && (y == a)))) (eq-comm x y)
     ∙ ap (λ e. not (y == x) && e) (or-comm ((x == a) && (y == b)) ((x == b) && (y == a)) ∙ ap (λ e. e || ((x == a) && (y == b))) (and-comm (x == b) (y == a)) ∙ ap (λ e. ((y == a) && (x == b)) || e) (and-comm (x == a) (y == b)))
 
+-- the messages that are lost are of calls whose arguments are read no more
+all-messages : (P : Message → Type 0) (f : ℕ → Message) (ks : List ℕ) → ((k : ℕ) → has k ks ≡ true → P (f k)) → All P (map f ks)
+all-messages P f [] each = All-nil P
+all-messages P f (k ∷ ks) each = All-cons P (f k) (map f ks) (each k (has-here k ks)) (all-messages P f ks (λ j there. each j (has-later j k ks there)))
+
+number-is : (t : Traffic) (k : ℕ) → number_of (message_of t k) ≡ k
+number-is t k = go (call_at t k)
+  where
+    at : (place : Place) → number_of (message_at k place) ≡ k
+    at asked = refl
+    at (answered s results) = refl
+    at held = refl
+    at done = refl
+
+    go : (o : Option traffic.Call) → number_of (with_item o (λ c. message_at k c.place) (message_at k asked)) ≡ k
+    go None = refl
+    go (Some x) = at x.place
+
+module _ (m : Mail) (t : Traffic) (h : Carries m t) (meets : ℕ → ℕ → Bool) (both_ways : (x y : ℕ) → meets x y ≡ meets y x) (g : traffic.Call → traffic.Call)
+    (read : (x : traffic.Call) → meets (asking_station x.asker) (target_station x) ≡ true → in_transit x.place ≡ true → is_awaited (g x).place ≡ false) where
+  read-message : (a b k : ℕ) → meets a b ≡ true → goes t a b k ≡ true → is_sent t k ≡ true → (1 ≤ k) × IsRead k (each_value g t.calls)
+  read-message a b k met goes_there sent = go (call_at t k) refl goes_there sent (tells-queue meets both_ways t k a b goes_there ∙ met)
+    where
+      go : (o : Option traffic.Call) → call_at t k ≡ o → goes_of o a b ≡ true → with_item o (λ (c : traffic.Call). in_transit c.place) false ≡ true
+          → with_item o (λ (x : traffic.Call). meets (asking_station x.asker) (target_station x)) false ≡ true → (1 ≤ k) × IsRead k (each_value g t.calls)
+      go None e gone way met_there = absurd (let bad : false ≡ true = gone in cc)
+      go (Some x) e gone way met_there = (
+        (asked-call m t h k x e).from,
+        λ d at. let same : g x ≡ d = (let both : Some (g x) ≡ Some d = sym (value-each nat_cmp g k t.calls ∙ ap (option_map g) e) ∙ at in cc) in
+            subst (λ (y : traffic.Call). is_awaited y.place ≡ false) same (read x met_there way),
+      )
+
+  read-row : (a b : ℕ) → a ≤ 8 → b ≤ 8 → meets a b ≡ true → AllRead (each_value g t.calls) (row a b m.queues)
+  read-row a b from to met = subst (AllRead (each_value g t.calls)) (h.queues a b from to) (all-messages
+      (λ x. (1 ≤ number_of x) × IsRead (number_of x) (each_value g t.calls)) (message_of t) (queue t a b)
+      (λ k there. let r = has-filter (goes t a b) t.transit k there in
+      subst (λ n. (1 ≤ n) × IsRead n (each_value g t.calls)) (sym (number-is t k)) (read-message a b k met r.1 (h.sent k r.0))))
+
+-- a cut
+
+cut-read : (a b : ℕ) (x : traffic.Call) → is_link a b (asking_station x.asker) (target_station x) ≡ true → in_transit x.place ≡ true → is_awaited (cut_call a b x).place ≡ false
+cut-read a b x met way = rw (met, way) refl
+
+link-there : (a b : ℕ) → (a == b) ≡ false → is_link a b a b ≡ true
+link-there a b e = rw (e, eq-self a, eq-self b) refl
+
+way-read : (a b : ℕ) (m : Mail) (t : Traffic) → Carries m t → a ≤ 8 → b ≤ 8 → AllRead (each_value (cut_call a b) t.calls) (on_way a b m.queues)
+way-read a b m t h a8 b8 = go (a == b) refl
+  where
+    go : (e : Bool) → (a == b) ≡ e → AllRead (each_value (cut_call a b) t.calls) (cond e [] (row a b m.queues ++ row b a m.queues))
+    go true e = All-nil (λ x. (1 ≤ number_of x) × IsRead (number_of x) (each_value (cut_call a b) t.calls))
+    go false e = All-append (λ x. (1 ≤ number_of x) × IsRead (number_of x) (each_value (cut_call a b) t.calls)) (row a b m.queues) (row b a m.queues)
+        (read-row m t h (is_link a b) (link-both a b) (cut_call a b) (cut-read a b) a b a8 b8 (link-there a b e))
+        (read-row m t h (is_link a b) (link-both a b) (cut_call a b) (cut-read a b) b a b8 a8 (link-both a b b a ∙ link-there a b e))
+
 pub cut-carried : (a b : ℕ) (m : Mail) (t : Traffic) → Carries m t → length m.queues ≡ 81 → a ≤ 8 → b ≤ 8 → Carries (cut_link a b m) (without_link a b t)
 cut-carried a b m t h pairs a8 b8 =
-    lost-carried m t h (is_link a b) (link-both a b) (cut_call a b) (λ x e. rw e refl) (closed_where (crosses a b) m.calls)
-    (agree-each (λ c. closed_if (crosses a b c) c) (cut_call a b) both 1 m.calls t.calls h.calls) (cut_between a b m.queues) (λ c d c8 d8. cut-rows m.queues a b pairs a8 b8 c d c8 d8)
+    lost-carried m t h (is_link a b) (link-both a b) (cut_call a b) (λ x e. rw e refl) (let_go (on_way a b m.queues) (closed_where (crosses a b) m.calls))
+    (agree-let_go (on_way a b m.queues) (closed_where (crosses a b) m.calls) (each_value (cut_call a b) t.calls) (way-read a b m t h a8 b8)
+    (agree-each (λ c. closed_if (crosses a b c) c) (cut_call a b) both 1 m.calls t.calls h.calls)) (cut_between a b m.queues) (λ c d c8 d8. cut-rows m.queues a b pairs a8 b8 c d c8 d8)
   where
     both : (c : Call) (d : traffic.Call) → Same c d → Same (closed_if (crosses a b c) c) (cut_call a b d)
     both c d same = subst (λ x. Same (closed_if x c) (cut_call a b d)) (same-link a b c d same) (lost-same false (on_link a b d) c d same)
 
+-- a crash
+
+or-true : (b : Bool) → (b || true) ≡ true
+or-true true = refl
+or-true false = refl
+
+crash-read : (n : ℕ) (x : traffic.Call) → meets_node n (asking_station x.asker) (target_station x) ≡ true → in_transit x.place ≡ true → is_awaited (crashed_call n x).place ≡ false
+crash-read n x met way = rw (met, way) (rw (or-true (target_station x == n)) refl)
+
+from-read : (n k : ℕ) (m : Mail) (t : Traffic) → Carries m t → n ≤ 8 → k ≤ 9 → AllRead (each_value (crashed_call n) t.calls) (sent_from n k m.queues)
+from-read n zero m t h n8 k9 = All-nil (λ x. (1 ≤ number_of x) × IsRead (number_of x) (each_value (crashed_call n) t.calls))
+from-read n (suc k) m t h n8 k9 =
+    All-append (λ x. (1 ≤ number_of x) × IsRead (number_of x) (each_value (crashed_call n) t.calls)) (sent_from n k m.queues) (row n k m.queues) (from-read n k m t h n8 (omega (arith, k9)))
+    (read-row m t h (meets_node n) (λ x y. or-comm (y == n) (x == n)) (crashed_call n) (crash-read n) n k n8 (omega (arith, k9)) (rw (eq-self n) (or-true (k == n))))
+
+crash-same : (x b : Bool) (c : Call) (d : traffic.Call) → (x ≡ true → b ≡ true) → Same c d
+    → Same (cond x (over c) (closed_if b c)) (cond b (record d { open_ = false; place = cond (x || in_transit d.place) done d.place }) d)
+crash-same true true c d implies same = record { asker = same.asker; target = same.target; operation = same.operation; open_ = refl; args = λ e. let bad : false ≡ true = e in cc }
+crash-same true false c d implies same = absurd (let bad : false ≡ true = implies refl in cc)
+crash-same false b c d implies same = lost-same false b c d same
+
 pub crash-carried : (n : ℕ) (m : Mail) (t : Traffic) → Carries m t → length m.queues ≡ 81 → n ≤ 8 → Carries (cut_node n m) (without_node n t)
 crash-carried n m t h pairs n8 =
-    lost-carried m t h (meets_node n) (λ x y. or-comm (y == n) (x == n)) (crashed_call n) (λ x e. rw e refl) (closed_where (mail.touches n) m.calls)
-    (agree-each (λ c. closed_if (mail.touches n c) c) (crashed_call n) both 1 m.calls t.calls h.calls) (cleared n 9 m.queues) (λ c d c8 d8. cleared-rows m.queues n pairs n8 c d c8 d8)
+    lost-carried m t h (meets_node n) (λ x y. or-comm (y == n) (x == n)) (crashed_call n) (λ x e. rw e refl) (let_go (sent_from n 9 m.queues) (map (mail.crashed_call n) m.calls))
+    (agree-let_go (sent_from n 9 m.queues) (map (mail.crashed_call n) m.calls) (each_value (crashed_call n) t.calls) (from-read n 9 m t h n8 (omega arith))
+    (agree-each (mail.crashed_call n) (crashed_call n) both 1 m.calls t.calls h.calls)) (cleared n 9 m.queues) (λ c d c8 d8. cleared-rows m.queues n pairs n8 c d c8 d8)
   where
-    both : (c : Call) (d : traffic.Call) → Same c d → Same (closed_if (mail.touches n c) c) (crashed_call n d)
-    both c d same = subst (λ x. Same (closed_if x c) (crashed_call n d)) (same-touch n c d same) (lost-same (target_station d == n) (touches n d) c d same)
+    both : (c : Call) (d : traffic.Call) → Same c d → Same (mail.crashed_call n c) (crashed_call n d)
+    both c d same =
+        subst (λ x. Same (cond x (over c) (closed_if (mail.touches n c) c)) (crashed_call n d)) (ap (λ (s : Cap). s.uid.node == n) same.target)
+        (subst (λ b. Same (cond (target_station d == n) (over c) (closed_if b c)) (crashed_call n d)) (same-touch n c d same)
+        (crash-same (target_station d == n) (touches n d) c d (λ e. rw e refl) same))
 
 -- 5. Who is told
 

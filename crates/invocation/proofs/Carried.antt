@@ -11,17 +11,19 @@ use Rattle.std.proofs.lemmas.List.{get_or-set_same, get_or-set_other, get_or-rep
 use Rattle.eden_value.specs.Datum.{Datum}
 use Rattle.eden_value.specs.declared.status.Status.{Status}
 use Rattle.eden_model.specs.Map.{with_item, first, value_at, changed_at}
-use Rattle.eden_model.specs.Laws.{value-changed_same, value-changed_other}
-use Rattle.eden_model.specs.Numbers.{same-true}
+use Rattle.eden_model.proofs.Laws.{value-changed_same, value-changed_other}
+use Rattle.eden_model.proofs.Numbers.{same-true}
 use Rattle.eden_model.specs.Lines.{has, Distinct}
-use Rattle.eden_model.specs.Traffic.{Traffic, Place, asked, held, answered, done, call_at, goes, queue, asking_station, target_station, in_transit, next_message, taken, changed_call, at_place, closed, sent, replied}
+use Rattle.eden_model.specs.Traffic.{Traffic, Place, asked, held, answered, done, call_at, goes, queue, asking_station, target_station, in_transit, next_message, taken, changed_call, at_place, closed, waiting_process}
 use Rattle.eden_model.specs.Traffic as traffic
 use Rattle.invocation.specs.declared.call.Call.{Call}
 use Rattle.invocation.specs.declared.call.Message.{Message}
 use Rattle.invocation.specs.declared.call.Message.TheVariants.{Request, Reply}
 use Rattle.invocation.specs.Queues.{row, with_row, sent_to}
-use Rattle.invocation.specs.Mail.{Mail, received, over, no_mail}
-use Rattle.invocation.specs.Carries.{Carries, CarriesDelivery, Same, Agree, IsAt, is_awaited, is_sent, message_at, message_of, no_traffic}
+use Rattle.invocation.specs.Numbers.{item_in, passes_at}
+use Rattle.invocation.proofs.CarriesLaws.{asked-call}
+use Rattle.invocation.specs.Mail.{Mail, received, over, spent, is_open, delivery_of, no_mail}
+use Rattle.invocation.specs.Carries.{Carries, CarriesDelivery, Same, Agree, IsAt, IsAskedBy, is_awaited, is_sent, message_at, message_of, no_traffic}
 use Rattle.invocation.proofs.Filters.{has-here, has-filter, keep-all, distinct-filter, taken-out, left-in, apart, filter-same, map-same, eq-apart}
 use Rattle.invocation.proofs.Agreed.{agree-changed, agree-placed, none-before}
 use Rattle.invocation.proofs.Moves.{same-goes, same-message, messages-left, once-left, sent-left, messages-came, one-way}
@@ -134,11 +136,25 @@ held-same c d is same = record { asker = same.asker; target = same.target; opera
 closed-same : (c : Call) (d : traffic.Call) → Same c d → Same (over c) (closed d)
 closed-same c d same = record { asker = same.asker; target = same.target; operation = same.operation; open_ = refl; args = λ e. let bad : false ≡ true = e in cc }
 
-pub done-same : (c : Call) (d : traffic.Call) → Same c d → Same c (at_place done d)
+pub done-same : (c : Call) (d : traffic.Call) → Same c d → Same (spent c) (at_place done d)
 done-same c d same = record { asker = same.asker; target = same.target; operation = same.operation; open_ = same.open_; args = λ e. let bad : false ≡ true = e in cc }
 
-pub answered-same : (c : Call) (d : traffic.Call) (s : Status) (results : List Datum) → Same c d → Same c (at_place (answered s results) d)
+pub answered-same : (c : Call) (d : traffic.Call) (s : Status) (results : List Datum) → Same c d → Same (spent c) (at_place (answered s results) d)
 answered-same c d s results same = record { asker = same.asker; target = same.target; operation = same.operation; open_ = same.open_; args = λ e. let bad : false ≡ true = e in cc }
+
+-- what the code has of a call that was asked is what the model tells
+asked-by : (m : Mail) (t : Traffic) → Carries m t → (k : ℕ) (place : Place) → IsAt t k place
+    → IsAskedBy t k (passes_at is_open m.calls k) (with_item (item_in k m.calls) (λ c. waiting_process c.asker) None)
+asked-by m t h k place at = go (call_at t k) refl at
+  where
+    go : (o : Option traffic.Call) → call_at t k ≡ o → option_map (λ (c : traffic.Call). c.place) o ≡ Some place
+        → IsAskedBy t k (passes_at is_open m.calls k) (with_item (item_in k m.calls) (λ c. waiting_process c.asker) None)
+    go None e is = absurd (let bad : None ≡ Some place = is in cc)
+    go (Some d) e is =
+        let found = asked-call m t h k d e in (
+          rw (e, found.is) (ap Some found.same.open_),
+          rw (e, found.is) (ap (λ a. Some (waiting_process a)) found.same.asker),
+        )
 
 -- the other calls, as one is changed
 pub other-call : (t : Traffic) (k j : ℕ) (g : traffic.Call → traffic.Call) → eq_by_cmp nat_cmp j k ≡ false → value_at nat_cmp j (changed_at nat_cmp k g t.calls) ≡ call_at t j
@@ -159,7 +175,7 @@ module _ (m : Mail) (t : Traffic) (h : Carries m t) (pairs : length m.queues ≡
   }
 
   received-carried : (k : ℕ) (ks : List ℕ) → queue t a b ≡ k ∷ ks → (ms : List Message) → map (message_of t) ks ≡ ms → 1 ≤ k → (msg : Message) → Tells t k msg
-      → CarriesDelivery a b (Some msg) (record { calls = received msg m.calls; queues = with_row a b ms m.queues }) t
+      → CarriesDelivery a b (Some (delivery_of msg m.calls)) (record { calls = received msg m.calls; queues = with_row a b ms m.queues }) t
   received-carried k ks is ms rest one (Request j) says =
       subst (λ n. (next_message t a b ≡ Some n) × IsAt t n asked × Carries after (taken n t) × Carries after (changed_call n (at_place held) (taken n t))) says.0 (
         ap first is,
@@ -172,9 +188,10 @@ module _ (m : Mail) (t : Traffic) (h : Carries m t) (pairs : length m.queues ≡
       after : Mail
       after = record { calls = m.calls; queues = with_row a b ms m.queues }
   received-carried k ks is ms rest one (Reply j s results) says =
-      subst (λ n. (next_message t a b ≡ Some n) × IsAt t n (answered s results) × Carries (after n) (changed_call n closed (taken n t))) says.0 (
+      subst (λ n. (next_message t a b ≡ Some n) × IsAt t n (answered s results) × IsAskedBy t n (passes_at is_open m.calls n) (with_item (item_in n m.calls) (λ c. waiting_process c.asker) None) × Carries (after n) (changed_call n closed (taken n t))) says.0 (
         ap first is,
         says.1,
+        asked-by m t h k (answered s results) says.1,
         left-carried k ks is ms rest (changed_call k closed (taken k t)) refl (λ i e. other-call t k i closed (taken-out k i e)) (received (Reply k s results) m.calls)
             (agree-changed over closed k 1 m.calls t.calls (λ c d found same. closed-same c d same) one h.calls),
       )
@@ -187,10 +204,10 @@ module _ (m : Mail) (t : Traffic) (h : Carries m t) (pairs : length m.queues ≡
   at-least-one zero sent = absurd (let e : is_sent t 0 ≡ false = ap (λ (o : Option traffic.Call). with_item o (λ c. in_transit c.place) false) (none-before 1 m.calls t.calls h.calls 0 (omega arith)) in let bad : true ≡ false = sym sent ∙ e in cc)
   at-least-one (suc k) sent = omega arith
 
-  pub delivery-carried : (msg : Message) (ms : List Message) → row a b m.queues ≡ msg ∷ ms → CarriesDelivery a b (Some msg) (record { calls = received msg m.calls; queues = with_row a b ms m.queues }) t
+  pub delivery-carried : (msg : Message) (ms : List Message) → row a b m.queues ≡ msg ∷ ms → CarriesDelivery a b (Some (delivery_of msg m.calls)) (record { calls = received msg m.calls; queues = with_row a b ms m.queues }) t
   delivery-carried msg ms is = go (queue t a b) refl (h.queues a b from to ∙ is)
     where
-      go : (q : List ℕ) → queue t a b ≡ q → map (message_of t) q ≡ msg ∷ ms → CarriesDelivery a b (Some msg) (record { calls = received msg m.calls; queues = with_row a b ms m.queues }) t
+      go : (q : List ℕ) → queue t a b ≡ q → map (message_of t) q ≡ msg ∷ ms → CarriesDelivery a b (Some (delivery_of msg m.calls)) (record { calls = received msg m.calls; queues = with_row a b ms m.queues }) t
       go [] e says = absurd (let bad : [] ≡ msg ∷ ms = says in cc)
       go (k ∷ ks) e says =
           let head : message_of t k ≡ msg = cc in

@@ -1,5 +1,5 @@
--- Calls that are closed.
-use Rattle.std.proofs.Common.{◌≡◌, ◌≤◌, ◌<◌, ℕ, zero, suc, ◌+◌, ◌-◌, Bool, true, false, cond, not, ◌&&◌, List, [], ◌∷◌, ◌++◌, map, take, length, Some, refl, sym, ◌∙◌, ap, arith}
+-- Items that are read by their numbers.
+use Rattle.std.proofs.Common.{◌≡◌, ◌≤◌, ◌<◌, ℕ, zero, suc, ◌+◌, ◌-◌, Bool, false, cond, List, [], ◌∷◌, ◌++◌, take, length, Some, refl, sym, ◌∙◌, ap, arith}
 use Rattle.std.specs.List.{filter}
 use Rattle.std.proofs.lemmas.List.{take_more}
 use Rattle.std.proofs.lemmas.List.Elements.{filter-append}
@@ -8,36 +8,6 @@ use Rattle.invocation.specs.Numbers.{item_in, passes_at}
 use Rattle.std.specs.Prelude.{slice_get}
 use Rattle.std.proofs.lemmas.Option.{slice_get-get_or}
 use Rattle.std.proofs.Common.{get_or}
-use Rattle.invocation.specs.declared.call.Call.{Call}
-use Rattle.invocation.specs.declared.closing.Cause.{Cause}
-use Rattle.invocation.specs.Mail.{is_open, closed_if, closed_where}
-use Rattle.invocation.specs.Causes.{hits, closed_by}
-
-closed-twice : (b : Bool) (c : Call) → c.closed ≡ true → closed_if b c ≡ c
-closed-twice true c e = ap (λ (x : Bool). record c { closed = x }) (sym e)
-closed-twice false c e = refl
-
-one-closed : (cause : Cause) (c : Call) → cond (is_open c) (closed_by cause c) c ≡ closed_by cause c
-one-closed cause c = go c.closed refl
-  where
-    go : (b : Bool) → c.closed ≡ b → cond (not b) (closed_by cause c) c ≡ closed_by cause c
-    go true e = sym (closed-twice (hits cause c) c e)
-    go false e = refl
-
--- it is enough to close the open ones
-pub open-closed : (cause : Cause) (cs : List Call) → map (λ c. cond (is_open c) (closed_by cause c) c) cs ≡ closed_where (hits cause) cs
-open-closed cause [] = refl
-open-closed cause (c ∷ cs) = ap (λ x. x ∷ map (λ c. cond (is_open c) (closed_by cause c) c) cs) (one-closed cause c) ∙ ap (λ l. closed_by cause c ∷ l) (open-closed cause cs)
-
--- what is open afterwards was open
-pub open-falls : (b : Bool) (c : Call) → is_open (closed_if b c) ≡ (is_open c && is_open (closed_if b c))
-open-falls b c = go b c.closed refl
-  where
-    go : (b x : Bool) → c.closed ≡ x → is_open (closed_if b c) ≡ (is_open c && is_open (closed_if b c))
-    go true true e = rw e refl
-    go true false e = rw e refl
-    go false true e = rw e refl
-    go false false e = rw e refl
 
 pub read-at : {X : Type 0} (xs : List X) (i : ℕ) (x : X) → i < length xs → x ≡ get_or xs i x → slice_get xs i ≡ Some x
 read-at xs i x h is = slice_get-get_or xs i x h ∙ ap Some (sym is)

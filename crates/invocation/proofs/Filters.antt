@@ -3,7 +3,7 @@ use Rattle.std.proofs.Common.{◌≡◌, ◌≢◌, ℕ, ◌==◌, Bool, true, f
 use Rattle.std.specs.List.{filter}
 use Rattle.std.specs.Ordering.{nat_cmp, eq_by_cmp}
 use Rattle.eden_model.specs.Lines.{has, Distinct}
-use Rattle.eden_model.specs.Numbers.{same-true, same-self, same-comm}
+use Rattle.eden_model.proofs.Numbers.{same-true, same-self, same-comm}
 
 or-true : (b : Bool) → (b || true) ≡ true
 or-true true = refl

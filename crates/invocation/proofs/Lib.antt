@@ -1,4 +1,5 @@
 mod Numbers
+mod Index
 mod Closed
 mod Mails
 mod Filters
@@ -8,3 +9,4 @@ mod Carried
 mod Sent
 mod Breaks
 mod Once
+pub mod CarriesLaws

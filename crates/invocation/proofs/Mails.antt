@@ -1,22 +1,26 @@
 -- What the invariant needs, as calls and queues change.
-use Rattle.std.proofs.Common.{◌≡◌, ◌≢◌, ◌≤◌, ◌<◌, ℕ, zero, suc, ◌+◌, ◌-◌, ◌*◌, ◌==◌, Bool, true, false, cond, List, [], ◌∷◌, ◌++◌, map, length, get_or, replicate, Some, refl, sym, ◌∙◌, ap, arith}
-use Rattle.std.specs.Prelude.{slice_set}
+use Rattle.std.proofs.Common.{◌≡◌, ◌≢◌, ◌≤◌, ◌<◌, ℕ, zero, suc, ◌+◌, ◌-◌, ◌*◌, ◌==◌, Bool, true, false, cond, List, [], ◌∷◌, ◌++◌, map, length, get_or, replicate, None, Some, subst, refl, sym, ◌∙◌, ap, arith}
+use Rattle.std.specs.Prelude.{slice_get, slice_set, nat_le}
 use Rattle.std.specs.List.{All}
-use Rattle.std.proofs.lemmas.List.{append-nil, length-map, length-replicate, length-set, length_push, get_or-set_same, get_or-set_other}
+use Rattle.std.proofs.lemmas.List.{length-replicate, length-set, length_push, get_or-set_same, get_or-set_other}
 use Rattle.std.proofs.lemmas.List.Elements.{All-nil, All-cons, All-head, All-tail, All-push, All-weaker}
 use Rattle.eden_model.specs.Map.{first, rest}
 use Rattle.eden_model.specs.Crew.{change}
 use Rattle.eden_model.specs.Traffic.{asking_station}
-use Rattle.eden_model.specs.declared.Asker.{Asker}
-use Rattle.eden_model.specs.declared.Asker.TheVariants.{Shell, Eject}
+use Rattle.eden_value.specs.Datum.{Datum}
+use Rattle.eden_value.specs.declared.status.Status.TheVariants.{TooLarge, Unreachable}
+use Rattle.eden_codec.specs.Spelling.{values_size}
 use Rattle.invocation.specs.declared.call.Call.{Call}
 use Rattle.invocation.specs.declared.call.Message.{Message}
 use Rattle.invocation.specs.declared.call.Message.TheVariants.{Request, Reply}
 use Rattle.invocation.specs.Queues.{Rows, row, with_row, sent_to, cut_between, cleared}
-use Rattle.invocation.specs.Numbers.{numbers_where}
-use Rattle.invocation.specs.Mail.{IsAsker, IsGiven, is_open, number_of, over, received, closed_if, closed_where}
-use Rattle.invocation.specs.Whole.{IsWhole, IsBetween, AllGiven}
-use Rattle.invocation.proofs.Numbers.{length-change, numbers-push}
+use Rattle.invocation.specs.Numbers.{item_in}
+use Rattle.invocation.specs.declared.closing.Cause.{Cause}
+use Rattle.invocation.specs.Causes.{hits, ends, closed_by}
+use Rattle.invocation.specs.Mail.{IsGiven, is_open, target_of, number_of, spent, over, received, closed_if, let_go, refused_at_once}
+use Rattle.invocation.specs.Whole.{IsWhole, IsIndex, IsBetween, AllGiven, is_live}
+use Rattle.invocation.proofs.Numbers.{length-change}
+use Rattle.invocation.proofs.Index.{index-change, index-live, index-dead, over-falls, spent-falls}
 
 all-map : {X : Type 0} (P : X → Type 0) (f : X → X) → ((x : X) → P x → P (f x)) → (xs : List X) → All P xs → All P (map f xs)
 all-map P f keeps [] all = All-nil P
@@ -30,22 +34,41 @@ all-change P f keeps (suc i) (x ∷ xs) all = All-cons P x (change i f xs) (All-
 -- 1. Calls
 
 between-closed : (b : Bool) (c : Call) → IsBetween c → IsBetween (closed_if b c)
-between-closed true c h = h
+between-closed true c h = (h.0, λ e. absurd (let bad : false ≡ true = e in cc))
 between-closed false c h = h
 
-pub between-after : (test : Call → Bool) (cs : List Call) → All IsBetween cs → All IsBetween (closed_where test cs)
-between-after test cs all = all-map IsBetween (λ c. closed_if (test c) c) (λ c h. between-closed (test c) c h) cs all
+between-over : (c : Call) → IsBetween c → IsBetween (over c)
+between-over c h = (h.0, λ e. absurd (let bad : false ≡ true = e in cc))
+
+between-closing : (cause : Cause) (c : Call) → IsBetween c → IsBetween (closed_by cause c)
+between-closing cause c h = go (ends cause c)
+  where
+    go : (b : Bool) → IsBetween (cond b (over c) (closed_if (hits cause c) c))
+    go true = between-over c h
+    go false = between-closed (hits cause c) c h
+
+pub between-after : (cause : Cause) (cs : List Call) → All IsBetween cs → All IsBetween (map (closed_by cause) cs)
+between-after cause cs all = all-map IsBetween (closed_by cause) (between-closing cause) cs all
+
+pub between-spent : (i : ℕ) (cs : List Call) → All IsBetween cs → All IsBetween (change i spent cs)
+between-spent i cs all = all-change IsBetween spent (λ c h. h) i cs all
+
+pub between-let_go : (ms : List Message) (cs : List Call) → All IsBetween cs → All IsBetween (let_go ms cs)
+between-let_go [] cs all = all
+between-let_go (m ∷ ms) cs all = between-let_go ms (change (number_of m - 1) spent cs) (between-spent (number_of m - 1) cs all)
 
 pub between-received : (m : Message) (cs : List Call) → All IsBetween cs → All IsBetween (received m cs)
 between-received (Request k) cs all = all
-between-received (Reply k s results) cs all = all-change IsBetween over (λ c h. h) (k - 1) cs all
+between-received (Reply k s results) cs all = all-change IsBetween over between-over (k - 1) cs all
 
 pub length-received : (m : Message) (cs : List Call) → length (received m cs) ≡ length cs
 length-received (Request k) cs = refl
 length-received (Reply k s results) cs = length-change over cs (k - 1)
 
-pub length-closed : (test : Call → Bool) (cs : List Call) → length (closed_where test cs) ≡ length cs
-length-closed test cs = length-map cs (λ c. closed_if (test c) c)
+-- the index after a delivery
+pub index-received : (m : Message) (cs : List Call) (ks : List ℕ) → IsIndex cs ks → IsIndex (received m cs) ks
+index-received (Request k) cs ks it = it
+index-received (Reply k s results) cs ks it = index-change over over-falls (k - 1) cs ks it
 
 -- 2. Queues
 
@@ -110,7 +133,7 @@ row-read (r ∷ rows) (suc i) q e h = row-read rows i q e (omega arith)
 pub none-whole : IsWhole [] [] (replicate 81 [])
 none-whole = record {
   few = omega arith;
-  index = refl;
+  index = record { live = refl; given = All-nil (IsGiven []) };
   between = All-nil IsBetween;
   pairs = length-replicate {A = List Message} 81 [];
   given = λ i. rw (none 81 i) (given-none []);
@@ -126,31 +149,74 @@ none-whole = record {
 pub more-pairs : (rows : Rows) (i : ℕ) (ms : List Message) → length rows ≡ 81 → length (slice_set rows i ms) ≡ 81
 more-pairs rows i ms pairs = length-set rows i ms ∙ pairs
 
-module _ (cs : List Call) (os : List ℕ) (rows : Rows) (w : IsWhole cs os rows) (few : length cs < 4294967295) (x : Call) (between : IsBetween x) where
+module _ (cs : List Call) (ks : List ℕ) (rows : Rows) (w : IsWhole cs ks rows) (few : length cs < 4294967295) (x : Call) (between : IsBetween x) where
   count : length (cs ++ x ∷ []) ≡ length cs + 1
   count = length_push cs x
 
-  one : 1 + length cs ≡ length cs + 1
-  one = omega arith
-
-  pub asked-open : is_open x ≡ true → (a b : ℕ) → a ≤ 8 → b ≤ 8 → IsWhole (cs ++ x ∷ []) (os ++ (length cs + 1) ∷ []) (sent_to a b (Request (length cs + 1)) rows)
+  pub asked-open : is_open x ≡ true → (a b : ℕ) → a ≤ 8 → b ≤ 8 → IsWhole (cs ++ x ∷ []) (ks ++ (length cs + 1) ∷ []) (sent_to a b (Request (length cs + 1)) rows)
   asked-open opens a b from to = record {
     few = omega (arith, count, few);
-    index = rw (numbers-push is_open 1 cs x, opens, w.index) (ap (λ n. numbers_where is_open 1 cs ++ n ∷ []) (sym one));
+    index = index-live cs x ks (rw opens refl) w.index;
     between = All-push IsBetween cs x w.between between;
     pairs = more-pairs rows (9 * a + b) (row a b rows ++ Request (length cs + 1) ∷ []) w.pairs;
     given = given-sent (cs ++ x ∷ []) rows (given-more cs (cs ++ x ∷ []) (omega (arith, count)) rows w.given) w.pairs a b from to (Request (length cs + 1)) (omega arith, omega (arith, count));
   }
 
-  pub asked-closed : is_open x ≡ false → IsWhole (cs ++ x ∷ []) os rows
-  asked-closed shut = record {
+  pub asked-closed : is_live x ≡ false → IsWhole (cs ++ x ∷ []) ks rows
+  asked-closed dead = record {
     few = omega (arith, count, few);
-    index = rw (numbers-push is_open 1 cs x, shut, w.index) (sym (append-nil (numbers_where is_open 1 cs)));
+    index = index-dead cs x ks dead w.index;
     between = All-push IsBetween cs x w.between between;
     pairs = w.pairs;
     given = given-more cs (cs ++ x ∷ []) (omega (arith, count)) rows w.given;
   }
 
-pub asker-within : (a : Asker) → IsAsker a → asking_station a ≤ 8
-asker-within (Shell name) h = omega arith
-asker-within (Eject u p) h = h.node_most
+-- a call that is not answered at once goes to a station that is reached
+pub asked-reached : (reached : Bool) (args : List Datum) → refused_at_once reached args ≡ None → reached ≡ true
+asked-reached reached args = go (nat_le (values_size args) 65536) reached
+  where
+    go : (fits r : Bool) → cond fits (cond r None (Some Unreachable)) (Some TooLarge) ≡ None → r ≡ true
+    go true true h = refl
+    go true false h = cc
+    go false r h = cc
+
+-- the messages of a row, read with another default
+pub row-given : (cs : List Call) (rows : Rows) → RowsGiven cs rows → (i : ℕ) (q : List Message) → q ≡ get_or rows i q → i < length rows → AllGiven cs q
+row-given cs rows given i q is within = rw (← row-read rows i q is within) (given i)
+
+-- what holds of all calls holds of one
+pub all-item : {X : Type 0} (P : X → Type 0) (xs : List X) (k : ℕ) (x : X) → All P xs → item_in k xs ≡ Some x → P x
+all-item P xs zero x all is = absurd (let bad : None ≡ Some x = is in cc)
+all-item {X} P xs (suc k) x all is = go xs k all is
+  where
+    go : (ys : List X) (i : ℕ) → All P ys → slice_get ys i ≡ Some x → P x
+    go [] i each at = absurd (let bad : None ≡ Some x = at in cc)
+    go (y ∷ ys) zero each at = let same : y ≡ x = cc in subst P same (All-head P y ys each)
+    go (y ∷ ys) (suc i) each at = go ys i (All-tail P y ys each) at
+
+-- 4. A reply
+
+pub answered-whole : (cs : List Call) (ks : List ℕ) (rows : Rows) → IsWhole cs ks rows → (k : ℕ) (x : Call) → item_in k cs ≡ Some x → IsGiven cs k → (m : Message) → number_of m ≡ k
+    → IsWhole (change (k - 1) spent cs) ks (cond (is_open x) (sent_to (target_of x) (asking_station x.asker) m rows) rows)
+answered-whole cs ks rows w k x is given m of = record {
+  few = omega (arith, length-change spent cs (k - 1), w.few);
+  index = index-change spent spent-falls (k - 1) cs ks w.index;
+  between = between-spent (k - 1) cs w.between;
+  pairs = pairs (is_open x);
+  given = all (is_open x) refl;
+}
+  where
+    between : IsBetween x
+    between = all-item IsBetween cs k x w.between is
+
+    more : RowsGiven (change (k - 1) spent cs) rows
+    more = given-more cs (change (k - 1) spent cs) (omega (arith, length-change spent cs (k - 1))) rows w.given
+
+    pairs : (b : Bool) → length (cond b (sent_to (target_of x) (asking_station x.asker) m rows) rows) ≡ 81
+    pairs true = more-pairs rows (9 * target_of x + asking_station x.asker) (row (target_of x) (asking_station x.asker) rows ++ m ∷ []) w.pairs
+    pairs false = w.pairs
+
+    all : (b : Bool) → is_open x ≡ b → RowsGiven (change (k - 1) spent cs) (cond b (sent_to (target_of x) (asking_station x.asker) m rows) rows)
+    all true e = given-sent (change (k - 1) spent cs) rows more w.pairs (target_of x) (asking_station x.asker) (between.1 e) between.0 m
+        (omega (arith, of, given.0), omega (arith, of, given.1, length-change spent cs (k - 1)))
+    all false e = more

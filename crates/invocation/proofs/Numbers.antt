@@ -1,11 +1,11 @@
 -- Laws of numbered items.
-use Rattle.std.proofs.Common.{◌≡◌, ◌≢◌, ◌≤◌, ◌<◌, ℕ, zero, suc, ◌+◌, ◌-◌, ◌==◌, Bool, true, false, cond, not, ◌&&◌, List, [], ◌∷◌, ◌++◌, map, length, Some, refl, sym, ◌∙◌, ap, arith}
+use Rattle.std.proofs.Common.{◌≡◌, ◌≤◌, ◌<◌, ℕ, zero, suc, ◌+◌, ◌-◌, Bool, true, false, cond, ◌&&◌, List, [], ◌∷◌, ◌++◌, map, length, Option, None, Some, refl, sym, ◌∙◌, ap, arith}
 use Rattle.std.specs.Prelude.{slice_get, slice_set}
 use Rattle.std.specs.List.{All, filter}
-use Rattle.std.proofs.lemmas.List.Elements.{All-nil, All-cons, All-weaker}
+use Rattle.std.proofs.lemmas.List.Elements.{All-nil, All-cons, All-head, All-tail, All-weaker}
 use Rattle.eden_model.specs.Map.{with_item}
 use Rattle.eden_model.specs.Crew.{change}
-use Rattle.invocation.specs.Numbers.{numbers_where, passes_at, changed_at_all}
+use Rattle.invocation.specs.Numbers.{item_in, numbers_where, passes_at, changed_at_all}
 
 -- an item of the second list passes q exactly where that of the first passes p and its number passes t
 abbrev pub Picks : {X : Type 0} → (X → Bool) → (X → Bool) → (ℕ → Bool) → ℕ → List X → List X → Type 0
@@ -40,11 +40,19 @@ picks-test : {X : Type 0} (p test : X → Bool) (t : ℕ → Bool) (n : ℕ) (xs
 picks-test p test t n [] h = tt
 picks-test p test t n (x ∷ xs) h = (ap (λ b. p x && b) (sym (test-here test t n x xs h)), picks-test p test t (n + 1) xs (test-next test t n x xs h))
 
-picks-map : {X : Type 0} (p : X → Bool) (f : X → X) (t : ℕ → Bool) (n : ℕ) (xs : List X) → ((x : X) → p (f x) ≡ (p x && p (f x))) → ((i : ℕ) → t (n + i) ≡ with_item (slice_get (map f xs) i) p false)
-    → Picks p p t n xs (map f xs)
-picks-map p f t n [] falls h = tt
-picks-map p f t n (x ∷ xs) falls h =
-    (falls x ∙ ap (λ b. p x && b) (sym (test-here p t n (f x) (map f xs) h)), picks-map p f t (n + 1) xs falls (test-next p t n (f x) (map f xs) h))
+-- an item of the second list passes only where that of the first does
+abbrev pub Falls : {X : Type 0} → (X → Bool) → List X → List X → Type 0
+Falls p [] [] = Unit {0}
+Falls p (x ∷ xs) (y ∷ ys) = (p y ≡ (p x && p y)) × Falls p xs ys
+Falls p [] (y ∷ ys) = ⊥
+Falls p (x ∷ xs) [] = ⊥
+
+picks-falls : {X : Type 0} (p : X → Bool) (t : ℕ → Bool) (n : ℕ) (xs ys : List X) → Falls p xs ys → ((i : ℕ) → t (n + i) ≡ with_item (slice_get ys i) p false) → Picks p p t n xs ys
+picks-falls p t n [] [] falls h = tt
+picks-falls p t n (x ∷ xs) (y ∷ ys) falls h =
+    (falls.0 ∙ ap (λ b. p x && b) (sym (test-here p t n y ys h)), picks-falls p t (n + 1) xs ys falls.1 (test-next p t n y ys h))
+picks-falls p t n [] (y ∷ ys) falls h = absurd falls
+picks-falls p t n (x ∷ xs) [] falls h = absurd falls
 
 -- numbers from 1
 from-one : {X : Type 0} (test : X → Bool) (xs : List X) (i : ℕ) → passes_at test xs (1 + i) ≡ with_item (slice_get xs i) test false
@@ -54,49 +62,79 @@ from-one test xs i = let e : 1 + i ≡ suc i = omega arith in ap (passes_at test
 pub both-pass : {X : Type 0} (p test : X → Bool) (xs : List X) → filter (passes_at test xs) (numbers_where p 1 xs) ≡ numbers_where (λ x. p x && test x) 1 xs
 both-pass p test xs = numbers-picked p (λ x. p x && test x) (passes_at test xs) 1 xs xs (picks-test p test (passes_at test xs) 1 xs (from-one test xs))
 
--- those that pass still, after a change of each by which none comes to pass
-pub still-pass : {X : Type 0} (p : X → Bool) (f : X → X) (xs : List X) → ((x : X) → p (f x) ≡ (p x && p (f x))) → filter (passes_at p (map f xs)) (numbers_where p 1 xs) ≡ numbers_where p 1 (map f xs)
-still-pass p f xs falls = numbers-picked p p (passes_at p (map f xs)) 1 xs (map f xs) (picks-map p f (passes_at p (map f xs)) 1 xs falls (from-one p (map f xs)))
+-- those that pass still, where none comes to pass
+pub falls-pass : {X : Type 0} (p : X → Bool) (xs ys : List X) → Falls p xs ys → filter (passes_at p ys) (numbers_where p 1 xs) ≡ numbers_where p 1 ys
+falls-pass p xs ys falls = numbers-picked p p (passes_at p ys) 1 xs ys (picks-falls p (passes_at p ys) 1 xs ys falls (from-one p ys))
 
--- 2. One item that passes no more
+-- 2. Items of which none comes to pass
 
-abbrev pub others : ℕ → ℕ → Bool
-others k j = not (j == k)
+pub falls-map : {X : Type 0} (p : X → Bool) (f : X → X) → ((x : X) → p (f x) ≡ (p x && p (f x))) → (xs : List X) → Falls p xs (map f xs)
+falls-map p f each [] = tt
+falls-map p f each (x ∷ xs) = (each x, falls-map p f each xs)
 
-other-than : (k j : ℕ) → j ≢ k → others k j ≡ true
-other-than k j h = grind arith
+and-self : (b : Bool) → b ≡ (b && b)
+and-self true = refl
+and-self false = refl
 
-and-true : (b : Bool) → b ≡ (b && true)
-and-true true = refl
-and-true false = refl
+falls-self : {X : Type 0} (p : X → Bool) (xs : List X) → Falls p xs xs
+falls-self p [] = tt
+falls-self p (x ∷ xs) = (and-self (p x), falls-self p xs)
 
-and-false : (b : Bool) → false ≡ (b && false)
-and-false true = refl
-and-false false = refl
+pub falls-change : {X : Type 0} (p : X → Bool) (f : X → X) → ((x : X) → p (f x) ≡ (p x && p (f x))) → (i : ℕ) (xs : List X) → Falls p xs (change i f xs)
+falls-change p f each i [] = tt
+falls-change p f each zero (x ∷ xs) = (each x, falls-self p xs)
+falls-change p f each (suc i) (x ∷ xs) = (and-self (p x), falls-change p f each i xs)
 
-picks-past : {X : Type 0} (p : X → Bool) (k n : ℕ) (xs : List X) → k < n → Picks p p (others k) n xs xs
-picks-past p k n [] h = tt
-picks-past p k n (x ∷ xs) h =
-    (and-true (p x) ∙ ap (λ b. p x && b) (sym (other-than k n (λ e. omega (arith, e, h)))), picks-past p k (n + 1) xs (omega (arith, h)))
+and-three : (a b c : Bool) → b ≡ (a && b) → c ≡ (b && c) → c ≡ (a && c)
+and-three true b c h k = refl
+and-three false b c h k = k ∙ ap (λ x. x && c) h
 
-picks-change : {X : Type 0} (p : X → Bool) (f : X → X) (k n : ℕ) (xs : List X) → ((x : X) → p (f x) ≡ false) → n ≤ k → Picks p p (others k) n xs (change (k - n) f xs)
-picks-change p f k n [] fails h = tt
-picks-change {X} p f k n (x ∷ xs) fails h = go (n == k) refl (λ later. picks-change p f k (n + 1) xs fails later)
+pub falls-trans : {X : Type 0} (p : X → Bool) (xs ys zs : List X) → Falls p xs ys → Falls p ys zs → Falls p xs zs
+falls-trans p [] [] [] h k = tt
+falls-trans p (x ∷ xs) (y ∷ ys) (z ∷ zs) h k = (and-three (p x) (p y) (p z) h.0 k.0, falls-trans p xs ys zs h.1 k.1)
+falls-trans p [] (y ∷ ys) zs h k = absurd h
+falls-trans p [] [] (z ∷ zs) h k = absurd k
+falls-trans p (x ∷ xs) [] zs h k = absurd h
+falls-trans p (x ∷ xs) (y ∷ ys) [] h k = absurd k
+
+and-right : (a b : Bool) → b ≡ (a && b) → b ≡ true → a ≡ true
+and-right true b h k = refl
+and-right false b h k = sym h ∙ k
+
+-- what passes passed before
+pub passed-before : {X : Type 0} (p : X → Bool) (xs ys : List X) → Falls p xs ys → (k : ℕ) → passes_at p ys k ≡ true → passes_at p xs k ≡ true
+passed-before p xs ys falls zero h = absurd (let bad : false ≡ true = h in cc)
+passed-before {X} p xs ys falls (suc k) h = go xs ys falls k h
   where
-    go : (b : Bool) → (n == k) ≡ b → (n + 1 ≤ k → Picks p p (others k) (n + 1) xs (change (k - (n + 1)) f xs)) → Picks p p (others k) n (x ∷ xs) (change (k - n) f (x ∷ xs))
-    go true e ih =
-        let same : n ≡ k = grind arith in
-        let none : k - n ≡ 0 = omega (arith, same) in
-        let no : others k n ≡ false = rw e refl in
-        rw none (fails x ∙ and-false (p x) ∙ ap (λ b. p x && b) (sym no), picks-past p k (n + 1) xs (omega (arith, same)))
-    go false e ih =
-        let apart : n ≢ k = grind arith in
-        let more : k - n ≡ suc (k - (n + 1)) = omega (arith, apart, h) in
-        let yes : others k n ≡ true = rw e refl in
-        rw more (and-true (p x) ∙ ap (λ b. p x && b) (sym yes), ih (omega (arith, apart, h)))
+    go : (us vs : List X) → Falls p us vs → (i : ℕ) → with_item (slice_get vs i) p false ≡ true → with_item (slice_get us i) p false ≡ true
+    go [] [] f i e = e
+    go (u ∷ us) (v ∷ vs) f zero e = and-right (p u) (p v) f.0 e
+    go (u ∷ us) (v ∷ vs) f (suc i) e = go us vs f.1 i e
+    go [] (v ∷ vs) f i e = absurd f
+    go (u ∷ us) [] f i e = absurd f
 
-pub one-less : {X : Type 0} (p : X → Bool) (f : X → X) (k : ℕ) (xs : List X) → ((x : X) → p (f x) ≡ false) → 1 ≤ k → filter (others k) (numbers_where p 1 xs) ≡ numbers_where p 1 (change (k - 1) f xs)
-one-less p f k xs fails h = numbers-picked p p (others k) 1 xs (change (k - 1) f xs) (picks-change p f k 1 xs fails h)
+-- a test that implies another
+pub passes-by : {X : Type 0} (q p : X → Bool) → ((x : X) → q x ≡ true → p x ≡ true) → (xs : List X) (k : ℕ) → passes_at q xs k ≡ true → passes_at p xs k ≡ true
+passes-by {X} q p implies xs k = go (item_in k xs)
+  where
+    go : (o : Option X) → with_item o q false ≡ true → with_item o p false ≡ true
+    go None e = e
+    go (Some x) e = implies x e
+
+pub numbers-same : {X : Type 0} (p q : X → Bool) → ((x : X) → p x ≡ q x) → (n : ℕ) (xs : List X) → numbers_where p n xs ≡ numbers_where q n xs
+numbers-same p q same n [] = refl
+numbers-same p q same n (x ∷ xs) = rw (same x, numbers-same p q same (n + 1) xs) refl
+
+-- a wider test before another
+pub filter-narrow : (p q : ℕ → Bool) (ks : List ℕ) → ((k : ℕ) → q k ≡ true → p k ≡ true) → filter q (filter p ks) ≡ filter q ks
+filter-narrow p q [] wider = refl
+filter-narrow p q (k ∷ ks) wider = go (p k) refl (q k) refl (filter-narrow p q ks wider)
+  where
+    go : (a : Bool) → p k ≡ a → (b : Bool) → q k ≡ b → filter q (filter p ks) ≡ filter q ks → filter q (cond (p k) (k ∷ filter p ks) (filter p ks)) ≡ cond (q k) (k ∷ filter q ks) (filter q ks)
+    go true a true b ih = rw (a, b) (ap (λ l. k ∷ l) ih)
+    go true a false b ih = rw (a, b) ih
+    go false a true b ih = absurd (let bad : true ≡ false = sym (wider k b) ∙ a in cc)
+    go false a false b ih = rw (a, b) ih
 
 -- 3. The numbers are those of items
 
@@ -153,6 +191,35 @@ all-changed {X} p f n (x ∷ xs) = go (p x) (all-changed p f (n + 1) xs)
         let e : n - n ≡ 0 = omega arith in
         ap (λ i. changed_at_all f n (numbers_where p (n + 1) xs) (change i f (x ∷ xs))) e ∙ changed-past p f n (n + 1) xs (f x) xs (omega arith) ∙ ap (λ l. f x ∷ l) ih
     go false ih = changed-past p f n (n + 1) xs x xs (omega arith) ∙ ap (λ l. x ∷ l) ih
+
+-- a change that leaves the item there as it is
+change-fixed : {X : Type 0} (f : X → X) (xs : List X) (i : ℕ) → ((x : X) → slice_get xs i ≡ Some x → f x ≡ x) → change i f xs ≡ xs
+change-fixed f [] i fixed = refl
+change-fixed f (x ∷ xs) zero fixed = ap (λ y. y ∷ xs) (fixed x refl)
+change-fixed f (x ∷ xs) (suc i) fixed = ap (λ l. x ∷ l) (change-fixed f xs i fixed)
+
+fixed-changed : {X : Type 0} (f : X → X) (xs : List X) (i j : ℕ) → ((x : X) → slice_get xs j ≡ Some x → f x ≡ x) → (x : X) → slice_get (change i f xs) j ≡ Some x → f x ≡ x
+fixed-changed f [] i j fixed x is = fixed x is
+fixed-changed f (y ∷ ys) zero zero fixed x is = let e : f y ≡ x = cc in ap f (sym e ∙ fixed y refl) ∙ e
+fixed-changed f (y ∷ ys) zero (suc j) fixed x is = fixed x is
+fixed-changed f (y ∷ ys) (suc i) zero fixed x is = fixed x is
+fixed-changed f (y ∷ ys) (suc i) (suc j) fixed x is = fixed-changed f ys i j fixed x is
+
+abbrev pub Fixed : {X : Type 0} → (X → X) → (ℕ → Bool) → List X → Type 0
+Fixed {X} f t xs = (k : ℕ) → 1 ≤ k → t k ≡ false → (x : X) → slice_get xs (k - 1) ≡ Some x → f x ≡ x
+
+-- numbers of items that the change leaves as they are may be left out
+pub changed-skip : {X : Type 0} (f : X → X) (t : ℕ → Bool) (ks : List ℕ) (xs : List X) → All (λ k. 1 ≤ k) ks → Fixed f t xs → changed_at_all f 1 ks xs ≡ changed_at_all f 1 (filter t ks) xs
+changed-skip f t [] xs all fixed = refl
+changed-skip {X} f t (k ∷ ks) xs all fixed = go (t k) refl (λ ys. changed-skip f t ks ys (All-tail (λ j. 1 ≤ j) k ks all))
+  where
+    from : 1 ≤ k
+    from = All-head (λ j. 1 ≤ j) k ks all
+
+    go : (b : Bool) → t k ≡ b → ((ys : List X) → Fixed f t ys → changed_at_all f 1 ks ys ≡ changed_at_all f 1 (filter t ks) ys)
+        → changed_at_all f 1 ks (change (k - 1) f xs) ≡ changed_at_all f 1 (cond b (k ∷ filter t ks) (filter t ks)) xs
+    go true is ih = ih (change (k - 1) f xs) (λ j one no x at. fixed-changed f xs (k - 1) (j - 1) (fixed j one no) x at)
+    go false is ih = ap (changed_at_all f 1 ks) (change-fixed f xs (k - 1) (fixed k from is)) ∙ ih xs fixed
 
 -- a change where there is an item
 pub change-set : {X : Type 0} (f : X → X) (xs : List X) (i : ℕ) (x : X) → slice_get xs i ≡ Some x → change i f xs ≡ slice_set xs i (f x)

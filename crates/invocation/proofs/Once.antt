@@ -1,5 +1,5 @@
 -- No call is answered twice: what is answered was open, and is closed from then on.
-use Rattle.std.proofs.Common.{◌≡◌, ◌≤◌, ℕ, zero, suc, ◌+◌, ◌-◌, ◌==◌, Bool, true, false, cond, not, ◌&&◌, ◌||◌, List, [], ◌∷◌, ◌++◌, length, Option, None, Some, refl, sym, ◌∙◌, ap, arith}
+use Rattle.std.proofs.Common.{◌≡◌, ◌≤◌, ℕ, zero, suc, ◌+◌, ◌-◌, ◌==◌, Bool, true, false, cond, not, ◌&&◌, ◌||◌, List, [], ◌∷◌, ◌++◌, map, length, Option, None, Some, refl, sym, ◌∙◌, ap, arith}
 use Rattle.std.specs.Prelude.{slice_get}
 use Rattle.std.specs.Ordering.{nat_cmp, eq_by_cmp}
 use Rattle.eden_value.specs.Datum.{Datum}
@@ -7,15 +7,15 @@ use Rattle.eden_value.specs.declared.status.Status.{Status}
 use Rattle.eden_model.specs.Map.{with_item}
 use Rattle.eden_model.specs.Crew.{change}
 use Rattle.eden_model.specs.Lines.{has, Distinct}
-use Rattle.eden_model.specs.Numbers.{same-true, same-self}
+use Rattle.eden_model.proofs.Numbers.{same-true, same-self}
 use Rattle.eden_model.specs.Traffic.{asking_station}
 use Rattle.invocation.specs.declared.call.Call.{Call}
 use Rattle.invocation.specs.declared.call.Message.{Message}
 use Rattle.invocation.specs.declared.call.Message.TheVariants.{Request, Reply}
-use Rattle.invocation.specs.Queues.{sent_to}
+use Rattle.invocation.specs.Queues.{sent_to, on_way, sent_from}
 use Rattle.invocation.specs.Numbers.{item_in, numbers_where, passes_at}
-use Rattle.invocation.specs.Mail.{Mail, queue_at, is_open, target_of, over, received, closed_if, closed_where, asked_call, asked_by, crosses, enters, touches}
-use Rattle.invocation.specs.Answered.{Change, asked, replied, delivered, lost, cut, crashed, changed, answered, answered_by, all_answered, with_reply, with_delivery}
+use Rattle.invocation.specs.Mail.{Mail, queue_at, is_open, target_of, number_of, spent, over, received, with_reply, let_go, crashed_call, closed_if, closed_where, asked_call, asked_by, crosses, enters, touches}
+use Rattle.invocation.specs.Answered.{Change, asked, replied, delivered, lost, cut, crashed, changed, answered, answered_by, all_answered, with_delivery}
 
 -- a call that may still get an answer: it is open, or not asked yet
 abbrev waits_in : List Call → ℕ → Bool
@@ -97,15 +97,38 @@ push-waits [] x (suc k) h = refl
 push-waits (c ∷ cs) x (suc zero) h = h
 push-waits (c ∷ cs) x (suc (suc k)) h = push-waits cs x (suc k) h
 
-closed-waits : (test : Call → Bool) (cs : List Call) (k : ℕ) → waits_in (closed_where test cs) k ≡ true → waits_in cs k ≡ true
-closed-waits test cs zero h = refl
-closed-waits test [] (suc k) h = refl
-closed-waits test (c ∷ cs) (suc zero) h = go (test c) h
+map-waits : (f : Call → Call) → ((c : Call) → is_open (f c) ≡ true → is_open c ≡ true) → (cs : List Call) (k : ℕ) → waits_in (map f cs) k ≡ true → waits_in cs k ≡ true
+map-waits f opens cs zero h = refl
+map-waits f opens [] (suc k) h = refl
+map-waits f opens (c ∷ cs) (suc zero) h = opens c h
+map-waits f opens (c ∷ cs) (suc (suc k)) h = map-waits f opens cs (suc k) h
+
+closed-opens : (b : Bool) (c : Call) → is_open (closed_if b c) ≡ true → is_open c ≡ true
+closed-opens true c h = absurd (let bad : false ≡ true = h in cc)
+closed-opens false c h = h
+
+crashed-opens : (n : ℕ) (c : Call) → is_open (crashed_call n c) ≡ true → is_open c ≡ true
+crashed-opens n c = go (target_of c == n)
   where
-    go : (b : Bool) → is_open (closed_if b c) ≡ true → is_open c ≡ true
-    go true i = absurd (let bad : false ≡ true = i in cc)
-    go false i = i
-closed-waits test (c ∷ cs) (suc (suc k)) h = closed-waits test cs (suc k) h
+    go : (b : Bool) → is_open (cond b (over c) (closed_if (touches n c) c)) ≡ true → is_open c ≡ true
+    go true h = absurd (let bad : false ≡ true = h in cc)
+    go false h = closed-opens (touches n c) c h
+
+closed-waits : (test : Call → Bool) (cs : List Call) (k : ℕ) → waits_in (closed_where test cs) k ≡ true → waits_in cs k ≡ true
+closed-waits test cs k h = map-waits (λ c. closed_if (test c) c) (λ c o. closed-opens (test c) c o) cs k h
+
+-- arguments that are let go change nothing in this
+spent-waits : (i : ℕ) (cs : List Call) (k : ℕ) → waits_in (change i spent cs) k ≡ waits_in cs k
+spent-waits i cs zero = refl
+spent-waits i [] (suc k) = refl
+spent-waits zero (c ∷ cs) (suc zero) = refl
+spent-waits zero (c ∷ cs) (suc (suc k)) = refl
+spent-waits (suc i) (c ∷ cs) (suc zero) = refl
+spent-waits (suc i) (c ∷ cs) (suc (suc k)) = spent-waits i cs (suc k)
+
+let_go-waits : (ms : List Message) (cs : List Call) (k : ℕ) → waits_in (let_go ms cs) k ≡ waits_in cs k
+let_go-waits [] cs k = refl
+let_go-waits (m ∷ ms) cs k = let_go-waits ms (change (number_of m - 1) spent cs) k ∙ spent-waits (number_of m - 1) cs k
 
 over-waits : (i : ℕ) (cs : List Call) (k : ℕ) → waits_in (change i over cs) k ≡ true → waits_in cs k ≡ true
 over-waits i cs zero h = refl
@@ -115,21 +138,20 @@ over-waits zero (c ∷ cs) (suc (suc k)) h = h
 over-waits (suc i) (c ∷ cs) (suc zero) h = h
 over-waits (suc i) (c ∷ cs) (suc (suc k)) h = over-waits i cs (suc k) h
 
-reply-calls : (k : ℕ) (s : Status) (results : List Datum) (m : Mail) → (with_reply k s results m).calls ≡ m.calls
-reply-calls k s results m = go (item_in k m.calls)
+reply-waits : (j : ℕ) (s : Status) (results : List Datum) (m : Mail) (k : ℕ) → waits_in (with_reply j s results m).calls k ≡ waits_in m.calls k
+reply-waits j s results m k = go (item_in j m.calls)
   where
-    one : (c : Call) (b : Bool) → (cond b m (record m { queues = sent_to (target_of c) (asking_station c.asker) (Reply k s results) m.queues })).calls ≡ m.calls
-    one c true = refl
-    one c false = refl
-
-    go : (o : Option Call) → (with_item o (λ c. cond c.closed m (record m { queues = sent_to (target_of c) (asking_station c.asker) (Reply k s results) m.queues })) m).calls ≡ m.calls
+    go : (o : Option Call) → waits_in (with_item o (λ c. record {
+      calls = change (j - 1) spent m.calls;
+      queues = cond (is_open c) (sent_to (target_of c) (asking_station c.asker) (Reply j s results) m.queues) m.queues;
+    }) m).calls k ≡ waits_in m.calls k
     go None = refl
-    go (Some c) = one c c.closed
+    go (Some c) = spent-waits (j - 1) m.calls k
 
 waited : (c : Change) (m : Mail) (k : ℕ) → waits_in (changed c m).calls k ≡ true → waits_in m.calls k ≡ true
 waited (asked asker target operation args None) m k h = push-waits m.calls (asked_call asker target operation args false) k h
 waited (asked asker target operation args (Some s)) m k h = push-waits m.calls (asked_call asker target operation args true) k h
-waited (replied j s results) m k h = ap (λ cs. waits_in cs k) (sym (reply-calls j s results m)) ∙ h
+waited (replied j s results) m k h = sym (reply-waits j s results m k) ∙ h
 waited (delivered a b) m k h = go (queue_at a b m) h
   where
     one : (x : Message) → waits_in (received x m.calls) k ≡ true → waits_in m.calls k ≡ true
@@ -140,8 +162,8 @@ waited (delivered a b) m k h = go (queue_at a b m) h
     go [] i = i
     go (x ∷ xs) i = one x i
 waited (lost u) m k h = closed-waits (asked_by u) m.calls k h
-waited (cut a b) m k h = closed-waits (crosses a b) m.calls k h
-waited (crashed n) m k h = closed-waits (touches n) m.calls k h
+waited (cut a b) m k h = closed-waits (crosses a b) m.calls k (sym (let_go-waits (on_way a b m.queues) (closed_where (crosses a b) m.calls) k) ∙ h)
+waited (crashed n) m k h = map-waits (crashed_call n) (crashed-opens n) m.calls k (sym (let_go-waits (sent_from n 9 m.queues) (map (crashed_call n) m.calls) k) ∙ h)
 
 -- 3. What is answered waited, and waits no more
 
@@ -174,12 +196,12 @@ and-second : (a b : Bool) → (a && b) ≡ true → b ≡ true
 and-second true b h = h
 and-second false b h = absurd (let bad : false ≡ true = h in cc)
 
--- those that pass are closed, by a test that they pass too
-hit-closed : (p test : Call → Bool) → ((c : Call) → p c ≡ true → test c ≡ true) → (cs : List Call) (k : ℕ) → with_item (item_in k cs) p false ≡ true → waits_in (closed_where test cs) k ≡ false
-hit-closed p test implies cs zero h = absurd (let bad : false ≡ true = h in cc)
-hit-closed p test implies [] (suc k) h = absurd (let bad : false ≡ true = h in cc)
-hit-closed p test implies (c ∷ cs) (suc zero) h = rw (implies c h) refl
-hit-closed p test implies (c ∷ cs) (suc (suc k)) h = hit-closed p test implies cs (suc k) h
+-- those that pass are closed
+hit-closed : (p : Call → Bool) (f : Call → Call) → ((c : Call) → p c ≡ true → is_open (f c) ≡ false) → (cs : List Call) (k : ℕ) → with_item (item_in k cs) p false ≡ true → waits_in (map f cs) k ≡ false
+hit-closed p f closes cs zero h = absurd (let bad : false ≡ true = h in cc)
+hit-closed p f closes [] (suc k) h = absurd (let bad : false ≡ true = h in cc)
+hit-closed p f closes (c ∷ cs) (suc zero) h = closes c h
+hit-closed p f closes (c ∷ cs) (suc (suc k)) h = hit-closed p f closes cs (suc k) h
 
 over-closed : (cs : List Call) (k : ℕ) → passes_at is_open cs k ≡ true → waits_in (change (k - 1) over cs) k ≡ false
 over-closed cs zero h = absurd (let bad : false ≡ true = h in cc)
@@ -190,8 +212,11 @@ over-closed cs (suc k) h = let e : suc k - 1 ≡ k = omega arith in ap (λ i. wa
     go (x ∷ xs) zero i = refl
     go (x ∷ xs) (suc j) i = go xs j i
 
-enters-touches : (n : ℕ) (c : Call) → enters n c ≡ true → touches n c ≡ true
-enters-touches n c h = let e = and-first (target_of c == n) (not (asking_station c.asker == n)) h in rw e refl
+crosses-closes : (a b : ℕ) (c : Call) → crosses a b c ≡ true → is_open (closed_if (crosses a b c) c) ≡ false
+crosses-closes a b c h = rw h refl
+
+enters-closes : (n : ℕ) (c : Call) → enters n c ≡ true → is_open (crashed_call n c) ≡ false
+enters-closes n c h = let e = and-first (target_of c == n) (not (asking_station c.asker == n)) h in rw e refl
 
 -- a call that is answered waited before, and waits no more
 ends : (c : Change) (m : Mail) (k : ℕ) → has k (answered c m) ≡ true → (waits_in m.calls k ≡ true) × (waits_in (changed c m).calls k ≡ false)
@@ -219,12 +244,14 @@ ends (lost u) m k h = absurd (let bad : false ≡ true = h in cc)
 ends (cut a b) m k h =
     let is = number-passes (λ c. is_open c && crosses a b c) m.calls k h in (
       pass-waits (λ c. is_open c && crosses a b c) m.calls k (λ c i. and-first (is_open c) (crosses a b c) i) is,
-      hit-closed (λ c. is_open c && crosses a b c) (crosses a b) (λ c i. and-second (is_open c) (crosses a b c) i) m.calls k is,
+      let_go-waits (on_way a b m.queues) (closed_where (crosses a b) m.calls) k
+          ∙ hit-closed (λ c. is_open c && crosses a b c) (λ c. closed_if (crosses a b c) c) (λ c i. crosses-closes a b c (and-second (is_open c) (crosses a b c) i)) m.calls k is,
     )
 ends (crashed n) m k h =
     let is = number-passes (λ c. is_open c && enters n c) m.calls k h in (
       pass-waits (λ c. is_open c && enters n c) m.calls k (λ c i. and-first (is_open c) (enters n c) i) is,
-      hit-closed (λ c. is_open c && enters n c) (touches n) (λ c i. enters-touches n c (and-second (is_open c) (enters n c) i)) m.calls k is,
+      let_go-waits (sent_from n 9 m.queues) (map (crashed_call n) m.calls) k
+          ∙ hit-closed (λ c. is_open c && enters n c) (crashed_call n) (λ c i. enters-closes n c (and-second (is_open c) (enters n c) i)) m.calls k is,
     )
 
 each-once : (c : Change) (m : Mail) → Distinct (answered c m)

@@ -4,14 +4,13 @@ use Rattle.capability.specs.declared.Uid.{Uid}
 use Rattle.capability.specs.declared.Cap.{Cap}
 use Rattle.eden_value.specs.Datum.{Datum}
 use Rattle.eden_value.specs.declared.status.Status.{Status}
-use Rattle.eden_model.specs.Map.{with_item}
-use Rattle.eden_model.specs.Traffic.{asking_station}
 use Rattle.eden_model.specs.declared.Asker.{Asker}
 use Rattle.invocation.specs.declared.call.Message.{Message}
 use Rattle.invocation.specs.declared.call.Message.TheVariants.{Request, Reply}
-use Rattle.invocation.specs.Queues.{with_row, sent_to}
-use Rattle.invocation.specs.Numbers.{item_in, passes_at}
-use Rattle.invocation.specs.Mail.{Mail, queue_at, is_open, target_of, received, with_asked, crosses, enters, broken_where, orphaned, cut_link, cut_node}
+use Rattle.invocation.specs.Queues.{with_row}
+use Rattle.invocation.specs.Numbers.{passes_at}
+use Rattle.invocation.specs.Mail.{Mail, queue_at, is_open, received, with_reply, with_asked, crosses, enters, broken_where, orphaned}
+use Rattle.invocation.specs.Mail.{cut_link, cut_node}
 
 -- a call is asked, a reply is sent, a message is delivered, an Eject is lost, a link is cut, or a node crashes
 pub data Change : Type 0 where
@@ -22,14 +21,12 @@ pub data Change : Type 0 where
   cut : ℕ → ℕ → Change
   crashed : ℕ → Change
 
-abbrev pub with_reply : ℕ → Status → List Datum → Mail → Mail
-with_reply k s results m = with_item (item_in k m.calls)
-    (λ c. cond c.closed m (record m { queues = sent_to (target_of c) (asking_station c.asker) (Reply k s results) m.queues })) m
-
+-- the first message leaves its queue and is received
 abbrev pub with_delivery : ℕ → ℕ → List Message → Mail → Mail
 with_delivery a b [] m = m
 with_delivery a b (x ∷ xs) m = record { calls = received x m.calls; queues = with_row a b xs m.queues }
 
+-- the mail after a change
 abbrev pub changed : Change → Mail → Mail
 changed (asked asker target operation args at_once) m = with_asked asker target operation args at_once m
 changed (replied k s results) m = with_reply k s results m

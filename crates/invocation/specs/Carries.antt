@@ -1,13 +1,17 @@
 -- The calls and queues as the traffic of the model, which has all calls with their places, and one list of what is on its way.
 use Rattle.std.specs.Prelude.{◌≡◌, ℕ, ◌+◌, ◌≤◌, Bool, true, false, not, List, [], ◌∷◌, Option, None, Some, map}
 use Rattle.std.specs.Option.{option_map}
+use Rattle.capability.specs.declared.Uid.{Uid}
 use Rattle.eden_model.specs.Map.{with_item}
 use Rattle.eden_model.specs.Lines.{has, Distinct}
-use Rattle.eden_model.specs.Traffic.{Traffic, Place, asked, held, answered, done, call_at, queue, in_transit, next_message, taken, changed_call, at_place, closed, with_call}
+use Rattle.eden_model.specs.Traffic.{Traffic, Place, asked, held, answered, done, call_at, queue, in_transit, next_message, taken}
+use Rattle.eden_model.specs.Traffic.{changed_call, at_place, closed, waiting_process}
 use Rattle.eden_model.specs.Traffic as traffic
 use Rattle.invocation.specs.declared.call.Call.{Call}
 use Rattle.invocation.specs.declared.call.Message.{Message}
-use Rattle.invocation.specs.declared.call.Message.TheVariants.{Request, Reply}
+use Rattle.invocation.specs.declared.call.Message.TheVariants as message
+use Rattle.invocation.specs.declared.call.Delivery.{Delivery}
+use Rattle.invocation.specs.declared.call.Delivery.TheVariants.{Request, Reply}
 use Rattle.invocation.specs.Mail.{Mail, queue_at}
 
 -- the arguments are still to be read
@@ -17,6 +21,7 @@ is_awaited held = true
 is_awaited (answered s results) = false
 is_awaited done = false
 
+-- a call of the code and the same call of the model; the arguments only while they are still to be read
 pub record Same (c : Call) (d : traffic.Call) : Type 0 where
   pub asker : d.asker ≡ c.asker
   pub target : d.target ≡ c.target
@@ -33,13 +38,14 @@ Agree n (c ∷ cs) [] = ⊥
 
 -- the message of a call at this place
 abbrev pub message_at : ℕ → Place → Message
-message_at k asked = Request k
-message_at k (answered s results) = Reply k s results
-message_at k held = Request k
-message_at k done = Request k
+message_at k asked = message.Request k
+message_at k (answered s results) = message.Reply k s results
+message_at k held = message.Request k
+message_at k done = message.Request k
 
+-- the message of a call that is on its way
 abbrev pub message_of : Traffic → ℕ → Message
-message_of t k = with_item (call_at t k) (λ c. message_at k c.place) (Request k)
+message_of t k = with_item (call_at t k) (λ c. message_at k c.place) (message.Request k)
 
 -- the request or the reply of the call is on its way
 abbrev pub is_sent : Traffic → ℕ → Bool
@@ -60,10 +66,17 @@ no_traffic = record { calls = []; transit = [] }
 abbrev pub IsAt : Traffic → ℕ → Place → Type 0
 IsAt t k place = option_map (λ (c : traffic.Call). c.place) (call_at t k) ≡ Some place
 
+-- what the model tells of a call that was asked: whether it is open, and which process waits for it
+abbrev pub IsAskedBy : Traffic → ℕ → Bool → Option (Uid × ℕ) → Type 0
+IsAskedBy t k was_open process =
+    (option_map (λ (c : traffic.Call). c.open_) (call_at t k) ≡ Some was_open)
+    × (option_map (λ (c : traffic.Call). waiting_process c.asker) (call_at t k) ≡ Some process)
+
 -- a message is delivered in the model too: a request is held at its target, and a reply closes its call
-abbrev pub CarriesDelivery : ℕ → ℕ → Option Message → Mail → Traffic → Type 0
+abbrev pub CarriesDelivery : ℕ → ℕ → Option Delivery → Mail → Traffic → Type 0
 CarriesDelivery a b None new t = (next_message t a b ≡ None) × Carries new t
 CarriesDelivery a b (Some (Request k)) new t =
     (next_message t a b ≡ Some k) × IsAt t k asked × Carries new (taken k t) × Carries new (changed_call k (at_place held) (taken k t))
-CarriesDelivery a b (Some (Reply k s results)) new t =
-    (next_message t a b ≡ Some k) × IsAt t k (answered s results) × Carries new (changed_call k closed (taken k t))
+CarriesDelivery a b (Some (Reply k s results was_open process)) new t =
+    (next_message t a b ≡ Some k) × IsAt t k (answered s results) × IsAskedBy t k was_open process
+    × Carries new (changed_call k closed (taken k t))

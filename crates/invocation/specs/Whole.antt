@@ -1,21 +1,34 @@
--- What holds of all calls: an index of the open ones, stations within 0 to 8, a queue for each pair of stations, and in them numbers that were given.
-use Rattle.std.specs.Prelude.{◌≡◌, ℕ, ◌≤◌, List, length, slice_index_or, []}
-use Rattle.std.specs.List.{All}
+-- What holds of all calls: an index of those that something may still become of, stations within 0 to 8, a queue for each pair of stations,
+-- and in them numbers that were given.
+use Rattle.std.specs.Prelude.{◌≡◌, ℕ, ◌≤◌, ◌||◌, ◌==◌, Bool, true, not, List, length, slice_index_or, []}
+use Rattle.std.specs.List.{All, filter}
 use Rattle.eden_model.specs.Traffic.{asking_station}
 use Rattle.invocation.specs.declared.call.Call.{Call}
 use Rattle.invocation.specs.declared.call.Message.{Message}
 use Rattle.invocation.specs.Mail.{IsGiven, is_open, number_of, target_of}
-use Rattle.invocation.specs.Numbers.{numbers_where}
+use Rattle.invocation.specs.Numbers.{numbers_where, passes_at}
 
+-- the call is open, or has its arguments still
+abbrev pub is_live : Call → Bool
+is_live c = is_open c || not (length c.args == 0)
+
+-- the asker is at a station, and so is the target of an open call
 abbrev pub IsBetween : Call → Type 0
-IsBetween c = (asking_station c.asker ≤ 8) × (target_of c ≤ 8)
+IsBetween c = (asking_station c.asker ≤ 8) × (is_open c ≡ true → target_of c ≤ 8)
 
+-- the messages are of calls that were asked
 abbrev pub AllGiven : List Call → List Message → Type 0
 AllGiven calls ms = All (λ m. IsGiven calls (number_of m)) ms
 
-pub record IsWhole (calls : List Call) (open_calls : List ℕ) (queues : List (List Message)) : Type 0 where
+-- the index has the numbers of the live calls, ascending, and perhaps others among them, of calls that were live once
+pub record IsIndex (calls : List Call) (index : List ℕ) : Type 0 where
+  pub live : filter (passes_at is_live calls) index ≡ numbers_where is_live 1 calls
+  pub given : All (IsGiven calls) index
+
+-- what holds of all calls together
+pub record IsWhole (calls : List Call) (numbers : List ℕ) (queues : List (List Message)) : Type 0 where
   pub few : length calls ≤ 4294967295
-  pub index : open_calls ≡ numbers_where is_open 1 calls
+  pub index : IsIndex calls numbers
   pub between : All IsBetween calls
   pub pairs : length queues ≡ 81
   pub given : (i : ℕ) → AllGiven calls (slice_index_or queues i [])

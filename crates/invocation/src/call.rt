@@ -1,7 +1,8 @@
 //! Calls, and the messages that carry them.
 ghost use Rattle.std.specs.Prelude.{◌≡◌, []};
-ghost use Rattle.eden_model.specs.Traffic.{asking_station};
-ghost use Rattle.invocation.specs.Mail.{over, asked_call, asked_by, number_of};
+ghost use Rattle.eden_model.specs.Traffic.{asking_station, waiting_process};
+ghost use Rattle.invocation.specs.Mail.{over, spent, asked_call, asked_by, number_of};
+ghost use Rattle.invocation.specs.Whole.{is_live};
 
 use capability::{Cap, Uid};
 use eden_model::Asker;
@@ -10,8 +11,8 @@ use std::alloc::Global;
 
 /// A call: who asked what of whom.
 ///
-/// The arguments are there until the call is closed and its reply is delivered. A call that is
-/// refused as it is asked keeps none.
+/// The arguments are there until the call is answered, or lost with the message that carries them.
+/// A call that is refused as it is asked keeps none.
 #[derive(Drop)]
 pub struct Call {
     pub asker: Asker,
@@ -40,6 +41,24 @@ pub enum Message {
         call: u32,
         status: Status,
         results: Items,
+    },
+}
+
+/// What has arrived at a station.
+#[derive(Drop)]
+pub enum Delivery {
+    Request {
+        call: u32,
+    },
+    /// A reply has results where its status is Ok.
+    Reply {
+        call: u32,
+        status: Status,
+        results: Items,
+        /// Whether the call was open until now, so that this is its answer.
+        was_open: bool,
+        /// The process that asked. None where the shell did.
+        process: Option<(Uid, u8)>,
     },
 }
 
@@ -95,8 +114,39 @@ fn no_items(alloc: Global) -> Items
     }
 }
 
+/// The process that asked. None where the shell did.
+fn process_of(asker: &Asker) -> Option<(Uid, u8)>
+    ensures { result ≡ waiting_process asker.now }
+{
+    match asker {
+        Asker::Shell { .. } => None,
+        Asker::Eject { uid, process } => Some((*uid, *process)),
+    }
+}
+
 impl Call {
-    /// The call's reply is delivered: it is closed, and its arguments are let go.
+    /// The process that asked. None where the shell did.
+    pub fn process(&self) -> Option<(Uid, u8)>
+        ensures { result ≡ waiting_process self.now.asker }
+    {
+        process_of(&self.asker)
+    }
+
+    /// Whether it is open, or has its arguments still.
+    pub fn is_live(&self) -> bool
+        ensures { result ≡ is_live self.now }
+    {
+        !self.closed || !self.args.values.is_empty()
+    }
+
+    /// The arguments are let go.
+    pub fn spend(&mut self, alloc: Global)
+        ensures { self.new ≡ spent self.old }
+    {
+        self.args = no_items(alloc);
+    }
+
+    /// The call is over: it is closed, and its arguments are let go.
     pub fn finish(&mut self, alloc: Global)
         ensures { self.new ≡ over self.old }
     {

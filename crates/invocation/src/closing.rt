@@ -1,13 +1,13 @@
-//! The open calls, by number, and what closes many of them at once.
-ghost use Rattle.std.specs.Prelude.{◌≡◌, ◌≤◌, ◌<◌, ◌-◌, IfOk, length, option_copied};
-ghost use Rattle.eden_model.specs.Crew.{change};
+//! The calls by number, and what closes many of them at once.
+ghost use Rattle.std.specs.Prelude.{◌≡◌, ◌≤◌, ◌<◌, ◌-◌, IfOk, length, map, option_copied};
 ghost use Rattle.eden_model.specs.Traffic.{is_link};
 ghost use Rattle.std.specs.List.{All, filter};
-ghost use Rattle.invocation.specs.Mail.{is_open, IsGiven, closed_where, received, number_of, over};
-ghost use Rattle.invocation.specs.Numbers.{item_in, numbers_where, passes_at, changed_at_all};
-ghost use Rattle.invocation.specs.Causes.{hits, breaks, closed_by};
+ghost use Rattle.invocation.specs.Mail.{IsGiven, received, number_of, delivery_of};
+ghost use Rattle.invocation.specs.Numbers.{item_in, passes_at, changed_at_all};
+ghost use Rattle.invocation.specs.Causes.{hits, ends, breaks, is_broken, closed_by};
+ghost use Rattle.invocation.specs.Whole.{is_live, IsIndex};
 
-use crate::call::{Call, Message, station};
+use crate::call::{Call, Delivery, Message, station};
 use capability::Uid;
 use std::alloc::{AllocError, Global};
 
@@ -46,11 +46,30 @@ impl Cause {
         }
     }
 
-    /// Closes the call where the cause hits it.
-    fn close(self, call: &mut Call)
+    /// Whether nothing is to come of the call at its target either.
+    fn ends(self, call: &Call) -> bool
+        ensures { result ≡ ends self call.now }
+    {
+        match self {
+            Cause::Crash { node } => call.target.uid.node == node,
+            _ => false,
+        }
+    }
+
+    /// Whether the call is open and is answered `broken`.
+    fn is_breaking(self, call: &Call) -> bool
+        ensures { result ≡ is_broken self call.now }
+    {
+        !call.closed && self.breaks(call)
+    }
+
+    /// Closes the call where the cause hits it, and lets its arguments go where it is over.
+    fn close(self, alloc: Global, call: &mut Call)
         ensures { call.new ≡ closed_by self call.old }
     {
-        if self.hits(call) {
+        if self.ends(call) {
+            call.finish(alloc);
+        } else if self.hits(call) {
             call.closed = true;
         }
     }
@@ -74,80 +93,83 @@ pub fn call_at(calls: &[Call], number: u32) -> Option<&Call>
     calls.get((number - 1) as usize)
 }
 
-/// Whether there is an open call of this number.
-fn is_open_at(calls: &[Call], number: u32) -> bool
-    ensures { result ≡ passes_at is_open calls.now number }
+/// Whether there is a live call of this number.
+fn is_live_at(calls: &[Call], number: u32) -> bool
+    ensures { result ≡ passes_at is_live calls.now number }
 {
     match call_at(calls, number) {
-        Some(call) => !call.closed,
+        Some(call) => call.is_live(),
         None => false,
     }
 }
 
-/// The numbers, among those of the open calls, of the calls that are answered `broken`.
+/// The numbers of the index whose calls are answered `broken`.
 pub fn broken_numbers(
     alloc: Global,
     calls: &[Call],
-    open_calls: &[u32],
+    index: &[u32],
     cause: Cause,
 ) -> Result<Vec<u32>, AllocError>
-    requires { All (IsGiven calls.now) open_calls.now }
-    ensures { IfOk result (λ v. v.items ≡ filter (passes_at (breaks cause) calls.now) open_calls.now) }
+    requires { All (IsGiven calls.now) index.now }
+    ensures { IfOk result (λ v. v.items ≡ filter (passes_at (is_broken cause) calls.now) index.now) }
 {
     let mut broken = Vec::new(alloc);
-    for i in 0..open_calls.len() {
-        let number = open_calls[i];
-        if cause.breaks(&calls[(number - 1) as usize]) {
+    for i in 0..index.len() {
+        let number = index[i];
+        if cause.is_breaking(&calls[(number - 1) as usize]) {
             broken.push(number)?;
         }
     }
     Ok(broken)
 }
 
-/// Closes each of these calls that the cause hits.
-fn close_each(calls: &mut Vec<Call>, open_calls: &[u32], cause: Cause)
-    requires { All (IsGiven calls.old.items) open_calls.now }
-    ensures { calls.new.items ≡ changed_at_all (closed_by cause) 1 open_calls.now calls.old.items }
+/// Closes each call of the index that the cause hits.
+fn close_each(alloc: Global, calls: &mut Vec<Call>, index: &[u32], cause: Cause)
+    requires { All (IsGiven calls.old.items) index.now }
+    ensures { calls.new.items ≡ changed_at_all (closed_by cause) 1 index.now calls.old.items }
 {
-    for i in 0..open_calls.len() {
-        let call = &mut calls[(open_calls[i] - 1) as usize];
-        cause.close(call);
+    for i in 0..index.len() {
+        let call = &mut calls[(index[i] - 1) as usize];
+        cause.close(alloc, call);
     }
 }
 
-/// Closes the open calls that the cause hits, and keeps the numbers of those that stay open.
-pub fn close_open(calls: &mut Vec<Call>, open_calls: &mut Vec<u32>, cause: Cause)
-    requires { open_calls.old.items ≡ numbers_where is_open 1 calls.old.items }
-    ensures calls { calls.new.items ≡ closed_where (hits cause) calls.old.items }
-    ensures open_calls { open_calls.new.items ≡ numbers_where is_open 1 calls.new.items }
+/// Closes the calls that the cause hits, and keeps the live ones in the index.
+pub fn close_all(alloc: Global, calls: &mut Vec<Call>, index: &mut Vec<u32>, cause: Cause)
+    requires { IsIndex calls.old.items index.old.items }
+    ensures calls { calls.new.items ≡ map (closed_by cause) calls.old.items }
+    ensures index { IsIndex calls.new.items index.new.items }
 {
-    close_each(calls, open_calls, cause);
+    close_each(alloc, calls, index, cause);
     let calls = calls.as_slice();
-    open_calls.retain(|number| is_open_at(calls, *number));
+    index.retain(|number| is_live_at(calls, *number));
 }
 
 /// A message has come. A reply closes its call, whose arguments are let go; a request changes
 /// nothing here.
-pub fn receive(alloc: Global, calls: &mut Vec<Call>, open_calls: &mut Vec<u32>, message: &Message)
-    requires given { IsGiven calls.old.items (number_of message.now) }
-    requires open_calls { open_calls.old.items ≡ numbers_where is_open 1 calls.old.items }
-    ensures calls { calls.new.items ≡ received message.now calls.old.items }
-    ensures open_calls { open_calls.new.items ≡ numbers_where is_open 1 calls.new.items }
+pub fn receive(alloc: Global, calls: &mut Vec<Call>, message: Message) -> Delivery
+    requires { IsGiven calls.old.items (number_of message) }
+    ensures told { result ≡ delivery_of message calls.old.items }
+    ensures calls { calls.new.items ≡ received message calls.old.items }
 {
     match message {
-        Message::Request { .. } => {}
-        Message::Reply { call, .. } => finish(alloc, calls, open_calls, *call),
+        Message::Request { call } => Delivery::Request { call },
+        Message::Reply {
+            call,
+            status,
+            results,
+        } => {
+            let asked = &mut calls[(call - 1) as usize];
+            let was_open = !asked.closed;
+            let process = asked.process();
+            asked.finish(alloc);
+            Delivery::Reply {
+                call,
+                status,
+                results,
+                was_open,
+                process,
+            }
+        }
     }
-}
-
-/// The call is closed, and its arguments are let go.
-fn finish(alloc: Global, calls: &mut Vec<Call>, open_calls: &mut Vec<u32>, number: u32)
-    requires given { IsGiven calls.old.items number }
-    requires open_calls { open_calls.old.items ≡ numbers_where is_open 1 calls.old.items }
-    ensures calls { calls.new.items ≡ change (number - 1) over calls.old.items }
-    ensures open_calls { open_calls.new.items ≡ numbers_where is_open 1 calls.new.items }
-{
-    let call = &mut calls[(number - 1) as usize];
-    call.finish(alloc);
-    open_calls.retain(|other| *other != number);
 }

@@ -13,19 +13,22 @@ mod queues;
 mod tests;
 
 ghost use Rattle.std.specs.Prelude.{◌≡◌, ◌≤◌, ◌<◌, ◌+◌, ◌-◌, ◌∷◌, [], false, not, List, IfOk, MatchResult, length, option_copied};
-ghost use Rattle.capability.specs.Capability.{IsEject};
 ghost use Rattle.eden_model.specs.Lines.{has, Distinct};
-ghost use Rattle.eden_model.specs.Traffic.{Traffic, with_call, replied, without_link, without_node, broken_by_link, broken_by_node, numbers_of};
+ghost use Rattle.eden_model.specs.Traffic.{Traffic, asking_station, with_call, replied, without_link, without_node};
+ghost use Rattle.eden_model.specs.Traffic.{broken_by_link, broken_by_node, numbers_of};
 ghost use Rattle.eden_model.specs.Traffic as traffic;
-ghost use Rattle.invocation.specs.Mail.{Mail, no_mail, Delivers, is_waiting, next_number, IsGiven, IsAsker, Asks, Answers, refused_at_once, received, broken_where, orphaned, crosses, cut_link, enters, cut_node};
-ghost use Rattle.invocation.specs.Numbers.{item_in};
+ghost use Rattle.invocation.specs.Mail.{Mail, no_mail, Delivers, is_waiting, next_number, is_open, Asks, with_reply};
+ghost use Rattle.invocation.specs.Mail.{refused_at_once, received, broken_where, orphaned, crosses, cut_link, enters, cut_node};
+ghost use Rattle.invocation.specs.Numbers.{item_in, passes_at};
 ghost use Rattle.invocation.specs.Answered.{Change, all_answered};
 ghost use Rattle.invocation.specs.Carries.{Carries, CarriesDelivery, no_traffic};
 
 use crate::call::{new_call, station};
-use crate::closing::{broken_numbers, call_at, close_open, receive};
-use crate::queues::{clear_at, clear_between, empty_queues, pair, send};
-pub use call::{Asked, Call, Message};
+use crate::closing::{broken_numbers, call_at, close_all, receive};
+use crate::queues::{
+    clear_at, clear_between, empty_queues, let_go_between, let_go_from, pair, send, send_where,
+};
+pub use call::{Asked, Call, Delivery, Message};
 use capability::{CallNumbers, Cap, MESSAGE_LIMIT, Uid};
 pub use closing::Cause;
 use eden_codec::values_size;
@@ -41,8 +44,9 @@ use std::marker::Model;
 pub struct Calls {
     alloc: Global,
     calls: Vec<Call>,
-    // The numbers of the open calls, ascending, so that what closes calls looks at no others.
-    open_calls: Vec<u32>,
+    // The numbers of the calls that are open or have their arguments, ascending, and perhaps of some
+    // that were: so a delivery leaves it as it is, and what closes many calls looks at no others.
+    index: Vec<u32>,
     queues: Vec<Queue>,
 }
 
@@ -60,7 +64,7 @@ impl Model for Calls {
 
     ghost view = { λ c. record { calls = c.calls.items; queues = c.queues.items } };
 
-    ghost invariant = { λ c. IsWhole c.calls.items c.open_calls.items c.queues.items };
+    ghost invariant = { λ c. IsWhole c.calls.items c.index.items c.queues.items };
 }
 
 impl Calls {
@@ -73,7 +77,7 @@ impl Calls {
         Ok(Calls {
             alloc,
             calls: Vec::new(alloc),
-            open_calls: Vec::new(alloc),
+            index: Vec::new(alloc),
             queues,
         })
     }
@@ -108,7 +112,7 @@ impl Calls {
 
     /// A new call, under the next number. It is answered at once TooLarge exactly where the
     /// arguments' spelling is longer than 65,536 bytes, else Unreachable exactly where the target's
-    /// node is not reached. Otherwise its request is sent.
+    /// node is not reached, as where there is no such node. Otherwise its request is sent.
     pub fn ask(
         &mut self,
         alloc: Global,
@@ -119,8 +123,7 @@ impl Calls {
         places: &Places,
     ) -> Result<Asked, AllocError>
         requires few { length self.old.calls < 4294967295 }
-        requires asker { IsAsker asker }
-        requires target { IsEject target.uid }
+        requires asker { asking_station asker ≤ 8 }
         ensures cases { MatchResult result (Asks asker target operation args places.now self.old self.new)
             (λ _. self.new ≡ self.old) }
         ensures model { (t : Traffic) → Carries self.old t
@@ -131,11 +134,11 @@ impl Calls {
         let to = target.uid.node;
         let at_once = refusal(&args, places.reach(from, to));
         self.calls.reserve(1)?;
-        self.open_calls.reserve(1)?;
+        self.index.reserve(1)?;
         match at_once {
             None => {
                 send(&mut self.queues, from, to, Message::Request { call })?;
-                self.open_calls.push_reserved(call);
+                self.index.push_reserved(call);
             }
             Some(_) => {}
         }
@@ -150,8 +153,8 @@ impl Calls {
         Ok(Asked { call, at_once })
     }
 
-    /// Sends a reply and answers true where the call is open. Else it does nothing and answers
-    /// false.
+    /// Sends a reply and answers true where the call is open; else it answers false. In either case
+    /// the call's arguments are let go. A number that was never given changes nothing.
     pub fn answer(
         &mut self,
         _alloc: Global,
@@ -159,16 +162,16 @@ impl Calls {
         status: Status,
         results: Items,
     ) -> Result<bool, AllocError>
-        requires { IsGiven self.old.calls call }
-        ensures cases { MatchResult result (Answers call status results self.old self.new)
+        ensures cases { MatchResult result
+            (λ sent. (sent ≡ passes_at is_open self.old.calls call) × (self.new ≡ with_reply call status results self.old))
             (λ _. self.new ≡ self.old) }
         ensures model { (t : Traffic) → Carries self.old t → has call t.transit ≡ false
             → IfOk result (λ _. Carries self.new (replied status results call t)) }
     {
-        let asked = &self.calls[(call - 1) as usize];
-        if asked.closed {
+        let Some(asked) = call_at(&self.calls, call) else {
             return Ok(false);
-        }
+        };
+        let open = !asked.closed;
         let from = asked.target.uid.node;
         let to = station(&asked.asker);
         let message = Message::Reply {
@@ -176,8 +179,10 @@ impl Calls {
             status,
             results,
         };
-        send(&mut self.queues, from, to, message)?;
-        Ok(true)
+        send_where(open, &mut self.queues, from, to, message)?;
+        let asked = &mut self.calls[(call - 1) as usize];
+        asked.spend(self.alloc);
+        Ok(open)
     }
 
     /// Closes the open calls of an Eject that lost its active part. They get no answer.
@@ -185,7 +190,8 @@ impl Calls {
         ensures after { self.new ≡ orphaned uid self.old }
         ensures model { (t : Traffic) → Carries self.old t → Carries self.new (traffic.orphaned uid t) }
     {
-        close_open(&mut self.calls, &mut self.open_calls, Cause::Lost { uid });
+        let cause = Cause::Lost { uid };
+        close_all(self.alloc, &mut self.calls, &mut self.index, cause);
     }
 
     /// The link between the two stations is cut: the calls over it are closed, the messages on it
@@ -200,8 +206,9 @@ impl Calls {
             → IfOk result (λ ks. (ks ≡ numbers_of (broken_by_link a b) t) × Carries self.new (without_link a b t)) }
     {
         let cause = Cause::Cut { a, b };
-        let numbers = broken_numbers(alloc, &self.calls, &self.open_calls, cause)?;
-        close_open(&mut self.calls, &mut self.open_calls, cause);
+        let numbers = broken_numbers(alloc, &self.calls, &self.index, cause)?;
+        close_all(self.alloc, &mut self.calls, &mut self.index, cause);
+        let_go_between(self.alloc, &self.queues, &mut self.calls, a, b);
         clear_between(&mut self.queues, a, b);
         Ok(CallNumbers { numbers })
     }
@@ -217,15 +224,17 @@ impl Calls {
             → IfOk result (λ ks. (ks ≡ numbers_of (broken_by_node node) t) × Carries self.new (without_node node t)) }
     {
         let cause = Cause::Crash { node };
-        let numbers = broken_numbers(alloc, &self.calls, &self.open_calls, cause)?;
-        close_open(&mut self.calls, &mut self.open_calls, cause);
+        let numbers = broken_numbers(alloc, &self.calls, &self.index, cause)?;
+        close_all(self.alloc, &mut self.calls, &mut self.index, cause);
+        let_go_from(self.alloc, &self.queues, &mut self.calls, node);
         clear_at(&mut self.queues, node);
         Ok(CallNumbers { numbers })
     }
 
-    /// The first message from one station to the other arrives. A reply closes its call. None
-    /// exactly where no message is on its way there.
-    pub fn deliver(&mut self, from: u8, to: u8) -> Option<Message>
+    /// The first message from one station to the other arrives. A reply closes its call, and is told
+    /// with whether the call was open and which process asked. None exactly where no message is on
+    /// its way there.
+    pub fn deliver(&mut self, from: u8, to: u8) -> Option<Delivery>
         requires from { from ≤ 8 }
         requires to { to ≤ 8 }
         ensures first { Delivers from to self.old result self.new }
@@ -233,10 +242,7 @@ impl Calls {
     {
         let queue = &mut self.queues[pair(from, to)];
         match queue.take() {
-            Some(message) => {
-                receive(self.alloc, &mut self.calls, &mut self.open_calls, &message);
-                Some(message)
-            }
+            Some(message) => Some(receive(self.alloc, &mut self.calls, message)),
             None => None,
         }
     }

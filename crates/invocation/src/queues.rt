@@ -1,9 +1,12 @@
 //! The queues of messages: one for each ordered pair of stations, and one from each to itself.
-ghost use Rattle.std.specs.Prelude.{◌≡◌, ◌≤◌, ◌<◌, ◌+◌, ◌*◌, ◌++◌, ◌∷◌, [], IfOk, MatchResult, replicate, length, option_copied};
+ghost use Rattle.std.specs.Prelude.{◌≡◌, ◌≤◌, ◌<◌, ◌+◌, ◌*◌, ◌++◌, ◌∷◌, [], IfOk, MatchResult, replicate, ℕ, true, cond, length};
+ghost use Rattle.std.specs.Prelude.{slice_index_or, option_copied};
 ghost use Rattle.eden_model.specs.Map.{first, rest};
-ghost use Rattle.invocation.specs.Queues.{sent_to, cut_between, cleared};
+ghost use Rattle.invocation.specs.Queues.{sent_to, cut_between, cleared, on_way, sent_from};
+ghost use Rattle.invocation.specs.Mail.{let_go};
+ghost use Rattle.invocation.specs.Whole.{AllGiven};
 
-use crate::call::Message;
+use crate::call::{Call, Message};
 use std::alloc::{AllocError, Global};
 use std::collections::VecDeque;
 use std::marker::Model;
@@ -50,6 +53,18 @@ impl Queue {
         ensures rest { self.new ≡ rest self.old }
     {
         self.messages.pop_front()
+    }
+
+    /// The calls of the messages let their arguments go.
+    pub fn let_go(&self, alloc: Global, calls: &mut Vec<Call>)
+        requires { AllGiven calls.old.items self.now }
+        ensures { calls.new.items ≡ let_go self.now calls.old.items }
+    {
+        for i in 0..self.messages.len() {
+            let number = self.messages[i].number();
+            let call = &mut calls[(number - 1) as usize];
+            call.spend(alloc);
+        }
     }
 
     /// All messages are lost.
@@ -102,6 +117,52 @@ pub fn send(queues: &mut Vec<Queue>, from: u8, to: u8, message: Message) -> Resu
 {
     let queue = &mut queues[pair(from, to)];
     queue.join(message)
+}
+
+/// The same where the test says so; else the message is dropped.
+pub fn send_where(
+    test: bool,
+    queues: &mut Vec<Queue>,
+    from: u8,
+    to: u8,
+    message: Message,
+) -> Result<(), AllocError>
+    requires from { test ≡ true → from ≤ 8 }
+    requires to { to ≤ 8 }
+    requires pairs { length queues.old.items ≡ 81 }
+    ensures { MatchResult result (λ _. queues.new.items ≡ cond test (sent_to from to message queues.old.items) queues.old.items)
+        (λ _. queues.new.items ≡ queues.old.items) }
+{
+    if test {
+        send(queues, from, to, message)?;
+    }
+    Ok(())
+}
+
+/// The calls whose messages are on the link between the two stations let their arguments go.
+pub fn let_go_between(alloc: Global, queues: &[Queue], calls: &mut Vec<Call>, a: u8, b: u8)
+    requires from { a ≤ 8 }
+    requires to { b ≤ 8 }
+    requires pairs { length queues.now ≡ 81 }
+    requires given { (i : ℕ) → AllGiven calls.old.items (slice_index_or queues.now i []) }
+    ensures { calls.new.items ≡ let_go (on_way a b queues.now) calls.old.items }
+{
+    if a != b {
+        queues[pair(a, b)].let_go(alloc, calls);
+        queues[pair(b, a)].let_go(alloc, calls);
+    }
+}
+
+/// The calls whose messages are on their way from the node let their arguments go.
+pub fn let_go_from(alloc: Global, queues: &[Queue], calls: &mut Vec<Call>, node: u8)
+    requires node { node ≤ 8 }
+    requires pairs { length queues.now ≡ 81 }
+    requires given { (i : ℕ) → AllGiven calls.old.items (slice_index_or queues.now i []) }
+    ensures { calls.new.items ≡ let_go (sent_from node 9 queues.now) calls.old.items }
+{
+    for other in 0..9u8 {
+        queues[pair(node, other)].let_go(alloc, calls);
+    }
 }
 
 /// The queues of the link between the two stations are emptied, in both directions. A station's

@@ -1,5 +1,5 @@
 ghost use Rattle.std.specs.Prelude.{◌≡◌, ◌≤◌, ◌<◌, ◌+◌, length, OnOk};
-ghost use Rattle.invocation.specs.Mail.{IsAsker};
+ghost use Rattle.eden_model.specs.Traffic.{asking_station};
 
 use super::*;
 use capability::Rights;
@@ -45,9 +45,7 @@ fn ask(
     places: &Places,
 ) -> Result<Asked, AllocError>
     requires few { length calls.old.calls < 100 }
-    requires asker { IsAsker asker }
-    requires least { 1 ≤ node }
-    requires most { node ≤ 8 }
+    requires asker { asking_station asker ≤ 8 }
     ensures ok { OnOk result (length calls.new.calls ≡ length calls.old.calls + 1) }
 {
     let target = Cap {
@@ -67,8 +65,6 @@ fn shell_asks(
     places: &Places,
 ) -> Result<Asked, AllocError>
     requires few { length calls.old.calls < 100 }
-    requires least { 1 ≤ node }
-    requires most { node ≤ 8 }
     ensures ok { OnOk result (length calls.new.calls ≡ length calls.old.calls + 1) }
 {
     ask(
@@ -81,13 +77,17 @@ fn shell_asks(
     )
 }
 
-/// Answers the call where its number was given.
+/// Answers the call with one number.
 fn answer(calls: &mut Calls, alloc: Global, number: u32) -> Result<bool, AllocError> {
-    if calls.call(number).is_some() {
-        let results = numbers(alloc, 1)?;
-        calls.answer(alloc, number, Status::Ok, results)
-    } else {
-        Ok(false)
+    let results = numbers(alloc, 1)?;
+    calls.answer(alloc, number, Status::Ok, results)
+}
+
+/// Whether the call is there and has arguments.
+fn has_arguments(calls: &Calls, number: u32) -> bool {
+    match calls.call(number) {
+        Some(call) => !call.args.values.is_empty(),
+        None => false,
     }
 }
 
@@ -132,6 +132,10 @@ fn refused_at_once(rt: HostRuntime) -> Result<(), AllocError> {
         both.at_once == Some(Status::TooLarge),
         "too large comes first"
     );
+    let nowhere = shell_asks(&mut calls, rt.alloc(), 0, 1, &places)?;
+    assert!(rt; nowhere.at_once == Some(Status::Unreachable), "the shell");
+    let past = shell_asks(&mut calls, rt.alloc(), 200, 1, &places)?;
+    assert!(rt; past.at_once == Some(Status::Unreachable), "no station");
     assert!(rt; is_closed(&calls, 1));
     assert!(rt; !is_closed(&calls, 2));
     assert!(rt; !calls.waiting(0, 2));
@@ -156,25 +160,29 @@ fn a_crash_breaks_the_calls_to_its_node(rt: HostRuntime) -> Result<(), AllocErro
     assert!(rt; !answer(&mut calls, rt.alloc(), 2)?);
     assert_eq!(rt; calls.next(0, 2), Some(3));
     match calls.deliver(0, 2) {
-        Some(Message::Request { call }) => assert_eq!(rt; call, 3),
-        Some(Message::Reply { .. }) => panic!(rt; "a reply"),
+        Some(Delivery::Request { call }) => assert_eq!(rt; call, 3),
+        Some(Delivery::Reply { .. }) => panic!(rt; "a reply"),
         None => panic!(rt; "no message"),
     }
     assert!(rt; answer(&mut calls, rt.alloc(), 3)?);
     assert!(rt; !is_closed(&calls, 3));
     match calls.deliver(2, 0) {
         Some(
-            Message::Reply {
+            Delivery::Reply {
                 call,
                 status,
                 results,
+                was_open,
+                process,
             },
         ) => {
             assert_eq!(rt; call, 3);
             assert!(rt; status == Status::Ok);
             assert_eq!(rt; results.values.len(), 1);
+            assert!(rt; was_open);
+            assert!(rt; process.is_none(), "the shell asked");
         }
-        Some(Message::Request { .. }) => panic!(rt; "a request"),
+        Some(Delivery::Request { .. }) => panic!(rt; "a request"),
         None => panic!(rt; "no message"),
     }
     assert!(rt; is_closed(&calls, 3));
@@ -199,7 +207,9 @@ fn a_cut_and_an_orphan(rt: HostRuntime) -> Result<(), AllocError> {
         process: 1,
     };
     ask(&mut calls, rt.alloc(), asker, 1, 1, &places)?;
+    assert!(rt; has_arguments(&calls, 1));
     let broken = calls.break_link(rt.alloc(), 1, 0)?;
+    assert!(rt; !has_arguments(&calls, 1), "lost with the request");
     assert_eq!(rt; broken.numbers.len(), 1);
     assert_eq!(rt; broken.numbers.first().copied(), Some(1));
     assert!(rt; !is_closed(&calls, 2), "another link");
@@ -210,6 +220,11 @@ fn a_cut_and_an_orphan(rt: HostRuntime) -> Result<(), AllocError> {
     calls.orphan(uid_at(1));
     assert!(rt; is_closed(&calls, 3));
     assert!(rt; calls.waiting(1, 1), "the request goes on");
+    assert!(rt; has_arguments(&calls, 3), "with its arguments");
+    assert!(rt; calls.deliver(1, 1).is_some());
     assert!(rt; !answer(&mut calls, rt.alloc(), 3)?);
+    assert!(rt; !has_arguments(&calls, 3));
+    assert!(rt; !answer(&mut calls, rt.alloc(), 0)?, "never given");
+    assert!(rt; !answer(&mut calls, rt.alloc(), 4)?, "not yet given");
     Ok(())
 }

@@ -1,14 +1,14 @@
 //! Which station reaches which: nodes that are up, and links that are joined.
 //!
 //! The stations are the shell, which is station 0, and the nodes 1 to 8. There is a link between
-//! any two of them. No cut touches the way from a station to itself.
+//! any two of them. No cut touches the way from a station to itself. Nothing reaches the shell.
 #![tactic(auto)]
 
 #[cfg(test)]
 mod tests;
 
-ghost use Rattle.std.specs.Prelude.{◌≡◌, ◌≤◌, ◌<◌, ◌==◌, ◌+◌, ◌*◌, ℕ, true, cond, length};
-ghost use Rattle.locator.specs.Reach.{Stations, up_at, joined_at, reaches, same_link};
+ghost use Rattle.std.specs.Prelude.{◌≡◌, ◌≤◌, ◌<◌, ◌==◌, ◌+◌, ◌*◌, ℕ, true, cond, length, IsTrue};
+ghost use Rattle.locator.specs.Reach.{Stations, up_at, joined_at, reaches, same_link, node_up_at};
 
 use capability::Uid;
 use std::marker::Model;
@@ -68,13 +68,22 @@ impl Places {
         self.up[node as usize]
     }
 
-    /// Whether `b` is up, and is `a` itself or on a joined link with it.
+    /// Whether `b` is a node that is up, and is `a` itself or on a joined link with it.
     pub fn reach(&self, a: u8, b: u8) -> bool
-        requires from { a ≤ 8 }
-        requires to { b ≤ 8 }
-        ensures { result ≡ reaches self.now a b }
+        requires { a ≤ 8 }
+        ensures reached { result ≡ reaches self.now a b }
+        ensures within { IsTrue result → b ≤ 8 }
     {
-        self.up[b as usize] && (a == b || self.joined[place(a, b)])
+        let there = self.is_node_up(b);
+        there && (a == b || self.joined[place(a, b)])
+    }
+
+    /// Whether the number is that of a node that is up. The shell is no node.
+    fn is_node_up(&self, node: u8) -> bool
+        ensures up { result ≡ node_up_at self.now node }
+        ensures within { IsTrue result → node ≤ 8 }
+    {
+        1 <= node && node <= 8 && self.up[node as usize]
     }
 
     /// The node is up or down from now on.

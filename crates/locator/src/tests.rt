@@ -14,6 +14,9 @@ fn reach_follows_nodes_and_links(rt: HostRuntime) {
     assert!(rt; !places.reach(2, 0), "cut the other way");
     assert!(rt; places.reach(0, 1), "another link");
     assert!(rt; places.reach(2, 2), "itself");
+    assert!(rt; !places.reach(1, 0), "nothing reaches the shell");
+    assert!(rt; !places.reach(0, 0), "not even itself");
+    assert!(rt; !places.reach(0, 9), "no station");
     places.set_link(2, 0, true);
     assert!(rt; places.reach(0, 2), "joined");
     places.set_up(2, false);

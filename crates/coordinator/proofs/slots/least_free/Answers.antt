@@ -1,6 +1,6 @@
 use Rattle.std.proofs.Common.{map, refl, sym, ◌∙◌}
 use Rattle.coordinator.proofs.Table.{taken-slots}
-use Rattle.eden_model.specs.FreeNumbers.{free-more, free-here}
+use Rattle.eden_model.proofs.FreeNumbers.{free-more, free-here}
 use Rattle.eden_model.specs.Crew.{least_number}
 use Rattle.coordinator.specs.View.{process_of}
 use Rattle.coordinator.proofs.slots.least_free.Goals as goal

@@ -1,6 +1,5 @@
 use Rattle.std.proofs.Common.{◌≡◌, ◌≤◌, length, take}
 use Rattle.std.specs.Prelude.{filter_map}
-use Rattle.std.specs.Vec.{vec_capacity}
 use Rattle.coordinator.specs.Fields.{slot_pair}
 use Rattle.coordinator.proofs.slots.served_pairs.Given as goal
 
@@ -8,5 +7,4 @@ abbrev pub invariant-loop-i : goal.invariant-loop-i
 invariant-loop-i l = record {
   pairs : l.pairs.items ≡ filter_map slot_pair (take l.i l.slots.items);
   few : length l.pairs.items ≤ l.i;
-  room : vec_capacity l.pairs ≡ vec_capacity l.initial.pairs;
 }

@@ -1,4 +1,4 @@
-use Rattle.std.proofs.Common.{◌≡◌, ◌<◌, ◌+◌, ◌++◌, ◌∷◌, [], Bool, true, false, length, is_some, refl, ◌∙◌, ap, arith}
+use Rattle.std.proofs.Common.{◌≡◌, ◌<◌, ◌+◌, ◌++◌, ◌∷◌, [], Bool, true, false, length, is_some, refl, sym, ◌∙◌, ap, arith}
 use Rattle.eden_model.specs.Traffic.{asking_station}
 use Rattle.invocation.specs.declared.call.Call.{Call}
 use Rattle.invocation.specs.declared.call.Message.TheVariants.{Request}
@@ -7,18 +7,20 @@ use Rattle.invocation.specs.Queues.{sent_to}
 use Rattle.locator.specs.Reach.{reaches}
 use Rattle.invocation.specs.Mail.{Mail, asked_call, refused_at_once}
 use Rattle.invocation.specs.Carries.{Carries}
-use Rattle.invocation.proofs.Mails.{asked-open, asked-closed, asker-within}
+use Rattle.invocation.proofs.Mails.{asked-open, asked-closed, asked-reached}
 use Rattle.invocation.proofs.Sent.{ask-carried}
 use Rattle.invocation.proofs.Calls.ask.Goals as goal
 use Rattle.invocation.proofs.Calls.ask.Goals.{in-None+in_ok-send-in-None, in-Some}
+
+pub send-requires-clause-to : goal.send-requires-clause-to
+send-requires-clause-to c = c.reach.ensures.within (asked-reached c.reach.result c.args.args (sym c.refusal-at_once.ensures ∙ c.in-None.is))
 
 pub invariant_of-self-2 : goal.invariant_of-self-2
 invariant_of-self-2 c =
     let a = c.self.inside in
     let few : length a.calls.items < 4294967295 = rw (← c.self.view_is) at c.requires.few in
     let n : c.len.result ≡ length a.calls.items = omega (arith, c.len.ensures) in
-    let from = asker-within c.args.asker c.requires.asker in
-    let to = c.requires.target.node_most in
+    let from = c.requires.asker in
     let x : Bool → Call = asked_call c.args.asker c.args.target c.args.operation c.args.args in
     elim c.match-at_once.branch [
       | in-None+in_ok-send-in-None w ↦
@@ -26,22 +28,23 @@ invariant_of-self-2 c =
           let calls : c.push_reserved-2.new.self.items ≡ a.calls.items ++ x false ∷ [] =
           c.push_reserved-2.ensures.items ∙ ap (λ (s : Inside). s.calls.items ++ c.new_call.result ∷ []) w.self-inside-is
           ∙ ap (λ l. l ++ c.new_call.result ∷ []) c.reserve.ensures.items ∙ ap (λ y. a.calls.items ++ y ∷ []) (c.new_call.ensures ∙ ap x refused) in
-          let opens : c.match-at_once.self-inside.open_calls.items ≡ a.open_calls.items ++ (length a.calls.items + 1) ∷ [] =
-          ap (λ (s : Inside). s.open_calls.items) w.self-inside-is ∙ w.push_reserved.ensures.items
-          ∙ ap (λ l. l ++ (c.len.result + 1) ∷ []) c.reserve-2.ensures.items ∙ ap (λ n. a.open_calls.items ++ (n + 1) ∷ []) n in
+          let opens : c.match-at_once.self-inside.index.items ≡ a.index.items ++ (length a.calls.items + 1) ∷ [] =
+          ap (λ (s : Inside). s.index.items) w.self-inside-is ∙ w.push_reserved.ensures.items
+          ∙ ap (λ l. l ++ (c.len.result + 1) ∷ []) c.reserve-2.ensures.items ∙ ap (λ n. a.index.items ++ (n + 1) ∷ []) n in
           let queues : c.match-at_once.self-inside.queues.items ≡ sent_to (asking_station c.args.asker) c.args.target.uid.node (Request (length a.calls.items + 1)) a.queues.items =
           ap (λ (s : Inside). s.queues.items) w.self-inside-is ∙ w.in_ok-send-in-None.ensures
           ∙ ap (λ s. sent_to s c.args.target.uid.node (Request (c.len.result + 1)) a.queues.items) c.station-from.ensures
           ∙ ap (λ n. sent_to (asking_station c.args.asker) c.args.target.uid.node (Request (n + 1)) a.queues.items) n in
-          rw (calls, opens, queues) (asked-open a.calls.items a.open_calls.items a.queues.items c.self.invariant few (x false) (from, to) refl (asking_station c.args.asker) c.args.target.uid.node from to)
+          let to = c.reach.ensures.within (asked-reached c.reach.result c.args.args (sym c.refusal-at_once.ensures ∙ w.in-None.is)) in
+          rw (calls, opens, queues) (asked-open a.calls.items a.index.items a.queues.items c.self.invariant few (x false) (from, λ e. to) refl (asking_station c.args.asker) c.args.target.uid.node from to)
       | in-Some w ↦
           let refused : c.is_some.result ≡ true = c.is_some.ensures ∙ ap is_some w.in-Some.is in
           let calls : c.push_reserved-2.new.self.items ≡ a.calls.items ++ x true ∷ [] =
           c.push_reserved-2.ensures.items ∙ ap (λ (s : Inside). s.calls.items ++ c.new_call.result ∷ []) w.self-inside-is
           ∙ ap (λ l. l ++ c.new_call.result ∷ []) c.reserve.ensures.items ∙ ap (λ y. a.calls.items ++ y ∷ []) (c.new_call.ensures ∙ ap x refused) in
-          let opens : c.match-at_once.self-inside.open_calls.items ≡ a.open_calls.items = ap (λ (s : Inside). s.open_calls.items) w.self-inside-is ∙ c.reserve-2.ensures.items in
+          let opens : c.match-at_once.self-inside.index.items ≡ a.index.items = ap (λ (s : Inside). s.index.items) w.self-inside-is ∙ c.reserve-2.ensures.items in
           let queues : c.match-at_once.self-inside.queues.items ≡ a.queues.items = ap (λ (s : Inside). s.queues.items) w.self-inside-is in
-          rw (calls, opens, queues) (asked-closed a.calls.items a.open_calls.items a.queues.items c.self.invariant few (x true) (from, to) refl)
+          rw (calls, opens, queues) (asked-closed a.calls.items a.index.items a.queues.items c.self.invariant few (x true) (from, λ e. let bad : false ≡ true = e in cc) refl)
     ]
 
 pub returns-clause-cases : goal.returns-clause-cases
@@ -51,7 +54,7 @@ returns-clause-cases c =
     let x : Bool → Call = asked_call c.args.asker c.args.target c.args.operation c.args.args in
     rw (← c.self.view_is) (record {
       number = ap (λ k. k + 1) n;
-      at_once = c.refusal-at_once.ensures ∙ ap (λ r. refused_at_once r c.args.args) c.reach.ensures ∙ ap (λ s. refused_at_once (reaches c.args.places.now s c.args.target.uid.node) c.args.args) c.station-from.ensures;
+      at_once = c.refusal-at_once.ensures ∙ ap (λ r. refused_at_once r c.args.args) c.reach.ensures.reached ∙ ap (λ s. refused_at_once (reaches c.args.places.now s c.args.target.uid.node) c.args.args) c.station-from.ensures;
       after = elim c.match-at_once.branch [
         | in-None+in_ok-send-in-None w ↦
             let refused : c.is_some.result ≡ false = c.is_some.ensures ∙ ap is_some w.in-None.is in
@@ -81,4 +84,4 @@ returns-clause-model c t carries =
     let n : c.len.result ≡ length a.calls.items = omega (arith, c.len.ensures) in
     let asks = returns-clause-cases c in
     rw (asks.after, n, ← c.self.view_is)
-    (ask-carried old t before c.self.invariant.pairs c.args.asker c.args.target c.args.operation c.args.args c.refusal-at_once.result (asker-within c.args.asker c.requires.asker) c.requires.target.node_most)
+    (ask-carried old t before c.self.invariant.pairs c.args.asker c.args.target c.args.operation c.args.args c.refusal-at_once.result c.requires.asker (λ none. c.reach.ensures.within (asked-reached c.reach.result c.args.args (sym c.refusal-at_once.ensures ∙ none))))

@@ -5,12 +5,12 @@ use Rattle.std.proofs.lemmas.List.Elements.{All-head, All-tail}
 use Rattle.eden_model.specs.Map.{rest}
 use Rattle.invocation.specs.Mail.{Mail, IsGiven, number_of, received}
 use Rattle.invocation.specs.Whole.{AllGiven}
-use Rattle.invocation.proofs.Mails.{between-received, length-received, given-more, given-with, first-rest, row-read}
+use Rattle.invocation.proofs.Mails.{between-received, index-received, length-received, given-more, given-with, first-rest, row-read}
 use Rattle.invocation.proofs.Carried.{delivery-carried}
 use Rattle.invocation.proofs.Calls.deliver.Goals as goal
 
-pub receive-requires-clause-given : goal.receive-requires-clause-given
-receive-requires-clause-given c =
+pub receive-requires : goal.receive-requires
+receive-requires c =
     let a = c.self.inside in
     let q = c.index_mut-queue.result.now in
     let at : get_or a.queues.items c.pair.result [] ≡ q = row-read a.queues.items c.pair.result q c.index_mut-queue.ensures.value (omega (arith, c.pair.ensures.within, c.self.invariant.pairs)) in
@@ -29,7 +29,7 @@ invariant_of-self c =
     rw c.take.ensures.rest (All-tail (λ x. IsGiven a.calls.items (number_of x)) m (rest q) (rw (first-rest q m c.in-Some.ensures.first) at all)) in
     record {
       few = rw c.receive.ensures.calls (omega (arith, n, c.self.invariant.few));
-      index = c.receive.ensures.open_calls;
+      index = rw c.receive.ensures.calls (index-received m a.calls.items a.index.items c.self.invariant.index);
       between = rw c.receive.ensures.calls (between-received m a.calls.items c.self.invariant.between);
       pairs = length-set a.queues.items c.pair.result c.take.new.self ∙ c.self.invariant.pairs;
       given = rw c.receive.ensures.calls (given-more a.calls.items (received m a.calls.items) (omega (arith, n)) (slice_set a.queues.items c.pair.result c.take.new.self)
@@ -44,5 +44,5 @@ returns-in-Some-clause-model c t carries =
     let old : Mail = record { calls = a.calls.items; queues = a.queues.items } in
     let at : get_or a.queues.items c.pair.result [] ≡ q = row-read a.queues.items c.pair.result q c.index_mut-queue.ensures.value (omega (arith, c.pair.ensures.within, c.self.invariant.pairs)) in
     let is : get_or a.queues.items c.pair.result [] ≡ m ∷ rest q = at ∙ first-rest q m c.in-Some.ensures.first in
-    rw (c.receive.ensures.calls, c.take.ensures.rest, c.pair.ensures.place)
+    rw (c.receive.ensures.told, c.receive.ensures.calls, c.take.ensures.rest, c.pair.ensures.place)
     (delivery-carried old t (rw (c.self.view_is) carries) c.self.invariant.pairs c.args.from c.args.to c.requires.from c.requires.to m (rest q) (rw c.pair.ensures.place at is))
