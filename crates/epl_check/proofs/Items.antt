@@ -1,5 +1,6 @@
 -- What the parts of a body tell, joined.
-use Rattle.std.proofs.Common.{◌≡◌, refl, ap, sym, ◌∙◌, List, [], ◌∷◌, ◌++◌, map, Option, not}
+use Rattle.std.proofs.Common.{◌≡◌, ℕ, true, refl, ap, sym, ◌∙◌, List, [], ◌∷◌, ◌++◌, map, Option, Some, None, not, arith}
+use Rattle.eden_value.specs.Shape.{Shape}
 use Rattle.epl_syntax.specs.declared.tree.Name.{Name}
 use Rattle.epl_syntax.specs.declared.tree.VarDecl.{VarDecl}
 use Rattle.epl_syntax.specs.declared.tree.LocalDecl.{LocalDecl}
@@ -10,12 +11,14 @@ use Rattle.epl_syntax.specs.declared.tree.UpgradeDecl.{UpgradeDecl}
 use Rattle.epl_syntax.specs.declared.tree.Assignment.{Assignment}
 use Rattle.epl_syntax.specs.Tree.{variable, local_of, parameter, written, operation, process, upgrade, change}
 use Rattle.epl_syntax.specs.declared.rule.Broken.{Broken}
-use Rattle.epl_syntax.specs.declared.rule.Rule.TheVariants.{UnknownName}
+use Rattle.epl_syntax.specs.declared.rule.Rule.TheVariants.{UnknownName, KindDiffers}
 use Rattle.epl_syntax.specs.Rules.First.{least, broken_if}
 use Rattle.epl_syntax.specs.Rules.Scopes.{doubled, as_variable, as_variables, is_among}
-use Rattle.epl_syntax.specs.Rules.InItems.{names_of_vars, names_of_params, names_of_locals, names_of_changes, names_of_operations, names_of_processes, broken_names, broken_head, outside, too_many, places_of}
-use Rattle.epl_check.specs.View.{doubled_before}
-use Rattle.epl_check.proofs.Least.{least_append}
+use Rattle.epl_syntax.specs.Rules.InItems.{names_of_vars, names_of_params, names_of_locals, names_of_changes, names_of_operations, names_of_processes, broken_names, broken_head, broken_durable, outside, too_many, places_of}
+use Rattle.epl_syntax.specs.Rules.KindsOf.{same_shape}
+use Rattle.epl_syntax.specs.Rules.InExpressions.{misfit_known}
+use Rattle.epl_check.specs.View.{doubled_before, is_past}
+use Rattle.epl_check.proofs.Least.{least_append, past_one, still_past}
 use Rattle.epl_check.proofs.Rows.{map_map}
 use Rattle.epl_check.proofs.Doubled.{least_two, flat_append}
 
@@ -90,3 +93,24 @@ map_same (n ∷ ns) = ap (λ l. n ∷ l) (map_same ns)
 -- one more has been told
 pub joined : (o o1 o2 : Option Broken) (a b : List Broken) → o1 ≡ least o a → o2 ≡ least o1 b → o2 ≡ least o (a ++ b)
 joined o o1 o2 a b s t = t ∙ ap (λ p. least p b) s ∙ sym (least_append o a b)
+
+-- where a change comes behind what is told, what its name stands for is nothing more
+unknown_past : (o : Option Broken) (wanted : Option Shape) (place : ℕ) → is_past o place ≡ true → o ≡ least o (broken_durable wanted place)
+unknown_past o None place h = past_one o place place UnknownName true h (omega arith)
+unknown_past o (Some k) place h = refl
+
+misfit_past : (o : Option Broken) (wanted found : Option Shape) (place : ℕ) → is_past o place ≡ true → o ≡ least o (misfit_known wanted found place)
+misfit_past o None found place h = refl
+misfit_past o (Some k) None place h = refl
+misfit_past o (Some k) (Some f) place h = past_one o place place KindDiffers (not (same_shape k f)) h (omega arith)
+
+pub change_past : (o o1 : Option Broken) (wanted found : Option Shape) (inside : List Broken) (name_place place : ℕ)
+    → is_past o name_place ≡ true → is_past o place ≡ true → o1 ≡ least o inside
+    → o1 ≡ least o (broken_durable wanted name_place ++ inside ++ misfit_known wanted found place)
+change_past o o1 wanted found inside name_place place h k s =
+    let a = broken_durable wanted name_place in
+    let b = misfit_known wanted found place in
+    let past : is_past o1 place ≡ true = ap (λ p. is_past p place) s ∙ still_past o inside place k in
+    misfit_past o1 wanted found place past
+    ∙ ap (λ p. least p b) (s ∙ ap (λ p. least p inside) (unknown_past o wanted name_place h) ∙ sym (least_append o a inside))
+    ∙ sym (least_append o (a ++ inside) b)

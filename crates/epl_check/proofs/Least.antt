@@ -59,6 +59,19 @@ pub past_all : {A : Type 0} (f : A → List Broken) (o : Option Broken) → ((x 
 past_all f o h [] = refl
 past_all f o h (x ∷ xs) = past_all f o h xs ∙ ap (λ p. least p (flat_map f xs)) (h x) ∙ sym (least_append o (f x) (flat_map f xs))
 
+-- what is told earlier stays past a place
+sooner_past : (a b : Broken) (place : ℕ) (t : Bool) → before b a ≡ t → nat_lt a.place place ≡ true → is_past (cond t (Some b) (Some a)) place ≡ true
+sooner_past a b place false h k = k
+sooner_past a b place true h k = lower_past_place b.place (rank b.rule) a.place (rank a.rule) place h k
+  where
+    lower_past_place : (p r q s n : ℕ) → (nat_lt p q || (p == q && nat_lt r s)) ≡ true → nat_lt q n ≡ true → nat_lt p n ≡ true
+    lower_past_place p r q s n h k = grind arith
+
+pub still_past : (o : Option Broken) (bs : List Broken) (place : ℕ) → is_past o place ≡ true → is_past (least o bs) place ≡ true
+still_past o [] place h = h
+still_past None (b ∷ bs) place h = absurd cc
+still_past (Some a) (b ∷ bs) place h = still_past (sooner (Some a) b) bs place (sooner_past a b place (before b a) refl h)
+
 -- ## It is the first
 
 kept_by : (c a : Broken) (bs : List Broken) (t : Bool) → (b : Broken) × (least (Some c) bs ≡ Some b) → (b : Broken) × (least (Some a) bs ≡ Some b) → (b : Broken) × (least (cond t (Some c) (Some a)) bs ≡ Some b)

@@ -2,5 +2,5 @@ pub mod ArgumentTests
 pub mod Doubled
 pub mod Items
 pub mod Least
+pub mod Named
 pub mod Rows
-pub mod Sorts

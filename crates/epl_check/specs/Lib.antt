@@ -1,2 +1,4 @@
+pub mod Bodies
+pub mod Numbered
 pub mod View
 pub mod Refusals

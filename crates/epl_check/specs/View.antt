@@ -1,13 +1,11 @@
 -- What the code's short forms stand for.
 use Rattle.std.specs.Prelude.{Bool as Truth, true, false, nat_lt, ℕ, zero, suc, List, [], ◌∷◌, ◌++◌, map, Option, Some, None}
 use Rattle.std.specs.Borrow.{Bor}
-use Rattle.eden_value.specs.Shape.{Shape, ints, truths, texts, caps, lists, shape}
+use Rattle.eden_value.specs.Shape.{Shape, shape}
+use Rattle.eden_value.specs.declared.kind.Kind.{Kind}
 use Rattle.epl_syntax.specs.declared.tree.WrittenKind.{WrittenKind}
 use Rattle.epl_syntax.specs.Tree.{PlacedShape, written, variable, local_of, parameter}
 use Rattle.epl_syntax.specs.Rules.OfTypes.{TypeList, names_of}
-use Rattle.epl_check.specs.declared.sort.Plain.{Plain}
-use Rattle.epl_check.specs.declared.sort.Plain.TheVariants.{Int, Bool, Text, Cap}
-use Rattle.epl_check.specs.declared.sort.Sort.{Sort}
 use Rattle.epl_check.specs.declared.scope.Scope.{Scope as Sight}
 use Rattle.epl_check.specs.declared.scope.Variable.{Variable}
 use Rattle.epl_syntax.specs.Tree.{Expression}
@@ -19,24 +17,10 @@ use Rattle.epl_syntax.specs.Rules.Scopes.{Scope, Seen, clashes, same_number}
 use Rattle.epl_syntax.specs.Rules.InExpressions.{broken_expression}
 use Rattle.epl_syntax.specs.Rules.InStatements.{broken_as}
 
-abbrev pub plain : Plain → Shape
-plain Int = ints
-plain Bool = truths
-plain Text = texts
-plain Cap = caps
-
--- so many lists in one another
-abbrev pub listed : ℕ → Shape → Shape
-listed zero s = s
-listed (suc n) s = lists (listed n s)
-
-abbrev pub kind_of_sort : Sort → Shape
-kind_of_sort s = listed s.lists (plain s.of)
-
 -- a kind that is known or not
-abbrev pub found : Option Sort → Option Shape
+abbrev pub found : Option Kind → Option Shape
 found None = None
-found (Some s) = Some (kind_of_sort s)
+found (Some k) = Some (shape k)
 
 -- a variable that is there or not
 abbrev pub seen_of : Option Variable → Option Seen
@@ -53,11 +37,11 @@ types_seen own earlier = own.text ∷ names_of earlier
 
 unfoldable pub seen : Sight → Scope
 seen s = record {
-  locals = map local_of s.locals.now;
-  params = map parameter s.params.now;
-  vars = map variable s.vars.now;
-  monitors = s.monitors.now;
-  conditions = s.conditions.now;
+  locals = map local_of s.locals.items.now;
+  params = map parameter s.params.items.now;
+  vars = map variable s.vars.items.now;
+  monitors = s.monitors.items.now;
+  conditions = s.conditions.items.now;
   types = types_seen s.own.now s.earlier.now;
   results = results_of s.results;
 }

@@ -5,13 +5,16 @@ ghost use Rattle.epl_syntax.specs.Rules.OfTypes.{names_of};
 ghost use Rattle.epl_syntax.specs.Rules.First.{least};
 ghost use Rattle.epl_syntax.specs.Rules.InItems as rules;
 ghost use Rattle.epl_check.specs.Refusals.{Refuses, refusal_of};
+ghost use Rattle.epl_check.specs.Bodies.{broken_bodies};
 
+use crate::index::index;
 use crate::item::{
     check_classes, check_operations, check_processes, check_upgrades, check_vars, check_version,
 };
 use crate::names::{check_count, check_doubled, check_doubled_numbers};
-use crate::sort::Uncounted;
+use crate::scope::Surroundings;
 use epl_syntax::{Broken, Name, OpDecl, ProcDecl, Program, Rule, Types, VarDecl};
+use std::alloc::{AllocError, Global};
 
 /// The first rule that a type breaks, with the place of the token that breaks it.
 #[derive(Clone, Copy, Debug, PartialEq, Eq)]
@@ -28,6 +31,7 @@ pub enum CheckRefusal {
     Doubled { place: u32 },
     /// A number is outside its limits, a kind is too deep, or there are too many of something.
     BadLimit { place: u32 },
+    /// There was no memory for the order of the names, or for a kind.
     OutOfMemory,
 }
 
@@ -46,19 +50,22 @@ fn refusal_of(b: Broken) -> CheckRefusal
 }
 
 fn check_var_count(vars: &[VarDecl], first: &mut Option<Broken>)
-    ensures { first.new ≡ least first.old (rules.too_many 64 (rules.places_of (rules.names_of_vars (map tree.variable vars.now)))) }
+    ensures { first.new ≡ least first.old
+        (rules.too_many 64 (rules.places_of (rules.names_of_vars (map tree.variable vars.now)))) }
 {
     check_count(64, vars, first);
 }
 
 fn check_operation_count(operations: &[OpDecl], first: &mut Option<Broken>)
-    ensures { first.new ≡ least first.old (rules.too_many 32 (rules.places_of (rules.names_of_operations (map tree.operation operations.now)))) }
+    ensures { first.new ≡ least first.old
+        (rules.too_many 32 (rules.places_of (rules.names_of_operations (map tree.operation operations.now)))) }
 {
     check_count(32, operations, first);
 }
 
 fn check_process_count(processes: &[ProcDecl], first: &mut Option<Broken>)
-    ensures { first.new ≡ least first.old (rules.too_many 8 (rules.places_of (rules.names_of_processes (map tree.process processes.now)))) }
+    ensures { first.new ≡ least first.old
+        (rules.too_many 8 (rules.places_of (rules.names_of_processes (map tree.process processes.now)))) }
 {
     check_count(8, processes, first);
 }
@@ -107,36 +114,68 @@ fn check_upgrade_numbers(program: &Program, first: &mut Option<Broken>)
     check_doubled_numbers(&program.upgrades, first);
 }
 
-/// Tells the first rule that a type breaks.
-#[tactic(auto, using(crate::proofs::Least::least_append), unfolding(epl_syntax::specs::Rules::InItems::broken_program))]
-fn check_program(
+/// What the operations, the processes and the upgrades of a type break.
+#[tactic(auto, using(crate::proofs::Least::least_append))]
+fn check_bodies(
+    alloc: Global,
     program: &Program,
     earlier: &Types,
     first: &mut Option<Broken>,
-) -> Result<(), Uncounted>
-    ensures { OnOk result (first.new ≡ least first.old (rules.broken_program (names_of earlier.now) (tree.edentype program.now))) }
+) -> Result<(), AllocError>
+    ensures { OnOk result (first.new ≡ least first.old (broken_bodies (names_of earlier.now) (tree.edentype program.now))) }
+{
+    let no_names: &[Name] = &[];
+    let none = index(alloc, no_names)?;
+    let vars = index(alloc, program.vars.as_slice())?;
+    let monitors = index(alloc, program.monitors.as_slice())?;
+    let conditions = index(alloc, program.conditions.as_slice())?;
+    let around = Surroundings {
+        alloc,
+        program,
+        earlier,
+        vars: &vars,
+        monitors: &monitors,
+        conditions: &conditions,
+        none: &none,
+    };
+    check_operations(&around, first)?;
+    check_processes(&around, first)?;
+    check_upgrades(&around, first)
+}
+
+/// Tells the first rule that a type breaks.
+#[tactic(auto, using(crate::proofs::Least::least_append), unfolding(epl_syntax::specs::Rules::InItems::broken_program))]
+fn check_program(
+    alloc: Global,
+    program: &Program,
+    earlier: &Types,
+    first: &mut Option<Broken>,
+) -> Result<(), AllocError>
+    ensures { OnOk result (first.new ≡ least first.old
+        (rules.broken_program (names_of earlier.now) (tree.edentype program.now))) }
 {
     check_version(&program.version, first);
     check_counts(program, first);
     check_small_names(program, first);
     check_great_names(program, first);
     check_upgrade_numbers(program, first);
-    check_vars(&program.vars, first)?;
+    check_vars(alloc, &program.vars, first)?;
     check_classes(&program.classes, first);
-    check_operations(program, earlier, first)?;
-    check_processes(program, earlier, first)?;
-    check_upgrades(program, earlier, first)
+    check_bodies(alloc, program, earlier, first)
 }
 
 /// Whether a type keeps its rules, where `earlier` has the native types and those that the script
 /// declares before it. Of several broken rules the one at the first place is answered, and at one
 /// place the one that stands first in `CheckRefusal`.
-pub fn check(program: &Program, earlier: &Types) -> Result<(), CheckRefusal>
+///
+/// Memory is taken for the order of the names, by which each is found among very many, and for the
+/// kinds of expressions that are lists.
+pub fn check(alloc: Global, program: &Program, earlier: &Types) -> Result<(), CheckRefusal>
     ensures ok { IfOk result (λ _. rules.broken_program (names_of earlier.now) (tree.edentype program.now) ≡ []) }
     ensures refused { IfErr result (Refuses (rules.broken_program (names_of earlier.now) (tree.edentype program.now))) }
 {
     let mut first = None;
-    if check_program(program, earlier, &mut first).is_err() {
+    if check_program(alloc, program, earlier, &mut first).is_err() {
         return Err(CheckRefusal::OutOfMemory);
     }
     match first {

@@ -199,3 +199,39 @@ fn a_type_of_a_mebibyte_is_checked(rt: HostRuntime) -> Result<(), Fail> {
     assert!(rt; is_answered(rt.alloc(), &types, None, &text)?);
     Ok(())
 }
+
+/// A type with many variables behind a process that holds so many times the same statement. The mark
+/// stands at the first statement, or where `at_limit` is given, at the first variable too many.
+fn of_many_variables(
+    alloc: Global,
+    statement: &[u8],
+    repeats: u32,
+    variables: u32,
+    at_limit: bool,
+) -> Result<Vec<u8>, Fail> {
+    let mut text = Vec::from_slice(alloc, b"edentype A process P |")?;
+    for _ in 0..repeats {
+        text.extend_from_slice(statement)?;
+    }
+    text.extend_from_slice(b"end ")?;
+    for i in 0..variables {
+        let part: &[u8] = if at_limit && i == 64 {
+            b"durable |v# : int = 0 "
+        } else {
+            b"durable v# : int = 0 "
+        };
+        append_part(alloc, &mut text, part, i)?;
+    }
+    text.extend_from_slice(b"endtype")?;
+    Ok(text)
+}
+
+#[test]
+fn names_are_found_among_very_many(rt: HostRuntime) -> Result<(), Fail> {
+    let types = types_before(rt.alloc())?;
+    let known = of_many_variables(rt.alloc(), b"v21999 := v21998 ", 30_000, 22_000, true)?;
+    assert!(rt; is_answered(rt.alloc(), &types, Some(Rule::BadLimit), &known)?);
+    let unknown = of_many_variables(rt.alloc(), b"x := x ", 40_000, 30_000, false)?;
+    assert!(rt; is_answered(rt.alloc(), &types, Some(Rule::UnknownName), &unknown)?);
+    Ok(())
+}

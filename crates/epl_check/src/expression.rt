@@ -5,17 +5,20 @@ ghost use Rattle.epl_syntax.specs.Rules.First.{least};
 ghost use Rattle.epl_syntax.specs.Rules.KindsOf as kinds;
 ghost use Rattle.epl_syntax.specs.Rules.InExpressions as rules;
 ghost use Rattle.epl_syntax.specs.Rules.InStatements as statements;
-ghost use Rattle.epl_check.specs.View.{kind_of_sort, found, first_of, seen, seen_of};
+ghost use Rattle.epl_check.specs.View.{found, first_of, seen, seen_of};
 
 use crate::first::tell_if;
 use crate::fit::{
     Operand, arity, check_constant, fit, fit_argument, fit_known, fit_list, fit_operands,
-    sort_of_application, sort_of_operation, sort_of_prefix,
+    kind_of_application, kind_of_operation, kind_of_prefix,
 };
+use crate::kinds::{copy_of, if_listed, item_of};
 use crate::scope::{Scope, Variable};
-use crate::sort::{Plain, Sort, Uncounted, if_listed, item_of, no_list, sort_of};
+use eden_value::Kind;
 use epl_syntax::{Broken, Builtin, Expr, Name, Rule};
+use std::alloc::{AllocError, Global};
 
+/// The place of an expression's first token.
 pub(crate) fn place_of(e: &Expr) -> u32
     ensures { result ≡ rules.place_of (tree.expression e.now) }
 {
@@ -48,14 +51,17 @@ pub(crate) fn stands_in(held: Option<usize>, monitor: u32) -> bool
 }
 
 /// The kind of a variable, if there is one.
-fn sort_of_variable(variable: Option<Variable<'_>>) -> Result<Option<Sort>, Uncounted>
-    ensures { IfOk result (λ s. found s ≡ kinds.seen_kind (seen_of variable.entry)) }
+fn kind_of_variable(
+    alloc: Global,
+    variable: Option<Variable<'_>>,
+) -> Result<Option<Kind>, AllocError>
+    ensures { IfOk result (λ k. found k ≡ kinds.seen_kind (seen_of variable.entry)) }
 {
     match variable {
         None => Ok(None),
         Some(variable) => {
-            let sort = sort_of(variable.kind)?;
-            Ok(Some(sort))
+            let kind = copy_of(alloc, variable.kind)?;
+            Ok(Some(kind))
         }
     }
 }
@@ -85,18 +91,25 @@ pub(crate) fn check_use(
     held: Option<usize>,
     name: &Name,
     first: &mut Option<Broken>,
-) -> Result<Option<Sort>, Uncounted>
-    ensures kind { IfOk result (λ s. found s ≡ kinds.kind_named (seen scope.now) name.now.text) }
+) -> Result<Option<Kind>, AllocError>
+    ensures kind { IfOk result (λ k. found k ≡ kinds.kind_named (seen scope.now) name.now.text) }
     ensures told { first.new ≡ least first.old (rules.broken_use (seen scope.now) held name.now) }
 {
     let variable = scope.variable_named(&name.text);
     check_use_of(held, variable, name.place, first);
-    sort_of_variable(variable)
+    kind_of_variable(scope.alloc, variable)
 }
 
 /// The first of several, where so many came before this one.
-fn first_of(i: usize, first: Option<Sort>, this: Option<Sort>) -> Option<Sort>
+fn first_of(i: usize, first: Option<Kind>, this: Option<Kind>) -> Option<Kind>
     ensures { found result ≡ first_of i (found first) (found this) }
+{
+    if i == 0 { this } else { first }
+}
+
+/// The same, where both are lent.
+fn first_at<'a>(i: usize, first: &'a Option<Kind>, this: &'a Option<Kind>) -> &'a Option<Kind>
+    ensures { found result.now ≡ first_of i (found first.now) (found this.now) }
 {
     if i == 0 { this } else { first }
 }
@@ -110,21 +123,22 @@ pub(crate) fn check_expression(
     held: Option<usize>,
     e: &Expr,
     first: &mut Option<Broken>,
-) -> Result<Option<Sort>, Uncounted>
-    ensures kind { IfOk result (λ s. found s ≡ kinds.kind_of (seen scope.now) (tree.expression e.now)) }
-    ensures told { OnOk result (first.new ≡ least first.old (rules.broken_expression (seen scope.now) held (tree.expression e.now))) }
+) -> Result<Option<Kind>, AllocError>
+    ensures kind { IfOk result (λ k. found k ≡ kinds.kind_of (seen scope.now) (tree.expression e.now)) }
+    ensures told { OnOk result (first.new ≡ least first.old
+        (rules.broken_expression (seen scope.now) held (tree.expression e.now))) }
 {
     match e {
         Expr::Const { value, .. } => {
-            let sort = check_constant(value, first)?;
-            Ok(Some(sort))
+            let kind = check_constant(scope.alloc, value, first)?;
+            Ok(Some(kind))
         }
         Expr::Name { name } => check_use(scope, held, name, first),
-        Expr::Me { .. } => Ok(Some(no_list(Plain::Cap))),
+        Expr::Me { .. } => Ok(Some(Kind::Cap)),
         Expr::Unary { prefix, of, .. } => {
-            let wanted = sort_of_prefix(*prefix);
-            let sort = check_expression(scope, held, of, first)?;
-            fit(wanted, sort, place_of(of), first);
+            let wanted = kind_of_prefix(*prefix);
+            let kind = check_expression(scope, held, of, first)?;
+            fit(&wanted, &kind, place_of(of), first);
             Ok(Some(wanted))
         }
         Expr::Binary {
@@ -133,29 +147,29 @@ pub(crate) fn check_expression(
             right,
             ..
         } => {
-            let left_sort = check_expression(scope, held, left, first)?;
-            let right_sort = check_expression(scope, held, right, first)?;
+            let left_kind = check_expression(scope, held, left, first)?;
+            let right_kind = check_expression(scope, held, right, first)?;
             let left = Operand {
-                sort: left_sort,
+                kind: &left_kind,
                 place: place_of(left),
             };
             let right = Operand {
-                sort: right_sort,
+                kind: &right_kind,
                 place: place_of(right),
             };
             fit_operands(*operator, left, right, first);
-            Ok(sort_of_operation(*operator, left_sort))
+            Ok(kind_of_operation(*operator, left_kind))
         }
         Expr::Index { of, at, .. } => {
-            let sort = check_expression(scope, held, of, first)?;
-            fit_list(sort, place_of(of), first);
+            let kind = check_expression(scope, held, of, first)?;
+            fit_list(&kind, place_of(of), first);
             let index = check_expression(scope, held, at, first)?;
-            fit(no_list(Plain::Int), index, place_of(at), first);
-            Ok(item_of(sort))
+            fit(&Kind::Int, &index, place_of(at), first);
+            Ok(item_of(kind))
         }
         Expr::ListOf { items, .. } => {
             let item = check_items(scope, held, items, first)?;
-            if_listed(item)
+            if_listed(scope.alloc, item)
         }
         Expr::Apply {
             builtin,
@@ -169,7 +183,7 @@ pub(crate) fn check_expression(
                 first,
             );
             let of_first = check_arguments(scope, held, *builtin, args, first)?;
-            Ok(sort_of_application(*builtin, of_first))
+            Ok(kind_of_application(*builtin, of_first))
         }
     }
 }
@@ -182,17 +196,19 @@ fn check_items(
     held: Option<usize>,
     items: &[Expr],
     first: &mut Option<Broken>,
-) -> Result<Option<Sort>, Uncounted>
-    ensures kind { IfOk result (λ s. found s ≡ kinds.kind_of_first (seen scope.now) (tree.expressions items.now)) }
+) -> Result<Option<Kind>, AllocError>
+    ensures kind { IfOk result (λ k. found k ≡ kinds.kind_of_first (seen scope.now) (tree.expressions items.now)) }
     ensures told { OnOk result (first.new ≡ least first.old
-        (rules.broken_items (seen scope.now) held (kinds.kind_of_first (seen scope.now) (tree.expressions items.now)) (tree.expressions items.now))) }
+        (rules.broken_items (seen scope.now) held
+        (kinds.kind_of_first (seen scope.now) (tree.expressions items.now)) (tree.expressions items.now))) }
 {
     let mut of_first = None;
     for i in 0..items.len() {
         let e = &items[i];
-        let sort = check_expression(scope, held, e, first)?;
-        of_first = first_of(i, of_first, sort);
-        fit_known(of_first, sort, place_of(e), first);
+        let kind = check_expression(scope, held, e, first)?;
+        let known = first_at(i, &of_first, &kind);
+        fit_known(known, &kind, place_of(e), first);
+        of_first = first_of(i, of_first, kind);
     }
     Ok(of_first)
 }
@@ -206,8 +222,8 @@ fn check_arguments(
     builtin: Builtin,
     args: &[Expr],
     first: &mut Option<Broken>,
-) -> Result<Option<Sort>, Uncounted>
-    ensures kind { IfOk result (λ s. found s ≡ kinds.kind_of_first (seen scope.now) (tree.expressions args.now)) }
+) -> Result<Option<Kind>, AllocError>
+    ensures kind { IfOk result (λ k. found k ≡ kinds.kind_of_first (seen scope.now) (tree.expressions args.now)) }
     ensures told { OnOk result (first.new ≡ least first.old
         (rules.broken_arguments (seen scope.now) held
         (kinds.argument_tests builtin (kinds.kind_of_first (seen scope.now) (tree.expressions args.now))) (tree.expressions args.now))) }
@@ -215,9 +231,10 @@ fn check_arguments(
     let mut of_first = None;
     for i in 0..args.len() {
         let e = &args[i];
-        let sort = check_expression(scope, held, e, first)?;
-        of_first = first_of(i, of_first, sort);
-        fit_argument(builtin, i, of_first, sort, place_of(e), first);
+        let kind = check_expression(scope, held, e, first)?;
+        let known = first_at(i, &of_first, &kind);
+        fit_argument(builtin, i, known, &kind, place_of(e), first);
+        of_first = first_of(i, of_first, kind);
     }
     Ok(of_first)
 }

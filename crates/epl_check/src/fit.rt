@@ -5,101 +5,103 @@ ghost use Rattle.epl_syntax.specs.Tree.{written, constant};
 ghost use Rattle.epl_syntax.specs.Rules.First.{least};
 ghost use Rattle.epl_syntax.specs.Rules.KindsOf as kinds;
 ghost use Rattle.epl_syntax.specs.Rules.InExpressions as rules;
-ghost use Rattle.epl_check.specs.View.{kind_of_sort, found, passes_at, plain, at_place};
+ghost use Rattle.epl_check.specs.View.{found, passes_at, at_place};
 
 use crate::first::tell_if;
-use crate::sort::{
-    Plain, Sort, Uncounted, has_size, if_list, if_sized, is_list, is_within, item_of, list_of,
-    no_list, same, sort_of,
-};
+use crate::kinds::{copy_of, has_size, if_list, if_sized, is_list, is_within, list_of, same};
+use eden_value::Kind;
 use epl_syntax::{Broken, Builtin, Const, Operator, Prefix, Rule, WrittenKind};
+use std::alloc::{AllocError, Global};
 
 /// A kind that is written is at most so many lists deep.
 const DEPTH_LIMIT: u8 = 4;
 
 /// Tells where one kind stands for another.
-pub(crate) fn fit(wanted: Sort, sort: Option<Sort>, place: u32, first: &mut Option<Broken>)
-    ensures { first.new ≡ least first.old (rules.misfit (kind_of_sort wanted) (found sort) place) }
+pub(crate) fn fit(wanted: &Kind, kind: &Option<Kind>, place: u32, first: &mut Option<Broken>)
+    ensures { first.new ≡ least first.old (rules.misfit (shape wanted.now) (found kind.now) place) }
 {
-    if let Some(sort) = sort {
-        tell_if(!same(wanted, sort), Rule::KindDiffers, place, first);
+    if let Some(kind) = kind {
+        tell_if(!same(wanted, kind), Rule::KindDiffers, place, first);
     }
 }
 
 /// The same, where the wanted kind may be unknown.
 pub(crate) fn fit_known(
-    wanted: Option<Sort>,
-    sort: Option<Sort>,
+    wanted: &Option<Kind>,
+    kind: &Option<Kind>,
     place: u32,
     first: &mut Option<Broken>,
 )
-    ensures { first.new ≡ least first.old (rules.misfit_known (found wanted) (found sort) place) }
+    ensures { first.new ≡ least first.old (rules.misfit_known (found wanted.now) (found kind.now) place) }
 {
     if let Some(wanted) = wanted {
-        fit(wanted, sort, place, first);
+        fit(wanted, kind, place, first);
     }
 }
 
 /// Tells where a kind is not one of lists.
-pub(crate) fn fit_list(sort: Option<Sort>, place: u32, first: &mut Option<Broken>)
-    ensures { first.new ≡ least first.old (rules.failing kinds.is_list (found sort) place) }
+pub(crate) fn fit_list(kind: &Option<Kind>, place: u32, first: &mut Option<Broken>)
+    ensures { first.new ≡ least first.old (rules.failing kinds.is_list (found kind.now) place) }
 {
-    if let Some(sort) = sort {
-        tell_if(!is_list(sort), Rule::KindDiffers, place, first);
+    if let Some(kind) = kind {
+        tell_if(!is_list(kind), Rule::KindDiffers, place, first);
     }
 }
 
 /// Tells where a kind is neither text nor one of lists.
-fn fit_sized(sort: Option<Sort>, place: u32, first: &mut Option<Broken>)
-    ensures { first.new ≡ least first.old (rules.failing kinds.has_size (found sort) place) }
+fn fit_sized(kind: &Option<Kind>, place: u32, first: &mut Option<Broken>)
+    ensures { first.new ≡ least first.old (rules.failing kinds.has_size (found kind.now) place) }
 {
-    if let Some(sort) = sort {
-        tell_if(!has_size(sort), Rule::KindDiffers, place, first);
+    if let Some(kind) = kind {
+        tell_if(!has_size(kind), Rule::KindDiffers, place, first);
     }
 }
 
-fn fit_joined(left: Option<Sort>, right: Option<Sort>, place: u32, first: &mut Option<Broken>)
-    ensures { first.new ≡ least first.old (rules.misjoined (found left) (found right) place) }
+/// Tells where the right operand of `&` does not fit the left one.
+fn fit_joined(left: &Option<Kind>, right: &Option<Kind>, place: u32, first: &mut Option<Broken>)
+    ensures { first.new ≡ least first.old (rules.misjoined (kinds.sized_kind (found left.now)) (found right.now) place) }
 {
     match left {
-        None => fit_sized(right, place, first),
-        Some(left) => fit(left, right, place, first),
+        Some(left) if has_size(left) => fit(left, right, place, first),
+        _ => fit_sized(right, place, first),
     }
 }
 
 /// An operand's kind and its place.
 #[derive(Clone, Copy)]
-pub(crate) struct Operand {
-    pub sort: Option<Sort>,
+pub(crate) struct Operand<'a> {
+    pub kind: &'a Option<Kind>,
     pub place: u32,
 }
 
 #[tactic(auto, using(crate::proofs::Least::least_append))]
-fn fit_both(wanted: Plain, left: Operand, right: Operand, first: &mut Option<Broken>)
-    ensures { first.new ≡ least first.old (rules.two_of (plain wanted) (found left.sort) left.place (found right.sort) right.place) }
+fn fit_both(wanted: &Kind, left: Operand<'_>, right: Operand<'_>, first: &mut Option<Broken>)
+    ensures { first.new ≡ least first.old
+        (rules.two_of (shape wanted.now) (found left.entry.kind.now) left.entry.place (found right.entry.kind.now) right.entry.place) }
 {
-    fit(no_list(wanted), left.sort, left.place, first);
-    fit(no_list(wanted), right.sort, right.place, first);
+    fit(wanted, left.kind, left.place, first);
+    fit(wanted, right.kind, right.place, first);
 }
 
 /// Tells which operands of an operator do not fit.
 #[tactic(auto, using(crate::proofs::Least::least_append))]
 pub(crate) fn fit_operands(
     operator: Operator,
-    left: Operand,
-    right: Operand,
+    left: Operand<'_>,
+    right: Operand<'_>,
     first: &mut Option<Broken>,
 )
-    ensures { first.new ≡ least first.old (rules.misfit_operands operator (found left.sort) left.place (found right.sort) right.place) }
+    ensures { first.new ≡ least first.old
+        (rules.misfit_operands operator (found left.entry.kind.now) left.entry.place (found right.entry.kind.now) right.entry.place) }
 {
     match operator {
-        Operator::Or | Operator::And => fit_both(Plain::Bool, left, right, first),
+        Operator::Or | Operator::And => fit_both(&Kind::Bool, left, right, first),
         Operator::Equal | Operator::Different => {
-            fit_known(left.sort, right.sort, right.place, first)
+            fit_known(left.kind, right.kind, right.place, first)
         }
         Operator::Join => {
-            fit_sized(left.sort, left.place, first);
-            fit_joined(if_sized(left.sort), right.sort, right.place, first);
+            fit_sized(left.kind, left.place, first);
+            fit_joined(left.kind, right.kind, right.place, first);
         }
         Operator::Less
         | Operator::LessEqual
@@ -109,22 +111,22 @@ pub(crate) fn fit_operands(
         | Operator::Subtract
         | Operator::Multiply
         | Operator::Divide
-        | Operator::Modulo => fit_both(Plain::Int, left, right, first),
+        | Operator::Modulo => fit_both(&Kind::Int, left, right, first),
     }
 }
 
 /// The kind of an operand behind a prefix, which is that of the whole.
-pub(crate) fn sort_of_prefix(prefix: Prefix) -> Sort
-    ensures { kind_of_sort result ≡ kinds.kind_of_prefix prefix }
+pub(crate) fn kind_of_prefix(prefix: Prefix) -> Kind
+    ensures { shape result ≡ kinds.kind_of_prefix prefix }
 {
     match prefix {
-        Prefix::Not => no_list(Plain::Bool),
-        Prefix::Negate => no_list(Plain::Int),
+        Prefix::Not => Kind::Bool,
+        Prefix::Negate => Kind::Int,
     }
 }
 
 /// What an operator gives.
-pub(crate) fn sort_of_operation(operator: Operator, left: Option<Sort>) -> Option<Sort>
+pub(crate) fn kind_of_operation(operator: Operator, left: Option<Kind>) -> Option<Kind>
     ensures { found result ≡ kinds.kind_of_operation operator (found left) }
 {
     match operator {
@@ -135,25 +137,25 @@ pub(crate) fn sort_of_operation(operator: Operator, left: Option<Sort>) -> Optio
         | Operator::Less
         | Operator::LessEqual
         | Operator::Greater
-        | Operator::GreaterEqual => Some(no_list(Plain::Bool)),
+        | Operator::GreaterEqual => Some(Kind::Bool),
         Operator::Join => if_sized(left),
         Operator::Add
         | Operator::Subtract
         | Operator::Multiply
         | Operator::Divide
-        | Operator::Modulo => Some(no_list(Plain::Int)),
+        | Operator::Modulo => Some(Kind::Int),
     }
 }
 
 /// What a built-in function gives, by the kind of its first argument.
-pub(crate) fn sort_of_application(builtin: Builtin, of_first: Option<Sort>) -> Option<Sort>
+pub(crate) fn kind_of_application(builtin: Builtin, of_first: Option<Kind>) -> Option<Kind>
     ensures { found result ≡ kinds.kind_of_application builtin (found of_first) }
 {
     match builtin {
-        Builtin::Size => Some(no_list(Plain::Int)),
-        Builtin::Str | Builtin::Part => Some(no_list(Plain::Text)),
+        Builtin::Size => Some(Kind::Int),
+        Builtin::Str | Builtin::Part => Some(Kind::Text),
         Builtin::Put | Builtin::Cut => if_list(of_first),
-        Builtin::Restrict => Some(no_list(Plain::Cap)),
+        Builtin::Restrict => Some(Kind::Cap),
     }
 }
 
@@ -180,28 +182,29 @@ fn at_place(i: usize, first: bool, second: bool, third: bool) -> bool
     }
 }
 
-fn is_item_of(list: Option<Sort>, sort: Sort) -> bool
-    ensures { result ≡ kinds.is_item_of (found list) (kind_of_sort sort) }
+/// Whether a kind is that of a list's items, where this is known.
+fn is_item_of(list: &Option<Kind>, kind: &Kind) -> bool
+    ensures { result ≡ kinds.is_item_of (found list.now) (shape kind.now) }
 {
-    match item_of(list) {
-        None => true,
-        Some(item) => same(item, sort),
+    match list {
+        Some(Kind::List { of }) => same(of, kind),
+        _ => true,
     }
 }
 
 /// Whether the argument at a place may be of a kind.
 #[tactic(auto, using(crate::proofs::ArgumentTests::one_test, crate::proofs::ArgumentTests::two_tests, crate::proofs::ArgumentTests::three_tests))]
-fn argument_fits(builtin: Builtin, i: usize, of_first: Option<Sort>, sort: Sort) -> bool
-    ensures { result ≡ passes_at (kinds.argument_tests builtin (found of_first)) i (kind_of_sort sort) }
+fn argument_fits(builtin: Builtin, i: usize, of_first: &Option<Kind>, kind: &Kind) -> bool
+    ensures { result ≡ passes_at (kinds.argument_tests builtin (found of_first.now)) i (shape kind.now) }
 {
-    let is_int = same(no_list(Plain::Int), sort);
+    let is_int = same(&Kind::Int, kind);
     match builtin {
-        Builtin::Size => at_place(i, has_size(sort), true, true),
+        Builtin::Size => at_place(i, has_size(kind), true, true),
         Builtin::Str => at_place(i, is_int, true, true),
-        Builtin::Put => at_place(i, is_list(sort), is_int, is_item_of(of_first, sort)),
-        Builtin::Cut => at_place(i, is_list(sort), is_int, true),
-        Builtin::Part => at_place(i, same(no_list(Plain::Text), sort), is_int, is_int),
-        Builtin::Restrict => at_place(i, same(no_list(Plain::Cap), sort), is_int, true),
+        Builtin::Put => at_place(i, is_list(kind), is_int, is_item_of(of_first, kind)),
+        Builtin::Cut => at_place(i, is_list(kind), is_int, true),
+        Builtin::Part => at_place(i, same(&Kind::Text, kind), is_int, is_int),
+        Builtin::Restrict => at_place(i, same(&Kind::Cap, kind), is_int, true),
     }
 }
 
@@ -218,19 +221,23 @@ pub(crate) fn check_kind(kind: &WrittenKind, first: &mut Option<Broken>)
 }
 
 /// The kind of a constant, in which a kind may be written.
-pub(crate) fn check_constant(value: &Const, first: &mut Option<Broken>) -> Result<Sort, Uncounted>
-    ensures kind { IfOk result (λ s. kind_of_sort s ≡ kinds.kind_of_constant (constant value.now)) }
+pub(crate) fn check_constant(
+    alloc: Global,
+    value: &Const,
+    first: &mut Option<Broken>,
+) -> Result<Kind, AllocError>
+    ensures kind { IfOk result (λ k. shape k ≡ kinds.kind_of_constant (constant value.now)) }
     ensures told { first.new ≡ least first.old (rules.broken_constant (constant value.now)) }
 {
     match value {
-        Const::Int { .. } => Ok(no_list(Plain::Int)),
-        Const::Text { .. } => Ok(no_list(Plain::Text)),
-        Const::Bool { .. } => Ok(no_list(Plain::Bool)),
-        Const::Absent => Ok(no_list(Plain::Cap)),
+        Const::Int { .. } => Ok(Kind::Int),
+        Const::Text { .. } => Ok(Kind::Text),
+        Const::Bool { .. } => Ok(Kind::Bool),
+        Const::Absent => Ok(Kind::Cap),
         Const::EmptyList { of } => {
             check_kind(of, first);
-            let item = sort_of(&of.kind)?;
-            list_of(item)
+            let item = copy_of(alloc, &of.kind)?;
+            list_of(alloc, item)
         }
     }
 }
@@ -239,17 +246,17 @@ pub(crate) fn check_constant(value: &Const, first: &mut Option<Broken>) -> Resul
 pub(crate) fn fit_argument(
     builtin: Builtin,
     i: usize,
-    of_first: Option<Sort>,
-    sort: Option<Sort>,
+    of_first: &Option<Kind>,
+    kind: &Option<Kind>,
     place: u32,
     first: &mut Option<Broken>,
 )
     ensures { first.new ≡ least first.old
-        (rules.failing (passes_at (kinds.argument_tests builtin (found of_first)) i) (found sort) place) }
+        (rules.failing (passes_at (kinds.argument_tests builtin (found of_first.now)) i) (found kind.now) place) }
 {
-    if let Some(sort) = sort {
+    if let Some(kind) = kind {
         tell_if(
-            !argument_fits(builtin, i, of_first, sort),
+            !argument_fits(builtin, i, of_first, kind),
             Rule::KindDiffers,
             place,
             first,

@@ -9,12 +9,14 @@ mod count_tests;
 mod expression;
 mod first;
 mod fit;
+mod index;
 mod item;
+mod kinds;
 #[cfg(test)]
 mod marked;
 mod names;
 mod scope;
-mod sort;
+mod sight;
 mod statement;
 #[cfg(test)]
 mod type_tests;

@@ -19,9 +19,11 @@ pub(crate) fn types_before(alloc: Global) -> Result<Types, Fail> {
     let texts: [&[u8]; 2] = [b"edentype Older endtype", b"edentype Old endtype"];
     for text in texts {
         let program = parsed(alloc, text)?;
-        check(&program, &types)?;
-        let checked = Checked::of(program, &types);
-        types.add(checked)?;
+        check(alloc, &program, &types)?;
+        if !types.has(&program.name.text) {
+            let checked = Checked::of(program, &types);
+            types.add(checked)?;
+        }
     }
     Ok(types)
 }
@@ -62,7 +64,7 @@ pub(crate) fn is_answered(
 ) -> Result<bool, Fail> {
     let (text, place) = unmarked(alloc, marked)?;
     let program = parsed(alloc, &text)?;
-    let answer = check(&program, types);
+    let answer = check(alloc, &program, types);
     Ok(match (rule, answer) {
         (None, Ok(())) => true,
         (Some(rule), Err(refusal)) => is_refusal(refusal, rule, place),

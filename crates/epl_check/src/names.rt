@@ -1,11 +1,14 @@
 //! Names that are declared twice, and counts of what is declared.
-ghost use Rattle.std.specs.Prelude.{◌≡◌, ◌+◌, ◌++◌, length, map};
-ghost use Rattle.epl_syntax.specs.Rules.First.{least};
+ghost use Rattle.std.specs.Prelude.{◌≡◌, ◌+◌, ◌++◌, length, map, not};
+ghost use Rattle.epl_syntax.specs.declared.rule.Rule.TheVariants.{UnknownName};
+ghost use Rattle.epl_syntax.specs.Rules.First.{least, broken_if};
 ghost use Rattle.epl_syntax.specs.Rules.Scopes as scopes;
 ghost use Rattle.epl_syntax.specs.Rules.InItems.{too_many, places_of};
+ghost use Rattle.epl_check.specs.Numbered.{IsIndex};
 ghost use Rattle.epl_check.specs.View.{doubled_before, numbers_before, is_past};
 
 use crate::first::tell_if;
+use crate::index::{Listed, has};
 use eden_value::Txt;
 use epl_syntax::{
     Assignment, Broken, ClassDecl, CondDecl, LocalDecl, Name, Number, OpDecl, ParDecl, ProcDecl,
@@ -104,7 +107,7 @@ pub(crate) fn check_count<T: Named>(limit: usize, items: &[T], first: &mut Optio
 }
 
 /// Whether a name is among these.
-pub(crate) fn is_among<T: Named>(items: &[T], text: &Txt) -> bool
+fn is_among<T: Named>(items: &[T], text: &Txt) -> bool
     ensures { result ≡ scopes.is_among (map T.named items.now) text.now }
 {
     for item in items {
@@ -115,8 +118,24 @@ pub(crate) fn is_among<T: Named>(items: &[T], text: &Txt) -> bool
     false
 }
 
+/// Tells where a name is not among these.
+pub(crate) fn check_among<T: Named>(items: &[T], name: &Name, first: &mut Option<Broken>)
+    ensures { first.new ≡ least first.old
+        (broken_if (not (scopes.is_among (map T.named items.now) name.now.text)) UnknownName name.now.place) }
+{
+    if is_past(first, name.place) {
+        return;
+    }
+    tell_if(
+        !is_among(items, &name.text),
+        Rule::UnknownName,
+        name.place,
+        first,
+    );
+}
+
 /// Whether something before a place is told already.
-fn is_past(first: &Option<Broken>, place: u32) -> bool
+pub(crate) fn is_past(first: &Option<Broken>, place: u32) -> bool
     ensures { result ≡ is_past first.now place }
 {
     match first {
@@ -161,22 +180,21 @@ pub(crate) fn check_doubled<A: Named, B: Named, C: Named>(
 }
 
 /// Tells where a variable of the type has the name, too.
-fn check_as_variable(vars: &[VarDecl], name: &Name, first: &mut Option<Broken>)
-    ensures { first.new ≡ least first.old (scopes.as_variable (map (λ v. v.name) vars.now) name.now) }
+fn check_as_variable(vars: Listed<'_, VarDecl>, name: &Name, first: &mut Option<Broken>)
+    requires { IsIndex vars.numbers.now (map (λ v. v.name) vars.items.now) }
+    ensures { first.new ≡ least first.old (scopes.as_variable (map (λ v. v.name) vars.entry.items.now) name.now) }
 {
-    if is_past(first, name.place) {
-        return;
-    }
-    tell_if(is_among(vars, &name.text), Rule::Doubled, name.place, first);
+    tell_if(has(vars, &name.text), Rule::Doubled, name.place, first);
 }
 
 /// Tells which names a variable of the type has, too.
 pub(crate) fn check_as_variables<T: Named>(
-    vars: &[VarDecl],
+    vars: Listed<'_, VarDecl>,
     items: &[T],
     first: &mut Option<Broken>,
 )
-    ensures { first.new ≡ least first.old (scopes.as_variables (map (λ v. v.name) vars.now) (map T.named items.now)) }
+    requires { IsIndex vars.numbers.now (map (λ v. v.name) vars.items.now) }
+    ensures { first.new ≡ least first.old (scopes.as_variables (map (λ v. v.name) vars.entry.items.now) (map T.named items.now)) }
 {
     for item in items {
         check_as_variable(vars, item.name(), first);

@@ -5,44 +5,48 @@ ghost use Rattle.epl_syntax.specs.Tree as tree;
 ghost use Rattle.epl_syntax.specs.Rules.First.{least};
 ghost use Rattle.epl_syntax.specs.Rules.InExpressions as expressions;
 ghost use Rattle.epl_syntax.specs.Rules.InStatements as rules;
-ghost use Rattle.epl_check.specs.View.{kind_of_sort, plain, results_of, seen, broken_value, kind_wanted};
+ghost use Rattle.eden_value.specs.Shape.{shape};
+ghost use Rattle.epl_check.specs.View.{results_of, seen, broken_value, kind_wanted};
 
 use crate::expression::{check_expression, check_use, place_of, stands_in};
 use crate::first::tell_if;
 use crate::fit::{fit, fit_known};
 use crate::scope::Scope;
-use crate::sort::{Plain, Sort, Uncounted, no_list, sort_of};
+use eden_value::Kind;
 use epl_syntax::{Broken, Expr, Name, Rule, Stmt, Target, WrittenKind};
+use std::alloc::AllocError;
 
 /// An expression that stands for a kind.
 #[tactic(auto, using(crate::proofs::Least::least_append))]
 fn check_as(
-    wanted: Sort,
+    wanted: &Kind,
     scope: &Scope<'_>,
     held: Option<usize>,
     e: &Expr,
     first: &mut Option<Broken>,
-) -> Result<(), Uncounted>
-    ensures { OnOk result (first.new ≡ least first.old (rules.broken_as (kind_of_sort wanted) (seen scope.now) held (tree.expression e.now))) }
+) -> Result<(), AllocError>
+    ensures { OnOk result (first.new ≡ least first.old
+        (rules.broken_as (shape wanted.now) (seen scope.now) held (tree.expression e.now))) }
 {
-    let sort = check_expression(scope, held, e, first)?;
-    fit(wanted, sort, place_of(e), first);
+    let kind = check_expression(scope, held, e, first)?;
+    fit(wanted, &kind, place_of(e), first);
     Ok(())
 }
 
 /// A variable that has to be of a kind.
 #[tactic(auto, using(crate::proofs::Least::least_append))]
 fn check_variable(
-    wanted: Plain,
+    wanted: &Kind,
     scope: &Scope<'_>,
     held: Option<usize>,
     name: &Name,
     first: &mut Option<Broken>,
-) -> Result<(), Uncounted>
-    ensures { OnOk result (first.new ≡ least first.old (rules.broken_variable (plain wanted) (seen scope.now) held name.now)) }
+) -> Result<(), AllocError>
+    ensures { OnOk result (first.new ≡ least first.old
+        (rules.broken_variable (shape wanted.now) (seen scope.now) held name.now)) }
 {
-    let sort = check_use(scope, held, name, first)?;
-    fit(no_list(wanted), sort, name.place, first);
+    let kind = check_use(scope, held, name, first)?;
+    fit(wanted, &kind, name.place, first);
     Ok(())
 }
 
@@ -53,12 +57,13 @@ fn check_assignment(
     name: &Name,
     value: &Expr,
     first: &mut Option<Broken>,
-) -> Result<(), Uncounted>
-    ensures { OnOk result (first.new ≡ least first.old (rules.broken_assignment (seen scope.now) held name.now (tree.expression value.now))) }
+) -> Result<(), AllocError>
+    ensures { OnOk result (first.new ≡ least first.old
+        (rules.broken_assignment (seen scope.now) held name.now (tree.expression value.now))) }
 {
     let wanted = check_use(scope, held, name, first)?;
-    let sort = check_expression(scope, held, value, first)?;
-    fit_known(wanted, sort, place_of(value), first);
+    let kind = check_expression(scope, held, value, first)?;
+    fit_known(&wanted, &kind, place_of(value), first);
     Ok(())
 }
 
@@ -67,11 +72,11 @@ fn check_target(
     held: Option<usize>,
     target: &Target,
     first: &mut Option<Broken>,
-) -> Result<(), Uncounted>
+) -> Result<(), AllocError>
     ensures { OnOk result (first.new ≡ least first.old (rules.broken_target (seen scope.now) held target.now)) }
 {
     match target {
-        Target::Name { name } => check_variable(Plain::Cap, scope, held, name, first),
+        Target::Name { name } => check_variable(&Kind::Cap, scope, held, name, first),
         Target::Me { .. } => Ok(()),
     }
 }
@@ -81,7 +86,7 @@ fn check_expressions(
     held: Option<usize>,
     es: &[Expr],
     first: &mut Option<Broken>,
-) -> Result<(), Uncounted>
+) -> Result<(), AllocError>
     ensures { OnOk result (first.new ≡ least first.old
         (flat_map (λ e. expressions.broken_expression (seen scope.now) held (tree.expression e)) es.now)) }
 {
@@ -96,7 +101,7 @@ fn check_uses(
     held: Option<usize>,
     names: &[Name],
     first: &mut Option<Broken>,
-) -> Result<(), Uncounted>
+) -> Result<(), AllocError>
     ensures { OnOk result (first.new ≡ least first.old (rules.broken_uses (seen scope.now) held names.now)) }
 {
     for name in names {
@@ -166,15 +171,16 @@ fn check_value(
     wanted: Option<&WrittenKind>,
     e: &Expr,
     first: &mut Option<Broken>,
-) -> Result<(), Uncounted>
-    ensures { OnOk result (first.new ≡ least first.old (broken_value (seen scope.now) held (kind_wanted wanted.entry) (tree.expression e.now))) }
+) -> Result<(), AllocError>
+    ensures { OnOk result (first.new ≡ least first.old
+        (broken_value (seen scope.now) held (kind_wanted wanted.entry) (tree.expression e.now))) }
 {
     match wanted {
         None => {
             check_expression(scope, held, e, first)?;
             Ok(())
         }
-        Some(kind) => check_as(sort_of(&kind.kind)?, scope, held, e, first),
+        Some(kind) => check_as(&kind.kind, scope, held, e, first),
     }
 }
 
@@ -184,7 +190,7 @@ fn check_values(
     wanted: &[WrittenKind],
     values: &[Expr],
     first: &mut Option<Broken>,
-) -> Result<(), Uncounted>
+) -> Result<(), AllocError>
     ensures { OnOk result (first.new ≡ least first.old
         (rules.broken_values (seen scope.now) held (map tree.written wanted.now) (map tree.expression values.now))) }
 {
@@ -201,7 +207,7 @@ fn check_return(
     values: &[Expr],
     place: u32,
     first: &mut Option<Broken>,
-) -> Result<(), Uncounted>
+) -> Result<(), AllocError>
     ensures { OnOk result (first.new ≡ least first.old
         (rules.broken_return (seen scope.now) held (map tree.expression values.now) place)) }
 {
@@ -230,13 +236,13 @@ fn check_create(
     status: &Name,
     gives: &Name,
     first: &mut Option<Broken>,
-) -> Result<(), Uncounted>
+) -> Result<(), AllocError>
     ensures { OnOk result (first.new ≡ least first.old
         (rules.broken_create (seen scope.now) held type_name.now status.now gives.now)) }
 {
     check_type(scope, type_name, first);
-    check_variable(Plain::Int, scope, held, status, first)?;
-    check_variable(Plain::Cap, scope, held, gives, first)
+    check_variable(&Kind::Int, scope, held, status, first)?;
+    check_variable(&Kind::Cap, scope, held, gives, first)
 }
 
 #[tactic(auto, using(crate::proofs::Least::least_append))]
@@ -248,13 +254,13 @@ fn check_invoke(
     status: &Name,
     gives: &[Name],
     first: &mut Option<Broken>,
-) -> Result<(), Uncounted>
+) -> Result<(), AllocError>
     ensures { OnOk result (first.new ≡ least first.old
         (rules.broken_invoke (seen scope.now) held target.now (map tree.expression args.now) status.now gives.now)) }
 {
     check_target(scope, held, target, first)?;
     check_expressions(scope, held, args, first)?;
-    check_variable(Plain::Int, scope, held, status, first)?;
+    check_variable(&Kind::Int, scope, held, status, first)?;
     check_uses(scope, held, gives, first)
 }
 
@@ -267,7 +273,7 @@ fn check_statement(
     held: Option<usize>,
     s: &Stmt,
     first: &mut Option<Broken>,
-) -> Result<(), Uncounted>
+) -> Result<(), AllocError>
     ensures { OnOk result (first.new ≡ least first.old (rules.broken_statement (seen scope.now) held (tree.statement s.now))) }
 {
     match s {
@@ -278,7 +284,7 @@ fn check_statement(
             otherwise,
             ..
         } => {
-            check_as(no_list(Plain::Bool), scope, held, test, first)?;
+            check_as(&Kind::Bool, scope, held, test, first)?;
             check_block(scope, held, so, first)?;
             check_block(scope, held, otherwise, first)
         }
@@ -287,7 +293,7 @@ fn check_statement(
             body,
             ..
         } => {
-            check_as(no_list(Plain::Bool), scope, held, going, first)?;
+            check_as(&Kind::Bool, scope, held, going, first)?;
             check_block(scope, held, body, first)
         }
         Stmt::With {
@@ -304,7 +310,7 @@ fn check_statement(
         }
         Stmt::Yield { .. } | Stmt::Deactivate { .. } => Ok(()),
         Stmt::Checkpoint { status, .. } | Stmt::Destroy { status, .. } => {
-            check_variable(Plain::Int, scope, held, status, first)
+            check_variable(&Kind::Int, scope, held, status, first)
         }
         Stmt::Create {
             type_name,
@@ -330,7 +336,7 @@ pub(crate) fn check_block(
     held: Option<usize>,
     statements: &[Stmt],
     first: &mut Option<Broken>,
-) -> Result<(), Uncounted>
+) -> Result<(), AllocError>
     ensures { OnOk result (first.new ≡ least first.old (rules.broken_block (seen scope.now) held (tree.statements statements.now))) }
 {
     for s in statements {

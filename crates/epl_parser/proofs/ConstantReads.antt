@@ -2,10 +2,10 @@
 use Rattle.std.proofs.Common.{◌≡◌, ℕ, List, [], ◌∷◌, ◌++◌, Some, refl, sym, ap, ◌∙◌, subst, arith, ℤ, pos}
 use Rattle.grammar.specs.Grammar.{Grammar, Nothing, Then, Mapped}
 use Rattle.grammar.specs.Depths.{Placed, Reads}
-use Rattle.grammar.specs.Lookers.{then_reads}
-use Rattle.grammar.specs.Choices.{Anything, same_reads, here_reads, mapped_reads, at_reads}
-use Rattle.grammar.specs.Leads.{at_one, lead_reads}
-use Rattle.grammar.specs.Separated.{Closed, closed_reads}
+use Rattle.grammar.proofs.Lookers.{then_reads}
+use Rattle.grammar.proofs.Choices.{Anything, same_reads, here_reads, mapped_reads, at_reads}
+use Rattle.grammar.proofs.Leads.{at_one, lead_reads}
+use Rattle.grammar.proofs.Separated.{Closed, closed_reads}
 use Rattle.epl_syntax.specs.declared.token.Mark.{Mark}
 use Rattle.epl_syntax.specs.declared.token.Mark.TheVariants as mark
 use Rattle.epl_syntax.specs.declared.token.Token.{Token}

@@ -1,6 +1,6 @@
 -- What may follow a part of an expression: a token that ties less closely than the part's own operators.
 use Rattle.std.proofs.Common.{◌≡◌, ℕ, ◌<◌, ◌≤◌, List, [], ◌∷◌, Some, None, refl, ap, ◌∙◌, arith}
-use Rattle.grammar.specs.Choices.{EndsBefore}
+use Rattle.grammar.proofs.Choices.{EndsBefore}
 use Rattle.epl_syntax.specs.declared.token.Mark.{Mark}
 use Rattle.epl_syntax.specs.declared.token.Mark.TheVariants as mark
 use Rattle.epl_syntax.specs.declared.word.Word.TheVariants as word

@@ -3,8 +3,9 @@ use Rattle.std.proofs.Common.{◌≡◌, ℕ, suc, List, [], ◌∷◌, ◌++◌
 use Rattle.grammar.specs.Grammar.{Grammar, Nothing, Then, Mapped}
 use Rattle.grammar.specs.Depths.{Placed, At, Perhaps, Steps, no_step, step_on}
 use Rattle.grammar.specs.Alternatives.{Either}
-use Rattle.grammar.specs.Leads.{at_one}
-use Rattle.grammar.specs.Separated.{Closed, Separated, alone, apart}
+use Rattle.grammar.proofs.Leads.{at_one}
+use Rattle.grammar.specs.Separated.{Separated, alone, apart}
+use Rattle.grammar.proofs.Separated.{Closed}
 use Rattle.epl_syntax.specs.declared.token.Mark.{Mark}
 use Rattle.epl_syntax.specs.declared.token.Mark.TheVariants as mark
 use Rattle.epl_syntax.specs.declared.word.Word.TheVariants as word

@@ -2,12 +2,14 @@
 use Rattle.std.proofs.Common.{◌≡◌, ℕ, zero, suc, ◌+◌, ◌<◌, ◌≤◌, List, [], ◌∷◌, ◌++◌, Option, Some, None, refl, sym, ap, ◌∙◌, subst, arith, max, inl, inr}
 use Rattle.grammar.specs.Grammar.{Mapped}
 use Rattle.grammar.specs.Depths.{bare, Perhaps, Steps, no_step, step_on, look_both, look_mapped, look_if, Reads}
-use Rattle.grammar.specs.Lookers.{then_reads}
-use Rattle.grammar.specs.Choices.{Anything, same_reads, before_less, here_reads, mapped_reads, EndsBefore, BeginsBy, if_reads}
-use Rattle.grammar.specs.InSteps.{many_reads}
+use Rattle.grammar.proofs.Lookers.{then_reads}
+use Rattle.grammar.specs.Choices.{BeginsBy}
+use Rattle.grammar.proofs.Choices.{Anything, same_reads, before_less, here_reads, mapped_reads, EndsBefore, if_reads}
+use Rattle.grammar.proofs.InSteps.{many_reads}
 use Rattle.grammar.specs.Alternatives.{BeginsElse, either_reads}
-use Rattle.grammar.specs.Leads.{at_one, lead_reads}
-use Rattle.grammar.specs.Separated.{Closed, alone, look_closed, closed_reads, separated_reads}
+use Rattle.grammar.proofs.Leads.{at_one, lead_reads}
+use Rattle.grammar.specs.Separated.{alone, look_closed}
+use Rattle.grammar.proofs.Separated.{Closed, closed_reads, separated_reads}
 use Rattle.epl_syntax.specs.declared.token.Mark.{Mark}
 use Rattle.epl_syntax.specs.declared.token.Mark.TheVariants as mark
 use Rattle.epl_syntax.specs.declared.word.Word.TheVariants as word

@@ -1,6 +1,6 @@
 -- What may follow what: tokens that begin statements or end blocks go on with nothing before them.
 use Rattle.std.proofs.Common.{◌≡◌, List, ◌∷◌, Option, Some, None, refl, ap, ◌∙◌, arith}
-use Rattle.grammar.specs.Choices.{EndsBefore}
+use Rattle.grammar.proofs.Choices.{EndsBefore}
 use Rattle.epl_syntax.specs.declared.token.Mark.{Mark}
 use Rattle.epl_syntax.specs.declared.token.Token.{Token}
 use Rattle.epl_syntax.specs.declared.token.TokenKind.{TokenKind}

@@ -2,11 +2,14 @@
 use Rattle.std.proofs.Common.{◌≡◌, ℕ, ◌+◌, Bool, true, false, List, [], ◌∷◌, ◌++◌, length, Option, Some, None, refl, sym, ap, ◌∙◌, subst, arith}
 use Rattle.grammar.specs.Grammar.{Grammar, Nothing, Then}
 use Rattle.grammar.specs.Depths.{Placed, bare, Steps, no_step, step_on, look_both, look_here, Reads}
-use Rattle.grammar.specs.Lookers.{bare_before, then_reads}
-use Rattle.grammar.specs.Choices.{Anything, EndsBefore, BeginsBy, if_reads}
-use Rattle.grammar.specs.InSteps.{begins_longer, begins_before, many_reads}
-use Rattle.grammar.specs.Sequences.{Row, symbol_reads, and_reads, value_reads, then_begins, all_reads, row_follows}
-use Rattle.grammar.specs.Separated.{Separated, separated_reads}
+use Rattle.grammar.proofs.Lookers.{bare_before, then_reads}
+use Rattle.grammar.specs.Choices.{BeginsBy}
+use Rattle.grammar.proofs.Choices.{Anything, EndsBefore, if_reads}
+use Rattle.grammar.proofs.InSteps.{begins_longer, begins_before, many_reads}
+use Rattle.grammar.specs.Sequences.{Row}
+use Rattle.grammar.proofs.Sequences.{symbol_reads, and_reads, value_reads, then_begins, all_reads, row_follows}
+use Rattle.grammar.specs.Separated.{Separated}
+use Rattle.grammar.proofs.Separated.{separated_reads}
 use Rattle.eden_value.specs.Shape.{Shape}
 use Rattle.epl_parser.specs.declared.head.KindHead.TheVariants as first
 use Rattle.epl_syntax.specs.declared.token.Mark.TheVariants as mark

@@ -2,10 +2,11 @@
 use Rattle.std.proofs.Common.{◌≡◌, ℕ, zero, suc, ◌+◌, ◌<◌, ◌≤◌, List, [], ◌∷◌, ◌++◌, Some, refl, sym, ap, ◌∙◌, subst, arith, max}
 use Rattle.grammar.specs.Grammar.{Grammar, Nothing, Then, Mapped}
 use Rattle.grammar.specs.Depths.{Placed, At, Looker, Reads}
-use Rattle.grammar.specs.Lookers.{then_reads}
-use Rattle.grammar.specs.Choices.{Anything, same_reads, here_reads, mapped_reads, at_reads}
-use Rattle.grammar.specs.Leads.{at_one, lead_reads}
-use Rattle.grammar.specs.Marked.{Marked, marked_reads}
+use Rattle.grammar.proofs.Lookers.{then_reads}
+use Rattle.grammar.proofs.Choices.{Anything, same_reads, here_reads, mapped_reads, at_reads}
+use Rattle.grammar.proofs.Leads.{at_one, lead_reads}
+use Rattle.grammar.specs.Marked.{Marked}
+use Rattle.grammar.proofs.Marked.{marked_reads}
 use Rattle.eden_value.specs.Shape.{Shape, ints, truths, texts, caps, lists}
 use Rattle.epl_syntax.specs.declared.token.Token.{Token}
 use Rattle.epl_syntax.specs.declared.token.TokenKind.{TokenKind}

@@ -19,3 +19,4 @@ pub mod ItemReads
 pub mod RowLoops
 pub mod Whole
 pub mod OneAnswer
+pub mod TreeNames

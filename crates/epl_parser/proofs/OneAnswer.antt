@@ -1,9 +1,9 @@
 -- A text is answered in one way at most.
 use Rattle.std.proofs.Common.{◌≡◌, ℕ, List, length, sym, ap, ◌∙◌, subst, arith, inl, inr}
 use Rattle.grammar.specs.FirstFault.{Spells as SpellsShallow, Breaks as BreaksGrammar, Deepens}
-use Rattle.grammar.specs.OneAnswer.{one_break, one_depth, broken_within, spelled_whole, spelled_within}
+use Rattle.grammar.proofs.OneAnswer.{one_break, one_depth, broken_within, spelled_whole, spelled_within}
 use Rattle.epl_syntax.specs.declared.token.Token.{Token}
-use Rattle.epl_syntax.specs.OneList.{leads_one, nothing_left}
+use Rattle.epl_syntax.proofs.OneList.{leads_one, nothing_left}
 use Rattle.epl_syntax.specs.Tree.{Edentype}
 use Rattle.epl_parser.specs.Items.{IsEdentype}
 use Rattle.epl_parser.specs.Program.{SpellsType, HasTokens, place_of, BreaksType, DeepensType, RefusesType}

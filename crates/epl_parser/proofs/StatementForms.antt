@@ -2,7 +2,7 @@
 use Rattle.std.proofs.Common.{◌≡◌, ℕ, suc, List, [], ◌∷◌, ◌++◌, Option, Some, refl, sym, ap, ◌∙◌, subst, inl, inr}
 use Rattle.grammar.specs.Grammar.{Grammar, Nothing, Then, Mapped}
 use Rattle.grammar.specs.Depths.{Placed, Perhaps}
-use Rattle.grammar.specs.Leads.{at_one}
+use Rattle.grammar.proofs.Leads.{at_one}
 use Rattle.grammar.specs.Sequences.{◌>>=◌, ◌>>◌, Row, no_more, one_more}
 use Rattle.epl_syntax.specs.declared.token.Token.{Token}
 use Rattle.epl_syntax.specs.declared.token.TokenKind.{TokenKind}

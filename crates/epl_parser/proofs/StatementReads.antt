@@ -2,11 +2,14 @@
 use Rattle.std.proofs.Common.{◌≡◌, ℕ, zero, suc, ◌+◌, ◌≤◌, ◌<◌, List, [], ◌∷◌, ◌++◌, Some, None, refl, sym, subst, arith}
 use Rattle.grammar.specs.Grammar.{Grammar, Nothing, Then, Mapped}
 use Rattle.grammar.specs.Depths.{Placed, bare, Perhaps, Looker, look_if, Reads}
-use Rattle.grammar.specs.Lookers.{then_reads}
-use Rattle.grammar.specs.Choices.{Anything, same_reads, mapped_reads, before_less, at_reads, EndsBefore, BeginsBy, if_reads}
-use Rattle.grammar.specs.Leads.{lead_reads}
-use Rattle.grammar.specs.Sequences.{Row, symbol_reads, and_reads, value_reads, then_begins, all_reads}
-use Rattle.grammar.specs.Separated.{Separated, separated_reads}
+use Rattle.grammar.proofs.Lookers.{then_reads}
+use Rattle.grammar.specs.Choices.{BeginsBy}
+use Rattle.grammar.proofs.Choices.{Anything, same_reads, mapped_reads, before_less, at_reads, EndsBefore, if_reads}
+use Rattle.grammar.proofs.Leads.{lead_reads}
+use Rattle.grammar.specs.Sequences.{Row}
+use Rattle.grammar.proofs.Sequences.{symbol_reads, and_reads, value_reads, then_begins, all_reads}
+use Rattle.grammar.specs.Separated.{Separated}
+use Rattle.grammar.proofs.Separated.{separated_reads}
 use Rattle.epl_syntax.specs.declared.token.Mark.TheVariants as mark
 use Rattle.epl_syntax.specs.declared.token.Token.{Token}
 use Rattle.epl_syntax.specs.declared.token.TokenKind.TheVariants as kind

@@ -2,9 +2,10 @@
 use Rattle.std.proofs.Common.{◌≡◌, ℕ, List, [], ◌∷◌, ◌++◌, Option, Some, None, refl, sym, ap, ◌∙◌, subst, arith}
 use Rattle.grammar.specs.Grammar.{Grammar, Nothing, Then}
 use Rattle.grammar.specs.Depths.{Placed, bare, Perhaps, Looker, look_both, look_here, look_if, Reads}
-use Rattle.grammar.specs.Lookers.{then_reads}
-use Rattle.grammar.specs.Choices.{before_less, EndsBefore, BeginsBy, if_reads}
-use Rattle.grammar.specs.Sequences.{symbol_reads, value_reads}
+use Rattle.grammar.proofs.Lookers.{then_reads}
+use Rattle.grammar.specs.Choices.{BeginsBy}
+use Rattle.grammar.proofs.Choices.{before_less, EndsBefore, if_reads}
+use Rattle.grammar.proofs.Sequences.{symbol_reads, value_reads}
 use Rattle.grammar.specs.Separated.{Separated, alone, apart}
 use Rattle.epl_syntax.specs.declared.token.Mark.{Mark}
 use Rattle.epl_syntax.specs.declared.token.Mark.TheVariants as mark

@@ -1,15 +1,16 @@
 -- What is answered for a whole text is so by its tokens and the grammar.
 use Rattle.std.proofs.Common.{◌≡◌, ℕ, suc, ◌<◌, List, [], length, drop, None, Ok, Err, sym, ap, ◌∙◌, subst, arith}
 use Rattle.grammar.specs.Depths.{bad, deep, Look}
-use Rattle.grammar.specs.FirstFault.{Spells as SpellsShallow, Answered, whole_answers, whole_only}
-use Rattle.grammar.specs.Choices.{Anything}
+use Rattle.grammar.specs.FirstFault.{Spells as SpellsShallow}
+use Rattle.grammar.proofs.FirstFault.{Answered, whole_answers, whole_only}
+use Rattle.grammar.proofs.Choices.{Anything}
 use Rattle.epl_syntax.specs.declared.token.Token.{Token}
 use Rattle.epl_syntax.specs.Token.{token_at, Leads}
 use Rattle.epl_syntax.specs.Tree.{Edentype}
 use Rattle.epl_parser.specs.Items.{IsEdentype}
 use Rattle.epl_parser.specs.ItemReader.{read_edentype, read_program}
 use Rattle.epl_parser.specs.Program.{SpellsType, place_of, BreaksType, GoesOn, DeepensType}
-use Rattle.epl_syntax.specs.OneList.{leads_one, nothing_left}
+use Rattle.epl_syntax.proofs.OneList.{leads_one, nothing_left}
 use Rattle.epl_parser.proofs.ItemReads.{edentype_reads}
 
 -- what a reader's answer to all tokens says

@@ -22,19 +22,24 @@ begins_with c t = record { value = c; place = t.start }
 -- const = INT | "-" INT | TEXT | "true" | "false" | "none" | "list" "(" kind ")"
 -- Its tokens have the depth that they have for other reasons, but for those of the kind.
 pub data IsConstant (bytes : List ℕ) (outer : ℕ) : List (Token × ℕ) → Beginning → Type 0 where
-  plain_int : {n : ℤ} (t : Token) → constant_head t.kind ≡ Some (first.Int n) → IsConstant bytes outer ((t, outer) ∷ []) (begins_with (integer n) t)
+  plain_int : {n : ℤ} (t : Token) → constant_head t.kind ≡ Some (first.Int n)
+      → IsConstant bytes outer ((t, outer) ∷ []) (begins_with (integer n) t)
   minus_int : {n : ℤ} (t u : Token) → constant_head t.kind ≡ Some first.Minus → negated u.kind ≡ Some n
       → IsConstant bytes outer ((t, outer) ∷ (u, outer) ∷ []) (begins_with (integer n) t)
-  plain_text : (t : Token) → constant_head t.kind ≡ Some first.Text → IsConstant bytes outer ((t, outer) ∷ []) (begins_with (text (text_at bytes t)) t)
-  plain_truth : {b : Bool} (t : Token) → constant_head t.kind ≡ Some (first.Bool b) → IsConstant bytes outer ((t, outer) ∷ []) (begins_with (truth b) t)
+  plain_text : (t : Token) → constant_head t.kind ≡ Some first.Text
+      → IsConstant bytes outer ((t, outer) ∷ []) (begins_with (text (text_at bytes t)) t)
+  plain_truth : {b : Bool} (t : Token) → constant_head t.kind ≡ Some (first.Bool b)
+      → IsConstant bytes outer ((t, outer) ∷ []) (begins_with (truth b) t)
   no_capability : (t : Token) → constant_head t.kind ≡ Some first.Absent → IsConstant bytes outer ((t, outer) ∷ []) (begins_with absent t)
-  no_items : (ps : List (Token × ℕ)) {k : PlacedShape} (t u w : Token) → constant_head t.kind ≡ Some first.EmptyList → u.kind ≡ kind.Mark mark.Open → IsWrittenKind outer ps k → w.kind ≡ kind.Mark mark.Close
+  no_items : (ps : List (Token × ℕ)) {k : PlacedShape} (t u w : Token) → constant_head t.kind ≡ Some first.EmptyList
+      → u.kind ≡ kind.Mark mark.Open → IsWrittenKind outer ps k → w.kind ≡ kind.Mark mark.Close
       → IsConstant bytes outer ((t, outer) ∷ (u, outer) ∷ (ps ++ (w, outer) ∷ [])) (begins_with (empty_list k) t)
 
 -- ---- reading
 -- a kind in parentheses
 abbrev pub read_kind_in_parens : ℕ → Looker Token PlacedShape
-read_kind_in_parens outer = look_both (look_one outer (the_mark mark.Open)) (λ u. look_closed 32 outer (the_mark mark.Close) (read_written_kind outer))
+read_kind_in_parens outer = look_both (look_one outer (the_mark mark.Open))
+    (λ u. look_closed 32 outer (the_mark mark.Close) (read_written_kind outer))
 
 abbrev pub read_constant_rest : List ℕ → ℕ → ConstantHead → Token → Looker Token Beginning
 read_constant_rest bytes outer (first.Int n) t = look_here (begins_with (integer n) t)

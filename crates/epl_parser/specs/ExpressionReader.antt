@@ -47,7 +47,8 @@ pub record Inner : Type 0 where
 module _ (bytes : List ℕ) (turns outer : ℕ) where
   -- ---- operators of a level, each with the part behind it
   abbrev pub read_step : Level → Reader → Parsed → Looker Token Parsed
-  read_step l part x = look_both (look_at 32 (λ op. max outer (suc x.behind)) (λ t. operator_at l t.kind)) (λ op. look_mapped (joined op x) (part (suc x.behind)))
+  read_step l part x = look_both (look_at 32 (λ op. max outer (suc x.behind)) (λ t. operator_at l t.kind))
+      (λ op. look_mapped (joined op x) (part (suc x.behind)))
 
   abbrev pub read_steps : Level → Reader → ℕ → Parsed → Looker Token Parsed
   read_steps l part n x = look_many (λ t. operator_at l t.kind) (read_step l part) n x
@@ -57,7 +58,8 @@ module _ (bytes : List ℕ) (turns outer : ℕ) where
 
   -- ---- a comparison, or none
   abbrev pub read_compared : Reader → Parsed → Looker Token Parsed
-  read_compared sum x = look_both (look_at 32 (λ op. max outer (suc x.behind)) (λ t. comparison t.kind)) (λ op. look_mapped (joined op x) (sum (suc x.behind)))
+  read_compared sum x = look_both (look_at 32 (λ op. max outer (suc x.behind)) (λ t. comparison t.kind))
+      (λ op. look_mapped (joined op x) (sum (suc x.behind)))
 
   abbrev pub read_cmp_by : Reader → Reader
   read_cmp_by sum d = look_both (sum d) (λ x. look_if (λ t. comparison t.kind) x (read_compared sum x))
@@ -79,7 +81,8 @@ module _ (bytes : List ℕ) (turns outer : ℕ) where
   read_indices expr n x = look_many (the_mark mark.OpenList) (read_index expr) n x
 
   abbrev pub read_unit_by : Reader → Reader → Reader → Reader
-  read_unit_by unit expr primary d = look_or (the_mark mark.Minus) (read_prefixed prefix.Negate (the_mark mark.Minus) unit d) (look_both (primary d) (read_indices expr turns))
+  read_unit_by unit expr primary d = look_or (the_mark mark.Minus) (read_prefixed prefix.Negate (the_mark mark.Minus) unit d)
+      (look_both (primary d) (read_indices expr turns))
 
   -- ---- operands
   abbrev pub read_exprs : Reader → ℕ → Looker Token (List Expression)
@@ -92,7 +95,8 @@ module _ (bytes : List ℕ) (turns outer : ℕ) where
   -- the rest of them, behind those that are read
   abbrev pub exprs_on : Mark → Reader → ℕ → ℕ → List Expression → Looker Token (List Expression)
   exprs_on m expr d n before =
-      look_both (look_many (the_mark mark.Comma) (look_next 32 (max outer d) (the_mark mark.Comma) (look_mapped (λ (x : Parsed). x.tree) (expr (suc d)))) n before)
+      look_both (look_many (the_mark mark.Comma)
+      (look_next 32 (max outer d) (the_mark mark.Comma) (look_mapped (λ (x : Parsed). x.tree) (expr (suc d)))) n before)
       (λ es. look_mapped (λ u. es) (look_one (max outer d) (the_mark m)))
 
   abbrev pub read_args : Reader → ℕ → Looker Token (List Expression)
@@ -105,9 +109,11 @@ module _ (bytes : List ℕ) (turns outer : ℕ) where
   read_primary_rest expr d head.Absent t = look_here (single (Const_ absent t.start) t d)
   read_primary_rest expr d head.Me t = look_here (single (Me t.start) t d)
   read_primary_rest expr d head.Name t = look_here (single (Name_ (name_at bytes t)) t d)
-  read_primary_rest expr d head.Parens t = look_mapped (λ (x : Parsed). single x.tree t d) (look_closed 32 (max outer d) (the_mark mark.Close) (expr (suc d)))
+  read_primary_rest expr d head.Parens t = look_mapped (λ (x : Parsed). single x.tree t d)
+      (look_closed 32 (max outer d) (the_mark mark.Close) (expr (suc d)))
   read_primary_rest expr d head.List t = look_mapped (λ es. single (ListOf (in_order es) t.start) t d) (read_exprs_to mark.CloseList expr d)
-  read_primary_rest expr d head.EmptyList t = look_mapped (λ k. single (Const_ (empty_list k) t.start) t d) (read_kind_in_parens (max outer d))
+  read_primary_rest expr d head.EmptyList t = look_mapped (λ k. single (Const_ (empty_list k) t.start) t d)
+      (read_kind_in_parens (max outer d))
   read_primary_rest expr d (head.Apply b) t = look_mapped (λ es. single (Apply b (in_order es) t.start) t d) (read_args expr d)
 
   abbrev pub read_primary_by : Reader → Reader

@@ -42,7 +42,8 @@ single e t d = record { tree = e; behind = d; begins = t.start }
 mutual
   -- expr = conj { "or" conj }, conj = neg { "and" neg }, sum = term { ("+" | "-" | "&") term }, term = unit { ("*" | "/" | "mod") unit }
   pub data IsChain (bytes : List ℕ) (outer : ℕ) : Level → ℕ → List (Token × ℕ) → Parsed → Type 0 where
-    chain : {l : Level} {d : ℕ} {ps qs : List (Token × ℕ)} {x y : Parsed} → IsPart bytes outer l d ps x → IsMore bytes outer l x qs y → IsChain bytes outer l d (ps ++ qs) y
+    chain : {l : Level} {d : ℕ} {ps qs : List (Token × ℕ)} {x y : Parsed} → IsPart bytes outer l d ps x → IsMore bytes outer l x qs y
+        → IsChain bytes outer l d (ps ++ qs) y
 
   -- what stands between the operators of a level
   pub data IsPart (bytes : List ℕ) (outer : ℕ) : Level → ℕ → List (Token × ℕ) → Parsed → Type 0 where
@@ -53,7 +54,8 @@ mutual
 
   pub data IsMore (bytes : List ℕ) (outer : ℕ) : Level → Parsed → List (Token × ℕ) → Parsed → Type 0 where
     no_more : {l : Level} {x : Parsed} → IsMore bytes outer l x [] x
-    more : {l : Level} {ps qs : List (Token × ℕ)} {x y z : Parsed} (t : Token) (op : Operator) → operator_at l t.kind ≡ Some op → IsPart bytes outer l (suc x.behind) ps y
+    more : {l : Level} {ps qs : List (Token × ℕ)} {x y z : Parsed} (t : Token) (op : Operator) → operator_at l t.kind ≡ Some op
+        → IsPart bytes outer l (suc x.behind) ps y
         → IsMore bytes outer l (joined op x y) qs z → IsMore bytes outer l x ((t, max outer (suc x.behind)) ∷ (ps ++ qs)) z
 
   -- neg = "not" neg | cmp
@@ -65,41 +67,58 @@ mutual
   -- cmp = sum [ ("=" | "<>" | "<" | "<=" | ">" | ">=") sum ]
   pub data IsCmp (bytes : List ℕ) (outer : ℕ) : ℕ → List (Token × ℕ) → Parsed → Type 0 where
     sum : {d : ℕ} {ps : List (Token × ℕ)} {x : Parsed} → IsChain bytes outer level.Sum d ps x → IsCmp bytes outer d ps x
-    compared : {d : ℕ} {ps qs : List (Token × ℕ)} {x y : Parsed} (t : Token) (op : Operator) → IsChain bytes outer level.Sum d ps x → comparison t.kind ≡ Some op
+    compared : {d : ℕ} {ps qs : List (Token × ℕ)} {x y : Parsed} (t : Token) (op : Operator) → IsChain bytes outer level.Sum d ps x
+        → comparison t.kind ≡ Some op
         → IsChain bytes outer level.Sum (suc x.behind) qs y → IsCmp bytes outer d (ps ++ (t, max outer (suc x.behind)) ∷ qs) (joined op x y)
 
   -- unit = "-" unit | prim { "[" expr "]" }
   pub data IsUnit (bytes : List ℕ) (outer : ℕ) : ℕ → List (Token × ℕ) → Parsed → Type 0 where
     minus : {d : ℕ} {ps : List (Token × ℕ)} {x : Parsed} (t : Token) → t.kind ≡ kind.Mark mark.Minus → IsUnit bytes outer (suc d) ps x
         → IsUnit bytes outer d ((t, max outer (suc d)) ∷ ps) (prefixed prefix.Negate t x)
-    indexed : {d : ℕ} {ps qs : List (Token × ℕ)} {x y : Parsed} → IsPrimary bytes outer d ps x → IsIndices bytes outer x qs y → IsUnit bytes outer d (ps ++ qs) y
+    indexed : {d : ℕ} {ps qs : List (Token × ℕ)} {x y : Parsed} → IsPrimary bytes outer d ps x → IsIndices bytes outer x qs y
+        → IsUnit bytes outer d (ps ++ qs) y
 
   pub data IsIndices (bytes : List ℕ) (outer : ℕ) : Parsed → List (Token × ℕ) → Parsed → Type 0 where
     no_index : {x : Parsed} → IsIndices bytes outer x [] x
-    index : {ps qs : List (Token × ℕ)} {x y z : Parsed} (t u : Token) → t.kind ≡ kind.Mark mark.OpenList → IsChain bytes outer level.Or (suc (suc x.behind)) ps y → u.kind ≡ kind.Mark mark.CloseList
-        → IsIndices bytes outer (at_index x y) qs z → IsIndices bytes outer x ((t, max outer (suc x.behind)) ∷ ((ps ++ (u, max outer (suc x.behind)) ∷ []) ++ qs)) z
+    index : {ps qs : List (Token × ℕ)} {x y z : Parsed} (t u : Token) → t.kind ≡ kind.Mark mark.OpenList
+        → IsChain bytes outer level.Or (suc (suc x.behind)) ps y → u.kind ≡ kind.Mark mark.CloseList
+        → IsIndices bytes outer (at_index x y) qs z
+        → IsIndices bytes outer x ((t, max outer (suc x.behind)) ∷ ((ps ++ (u, max outer (suc x.behind)) ∷ []) ++ qs)) z
 
   -- prim = INT | TEXT | "true" | "false" | "none" | "self" | LOWER | "(" expr ")" | "[" exprs "]" | "list" "(" kind ")" | builtin "(" exprs ")"
   pub data IsPrimary (bytes : List ℕ) (outer : ℕ) : ℕ → List (Token × ℕ) → Parsed → Type 0 where
-    int_operand : {d : ℕ} {n : ℤ} (t : Token) → primary_head t.kind ≡ Some (head.Int n) → IsPrimary bytes outer d ((t, max outer d) ∷ []) (single (Const_ (integer n) t.start) t d)
-    text_operand : {d : ℕ} (t : Token) → primary_head t.kind ≡ Some head.Text → IsPrimary bytes outer d ((t, max outer d) ∷ []) (single (Const_ (text (text_at bytes t)) t.start) t d)
-    bool_operand : {d : ℕ} {b : Bool} (t : Token) → primary_head t.kind ≡ Some (head.Bool b) → IsPrimary bytes outer d ((t, max outer d) ∷ []) (single (Const_ (truth b) t.start) t d)
-    none_operand : {d : ℕ} (t : Token) → primary_head t.kind ≡ Some head.Absent → IsPrimary bytes outer d ((t, max outer d) ∷ []) (single (Const_ absent t.start) t d)
-    self_operand : {d : ℕ} (t : Token) → primary_head t.kind ≡ Some head.Me → IsPrimary bytes outer d ((t, max outer d) ∷ []) (single (Me t.start) t d)
-    name_operand : {d : ℕ} (t : Token) → primary_head t.kind ≡ Some head.Name → IsPrimary bytes outer d ((t, max outer d) ∷ []) (single (Name_ (name_at bytes t)) t d)
-    parens_operand : {d : ℕ} {ps : List (Token × ℕ)} {x : Parsed} (t u : Token) → primary_head t.kind ≡ Some head.Parens → IsChain bytes outer level.Or (suc d) ps x → u.kind ≡ kind.Mark mark.Close
+    int_operand : {d : ℕ} {n : ℤ} (t : Token) → primary_head t.kind ≡ Some (head.Int n)
+        → IsPrimary bytes outer d ((t, max outer d) ∷ []) (single (Const_ (integer n) t.start) t d)
+    text_operand : {d : ℕ} (t : Token) → primary_head t.kind ≡ Some head.Text
+        → IsPrimary bytes outer d ((t, max outer d) ∷ []) (single (Const_ (text (text_at bytes t)) t.start) t d)
+    bool_operand : {d : ℕ} {b : Bool} (t : Token) → primary_head t.kind ≡ Some (head.Bool b)
+        → IsPrimary bytes outer d ((t, max outer d) ∷ []) (single (Const_ (truth b) t.start) t d)
+    none_operand : {d : ℕ} (t : Token) → primary_head t.kind ≡ Some head.Absent
+        → IsPrimary bytes outer d ((t, max outer d) ∷ []) (single (Const_ absent t.start) t d)
+    self_operand : {d : ℕ} (t : Token) → primary_head t.kind ≡ Some head.Me
+        → IsPrimary bytes outer d ((t, max outer d) ∷ []) (single (Me t.start) t d)
+    name_operand : {d : ℕ} (t : Token) → primary_head t.kind ≡ Some head.Name
+        → IsPrimary bytes outer d ((t, max outer d) ∷ []) (single (Name_ (name_at bytes t)) t d)
+    parens_operand : {d : ℕ} {ps : List (Token × ℕ)} {x : Parsed} (t u : Token) → primary_head t.kind ≡ Some head.Parens
+        → IsChain bytes outer level.Or (suc d) ps x → u.kind ≡ kind.Mark mark.Close
         → IsPrimary bytes outer d ((t, max outer d) ∷ (ps ++ (u, max outer d) ∷ [])) (single x.tree t d)
-    list_operand : {d : ℕ} {ps : List (Token × ℕ)} {es : List Expression} (t u : Token) → primary_head t.kind ≡ Some head.List → IsExprs bytes outer d ps es → u.kind ≡ kind.Mark mark.CloseList
+    list_operand : {d : ℕ} {ps : List (Token × ℕ)} {es : List Expression} (t u : Token) → primary_head t.kind ≡ Some head.List
+        → IsExprs bytes outer d ps es → u.kind ≡ kind.Mark mark.CloseList
         → IsPrimary bytes outer d ((t, max outer d) ∷ (ps ++ (u, max outer d) ∷ [])) (single (ListOf (in_order es) t.start) t d)
-    empty_list_operand : {d : ℕ} (ps : List (Token × ℕ)) {k : PlacedShape} (t o u : Token) → primary_head t.kind ≡ Some head.EmptyList → o.kind ≡ kind.Mark mark.Open → IsWrittenKind (max outer d) ps k
-        → u.kind ≡ kind.Mark mark.Close → IsPrimary bytes outer d ((t, max outer d) ∷ (o, max outer d) ∷ (ps ++ (u, max outer d) ∷ [])) (single (Const_ (empty_list k) t.start) t d)
-    builtin_operand : {d : ℕ} {ps : List (Token × ℕ)} {es : List Expression} {b : Builtin} (t o u : Token) → primary_head t.kind ≡ Some (head.Apply b) → o.kind ≡ kind.Mark mark.Open → IsExprs bytes outer d ps es
-        → u.kind ≡ kind.Mark mark.Close → IsPrimary bytes outer d ((t, max outer d) ∷ (o, max outer d) ∷ (ps ++ (u, max outer d) ∷ [])) (single (Apply b (in_order es) t.start) t d)
+    empty_list_operand : {d : ℕ} (ps : List (Token × ℕ)) {k : PlacedShape} (t o u : Token) → primary_head t.kind ≡ Some head.EmptyList
+        → o.kind ≡ kind.Mark mark.Open → IsWrittenKind (max outer d) ps k
+        → u.kind ≡ kind.Mark mark.Close → IsPrimary bytes outer d ((t, max outer d) ∷ (o, max outer d)
+        ∷ (ps ++ (u, max outer d) ∷ [])) (single (Const_ (empty_list k) t.start) t d)
+    builtin_operand : {d : ℕ} {ps : List (Token × ℕ)} {es : List Expression} {b : Builtin} (t o u : Token)
+        → primary_head t.kind ≡ Some (head.Apply b) → o.kind ≡ kind.Mark mark.Open → IsExprs bytes outer d ps es
+        → u.kind ≡ kind.Mark mark.Close → IsPrimary bytes outer d ((t, max outer d) ∷ (o, max outer d)
+        ∷ (ps ++ (u, max outer d) ∷ [])) (single (Apply b (in_order es) t.start) t d)
 
   -- exprs = expr { "," expr }
   pub data IsExprs (bytes : List ℕ) (outer : ℕ) : ℕ → List (Token × ℕ) → List Expression → Type 0 where
     last : {d : ℕ} {ps : List (Token × ℕ)} {x : Parsed} → IsChain bytes outer level.Or (suc d) ps x → IsExprs bytes outer d ps (x.tree ∷ [])
-    and_then : {d : ℕ} {ps qs : List (Token × ℕ)} {x : Parsed} {es : List Expression} (t : Token) → IsChain bytes outer level.Or (suc d) ps x → t.kind ≡ kind.Mark mark.Comma → IsExprs bytes outer d qs es
+    and_then : {d : ℕ} {ps qs : List (Token × ℕ)} {x : Parsed} {es : List Expression} (t : Token)
+        → IsChain bytes outer level.Or (suc d) ps x → t.kind ≡ kind.Mark mark.Comma → IsExprs bytes outer d qs es
         → IsExprs bytes outer d (ps ++ (t, max outer d) ∷ qs) (x.tree ∷ es)
 
 -- an expression that stands in no other

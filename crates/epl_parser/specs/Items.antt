@@ -48,7 +48,18 @@ with_upgrades upgrades e = record e { upgrades = upgrades }
 
 -- a type without items
 abbrev pub without_items : Name → Option Number → Edentype
-without_items name version = record { name = name; version = version; vars = []; classes = []; monitors = []; conditions = []; operations = []; processes = []; upgrades = [] }
+without_items name version =
+    record {
+      name = name;
+      version = version;
+      vars = [];
+      classes = [];
+      monitors = [];
+      conditions = [];
+      operations = [];
+      processes = [];
+      upgrades = [];
+    }
 
 -- a variable of the type, durable or working, in the monitor of this number or in none, which is 0
 abbrev pub declared : Bool → ℕ → Local → Variable

@@ -4,16 +4,30 @@ use Rattle.grammar.specs.FirstFault.{Spells as SpellsShallow, Breaks as BreaksGr
 use Rattle.epl_syntax.specs.declared.token.ParseRefusal.{ParseRefusal}
 use Rattle.epl_syntax.specs.declared.token.ParseRefusal.TheVariants.{BadToken, TooDeep, OutOfMemory}
 use Rattle.epl_syntax.specs.declared.token.Token.{Token}
+use Rattle.epl_syntax.specs.declared.token.TokenKind.TheVariants as kind
+use Rattle.epl_syntax.specs.declared.tree.Name.{Name}
 use Rattle.epl_syntax.specs.declared.tree.Program.{Program}
+use Rattle.epl_syntax.specs.declared.word.Word.TheVariants as word
 use Rattle.epl_syntax.specs.Token.{token_at, Leads, Spells}
 use Rattle.epl_syntax.specs.Tree.{Edentype, edentype}
 use Rattle.epl_parser.specs.Items.{IsEdentype}
+use Rattle.epl_parser.specs.OneToken.{name_at}
 
 -- The whole text spells tokens, and they the type, none of them past depth 32.
 pub record SpellsType (text : List ℕ) (e : Edentype) : Type 0 where
   pub tokens : List Token
   pub spelled : Spells text tokens
   pub type : SpellsShallow 32 (IsEdentype text) tokens e
+
+-- The text begins with `edentype` and this name.
+pub record IsNamed (text : List ℕ) (name : Name) : Type 0 where
+  pub first : Token
+  pub second : Token
+  pub more : List Token
+  pub spelled : Spells text (first ∷ second ∷ more)
+  pub is_word : first.kind ≡ kind.Word word.Edentype
+  pub is_upper : second.kind ≡ kind.Upper
+  pub is_name : name_at text second ≡ name
 
 -- The text has these tokens up to this place, at which no token begins.
 pub record HasTokens (text : List ℕ) (tokens : List Token) (end : ℕ) : Type 0 where

@@ -121,26 +121,32 @@ PlainRest bytes d _ t = Nowhere
 -- A token's depth is the number of statements in which it stands, and of an expression's token that of expressions where it is greater.
 mutual
   pub data IsStatement (bytes : List ℕ) : ℕ → List (Token × ℕ) → Statement → Type 0 where
-    plain : {d : ℕ} {ps : List (Token × ℕ)} {s : Statement} (h : StatementHead) (t : Token) → statement_head t.kind ≡ Some h → PlainRest bytes d h t ps s → IsStatement bytes d ((t, d) ∷ ps) s
+    plain : {d : ℕ} {ps : List (Token × ℕ)} {s : Statement} (h : StatementHead) (t : Token) → statement_head t.kind ≡ Some h
+        → PlainRest bytes d h t ps s → IsStatement bytes d ((t, d) ∷ ps) s
     -- "if" expr "then" { stmt } [ "else" { stmt } ] "end"
-    tested : {d : ℕ} {ps qs rs : List (Token × ℕ)} {test : Expression} {so otherwise : Statements} (t u v : Token) → statement_head t.kind ≡ Some head.If → IsExpression bytes d ps test
+    tested : {d : ℕ} {ps qs rs : List (Token × ℕ)} {test : Expression} {so otherwise : Statements} (t u v : Token)
+        → statement_head t.kind ≡ Some head.If → IsExpression bytes d ps test
         → u.kind ≡ kind.Word word.Then → IsBlock bytes (suc d) qs so → IsElse bytes d rs otherwise → v.kind ≡ kind.Word word.End
         → IsStatement bytes d ((t, d) ∷ (ps ++ (u, d) ∷ (qs ++ (rs ++ (v, d) ∷ [])))) (If test so otherwise t.start)
     -- "while" expr "do" { stmt } "end"
-    repeated : {d : ℕ} {ps qs : List (Token × ℕ)} {test : Expression} {body : Statements} (t u v : Token) → statement_head t.kind ≡ Some head.While → IsExpression bytes d ps test
+    repeated : {d : ℕ} {ps qs : List (Token × ℕ)} {test : Expression} {body : Statements} (t u v : Token)
+        → statement_head t.kind ≡ Some head.While → IsExpression bytes d ps test
         → u.kind ≡ kind.Word word.Do → IsBlock bytes (suc d) qs body → v.kind ≡ kind.Word word.End
         → IsStatement bytes d ((t, d) ∷ (ps ++ (u, d) ∷ (qs ++ (v, d) ∷ []))) (While test body t.start)
     -- "with" UPPER "do" { stmt } "end"
-    guarded : {d : ℕ} {ps : List (Token × ℕ)} {body : Statements} (t m u v : Token) → statement_head t.kind ≡ Some head.With → m.kind ≡ kind.Upper → u.kind ≡ kind.Word word.Do
+    guarded : {d : ℕ} {ps : List (Token × ℕ)} {body : Statements} (t m u v : Token) → statement_head t.kind ≡ Some head.With
+        → m.kind ≡ kind.Upper → u.kind ≡ kind.Word word.Do
         → IsBlock bytes (suc d) ps body → v.kind ≡ kind.Word word.End
         → IsStatement bytes d ((t, d) ∷ (m, d) ∷ (u, d) ∷ (ps ++ (v, d) ∷ [])) (With (name_at bytes m) body t.start)
 
   -- [ "else" { stmt } ]
   pub data IsElse (bytes : List ℕ) : ℕ → List (Token × ℕ) → Statements → Type 0 where
     no_else : {d : ℕ} → IsElse bytes d [] no_statements
-    or_else : {d : ℕ} {ps : List (Token × ℕ)} {otherwise : Statements} (t : Token) → t.kind ≡ kind.Word word.Else → IsBlock bytes (suc d) ps otherwise → IsElse bytes d ((t, d) ∷ ps) otherwise
+    or_else : {d : ℕ} {ps : List (Token × ℕ)} {otherwise : Statements} (t : Token) → t.kind ≡ kind.Word word.Else
+        → IsBlock bytes (suc d) ps otherwise → IsElse bytes d ((t, d) ∷ ps) otherwise
 
   -- { stmt }
   pub data IsBlock (bytes : List ℕ) : ℕ → List (Token × ℕ) → Statements → Type 0 where
     no_statement : {d : ℕ} → IsBlock bytes d [] no_statements
-    and_statement : {d : ℕ} {ps qs : List (Token × ℕ)} {s : Statement} {rest : Statements} → IsStatement bytes d ps s → IsBlock bytes d qs rest → IsBlock bytes d (ps ++ qs) (statement_and s rest)
+    and_statement : {d : ℕ} {ps qs : List (Token × ℕ)} {s : Statement} {rest : Statements} → IsStatement bytes d ps s
+        → IsBlock bytes d qs rest → IsBlock bytes d (ps ++ qs) (statement_and s rest)

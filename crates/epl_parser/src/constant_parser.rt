@@ -99,7 +99,8 @@ fn constant_rest<'a>(
     token: Token,
     tokens: &'a [Token],
 ) -> Result<(Const, &'a [Token]), Halt>
-    ensures { Tells (λ x. (begins_with (constant x.0) token, x.1.now)) result (read_constant_rest source.now.text.now outer head token tokens.now) }
+    ensures { Tells (λ x. (begins_with (constant x.0) token, x.1.now)) result
+        (read_constant_rest source.now.text.now outer head token tokens.now) }
 {
     match head {
         ConstantHead::Int { n } => Ok((Const::Int { n }, tokens)),

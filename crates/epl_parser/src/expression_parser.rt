@@ -171,7 +171,8 @@ fn chain<'a>(
     tokens: &'a [Token],
 ) -> Result<(Found, &'a [Token]), Halt>
     requires { depth ≤ 33 }
-    ensures read { Tells (λ x. (parsed x.0, x.1.now)) result (read_chain source.now.text.now source.now.turns outer level levels depth tokens.now) }
+    ensures read { Tells (λ x. (parsed x.0, x.1.now)) result
+        (read_chain source.now.text.now source.now.turns outer level levels depth tokens.now) }
     ensures small { IfOk result (λ x. x.0.behind ≤ 32) }
 {
     let (mut found, mut rest) = part(level, source, levels, outer, depth, tokens)?;
@@ -222,7 +223,8 @@ fn part<'a>(
     tokens: &'a [Token],
 ) -> Result<(Found, &'a [Token]), Halt>
     requires { depth ≤ 33 }
-    ensures read { Tells (λ x. (parsed x.0, x.1.now)) result (read_part source.now.text.now source.now.turns outer level levels depth tokens.now) }
+    ensures read { Tells (λ x. (parsed x.0, x.1.now)) result
+        (read_part source.now.text.now source.now.turns outer level levels depth tokens.now) }
     ensures small { IfOk result (λ x. x.0.behind ≤ 32) }
 {
     match level {
@@ -294,7 +296,8 @@ fn unit<'a>(
     tokens: &'a [Token],
 ) -> Result<(Found, &'a [Token]), Halt>
     requires { depth ≤ 33 }
-    ensures read { Tells (λ x. (parsed x.0, x.1.now)) result (read_unit source.now.text.now source.now.turns outer levels depth tokens.now) }
+    ensures read { Tells (λ x. (parsed x.0, x.1.now)) result
+        (read_unit source.now.text.now source.now.turns outer levels depth tokens.now) }
     ensures small { IfOk result (λ x. x.0.behind ≤ 32) }
 {
     let Some(_) = peek_mark(Mark::Minus, tokens) else {
@@ -320,7 +323,8 @@ fn indexed<'a>(
     tokens: &'a [Token],
 ) -> Result<(Found, &'a [Token]), Halt>
     requires { depth ≤ 33 }
-    ensures read { Tells (λ x. (parsed x.0, x.1.now)) result (read_indexed source.now.text.now source.now.turns outer levels depth tokens.now) }
+    ensures read { Tells (λ x. (parsed x.0, x.1.now)) result
+        (read_indexed source.now.text.now source.now.turns outer levels depth tokens.now) }
     ensures small { IfOk result (λ x. x.0.behind ≤ 32) }
 {
     let (mut found, mut rest) = primary(source, levels, outer, depth, tokens)?;
@@ -370,7 +374,8 @@ fn primary<'a>(
     tokens: &'a [Token],
 ) -> Result<(Found, &'a [Token]), Halt>
     requires { depth ≤ 33 }
-    ensures read { Tells (λ x. (parsed x.0, x.1.now)) result (read_primary source.now.text.now source.now.turns outer levels depth tokens.now) }
+    ensures read { Tells (λ x. (parsed x.0, x.1.now)) result
+        (read_primary source.now.text.now source.now.turns outer levels depth tokens.now) }
     ensures small { IfOk result (λ x. x.0.behind ≤ 32) }
 {
     let place = outer.max(depth);
@@ -414,7 +419,8 @@ fn inside<'a>(
     tokens: &'a [Token],
 ) -> Result<(Found, &'a [Token]), Halt>
     requires { depth ≤ 33 }
-    ensures read { Tells (λ x. (parsed x.0, x.1.now)) result ((inner source.now.text.now source.now.turns outer levels).expr depth tokens.now) }
+    ensures read { Tells (λ x. (parsed x.0, x.1.now)) result
+        ((inner source.now.text.now source.now.turns outer levels).expr depth tokens.now) }
     ensures small { IfOk result (λ x. x.0.behind ≤ 32) }
 {
     if levels == 0 {

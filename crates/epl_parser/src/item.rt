@@ -174,7 +174,8 @@ fn optional_parameters<'a>(
     source: &Source<'_>,
     tokens: &'a [Token],
 ) -> Result<(Vec<ParDecl>, &'a [Token]), Halt>
-    ensures { Tells (λ x. (map parameter x.0.items, x.1.now)) result (look_if (not_mark mark.Close) [] (read_parameters source.now.text.now source.now.turns) tokens.now) }
+    ensures { Tells (λ x. (map parameter x.0.items, x.1.now)) result
+        (look_if (not_mark mark.Close) [] (read_parameters source.now.text.now source.now.turns) tokens.now) }
 {
     let Some(_) = peek_item(tokens) else {
         return Ok((Vec::new(source.alloc), tokens));
@@ -227,7 +228,8 @@ fn optional_kinds<'a>(
     source: &Source<'_>,
     tokens: &'a [Token],
 ) -> Result<(Vec<WrittenKind>, &'a [Token]), Halt>
-    ensures { Tells (λ x. (map written x.0.items, x.1.now)) result (look_if (not_mark mark.Close) [] (read_kinds source.now.text.now source.now.turns) tokens.now) }
+    ensures { Tells (λ x. (map written x.0.items, x.1.now)) result
+        (look_if (not_mark mark.Close) [] (read_kinds source.now.text.now source.now.turns) tokens.now) }
 {
     let Some(_) = peek_item(tokens) else {
         return Ok((Vec::new(source.alloc), tokens));
@@ -310,7 +312,8 @@ fn variable<'a>(
     program: Program,
     tokens: &'a [Token],
 ) -> Result<(Program, &'a [Token]), Halt>
-    ensures { Tells (λ x. (edentype x.0, x.1.now)) result (read_variable source.now.text.now source.now.turns durable monitor (edentype program) tokens.now) }
+    ensures { Tells (λ x. (edentype x.0, x.1.now)) result
+        (read_variable source.now.text.now source.now.turns durable monitor (edentype program) tokens.now) }
 {
     let (LocalDecl { name, kind, start }, rest) = binding(source, tokens)?;
     let v = VarDecl {
@@ -330,7 +333,8 @@ fn condition<'a>(
     program: Program,
     tokens: &'a [Token],
 ) -> Result<(Program, &'a [Token]), Halt>
-    ensures { Tells (λ x. (edentype x.0, x.1.now)) result (read_condition source.now.text.now source.now.turns monitor (edentype program) tokens.now) }
+    ensures { Tells (λ x. (edentype x.0, x.1.now)) result
+        (read_condition source.now.text.now source.now.turns monitor (edentype program) tokens.now) }
 {
     let (name, rest) = take_lower(source, 0, tokens)?;
     let c = CondDecl { name, monitor };
@@ -358,7 +362,8 @@ fn member<'a>(
     program: Program,
     tokens: &'a [Token],
 ) -> Result<(Program, &'a [Token]), Halt>
-    ensures { Tells (λ x. (edentype x.0, x.1.now)) result (read_member source.now.text.now source.now.turns monitor (edentype program) tokens.now) }
+    ensures { Tells (λ x. (edentype x.0, x.1.now)) result
+        (read_member source.now.text.now source.now.turns monitor (edentype program) tokens.now) }
 {
     let (head, rest) = take_member(tokens)?;
     match head {
@@ -376,7 +381,8 @@ fn members<'a>(
     program: Program,
     tokens: &'a [Token],
 ) -> Result<(Program, &'a [Token]), Halt>
-    ensures { Tells (λ x. (edentype x.0, x.1.now)) result (read_members source.now.text.now source.now.turns monitor (edentype program) tokens.now) }
+    ensures { Tells (λ x. (edentype x.0, x.1.now)) result
+        (read_members source.now.text.now source.now.turns monitor (edentype program) tokens.now) }
 {
     let mut rest = tokens;
     let mut found = program;
@@ -400,7 +406,8 @@ fn monitor<'a>(
     program: Program,
     tokens: &'a [Token],
 ) -> Result<(Program, &'a [Token]), Halt>
-    ensures { Tells (λ x. (edentype x.0, x.1.now)) result (read_monitor source.now.text.now source.now.turns (edentype program) tokens.now) }
+    ensures { Tells (λ x. (edentype x.0, x.1.now)) result
+        (read_monitor source.now.text.now source.now.turns (edentype program) tokens.now) }
 {
     let (name, rest) = take_upper(source, 0, tokens)?;
     let Some(number) = next_number(program.monitors.len()) else {

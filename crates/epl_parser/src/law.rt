@@ -1,7 +1,7 @@
 //! What the grammar of a text promises, apart from any code.
 ghost use Rattle.std.specs.Prelude.{◌≡◌, ℕ, List};
 ghost use Rattle.epl_syntax.specs.Tree.{Edentype};
-ghost use Rattle.epl_parser.specs.Program.{SpellsType, RefusesType};
+ghost use Rattle.epl_parser.specs.Program.{SpellsType, IsNamed, RefusesType};
 
 /// A text spells at most one Edentype.
 pub fn types_are_one()
@@ -12,4 +12,9 @@ pub fn types_are_one()
 pub fn refusals_are_one()
     ensures one_place { (text : List ℕ) (p q : ℕ) → RefusesType text p → RefusesType text q → p ≡ q }
     ensures never_both { (text : List ℕ) (e : Edentype) (p : ℕ) → SpellsType text e → RefusesType text p → ⊥ }
+{}
+
+/// The name of an Edentype stands in its text behind `edentype`.
+pub fn types_are_named()
+    ensures named { (text : List ℕ) (e : Edentype) → SpellsType text e → IsNamed text e.name }
 {}

@@ -21,5 +21,5 @@ mod statement;
 #[cfg(test)]
 mod type_tests;
 
-pub use law::{refusals_are_one, types_are_one};
+pub use law::{refusals_are_one, types_are_named, types_are_one};
 pub use program::parse_edentype;

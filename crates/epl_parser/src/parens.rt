@@ -64,7 +64,8 @@ pub(crate) fn expressions<'a>(
     depth: u32,
     tokens: &'a [Token],
 ) -> Result<(Vec<Expr>, &'a [Token]), Halt>
-    ensures { Tells (λ x. (map expression x.0.items, x.1.now)) result (read_expressions source.now.text.now source.now.turns depth tokens.now) }
+    ensures { Tells (λ x. (map expression x.0.items, x.1.now)) result
+        (read_expressions source.now.text.now source.now.turns depth tokens.now) }
 {
     let (first, mut rest) = expression(source, depth, tokens)?;
     let mut found = Vec::new(source.alloc);
@@ -132,7 +133,8 @@ pub(crate) fn optional_gives<'a>(
     depth: u32,
     tokens: &'a [Token],
 ) -> Result<(Vec<Name>, &'a [Token]), Halt>
-    ensures { Tells (λ x. (x.0.items, x.1.now)) result (look_if (the_word word.Gives) [] (read_gives source.now.text.now source.now.turns depth) tokens.now) }
+    ensures { Tells (λ x. (x.0.items, x.1.now)) result
+        (look_if (the_word word.Gives) [] (read_gives source.now.text.now source.now.turns depth) tokens.now) }
 {
     let Some(_) = peek_word(Word::Gives, tokens) else {
         return Ok((Vec::new(source.alloc), tokens));
@@ -158,7 +160,8 @@ fn optional_expressions<'a>(
     depth: u32,
     tokens: &'a [Token],
 ) -> Result<(Vec<Expr>, &'a [Token]), Halt>
-    ensures { Tells (λ x. (map expression x.0.items, x.1.now)) result (look_if (not_mark mark.Close) [] (read_expressions source.now.text.now source.now.turns depth) tokens.now) }
+    ensures { Tells (λ x. (map expression x.0.items, x.1.now)) result
+        (look_if (not_mark mark.Close) [] (read_expressions source.now.text.now source.now.turns depth) tokens.now) }
 {
     let Some(_) = peek_item(tokens) else {
         return Ok((Vec::new(source.alloc), tokens));
@@ -173,7 +176,8 @@ pub(crate) fn arguments<'a>(
     depth: u32,
     tokens: &'a [Token],
 ) -> Result<(Vec<Expr>, &'a [Token]), Halt>
-    ensures { Tells (λ x. (map expression x.0.items, x.1.now)) result (read_arguments source.now.text.now source.now.turns depth tokens.now) }
+    ensures { Tells (λ x. (map expression x.0.items, x.1.now)) result
+        (read_arguments source.now.text.now source.now.turns depth tokens.now) }
 {
     let (_, rest) = take_mark(Mark::Open, depth, tokens)?;
     let (found, rest) = optional_expressions(source, depth, rest)?;

@@ -326,7 +326,8 @@ fn block<'a>(
     tokens: &'a [Token],
 ) -> Result<(Vec<Stmt>, &'a [Token]), Halt>
     requires { depth + levels ≤ 64 }
-    ensures { Tells (λ x. (statements x.0.items, x.1.now)) result (inner_block source.now.text.now source.now.turns levels (suc depth) tokens.now) }
+    ensures { Tells (λ x. (statements x.0.items, x.1.now)) result
+        (inner_block source.now.text.now source.now.turns levels (suc depth) tokens.now) }
 {
     if levels == 0 {
         // Never reached: the token before is past the limit of depth then.
@@ -366,7 +367,8 @@ fn row<'a>(
     tokens: &'a [Token],
 ) -> Result<(Vec<Stmt>, &'a [Token]), Halt>
     requires { depth + levels ≤ 64 }
-    ensures { Tells (λ x. (map statement x.0.items, x.1.now)) result (read_statements source.now.text.now source.now.turns levels depth tokens.now) }
+    ensures { Tells (λ x. (map statement x.0.items, x.1.now)) result
+        (read_statements source.now.text.now source.now.turns levels depth tokens.now) }
 {
     let mut rest = tokens;
     let mut found = Vec::new(source.alloc);

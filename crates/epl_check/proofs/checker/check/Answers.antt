@@ -6,14 +6,14 @@ use Rattle.epl_syntax.specs.Rules.OfTypes.{names_of}
 use Rattle.epl_syntax.specs.declared.rule.Broken.{Broken}
 use Rattle.epl_syntax.specs.declared.rule.Rule.{Rule}
 use Rattle.epl_syntax.specs.declared.rule.Rule.TheVariants as rule
-use Rattle.epl_check.specs.declared.sort.Uncounted.{Uncounted}
+use Rattle.std.specs.declared.alloc.AllocError.{AllocError}
 use Rattle.epl_syntax.specs.Rules.First.{broken_at, IsFirst}
 use Rattle.epl_syntax.specs.Rules.InItems.{broken_program}
 use Rattle.epl_check.specs.Refusals.{Refuses, refusal_for}
 use Rattle.epl_check.proofs.Least.{none_told, first_told}
 use Rattle.epl_check.proofs.checker.check.Goals as goal
 
-at_ok : (r : Result (Unit {0}) Uncounted) (P : Type 0) → false ≡ is_err r → OnOk r P → P
+at_ok : (r : Result (Unit {0}) AllocError) (P : Type 0) → false ≡ is_err r → OnOk r P → P
 at_ok (Ok u) P h p = p
 at_ok (Err e) P h p = absurd cc
 

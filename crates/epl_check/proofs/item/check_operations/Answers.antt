@@ -6,5 +6,7 @@ use Rattle.epl_check.proofs.item.check_operations.Goals as goal
 
 pub loop-o-preserved : goal.loop-o-preserved
 loop-o-preserved c =
-    let program = c.args.program.now in
-    map_turn (broken_operation (edentype program) (types_seen program.name c.args.earlier.now)) operation c.deref-o-items.result.now c.loop-o.o-index c.o-item.result c.loop-o.first c.check_operation.new.first _ c.loop-o-test.true c.o-item.is c.in_ok-check_operation.ensures c.loop-o.invariant
+    let around = c.args.around.now in
+    let program = around.program.now in
+    map_turn (broken_operation (edentype program) (types_seen program.name around.earlier.now)) operation c.deref-o-items.result.now c.loop-o.o-index
+    c.o-item.result c.loop-o.first c.check_operation.new.first _ c.loop-o-test.true c.o-item.is c.in_ok-check_operation.ensures c.loop-o.invariant

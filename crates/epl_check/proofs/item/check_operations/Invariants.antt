@@ -8,5 +8,7 @@ use Rattle.epl_check.proofs.item.check_operations.Given as goal
 
 abbrev pub invariant-loop-o : goal.invariant-loop-o
 invariant-loop-o l =
-    least l.first (flat_map (broken_operation (edentype l.program) (types_seen l.program.name l.earlier)) (map operation (drop l.o-index l.o-items)))
-    ≡ least l.fn.first (flat_map (broken_operation (edentype l.program) (types_seen l.program.name l.earlier)) (map operation l.o-items))
+    least l.first (flat_map (broken_operation (edentype l.around.program.now) (types_seen l.around.program.now.name l.around.earlier.now))
+    (map operation (drop l.o-index l.o-items)))
+    ≡ least l.fn.first (flat_map (broken_operation (edentype l.around.program.now) (types_seen l.around.program.now.name l.around.earlier.now))
+    (map operation l.o-items))

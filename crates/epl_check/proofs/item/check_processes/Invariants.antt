@@ -8,5 +8,7 @@ use Rattle.epl_check.proofs.item.check_processes.Given as goal
 
 abbrev pub invariant-loop-p : goal.invariant-loop-p
 invariant-loop-p l =
-    least l.first (flat_map (broken_process (edentype l.program) (types_seen l.program.name l.earlier)) (map process (drop l.p-index l.p-items)))
-    ≡ least l.fn.first (flat_map (broken_process (edentype l.program) (types_seen l.program.name l.earlier)) (map process l.p-items))
+    least l.first (flat_map (broken_process (edentype l.around.program.now) (types_seen l.around.program.now.name l.around.earlier.now))
+    (map process (drop l.p-index l.p-items)))
+    ≡ least l.fn.first (flat_map (broken_process (edentype l.around.program.now) (types_seen l.around.program.now.name l.around.earlier.now))
+    (map process l.p-items))

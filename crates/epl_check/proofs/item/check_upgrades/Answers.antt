@@ -6,5 +6,7 @@ use Rattle.epl_check.proofs.item.check_upgrades.Goals as goal
 
 pub loop-u-preserved : goal.loop-u-preserved
 loop-u-preserved c =
-    let program = c.args.program.now in
-    map_turn (broken_upgrade (edentype program) (types_seen program.name c.args.earlier.now)) upgrade c.deref-u-items.result.now c.loop-u.u-index c.u-item.result c.loop-u.first c.check_upgrade.new.first _ c.loop-u-test.true c.u-item.is c.in_ok-check_upgrade.ensures c.loop-u.invariant
+    let around = c.args.around.now in
+    let program = around.program.now in
+    map_turn (broken_upgrade (edentype program) (types_seen program.name around.earlier.now)) upgrade c.deref-u-items.result.now c.loop-u.u-index
+    c.u-item.result c.loop-u.first c.check_upgrade.new.first _ c.loop-u-test.true c.u-item.is c.in_ok-check_upgrade.ensures c.loop-u.invariant

@@ -8,5 +8,7 @@ use Rattle.epl_check.proofs.item.check_upgrades.Given as goal
 
 abbrev pub invariant-loop-u : goal.invariant-loop-u
 invariant-loop-u l =
-    least l.first (flat_map (broken_upgrade (edentype l.program) (types_seen l.program.name l.earlier)) (map upgrade (drop l.u-index l.u-items)))
-    ≡ least l.fn.first (flat_map (broken_upgrade (edentype l.program) (types_seen l.program.name l.earlier)) (map upgrade l.u-items))
+    least l.first (flat_map (broken_upgrade (edentype l.around.program.now) (types_seen l.around.program.now.name l.around.earlier.now))
+    (map upgrade (drop l.u-index l.u-items)))
+    ≡ least l.fn.first (flat_map (broken_upgrade (edentype l.around.program.now) (types_seen l.around.program.now.name l.around.earlier.now))
+    (map upgrade l.u-items))

@@ -2,7 +2,7 @@ use Rattle.std.proofs.Common.{rules}
 use Rattle.epl_syntax.specs.declared.tree.Stmt.TheViews.{the_lemmas}
 use Rattle.epl_check.specs.View.{seen}
 use Rattle.epl_check.proofs.Least.{least_append}
-use Rattle.epl_syntax.specs.TreeRows.{statement_items}
+use Rattle.epl_syntax.proofs.TreeRows.{statement_items}
 use Rattle.epl_check.proofs.Rows.{block_turn}
 use Rattle.epl_check.proofs.statement.+statement.Goals as goal
 

@@ -1,5 +1,5 @@
 use Rattle.std.proofs.Common.{rules}
-use Rattle.epl_syntax.specs.TreeRows.{row_items}
+use Rattle.epl_syntax.proofs.TreeRows.{row_items}
 use Rattle.epl_syntax.specs.declared.tree.Expr.TheViews.{the_lemmas}
 use Rattle.epl_parser.proofs.build.apply.Goals as goal
 

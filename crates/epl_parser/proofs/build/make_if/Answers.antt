@@ -1,5 +1,5 @@
 use Rattle.std.proofs.Common.{rules}
-use Rattle.epl_syntax.specs.TreeRows.{statement_items}
+use Rattle.epl_syntax.proofs.TreeRows.{statement_items}
 use Rattle.epl_syntax.specs.declared.tree.Stmt.TheViews.{the_lemmas}
 use Rattle.epl_parser.proofs.build.make_if.Goals as goal
 

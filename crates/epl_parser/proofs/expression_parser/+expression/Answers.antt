@@ -8,7 +8,7 @@ use Rattle.epl_parser.specs.OneToken.{peeked, the_mark}
 use Rattle.epl_parser.specs.Heads.{comparison}
 use Rattle.epl_parser.specs.Expressions.{Parsed}
 use Rattle.epl_parser.specs.ExpressionReader.{parsed, inner}
-use Rattle.epl_syntax.specs.TreeRows.{expressions_push}
+use Rattle.epl_syntax.proofs.TreeRows.{expressions_push}
 use Rattle.epl_parser.proofs.ExpressionSteps.{compared_step, items_turn, items_over}
 use Rattle.epl_parser.proofs.expression_parser.+expression.Goals as goal
 

@@ -1,7 +1,0 @@
-use Rattle.std.proofs.Common.{◌≡◌, drop, map}
-use Rattle.epl_syntax.specs.Tree.{variable}
-use Rattle.epl_syntax.specs.Rules.Scopes.{var_named}
-use Rattle.epl_check.proofs.scope.var_named.Given as goal
-
-abbrev pub invariant-loop-v : goal.invariant-loop-v
-invariant-loop-v l = var_named (map variable (drop l.v-index l.vars)) l.text ≡ var_named (map variable l.vars) l.text
