@@ -3,10 +3,10 @@ use Rattle.std.proofs.Common.{◌≡◌, ◌∙◌, ap, sym, refl, subst, ℕ, z
 use Rattle.std.specs.Prelude.{nat_le, ◌||◌}
 use Rattle.std.proofs.lemmas.Bool.{leb-true, lt-leb, and_parts, and_right}
 use Rattle.eden_script.specs.Form.{is_lower, is_upper, is_digit, is_name_byte, number_of}
-use Rattle.eden_script.specs.Tree.{Reference, Written, Row, row_of, size, row_depth, Order, call}
+use Rattle.eden_script.specs.Tree.{WrittenRef, WrittenArg, Row, row_of, size, row_depth, WrittenCommand, call}
 use Rattle.eden_script.specs.Grammar.{Command}
 use Rattle.eden_script.specs.Causes.{ResultFits, RowFits}
-use Rattle.eden_script.specs.Reading.{Judged, Reading, Maybe, ◌>>=◌, form_of, behind, read_word, read_lower, read_lower_and_blank, read_upper, read_digits, read_end, read_text, short_text, text_body, has_result, read_ref, is_value_word, allowed, read_flat, added, read_close, more_by, more_values, closed_by, read_values, list_by, read_value, within, reference, result_within, in_range, read_call, read_order}
+use Rattle.eden_script.specs.Reading.{Judged, Reading, Maybe, ◌>>=◌, form_of, behind, read_word, read_lower, read_lower_and_blank, read_upper, read_digits, read_end, read_text, short_text, text_body, has_result, read_ref, is_value_word, allowed, read_flat, added, read_close, more_by, more_values, closed_by, read_values, list_by, read_value, within, reference, result_within, in_range, read_call, read_command}
 use Rattle.eden_script.specs.declared.cause.ScriptCause.TheVariants.{BadForm, BadNumber}
 use Rattle.eden_script.proofs.Rules.{Judges, OnlyForm, only_bind, only_form_of, only_cond, only_word, only_end, only_while, only_digits, form_then, range_then, only_lower_and_blank, lower_and_blank_takes, lower_and_blank_again, within_yes, within_no, within_cases}
 use Rattle.eden_script.proofs.Pieces.{upper_takes, upper_again, end_takes, word_takes}
@@ -31,7 +31,9 @@ only_ref bytes =
     only_bool (has_result n.1) _ _ (only_bind (read_digits (drop 1 n.1)) _ (only_digits (drop 1 n.1)) (λ k. tt)) tt)
 
 pub only_text : (bytes : List ℕ) → OnlyForm (read_text bytes)
-only_text bytes = only_bind (form_of (text_body false bytes)) short_text (only_form_of (text_body false bytes)) (λ t. only_cond (nat_le (length t.0) 1024) t)
+only_text bytes =
+    only_bind (form_of (text_body false bytes)) short_text (only_form_of (text_body false bytes))
+    (λ t. only_cond (nat_le (length t.0) 1024) t)
 
 only_flat : (names : Bool) (bytes : List ℕ) → OnlyForm (read_flat names bytes)
 only_flat names [] = tt
@@ -39,40 +41,50 @@ only_flat names (b ∷ bytes) =
     only_bool (b == 34) _ _ (only_bind (read_text bytes) _ (only_text bytes) (λ t. tt))
     (only_bool (b == 45) _ _ (only_bind (read_digits bytes) _ (only_digits bytes) (λ d. tt))
     (only_bool (is_digit b) _ _ (only_bind (read_digits (b ∷ bytes)) _ (only_digits (b ∷ bytes)) (λ d. tt))
-    (only_bind (read_ref (b ∷ bytes)) _ (only_ref (b ∷ bytes)) (λ r. only_bind (allowed names r.0) _ (only_cond (names || is_value_word r.0) tt) (λ u. tt)))))
+    (only_bind (read_ref (b ∷ bytes)) _ (only_ref (b ∷ bytes))
+    (λ r. only_bind (allowed names r.0) _ (only_cond (names || is_value_word r.0) tt) (λ u. tt)))))
 
 module _ (V : List ℕ → Reading Maybe) (only : (bytes : List ℕ) → OnlyForm (V bytes)) (close : List ℕ) where
-  only_close : (so_far : Option (List Written)) (bytes : List ℕ) → OnlyForm (read_close close so_far bytes)
+  only_close : (so_far : Option (List WrittenArg)) (bytes : List ℕ) → OnlyForm (read_close close so_far bytes)
   only_close so_far bytes = only_bind (read_word close bytes) _ (only_word close bytes) (λ r. tt)
 
-  only_more_by : (o : Option (List ℕ)) (x : Reading (Option (List Written))) (f : List ℕ → Reading (Option (List Written))) → OnlyForm x → ((r : List ℕ) → OnlyForm (f r)) → OnlyForm (more_by o x f)
+  only_more_by : (o : Option (List ℕ)) (x : Reading (Option (List WrittenArg))) (f : List ℕ → Reading (Option (List WrittenArg)))
+      → OnlyForm x
+      → ((r : List ℕ) → OnlyForm (f r)) → OnlyForm (more_by o x f)
   only_more_by None x f h g = h
   only_more_by (Some r) x f h g = g r
 
-  only_more : (n : ℕ) (so_far : Option (List Written)) (bytes : List ℕ) → OnlyForm (more_values V close n so_far bytes)
+  only_more : (n : ℕ) (so_far : Option (List WrittenArg)) (bytes : List ℕ) → OnlyForm (more_values V close n so_far bytes)
   only_more zero so_far bytes = only_close so_far bytes
   only_more (suc n) so_far bytes =
-      only_more_by (behind (codes ", ") bytes) _ _ (only_close so_far bytes) (λ r. only_bind (V r) _ (only r) (λ x. only_more n (added so_far x.0) x.1))
+      only_more_by (behind (codes ", ") bytes) _ _ (only_close so_far bytes)
+      (λ r. only_bind (V r) _ (only r) (λ x. only_more n (added so_far x.0) x.1))
 
-  only_closed_by : (o : Option (List ℕ)) (x : Reading (Option (List Written))) → OnlyForm x → OnlyForm (closed_by o x)
+  only_closed_by : (o : Option (List ℕ)) (x : Reading (Option (List WrittenArg))) → OnlyForm x → OnlyForm (closed_by o x)
   only_closed_by None x h = h
   only_closed_by (Some r) x h = tt
 
   pub only_values : (most : ℕ) (bytes : List ℕ) → OnlyForm (read_values V close most bytes)
-  only_values most bytes = only_closed_by (behind close bytes) _ (only_bind (V bytes) _ (only bytes) (λ x. only_more most (added (Some []) x.0) x.1))
+  only_values most bytes =
+      only_closed_by (behind close bytes) _ (only_bind (V bytes) _ (only bytes) (λ x. only_more most (added (Some []) x.0) x.1))
 
-only_list_by : (o : Option (List ℕ)) (x : Reading Maybe) (f : List ℕ → Reading Maybe) → OnlyForm x → ((r : List ℕ) → OnlyForm (f r)) → OnlyForm (list_by o x f)
+only_list_by : (o : Option (List ℕ)) (x : Reading Maybe) (f : List ℕ → Reading Maybe) → OnlyForm x → ((r : List ℕ) → OnlyForm (f r))
+    → OnlyForm (list_by o x f)
 only_list_by None x f h g = h
 only_list_by (Some r) x f h g = g r
 
 pub only_value : (names : Bool) (n : ℕ) (bytes : List ℕ) → OnlyForm (read_value names n bytes)
 only_value names zero bytes = only_flat names bytes
 only_value names (suc n) bytes =
-    only_list_by (behind (codes "[") bytes) _ _ (only_flat names bytes) (λ r. only_bind (read_values (read_value names n) (codes "]") 255 r) _ (only_values (read_value names n) (only_value names n) (codes "]") 255 r) (λ x. tt))
+    only_list_by
+    (behind (codes "[") bytes) _ _ (only_flat names bytes) (λ r. only_bind (read_values (read_value names n) (codes "]") 255 r) _
+    (only_values (read_value names n) (only_value names n) (codes "]") 255 r)
+    (λ x. tt))
 
 -- ## References within their range
 
-pub reference_then : {B : Type 0} (P : B → Type 0) (N : Type 0) (w : List ℕ × Option (List ℕ)) (f : Reference → Judged B) → N → (ResultFits (reference_of w).result → Judges P N (f (reference_of w))) → Judges P N (reference w >>= f)
+pub reference_then : {B : Type 0} (P : B → Type 0) (N : Type 0) (w : List ℕ × Option (List ℕ)) (f : WrittenRef → Judged B) → N
+    → (ResultFits (reference_of w).result → Judges P N (f (reference_of w))) → Judges P N (reference w >>= f)
 reference_then P N (name, None) f bad g = g tt
 reference_then P N (name, Some d) f bad g =
     elim (within_cases 1 8 (number_of d)) as (λ _. Judges P N (result_within name (within 1 8 d) >>= f)) [
@@ -90,7 +102,8 @@ number_not_form e = cc
 pub ok_not_form : {B : Type 0} {x : B} → ◌≡◌ {A = Judged B} (Ok x) (Err BadForm) → ⊥
 ok_not_form e = cc
 
-pub reference_form : {B : Type 0} (w : List ℕ × Option (List ℕ)) (f : Reference → Judged B) → ((r : Reference) → f r ≡ Err BadForm → ⊥) → (reference w >>= f) ≡ Err BadForm → ⊥
+pub reference_form : {B : Type 0} (w : List ℕ × Option (List ℕ)) (f : WrittenRef → Judged B) → ((r : WrittenRef) → f r ≡ Err BadForm → ⊥)
+    → (reference w >>= f) ≡ Err BadForm → ⊥
 reference_form (name, None) f g h = g _ h
 reference_form (name, Some d) f g h =
     elim (within_cases 1 8 (number_of d)) [
@@ -110,26 +123,29 @@ call_sound most bytes =
     form_then G S (read_word (codes ".") r.1) _ (only_word (codes ".") r.1) (λ p e3.
     form_then G S (read_upper p) _ (only_while is_name_byte is_upper p) (λ op e4.
     form_then G S (read_word (codes "(") op.1) _ (only_word (codes "(") op.1) (λ q e5.
-    form_then G S (read_values (read_value true 4) (codes ")") 4096 q) _ (only_values (read_value true 4) (only_value true 4) (codes ")") 4096 q) (λ vs e6.
+    form_then G S (read_values (read_value true 4) (codes ")") 4096 q) _ (only_values (read_value true 4) (only_value true 4)
+    (codes ")") 4096 q) (λ vs e6.
     form_then G S (read_end vs.1) _ (only_end vs.1) (λ u e7.
     let N = lower_and_blank_takes bytes n.0 n.1 e1 in
     let R = ref_sound n.1 r.0 r.1 e2 in
     let T = upper_takes p op.0 op.1 e4 in
     let V = values_sound true 4 (read_value true 4) (value_sound true 4) (codes ")") 4096 q vs.0 vs.1 e6 in
     let close : q ≡ V.front ++ codes ")" = V.whole ∙ ap (λ (l : List ℕ). V.front ++ (codes ")" ++ l)) (end_takes vs.1 u e7) in
-    let o : Order = call n.0 (reference_of r.0) op.0 (row_of V.items_in) in
+    let o : WrittenCommand = call n.0 (reference_of r.0) op.0 (row_of V.items_in) in
     let s : Spelled line o =
     ((codes "call ", bytes, refl, (n.0, 32 ∷ n.1, (refl, N.1), (codes " ", n.1, refl, (R.front, r.1, R.spelled, (codes ".", p, refl, (op.0, op.1, (refl, T.1), (codes "(", q, refl, (V.front, codes ")", V.spelled, refl, close), word_takes (codes "(") op.1 q e5), T.0), word_takes (codes ".") r.1 p e3), R.whole), refl), N.0), refl), V.shallow) in
     reference_then G S r.0 _ (o, s) (λ fits.
     range_then G S vs.0 _ (o, s) (λ args e8.
     let A : AllFit (Some args) V.items_in = subst (λ o. AllFit o V.items_in) e8 V.fit in
-    subst (λ (l : List Written). G (call n.0 (reference_of r.0) op.0 (row_of l))) (sym A.0) (s, (fits, A.1)))))))))))
+    subst (λ (l : List WrittenArg). G (call n.0 (reference_of r.0) op.0 (row_of l))) (sym A.0) (s, (fits, A.1)))))))))))
 
-args_form : (found : Option (List Written)) (f : List Written → Order) → (in_range found >>= λ args. Ok (f args)) ≡ Err BadForm → ⊥
+args_form : (found : Option (List WrittenArg)) (f : List WrittenArg → WrittenCommand)
+    → (in_range found >>= λ args. Ok (f args)) ≡ Err BadForm → ⊥
 args_form None f h = number_not_form h
 args_form (Some vs) f h = ok_not_form h
 
-args_fit : (found : Option (List Written)) (args : Row) (f : Row → Order) → AllFit found (items_in args) → RowFits args → (in_range found >>= λ args. Ok (f (row_of args))) ≡ Ok (f args)
+args_fit : (found : Option (List WrittenArg)) (args : Row) (f : Row → WrittenCommand) → AllFit found (items_in args) → RowFits args
+    → (in_range found >>= λ args. Ok (f (row_of args))) ≡ Ok (f args)
 args_fit None args f h fits = absurd (h (subst RowFits (sym (row_items_in args)) fits))
 args_fit (Some vs) args f h fits = ap (λ (r : Row). Ok (f r)) (ap row_of h.0 ∙ row_items_in args)
 
@@ -139,19 +155,33 @@ upper_no_result (b ∷ op) rest h =
     let w : 65 ≤ b = leb-true _ _ (and_parts _ _ (and_parts _ _ h).0).0 in
     and_right (nat_le 48 b) (nat_le b 57) (lt-leb b 57 (omega arith))
 
-call_read : (most : ℕ) (name op inner : List ℕ) (x : List ℕ) (r : Reference) (args : Row) → is_lower name ≡ true → is_upper op ≡ true
+call_read : (most : ℕ) (name op inner : List ℕ) (x : List ℕ) (r : WrittenRef) (args : Row) → is_lower name ≡ true → is_upper op ≡ true
     → (a : RefAgain r (x ++ 46 ∷ (op ++ 40 ∷ (inner ++ 41 ∷ []))) (46 ∷ (op ++ 40 ∷ (inner ++ 41 ∷ []))))
     → (v : AllAgain true 4 4096 41 args (inner ++ 41 ∷ []) [])
-    → read_call (name ++ 32 ∷ (x ++ 46 ∷ (op ++ 40 ∷ (inner ++ 41 ∷ [])))) ≡ (reference a.words >>= λ target. in_range v.found >>= λ args. Ok (call name target op (row_of args)))
+    → read_call (name ++ 32 ∷ (x ++ 46 ∷ (op ++ 40 ∷ (inner ++ 41 ∷ [])))) ≡
+    (reference a.words >>= λ target. in_range v.found >>= λ args. Ok (call name target op (row_of args)))
 call_read most name op inner x r args good up a v =
     let tail = 40 ∷ (inner ++ 41 ∷ []) in
-    let F7 = λ (n : List ℕ) (w : List ℕ × Option (List ℕ)) (op : List ℕ) (vs : Option (List Written) × List ℕ). read_end vs.1 >>= λ _. reference w >>= λ target. in_range vs.0 >>= λ args. Ok (call n target op (row_of args)) in
-    ap (λ (q : Reading (List ℕ)). q >>= λ n. read_ref n.1 >>= λ r. read_word (codes ".") r.1 >>= λ rest. read_upper rest >>= λ op. read_word (codes "(") op.1 >>= λ rest. read_values (read_value true 4) (codes ")") 4096 rest >>= F7 n.0 r.0 op.0) (lower_and_blank_again name (x ++ 46 ∷ (op ++ tail)) good)
-    ∙ ap (λ (q : Reading (List ℕ × Option (List ℕ))). q >>= λ r. read_word (codes ".") r.1 >>= λ rest. read_upper rest >>= λ op. read_word (codes "(") op.1 >>= λ rest. read_values (read_value true 4) (codes ")") 4096 rest >>= F7 name r.0 op.0) a.read
-    ∙ ap (λ (q : Reading (List ℕ)). q >>= λ op. read_word (codes "(") op.1 >>= λ rest. read_values (read_value true 4) (codes ")") 4096 rest >>= F7 name a.words op.0) (upper_again op tail up refl)
-    ∙ ap (λ (q : Reading (Option (List Written))). q >>= F7 name a.words op) v.read
+    let F7 =
+    λ (n : List ℕ) (w : List ℕ × Option (List ℕ)) (op : List ℕ)
+    (vs : Option (List WrittenArg) × List ℕ). read_end vs.1 >>= λ _. reference w >>= λ target. in_range vs.0 >>= λ args. Ok
+    (call n target op (row_of args)) in
+    ap
+    (λ (q : Reading (List ℕ)). q >>= λ n. read_ref n.1 >>= λ r. read_word (codes ".") r.1 >>= λ rest. read_upper rest >>= λ op. read_word
+    (codes "(") op.1 >>= λ rest. read_values (read_value true 4) (codes ")") 4096 rest >>= F7 n.0 r.0 op.0)
+    (lower_and_blank_again name (x ++ 46 ∷ (op ++ tail)) good)
+    ∙ ap
+    (λ (q : Reading (List ℕ × Option (List ℕ))). q >>= λ r. read_word (codes ".") r.1 >>= λ rest. read_upper rest >>= λ op. read_word
+    (codes "(") op.1 >>= λ rest. read_values (read_value true 4) (codes ")") 4096 rest >>= F7 name r.0 op.0)
+    a.read
+    ∙ ap
+    (λ (q : Reading (List ℕ)). q >>= λ op. read_word (codes "(") op.1 >>= λ rest. read_values (read_value true 4)
+    (codes ")") 4096 rest >>= F7 name a.words op.0)
+    (upper_again op tail up refl)
+    ∙ ap (λ (q : Reading (Option (List WrittenArg))). q >>= F7 name a.words op) v.read
 
-pub call_whole : (most : ℕ) (name : List ℕ) (r : Reference) (op : List ℕ) (args : Row) (bytes : List ℕ) → size args ≤ 4097 → Command (call name r op args) bytes → row_depth args ≤ 4 → Whole most (call name r op args) (read_order most bytes)
+pub call_whole : (most : ℕ) (name : List ℕ) (r : WrittenRef) (op : List ℕ) (args : Row) (bytes : List ℕ) → size args ≤ 4097
+    → Command (call name r op args) bytes → row_depth args ≤ 4 → Whole most (call name r op args) (read_command most bytes)
 call_whole most name r op args bytes few h shallow =
     let a = h.3 in
     let b = a.3 in
@@ -172,12 +202,14 @@ call_whole most name r op args bytes few h shallow =
     (v.4 ∙ ap (λ (l : List ℕ). v.0 ++ l) v.3))))))) in
     let R = ref_again r c.0 tail c.2 (record { name = refl; digit = refl; point = upper_no_result op (40 ∷ (v.0 ++ 41 ∷ [])) e.2.1 }) in
     let V = values_again true args 4 4096 41 v.0 [] v.2 (λ bare. absurd (both bare)) few shallow parenthesis in
-    let read : read_order most bytes ≡ (reference R.words >>= λ target. in_range V.found >>= λ args. Ok (call name target op (row_of args))) =
-    ap (read_order most) line ∙ call_read most name op v.0 c.0 r args a.2.1 e.2.1 R V in
+    let read : read_command most bytes ≡ (reference R.words >>= λ target. in_range V.found >>= λ args. Ok
+    (call name target op (row_of args))) =
+    ap (read_command most) line ∙ call_read most name op v.0 c.0 r args a.2.1 e.2.1 R V in
     record {
       fits = λ w.
           read
-          ∙ ap (λ (q : Judged Reference). q >>= λ target. in_range V.found >>= λ args. Ok (call name target op (row_of args))) (reference_fits R.words (subst (λ r. ResultFits r.result) (sym R.same) w.0) ∙ ap (λ (r : Reference). Ok r) R.same)
+          ∙ ap (λ (q : Judged WrittenRef). q >>= λ target. in_range V.found >>= λ args. Ok (call name target op (row_of args)))
+          (reference_fits R.words (subst (λ r. ResultFits r.result) (sym R.same) w.0) ∙ ap (λ (r : WrittenRef). Ok r) R.same)
           ∙ args_fit V.found args (call name r op) V.fit w.1;
       form = λ e. reference_form R.words _ (λ target. args_form V.found (λ args. call name target op (row_of args))) (sym read ∙ e);
     }

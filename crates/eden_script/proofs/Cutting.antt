@@ -30,12 +30,14 @@ front_split (b ∷ bytes) h =
           rw (front_more b bytes e) (ap (λ (l : List ℕ). b ∷ l) (front_split bytes (omega (arith, h, k)))))
     ]
 
-pub first_taken : (bytes : List ℕ) (n : ℕ) → n ≡ length (front bytes) → n < length bytes → IsFirstLine bytes (take n bytes) (take (length bytes - (n + 1)) (drop (n + 1) bytes))
+pub first_taken : (bytes : List ℕ) (n : ℕ) → n ≡ length (front bytes) → n < length bytes
+    → IsFirstLine bytes (take n bytes) (take (length bytes - (n + 1)) (drop (n + 1) bytes))
 first_taken bytes n e h =
     rw (e, front_taken bytes, rest_whole (length (front bytes) + 1) bytes)
     (record { clean = no_feeds bytes; split = inl (front_split bytes (omega (arith, e, h)) ∙ ap (λ (k : ℕ). front bytes ++ 10 ∷ drop k bytes) (sym (add-one (length (front bytes))))) })
 
-pub first_last : (bytes : List ℕ) (n : ℕ) → n ≡ length (front bytes) → length bytes ≤ n → IsFirstLine bytes bytes (take (length bytes - n) (drop n bytes))
+pub first_last : (bytes : List ℕ) (n : ℕ) → n ≡ length (front bytes) → length bytes ≤ n
+    → IsFirstLine bytes bytes (take (length bytes - n) (drop n bytes))
 first_last bytes n e h =
     let w : front bytes ≡ bytes = sym (front_taken bytes) ∙ take_all (length (front bytes)) bytes (omega (arith, e, h)) in
     record { clean = ap (list_all is_no_feed) (sym w) ∙ no_feeds bytes; split = inr (refl, rest_whole n bytes ∙ drop_of_length-le bytes h) }
@@ -60,22 +62,28 @@ pub record Cut (bytes rest : List ℕ) : Type 0 where
   pub joined : (rest ≡ []) ⊎ (bytes ≡ text ++ rest)
   pub long : 8 ≤ length text
 
-begins_long : (first : List ℕ) → begins_type first ≡ true → 8 ≤ length first
+pub begins_long : (first : List ℕ) → begins_type first ≡ true → 8 ≤ length first
 begins_long first h = by first ((bytes_eq-Decides (take 8 first) (codes "edentype")).0 h)
   where
     by : (first : List ℕ) → take 8 first ≡ codes "edentype" → 8 ≤ length first
     by first e = let k : length (take 8 first) ≡ 8 = ap (λ (l : List ℕ). length l) e in omega (arith, length-take 8 first, k)
 
-part_begins : (first : List ℕ) (lines : List (List ℕ)) → begins_type first ≡ true → parts_of (first ∷ lines) ≡ parts_behind (first ++ 10 ∷ []) lines
+part_begins : (first : List ℕ) (lines : List (List ℕ)) → begins_type first ≡ true
+    → parts_of (first ∷ lines) ≡ parts_behind (first ++ 10 ∷ []) lines
 part_begins first lines h = ap (λ (c : Bool). cond c (parts_behind (first ++ 10 ∷ []) lines) (parts.line first ∷ parts_of lines)) h
 
-pub part_line : (first : List ℕ) (lines : List (List ℕ)) → begins_type first ≡ false → parts_of (first ∷ lines) ≡ parts.line first ∷ parts_of lines
+pub part_line : (first : List ℕ) (lines : List (List ℕ)) → begins_type first ≡ false
+    → parts_of (first ∷ lines) ≡ parts.line first ∷ parts_of lines
 part_line first lines h = ap (λ (c : Bool). cond c (parts_behind (first ++ 10 ∷ []) lines) (parts.line first ∷ parts_of lines)) h
 
-part_ends : (text line : List ℕ) (lines : List (List ℕ)) (b : Bool) → ends_type line ≡ b → parts_behind text (line ∷ lines) ≡ cond b (declaration (text ++ line) ∷ parts_of lines) (parts_behind (text ++ (line ++ 10 ∷ [])) lines)
-part_ends text line lines b h = ap (λ (c : Bool). cond c (declaration (text ++ line) ∷ parts_of lines) (parts_behind (text ++ (line ++ 10 ∷ [])) lines)) h
+part_ends : (text line : List ℕ) (lines : List (List ℕ)) (b : Bool) → ends_type line ≡ b
+    → parts_behind text (line ∷ lines) ≡ cond b (declaration (text ++ line) ∷ parts_of lines)
+    (parts_behind (text ++ (line ++ 10 ∷ [])) lines)
+part_ends text line lines b h =
+    ap (λ (c : Bool). cond c (declaration (text ++ line) ∷ parts_of lines) (parts_behind (text ++ (line ++ 10 ∷ [])) lines)) h
 
-pub cut_first : (bytes first behind : List ℕ) → IsFirstLine bytes first behind → lines_of bytes ≡ first ∷ lines_of behind → begins_type first ≡ true → Cut bytes behind
+pub cut_first : (bytes first behind : List ℕ) → IsFirstLine bytes first behind → lines_of bytes ≡ first ∷ lines_of behind
+    → begins_type first ≡ true → Cut bytes behind
 cut_first bytes first behind f lines begins = record {
   text = first ++ 10 ∷ [];
   whole_lines = λ more.
@@ -87,18 +95,22 @@ cut_first bytes first behind f lines begins = record {
   long = omega (arith, begins_long first begins, length-append first (10 ∷ []));
 }
 
-pub cut_step : (bytes rest line behind : List ℕ) → Cut bytes rest → 0 < length rest → IsFirstLine rest line behind → lines_of rest ≡ line ∷ lines_of behind → ends_type line ≡ false → Cut bytes behind
+pub cut_step : (bytes rest line behind : List ℕ) → Cut bytes rest → 0 < length rest → IsFirstLine rest line behind
+    → lines_of rest ≡ line ∷ lines_of behind → ends_type line ≡ false → Cut bytes behind
 cut_step bytes rest line behind c some f lines ends =
     let one : lines_of (line ++ 10 ∷ []) ≡ line ∷ [] = lines_clean line [] f.clean in
     record {
       text = c.text ++ (line ++ 10 ∷ []);
       whole_lines = λ more.
           ap lines_of (append_assoc c.text (line ++ 10 ∷ []) more) ∙ c.whole_lines ((line ++ 10 ∷ []) ++ more)
-          ∙ ap (λ (l : List (List ℕ)). lines_of c.text ++ l) (ap lines_of (append_assoc line (10 ∷ []) more) ∙ lines_clean line more f.clean)
+          ∙ ap (λ (l : List (List ℕ)). lines_of c.text ++ l)
+          (ap lines_of (append_assoc line (10 ∷ []) more) ∙ lines_clean line more f.clean)
           ∙ sym (append_assoc (lines_of c.text) (line ∷ []) (lines_of more))
-          ∙ ap (λ (l : List (List ℕ)). l ++ lines_of more) (ap (λ (l : List (List ℕ)). lines_of c.text ++ l) (sym one) ∙ sym (c.whole_lines (line ++ 10 ∷ [])));
+          ∙ ap (λ (l : List (List ℕ)). l ++ lines_of more)
+          (ap (λ (l : List (List ℕ)). lines_of c.text ++ l) (sym one) ∙ sym (c.whole_lines (line ++ 10 ∷ [])));
       all_lines =
-          ap (λ (l : List (List ℕ)). l ++ lines_of behind) (c.whole_lines (line ++ 10 ∷ []) ∙ ap (λ (l : List (List ℕ)). lines_of c.text ++ l) one)
+          ap (λ (l : List (List ℕ)). l ++ lines_of behind)
+          (c.whole_lines (line ++ 10 ∷ []) ∙ ap (λ (l : List (List ℕ)). lines_of c.text ++ l) one)
           ∙ append_assoc (lines_of c.text) (line ∷ []) (lines_of behind)
           ∙ ap (λ (l : List (List ℕ)). lines_of c.text ++ l) (sym lines) ∙ c.all_lines;
       parts = sym (part_ends c.text line (lines_of behind) false ends) ∙ ap (parts_behind c.text) (sym lines) ∙ c.parts;
@@ -106,7 +118,9 @@ cut_step bytes rest line behind c some f lines ends =
         | inr e ↦ inl e.1
         | inl e ↦ elim c.joined [
           | inl none ↦ absurd (nothing rest none some)
-          | inr j ↦ inr (j ∙ ap (λ (l : List ℕ). c.text ++ l) (e ∙ sym (append_assoc line (10 ∷ []) behind)) ∙ sym (append_assoc c.text (line ++ 10 ∷ []) behind))
+          | inr j ↦ inr
+              (j ∙ ap (λ (l : List ℕ). c.text ++ l) (e ∙ sym (append_assoc line (10 ∷ []) behind)) ∙ sym
+              (append_assoc c.text (line ++ 10 ∷ []) behind))
         ]
       ];
       long = omega (arith, c.long, length-append c.text (line ++ 10 ∷ []));
@@ -118,36 +132,46 @@ cut_step bytes rest line behind c some f lines ends =
 pub cut_end : (bytes rest : List ℕ) → Cut bytes rest → rest ≡ [] → parts_of (lines_of bytes) ≡ unclosed (lines_of bytes) ∷ []
 cut_end bytes rest c e =
     sym c.parts ∙ ap (λ (l : List ℕ). parts_behind c.text (lines_of l)) e
-    ∙ ap (λ (l : List (List ℕ)). unclosed l ∷ []) (sym (append-nil (lines_of c.text)) ∙ ap (λ (l : List ℕ). lines_of c.text ++ lines_of l) (sym e) ∙ c.all_lines)
+    ∙ ap (λ (l : List (List ℕ)). unclosed l ∷ [])
+    (sym (append-nil (lines_of c.text)) ∙ ap (λ (l : List ℕ). lines_of c.text ++ lines_of l) (sym e) ∙ c.all_lines)
 
 pub record FoundEnd (bytes behind : List ℕ) (n : ℕ) : Type 0 where
   pub parts : parts_of (lines_of bytes) ≡ declaration (take n bytes) ∷ parts_of (lines_of behind)
   pub long : 8 ≤ length (take n bytes)
   pub short : length (take n bytes) + length behind ≤ length bytes
 
-pub cut_found : (bytes rest line behind : List ℕ) (n : ℕ) → Cut bytes rest → 0 < length rest → IsFirstLine rest line behind → lines_of rest ≡ line ∷ lines_of behind → ends_type line ≡ true → n ≡ (length bytes - length rest) + length line → FoundEnd bytes behind n
+pub cut_found : (bytes rest line behind : List ℕ) (n : ℕ) → Cut bytes rest → 0 < length rest → IsFirstLine rest line behind
+    → lines_of rest ≡ line ∷ lines_of behind → ends_type line ≡ true → n ≡ (length bytes - length rest) + length line
+    → FoundEnd bytes behind n
 cut_found bytes rest line behind n c some f lines ends e =
     elim c.joined [
       | inl none ↦ absurd (nothing rest none some)
       | inr j ↦ elim f.split [
-        | inl s ↦ found (10 ∷ behind) (j ∙ ap (λ (l : List ℕ). c.text ++ l) s ∙ sym (append_assoc c.text line (10 ∷ behind))) (ap (λ (l : List ℕ). length l) s ∙ length-append line (10 ∷ behind)) (omega arith)
-        | inr s ↦ found [] (j ∙ ap (λ (l : List ℕ). c.text ++ l) (s.0 ∙ sym (append-nil line)) ∙ sym (append_assoc c.text line [])) (ap (λ (l : List ℕ). length l) s.0 ∙ omega arith) (omega (arith, ap (λ (l : List ℕ). length l) s.1))
+        | inl s ↦ found (10 ∷ behind) (j ∙ ap (λ (l : List ℕ). c.text ++ l) s ∙ sym (append_assoc c.text line (10 ∷ behind)))
+            (ap (λ (l : List ℕ). length l) s ∙ length-append line (10 ∷ behind)) (omega arith)
+        | inr s ↦ found [] (j ∙ ap (λ (l : List ℕ). c.text ++ l) (s.0 ∙ sym (append-nil line)) ∙ sym (append_assoc c.text line []))
+            (ap (λ (l : List ℕ). length l) s.0 ∙ omega arith) (omega (arith, ap (λ (l : List ℕ). length l) s.1))
       ]
     ]
   where
     nothing : (rest : List ℕ) → rest ≡ [] → 0 < length rest → ⊥
     nothing rest e h = let k : length rest ≡ 0 = ap (λ (l : List ℕ). length l) e in omega (arith, h, k)
 
-    found : (back : List ℕ) → bytes ≡ (c.text ++ line) ++ back → length rest ≡ length line + length back → length behind ≤ length back → FoundEnd bytes behind n
+    found : (back : List ℕ) → bytes ≡ (c.text ++ line) ++ back → length rest ≡ length line + length back → length behind ≤ length back
+        → FoundEnd bytes behind n
     found back w k small =
-        let a : length bytes ≡ length (c.text ++ line) + length back = ap (λ (l : List ℕ). length l) w ∙ length-append (c.text ++ line) back in
+        let a : length bytes ≡ length (c.text ++ line) + length back =
+        ap (λ (l : List ℕ). length l) w ∙ length-append (c.text ++ line) back in
         let b : length (c.text ++ line) ≡ length c.text + length line = length-append c.text line in
         let m : n ≡ length (c.text ++ line) = omega (arith, e, k, a, b) in
         let t : take n bytes ≡ c.text ++ line =
-        ap (λ (l : List ℕ). take n l) w ∙ take-append-le n (c.text ++ line) back (omega (arith, m)) ∙ take_all n (c.text ++ line) (omega (arith, m)) in
+        ap (λ (l : List ℕ). take n l) w ∙ take-append-le n (c.text ++ line) back (omega (arith, m))
+        ∙ take_all n (c.text ++ line) (omega (arith, m)) in
         let s : length (take n bytes) ≡ length (c.text ++ line) = ap (λ (l : List ℕ). length l) t in
         record {
-          parts = sym c.parts ∙ ap (parts_behind c.text) lines ∙ part_ends c.text line (lines_of behind) true ends ∙ ap (λ (l : List ℕ). declaration l ∷ parts_of (lines_of behind)) (sym t);
+          parts =
+              sym c.parts ∙ ap (parts_behind c.text) lines ∙ part_ends c.text line (lines_of behind) true ends
+              ∙ ap (λ (l : List ℕ). declaration l ∷ parts_of (lines_of behind)) (sym t);
           long = omega (arith, s, b, c.long);
           short = omega (arith, s, a, small);
         }

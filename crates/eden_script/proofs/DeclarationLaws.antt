@@ -31,7 +31,8 @@ not_less a b h = ltb-false a.place b.place (by_test (nat_lt a.place b.place) _ h
 
 -- the first place of broken rules is one
 first_place : (bs : List Broken) (a b : Broken) → IsFirst bs a → IsFirst bs b → a.place ≡ b.place
-first_place bs a b f g = omega (arith, not_less a b (not_before a b bs f.member g.none_before), not_less b a (not_before b a bs g.member f.none_before))
+first_place bs a b f g =
+    omega (arith, not_less a b (not_before a b bs f.member g.none_before), not_less b a (not_before b a bs g.member f.none_before))
 
 none_broken : (bs : List Broken) (a : Broken) → bs ≡ [] → IsOneOf a bs → ⊥
 none_broken bs a e m = subst (IsOneOf a) e m
@@ -43,7 +44,9 @@ module _ (laws : OneAnswer) (types : Types) (text : List ℕ) where
   same_rule : (p q : ℕ) → BreaksRule types text p → BreaksRule types text q → p ≡ q
   same_rule p q h g =
       first_place (broken_program (type_names types) g.value) (broken_at h.rule p) (broken_at g.rule q)
-      (subst (λ (t : Edentype). IsFirst (broken_program (type_names types) t) (broken_at h.rule p)) (laws.one_tree text h.value g.value h.spelled g.spelled) h.first) g.first
+      (subst (λ (t : Edentype). IsFirst (broken_program (type_names types) t) (broken_at h.rule p))
+      (laws.one_tree text h.value g.value h.spelled g.spelled) h.first)
+      g.first
 
   pub one_place : (p q : ℕ) → RefusedAt types text p → RefusedAt types text q → p ≡ q
   one_place p q (inl h) (inl g) = laws.one_place text p q h g

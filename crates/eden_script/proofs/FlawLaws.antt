@@ -32,7 +32,8 @@ abbrev pub UpTo : ℕ → List (List ℕ) → Option Place → Type 0
 UpTo i lines None = (j : ℕ) → Clean (line_at lines j)
 UpTo i lines (Some p) = (m : ℕ) × (p.0 ≡ i + m) × ((j : ℕ) → j < m → Clean (line_at lines j)) × Bad p.1 (line_at lines m)
 
-up_step : (i : ℕ) (bytes : List ℕ) (lines : List (List ℕ)) (o : Option Place) → Clean bytes → UpTo (suc i) lines o → UpTo i (bytes ∷ lines) o
+up_step : (i : ℕ) (bytes : List ℕ) (lines : List (List ℕ)) (o : Option Place) → Clean bytes → UpTo (suc i) lines o
+    → UpTo i (bytes ∷ lines) o
 up_step i bytes lines None clean h = clean_all
   where
     clean_all : (j : ℕ) → Clean (line_at (bytes ∷ lines) j)
@@ -44,7 +45,8 @@ up_step i bytes lines (Some p) clean h = (suc h.0, omega (arith, h.1), clean_bef
     clean_before zero w = clean
     clean_before (suc j) w = h.2 j (omega (arith, w))
 
-up_by : (i : ℕ) (bytes : List ℕ) (lines : List (List ℕ)) (a b : Bool) → list_all is_printable bytes ≡ a → nat_lt 4096 (length bytes) ≡ b → UpTo (suc i) lines (line_flaw (suc i) lines)
+up_by : (i : ℕ) (bytes : List ℕ) (lines : List (List ℕ)) (a b : Bool) → list_all is_printable bytes ≡ a → nat_lt 4096 (length bytes) ≡ b
+    → UpTo (suc i) lines (line_flaw (suc i) lines)
     → UpTo i (bytes ∷ lines) (cond (not a) (Some (i, BadByte)) (cond b (Some (i, LongLine)) (line_flaw (suc i) lines)))
 up_by i bytes lines false b e f h = (0, omega arith, (λ j w. absurd (omega (arith, w))), e)
 up_by i bytes lines true true e f h = (0, omega arith, (λ j w. absurd (omega (arith, w))), (e, ltb-true _ _ f))
@@ -72,7 +74,8 @@ earlier_true a b h =
     elim (cases_Bool (nat_lt a.0 b.0)) [
       | inl x ↦ inl (ltb-true _ _ x)
       | inr x ↦
-          (let y : ((a.0 == b.0) && nat_le (rank a.1) (rank b.1)) ≡ true = sym (ap (λ (c : Bool). c || ((a.0 == b.0) && nat_le (rank a.1) (rank b.1))) x) ∙ h in
+          (let y : ((a.0 == b.0) && nat_le (rank a.1) (rank b.1)) ≡ true = sym
+          (ap (λ (c : Bool). c || ((a.0 == b.0) && nat_le (rank a.1) (rank b.1))) x) ∙ h in
           inr (eqb-true a.0 b.0 (and_parts _ _ y).0, leb-true _ _ (and_parts _ _ y).1))
     ]
 
@@ -81,7 +84,8 @@ earlier_false a b h =
     elim (cases_Bool (nat_lt a.0 b.0)) [
       | inl x ↦ absurd (both (sym (ap (λ (c : Bool). c || ((a.0 == b.0) && nat_le (rank a.1) (rank b.1))) x) ∙ h))
       | inr x ↦
-          (let y : ((a.0 == b.0) && nat_le (rank a.1) (rank b.1)) ≡ false = sym (ap (λ (c : Bool). c || ((a.0 == b.0) && nat_le (rank a.1) (rank b.1))) x) ∙ h in
+          (let y : ((a.0 == b.0) && nat_le (rank a.1) (rank b.1)) ≡ false = sym
+          (ap (λ (c : Bool). c || ((a.0 == b.0) && nat_le (rank a.1) (rank b.1))) x) ∙ h in
           elim (cases_Bool (a.0 == b.0)) [
             | inl e ↦ inr (eqb-true a.0 b.0 e, leb-false _ _ (sym (ap (λ (c : Bool). c && nat_le (rank a.1) (rank b.1)) e) ∙ y))
             | inr e ↦ inl (apart a.0 b.0 (ltb-false _ _ x) (eqb-false a.0 b.0 e))
@@ -92,7 +96,8 @@ earlier_false a b h =
     apart m n h k = elim (cases_Bool (nat_lt n m)) [ inl x ↦ ltb-true _ _ x | inr x ↦ absurd (k (omega (arith, h, ltb-false n m x))) ]
 
 module _ (K L : ScriptCause → Type 0) (seen : Seen) (part : Part) where
-  merge_by : (a b : Place) → FirstAt K seen part a → FirstAt L seen part b → (t : Bool) → is_earlier a b ≡ t → First (λ c. K c ⊎ L c) seen part (cond t (Some a) (Some b))
+  merge_by : (a b : Place) → FirstAt K seen part a → FirstAt L seen part b → (t : Bool) → is_earlier a b ≡ t
+      → First (λ c. K c ⊎ L c) seen part (cond t (Some a) (Some b))
   merge_by a b f g true e =
       let o = earlier_true a b e in
       record {
@@ -189,9 +194,11 @@ module _ (seen : Seen) (part : Part) (lines : List (List ℕ)) (has : HasLines s
   }
   lines_by (Some (i, LongLine)) h = record {
     mine = tt;
-    fails = λ p. (let e : i ≡ h.0 = omega (arith, h.1) in omega (arith, has.short_back i p, h.3.1, ap (λ (n : ℕ). length (line_at lines n)) e));
+    fails =
+        λ p. (let e : i ≡ h.0 = omega (arith, h.1) in omega (arith, has.short_back i p, h.3.1, ap (λ (n : ℕ). length (line_at lines n)) e));
     earlier = λ j c w k. clean_passes j c (h.2 j (omega (arith, h.1, w))) k;
-    before = λ c w k. only_bytes c w (has.printable i (ap (λ (n : ℕ). list_all is_printable (line_at lines n)) (omega (arith, h.1)) ∙ h.3.0));
+    before =
+        λ c w k. only_bytes c w (has.printable i (ap (λ (n : ℕ). list_all is_printable (line_at lines n)) (omega (arith, h.1)) ∙ h.3.0));
   }
     where
       only_bytes : (c : ScriptCause) → rank c < 1 → Passes BadByte seen part i → Passes c seen part i
@@ -237,7 +244,8 @@ OfText BadEdentype = Unit {0}
 OfText _ = ⊥
 
 module _ (seen : Seen) (text : List ℕ) where
-  placed : (i : ℕ) (c : ScriptCause) → (i ≡ 0 → seen.ended ≡ false) → (i ≡ 0 → seen.nodes ≡ 0) → OfPlace c → Passes c seen (declaration text) i
+  placed : (i : ℕ) (c : ScriptCause) → (i ≡ 0 → seen.ended ≡ false) → (i ≡ 0 → seen.nodes ≡ 0) → OfPlace c
+      → Passes c seen (declaration text) i
   placed i AfterEnd h g k = h
   placed i Misplaced h g k = g
   placed i BadByte h g k = absurd k
@@ -279,7 +287,8 @@ module _ (seen : Seen) (text : List ℕ) where
   before_nodes BadEdentype w k h = absurd k
   before_nodes NoEnd w k h = absurd k
 
-  place_by : (e z : Bool) → seen.ended ≡ e → (seen.nodes == 0) ≡ z → First OfPlace seen (declaration text) (cond e (Some (0, AfterEnd)) (cond z None (Some (0, Misplaced))))
+  place_by : (e z : Bool) → seen.ended ≡ e → (seen.nodes == 0) ≡ z
+      → First OfPlace seen (declaration text) (cond e (Some (0, AfterEnd)) (cond z None (Some (0, Misplaced))))
   place_by true z e f = record {
     mine = tt;
     fails = λ p. both (sym e ∙ p refl);
@@ -331,21 +340,27 @@ module _ (seen : Seen) (text : List ℕ) where
   no_found : (p : ℕ × List ℕ) → ◌≡◌ {A = Option (ℕ × List ℕ)} None (Some p) → ⊥
   no_found p e = cc
 
-  name_by : (o : Option (ℕ × List ℕ)) → declared_name text ≡ o → First OfName seen (declaration text) (name_flaw' (type_names seen.types) text o)
+  name_by : (o : Option (ℕ × List ℕ)) → declared_name text ≡ o
+      → First OfName seen (declaration text) (name_flaw' (type_names seen.types) text o)
   name_by None e = λ i c k. named i c (λ place name h line. absurd (no_found (place, name) (sym e ∙ h))) k
   name_by (Some found) e = known (is_among (type_names seen.types) found.1) refl
     where
-      known : (b : Bool) → is_among (type_names seen.types) found.1 ≡ b → First OfName seen (declaration text) (cond b (Some (line_of_place text found.0, DoubledName)) None)
+      known : (b : Bool) → is_among (type_names seen.types) found.1 ≡ b
+          → First OfName seen (declaration text) (cond b (Some (line_of_place text found.0, DoubledName)) None)
       known true f = record {
         mine = tt;
         fails = λ p. both (sym f ∙ p found.0 found.1 e refl);
-        earlier = λ j c w k. named j c (λ place name h line. absurd (later place name (same_found found (place, name) (sym e ∙ h)) j line w)) k;
+        earlier =
+            λ j c w k. named j c (λ place name h line. absurd (later place name (same_found found (place, name) (sym e ∙ h)) j line w)) k;
         before = λ c w k. absurd (before_name c w k);
       }
         where
-          later : (place : ℕ) (name : List ℕ) → found ≡ (place, name) → (j : ℕ) → line_of_place text place ≡ j → j < line_of_place text found.0 → ⊥
-          later place name same j line w = let e : found.0 ≡ place = ap (λ (p : ℕ × List ℕ). p.0) same in omega (arith, w, line, ap (line_of_place text) e)
-      known false f = λ i c k. named i c (λ place name h line. ap (λ (p : ℕ × List ℕ). is_among (type_names seen.types) p.1) (sym (same_found found (place, name) (sym e ∙ h))) ∙ f) k
+          later : (place : ℕ) (name : List ℕ) → found ≡ (place, name) → (j : ℕ) → line_of_place text place ≡ j
+              → j < line_of_place text found.0 → ⊥
+          later place name same j line w =
+              let e : found.0 ≡ place = ap (λ (p : ℕ × List ℕ). p.0) same in omega (arith, w, line, ap (line_of_place text) e)
+      known false f =
+          λ i c k. named i c (λ place name h line. ap (λ (p : ℕ × List ℕ). is_among (type_names seen.types) p.1) (sym (same_found found (place, name) (sym e ∙ h))) ∙ f) k
 
   pub name_first : First OfName seen (declaration text) (name_flaw seen.types text)
   name_first = name_by (declared_name text) refl
@@ -388,7 +403,8 @@ module _ (seen : Seen) (text : List ℕ) where
     before = λ c w k. absurd (before_text c w k);
   }
 
-  refused_first : OneAnswer → nat_lt (declared_count seen) DECLARED_LIMIT ≡ true → (place : ℕ) → RefusedAt seen.types text place → First OfText seen (declaration text) (Some (line_of_place text place, BadEdentype))
+  refused_first : OneAnswer → nat_lt (declared_count seen) DECLARED_LIMIT ≡ true → (place : ℕ) → RefusedAt seen.types text place
+      → First OfText seen (declaration text) (Some (line_of_place text place, BadEdentype))
   refused_first laws room place refused = record {
     mine = tt;
     fails = λ p. p.1 place refused refl;
@@ -399,8 +415,10 @@ module _ (seen : Seen) (text : List ℕ) where
     before = λ c w k. absurd (before_text c w k);
   }
 
-  declares_first : OneAnswer → nat_lt (declared_count seen) DECLARED_LIMIT ≡ true → (t : Edentype) → Declares seen.types text t → First OfText seen (declaration text) None
-  declares_first laws room t declared = λ i c k. text_passes i c ((λ _. ltb-true _ _ room), (λ q r line. never_both laws seen.types text t q declared r)) k
+  declares_first : OneAnswer → nat_lt (declared_count seen) DECLARED_LIMIT ≡ true → (t : Edentype) → Declares seen.types text t
+      → First OfText seen (declaration text) None
+  declares_first laws room t declared =
+      λ i c k. text_passes i c ((λ _. ltb-true _ _ room), (λ q r line. never_both laws seen.types text t q declared r)) k
 
   -- ## All together
 
@@ -409,7 +427,8 @@ module _ (seen : Seen) (text : List ℕ) where
 
   outer_first : First OfOuter seen (declaration text) (outer_flaw seen text)
   outer_first =
-      merge OfLines (λ c. OfPlace c ⊎ OfName c) seen (declaration text) _ _ (lines_first seen (declaration text) (lines_of text) (declaration_lines seen text))
+      merge OfLines (λ c. OfPlace c ⊎ OfName c) seen (declaration text) _ _
+      (lines_first seen (declaration text) (lines_of text) (declaration_lines seen text))
       (merge OfPlace OfName seen (declaration text) _ _ place_first name_first)
 
   cover : (i : ℕ) (c : ScriptCause) → (OfOuter c ⊎ OfText c → Passes c seen (declaration text) i) → Passes c seen (declaration text) i
@@ -441,32 +460,44 @@ module _ (seen : Seen) (text : List ℕ) where
       chosen true = refl
       chosen false = refl
 
-  bad_text : (n : ℕ) → First OfText seen (declaration text) (Some (n, BadEdentype)) → (p : Place) → p ≡ with_text (outer_flaw seen text) n → IsCause seen (declaration text) p.0 p.1
+  bad_text : (n : ℕ) → First OfText seen (declaration text) (Some (n, BadEdentype)) → (p : Place) → p ≡ with_text (outer_flaw seen text) n
+      → IsCause seen (declaration text) p.0 p.1
   bad_text n f p e =
-      cause_of p (subst (First (λ c. OfOuter c ⊎ OfText c) seen (declaration text)) (with_text_is (outer_flaw seen text) n ∙ ap (λ (q : Place). Some q) (sym e))
+      cause_of p
+      (subst (First (λ c. OfOuter c ⊎ OfText c) seen (declaration text))
+      (with_text_is (outer_flaw seen text) n ∙ ap (λ (q : Place). Some q) (sym e))
       (merge OfOuter OfText seen (declaration text) (outer_flaw seen text) (Some (n, BadEdentype)) outer_first f))
 
-  pub too_many : nat_lt (declared_count seen) DECLARED_LIMIT ≡ false → (o : Option Place) → o ≡ outer_flaw seen text → (p : Place) → p ≡ with_text o 0 → IsCause seen (declaration text) p.0 p.1
+  pub too_many : nat_lt (declared_count seen) DECLARED_LIMIT ≡ false → (o : Option Place) → o ≡ outer_flaw seen text → (p : Place)
+      → p ≡ with_text o 0 → IsCause seen (declaration text) p.0 p.1
   too_many full o same p e = bad_text 0 (full_first full) p (e ∙ ap (λ (q : Option Place). with_text q 0) same)
 
-  pub refused : OneAnswer → nat_lt (declared_count seen) DECLARED_LIMIT ≡ true → (place : ℕ) → RefusedAt seen.types text place → (o : Option Place) → o ≡ outer_flaw seen text → (n : ℕ) → n ≡ line_of_place text place → (p : Place) → p ≡ with_text o n → IsCause seen (declaration text) p.0 p.1
+  pub refused : OneAnswer → nat_lt (declared_count seen) DECLARED_LIMIT ≡ true → (place : ℕ) → RefusedAt seen.types text place
+      → (o : Option Place) → o ≡ outer_flaw seen text → (n : ℕ) → n ≡ line_of_place text place → (p : Place) → p ≡ with_text o n
+      → IsCause seen (declaration text) p.0 p.1
   refused laws room place r o same n line p e =
-      bad_text (line_of_place text place) (refused_first laws room place r) p (e ∙ ap (λ (q : Option Place). with_text q n) same ∙ ap (with_text (outer_flaw seen text)) line)
+      bad_text (line_of_place text place) (refused_first laws room place r) p
+      (e ∙ ap (λ (q : Option Place). with_text q n) same ∙ ap (with_text (outer_flaw seen text)) line)
 
-  declared_by : (o : Option Place) → First OfOuter seen (declaration text) o → First OfText seen (declaration text) None → First (λ c. OfOuter c ⊎ OfText c) seen (declaration text) (earlier o None)
+  declared_by : (o : Option Place) → First OfOuter seen (declaration text) o → First OfText seen (declaration text) None
+      → First (λ c. OfOuter c ⊎ OfText c) seen (declaration text) (earlier o None)
   declared_by o f g = merge OfOuter OfText seen (declaration text) o None f g
 
-  pub outside : OneAnswer → nat_lt (declared_count seen) DECLARED_LIMIT ≡ true → (t : Edentype) → Declares seen.types text t → (p : Place) → Some p ≡ outer_flaw seen text → IsCause seen (declaration text) p.0 p.1
-  outside laws room t d p e = cause_of p (declared_by (Some p) (subst (First OfOuter seen (declaration text)) (sym e) outer_first) (declares_first laws room t d))
+  pub outside : OneAnswer → nat_lt (declared_count seen) DECLARED_LIMIT ≡ true → (t : Edentype) → Declares seen.types text t → (p : Place)
+      → Some p ≡ outer_flaw seen text → IsCause seen (declaration text) p.0 p.1
+  outside laws room t d p e =
+      cause_of p (declared_by (Some p) (subst (First OfOuter seen (declaration text)) (sym e) outer_first) (declares_first laws room t d))
 
-  pub said : OneAnswer → nat_lt (declared_count seen) DECLARED_LIMIT ≡ true → (t : Edentype) → Declares seen.types text t → None ≡ outer_flaw seen text → IsSaid seen (declaration text) (declares t)
+  pub said : OneAnswer → nat_lt (declared_count seen) DECLARED_LIMIT ≡ true → (t : Edentype) → Declares seen.types text t
+      → None ≡ outer_flaw seen text → IsSaid seen (declaration text) (declares t)
   said laws room t d e =
       let f = declared_by None (subst (First OfOuter seen (declaration text)) (sym e) outer_first) (declares_first laws room t d) in
       record { passes = λ i c. cover i c (λ k. f i c k); tells = (t, refl, d) }
 
 -- ## An Edentype without its end
 
-cover_lines : (seen : Seen) (lines : List (List ℕ)) (i : ℕ) (c : ScriptCause) → (OfLines c → Passes c seen (unclosed lines) i) → Passes c seen (unclosed lines) i
+cover_lines : (seen : Seen) (lines : List (List ℕ)) (i : ℕ) (c : ScriptCause) → (OfLines c → Passes c seen (unclosed lines) i)
+    → Passes c seen (unclosed lines) i
 cover_lines seen lines i BadByte f = f tt
 cover_lines seen lines i LongLine f = f tt
 cover_lines seen lines i AfterEnd f = tt
@@ -482,7 +513,8 @@ cover_lines seen lines i NoEnd f = tt
 
 pub unclosed_cause : (seen : Seen) (lines : List (List ℕ)) (p : Place) → Some p ≡ line_flaw 0 lines → IsCause seen (unclosed lines) p.0 p.1
 unclosed_cause seen lines p e =
-    let f : FirstAt OfLines seen (unclosed lines) p = subst (First OfLines seen (unclosed lines)) (sym e) (lines_first seen (unclosed lines) lines (unclosed_lines seen lines)) in
+    let f : FirstAt OfLines seen (unclosed lines) p =
+    subst (First OfLines seen (unclosed lines)) (sym e) (lines_first seen (unclosed lines) lines (unclosed_lines seen lines)) in
     record {
       earlier = λ j c w. cover_lines seen lines j c (λ k. f.earlier j c w k);
       before = λ c w. cover_lines seen lines p.0 c (λ k. f.before c w k);

@@ -24,7 +24,8 @@ abbrev compare : Bytes → Bytes → Ordering
 compare x y = slice_cmp nat_cmp x.items y.items
 
 chosen : (o : Ordering) (k v : Bytes) (ks with_it : List Bytes) (rest : List (List ℕ)) → map bytes_of with_it ≡ rest
-    → map bytes_of (match_ordering o (v ∷ k ∷ ks) (k ∷ ks) (k ∷ with_it)) ≡ match_ordering o (v.items ∷ k.items ∷ map bytes_of ks) (k.items ∷ map bytes_of ks) (k.items ∷ rest)
+    → map bytes_of (match_ordering o (v ∷ k ∷ ks) (k ∷ ks) (k ∷ with_it)) ≡ match_ordering o (v.items ∷ k.items ∷ map bytes_of ks)
+    (k.items ∷ map bytes_of ks) (k.items ∷ rest)
 chosen Less k v ks with_it rest h = refl
 chosen Equal k v ks with_it rest h = refl
 chosen Greater k v ks with_it rest h = ap (λ (l : List (List ℕ)). k.items ∷ l) h
@@ -40,10 +41,13 @@ same_truth false false f g = refl
 
 either_way : (a b : List ℕ) → bytes_eq a b ≡ bytes_eq b a
 either_way a b =
-    same_truth (bytes_eq a b) (bytes_eq b a) (λ h. (bytes_eq-Decides b a).1 (sym ((bytes_eq-Decides a b).0 h))) (λ h. (bytes_eq-Decides a b).1 (sym ((bytes_eq-Decides b a).0 h)))
+    same_truth (bytes_eq a b) (bytes_eq b a) (λ h. (bytes_eq-Decides b a).1 (sym ((bytes_eq-Decides a b).0 h)))
+    (λ h. (bytes_eq-Decides a b).1 (sym ((bytes_eq-Decides b a).0 h)))
 
-pub found_name : (name : List ℕ) (ks : List Bytes) → list_any (is_at (λ (k : Bytes). slice_cmp nat_cmp name k.items)) ks ≡ is_among (map bytes_of ks) name
+pub found_name : (name : List ℕ) (ks : List Bytes)
+    → list_any (is_at (λ (k : Bytes). slice_cmp nat_cmp name k.items)) ks ≡ is_among (map bytes_of ks) name
 found_name name [] = refl
 found_name name (k ∷ ks) =
-    ap (λ (b : Bool). b || list_any (is_at (λ (k : Bytes). slice_cmp nat_cmp name k.items)) ks) (is_eq-slice_cmp name k.items ∙ either_way name k.items)
+    ap (λ (b : Bool). b || list_any (is_at (λ (k : Bytes). slice_cmp nat_cmp name k.items)) ks)
+    (is_eq-slice_cmp name k.items ∙ either_way name k.items)
     ∙ ap (λ (b : Bool). bytes_eq k.items name || b) (found_name name ks)

@@ -6,6 +6,7 @@ pub mod Lines
 pub mod Pieces
 pub mod Texts
 pub mod TypeNames
+pub mod NamePlaces
 pub mod KeptRules
 pub mod Rules
 pub mod Commands
@@ -25,3 +26,8 @@ pub mod DeclarationLaws
 pub mod FlawLaws
 pub mod Run
 pub mod PartLaws
+pub mod FitArguments
+pub mod FitCommands
+pub mod FitNames
+pub mod FitScripts
+pub mod FitCalls

@@ -2,9 +2,9 @@
 use Rattle.std.proofs.Common.{◌≡◌, ◌∙◌, ap, sym, refl, subst, ℕ, suc, ◌+◌, ◌≤◌, Bool, true, false, cond, List, ◌++◌, length, codes, Option, Some, None, Ok, Err, arith, length-append}
 use Rattle.std.specs.Str.{bytes_eq}
 use Rattle.std.proofs.lemmas.Slice.Eq.{bytes_eq-Decides}
-use Rattle.eden_script.specs.Tree.{Row, no_more, and_more, size, Order, create, hold, call, restrict, walk, turn, go, crash, restart, cut, join, fail, stop, finish}
+use Rattle.eden_script.specs.Tree.{Row, no_more, and_more, size, WrittenCommand, create, hold, call, restrict, walk, turn, go, crash, restart, cut, join, fail, stop, finish}
 use Rattle.eden_script.specs.Grammar.{◌⋅◌, Values, Behind}
-use Rattle.eden_script.specs.Reading.{Judged, behind, when, read_order}
+use Rattle.eden_script.specs.Reading.{Judged, behind, when, read_command}
 use Rattle.eden_script.specs.declared.cause.ScriptCause.TheVariants.{BadForm}
 use Rattle.eden_script.proofs.Pieces.{behind_takes}
 use Rattle.eden_script.proofs.Commands.{Spelled, Sound, Whole, turn_sound, turn_whole, create_sound, create_whole}
@@ -14,19 +14,24 @@ use Rattle.eden_script.proofs.Others.{go_sound, go_whole, restart_sound, restart
 -- ## Every command
 
 module _ (most : ℕ) (bytes : List ℕ) where
-  when_by : (w : List ℕ) (read : List ℕ → Judged Order) (else_ : Judged Order) → ((rest : List ℕ) → Sound most (w ++ rest) (read rest)) → Sound most bytes else_
+  when_by : (w : List ℕ) (read : List ℕ → Judged WrittenCommand) (else_ : Judged WrittenCommand)
+      → ((rest : List ℕ) → Sound most (w ++ rest) (read rest))
+      → Sound most bytes else_
       → (o : Option (List ℕ)) → behind w bytes ≡ o → Sound most bytes (when o read else_)
   when_by w read else_ one other None e = other
-  when_by w read else_ one other (Some rest) e = subst (λ (l : List ℕ). Sound most l (read rest)) (sym (behind_takes w bytes rest e)) (one rest)
+  when_by w read else_ one other (Some rest) e =
+      subst (λ (l : List ℕ). Sound most l (read rest)) (sym (behind_takes w bytes rest e)) (one rest)
 
-  when_sound : (w : List ℕ) (read : List ℕ → Judged Order) (else_ : Judged Order) → ((rest : List ℕ) → Sound most (w ++ rest) (read rest)) → Sound most bytes else_ → Sound most bytes (when (behind w bytes) read else_)
+  when_sound : (w : List ℕ) (read : List ℕ → Judged WrittenCommand) (else_ : Judged WrittenCommand)
+      → ((rest : List ℕ) → Sound most (w ++ rest) (read rest))
+      → Sound most bytes else_ → Sound most bytes (when (behind w bytes) read else_)
   when_sound w read else_ one other = when_by w read else_ one other (behind w bytes) refl
 
-  end_by : (b : Bool) → bytes_eq bytes (codes "end") ≡ b → Sound most bytes (cond {A = Judged Order} b (Ok finish) (Err BadForm))
+  end_by : (b : Bool) → bytes_eq bytes (codes "end") ≡ b → Sound most bytes (cond {A = Judged WrittenCommand} b (Ok finish) (Err BadForm))
   end_by true e = (((bytes_eq-Decides bytes (codes "end")).0 e, tt), tt)
   end_by false e = tt
 
-  pub order_sound : Sound most bytes (read_order most bytes)
+  pub order_sound : Sound most bytes (read_command most bytes)
   order_sound =
       when_sound (codes "create ") _ _ (create_sound most) (
       when_sound (codes "hold ") _ _ (hold_sound most) (
@@ -67,7 +72,8 @@ part_le P Q bytes h = let e : length bytes ≡ length h.0 + length h.1 = ap leng
 front_le : (P Q : List ℕ → Type 0) (bytes : List ℕ) (h : (P ⋅ Q) bytes) → length h.0 ≤ length bytes
 front_le P Q bytes h = let e : length bytes ≡ length h.0 + length h.1 = ap length h.4 ∙ length-append h.0 h.1 in omega (arith, e)
 
-pub order_whole : (most : ℕ) (o : Order) (bytes : List ℕ) → length bytes ≤ 4096 → Spelled bytes o → Whole most o (read_order most bytes)
+pub order_whole : (most : ℕ) (o : WrittenCommand) (bytes : List ℕ) → length bytes ≤ 4096 → Spelled bytes o
+    → Whole most o (read_command most bytes)
 order_whole most (create name n t) bytes short h = create_whole most name n t bytes h.0
 order_whole most (hold name n e s) bytes short h = hold_whole most name n e s bytes h.0
 order_whole most (call name r op args) bytes short h =

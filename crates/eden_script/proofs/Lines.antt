@@ -39,7 +39,8 @@ first_line b (c ∷ cs) =
 
 pub first_of : (bytes : List ℕ) → 0 < length bytes → lines_of bytes ≡ front bytes ∷ lines_of (drop (length (front bytes) + 1) bytes)
 first_of [] h = absurd (omega arith)
-first_of (b ∷ bytes) h = first_line b bytes ∙ ap (λ n. front (b ∷ bytes) ∷ lines_of (drop n (b ∷ bytes))) (sym (add-one (length (front (b ∷ bytes)))))
+first_of (b ∷ bytes) h =
+    first_line b bytes ∙ ap (λ n. front (b ∷ bytes) ∷ lines_of (drop n (b ∷ bytes))) (sym (add-one (length (front (b ∷ bytes)))))
 
 -- the rest of a text, whole
 pub rest_whole : (n : ℕ) (l : List ℕ) → take (length l - n) (drop n l) ≡ drop n l
@@ -49,13 +50,16 @@ pub front_taken : (bytes : List ℕ) → take (length (front bytes)) bytes ≡ f
 front_taken bytes = ap (λ n. take n bytes) (length-prefix_len is_no_feed bytes)
 
 -- the line of so many bytes, and what is behind its line feed
-pub line_taken : (bytes : List ℕ) (n : ℕ) → 0 < length bytes → n ≡ length (front bytes) → lines_of bytes ≡ take n bytes ∷ lines_of (take (length bytes - (n + 1)) (drop (n + 1) bytes))
+pub line_taken : (bytes : List ℕ) (n : ℕ) → 0 < length bytes → n ≡ length (front bytes)
+    → lines_of bytes ≡ take n bytes ∷ lines_of (take (length bytes - (n + 1)) (drop (n + 1) bytes))
 line_taken bytes n some e = rw (e, front_taken bytes, rest_whole (length (front bytes) + 1) bytes) (first_of bytes some)
 
 -- the last line, without a line feed
-pub line_last : (bytes : List ℕ) (n : ℕ) → 0 < length bytes → n ≡ length (front bytes) → length bytes ≤ n → lines_of bytes ≡ bytes ∷ lines_of (take (length bytes - n) (drop n bytes))
+pub line_last : (bytes : List ℕ) (n : ℕ) → 0 < length bytes → n ≡ length (front bytes) → length bytes ≤ n
+    → lines_of bytes ≡ bytes ∷ lines_of (take (length bytes - n) (drop n bytes))
 line_last bytes n some e past =
     let w : front bytes ≡ bytes = sym (front_taken bytes) ∙ take_all (length (front bytes)) bytes (omega (arith, e)) in
     let a : drop (length (front bytes) + 1) bytes ≡ [] = drop_of_length-le bytes (omega (arith, e)) in
     let b : drop n bytes ≡ [] = drop_of_length-le bytes past in
-    first_of bytes some ∙ ap (λ l. l ∷ lines_of (drop (length (front bytes) + 1) bytes)) w ∙ ap (λ l. bytes ∷ lines_of l) (a ∙ sym b ∙ sym (rest_whole n bytes))
+    first_of bytes some ∙ ap (λ l. l ∷ lines_of (drop (length (front bytes) + 1) bytes)) w
+    ∙ ap (λ l. bytes ∷ lines_of l) (a ∙ sym b ∙ sym (rest_whole n bytes))

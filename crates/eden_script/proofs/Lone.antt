@@ -3,7 +3,7 @@ use Rattle.std.proofs.Common.{◌≡◌, ◌∙◌, ap, sym, refl, subst, ℕ, �
 use Rattle.eden_value.specs.Datum.{Datum, Data, number, truth, text, cap, list, no_data, data_and}
 use Rattle.eden_value.specs.declared.value.Value.{Value as CodeValue}
 use Rattle.eden_value.specs.View.{datum}
-use Rattle.eden_script.specs.Tree.{Written, plain, named, several, Row, no_more, and_more, depth}
+use Rattle.eden_script.specs.Tree.{WrittenArg, plain, named, several, Row, no_more, and_more, depth}
 use Rattle.eden_script.specs.Grammar.{Value, Values, Behind}
 use Rattle.eden_script.specs.Causes.{WrittenFits, names_in, names_of}
 use Rattle.eden_script.specs.Alone.{as_written, row_written, Spells, Fits, IsReading}
@@ -18,7 +18,7 @@ use Rattle.eden_script.proofs.Calls.{only_value}
 
 -- a value in which no name is written is written in one way
 mutual
-  written_again : (g : Written) (x : List ℕ) → Value g x → names_in g ≡ [] → as_written (value_in g) ≡ g
+  written_again : (g : WrittenArg) (x : List ℕ) → Value g x → names_in g ≡ [] → as_written (value_in g) ≡ g
   written_again (plain (number n)) x h bare = refl
   written_again (plain (truth b)) x h bare = refl
   written_again (plain (text t)) x h bare = refl
@@ -30,13 +30,14 @@ mutual
   row_again : (gs : Row) (x : List ℕ) → Values gs x → names_of gs ≡ [] → row_written (data_in gs) ≡ gs
   row_again no_more x h bare = refl
   row_again (and_more g gs) x h bare =
-      ap (λ (w : Written). and_more w (row_written (data_in gs))) (written_again g h.0 h.2 (none_left (names_in g) (names_of gs) bare))
+      ap (λ (w : WrittenArg). and_more w (row_written (data_in gs))) (written_again g h.0 h.2 (none_left (names_in g) (names_of gs) bare))
       ∙ ap (λ (r : Row). and_more g r) (behind_again gs h.1 h.3 (none_right (names_in g) (names_of gs) bare))
 
   behind_again : (gs : Row) (x : List ℕ) → Behind gs x → names_of gs ≡ [] → row_written (data_in gs) ≡ gs
   behind_again no_more x h bare = refl
   behind_again (and_more g gs) x h bare =
-      ap (λ (w : Written). and_more w (row_written (data_in gs))) (written_again g h.3.0 h.3.2 (none_left (names_in g) (names_of gs) bare))
+      ap (λ (w : WrittenArg). and_more w (row_written (data_in gs)))
+      (written_again g h.3.0 h.3.2 (none_left (names_in g) (names_of gs) bare))
       ∙ ap (λ (r : Row). and_more g r) (behind_again gs h.3.1 h.3.3 (none_right (names_in g) (names_of gs) bare))
 
 mutual
@@ -49,7 +50,8 @@ mutual
 
   data_back : (ds : Data) → data_in (row_written ds) ≡ ds
   data_back no_data = refl
-  data_back (data_and d ds) = ap (λ (e : Datum). data_and e (data_in (row_written ds))) (value_back d) ∙ ap (λ (es : Data). data_and d es) (data_back ds)
+  data_back (data_and d ds) =
+      ap (λ (e : Datum). data_and e (data_in (row_written ds))) (value_back d) ∙ ap (λ (es : Data). data_and d es) (data_back ds)
 
 -- no name is written in a value
 mutual
@@ -65,7 +67,7 @@ mutual
   nameless_row (data_and d ds) = ap (λ (l : List (List ℕ)). l ++ names_of (row_written ds)) (nameless d) ∙ nameless_row ds
 
 -- what a reading of the whole says
-abbrev pub Says : List ℕ → Judged Written → Type 0
+abbrev pub Says : List ℕ → Judged WrittenArg → Type 0
 Says bytes (Ok g) = Spells bytes (value_in g) × Fits (value_in g)
 Says bytes (Err BadForm) = (d : Datum) → Spells bytes d → ⊥
 Says bytes (Err BadNumber) = ((d : Datum) × Spells bytes d) × ((d : Datum) → Spells bytes d → Fits d → ⊥)
@@ -79,10 +81,14 @@ pub record Found (bytes : List ℕ) (d : Datum) : Type 0 where
 
 found_again : (bytes : List ℕ) (d : Datum) → Spells bytes d → Found bytes d
 found_again bytes d s =
-    let a = value_again false (as_written d) 4 bytes [] s.spelled (λ _. nameless d) s.shallow (record { name = refl; digit = refl; point = refl }) in
+    let a =
+    value_again false (as_written d) 4 bytes [] s.spelled (λ _. nameless d) s.shallow (record { name = refl; digit = refl; point = refl })
+    in
     record {
       found = a.found;
-      read = ap (λ (l : List ℕ). read_alone l) (sym (append-nil bytes)) ∙ ap (λ (r : Judged (Maybe × List ℕ)). r >>= λ v. read_end v.1 >>= λ _. in_range v.0) a.read;
+      read =
+          ap (λ (l : List ℕ). read_alone l) (sym (append-nil bytes))
+          ∙ ap (λ (r : Judged (Maybe × List ℕ)). r >>= λ v. read_end v.1 >>= λ _. in_range v.0) a.read;
       fitting = a.fitting;
     }
 
@@ -95,7 +101,7 @@ unspelled : (bytes : List ℕ) → read_alone bytes ≡ Err BadForm → (d : Dat
 unspelled bytes e d s = let a = found_again bytes d s in no_form a.found (sym a.read ∙ e)
 
 -- where a number of the whole is bad, nothing that fits is spelled
-unfit_by : (o : Maybe) (g : Written) → Fitting o g → in_range o ≡ Err BadNumber → WrittenFits g → ⊥
+unfit_by : (o : Maybe) (g : WrittenArg) → Fitting o g → in_range o ≡ Err BadNumber → WrittenFits g → ⊥
 unfit_by None g f h fits = f fits
 unfit_by (Some v) g f h fits = cc
 
@@ -108,24 +114,29 @@ spelled_by bytes found r =
     let back : as_written (value_in r.written) ≡ r.written = written_again r.written r.front r.spelled (r.allowed refl) in
     let same : r.front ≡ bytes = sym (r.whole ∙ append-nil r.front) in
     record {
-      spelled = subst (λ (g : Written). Value g bytes) (sym back) (subst (λ (l : List ℕ). Value r.written l) same r.spelled);
-      shallow = subst (λ (g : Written). depth g ≤ 4) (sym back) r.shallow;
+      spelled = subst (λ (g : WrittenArg). Value g bytes) (sym back) (subst (λ (l : List ℕ). Value r.written l) same r.spelled);
+      shallow = subst (λ (g : WrittenArg). depth g ≤ 4) (sym back) r.shallow;
     }
 
-found_by : (bytes : List ℕ) (found : Maybe) (g : Written) → Fitting found g → as_written (value_in g) ≡ g → Spells bytes (value_in g) → read_alone bytes ≡ in_range found → Says bytes (in_range found)
+found_by : (bytes : List ℕ) (found : Maybe) (g : WrittenArg) → Fitting found g → as_written (value_in g) ≡ g → Spells bytes (value_in g)
+    → read_alone bytes ≡ in_range found → Says bytes (in_range found)
 found_by bytes (Some v) g f back s e =
-    (subst (λ (h : Written). Spells bytes (value_in h)) (sym f.0) s, subst (λ (h : Written). Fits (value_in h)) (sym f.0) (subst WrittenFits (sym back) f.1))
+    (subst (λ (h : WrittenArg). Spells bytes (value_in h)) (sym f.0) s, subst (λ (h : WrittenArg). Fits (value_in h)) (sym f.0) (subst WrittenFits (sym back) f.1))
 found_by bytes None g f back s e = ((value_in g, s), unfit bytes e)
 
-whole_by : (bytes : List ℕ) (m : Maybe) (rest : List ℕ) → read_value false 4 bytes ≡ Ok (m, rest) → read_alone bytes ≡ (read_end rest >>= λ u. in_range m) → Says bytes (read_end rest >>= λ u. in_range m)
+whole_by : (bytes : List ℕ) (m : Maybe) (rest : List ℕ) → read_value false 4 bytes ≡ Ok (m, rest)
+    → read_alone bytes ≡ (read_end rest >>= λ u. in_range m) → Says bytes (read_end rest >>= λ u. in_range m)
 whole_by bytes m (b ∷ rest) h e = unspelled bytes e
 whole_by bytes m [] h e =
     let r = value_sound false 4 bytes m [] h in
     found_by bytes m r.written r.fitting (written_again r.written r.front r.spelled (r.allowed refl)) (spelled_by bytes m r) e
 
-alone_by : (bytes : List ℕ) (v : Judged (Maybe × List ℕ)) → read_value false 4 bytes ≡ v → OnlyForm v → Says bytes (v >>= λ v. read_end v.1 >>= λ u. in_range v.0)
-alone_by bytes (Ok v) h only = whole_by bytes v.0 v.1 h (ap (λ (r : Judged (Maybe × List ℕ)). r >>= λ v. read_end v.1 >>= λ u. in_range v.0) h)
-alone_by bytes (Err BadForm) h only = unspelled bytes (ap (λ (r : Judged (Maybe × List ℕ)). r >>= λ v. read_end v.1 >>= λ u. in_range v.0) h)
+alone_by : (bytes : List ℕ) (v : Judged (Maybe × List ℕ)) → read_value false 4 bytes ≡ v → OnlyForm v
+    → Says bytes (v >>= λ v. read_end v.1 >>= λ u. in_range v.0)
+alone_by bytes (Ok v) h only =
+    whole_by bytes v.0 v.1 h (ap (λ (r : Judged (Maybe × List ℕ)). r >>= λ v. read_end v.1 >>= λ u. in_range v.0) h)
+alone_by bytes (Err BadForm) h only =
+    unspelled bytes (ap (λ (r : Judged (Maybe × List ℕ)). r >>= λ v. read_end v.1 >>= λ u. in_range v.0) h)
 alone_by bytes (Err BadByte) h only = absurd only
 alone_by bytes (Err LongLine) h only = absurd only
 alone_by bytes (Err AfterEnd) h only = absurd only
@@ -142,7 +153,7 @@ pub alone_says : (bytes : List ℕ) → Says bytes (read_alone bytes)
 alone_says bytes = alone_by bytes (read_value false 4 bytes) refl (only_value false 4 bytes)
 
 -- what was read of the bytes, in the code's values
-pub value_read : (bytes : List ℕ) (g : Written) (v : CodeValue) → read_alone bytes ≡ Ok g → datum v ≡ value_in g → IsReading bytes (Ok v)
+pub value_read : (bytes : List ℕ) (g : WrittenArg) (v : CodeValue) → read_alone bytes ≡ Ok g → datum v ≡ value_in g → IsReading bytes (Ok v)
 value_read bytes g v h same =
     let s = subst (Says bytes) h (alone_says bytes) in
     (subst (Spells bytes) (sym same) s.0, subst Fits (sym same) s.1)

@@ -2,13 +2,13 @@
 use Rattle.std.proofs.Common.{◌≡◌, ◌∙◌, ap, sym, refl, ℕ, zero, suc, List, [], ◌∷◌, map, Option, Some, None}
 use Rattle.eden_disk.specs.declared.disk.ImageMode.{ImageMode}
 use Rattle.eden_disk.specs.declared.disk.ImageMode.TheVariants as image
-use Rattle.journal.specs.Given as value
-use Rattle.journal.specs.Given.{Given, Givens}
+use Rattle.journal.specs.Argument as value
+use Rattle.journal.specs.Argument.{Argument, Arguments}
 use Rattle.journal.specs.declared.command.Ref.{Ref}
 use Rattle.journal.specs.declared.command.Command.{Command}
 use Rattle.journal.specs.declared.command.Command.TheVariants as command
-use Rattle.eden_script.specs.Tree.{Reference, How, keep, lose, garble, Written, plain, named, several, Row, no_more, and_more, row_of, Order, create, hold, call, restrict, walk, turn, go, crash, restart, cut, join, fail, stop, finish}
-use Rattle.eden_script.specs.Meaning.{result_of, reference_of, written_of, row_from, how_of, order_of}
+use Rattle.eden_script.specs.Tree.{WrittenRef, WrittenMode, keep, lose, garble, WrittenArg, plain, named, several, Row, no_more, and_more, row_of, WrittenCommand, create, hold, call, restrict, walk, turn, go, crash, restart, cut, join, fail, stop, finish}
+use Rattle.eden_script.specs.Meaning.{result_of, reference_of, written_arg, row_from, written_mode, written_command}
 
 abbrev result_back : Option ℕ → ℕ
 result_back None = 0
@@ -18,53 +18,54 @@ result_again : (k : ℕ) → result_back (result_of k) ≡ k
 result_again zero = refl
 result_again (suc k) = refl
 
-abbrev ref_back : Reference → Ref
+abbrev ref_back : WrittenRef → Ref
 ref_back r = record { name = r.name; result = result_back r.result }
 
 ref_again : (r : Ref) → ref_back (reference_of r) ≡ r
 ref_again r = ap (λ (k : ℕ). record { name = r.name; result = k }) (result_again r.result)
 
 abbrev mutual
-  given_back : Written → Given
+  given_back : WrittenArg → Argument
   given_back (plain d) = value.plain d
   given_back (named r) = value.named r.name (result_back r.result)
   given_back (several gs) = value.several (givens_back gs)
 
-  givens_back : Row → Givens
-  givens_back no_more = value.no_givens
-  givens_back (and_more g gs) = value.given_and (given_back g) (givens_back gs)
+  givens_back : Row → Arguments
+  givens_back no_more = value.no_arguments
+  givens_back (and_more g gs) = value.argument_and (given_back g) (givens_back gs)
 
 mutual
-  given_again : (g : Given) → given_back (written_of g) ≡ g
+  given_again : (g : Argument) → given_back (written_arg g) ≡ g
   given_again (value.plain d) = refl
   given_again (value.named name k) = ap (λ (k : ℕ). value.named name k) (result_again k)
   given_again (value.several gs) = ap value.several (givens_again gs)
 
-  givens_again : (gs : Givens) → givens_back (row_from gs) ≡ gs
-  givens_again value.no_givens = refl
-  givens_again (value.given_and g gs) =
-      ap (λ (h : Given). value.given_and h (givens_back (row_from gs))) (given_again g) ∙ ap (λ (hs : Givens). value.given_and g hs) (givens_again gs)
+  givens_again : (gs : Arguments) → givens_back (row_from gs) ≡ gs
+  givens_again value.no_arguments = refl
+  givens_again (value.argument_and g gs) =
+      ap (λ (h : Argument). value.argument_and h (givens_back (row_from gs))) (given_again g)
+      ∙ ap (λ (hs : Arguments). value.argument_and g hs) (givens_again gs)
 
-abbrev args_back : Row → List Given
+abbrev args_back : Row → List Argument
 args_back no_more = []
 args_back (and_more g gs) = given_back g ∷ args_back gs
 
-args_again : (gs : List Given) → args_back (row_of (map written_of gs)) ≡ gs
+args_again : (gs : List Argument) → args_back (row_of (map written_arg gs)) ≡ gs
 args_again [] = refl
 args_again (g ∷ gs) =
-    ap (λ (h : Given). h ∷ args_back (row_of (map written_of gs))) (given_again g) ∙ ap (λ (hs : List Given). g ∷ hs) (args_again gs)
+    ap (λ (h : Argument). h ∷ args_back (row_of (map written_arg gs))) (given_again g) ∙ ap (λ (hs : List Argument). g ∷ hs) (args_again gs)
 
-abbrev how_back : How → ImageMode
+abbrev how_back : WrittenMode → ImageMode
 how_back keep = image.Keep
 how_back lose = image.Lose
 how_back (garble b) = image.Garble b
 
-how_again : (how : ImageMode) → how_back (how_of how) ≡ how
+how_again : (how : ImageMode) → how_back (written_mode how) ≡ how
 how_again image.Keep = refl
 how_again image.Lose = refl
 how_again (image.Garble b) = refl
 
-abbrev command_back : Order → Command
+abbrev command_back : WrittenCommand → Command
 command_back (create name n t) = command.Create name n t
 command_back (hold name n e s) = command.Hold name (record { node = n; epoch = e; serial = s })
 command_back (call name r op args) = command.Call name (ref_back r) op (args_back args)
@@ -80,11 +81,12 @@ command_back (fail n k) = command.Fail n k
 command_back (stop n k how) = command.Stop n k (how_back how)
 command_back finish = command.End
 
-command_again : (c : Command) → command_back (order_of c) ≡ c
+command_again : (c : Command) → command_back (written_command c) ≡ c
 command_again (command.Create name n t) = refl
 command_again (command.Hold name uid) = refl
 command_again (command.Call name r op args) =
-    ap (λ (q : Ref). command.Call name q op (args_back (row_of (map written_of args)))) (ref_again r) ∙ ap (λ (l : List Given). command.Call name r op l) (args_again args)
+    ap (λ (q : Ref). command.Call name q op (args_back (row_of (map written_arg args)))) (ref_again r)
+    ∙ ap (λ (l : List Argument). command.Call name r op l) (args_again args)
 command_again (command.Restrict name r mask) = ap (λ (q : Ref). command.Restrict name q mask) (ref_again r)
 command_again (command.Walk name r path) = ap (λ (q : Ref). command.Walk name q path) (ref_again r)
 command_again (command.Turn i) = refl
@@ -97,10 +99,11 @@ command_again (command.Fail n k) = refl
 command_again (command.Stop n k how) = ap (λ (h : ImageMode). command.Stop n k h) (how_again how)
 command_again command.End = refl
 
-commands_again : (cs : List Command) → map command_back (map order_of cs) ≡ cs
+commands_again : (cs : List Command) → map command_back (map written_command cs) ≡ cs
 commands_again [] = refl
 commands_again (c ∷ cs) =
-    ap (λ (d : Command). d ∷ map command_back (map order_of cs)) (command_again c) ∙ ap (λ (ds : List Command). c ∷ ds) (commands_again cs)
+    ap (λ (d : Command). d ∷ map command_back (map written_command cs)) (command_again c)
+    ∙ ap (λ (ds : List Command). c ∷ ds) (commands_again cs)
 
-pub same_commands : (a b : List Command) → map order_of a ≡ map order_of b → a ≡ b
-same_commands a b h = sym (commands_again a) ∙ ap (λ (os : List Order). map command_back os) h ∙ commands_again b
+pub same_commands : (a b : List Command) → map written_command a ≡ map written_command b → a ≡ b
+same_commands a b h = sym (commands_again a) ∙ ap (λ (os : List WrittenCommand). map command_back os) h ∙ commands_again b

@@ -2,13 +2,13 @@
 use Rattle.std.proofs.Common.{◌≡◌, ◌≢◌, ◌∙◌, ap, sym, refl, subst, ℕ, ◌==◌, Bool, true, false, cond, List, [], ◌∷◌, ◌++◌, length, codes, Option, Some, None, Ok, Err, inl, inr, arith, append-nil, append_assoc}
 use Rattle.std.specs.Prelude.{nat_le}
 use Rattle.std.specs.Str.{bytes_eq}
-use Rattle.std.proofs.lemmas.Bool.{eqb-false, ne_eqb, cases_Bool, leb-true, leb-false, and_from}
+use Rattle.std.proofs.lemmas.Bool.{eqb-false, ne_eqb, cases_Bool, leb-true, leb-false}
 use Rattle.std.proofs.lemmas.Slice.Eq.{bytes_eq-Decides}
-use Rattle.eden_script.specs.Form.{starts_with, is_number, is_lower, is_digit, number_of, is_text, escaped}
-use Rattle.eden_script.specs.Tree.{Reference, How, keep, lose, garble, Order, hold, restrict, walk, go, crash, restart, cut, join, fail, stop, finish}
+use Rattle.eden_script.specs.Form.{starts_with, is_number, is_lower, is_digit, number_of, IsText, quoted}
+use Rattle.eden_script.specs.Tree.{WrittenRef, WrittenMode, keep, lose, garble, WrittenCommand, hold, restrict, walk, go, crash, restart, cut, join, fail, stop, finish}
 use Rattle.eden_script.specs.Grammar.{◌⋅◌, Is, Number, Quoted, Mode, CrashMode, Command}
 use Rattle.eden_script.specs.Causes.{Fits, Within, ResultFits, HowFits}
-use Rattle.eden_script.specs.Reading.{Judged, Reading, ◌>>=◌, form_of, read_word, read_lower_and_blank, read_digits, read_digits_and, read_last_digits, read_two_digits, read_end, read_text, short_text, text_body, read_quoted, read_ref, within, up_to, reference, in_range, garbled, read_mode, read_crash_mode, two_stations, read_stations, read_hold, read_restrict, read_walk, read_go, read_crash, read_restart, read_cut, read_join, read_fail, read_stop, read_order}
+use Rattle.eden_script.specs.Reading.{Judged, Reading, ◌>>=◌, form_of, read_word, read_lower_and_blank, read_digits, read_digits_and, read_last_digits, read_two_digits, read_end, read_text, short_text, text_body, read_quoted, read_ref, within, up_to, reference, in_range, garbled, read_mode, read_crash_mode, two_stations, read_stations, read_hold, read_restrict, read_walk, read_go, read_crash, read_restart, read_cut, read_join, read_fail, read_stop, read_command}
 use Rattle.eden_script.specs.declared.cause.ScriptCause.TheVariants.{BadForm}
 use Rattle.eden_script.proofs.Rules.{OnlyForm, only_bind, only_word, only_end, only_digits, only_digits_and, only_last_digits, form_then, number_then, range_then, only_lower_and_blank, lower_and_blank_takes, lower_and_blank_again, digits_and_takes, digits_and_again, last_takes, last_again, within_yes, within_no, within_cases}
 use Rattle.eden_script.proofs.Pieces.{bind_ok, same_ok, if_ok, digits_take, digits_again, end_takes, word_takes}
@@ -20,10 +20,13 @@ use Rattle.eden_script.proofs.Commands.{Spelled, Good, Some_one, Sound, Whole}
 
 -- ## Numbers
 
-pub number_step : {B : Type 0} (low high n : ℕ) (d : List ℕ) (f : ℕ → Judged B) → number_of d ≡ n → Within low high n → (within low high d >>= f) ≡ f n
-number_step low high n d f same w = ap (λ (r : Judged ℕ). r >>= f) (within_yes low high d (subst (Within low high) (sym same) w)) ∙ ap f same
+pub number_step : {B : Type 0} (low high n : ℕ) (d : List ℕ) (f : ℕ → Judged B) → number_of d ≡ n → Within low high n
+    → (within low high d >>= f) ≡ f n
+number_step low high n d f same w =
+    ap (λ (r : Judged ℕ). r >>= f) (within_yes low high d (subst (Within low high) (sym same) w)) ∙ ap f same
 
-pub number_fails : {B : Type 0} (low high : ℕ) (d : List ℕ) (f : ℕ → Judged B) → ((n : ℕ) → f n ≡ Err BadForm → ⊥) → (within low high d >>= f) ≡ Err BadForm → ⊥
+pub number_fails : {B : Type 0} (low high : ℕ) (d : List ℕ) (f : ℕ → Judged B) → ((n : ℕ) → f n ≡ Err BadForm → ⊥)
+    → (within low high d >>= f) ≡ Err BadForm → ⊥
 number_fails low high d f g h =
     elim (within_cases low high (number_of d)) [
       | inl w ↦ g _ (sym (ap (λ (r : Judged ℕ). r >>= f) (within_yes low high d w)) ∙ h)
@@ -35,7 +38,8 @@ number_is bytes d h = let t = last_takes bytes d h in (ap is_number t.0 ∙ t.1,
 
 -- ## Commands with one number
 
-pub single_sound : (most low high : ℕ) (w : List ℕ) (o : ℕ → Order) → ((n : ℕ) (y : List ℕ) → Number n y → Spelled (w ++ y) (o n)) → ((n : ℕ) → Within low high n → Fits most (o n))
+pub single_sound : (most low high : ℕ) (w : List ℕ) (o : ℕ → WrittenCommand) → ((n : ℕ) (y : List ℕ) → Number n y → Spelled (w ++ y) (o n))
+    → ((n : ℕ) → Within low high n → Fits most (o n))
     → (bytes : List ℕ) → Sound most (w ++ bytes) (read_last_digits bytes >>= λ d. within low high d >>= λ i. Ok (o i))
 single_sound most low high w o spell fit bytes =
     let line = w ++ bytes in
@@ -43,11 +47,14 @@ single_sound most low high w o spell fit bytes =
     let s : Spelled line (o (number_of d)) = spell (number_of d) bytes (number_is bytes d e) in
     number_then (Good most line) (Some_one line) low high d _ (o (number_of d), s) (λ w. (s, fit (number_of d) w)))
 
-pub single_whole : (most low high n : ℕ) (w : List ℕ) (o : ℕ → Order) (bytes : List ℕ) → (Is w ⋅ Number n) bytes → ((y : List ℕ) → read_order most (w ++ y) ≡ (read_last_digits y >>= λ d. within low high d >>= λ i. Ok (o i)))
-    → (Fits most (o n) → Within low high n) → Whole most (o n) (read_order most bytes)
+pub single_whole : (most low high n : ℕ) (w : List ℕ) (o : ℕ → WrittenCommand) (bytes : List ℕ) → (Is w ⋅ Number n) bytes
+    → ((y : List ℕ) → read_command most (w ++ y) ≡ (read_last_digits y >>= λ d. within low high d >>= λ i. Ok (o i)))
+    → (Fits most (o n) → Within low high n) → Whole most (o n) (read_command most bytes)
 single_whole most low high n w o bytes h dispatch fit =
     let line : bytes ≡ w ++ h.1 = h.4 ∙ ap (λ (l : List ℕ). l ++ h.1) h.2 in
-    let read : read_order most bytes ≡ (within low high h.1 >>= λ i. Ok (o i)) = ap (read_order most) line ∙ dispatch h.1 ∙ ap (λ (r : Judged (List ℕ)). r >>= λ d. within low high d >>= λ i. Ok (o i)) (last_again h.1 h.3.0) in
+    let read : read_command most bytes ≡ (within low high h.1 >>= λ i. Ok (o i)) =
+    ap (read_command most) line ∙ dispatch h.1
+    ∙ ap (λ (r : Judged (List ℕ)). r >>= λ d. within low high d >>= λ i. Ok (o i)) (last_again h.1 h.3.0) in
     record {
       fits = λ f. read ∙ number_step low high n h.1 (λ i. Ok (o i)) h.3.1 (fit f);
       form = λ e. number_fails low high h.1 (λ i. Ok (o i)) (λ n e. ok_not_form e) (sym read ∙ e);
@@ -56,21 +63,25 @@ single_whole most low high n w o bytes h dispatch fit =
 pub go_sound : (most : ℕ) (bytes : List ℕ) → Sound most (codes "go " ++ bytes) (read_go bytes)
 go_sound most bytes = single_sound most 1 1000000 (codes "go ") go (λ n y h. ((codes "go ", y, refl, h, refl), tt)) (λ n w. w) bytes
 
-pub go_whole : (most n : ℕ) (bytes : List ℕ) → Command (go n) bytes → Whole most (go n) (read_order most bytes)
+pub go_whole : (most n : ℕ) (bytes : List ℕ) → Command (go n) bytes → Whole most (go n) (read_command most bytes)
 go_whole most n bytes h = single_whole most 1 1000000 n (codes "go ") go bytes h (λ y. refl) (λ f. f)
 
 pub restart_sound : (most : ℕ) (bytes : List ℕ) → Sound most (codes "restart " ++ bytes) (read_restart most bytes)
-restart_sound most bytes = single_sound most 1 most (codes "restart ") restart (λ n y h. ((codes "restart ", y, refl, h, refl), tt)) (λ n w. w) bytes
+restart_sound most bytes =
+    single_sound most 1 most (codes "restart ") restart (λ n y h. ((codes "restart ", y, refl, h, refl), tt)) (λ n w. w) bytes
 
-pub restart_whole : (most n : ℕ) (bytes : List ℕ) → Command (restart n) bytes → Whole most (restart n) (read_order most bytes)
+pub restart_whole : (most n : ℕ) (bytes : List ℕ) → Command (restart n) bytes → Whole most (restart n) (read_command most bytes)
 restart_whole most n bytes h = single_whole most 1 most n (codes "restart ") restart bytes h (λ y. refl) (λ f. f)
 
 -- ## Commands with two numbers
 
 pub only_two : (bytes : List ℕ) → OnlyForm (read_two_digits bytes)
-only_two bytes = only_bind (read_digits_and (codes " ") bytes) _ (only_digits_and (codes " ") bytes) (λ a. only_bind (read_last_digits a.1) _ (only_last_digits a.1) (λ b. tt))
+only_two bytes =
+    only_bind (read_digits_and (codes " ") bytes) _ (only_digits_and (codes " ") bytes)
+    (λ a. only_bind (read_last_digits a.1) _ (only_last_digits a.1) (λ b. tt))
 
-pub two_take : (bytes a b : List ℕ) → read_two_digits bytes ≡ Ok (a, b) → (bytes ≡ a ++ 32 ∷ b) × (is_number a ≡ true) × (is_number b ≡ true)
+pub two_take : (bytes a b : List ℕ) → read_two_digits bytes ≡ Ok (a, b)
+    → (bytes ≡ a ++ 32 ∷ b) × (is_number a ≡ true) × (is_number b ≡ true)
 two_take bytes a b h =
     let x = bind_ok (read_digits_and (codes " ") bytes) (λ a. read_last_digits a.1 >>= λ b. Ok (a.0, b)) (a, b) h in
     let y = bind_ok (read_last_digits x.0.1) (λ b. Ok (x.0.0, b)) (a, b) x.2 in
@@ -93,21 +104,27 @@ fail_sound most bytes =
     let S = Some_one line in
     form_then G S (read_two_digits bytes) _ (only_two bytes) (λ w e.
     let t = two_take bytes w.0 w.1 e in
-    let o : Order = fail (number_of w.0) (number_of w.1) in
-    let s : Spelled line o = ((codes "fail ", bytes, refl, (w.0, 32 ∷ w.1, (t.1, refl), (codes " ", w.1, refl, (t.2, refl), refl), t.0), refl), tt) in
+    let o : WrittenCommand = fail (number_of w.0) (number_of w.1) in
+    let s : Spelled line o =
+    ((codes "fail ", bytes, refl, (w.0, 32 ∷ w.1, (t.1, refl), (codes " ", w.1, refl, (t.2, refl), refl), t.0), refl), tt) in
     number_then G S 1 most w.0 _ (o, s) (λ p. number_then G S 1 1000000 w.1 _ (o, s) (λ q. (s, (p, q)))))
 
 -- the two numbers of a spelling
-two_line : (a b : ℕ) (bytes : List ℕ) → (Number a ⋅ Is (codes " ") ⋅ Number b) bytes → (x : List ℕ) × (y : List ℕ) × (bytes ≡ x ++ 32 ∷ y) × Number a x × Number b y
+two_line : (a b : ℕ) (bytes : List ℕ) → (Number a ⋅ Is (codes " ") ⋅ Number b) bytes
+    → (x : List ℕ) × (y : List ℕ) × (bytes ≡ x ++ 32 ∷ y) × Number a x × Number b y
 two_line a b bytes h =
     (h.0, h.3.1, h.4 ∙ ap (λ (l : List ℕ). h.0 ++ l) (h.3.4 ∙ ap (λ (l : List ℕ). l ++ h.3.1) h.3.2), h.2, h.3.3)
 
-pub fail_whole : (most n k : ℕ) (bytes : List ℕ) → Command (fail n k) bytes → Whole most (fail n k) (read_order most bytes)
+pub fail_whole : (most n k : ℕ) (bytes : List ℕ) → Command (fail n k) bytes → Whole most (fail n k) (read_command most bytes)
 fail_whole most n k bytes h =
     let t = two_line n k h.1 h.3 in
-    let line : bytes ≡ codes "fail " ++ (t.0 ++ 32 ∷ t.1) = h.4 ∙ ap (λ (l : List ℕ). l ++ h.1) h.2 ∙ ap (λ (l : List ℕ). codes "fail " ++ l) t.2 in
-    let read : read_order most bytes ≡ (within 1 most t.0 >>= λ node. within 1 1000000 t.1 >>= λ k. Ok (fail node k)) =
-    ap (read_order most) line ∙ ap (λ (r : Judged (List ℕ × List ℕ)). r >>= λ words. within 1 most words.0 >>= λ node. within 1 1000000 words.1 >>= λ k. Ok (fail node k)) (two_again t.0 t.1 t.3.0 t.4.0) in
+    let line : bytes ≡ codes "fail " ++ (t.0 ++ 32 ∷ t.1) =
+    h.4 ∙ ap (λ (l : List ℕ). l ++ h.1) h.2 ∙ ap (λ (l : List ℕ). codes "fail " ++ l) t.2 in
+    let read : read_command most bytes ≡ (within 1 most t.0 >>= λ node. within 1 1000000 t.1 >>= λ k. Ok (fail node k)) =
+    ap (read_command most) line
+    ∙ ap
+    (λ (r : Judged (List ℕ × List ℕ)). r >>= λ words. within 1 most words.0 >>= λ node. within 1 1000000 words.1 >>= λ k. Ok (fail node k))
+    (two_again t.0 t.1 t.3.0 t.4.0) in
     record {
       fits = λ f. read ∙ number_step 1 most n t.0 _ t.3.1 f.0 ∙ number_step 1 1000000 k t.1 _ t.4.1 f.1;
       form = λ e. number_fails 1 most t.0 _ (λ n. number_fails 1 1000000 t.1 _ (λ k e. ok_not_form e)) (sym read ∙ e);
@@ -122,15 +139,17 @@ only_stations w = only_flip (number_of w.0 == number_of w.1) w
     only_flip true x = tt
     only_flip false x = tt
 
-stations_by : (b : Bool) (w v : List ℕ × List ℕ) → ◌≡◌ {A = Judged (List ℕ × List ℕ)} (cond b (Err BadForm) (Ok w)) (Ok v) → (b ≡ false) × (w ≡ v)
+stations_by : (b : Bool) (w v : List ℕ × List ℕ) → ◌≡◌ {A = Judged (List ℕ × List ℕ)} (cond b (Err BadForm) (Ok w)) (Ok v)
+    → (b ≡ false) × (w ≡ v)
 stations_by true w v h = absurd cc
 stations_by false w v h = (refl, same_ok w v h)
 
 abbrev both_ok : ℕ → ℕ → Judged (ℕ × ℕ)
 both_ok a b = Ok (a, b)
 
-module _ (most : ℕ) (w : List ℕ) (o : ℕ → ℕ → Order) where
-  pub link_sound : ((a b : ℕ) (y : List ℕ) → (Number a ⋅ Is (codes " ") ⋅ Number b) y → a ≢ b → Spelled (w ++ y) (o a b)) → ((a b : ℕ) → Within 0 most a → Within 0 most b → Fits most (o a b))
+module _ (most : ℕ) (w : List ℕ) (o : ℕ → ℕ → WrittenCommand) where
+  pub link_sound : ((a b : ℕ) (y : List ℕ) → (Number a ⋅ Is (codes " ") ⋅ Number b) y → a ≢ b → Spelled (w ++ y) (o a b))
+      → ((a b : ℕ) → Within 0 most a → Within 0 most b → Fits most (o a b))
       → (bytes : List ℕ) → Sound most (w ++ bytes) (read_stations most bytes >>= λ s. Ok (o s.0 s.1))
   link_sound spell fit bytes =
       let line = w ++ bytes in
@@ -142,62 +161,78 @@ module _ (most : ℕ) (w : List ℕ) (o : ℕ → ℕ → Order) where
       let d = stations_by (number_of v.0 == number_of v.1) v u f in
       let t = two_take bytes u.0 u.1 (e ∙ ap (λ (x : List ℕ × List ℕ). Ok x) d.1) in
       let apart : number_of u.0 ≢ number_of u.1 = subst (λ (x : List ℕ × List ℕ). number_of x.0 ≢ number_of x.1) d.1 (eqb-false _ _ d.0) in
-      let s : Spelled line (o (number_of u.0) (number_of u.1)) = spell (number_of u.0) (number_of u.1) bytes (u.0, 32 ∷ u.1, (t.1, refl), (codes " ", u.1, refl, (t.2, refl), refl), t.0) apart in
-      number_then G S 0 most u.0 _ (o (number_of u.0) (number_of u.1), s) (λ p. number_then G S 0 most u.1 _ (o (number_of u.0) (number_of u.1), s) (λ q. (s, fit _ _ p q))))))
+      let s : Spelled line (o (number_of u.0) (number_of u.1)) =
+      spell (number_of u.0) (number_of u.1) bytes (u.0, 32 ∷ u.1, (t.1, refl), (codes " ", u.1, refl, (t.2, refl), refl), t.0) apart in
+      number_then G S 0 most u.0 _ (o (number_of u.0) (number_of u.1), s)
+      (λ p. number_then G S 0 most u.1 _ (o (number_of u.0) (number_of u.1), s) (λ q. (s, fit _ _ p q))))))
     where
       last : (a b : Judged ℕ) → (a >>= λ a. b >>= λ b. Ok (o a b)) ≡ ((a >>= λ a. b >>= λ b. both_ok a b) >>= λ s. Ok (o s.0 s.1))
       last (Ok a) (Ok b) = refl
       last (Ok a) (Err e) = refl
       last (Err e) b = refl
 
-      middle : (r : Judged (List ℕ × List ℕ)) → (r >>= λ u. within 0 most u.0 >>= λ a. within 0 most u.1 >>= λ b. Ok (o a b)) ≡ ((r >>= λ u. within 0 most u.0 >>= λ a. within 0 most u.1 >>= λ b. both_ok a b) >>= λ s. Ok (o s.0 s.1))
+      middle : (r : Judged (List ℕ × List ℕ))
+          → (r >>= λ u. within 0 most u.0 >>= λ a. within 0 most u.1 >>= λ b. Ok (o a b)) ≡
+          ((r >>= λ u. within 0 most u.0 >>= λ a. within 0 most u.1 >>= λ b. both_ok a b) >>= λ s. Ok (o s.0 s.1))
       middle (Ok u) = last (within 0 most u.0) (within 0 most u.1)
       middle (Err e) = refl
 
-      again : (r : Judged (List ℕ × List ℕ)) → (r >>= λ v. two_stations v >>= λ u. within 0 most u.0 >>= λ a. within 0 most u.1 >>= λ b. Ok (o a b)) ≡ ((r >>= λ v. two_stations v >>= λ u. within 0 most u.0 >>= λ a. within 0 most u.1 >>= λ b. both_ok a b) >>= λ s. Ok (o s.0 s.1))
+      again : (r : Judged (List ℕ × List ℕ))
+          → (r >>= λ v. two_stations v >>= λ u. within 0 most u.0 >>= λ a. within 0 most u.1 >>= λ b. Ok (o a b)) ≡
+          ((r >>= λ v. two_stations v >>= λ u. within 0 most u.0 >>= λ a. within 0 most u.1 >>= λ b. both_ok a b) >>= λ s. Ok (o s.0 s.1))
       again (Ok v) = middle (two_stations v)
       again (Err e) = refl
 
-  pub link_whole : (a b : ℕ) (bytes : List ℕ) → (Is w ⋅ Number a ⋅ Is (codes " ") ⋅ Number b) bytes → a ≢ b → ((y : List ℕ) → read_order most (w ++ y) ≡ (read_stations most y >>= λ s. Ok (o s.0 s.1)))
-      → (Fits most (o a b) → Within 0 most a × Within 0 most b) → Whole most (o a b) (read_order most bytes)
+  pub link_whole : (a b : ℕ) (bytes : List ℕ) → (Is w ⋅ Number a ⋅ Is (codes " ") ⋅ Number b) bytes → a ≢ b
+      → ((y : List ℕ) → read_command most (w ++ y) ≡ (read_stations most y >>= λ s. Ok (o s.0 s.1)))
+      → (Fits most (o a b) → Within 0 most a × Within 0 most b) → Whole most (o a b) (read_command most bytes)
   link_whole a b bytes h apart dispatch fit =
       let t = two_line a b h.1 h.3 in
       let line : bytes ≡ w ++ (t.0 ++ 32 ∷ t.1) = h.4 ∙ ap (λ (l : List ℕ). l ++ h.1) h.2 ∙ ap (λ (l : List ℕ). w ++ l) t.2 in
       let d : (number_of t.0 == number_of t.1) ≡ false = ne_eqb _ _ (λ e. apart (sym t.3.1 ∙ e ∙ t.4.1)) in
       let pair : Judged (List ℕ × List ℕ) = Ok (t.0, t.1) in
       let stations : read_stations most (t.0 ++ 32 ∷ t.1) ≡ (within 0 most t.0 >>= λ a. within 0 most t.1 >>= λ b. both_ok a b) =
-      ap (λ (r : Judged (List ℕ × List ℕ)). r >>= λ v. two_stations v >>= λ u. within 0 most u.0 >>= λ a. within 0 most u.1 >>= λ b. both_ok a b) (two_again t.0 t.1 t.3.0 t.4.0)
+      ap
+      (λ (r : Judged
+      (List ℕ × List ℕ)). r >>= λ v. two_stations v >>= λ u. within 0 most u.0 >>= λ a. within 0 most u.1 >>= λ b. both_ok a b)
+      (two_again t.0 t.1 t.3.0 t.4.0)
       ∙ ap (λ (z : Bool). cond z (Err BadForm) pair >>= λ u. within 0 most u.0 >>= λ a. within 0 most u.1 >>= λ b. both_ok a b) d in
-      let read : read_order most bytes ≡ ((within 0 most t.0 >>= λ a. within 0 most t.1 >>= λ b. both_ok a b) >>= λ s. Ok (o s.0 s.1)) =
-      ap (read_order most) line ∙ dispatch (t.0 ++ 32 ∷ t.1) ∙ ap (λ (r : Judged (ℕ × ℕ)). r >>= λ s. Ok (o s.0 s.1)) stations in
+      let read : read_command most bytes ≡ ((within 0 most t.0 >>= λ a. within 0 most t.1 >>= λ b. both_ok a b) >>= λ s. Ok (o s.0 s.1)) =
+      ap (read_command most) line ∙ dispatch (t.0 ++ 32 ∷ t.1) ∙ ap (λ (r : Judged (ℕ × ℕ)). r >>= λ s. Ok (o s.0 s.1)) stations in
       record {
-        fits = λ f. read ∙ ap (λ (r : Judged (ℕ × ℕ)). r >>= λ s. Ok (o s.0 s.1)) (number_step 0 most a t.0 _ t.3.1 (fit f).0 ∙ number_step 0 most b t.1 _ t.4.1 (fit f).1);
-        form = λ e. two_fail (within 0 most t.0) (within 0 most t.1) (λ f. number_fails 0 most t.0 (λ n. both_ok n n) (λ n e. ok_not_form e) f) (λ f. number_fails 0 most t.1 (λ n. both_ok n n) (λ n e. ok_not_form e) f) (sym read ∙ e);
+        fits =
+            λ f. read
+            ∙ ap (λ (r : Judged (ℕ × ℕ)). r >>= λ s. Ok (o s.0 s.1))
+            (number_step 0 most a t.0 _ t.3.1 (fit f).0 ∙ number_step 0 most b t.1 _ t.4.1 (fit f).1);
+        form =
+            λ e. two_fail (within 0 most t.0) (within 0 most t.1) (λ f. number_fails 0 most t.0 (λ n. both_ok n n) (λ n e. ok_not_form e) f)
+            (λ f. number_fails 0 most t.1 (λ n. both_ok n n) (λ n e. ok_not_form e) f) (sym read ∙ e);
       }
     where
-      two_fail : (x y : Judged ℕ) → ((x >>= λ n. both_ok n n) ≡ Err BadForm → ⊥) → ((y >>= λ n. both_ok n n) ≡ Err BadForm → ⊥) → ((x >>= λ a. y >>= λ b. both_ok a b) >>= λ s. Ok (o s.0 s.1)) ≡ Err BadForm → ⊥
+      two_fail : (x y : Judged ℕ) → ((x >>= λ n. both_ok n n) ≡ Err BadForm → ⊥) → ((y >>= λ n. both_ok n n) ≡ Err BadForm → ⊥)
+          → ((x >>= λ a. y >>= λ b. both_ok a b) >>= λ s. Ok (o s.0 s.1)) ≡ Err BadForm → ⊥
       two_fail (Ok a) (Ok b) g h e = ok_not_form e
       two_fail (Ok a) (Err c) g h e = h (ap back e)
         where
-          back : Judged Order → Judged (ℕ × ℕ)
+          back : Judged WrittenCommand → Judged (ℕ × ℕ)
           back (Ok o) = both_ok 0 0
           back (Err c) = Err c
       two_fail (Err c) y g h e = g (ap back e)
         where
-          back : Judged Order → Judged (ℕ × ℕ)
+          back : Judged WrittenCommand → Judged (ℕ × ℕ)
           back (Ok o) = both_ok 0 0
           back (Err c) = Err c
 
 pub cut_sound : (most : ℕ) (bytes : List ℕ) → Sound most (codes "cut " ++ bytes) (read_cut most bytes)
 cut_sound most bytes = link_sound most (codes "cut ") cut (λ a b y h d. ((codes "cut ", y, refl, h, refl), d)) (λ a b p q. (p, q)) bytes
 
-pub cut_whole : (most a b : ℕ) (bytes : List ℕ) → Command (cut a b) bytes → a ≢ b → Whole most (cut a b) (read_order most bytes)
+pub cut_whole : (most a b : ℕ) (bytes : List ℕ) → Command (cut a b) bytes → a ≢ b → Whole most (cut a b) (read_command most bytes)
 cut_whole most a b bytes h d = link_whole most (codes "cut ") cut a b bytes h d (λ y. refl) (λ f. f)
 
 pub join_sound : (most : ℕ) (bytes : List ℕ) → Sound most (codes "join " ++ bytes) (read_join most bytes)
 join_sound most bytes = link_sound most (codes "join ") join (λ a b y h d. ((codes "join ", y, refl, h, refl), d)) (λ a b p q. (p, q)) bytes
 
-pub join_whole : (most a b : ℕ) (bytes : List ℕ) → Command (join a b) bytes → a ≢ b → Whole most (join a b) (read_order most bytes)
+pub join_whole : (most a b : ℕ) (bytes : List ℕ) → Command (join a b) bytes → a ≢ b → Whole most (join a b) (read_command most bytes)
 join_whole most a b bytes h d = link_whole most (codes "join ") join a b bytes h d (λ y. refl) (λ f. f)
 
 -- ## hold
@@ -214,21 +249,31 @@ hold_sound most bytes =
     let N = lower_and_blank_takes bytes n.0 n.1 e1 in
     let D = digits_and_takes (codes ".") n.1 d.0 d.1 e2 in
     let E = digits_and_takes (codes ".") d.1 p.0 p.1 e3 in
-    let o : Order = hold n.0 (number_of d.0) (number_of p.0) (number_of z) in
+    let o : WrittenCommand = hold n.0 (number_of d.0) (number_of p.0) (number_of z) in
     let s : Spelled line o =
-    ((codes "hold ", bytes, refl, (n.0, 32 ∷ n.1, (refl, N.1), (codes " ", n.1, refl, (d.0, 46 ∷ d.1, (D.1, refl), (codes ".", d.1, refl, (p.0, 46 ∷ p.1, (E.1, refl), (codes ".", p.1, refl, number_is p.1 z e4, refl), E.0), refl), D.0), refl), N.0), refl), tt) in
-    number_then G S 1 most d.0 _ (o, s) (λ w. number_then G S 1 4294967295 p.0 _ (o, s) (λ x. number_then G S 1 4294967295 z _ (o, s) (λ y. (s, (w, x, y)))))))))
+    ((codes "hold ", bytes, refl, (n.0, 32 ∷ n.1, (refl, N.1), (codes " ", n.1, refl, (d.0, 46 ∷ d.1, (D.1, refl), (codes ".", d.1, refl, (p.0, 46 ∷ p.1, (E.1, refl), (codes ".", p.1, refl, number_is p.1 z e4, refl), E.0), refl), D.0), refl), N.0), refl), tt)
+    in
+    number_then G S 1 most d.0 _ (o, s)
+    (λ w. number_then G S 1 4294967295 p.0 _ (o, s) (λ x. number_then G S 1 4294967295 z _ (o, s) (λ y. (s, (w, x, y)))))))))
 
 hold_read : (most : ℕ) (name d p z : List ℕ) → is_lower name ≡ true → is_number d ≡ true → is_number p ≡ true → is_number z ≡ true
-    → read_hold most (name ++ 32 ∷ (d ++ 46 ∷ (p ++ 46 ∷ z))) ≡ (within 1 most d >>= λ node. within 1 4294967295 p >>= λ epoch. within 1 4294967295 z >>= λ serial. Ok (hold name node epoch serial))
+    → read_hold most (name ++ 32 ∷ (d ++ 46 ∷ (p ++ 46 ∷ z))) ≡
+    (within 1 most d >>= λ node. within 1 4294967295 p >>= λ epoch. within 1 4294967295 z >>= λ serial. Ok (hold name node epoch serial))
 hold_read most name d p z a b c e =
-    let F = λ (n d p z : List ℕ). within 1 most d >>= λ node. within 1 4294967295 p >>= λ epoch. within 1 4294967295 z >>= λ serial. Ok (hold n node epoch serial) in
-    ap (λ (r : Reading (List ℕ)). r >>= λ n. read_digits_and (codes ".") n.1 >>= λ d. read_digits_and (codes ".") d.1 >>= λ p. read_last_digits p.1 >>= λ z. F n.0 d.0 p.0 z) (lower_and_blank_again name (d ++ 46 ∷ (p ++ 46 ∷ z)) a)
-    ∙ ap (λ (r : Reading (List ℕ)). r >>= λ d. read_digits_and (codes ".") d.1 >>= λ p. read_last_digits p.1 >>= λ z. F name d.0 p.0 z) (digits_and_again (codes ".") d (p ++ 46 ∷ z) b refl)
+    let F =
+    λ (n d p z : List ℕ). within 1 most d >>= λ node. within 1 4294967295 p >>= λ epoch. within 1 4294967295 z >>= λ serial. Ok
+    (hold n node epoch serial) in
+    ap
+    (λ (r : Reading (List ℕ)). r >>= λ n. read_digits_and (codes ".") n.1 >>= λ d. read_digits_and
+    (codes ".") d.1 >>= λ p. read_last_digits p.1 >>= λ z. F n.0 d.0 p.0 z)
+    (lower_and_blank_again name (d ++ 46 ∷ (p ++ 46 ∷ z)) a)
+    ∙ ap (λ (r : Reading (List ℕ)). r >>= λ d. read_digits_and (codes ".") d.1 >>= λ p. read_last_digits p.1 >>= λ z. F name d.0 p.0 z)
+    (digits_and_again (codes ".") d (p ++ 46 ∷ z) b refl)
     ∙ ap (λ (r : Reading (List ℕ)). r >>= λ p. read_last_digits p.1 >>= λ z. F name d p.0 z) (digits_and_again (codes ".") p z c refl)
     ∙ ap (λ (r : Judged (List ℕ)). r >>= λ z. F name d p z) (last_again z e)
 
-pub hold_whole : (most : ℕ) (name : List ℕ) (n e s : ℕ) (bytes : List ℕ) → Command (hold name n e s) bytes → Whole most (hold name n e s) (read_order most bytes)
+pub hold_whole : (most : ℕ) (name : List ℕ) (n e s : ℕ) (bytes : List ℕ) → Command (hold name n e s) bytes
+    → Whole most (hold name n e s) (read_command most bytes)
 hold_whole most name n e s bytes h =
     let a = h.3 in
     let b = a.3 in
@@ -243,10 +288,14 @@ hold_whole most name n e s bytes h =
     (c.4 ∙ ap (λ (l : List ℕ). c.0 ++ l)
     (d.4 ∙ ap (λ (l : List ℕ). l ++ d.1) d.2 ∙ ap (λ (l : List ℕ). 46 ∷ l)
     (p.4 ∙ ap (λ (l : List ℕ). p.0 ++ l) (q.4 ∙ ap (λ (l : List ℕ). l ++ q.1) q.2)))))) in
-    let read = ap (read_order most) line ∙ hold_read most name c.0 p.0 q.1 a.2.1 c.2.0 p.2.0 q.3.0 in
+    let read = ap (read_command most) line ∙ hold_read most name c.0 p.0 q.1 a.2.1 c.2.0 p.2.0 q.3.0 in
     record {
-      fits = λ f. read ∙ number_step 1 most n c.0 _ c.2.1 f.0 ∙ number_step 1 4294967295 e p.0 _ p.2.1 f.1 ∙ number_step 1 4294967295 s q.1 _ q.3.1 f.2;
-      form = λ x. number_fails 1 most c.0 _ (λ i. number_fails 1 4294967295 p.0 _ (λ j. number_fails 1 4294967295 q.1 _ (λ k e. ok_not_form e))) (sym read ∙ x);
+      fits =
+          λ f. read ∙ number_step 1 most n c.0 _ c.2.1 f.0 ∙ number_step 1 4294967295 e p.0 _ p.2.1 f.1
+          ∙ number_step 1 4294967295 s q.1 _ q.3.1 f.2;
+      form =
+          λ x. number_fails 1 most c.0 _ (λ i. number_fails 1 4294967295 p.0 _
+          (λ j. number_fails 1 4294967295 q.1 _ (λ k e. ok_not_form e))) (sym read ∙ x);
     }
 
 -- ## restrict
@@ -262,26 +311,39 @@ restrict_sound most bytes =
     form_then G S (read_last_digits p) _ (only_last_digits p) (λ d e4.
     let N = lower_and_blank_takes bytes n.0 n.1 e1 in
     let R = ref_sound n.1 r.0 r.1 e2 in
-    let o : Order = restrict n.0 (reference_of r.0) (number_of d) in
+    let o : WrittenCommand = restrict n.0 (reference_of r.0) (number_of d) in
     let s : Spelled line o =
-    ((codes "restrict ", bytes, refl, (n.0, 32 ∷ n.1, (refl, N.1), (codes " ", n.1, refl, (R.front, r.1, R.spelled, (codes " ", p, refl, number_is p d e4, word_takes (codes " ") r.1 p e3), R.whole), refl), N.0), refl), tt) in
+    ((codes "restrict ", bytes, refl, (n.0, 32 ∷ n.1, (refl, N.1), (codes " ", n.1, refl, (R.front, r.1, R.spelled, (codes " ", p, refl, number_is p d e4, word_takes (codes " ") r.1 p e3), R.whole), refl), N.0), refl), tt)
+    in
     reference_then G S r.0 _ (o, s) (λ f. number_then G S 0 65535 d _ (o, s) (λ w. (s, (f, w))))))))
 
-restrict_read : (name x d : List ℕ) (r : Reference) → is_lower name ≡ true → (a : RefAgain r (x ++ 32 ∷ d) (32 ∷ d)) → is_number d ≡ true
-    → read_restrict (name ++ 32 ∷ (x ++ 32 ∷ d)) ≡ (reference a.words >>= λ target. within 0 65535 d >>= λ mask. Ok (restrict name target mask))
+restrict_read : (name x d : List ℕ) (r : WrittenRef) → is_lower name ≡ true → (a : RefAgain r (x ++ 32 ∷ d) (32 ∷ d)) → is_number d ≡ true
+    → read_restrict (name ++ 32 ∷ (x ++ 32 ∷ d)) ≡
+    (reference a.words >>= λ target. within 0 65535 d >>= λ mask. Ok (restrict name target mask))
 restrict_read name x d r good a number =
-    let F = λ (n : List ℕ) (w : List ℕ × Option (List ℕ)) (d : List ℕ). reference w >>= λ target. within 0 65535 d >>= λ mask. Ok (restrict n target mask) in
-    ap (λ (q : Reading (List ℕ)). q >>= λ n. read_ref n.1 >>= λ r. read_word (codes " ") r.1 >>= λ rest. read_last_digits rest >>= λ d. F n.0 r.0 d) (lower_and_blank_again name (x ++ 32 ∷ d) good)
-    ∙ ap (λ (q : Reading (List ℕ × Option (List ℕ))). q >>= λ r. read_word (codes " ") r.1 >>= λ rest. read_last_digits rest >>= λ d. F name r.0 d) a.read
+    let F =
+    λ (n : List ℕ) (w : List ℕ × Option (List ℕ)) (d : List ℕ). reference w >>= λ target. within 0 65535 d >>= λ mask. Ok
+    (restrict n target mask) in
+    ap
+    (λ (q : Reading (List ℕ)). q >>= λ n. read_ref n.1 >>= λ r. read_word
+    (codes " ") r.1 >>= λ rest. read_last_digits rest >>= λ d. F n.0 r.0 d)
+    (lower_and_blank_again name (x ++ 32 ∷ d) good)
+    ∙ ap
+    (λ (q : Reading (List ℕ × Option (List ℕ))). q >>= λ r. read_word
+    (codes " ") r.1 >>= λ rest. read_last_digits rest >>= λ d. F name r.0 d)
+    a.read
     ∙ ap (λ (q : Judged (List ℕ)). q >>= λ d. F name a.words d) (last_again d number)
 
-reference_step : {B : Type 0} (r : Reference) (w : List ℕ × Option (List ℕ)) (f : Reference → Judged B) → reference_of w ≡ r → ResultFits r.result → (reference w >>= f) ≡ f r
-reference_step r w f same fits = ap (λ (q : Judged Reference). q >>= f) (reference_fits w (subst (λ r. ResultFits r.result) (sym same) fits)) ∙ ap f same
+reference_step : {B : Type 0} (r : WrittenRef) (w : List ℕ × Option (List ℕ)) (f : WrittenRef → Judged B) → reference_of w ≡ r
+    → ResultFits r.result → (reference w >>= f) ≡ f r
+reference_step r w f same fits =
+    ap (λ (q : Judged WrittenRef). q >>= f) (reference_fits w (subst (λ r. ResultFits r.result) (sym same) fits)) ∙ ap f same
 
 blank_stops : (rest : List ℕ) → Stops (32 ∷ rest)
 blank_stops rest = record { name = refl; digit = refl; point = refl }
 
-pub restrict_whole : (most : ℕ) (name : List ℕ) (r : Reference) (mask : ℕ) (bytes : List ℕ) → Command (restrict name r mask) bytes → Whole most (restrict name r mask) (read_order most bytes)
+pub restrict_whole : (most : ℕ) (name : List ℕ) (r : WrittenRef) (mask : ℕ) (bytes : List ℕ) → Command (restrict name r mask) bytes
+    → Whole most (restrict name r mask) (read_command most bytes)
 restrict_whole most name r mask bytes h =
     let a = h.3 in
     let b = a.3 in
@@ -293,7 +355,7 @@ restrict_whole most name r mask bytes h =
     (b.4 ∙ ap (λ (l : List ℕ). l ++ b.1) b.2 ∙ ap (λ (l : List ℕ). 32 ∷ l)
     (c.4 ∙ ap (λ (l : List ℕ). c.0 ++ l) (d.4 ∙ ap (λ (l : List ℕ). l ++ d.1) d.2)))) in
     let R = ref_again r c.0 (32 ∷ d.1) c.2 (blank_stops d.1) in
-    let read = ap (read_order most) line ∙ restrict_read name c.0 d.1 r a.2.1 R d.3.0 in
+    let read = ap (read_command most) line ∙ restrict_read name c.0 d.1 r a.2.1 R d.3.0 in
     record {
       fits = λ f. read ∙ reference_step r R.words _ R.same f.0 ∙ number_step 0 65535 mask d.1 _ d.3.1 f.1;
       form = λ e. reference_form R.words _ (λ t. number_fails 0 65535 d.1 _ (λ k e. ok_not_form e)) (sym read ∙ e);
@@ -312,10 +374,13 @@ quoted_takes bytes t rest h =
     let T = text_takes false a.0 b.0.0 b.0.1 (form_ok (text_body false a.0) b.0 b.1) in
     let same : b.0.0 ≡ t = ap (λ (p : List ℕ × List ℕ). p.0) s.1 in
     let last : b.0.1 ≡ rest = ap (λ (p : List ℕ × List ℕ). p.1) s.1 in
-    let good : is_text b.0.0 ≡ true = and_from _ _ T.1 s.0 in (
-      (34 ∷ escaped t) ++ 34 ∷ [],
-      (refl, ap is_text (sym same) ∙ good),
-      word_takes (codes "\"") bytes a.0 a.1 ∙ ap (λ (l : List ℕ). 34 ∷ l) (T.0 ∙ ap (λ (l : List ℕ). escaped b.0.0 ++ 34 ∷ l) last ∙ ap (λ (l : List ℕ). escaped l ++ 34 ∷ rest) same) ∙ sym (append_assoc (34 ∷ escaped t) (34 ∷ []) rest),
+    let good : IsText b.0.0 = record { printable = T.1; short = leb-true (length b.0.0) 1024 s.0 } in (
+      (34 ∷ quoted t) ++ 34 ∷ [],
+      (refl, subst IsText same good),
+      word_takes (codes "\"") bytes a.0 a.1
+          ∙ ap (λ (l : List ℕ). 34 ∷ l)
+          (T.0 ∙ ap (λ (l : List ℕ). quoted b.0.0 ++ 34 ∷ l) last ∙ ap (λ (l : List ℕ). quoted l ++ 34 ∷ rest) same)
+          ∙ sym (append_assoc (34 ∷ quoted t) (34 ∷ []) rest),
     )
 
 pub walk_sound : (most : ℕ) (bytes : List ℕ) → Sound most (codes "walk " ++ bytes) (read_walk bytes)
@@ -332,33 +397,40 @@ walk_sound most bytes =
     let R = ref_sound n.1 r.0 r.1 e2 in
     let T = quoted_takes p t.0 t.1 e4 in
     let whole : T.0 ≡ p = sym (T.2 ∙ ap (λ (l : List ℕ). T.0 ++ l) (end_takes t.1 u e5) ∙ append-nil T.0) in
-    let o : Order = walk n.0 (reference_of r.0) t.0 in
+    let o : WrittenCommand = walk n.0 (reference_of r.0) t.0 in
     let s : Spelled line o =
-    ((codes "walk ", bytes, refl, (n.0, 32 ∷ n.1, (refl, N.1), (codes " ", n.1, refl, (R.front, r.1, R.spelled, (codes " ", p, refl, subst (Quoted t.0) whole T.1, word_takes (codes " ") r.1 p e3), R.whole), refl), N.0), refl), tt) in
+    ((codes "walk ", bytes, refl, (n.0, 32 ∷ n.1, (refl, N.1), (codes " ", n.1, refl, (R.front, r.1, R.spelled, (codes " ", p, refl, subst (Quoted t.0) whole T.1, word_takes (codes " ") r.1 p e3), R.whole), refl), N.0), refl), tt)
+    in
     reference_then G S r.0 _ (o, s) (λ f. (s, f)))))))
 
-walk_read : (name x t : List ℕ) (r : Reference) → is_lower name ≡ true → (a : RefAgain r (x ++ 32 ∷ ((34 ∷ escaped t) ++ 34 ∷ [])) (32 ∷ ((34 ∷ escaped t) ++ 34 ∷ []))) → is_text t ≡ true
-    → read_walk (name ++ 32 ∷ (x ++ 32 ∷ ((34 ∷ escaped t) ++ 34 ∷ []))) ≡ (reference a.words >>= λ target. Ok (walk name target t))
+walk_read : (name x t : List ℕ) (r : WrittenRef) → is_lower name ≡ true
+    → (a : RefAgain r (x ++ 32 ∷ ((34 ∷ quoted t) ++ 34 ∷ [])) (32 ∷ ((34 ∷ quoted t) ++ 34 ∷ []))) → IsText t
+    → read_walk (name ++ 32 ∷ (x ++ 32 ∷ ((34 ∷ quoted t) ++ 34 ∷ []))) ≡ (reference a.words >>= λ target. Ok (walk name target t))
 walk_read name x t r good a text =
-    let F = λ (n : List ℕ) (w : List ℕ × Option (List ℕ)) (p : List ℕ × List ℕ). read_end p.1 >>= λ _. reference w >>= λ target. Ok (walk n target p.0) in
-    ap (λ (q : Reading (List ℕ)). q >>= λ n. read_ref n.1 >>= λ r. read_word (codes " ") r.1 >>= λ rest. read_quoted rest >>= F n.0 r.0) (lower_and_blank_again name (x ++ 32 ∷ ((34 ∷ escaped t) ++ 34 ∷ [])) good)
-    ∙ ap (λ (q : Reading (List ℕ × Option (List ℕ))). q >>= λ r. read_word (codes " ") r.1 >>= λ rest. read_quoted rest >>= F name r.0) a.read
+    let F =
+    λ (n : List ℕ) (w : List ℕ × Option (List ℕ)) (p : List ℕ × List ℕ). read_end p.1 >>= λ _. reference w >>= λ target. Ok
+    (walk n target p.0) in
+    ap (λ (q : Reading (List ℕ)). q >>= λ n. read_ref n.1 >>= λ r. read_word (codes " ") r.1 >>= λ rest. read_quoted rest >>= F n.0 r.0)
+    (lower_and_blank_again name (x ++ 32 ∷ ((34 ∷ quoted t) ++ 34 ∷ [])) good)
+    ∙ ap (λ (q : Reading (List ℕ × Option (List ℕ))). q >>= λ r. read_word (codes " ") r.1 >>= λ rest. read_quoted rest >>= F name r.0)
+    a.read
     ∙ ap (λ (q : Reading (List ℕ)). q >>= F name a.words) (quoted_again t [] text)
 
-pub walk_whole : (most : ℕ) (name : List ℕ) (r : Reference) (t bytes : List ℕ) → Command (walk name r t) bytes → Whole most (walk name r t) (read_order most bytes)
+pub walk_whole : (most : ℕ) (name : List ℕ) (r : WrittenRef) (t bytes : List ℕ) → Command (walk name r t) bytes
+    → Whole most (walk name r t) (read_command most bytes)
 walk_whole most name r t bytes h =
     let a = h.3 in
     let b = a.3 in
     let c = b.3 in
     let d = c.3 in
-    let q : List ℕ = (34 ∷ escaped t) ++ 34 ∷ [] in
+    let q : List ℕ = (34 ∷ quoted t) ++ 34 ∷ [] in
     let line : bytes ≡ codes "walk " ++ (name ++ 32 ∷ (c.0 ++ 32 ∷ q)) =
     h.4 ∙ ap (λ (l : List ℕ). l ++ h.1) h.2 ∙ ap (λ (l : List ℕ). codes "walk " ++ l)
     (a.4 ∙ ap (λ (l : List ℕ). l ++ a.1) a.2.0 ∙ ap (λ (l : List ℕ). name ++ l)
     (b.4 ∙ ap (λ (l : List ℕ). l ++ b.1) b.2 ∙ ap (λ (l : List ℕ). 32 ∷ l)
     (c.4 ∙ ap (λ (l : List ℕ). c.0 ++ l) (d.4 ∙ ap (λ (l : List ℕ). l ++ d.1) d.2 ∙ ap (λ (l : List ℕ). 32 ∷ l) d.3.0)))) in
     let R = ref_again r c.0 (32 ∷ q) c.2 (blank_stops q) in
-    let read = ap (read_order most) line ∙ walk_read name c.0 t r a.2.1 R d.3.1 in
+    let read = ap (read_command most) line ∙ walk_read name c.0 t r a.2.1 R d.3.1 in
     record {
       fits = λ f. read ∙ reference_step r R.words _ R.same f;
       form = λ e. reference_form R.words _ (λ t e. ok_not_form e) (sym read ∙ e);
@@ -366,41 +438,49 @@ walk_whole most name r t bytes h =
 
 -- ## Modes
 
-abbrev FitsHow : Option How → How → Type 0
+abbrev FitsHow : Option WrittenMode → WrittenMode → Type 0
 FitsHow None how = HowFits how → ⊥
 FitsHow (Some h) how = (h ≡ how) × HowFits how
 
 garble_fits : (d : List ℕ) → FitsHow (garbled (up_to 255 d)) (garble (number_of d))
 garble_fits d =
     elim (cases_Bool (nat_le (number_of d) 255)) as (λ _. FitsHow (garbled (up_to 255 d)) (garble (number_of d))) [
-      | inl h ↦ subst (λ (b : Bool). FitsHow (garbled (cond b (Some (number_of d)) None)) (garble (number_of d))) (sym h) (refl, (omega arith, leb-true _ _ h))
-      | inr h ↦ subst (λ (b : Bool). FitsHow (garbled (cond b (Some (number_of d)) None)) (garble (number_of d))) (sym h) (λ f. omega (arith, leb-false _ _ h, f.1))
+      | inl h ↦ subst (λ (b : Bool). FitsHow (garbled (cond b (Some (number_of d)) None)) (garble (number_of d))) (sym h)
+          (refl, (omega arith, leb-true _ _ h))
+      | inr h ↦ subst (λ (b : Bool). FitsHow (garbled (cond b (Some (number_of d)) None)) (garble (number_of d))) (sym h)
+          (λ f. omega (arith, leb-false _ _ h, f.1))
     ]
 
-abbrev ModeIs : (How → List ℕ → Type 0) → List ℕ → Option How → Type 0
-ModeIs M bytes m = (how : How) × M how bytes × FitsHow m how
+abbrev ModeIs : (WrittenMode → List ℕ → Type 0) → List ℕ → Option WrittenMode → Type 0
+ModeIs M bytes m = (how : WrittenMode) × M how bytes × FitsHow m how
 
-garble_read : (bytes : List ℕ) (m : Option How) → (read_word (codes " garble ") bytes >>= λ rest. read_last_digits rest >>= λ d. Ok (garbled (up_to 255 d))) ≡ Ok m → ModeIs Mode bytes m
+garble_read : (bytes : List ℕ) (m : Option WrittenMode)
+    → (read_word (codes " garble ") bytes >>= λ rest. read_last_digits rest >>= λ d. Ok (garbled (up_to 255 d))) ≡ Ok m
+    → ModeIs Mode bytes m
 garble_read bytes m h =
     let a = bind_ok (read_word (codes " garble ") bytes) (λ rest. read_last_digits rest >>= λ d. Ok (garbled (up_to 255 d))) m h in
     let b = bind_ok (read_last_digits a.0) (λ d. Ok (garbled (up_to 255 d))) m a.2 in
     (garble (number_of b.0), (codes " garble ", a.0, refl, number_is a.0 b.0 b.1, word_takes (codes " garble ") bytes a.0 a.1), subst (λ m. FitsHow m (garble (number_of b.0))) (same_ok _ m b.2) (garble_fits b.0))
 
-mode_by : (bytes : List ℕ) (m : Option How) (x y : Bool) → bytes_eq bytes (codes " keep") ≡ x → bytes_eq bytes (codes " lose") ≡ y
-    → cond x (Ok (Some keep)) (cond y (Ok (Some lose)) (read_word (codes " garble ") bytes >>= λ rest. read_last_digits rest >>= λ d. Ok (garbled (up_to 255 d)))) ≡ Ok m → ModeIs Mode bytes m
-mode_by bytes m true y e f h = (keep, (bytes_eq-Decides bytes (codes " keep")).0 e, subst (λ m. FitsHow m keep) (same_ok (Some keep) m h) (refl, tt))
-mode_by bytes m false true e f h = (lose, (bytes_eq-Decides bytes (codes " lose")).0 f, subst (λ m. FitsHow m lose) (same_ok (Some lose) m h) (refl, tt))
+mode_by : (bytes : List ℕ) (m : Option WrittenMode) (x y : Bool) → bytes_eq bytes (codes " keep") ≡ x → bytes_eq bytes (codes " lose") ≡ y
+    → cond x (Ok (Some keep))
+    (cond y (Ok (Some lose)) (read_word (codes " garble ") bytes >>= λ rest. read_last_digits rest >>= λ d. Ok (garbled (up_to 255 d)))) ≡
+    Ok m → ModeIs Mode bytes m
+mode_by bytes m true y e f h =
+    (keep, (bytes_eq-Decides bytes (codes " keep")).0 e, subst (λ m. FitsHow m keep) (same_ok (Some keep) m h) (refl, tt))
+mode_by bytes m false true e f h =
+    (lose, (bytes_eq-Decides bytes (codes " lose")).0 f, subst (λ m. FitsHow m lose) (same_ok (Some lose) m h) (refl, tt))
 mode_by bytes m false false e f h = garble_read bytes m h
 
-mode_takes : (bytes : List ℕ) (m : Option How) → read_mode bytes ≡ Ok m → ModeIs Mode bytes m
+mode_takes : (bytes : List ℕ) (m : Option WrittenMode) → read_mode bytes ≡ Ok m → ModeIs Mode bytes m
 mode_takes bytes m h = mode_by bytes m (bytes_eq bytes (codes " keep")) (bytes_eq bytes (codes " lose")) refl refl h
 
-crash_of : (how : How) (bytes : List ℕ) → Mode how bytes → CrashMode how bytes
+crash_of : (how : WrittenMode) (bytes : List ℕ) → Mode how bytes → CrashMode how bytes
 crash_of keep bytes h = h
 crash_of lose bytes h = inl h
 crash_of (garble b) bytes h = h
 
-crash_mode_takes : (bytes : List ℕ) (m : Option How) → read_crash_mode bytes ≡ Ok m → ModeIs CrashMode bytes m
+crash_mode_takes : (bytes : List ℕ) (m : Option WrittenMode) → read_crash_mode bytes ≡ Ok m → ModeIs CrashMode bytes m
 crash_mode_takes [] m h = (lose, inr refl, subst (λ m. FitsHow m lose) (same_ok (Some lose) m h) (refl, tt))
 crash_mode_takes (b ∷ bytes) m h = let t = mode_takes (b ∷ bytes) m h in (t.0, crash_of t.0 (b ∷ bytes) t.1, t.2)
 
@@ -411,17 +491,18 @@ only_bool false x y h g = g
 only_mode : (bytes : List ℕ) → OnlyForm (read_mode bytes)
 only_mode bytes =
     only_bool (bytes_eq bytes (codes " keep")) _ _ tt (only_bool (bytes_eq bytes (codes " lose")) _ _ tt
-    (only_bind (read_word (codes " garble ") bytes) _ (only_word (codes " garble ") bytes) (λ r. only_bind (read_last_digits r) _ (only_last_digits r) (λ d. tt))))
+    (only_bind (read_word (codes " garble ") bytes) _ (only_word (codes " garble ") bytes)
+    (λ r. only_bind (read_last_digits r) _ (only_last_digits r) (λ d. tt))))
 
 only_crash_mode : (bytes : List ℕ) → OnlyForm (read_crash_mode bytes)
 only_crash_mode [] = tt
 only_crash_mode (b ∷ bytes) = only_mode (b ∷ bytes)
 
 -- a mode that is spelled is read
-abbrev ModeAgain : (List ℕ → Judged (Option How)) → How → List ℕ → Type 0
-ModeAgain read how bytes = (m : Option How) × (read bytes ≡ Ok m) × FitsHow m how
+abbrev ModeAgain : (List ℕ → Judged (Option WrittenMode)) → WrittenMode → List ℕ → Type 0
+ModeAgain read how bytes = (m : Option WrittenMode) × (read bytes ≡ Ok m) × FitsHow m how
 
-mode_again : (how : How) (bytes : List ℕ) → Mode how bytes → ModeAgain read_mode how bytes
+mode_again : (how : WrittenMode) (bytes : List ℕ) → Mode how bytes → ModeAgain read_mode how bytes
 mode_again keep bytes h = (Some keep, ap read_mode h, (refl, tt))
 mode_again lose bytes h = (Some lose, ap read_mode h, (refl, tt))
 mode_again (garble b) bytes h =
@@ -429,18 +510,18 @@ mode_again (garble b) bytes h =
     (garbled (up_to 255 h.1), ap read_mode line ∙ ap (λ (r : Judged (List ℕ)). r >>= λ d. Ok (garbled (up_to 255 d))) (last_again h.1 h.3.0), subst (λ n. FitsHow (garbled (up_to 255 h.1)) (garble n)) h.3.1 (garble_fits h.1))
 
 -- a mode begins with a blank
-mode_stops : (how : How) (bytes : List ℕ) → Mode how bytes → starts_with is_digit bytes ≡ false
+mode_stops : (how : WrittenMode) (bytes : List ℕ) → Mode how bytes → starts_with is_digit bytes ≡ false
 mode_stops keep bytes h = ap (starts_with is_digit) h
 mode_stops lose bytes h = ap (starts_with is_digit) h
 mode_stops (garble b) bytes h = ap (starts_with is_digit) (h.4 ∙ ap (λ (l : List ℕ). l ++ h.1) h.2)
 
-crash_mode_stops : (how : How) (bytes : List ℕ) → CrashMode how bytes → starts_with is_digit bytes ≡ false
+crash_mode_stops : (how : WrittenMode) (bytes : List ℕ) → CrashMode how bytes → starts_with is_digit bytes ≡ false
 crash_mode_stops keep bytes h = mode_stops keep bytes h
 crash_mode_stops lose bytes (inl h) = mode_stops lose bytes h
 crash_mode_stops lose bytes (inr h) = ap (starts_with is_digit) h
 crash_mode_stops (garble b) bytes h = mode_stops (garble b) bytes h
 
-crash_mode_again : (how : How) (bytes : List ℕ) → CrashMode how bytes → ModeAgain read_crash_mode how bytes
+crash_mode_again : (how : WrittenMode) (bytes : List ℕ) → CrashMode how bytes → ModeAgain read_crash_mode how bytes
 crash_mode_again keep bytes h = (Some keep, ap read_crash_mode h, (refl, tt))
 crash_mode_again lose bytes (inl h) = (Some lose, ap read_crash_mode h, (refl, tt))
 crash_mode_again lose bytes (inr h) = (Some lose, ap read_crash_mode h, (refl, tt))
@@ -449,11 +530,13 @@ crash_mode_again (garble b) bytes h =
     let m = mode_again (garble b) (codes " garble " ++ h.1) (codes " garble ", h.1, refl, h.3, refl) in
     (m.0, ap read_crash_mode line ∙ m.1, m.2)
 
-mode_step : (m : Option How) (how : How) (f : How → Judged Order) → FitsHow m how → HowFits how → (in_range m >>= f) ≡ f how
+mode_step : (m : Option WrittenMode) (how : WrittenMode) (f : WrittenMode → Judged WrittenCommand) → FitsHow m how → HowFits how
+    → (in_range m >>= f) ≡ f how
 mode_step None how f h fits = absurd (h fits)
 mode_step (Some x) how f h fits = ap f h.0
 
-mode_form : (m : Option How) (f : How → Judged Order) → ((how : How) → f how ≡ Err BadForm → ⊥) → (in_range m >>= f) ≡ Err BadForm → ⊥
+mode_form : (m : Option WrittenMode) (f : WrittenMode → Judged WrittenCommand) → ((how : WrittenMode) → f how ≡ Err BadForm → ⊥)
+    → (in_range m >>= f) ≡ Err BadForm → ⊥
 mode_form None f g h = number_not_form h
 mode_form (Some x) f g h = g x h
 
@@ -468,21 +551,27 @@ crash_sound most bytes =
     form_then G S (read_crash_mode d.1) _ (only_crash_mode d.1) (λ m e2.
     let D = digits_take bytes d.0 d.1 e1 in
     let M = crash_mode_takes d.1 m e2 in
-    let o : Order = crash (number_of d.0) M.0 in
+    let o : WrittenCommand = crash (number_of d.0) M.0 in
     let s : Spelled line o = ((codes "crash ", bytes, refl, (d.0, d.1, (D.1, refl), M.1, D.0), refl), tt) in
     number_then G S 1 most d.0 _ (o, s) (λ w. range_then G S m _ (o, s) (λ how e3.
     let F : FitsHow (Some how) M.0 = subst (λ m. FitsHow m M.0) e3 M.2 in
-    subst (λ (h : How). G (crash (number_of d.0) h)) (sym F.0) (s, (w, F.1))))))
+    subst (λ (h : WrittenMode). G (crash (number_of d.0) h)) (sym F.0) (s, (w, F.1))))))
 
-pub crash_whole : (most n : ℕ) (how : How) (bytes : List ℕ) → Command (crash n how) bytes → Whole most (crash n how) (read_order most bytes)
+pub crash_whole : (most n : ℕ) (how : WrittenMode) (bytes : List ℕ) → Command (crash n how) bytes
+    → Whole most (crash n how) (read_command most bytes)
 crash_whole most n how bytes h =
     let a = h.3 in
-    let line : bytes ≡ codes "crash " ++ (a.0 ++ a.1) = h.4 ∙ ap (λ (l : List ℕ). l ++ h.1) h.2 ∙ ap (λ (l : List ℕ). codes "crash " ++ l) a.4 in
+    let line : bytes ≡ codes "crash " ++ (a.0 ++ a.1) =
+    h.4 ∙ ap (λ (l : List ℕ). l ++ h.1) h.2 ∙ ap (λ (l : List ℕ). codes "crash " ++ l) a.4 in
     let M = crash_mode_again how a.1 a.3 in
-    let read : read_order most bytes ≡ (within 1 most a.0 >>= λ node. in_range M.0 >>= λ how. Ok (crash node how)) =
-    ap (read_order most) line
-    ∙ ap (λ (r : Reading (List ℕ)). r >>= λ d. read_crash_mode d.1 >>= λ how. within 1 most d.0 >>= λ node. in_range how >>= λ how. Ok (crash node how)) (digits_again a.0 a.1 a.2.0 (crash_mode_stops how a.1 a.3))
-    ∙ ap (λ (r : Judged (Option How)). r >>= λ how. within 1 most a.0 >>= λ node. in_range how >>= λ how. Ok (crash node how)) M.1 in
+    let read : read_command most bytes ≡ (within 1 most a.0 >>= λ node. in_range M.0 >>= λ how. Ok (crash node how)) =
+    ap (read_command most) line
+    ∙ ap
+    (λ (r : Reading (List ℕ)). r >>= λ d. read_crash_mode d.1 >>= λ how. within 1 most d.0 >>= λ node. in_range how >>= λ how. Ok
+    (crash node how))
+    (digits_again a.0 a.1 a.2.0 (crash_mode_stops how a.1 a.3))
+    ∙ ap (λ (r : Judged (Option WrittenMode)). r >>= λ how. within 1 most a.0 >>= λ node. in_range how >>= λ how. Ok (crash node how)) M.1
+    in
     record {
       fits = λ f. read ∙ number_step 1 most n a.0 _ a.2.1 f.0 ∙ mode_step M.0 how (λ how. Ok (crash n how)) M.2 f.1;
       form = λ e. number_fails 1 most a.0 _ (λ n. mode_form M.0 (λ how. Ok (crash n how)) (λ h e. ok_not_form e)) (sym read ∙ e);
@@ -499,30 +588,43 @@ stop_sound most bytes =
     let D = digits_and_takes (codes " ") bytes d.0 d.1 e1 in
     let K = digits_take d.1 k.0 k.1 e2 in
     let M = mode_takes k.1 m e3 in
-    let o : Order = stop (number_of d.0) (number_of k.0) M.0 in
-    let s : Spelled line o = ((codes "stop ", bytes, refl, (d.0, 32 ∷ d.1, (D.1, refl), (codes " ", d.1, refl, (k.0, k.1, (K.1, refl), M.1, K.0), refl), D.0), refl), tt) in
+    let o : WrittenCommand = stop (number_of d.0) (number_of k.0) M.0 in
+    let s : Spelled line o =
+    ((codes "stop ", bytes, refl, (d.0, 32 ∷ d.1, (D.1, refl), (codes " ", d.1, refl, (k.0, k.1, (K.1, refl), M.1, K.0), refl), D.0), refl), tt)
+    in
     number_then G S 1 most d.0 _ (o, s) (λ w. number_then G S 1 1000000 k.0 _ (o, s) (λ x. range_then G S m _ (o, s) (λ how e4.
     let F : FitsHow (Some how) M.0 = subst (λ m. FitsHow m M.0) e4 M.2 in
-    subst (λ (h : How). G (stop (number_of d.0) (number_of k.0) h)) (sym F.0) (s, (w, x, F.1))))))))
+    subst (λ (h : WrittenMode). G (stop (number_of d.0) (number_of k.0) h)) (sym F.0) (s, (w, x, F.1))))))))
 
-pub stop_whole : (most n k : ℕ) (how : How) (bytes : List ℕ) → Command (stop n k how) bytes → Whole most (stop n k how) (read_order most bytes)
+pub stop_whole : (most n k : ℕ) (how : WrittenMode) (bytes : List ℕ) → Command (stop n k how) bytes
+    → Whole most (stop n k how) (read_command most bytes)
 stop_whole most n k how bytes h =
     let a = h.3 in
     let b = a.3 in
     let c = b.3 in
     let line : bytes ≡ codes "stop " ++ (a.0 ++ 32 ∷ (c.0 ++ c.1)) =
-    h.4 ∙ ap (λ (l : List ℕ). l ++ h.1) h.2 ∙ ap (λ (l : List ℕ). codes "stop " ++ l) (a.4 ∙ ap (λ (l : List ℕ). a.0 ++ l) (b.4 ∙ ap (λ (l : List ℕ). l ++ b.1) b.2 ∙ ap (λ (l : List ℕ). 32 ∷ l) c.4)) in
+    h.4 ∙ ap (λ (l : List ℕ). l ++ h.1) h.2
+    ∙ ap (λ (l : List ℕ). codes "stop " ++ l)
+    (a.4 ∙ ap (λ (l : List ℕ). a.0 ++ l) (b.4 ∙ ap (λ (l : List ℕ). l ++ b.1) b.2 ∙ ap (λ (l : List ℕ). 32 ∷ l) c.4)) in
     let M = mode_again how c.1 c.3 in
-    let F = λ (d k : List ℕ) (how : Option How). within 1 most d >>= λ node. within 1 1000000 k >>= λ after. in_range how >>= λ how. Ok (stop node after how) in
-    let read : read_order most bytes ≡ (within 1 most a.0 >>= λ node. within 1 1000000 c.0 >>= λ after. in_range M.0 >>= λ how. Ok (stop node after how)) =
-    ap (read_order most) line
-    ∙ ap (λ (r : Reading (List ℕ)). r >>= λ d. read_digits d.1 >>= λ k. read_mode k.1 >>= λ how. F d.0 k.0 how) (digits_and_again (codes " ") a.0 (c.0 ++ c.1) a.2.0 refl)
+    let F =
+    λ (d k : List ℕ) (how : Option WrittenMode). within 1 most d >>= λ node. within 1 1000000 k >>= λ after. in_range how >>= λ how. Ok
+    (stop node after how) in
+    let read : read_command most bytes ≡ (within 1 most a.0 >>= λ node. within 1 1000000 c.0 >>= λ after. in_range M.0 >>= λ how. Ok
+    (stop node after how)) =
+    ap (read_command most) line
+    ∙ ap (λ (r : Reading (List ℕ)). r >>= λ d. read_digits d.1 >>= λ k. read_mode k.1 >>= λ how. F d.0 k.0 how)
+    (digits_and_again (codes " ") a.0 (c.0 ++ c.1) a.2.0 refl)
     ∙ ap (λ (r : Reading (List ℕ)). r >>= λ k. read_mode k.1 >>= λ how. F a.0 k.0 how) (digits_again c.0 c.1 c.2.0 (mode_stops how c.1 c.3))
-    ∙ ap (λ (r : Judged (Option How)). r >>= λ how. F a.0 c.0 how) M.1 in
+    ∙ ap (λ (r : Judged (Option WrittenMode)). r >>= λ how. F a.0 c.0 how) M.1 in
     record {
-      fits = λ f. read ∙ number_step 1 most n a.0 _ a.2.1 f.0 ∙ number_step 1 1000000 k c.0 _ c.2.1 f.1 ∙ mode_step M.0 how (λ how. Ok (stop n k how)) M.2 f.2;
-      form = λ e. number_fails 1 most a.0 _ (λ n. number_fails 1 1000000 c.0 _ (λ k. mode_form M.0 (λ how. Ok (stop n k how)) (λ h e. ok_not_form e))) (sym read ∙ e);
+      fits =
+          λ f. read ∙ number_step 1 most n a.0 _ a.2.1 f.0 ∙ number_step 1 1000000 k c.0 _ c.2.1 f.1
+          ∙ mode_step M.0 how (λ how. Ok (stop n k how)) M.2 f.2;
+      form =
+          λ e. number_fails 1 most a.0 _ (λ n. number_fails 1 1000000 c.0 _
+          (λ k. mode_form M.0 (λ how. Ok (stop n k how)) (λ h e. ok_not_form e))) (sym read ∙ e);
     }
 
-pub end_whole : (most : ℕ) (bytes : List ℕ) → Command finish bytes → Whole most finish (read_order most bytes)
-end_whole most bytes h = record { fits = λ f. ap (read_order most) h; form = λ e. ok_not_form (sym (ap (read_order most) h) ∙ e) }
+pub end_whole : (most : ℕ) (bytes : List ℕ) → Command finish bytes → Whole most finish (read_command most bytes)
+end_whole most bytes h = record { fits = λ f. ap (read_command most) h; form = λ e. ok_not_form (sym (ap (read_command most) h) ∙ e) }

@@ -39,7 +39,8 @@ few_onto : (b : ℕ) (lines : List (List ℕ)) (n : ℕ) → length lines ≤ n 
 few_onto b [] n h = omega arith
 few_onto b (l ∷ lines) n h = omega (arith, h)
 
-few_by : (b : ℕ) (bytes : List ℕ) (c : Bool) → length (lines_of bytes) ≤ length bytes → length (cond c ([] ∷ lines_of bytes) (onto b (lines_of bytes))) ≤ suc (length bytes)
+few_by : (b : ℕ) (bytes : List ℕ) (c : Bool) → length (lines_of bytes) ≤ length bytes
+    → length (cond c ([] ∷ lines_of bytes) (onto b (lines_of bytes))) ≤ suc (length bytes)
 few_by b bytes true h = omega (arith, h)
 few_by b bytes false h = few_onto b (lines_of bytes) (length bytes) h
 
@@ -106,16 +107,20 @@ module _ (seen : Seen) (text : List ℕ) (i : ℕ) (after : length text < i) whe
 within : (n i : ℕ) → (n < i → ⊥) → i ≤ n
 within n i h = elim (cases_Bool (nat_lt n i)) [ inl x ↦ absurd (h (ltb-true n i x)) | inr x ↦ ltb-false n i x ]
 
-pub line_fails : (seen : Seen) (bytes first behind : List ℕ) → lines_of bytes ≡ first ∷ lines_of behind → begins_type first ≡ false → (i : ℕ) (c : ScriptCause) → IsCause seen (line first) i c → FirstFails seen bytes i c
-line_fails seen bytes first behind e begins zero c h = (line first, parts_of (lines_of behind), ap parts_of e ∙ part_line first (lines_of behind) begins, h, omega arith)
+pub line_fails : (seen : Seen) (bytes first behind : List ℕ) → lines_of bytes ≡ first ∷ lines_of behind → begins_type first ≡ false
+    → (i : ℕ) (c : ScriptCause) → IsCause seen (line first) i c → FirstFails seen bytes i c
+line_fails seen bytes first behind e begins zero c h =
+    (line first, parts_of (lines_of behind), ap parts_of e ∙ part_line first (lines_of behind) begins, h, omega arith)
 line_fails seen bytes first behind e begins (suc i) c h = absurd (h.fails (h.earlier 0 c (omega arith)))
 
-pub declaration_fails : (seen : Seen) (bytes text : List ℕ) (behind : List Part) → parts_of (lines_of bytes) ≡ declaration text ∷ behind → length text ≤ length bytes → (i : ℕ) (c : ScriptCause) → IsCause seen (declaration text) i c → FirstFails seen bytes i c
+pub declaration_fails : (seen : Seen) (bytes text : List ℕ) (behind : List Part) → parts_of (lines_of bytes) ≡ declaration text ∷ behind
+    → length text ≤ length bytes → (i : ℕ) (c : ScriptCause) → IsCause seen (declaration text) i c → FirstFails seen bytes i c
 declaration_fails seen bytes text behind e short i c h =
     let bound : i ≤ length text = within (length text) i (λ w. h.fails (none_beyond seen text i w c)) in
     (declaration text, behind, e, h, omega (arith, short, bound))
 
-pub unclosed_fails : (seen : Seen) (bytes : List ℕ) (behind : List Part) → parts_of (lines_of bytes) ≡ unclosed (lines_of bytes) ∷ behind → (i : ℕ) (c : ScriptCause) → IsCause seen (unclosed (lines_of bytes)) i c → FirstFails seen bytes i c
+pub unclosed_fails : (seen : Seen) (bytes : List ℕ) (behind : List Part) → parts_of (lines_of bytes) ≡ unclosed (lines_of bytes) ∷ behind
+    → (i : ℕ) (c : ScriptCause) → IsCause seen (unclosed (lines_of bytes)) i c → FirstFails seen bytes i c
 unclosed_fails seen bytes behind e i c h =
     (unclosed (lines_of bytes), behind, e, h, within (length bytes) i (λ w. h.fails (none_unclosed seen bytes i w c)))
 

@@ -40,7 +40,8 @@ behind_takes w bytes rest h =
 
 pub behind_again : (w rest : List ℕ) → behind w (w ++ rest) ≡ Some rest
 behind_again w rest =
-    let t : bytes_eq (take (length w) (w ++ rest)) w ≡ true = (bytes_eq-Decides (take (length w) (w ++ rest)) w).1 (take-append_seam w rest) in
+    let t : bytes_eq (take (length w) (w ++ rest)) w ≡ true =
+    (bytes_eq-Decides (take (length w) (w ++ rest)) w).1 (take-append_seam w rest) in
     ap (λ (b : Bool). cond b (Some (drop (length w) (w ++ rest))) None) t ∙ ap (λ (l : List ℕ). Some l) (drop-append_seam w rest)
 
 -- ## As many bytes as pass
@@ -57,7 +58,8 @@ module _ (p : ℕ → Bool) where
   front_again [] rest h stop = front_stops rest stop
   front_again (a ∷ x) rest h stop =
       let q = and_parts _ _ h in
-      take_while-cons p a (x ++ rest) ∙ ap (λ (t : Bool). cond t (a ∷ take_while p (x ++ rest)) []) q.0 ∙ ap (λ (l : List ℕ). a ∷ l) (front_again x rest q.1 stop)
+      take_while-cons p a (x ++ rest) ∙ ap (λ (t : Bool). cond t (a ∷ take_while p (x ++ rest)) []) q.0
+      ∙ ap (λ (l : List ℕ). a ∷ l) (front_again x rest q.1 stop)
 
   module _ (whole : List ℕ → Bool) where
     pub while_takes : (bytes x rest : List ℕ) → read_while p whole bytes ≡ Ok (x, rest) → (bytes ≡ x ++ rest) × (whole x ≡ true)
@@ -67,7 +69,8 @@ module _ (p : ℕ → Bool) where
         let r : drop (length (take_while p bytes)) bytes ≡ rest = ap (λ (t : List ℕ × List ℕ). t.1) q.1 in
         (sym (front_rest bytes) ∙ ap (λ (l : List ℕ). l ++ drop (length (take_while p bytes)) bytes) e ∙ ap (λ (l : List ℕ). x ++ l) r, ap whole (sym e) ∙ q.0)
 
-    pub while_again : (x rest : List ℕ) → list_all p x ≡ true → whole x ≡ true → starts_with p rest ≡ false → read_while p whole (x ++ rest) ≡ Ok (x, rest)
+    pub while_again : (x rest : List ℕ) → list_all p x ≡ true → whole x ≡ true → starts_with p rest ≡ false
+        → read_while p whole (x ++ rest) ≡ Ok (x, rest)
     while_again x rest all good stop =
         ap (λ (f : List ℕ). cond (whole f) (Ok (f, drop (length f) (x ++ rest))) (Err BadForm)) (front_again x rest all stop)
         ∙ ap (λ (t : Bool). cond t (Ok (x, drop (length x) (x ++ rest))) (Err BadForm)) good

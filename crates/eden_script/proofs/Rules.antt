@@ -55,7 +55,8 @@ pub only_while : (p : ℕ → Bool) (whole : List ℕ → Bool) (bytes : List �
 only_while p whole bytes = only_cond _ _
 
 -- a step that reads a form
-pub form_then : {A B : Type 0} (P : B → Type 0) (N : Type 0) (r : Judged A) (f : A → Judged B) → OnlyForm r → ((a : A) → r ≡ Ok a → Judges P N (f a)) → Judges P N (r >>= f)
+pub form_then : {A B : Type 0} (P : B → Type 0) (N : Type 0) (r : Judged A) (f : A → Judged B) → OnlyForm r
+    → ((a : A) → r ≡ Ok a → Judges P N (f a)) → Judges P N (r >>= f)
 form_then P N (Ok a) f h g = g a refl
 form_then P N (Err BadForm) f h g = tt
 form_then P N (Err BadByte) f h g = h
@@ -76,14 +77,16 @@ pub within_yes : (low high : ℕ) (d : List ℕ) → Within low high (number_of 
 within_yes low high d w =
     let a : nat_le (number_of d) high ≡ true = le-leb _ _ w.1 in
     let b : nat_le low (number_of d) ≡ true = le-leb _ _ w.0 in
-    ap (λ (z : Bool). at_least low (cond z (Some (number_of d)) None)) a ∙ ap (λ (z : Bool). cond {A = Judged ℕ} z (Ok (number_of d)) (Err BadNumber)) b
+    ap (λ (z : Bool). at_least low (cond z (Some (number_of d)) None)) a
+    ∙ ap (λ (z : Bool). cond {A = Judged ℕ} z (Ok (number_of d)) (Err BadNumber)) b
 
 pub within_no : (low high : ℕ) (d : List ℕ) → (Within low high (number_of d) → ⊥) → within low high d ≡ Err BadNumber
 within_no low high d out =
     elim (cases_Bool (nat_le (number_of d) high)) [
       | inr a ↦ ap (λ (z : Bool). at_least low (cond z (Some (number_of d)) None)) a
       | inl a ↦ elim (cases_Bool (nat_le low (number_of d))) [
-        | inr b ↦ ap (λ (z : Bool). at_least low (cond z (Some (number_of d)) None)) a ∙ ap (λ (z : Bool). cond {A = Judged ℕ} z (Ok (number_of d)) (Err BadNumber)) b
+        | inr b ↦ ap (λ (z : Bool). at_least low (cond z (Some (number_of d)) None)) a
+            ∙ ap (λ (z : Bool). cond {A = Judged ℕ} z (Ok (number_of d)) (Err BadNumber)) b
         | inl b ↦ absurd (out (leb-true _ _ b, leb-true _ _ a))
       ]
     ]
@@ -99,7 +102,8 @@ within_cases low high n =
     ]
 
 -- a step that reads a number
-pub number_then : {B : Type 0} (P : B → Type 0) (N : Type 0) (low high : ℕ) (d : List ℕ) (f : ℕ → Judged B) → N → (Within low high (number_of d) → Judges P N (f (number_of d))) → Judges P N (within low high d >>= f)
+pub number_then : {B : Type 0} (P : B → Type 0) (N : Type 0) (low high : ℕ) (d : List ℕ) (f : ℕ → Judged B) → N
+    → (Within low high (number_of d) → Judges P N (f (number_of d))) → Judges P N (within low high d >>= f)
 number_then {B} P N low high d f bad g =
     elim (within_cases low high (number_of d)) as (λ _. Judges P N (within low high d >>= f)) [
       | inl w ↦ subst (λ (r : Judged ℕ). Judges P N (r >>= f)) (sym (within_yes low high d w)) (g w)
@@ -115,7 +119,8 @@ pub only_last_digits : (bytes : List ℕ) → OnlyForm (read_last_digits bytes)
 only_last_digits bytes = only_bind (read_digits bytes) _ (only_digits bytes) (λ d. only_bind (read_end d.1) _ (only_end d.1) (λ u. tt))
 
 pub only_digits_and : (mark bytes : List ℕ) → OnlyForm (read_digits_and mark bytes)
-only_digits_and mark bytes = only_bind (read_digits bytes) _ (only_digits bytes) (λ d. only_bind (read_word mark d.1) _ (only_word mark d.1) (λ u. tt))
+only_digits_and mark bytes =
+    only_bind (read_digits bytes) _ (only_digits bytes) (λ d. only_bind (read_word mark d.1) _ (only_word mark d.1) (λ u. tt))
 
 pub last_takes : (bytes d : List ℕ) → read_last_digits bytes ≡ Ok d → (bytes ≡ d) × (is_number d ≡ true)
 last_takes bytes d h =
@@ -133,9 +138,12 @@ last_again d good =
 -- ## A name and a blank, a number and a mark
 
 pub only_lower_and_blank : (bytes : List ℕ) → OnlyForm (read_lower_and_blank bytes)
-only_lower_and_blank bytes = only_bind (read_lower bytes) _ (only_while is_name_byte is_lower bytes) (λ n. only_bind (read_word (codes " ") n.1) _ (only_word (codes " ") n.1) (λ r. tt))
+only_lower_and_blank bytes =
+    only_bind (read_lower bytes) _ (only_while is_name_byte is_lower bytes)
+    (λ n. only_bind (read_word (codes " ") n.1) _ (only_word (codes " ") n.1) (λ r. tt))
 
-pub lower_and_blank_takes : (bytes n rest : List ℕ) → read_lower_and_blank bytes ≡ Ok (n, rest) → (bytes ≡ n ++ 32 ∷ rest) × (is_lower n ≡ true)
+pub lower_and_blank_takes : (bytes n rest : List ℕ) → read_lower_and_blank bytes ≡ Ok (n, rest)
+    → (bytes ≡ n ++ 32 ∷ rest) × (is_lower n ≡ true)
 lower_and_blank_takes bytes n rest h =
     let a = bind_ok (read_lower bytes) (λ n. read_word (codes " ") n.1 >>= λ rest. Ok (n.0, rest)) (n, rest) h in
     let b = bind_ok (read_word (codes " ") a.0.1) (λ rest. Ok (a.0.0, rest)) (n, rest) a.2 in
@@ -149,7 +157,8 @@ pub lower_and_blank_again : (n rest : List ℕ) → is_lower n ≡ true → read
 lower_and_blank_again n rest good =
     ap (λ (r : Reading (List ℕ)). r >>= λ n. read_word (codes " ") n.1 >>= λ rest. Ok (n.0, rest)) (lower_again n (32 ∷ rest) good refl)
 
-pub digits_and_takes : (mark bytes d rest : List ℕ) → read_digits_and mark bytes ≡ Ok (d, rest) → (bytes ≡ d ++ (mark ++ rest)) × (is_number d ≡ true)
+pub digits_and_takes : (mark bytes d rest : List ℕ) → read_digits_and mark bytes ≡ Ok (d, rest)
+    → (bytes ≡ d ++ (mark ++ rest)) × (is_number d ≡ true)
 digits_and_takes mark bytes d rest h =
     let a = bind_ok (read_digits bytes) (λ n. read_word mark n.1 >>= λ rest. Ok (n.0, rest)) (d, rest) h in
     let b = bind_ok (read_word mark a.0.1) (λ rest. Ok (a.0.0, rest)) (d, rest) a.2 in
@@ -159,12 +168,14 @@ digits_and_takes mark bytes d rest h =
     let last : b.0 ≡ rest = ap (λ (p : List ℕ × List ℕ). p.1) s in
     (t.0 ∙ ap (λ (l : List ℕ). a.0.0 ++ l) (word_takes mark a.0.1 b.0 b.1) ∙ ap (λ (l : List ℕ). l ++ (mark ++ b.0)) same ∙ ap (λ (l : List ℕ). d ++ (mark ++ l)) last, ap is_number (sym same) ∙ t.1)
 
-pub digits_and_again : (mark d rest : List ℕ) → is_number d ≡ true → starts_with is_digit (mark ++ rest) ≡ false → read_digits_and mark (d ++ (mark ++ rest)) ≡ Ok (d, rest)
+pub digits_and_again : (mark d rest : List ℕ) → is_number d ≡ true → starts_with is_digit (mark ++ rest) ≡ false
+    → read_digits_and mark (d ++ (mark ++ rest)) ≡ Ok (d, rest)
 digits_and_again mark d rest good stop =
     ap (λ (r : Reading (List ℕ)). r >>= λ n. read_word mark n.1 >>= λ rest. Ok (n.0, rest)) (digits_again d (mark ++ rest) good stop)
     ∙ ap (λ (r : Judged (List ℕ)). r >>= λ rest. Ok (d, rest)) (word_again mark rest)
 
 -- a step that may find a number out of its range
-pub range_then : {A B : Type 0} (P : B → Type 0) (N : Type 0) (o : Option A) (f : A → Judged B) → N → ((a : A) → o ≡ Some a → Judges P N (f a)) → Judges P N (in_range o >>= f)
+pub range_then : {A B : Type 0} (P : B → Type 0) (N : Type 0) (o : Option A) (f : A → Judged B) → N
+    → ((a : A) → o ≡ Some a → Judges P N (f a)) → Judges P N (in_range o >>= f)
 range_then P N None f bad g = bad
 range_then P N (Some a) f bad g = g a refl

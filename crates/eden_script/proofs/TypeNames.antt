@@ -20,8 +20,11 @@ same_names types = ap (λ (l : List (List ℕ)). map name_of types.native ++ l) 
 
 among : (names : List (List ℕ)) (name : List ℕ) → list_any (λ t. same_text t name) names ≡ is_among names name
 among [] name = refl
-among (n ∷ names) name = ap (λ (b : Bool). b || list_any (λ t. same_text t name) names) (is_eq-slice_cmp n name) ∙ ap (λ (b : Bool). bytes_eq n name || b) (among names name)
+among (n ∷ names) name =
+    ap (λ (b : Bool). b || list_any (λ t. same_text t name) names) (is_eq-slice_cmp n name)
+    ∙ ap (λ (b : Bool). bytes_eq n name || b) (among names name)
 
 -- whether a type has a name
-pub has_name : (types : TypeList) (name : List ℕ) → list_any (λ t. same_text t name) (names_of types) ≡ is_among (type_names (types_in types)) name
+pub has_name : (types : TypeList) (name : List ℕ)
+    → list_any (λ t. same_text t name) (names_of types) ≡ is_among (type_names (types_in types)) name
 has_name types name = among (names_of types) name ∙ ap (λ (l : List (List ℕ)). is_among l name) (same_names types)

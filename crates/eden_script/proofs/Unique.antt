@@ -4,21 +4,21 @@ use Rattle.std.proofs.lemmas.Bool.{cases_order}
 use Rattle.std.proofs.lemmas.Slice.Eq.{bytes_eq-Decides}
 use Rattle.epl_syntax.specs.Tree.{Edentype}
 use Rattle.eden_script.specs.Parts.{Part, line, declaration, unclosed, lines_of, parts_of, line_count}
-use Rattle.eden_script.specs.Tree.{Order, create, hold, call, restrict, walk, turn, go, crash, restart, cut, join, fail, stop, finish, Line, idle, nodes, does, declares, unended}
+use Rattle.eden_script.specs.Tree.{WrittenCommand, create, hold, call, restrict, walk, turn, go, crash, restart, cut, join, fail, stop, finish, Line, idle, nodes, does, declares, unended}
 use Rattle.eden_script.specs.Grammar.{Command, Spells}
 use Rattle.eden_script.specs.Causes.{Seen, at_first, first_word, LineTells, rank, IsCause, IsSaid}
-use Rattle.eden_script.specs.Script.{after, orders_of, Says, AtMostOne}
+use Rattle.eden_script.specs.Script.{after, commands_of, Says, AtMostOne}
 use Rattle.eden_script.specs.Reading.{is_idle}
 use Rattle.eden_script.specs.declared.cause.ScriptCause.{ScriptCause}
 use Rattle.eden_script.specs.declared.cause.ScriptCause.TheVariants.{BadByte, LongLine, AfterEnd, NoCommand, Misplaced, BadForm, BadNumber, UnknownName, UnknownType, DoubledName, BadEdentype, NoEnd}
 use Rattle.eden_script.proofs.Pieces.{same_ok}
-use Rattle.eden_script.specs.Meaning.{order_of}
+use Rattle.eden_script.specs.Meaning.{written_command}
 use Rattle.eden_script.proofs.DeclarationLaws.{OneAnswer, one_type}
 use Rattle.eden_script.proofs.Meant.{same_commands}
 use Rattle.eden_script.proofs.Lined.{order_whole}
 use Rattle.eden_script.proofs.Verdicts.{both, idle_false, word_of, begins_with, first_is_word, no_nodes, nodes_whole}
 
-no_idle : (o : Order) (bytes : List ℕ) → Command o bytes → is_idle bytes ≡ false
+pub no_idle : (o : WrittenCommand) (bytes : List ℕ) → Command o bytes → is_idle bytes ≡ false
 no_idle (create name n t) bytes h = ap is_idle (begins_with _ _ bytes h)
 no_idle (hold name n e s) bytes h = ap is_idle (begins_with _ _ bytes h)
 no_idle (call name r op args) bytes h = ap is_idle (begins_with _ _ bytes h)
@@ -34,12 +34,14 @@ no_idle (fail n k) bytes h = ap is_idle (begins_with _ _ bytes h)
 no_idle (stop n k how) bytes h = ap is_idle (begins_with _ _ bytes h)
 no_idle finish bytes h = ap is_idle h
 
-nodes_or_order : (n : ℕ) (o : Order) (bytes : List ℕ) → Spells (nodes n) bytes → Command o bytes → ⊥
+nodes_or_order : (n : ℕ) (o : WrittenCommand) (bytes : List ℕ) → Spells (nodes n) bytes → Command o bytes → ⊥
 nodes_or_order n o bytes h g =
-    both (sym ((bytes_eq-Decides (word_of o) (codes "nodes")).1 (sym (first_is_word o bytes g) ∙ ap first_word (begins_with _ _ bytes h))) ∙ no_nodes o)
+    both
+    (sym ((bytes_eq-Decides (word_of o) (codes "nodes")).1 (sym (first_is_word o bytes g) ∙ ap first_word (begins_with _ _ bytes h)))
+    ∙ no_nodes o)
 
 -- a line says one thing
-one_line : (seen : Seen) (bytes : List ℕ) (l k : Line) → length bytes ≤ 4096 → LineTells seen bytes l → LineTells seen bytes k → l ≡ k
+pub one_line : (seen : Seen) (bytes : List ℕ) (l k : Line) → length bytes ≤ 4096 → LineTells seen bytes l → LineTells seen bytes k → l ≡ k
 one_line seen bytes (declares x) k short t u = absurd t.0
 one_line seen bytes unended k short t u = absurd t.0
 one_line seen bytes idle (declares x) short t u = absurd u.0
@@ -52,12 +54,14 @@ one_line seen bytes idle idle short t u = refl
 one_line seen bytes idle (nodes n) short t u = absurd (idle_false bytes (ap is_idle (begins_with _ _ bytes u.0)) t.0)
 one_line seen bytes idle (does o) short t u = absurd (idle_false bytes (no_idle o bytes u.0.0) t.0)
 one_line seen bytes (nodes n) idle short t u = absurd (idle_false bytes (ap is_idle (begins_with _ _ bytes t.0)) u.0)
-one_line seen bytes (nodes n) (nodes m) short t u = same_ok (nodes n) (nodes m) (sym ((nodes_whole seen.nodes n bytes t.0).fits t.1) ∙ (nodes_whole seen.nodes m bytes u.0).fits u.1)
+one_line seen bytes (nodes n) (nodes m) short t u =
+    same_ok (nodes n) (nodes m) (sym ((nodes_whole seen.nodes n bytes t.0).fits t.1) ∙ (nodes_whole seen.nodes m bytes u.0).fits u.1)
 one_line seen bytes (nodes n) (does o) short t u = absurd (nodes_or_order n o bytes t.0 u.0.0)
 one_line seen bytes (does o) idle short t u = absurd (idle_false bytes (no_idle o bytes t.0.0) u.0)
 one_line seen bytes (does o) (nodes n) short t u = absurd (nodes_or_order n o bytes u.0 t.0.0)
 one_line seen bytes (does o) (does p) short t u =
-    ap (λ (q : Order). does q) (same_ok o p (sym ((order_whole seen.nodes o bytes short t.0).fits t.1) ∙ (order_whole seen.nodes p bytes short u.0).fits u.1))
+    ap (λ (q : WrittenCommand). does q)
+    (same_ok o p (sym ((order_whole seen.nodes o bytes short t.0).fits t.1) ∙ (order_whole seen.nodes p bytes short u.0).fits u.1))
 
 same_said : OneAnswer → (seen : Seen) (part : Part) (l k : Line) → IsSaid seen part l → IsSaid seen part k → l ≡ k
 same_said laws seen (line bytes) l k x y = one_line seen bytes l k (x.passes 0 LongLine) x.tells y.tells
@@ -111,22 +115,29 @@ same_cause seen part i j c d x y =
     ]
 
 -- parts from one state on
-same_says : OneAnswer → (parts : List Part) (seen : Seen) (a b : List Order) (s t : Seen) → Says seen parts a s → Says seen parts b t → (a ≡ b) × (s ≡ t)
+same_says : OneAnswer → (parts : List Part) (seen : Seen) (a b : List WrittenCommand) (s t : Seen) → Says seen parts a s
+    → Says seen parts b t
+    → (a ≡ b) × (s ≡ t)
 same_says laws [] seen a b s t x y = (x.0 ∙ sym y.0, x.1 ∙ sym y.1)
 same_says laws (p ∷ parts) seen a b s t x y =
     let e : x.0 ≡ y.0 = same_said laws seen p x.0 y.0 x.2 y.2 in
     let r = same_says laws parts (after seen x.0) x.1 y.1 s t x.4 (subst (λ l. Says (after seen l) parts y.1 t) (sym e) y.4) in
-    (x.3 ∙ ap (λ l. orders_of l ++ x.1) e ∙ ap (λ (l : List Order). orders_of y.0 ++ l) r.0 ∙ sym y.3, r.1)
+    (x.3 ∙ ap (λ l. commands_of l ++ x.1) e ∙ ap (λ (l : List WrittenCommand). commands_of y.0 ++ l) r.0 ∙ sym y.3, r.1)
 
 -- a bad part behind some parts, and parts that all are said
-said_not_bad : OneAnswer → (before : List Part) (bad : Part) (behind : List Part) (parts : List Part) (seen : Seen) (a b : List Order) (s t : Seen) (i : ℕ) (c : ScriptCause) → parts ≡ before ++ bad ∷ behind → Says seen parts a s → Says seen before b t → IsCause t bad i c → ⊥
+said_not_bad : OneAnswer
+    → (before : List Part) (bad : Part) (behind : List Part) (parts : List Part) (seen : Seen) (a b : List WrittenCommand) (s t : Seen)
+    (i : ℕ)
+    (c : ScriptCause)
+    → parts ≡ before ++ bad ∷ behind → Says seen parts a s → Says seen before b t → IsCause t bad i c → ⊥
 said_not_bad laws [] bad behind parts seen a b s t i c e x y h =
     let z = subst (λ ps. Says seen ps a s) e x in
     no_cause seen bad z.0 i c z.2 (subst (λ t. IsCause t bad i c) y.1 h)
 said_not_bad laws (p ∷ before) bad behind parts seen a b s t i c e x y h =
     let z = subst (λ ps. Says seen ps a s) e x in
     let same : y.0 ≡ z.0 = same_said laws seen p y.0 z.0 y.2 z.2 in
-    said_not_bad laws before bad behind (before ++ bad ∷ behind) (after seen z.0) z.1 y.1 s t i c refl z.4 (subst (λ k. Says (after seen k) before y.1 t) same y.4) h
+    said_not_bad laws before bad behind (before ++ bad ∷ behind) (after seen z.0) z.1 y.1 s t i c refl z.4
+    (subst (λ k. Says (after seen k) before y.1 t) same y.4) h
 
 abbrev head_or : Part → List Part → Part
 head_or z [] = z
@@ -137,11 +148,16 @@ tail_of [] = []
 tail_of (p ∷ ps) = ps
 
 -- two first bad parts
-two_bad : OneAnswer → (f : List Part) (x : Part) (u : List Part) (g : List Part) (y : Part) (v : List Part) (seen : Seen) (a b : List Order) (s t : Seen) (i j : ℕ) (c d : ScriptCause)
+two_bad : OneAnswer
+    → (f : List Part) (x : Part) (u : List Part) (g : List Part) (y : Part) (v : List Part) (seen : Seen) (a b : List WrittenCommand)
+    (s t : Seen)
+    (i j : ℕ) (c d : ScriptCause)
     → f ++ x ∷ u ≡ g ++ y ∷ v → Says seen f a s → Says seen g b t → IsCause s x i c → IsCause t y j d → (f ≡ g) × (i ≡ j) × (c ≡ d)
 two_bad laws [] x u [] y v seen a b s t i j c d e p q h k =
     let same : x ≡ y = ap (head_or x) e in
-    let r = same_cause seen x i j c d (subst (λ s. IsCause s x i c) p.1 h) (subst (λ z. IsCause seen z j d) (sym same) (subst (λ t. IsCause t y j d) q.1 k)) in
+    let r =
+    same_cause seen x i j c d (subst (λ s. IsCause s x i c) p.1 h)
+    (subst (λ z. IsCause seen z j d) (sym same) (subst (λ t. IsCause t y j d) q.1 k)) in
     (refl, r.0, r.1)
 two_bad laws [] x u (m ∷ g) y v seen a b s t i j c d e p q h k =
     absurd (no_cause seen m q.0 i c q.2 (subst (λ z. IsCause seen z i c) (ap (head_or x) e) (subst (λ s. IsCause s x i c) p.1 h)))
@@ -152,7 +168,8 @@ two_bad laws (l ∷ f) x u (m ∷ g) y v seen a b s t i j c d e p q h k =
     let rest : f ++ x ∷ u ≡ g ++ y ∷ v = ap tail_of e in
     let q0 = subst (λ z. IsSaid seen z q.0) (sym first) q.2 in
     let same : q.0 ≡ p.0 = same_said laws seen l q.0 p.0 q0 p.2 in
-    let r = two_bad laws f x u g y v (after seen p.0) p.1 q.1 s t i j c d rest p.4 (subst (λ k. Says (after seen k) g q.1 t) same q.4) h k in
+    let r =
+    two_bad laws f x u g y v (after seen p.0) p.1 q.1 s t i j c d rest p.4 (subst (λ k. Says (after seen k) g q.1 t) same q.4) h k in
     (ap (λ (ps : List Part). l ∷ ps) r.0 ∙ ap (λ (p : Part). p ∷ g) first, r.1, r.2)
 
 pub at_most_one : OneAnswer → (bytes : List ℕ) → AtMostOne bytes
@@ -160,25 +177,33 @@ at_most_one laws bytes =
     let parts = parts_of (lines_of bytes) in
     record {
       script = λ a b x y.
-          let r = same_says laws parts at_first (map order_of a.commands) (map order_of b.commands) x.end y.end x.says y.says in
+          let r =
+          same_says laws parts at_first (map written_command a.commands) (map written_command b.commands) x.end y.end x.says y.says in
           record {
             types = sym x.types ∙ ap (λ (s : Seen). s.types) r.1 ∙ y.types;
             nodes = sym x.nodes ∙ ap (λ (s : Seen). s.nodes) r.1 ∙ y.nodes;
             commands = same_commands a.commands b.commands r.0;
           };
-      apart = λ line s c x y. let a = map order_of s.commands in elim y.bad [
+      apart = λ line s c x y. let a = map written_command s.commands in elim y.bad [
         | inl h ↦ said_not_bad laws y.before h.0 h.1 parts at_first a y.orders x.end y.end h.2 c h.3 x.says y.says h.5
-        | inr h ↦ both (sym x.ended ∙ ap (λ (s : Seen). s.ended) (same_says laws parts at_first a y.orders x.end y.end x.says (subst (λ ps. Says at_first ps y.orders y.end) (sym h.0) y.says)).1 ∙ h.2)
+        | inr h ↦ both
+            (sym x.ended ∙ ap (λ (s : Seen). s.ended) (same_says laws parts at_first a y.orders x.end y.end x.says
+            (subst (λ ps. Says at_first ps y.orders y.end) (sym h.0) y.says)).1 ∙ h.2)
       ];
       bad = λ i j c d x y. elim x.bad [
         | inl h ↦ elim y.bad [
           | inl k ↦
-              (let r = two_bad laws x.before h.0 h.1 y.before k.0 k.1 at_first x.orders y.orders x.end y.end h.2 k.2 c d (sym h.3 ∙ k.3) x.says y.says h.5 k.5 in
+              (let r = two_bad laws x.before h.0 h.1 y.before k.0 k.1 at_first x.orders y.orders x.end y.end h.2 k.2 c d
+              (sym h.3 ∙ k.3) x.says y.says h.5 k.5 in
               (omega (arith, h.4, k.4, r.1, ap line_count r.0), r.2))
-          | inr k ↦ absurd (said_not_bad laws x.before h.0 h.1 parts at_first y.orders x.orders y.end x.end h.2 c h.3 (subst (λ ps. Says at_first ps y.orders y.end) (sym k.0) y.says) x.says h.5)
+          | inr k ↦ absurd
+              (said_not_bad laws x.before h.0 h.1 parts at_first y.orders x.orders y.end x.end h.2 c h.3
+              (subst (λ ps. Says at_first ps y.orders y.end) (sym k.0) y.says) x.says h.5)
         ]
         | inr h ↦ elim y.bad [
-          | inl k ↦ absurd (said_not_bad laws y.before k.0 k.1 parts at_first x.orders y.orders x.end y.end k.2 d k.3 (subst (λ ps. Says at_first ps x.orders x.end) (sym h.0) x.says) y.says k.5)
+          | inl k ↦ absurd
+              (said_not_bad laws y.before k.0 k.1 parts at_first x.orders y.orders x.end y.end k.2 d k.3
+              (subst (λ ps. Says at_first ps x.orders x.end) (sym h.0) x.says) y.says k.5)
           | inr k ↦ (h.1 ∙ ap (λ (ps : List Part). line_count ps + 1) (sym h.0 ∙ k.0) ∙ sym k.1, h.3 ∙ sym k.3)
         ]
       ];

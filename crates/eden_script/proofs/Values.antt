@@ -2,10 +2,10 @@
 use Rattle.std.proofs.Common.{◌≡◌, ◌∙◌, ap, sym, refl, subst, ℕ, zero, suc, pos, ◌<◌, ◌≤◌, Bool, true, false, cond, ◌==◌, List, [], ◌∷◌, ◌++◌, length, drop, codes, Option, Some, None, Ok, inl, inr, arith, append_assoc, append-nil}
 use Rattle.std.specs.Prelude.{nat_le}
 use Rattle.std.specs.Str.{bytes_eq}
-use Rattle.std.proofs.lemmas.Bool.{cases_Bool, leb-true, leb-false, eqb-true, eqb-false, and_parts, and_from, or_from}
+use Rattle.std.proofs.lemmas.Bool.{cases_Bool, leb-true, leb-false, eqb-true, eqb-false, and_parts, or_from}
 use Rattle.std.proofs.lemmas.Slice.Eq.{bytes_eq-Decides}
-use Rattle.eden_script.specs.Form.{is_digit, is_lower, is_constant, number_of, is_text, escaped}
-use Rattle.eden_script.specs.Tree.{Reference, Written, plain, named, several, row_of, size, depth, row_depth}
+use Rattle.eden_script.specs.Form.{is_digit, is_lower, is_constant, number_of, IsText, quoted}
+use Rattle.eden_script.specs.Tree.{WrittenRef, WrittenArg, plain, named, several, row_of, size, depth, row_depth}
 use Rattle.eden_value.specs.Datum.{number, truth, text, cap}
 use Rattle.eden_script.specs.Grammar.{Refers, minus, Value, Values, Behind}
 use Rattle.eden_script.specs.Causes.{IntFits, WrittenFits, RowFits, names_in, names_of}
@@ -14,12 +14,12 @@ use Rattle.eden_script.proofs.Pieces.{bind_ok, same_ok, if_ok, behind_takes, wor
 use Rattle.eden_script.proofs.Texts.{text_takes}
 
 -- A value that was read is the one that is spelled, or none where a number of that one is out of its range.
-abbrev pub Fitting : Maybe → Written → Type 0
+abbrev pub Fitting : Maybe → WrittenArg → Type 0
 Fitting None g = WrittenFits g → ⊥
 Fitting (Some v) g = (v ≡ g) × WrittenFits g
 
 pub record Reads (names : Bool) (most : ℕ) (bytes : List ℕ) (m : Maybe) (rest : List ℕ) : Type 0 where
-  pub written : Written
+  pub written : WrittenArg
   pub front : List ℕ
   pub spelled : Value written front
   pub shallow : depth written ≤ most
@@ -40,9 +40,12 @@ second_is h = ap (λ p. p.1) h
 
 pub positive_fits : (d : List ℕ) → Fitting (positive (up_to 9223372036854775807 d)) (plain (number (pos (number_of d))))
 positive_fits d =
-    elim (cases_Bool (nat_le (number_of d) 9223372036854775807)) as (λ _. Fitting (positive (up_to 9223372036854775807 d)) (plain (number (pos (number_of d))))) [
-      | inl h ↦ subst (λ (b : Bool). Fitting (positive (cond b (Some (number_of d)) None)) (plain (number (pos (number_of d))))) (sym h) (refl, omega (arith, leb-true _ _ h))
-      | inr h ↦ subst (λ (b : Bool). Fitting (positive (cond b (Some (number_of d)) None)) (plain (number (pos (number_of d))))) (sym h) (λ f. omega (arith, leb-false _ _ h, f))
+    elim (cases_Bool (nat_le (number_of d) 9223372036854775807)) as
+    (λ _. Fitting (positive (up_to 9223372036854775807 d)) (plain (number (pos (number_of d))))) [
+      | inl h ↦ subst (λ (b : Bool). Fitting (positive (cond b (Some (number_of d)) None)) (plain (number (pos (number_of d))))) (sym h)
+          (refl, omega (arith, leb-true _ _ h))
+      | inr h ↦ subst (λ (b : Bool). Fitting (positive (cond b (Some (number_of d)) None)) (plain (number (pos (number_of d))))) (sym h)
+          (λ f. omega (arith, leb-false _ _ h, f))
     ]
 
 minus_fits : (n : ℕ) → n ≤ 9223372036854775808 → IntFits (minus n)
@@ -55,9 +58,12 @@ minus_past (suc n) h f = omega (arith, h, f)
 
 pub negative_fits : (d : List ℕ) → Fitting (negative (up_to 9223372036854775808 d)) (plain (number (minus (number_of d))))
 negative_fits d =
-    elim (cases_Bool (nat_le (number_of d) 9223372036854775808)) as (λ _. Fitting (negative (up_to 9223372036854775808 d)) (plain (number (minus (number_of d))))) [
-      | inl h ↦ subst (λ (b : Bool). Fitting (negative (cond b (Some (number_of d)) None)) (plain (number (minus (number_of d))))) (sym h) (refl, minus_fits (number_of d) (leb-true _ _ h))
-      | inr h ↦ subst (λ (b : Bool). Fitting (negative (cond b (Some (number_of d)) None)) (plain (number (minus (number_of d))))) (sym h) (minus_past (number_of d) (leb-false _ _ h))
+    elim (cases_Bool (nat_le (number_of d) 9223372036854775808)) as
+    (λ _. Fitting (negative (up_to 9223372036854775808 d)) (plain (number (minus (number_of d))))) [
+      | inl h ↦ subst (λ (b : Bool). Fitting (negative (cond b (Some (number_of d)) None)) (plain (number (minus (number_of d))))) (sym h)
+          (refl, minus_fits (number_of d) (leb-true _ _ h))
+      | inr h ↦ subst (λ (b : Bool). Fitting (negative (cond b (Some (number_of d)) None)) (plain (number (minus (number_of d))))) (sym h)
+          (minus_past (number_of d) (leb-false _ _ h))
     ]
 
 positive_sound : (names : Bool) (most : ℕ) → Sound names most read_positive
@@ -76,7 +82,8 @@ positive_sound names most bytes m rest h =
       fitting = subst (λ m. Fitting m (plain (number (pos (number_of d))))) (first_is e) (positive_fits d);
     }
 
-negative_sound : (names : Bool) (most : ℕ) (bytes : List ℕ) (m : Maybe) (rest : List ℕ) → read_negative bytes ≡ Ok (m, rest) → Reads names most (45 ∷ bytes) m rest
+negative_sound : (names : Bool) (most : ℕ) (bytes : List ℕ) (m : Maybe) (rest : List ℕ) → read_negative bytes ≡ Ok (m, rest)
+    → Reads names most (45 ∷ bytes) m rest
 negative_sound names most bytes m rest h =
     let a = bind_ok (read_digits bytes) (λ d. Ok (negative (up_to 9223372036854775808 d.0), d.1)) (m, rest) h in
     let d = a.0.0 in
@@ -98,7 +105,8 @@ pub form_ok : {A : Type 0} (o : Option A) (x : A) → form_of o ≡ Ok x → o �
 form_ok None x h = absurd cc
 form_ok (Some y) x h = ap (λ z. Some z) (same_ok y x h)
 
-text_sound : (names : Bool) (most : ℕ) (bytes : List ℕ) (m : Maybe) (rest : List ℕ) → read_text_value bytes ≡ Ok (m, rest) → Reads names most (34 ∷ bytes) m rest
+text_sound : (names : Bool) (most : ℕ) (bytes : List ℕ) (m : Maybe) (rest : List ℕ) → read_text_value bytes ≡ Ok (m, rest)
+    → Reads names most (34 ∷ bytes) m rest
 text_sound names most bytes m rest h =
     let a = bind_ok (read_text bytes) (λ t. Ok (Some (plain (text t.0)), t.1)) (m, rest) h in
     let b = bind_ok (form_of (text_body false bytes)) short_text a.0 a.1 in
@@ -107,20 +115,22 @@ text_sound names most bytes m rest h =
     let e = same_ok (Some (plain (text a.0.0)), a.0.1) (m, rest) a.2 in
     let same : b.0.0 ≡ a.0.0 = ap (λ (p : List ℕ × List ℕ). p.0) s.1 in
     let behind_ : b.0.1 ≡ rest = ap (λ (p : List ℕ × List ℕ). p.1) s.1 ∙ second_is e in
-    let good : is_text b.0.0 ≡ true = and_from _ _ t.1 s.0 in
+    let good : IsText b.0.0 = record { printable = t.1; short = leb-true (length b.0.0) 1024 s.0 } in
     record {
       written = plain (text b.0.0);
-      front = (34 ∷ escaped b.0.0) ++ 34 ∷ [];
+      front = (34 ∷ quoted b.0.0) ++ 34 ∷ [];
       spelled = (refl, good);
       shallow = omega arith;
       allowed = λ _. refl;
-      whole = ap (λ (l : List ℕ). 34 ∷ l) (t.0 ∙ ap (λ (l : List ℕ). escaped b.0.0 ++ 34 ∷ l) behind_) ∙ sym (append_assoc (34 ∷ escaped b.0.0) (34 ∷ []) rest);
+      whole =
+          ap (λ (l : List ℕ). 34 ∷ l) (t.0 ∙ ap (λ (l : List ℕ). quoted b.0.0 ++ 34 ∷ l) behind_)
+          ∙ sym (append_assoc (34 ∷ quoted b.0.0) (34 ∷ []) rest);
       fitting = subst (λ m. Fitting m (plain (text b.0.0))) (ap (λ (t : List ℕ). Some (plain (text t))) same ∙ first_is e) (refl, tt);
     }
 
 -- ## References
 
-abbrev pub reference_of : List ℕ × Option (List ℕ) → Reference
+abbrev pub reference_of : List ℕ × Option (List ℕ) → WrittenRef
 reference_of (name, None) = record { name = name; result = None }
 reference_of (name, Some digits) = record { name = name; result = Some (number_of digits) }
 
@@ -133,11 +143,15 @@ pub record Refs (bytes : List ℕ) (w : List ℕ × Option (List ℕ)) (rest : L
   pub spelled : Refers (reference_of w) front
   pub whole : bytes ≡ front ++ rest
 
-result_sound : (name r : List ℕ) (w : List ℕ × Option (List ℕ)) (rest : List ℕ) (b : Bool) → has_result r ≡ b → is_lower name ≡ true → read_result name r ≡ Ok (w, rest) → Refs (name ++ r) w rest
+result_sound : (name r : List ℕ) (w : List ℕ × Option (List ℕ)) (rest : List ℕ) (b : Bool) → has_result r ≡ b → is_lower name ≡ true
+    → read_result name r ≡ Ok (w, rest) → Refs (name ++ r) w rest
 result_sound name r w rest false e good h =
-    let s = same_ok ((name, None), r) (w, rest) (sym (ap (λ (z : Bool). cond z (read_digits (drop 1 r) >>= λ k. Ok ((name, Some k.0), k.1)) (Ok ((name, None), r))) e) ∙ h) in
+    let s =
+    same_ok ((name, None), r) (w, rest)
+    (sym (ap (λ (z : Bool). cond z (read_digits (drop 1 r) >>= λ k. Ok ((name, Some k.0), k.1)) (Ok ((name, None), r))) e) ∙ h) in
     let same : (name, None) ≡ w = first_is s in
-    record { front = name; spelled = subst (λ w. Refers (reference_of w) name) same (refl, good); whole = ap (λ (l : List ℕ). name ++ l) (second_is s) }
+    record
+    { front = name; spelled = subst (λ w. Refers (reference_of w) name) same (refl, good); whole = ap (λ (l : List ℕ). name ++ l) (second_is s) }
 result_sound name r w rest true e good h =
     let g = sym (ap (λ (z : Bool). cond z (read_digits (drop 1 r) >>= λ k. Ok ((name, Some k.0), k.1)) (Ok ((name, None), r))) e) ∙ h in
     let a = bind_ok (read_digits (drop 1 r)) (λ k. Ok ((name, Some k.0), k.1)) (w, rest) g in
@@ -146,8 +160,12 @@ result_sound name r w rest true e good h =
     let same : (name, Some a.0.0) ≡ w = first_is s in
     record {
       front = name ++ 46 ∷ a.0.0;
-      spelled = subst (λ w. Refers (reference_of w) (name ++ 46 ∷ a.0.0)) same (name, 46 ∷ a.0.0, (refl, good), (codes ".", a.0.0, refl, (t.1, refl), refl), refl);
-      whole = ap (λ (l : List ℕ). name ++ l) (point r e ∙ ap (λ (l : List ℕ). 46 ∷ l) (t.0 ∙ ap (λ (l : List ℕ). a.0.0 ++ l) (second_is s))) ∙ sym (append_assoc name (46 ∷ a.0.0) rest);
+      spelled =
+          subst (λ w. Refers (reference_of w) (name ++ 46 ∷ a.0.0)) same
+          (name, 46 ∷ a.0.0, (refl, good), (codes ".", a.0.0, refl, (t.1, refl), refl), refl);
+      whole =
+          ap (λ (l : List ℕ). name ++ l) (point r e ∙ ap (λ (l : List ℕ). 46 ∷ l) (t.0 ∙ ap (λ (l : List ℕ). a.0.0 ++ l) (second_is s)))
+          ∙ sym (append_assoc name (46 ∷ a.0.0) rest);
     }
 
 pub ref_sound : (bytes : List ℕ) (w : List ℕ × Option (List ℕ)) (rest : List ℕ) → read_ref bytes ≡ Ok (w, rest) → Refs bytes w rest
@@ -159,12 +177,20 @@ ref_sound bytes w rest h =
 
 -- ## Names as values
 
-pub result_fits : (name d : List ℕ) (b : Bool) → nat_le (number_of d) 8 ≡ b → Fitting (result_value' name (cond b (Some (number_of d)) None)) (named (record { name = name; result = Some (number_of d) }))
+pub result_fits : (name d : List ℕ) (b : Bool) → nat_le (number_of d) 8 ≡ b
+    → Fitting (result_value' name (cond b (Some (number_of d)) None)) (named (record { name = name; result = Some (number_of d) }))
 result_fits name d false e = λ w. omega (arith, leb-false _ _ e, w.1)
 result_fits name d true e =
-    elim (cases_Bool (number_of d == 0)) as (λ _. Fitting (result_value' name (Some (number_of d))) (named (record { name = name; result = Some (number_of d) }))) [
-      | inl z ↦ subst (λ (b : Bool). Fitting (cond b None (Some (named (record { name = name; result = Some (number_of d) })))) (named (record { name = name; result = Some (number_of d) }))) (sym z) (λ w. omega (arith, eqb-true _ _ z, w.0))
-      | inr z ↦ subst (λ (b : Bool). Fitting (cond b None (Some (named (record { name = name; result = Some (number_of d) })))) (named (record { name = name; result = Some (number_of d) }))) (sym z) (refl, (positive_number (number_of d) (eqb-false _ _ z), leb-true _ _ e))
+    elim (cases_Bool (number_of d == 0)) as
+    (λ _. Fitting (result_value' name (Some (number_of d))) (named (record { name = name; result = Some (number_of d) }))) [
+      | inl z ↦ subst
+          (λ (b : Bool). Fitting (cond b None (Some (named (record { name = name; result = Some (number_of d) }))))
+          (named (record { name = name; result = Some (number_of d) })))
+          (sym z) (λ w. omega (arith, eqb-true _ _ z, w.0))
+      | inr z ↦ subst
+          (λ (b : Bool). Fitting (cond b None (Some (named (record { name = name; result = Some (number_of d) }))))
+          (named (record { name = name; result = Some (number_of d) })))
+          (sym z) (refl, (positive_number (number_of d) (eqb-false _ _ z), leb-true _ _ e))
     ]
   where
     positive_number : (n : ℕ) → (n ≡ 0 → ⊥) → 1 ≤ n
@@ -173,27 +199,33 @@ result_fits name d true e =
 
 -- what a name alone stands for; where it is a word of values, there is no name in it
 abbrev pub Means : List ℕ → Bool → Maybe → Type 0
-Means name word m = (g : Written) × Value g name × (depth g ≤ 0) × Fitting m g × (word ≡ true → names_in g ≡ [])
+Means name word m = (g : WrittenArg) × Value g name × (depth g ≤ 0) × Fitting m g × (word ≡ true → names_in g ≡ [])
 
 both : true ≡ false → ⊥
 both e = cc
 
-name_means : (name : List ℕ) (a b c : Bool) → is_lower name ≡ true → bytes_eq name (codes "true") ≡ a → bytes_eq name (codes "false") ≡ b → bytes_eq name (codes "none") ≡ c
-    → Means name (is_constant name) (name_value' name (cond a (Some (plain (truth true))) (cond b (Some (plain (truth false))) (cond c (Some (plain (cap None))) None))))
+name_means : (name : List ℕ) (a b c : Bool) → is_lower name ≡ true → bytes_eq name (codes "true") ≡ a → bytes_eq name (codes "false") ≡ b
+    → bytes_eq name (codes "none") ≡ c
+    → Means name (is_constant name)
+    (name_value' name (cond a (Some (plain (truth true))) (cond b (Some (plain (truth false))) (cond c (Some (plain (cap None))) None))))
 name_means name true b c good x y z = (plain (truth true), (bytes_eq-Decides name (codes "true")).0 x, omega arith, (refl, tt), λ _. refl)
-name_means name false true c good x y z = (plain (truth false), (bytes_eq-Decides name (codes "false")).0 y, omega arith, (refl, tt), λ _. refl)
-name_means name false false true good x y z = ((plain (cap None)), (bytes_eq-Decides name (codes "none")).0 z, omega arith, (refl, tt), λ _. refl)
+name_means name false true c good x y z =
+    (plain (truth false), (bytes_eq-Decides name (codes "false")).0 y, omega arith, (refl, tt), λ _. refl)
+name_means name false false true good x y z =
+    ((plain (cap None)), (bytes_eq-Decides name (codes "none")).0 z, omega arith, (refl, tt), λ _. refl)
 name_means name false false false good x y z =
     (named (record { name = name; result = None }), ((refl, good), or_from _ _ x (or_from _ _ y z)), omega arith, (refl, tt), λ p. absurd (both (sym p ∙ or_from _ _ x (or_from _ _ y z))))
 
-named_means : (w : List ℕ × Option (List ℕ)) (front : List ℕ) → Refers (reference_of w) front → Means front (is_value_word w) (named_value w)
+named_means : (w : List ℕ × Option (List ℕ)) (front : List ℕ) → Refers (reference_of w) front
+    → Means front (is_value_word w) (named_value w)
 named_means (name, None) front h =
     subst (λ (x : List ℕ). Means x (is_constant name) (name_value name)) (sym h.0)
     (name_means name (bytes_eq name (codes "true")) (bytes_eq name (codes "false")) (bytes_eq name (codes "none")) h.1 refl refl refl)
 named_means (name, Some d) front h =
     (named (record { name = name; result = Some (number_of d) }), (h, tt), omega arith, result_fits name d (nat_le (number_of d) 8) refl, λ p. absurd (both (sym p)))
 
-allowed_word : (names : Bool) (w : List ℕ × Option (List ℕ)) (u : Unit {0}) → allowed names w ≡ Ok u → names ≡ false → is_value_word w ≡ true
+allowed_word : (names : Bool) (w : List ℕ × Option (List ℕ)) (u : Unit {0}) → allowed names w ≡ Ok u → names ≡ false
+    → is_value_word w ≡ true
 allowed_word true w u h e = absurd (both e)
 allowed_word false w u h e = (if_ok (is_value_word w) tt u h).0
 
@@ -217,9 +249,12 @@ named_sound names most bytes m rest h =
 -- ## Values that are no lists
 
 flat_by : (names : Bool) (most b : ℕ) (bytes : List ℕ) (m : Maybe) (rest : List ℕ) (p q d : Bool) → (b == 34) ≡ p → (b == 45) ≡ q
-    → cond p (read_text_value bytes) (cond q (read_negative bytes) (cond d (read_positive (b ∷ bytes)) (read_named names (b ∷ bytes)))) ≡ Ok (m, rest) → Reads names most (b ∷ bytes) m rest
-flat_by names most b bytes m rest true q d e f h = subst (λ c. Reads names most (c ∷ bytes) m rest) (sym (eqb-true b 34 e)) (text_sound names most bytes m rest h)
-flat_by names most b bytes m rest false true d e f h = subst (λ c. Reads names most (c ∷ bytes) m rest) (sym (eqb-true b 45 f)) (negative_sound names most bytes m rest h)
+    → cond p (read_text_value bytes) (cond q (read_negative bytes) (cond d (read_positive (b ∷ bytes)) (read_named names (b ∷ bytes)))) ≡ Ok
+    (m, rest) → Reads names most (b ∷ bytes) m rest
+flat_by names most b bytes m rest true q d e f h =
+    subst (λ c. Reads names most (c ∷ bytes) m rest) (sym (eqb-true b 34 e)) (text_sound names most bytes m rest h)
+flat_by names most b bytes m rest false true d e f h =
+    subst (λ c. Reads names most (c ∷ bytes) m rest) (sym (eqb-true b 45 f)) (negative_sound names most bytes m rest h)
 flat_by names most b bytes m rest false false true e f h = positive_sound names most (b ∷ bytes) m rest h
 flat_by names most b bytes m rest false false false e f h = named_sound names most (b ∷ bytes) m rest h
 
@@ -230,26 +265,30 @@ flat_sound names most (b ∷ bytes) m rest h = flat_by names most b bytes m rest
 -- ## Values in a row
 
 -- the values that were read are those that are spelled, or none where one of those does not fit
-abbrev pub AllFit : Option (List Written) → List Written → Type 0
+abbrev pub AllFit : Option (List WrittenArg) → List WrittenArg → Type 0
 AllFit None gs = RowFits (row_of gs) → ⊥
 AllFit (Some vs) gs = (vs ≡ gs) × RowFits (row_of gs)
 
-fit_parts : (gs : List Written) (g : Written) → RowFits (row_of (gs ++ g ∷ [])) → RowFits (row_of gs) × WrittenFits g
+fit_parts : (gs : List WrittenArg) (g : WrittenArg) → RowFits (row_of (gs ++ g ∷ [])) → RowFits (row_of gs) × WrittenFits g
 fit_parts [] g h = (tt, h.0)
 fit_parts (x ∷ gs) g h = let p = fit_parts gs g h.1 in ((h.0, p.0), p.1)
 
-fit_from : (gs : List Written) (g : Written) → RowFits (row_of gs) → WrittenFits g → RowFits (row_of (gs ++ g ∷ []))
+fit_from : (gs : List WrittenArg) (g : WrittenArg) → RowFits (row_of gs) → WrittenFits g → RowFits (row_of (gs ++ g ∷ []))
 fit_from [] g h f = (f, tt)
 fit_from (x ∷ gs) g h f = (h.0, fit_from gs g h.1 f)
 
-pub added_fit : (so_far : Option (List Written)) (m : Maybe) (gs : List Written) (g : Written) → AllFit so_far gs → Fitting m g → AllFit (added so_far m) (gs ++ g ∷ [])
+pub added_fit : (so_far : Option (List WrittenArg)) (m : Maybe) (gs : List WrittenArg) (g : WrittenArg) → AllFit so_far gs → Fitting m g
+    → AllFit (added so_far m) (gs ++ g ∷ [])
 added_fit None m gs g h f = λ w. h (fit_parts gs g w).0
 added_fit (Some vs) None gs g h f = λ w. f (fit_parts gs g w).1
-added_fit (Some vs) (Some v) gs g h f = (ap (λ (l : List Written). l ++ v ∷ []) h.0 ∙ ap (λ (x : Written). gs ++ x ∷ []) f.0, fit_from gs g h.1 f.1)
+added_fit (Some vs) (Some v) gs g h f =
+    (ap (λ (l : List WrittenArg). l ++ v ∷ []) h.0 ∙ ap (λ (x : WrittenArg). gs ++ x ∷ []) f.0, fit_from gs g h.1 f.1)
 
 -- the values behind some that were read
-pub record ReadsMore (names : Bool) (most left : ℕ) (close : List ℕ) (before : List Written) (bytes : List ℕ) (all : Option (List Written)) (rest : List ℕ) : Type 0 where
-  pub more : List Written
+pub record ReadsMore (names : Bool) (most left : ℕ) (close : List ℕ) (before : List WrittenArg) (bytes : List ℕ)
+    (all : Option (List WrittenArg))
+    (rest : List ℕ) : Type 0 where
+  pub more : List WrittenArg
   pub front : List ℕ
   pub spelled : Behind (row_of more) front
   pub few : size (row_of more) ≤ left
@@ -259,7 +298,9 @@ pub record ReadsMore (names : Bool) (most left : ℕ) (close : List ℕ) (before
   pub fit : AllFit all (before ++ more)
 
 module _ (names : Bool) (most : ℕ) (V : List ℕ → Reading Maybe) (sound : Sound names most V) (close : List ℕ) where
-  close_sound : (left : ℕ) (so_far : Option (List Written)) (before : List Written) (bytes : List ℕ) (all : Option (List Written)) (rest : List ℕ) → AllFit so_far before → read_close close so_far bytes ≡ Ok (all, rest) → ReadsMore names most left close before bytes all rest
+  close_sound : (left : ℕ) (so_far : Option (List WrittenArg)) (before : List WrittenArg) (bytes : List ℕ) (all : Option (List WrittenArg))
+      (rest : List ℕ)
+      → AllFit so_far before → read_close close so_far bytes ≡ Ok (all, rest) → ReadsMore names most left close before bytes all rest
   close_sound left so_far before bytes all rest fit h =
       let a = bind_ok (read_word close bytes) (λ r. Ok (so_far, r)) (all, rest) h in
       let e = same_ok (so_far, a.0) (all, rest) a.2 in
@@ -275,9 +316,13 @@ module _ (names : Bool) (most : ℕ) (V : List ℕ → Reading Maybe) (sound : S
       }
 
   -- where the values behind one more are read so
-  step_sound : (n : ℕ) (so_far : Option (List Written)) (before : List Written) (bytes : List ℕ) (all : Option (List Written)) (rest : List ℕ)
-      → ((so_far : Option (List Written)) (before : List Written) (bytes : List ℕ) → AllFit so_far before → more_values V close n so_far bytes ≡ Ok (all, rest) → ReadsMore names most n close before bytes all rest)
-      → AllFit so_far before → (o : Option (List ℕ)) → behind (codes ", ") bytes ≡ o → more_by o (read_close close so_far bytes) (λ rest. V rest >>= λ x. more_values V close n (added so_far x.0) x.1) ≡ Ok (all, rest) → ReadsMore names most (suc n) close before bytes all rest
+  step_sound : (n : ℕ) (so_far : Option (List WrittenArg)) (before : List WrittenArg) (bytes : List ℕ) (all : Option (List WrittenArg))
+      (rest : List ℕ)
+      →
+      ((so_far : Option (List WrittenArg)) (before : List WrittenArg) (bytes : List ℕ) → AllFit so_far before → more_values V close n so_far bytes ≡ Ok (all, rest) → ReadsMore names most n close before bytes all rest)
+      → AllFit so_far before → (o : Option (List ℕ)) → behind (codes ", ") bytes ≡ o → more_by o (read_close close so_far bytes)
+      (λ rest. V rest >>= λ x. more_values V close n (added so_far x.0) x.1) ≡ Ok (all, rest) → ReadsMore names most (suc n) close before
+      bytes all rest
   step_sound n so_far before bytes all rest again fit None e h = close_sound (suc n) so_far before bytes all rest fit h
   step_sound n so_far before bytes all rest again fit (Some next) e h =
       let a = bind_ok (V next) (λ x. more_values V close n (added so_far x.0) x.1) (all, rest) h in
@@ -290,18 +335,25 @@ module _ (names : Bool) (most : ℕ) (V : List ℕ → Reading Maybe) (sound : S
         few = omega (arith, m.few);
         shallow = omega (arith, m.shallow, r.shallow);
         allowed = λ bare. ap (λ (l : List (List ℕ)). l ++ names_of (row_of m.more)) (r.allowed bare) ∙ m.allowed bare;
-        whole = behind_takes (codes ", ") bytes next e ∙ ap (λ (l : List ℕ). codes ", " ++ l) (r.whole ∙ ap (λ (l : List ℕ). r.front ++ l) m.whole ∙ sym (append_assoc r.front m.front (close ++ rest)));
+        whole =
+            behind_takes (codes ", ") bytes next e
+            ∙ ap (λ (l : List ℕ). codes ", " ++ l)
+            (r.whole ∙ ap (λ (l : List ℕ). r.front ++ l) m.whole ∙ sym (append_assoc r.front m.front (close ++ rest)));
         fit = subst (AllFit all) (append_assoc before (r.written ∷ []) m.more) m.fit;
       }
 
-  pub more_sound : (left : ℕ) (so_far : Option (List Written)) (before : List Written) (bytes : List ℕ) (all : Option (List Written)) (rest : List ℕ) → AllFit so_far before → more_values V close left so_far bytes ≡ Ok (all, rest) → ReadsMore names most left close before bytes all rest
+  pub more_sound : (left : ℕ) (so_far : Option (List WrittenArg)) (before : List WrittenArg) (bytes : List ℕ)
+      (all : Option (List WrittenArg))
+      (rest : List ℕ)
+      → AllFit so_far before → more_values V close left so_far bytes ≡ Ok (all, rest)
+      → ReadsMore names most left close before bytes all rest
   more_sound zero so_far before bytes all rest fit h = close_sound zero so_far before bytes all rest fit h
   more_sound (suc n) so_far before bytes all rest fit h =
       step_sound n so_far before bytes all rest (λ s b y f g. more_sound n s b y all rest f g) fit (behind (codes ", ") bytes) refl h
 
 -- values up to and with what closes them
-pub record ReadsAll (names : Bool) (most left : ℕ) (close bytes : List ℕ) (all : Option (List Written)) (rest : List ℕ) : Type 0 where
-  pub items_in : List Written
+pub record ReadsAll (names : Bool) (most left : ℕ) (close bytes : List ℕ) (all : Option (List WrittenArg)) (rest : List ℕ) : Type 0 where
+  pub items_in : List WrittenArg
   pub front : List ℕ
   pub spelled : Values (row_of items_in) front
   pub few : size (row_of items_in) ≤ suc left
@@ -310,8 +362,11 @@ pub record ReadsAll (names : Bool) (most left : ℕ) (close bytes : List ℕ) (a
   pub whole : bytes ≡ front ++ (close ++ rest)
   pub fit : AllFit all items_in
 
-module _ (names : Bool) (most : ℕ) (V : List ℕ → Reading Maybe) (sound : Sound names most V) (close : List ℕ) (left : ℕ) (bytes : List ℕ) (all : Option (List Written)) (rest : List ℕ) where
-  values_by : (o : Option (List ℕ)) → behind close bytes ≡ o → closed_by o (V bytes >>= λ x. more_values V close left (added (Some []) x.0) x.1) ≡ Ok (all, rest) → ReadsAll names most left close bytes all rest
+module _ (names : Bool) (most : ℕ) (V : List ℕ → Reading Maybe) (sound : Sound names most V) (close : List ℕ) (left : ℕ) (bytes : List ℕ)
+    (all : Option (List WrittenArg)) (rest : List ℕ) where
+  values_by : (o : Option (List ℕ)) → behind close bytes ≡ o
+      → closed_by o (V bytes >>= λ x. more_values V close left (added (Some []) x.0) x.1) ≡ Ok (all, rest)
+      → ReadsAll names most left close bytes all rest
   values_by (Some r) e h =
       let s = same_ok (Some [], r) (all, rest) h in
       record {
@@ -327,7 +382,9 @@ module _ (names : Bool) (most : ℕ) (V : List ℕ → Reading Maybe) (sound : S
   values_by None e h =
       let a = bind_ok (V bytes) (λ x. more_values V close left (added (Some []) x.0) x.1) (all, rest) h in
       let r = sound bytes a.0.0 a.0.1 a.1 in
-      let m = more_sound names most V sound close left (added (Some []) a.0.0) (r.written ∷ []) a.0.1 all rest (added_fit (Some []) a.0.0 [] r.written (refl, tt) r.fitting) a.2 in
+      let m =
+      more_sound names most V sound close left (added (Some []) a.0.0) (r.written ∷ []) a.0.1 all rest
+      (added_fit (Some []) a.0.0 [] r.written (refl, tt) r.fitting) a.2 in
       record {
         items_in = r.written ∷ m.more;
         front = r.front ++ m.front;
@@ -344,12 +401,14 @@ module _ (names : Bool) (most : ℕ) (V : List ℕ → Reading Maybe) (sound : S
 
 -- ## Lists
 
-pub listed_fits : (all : Option (List Written)) (gs : List Written) → AllFit all gs → Fitting (listed all) (several (row_of gs))
+pub listed_fits : (all : Option (List WrittenArg)) (gs : List WrittenArg) → AllFit all gs → Fitting (listed all) (several (row_of gs))
 listed_fits None gs h = h
-listed_fits (Some vs) gs h = (ap (λ (l : List Written). several (row_of l)) h.0, h.1)
+listed_fits (Some vs) gs h = (ap (λ (l : List WrittenArg). several (row_of l)) h.0, h.1)
 
-list_sound : (names : Bool) (n : ℕ) → Sound names n (read_value names n) → (bytes : List ℕ) (m : Maybe) (rest : List ℕ) (o : Option (List ℕ)) → behind (codes "[") bytes ≡ o
-    → list_by o (read_flat names bytes) (λ rest. read_values (read_value names n) (codes "]") 255 rest >>= λ x. Ok (listed x.0, x.1)) ≡ Ok (m, rest) → Reads names (suc n) bytes m rest
+list_sound : (names : Bool) (n : ℕ) → Sound names n (read_value names n)
+    → (bytes : List ℕ) (m : Maybe) (rest : List ℕ) (o : Option (List ℕ)) → behind (codes "[") bytes ≡ o
+    → list_by o (read_flat names bytes) (λ rest. read_values (read_value names n) (codes "]") 255 rest >>=
+    λ x. Ok (listed x.0, x.1)) ≡ Ok (m, rest) → Reads names (suc n) bytes m rest
 list_sound names n sound bytes m rest None e h = flat_sound names (suc n) bytes m rest h
 list_sound names n sound bytes m rest (Some inner) e h =
     let a = bind_ok (read_values (read_value names n) (codes "]") 255 inner) (λ x. Ok (listed x.0, x.1)) (m, rest) h in
@@ -361,7 +420,10 @@ list_sound names n sound bytes m rest (Some inner) e h =
       spelled = ((codes "[", r.front ++ codes "]", refl, (r.front, codes "]", r.spelled, refl, refl), refl), r.few);
       shallow = omega (arith, r.shallow);
       allowed = r.allowed;
-      whole = behind_takes (codes "[") bytes inner e ∙ ap (λ (l : List ℕ). 91 ∷ l) (r.whole ∙ ap (λ (l : List ℕ). r.front ++ (codes "]" ++ l)) (second_is s) ∙ sym (append_assoc r.front (codes "]") rest));
+      whole =
+          behind_takes
+          (codes "[") bytes inner e ∙ ap (λ (l : List ℕ). 91 ∷ l)
+          (r.whole ∙ ap (λ (l : List ℕ). r.front ++ (codes "]" ++ l)) (second_is s) ∙ sym (append_assoc r.front (codes "]") rest));
       fitting = subst (λ m. Fitting m (several (row_of r.items_in))) (first_is s) (listed_fits a.0.0 r.items_in r.fit);
     }
 

@@ -6,11 +6,11 @@ use Rattle.std.specs.Str.{bytes_eq}
 use Rattle.std.proofs.lemmas.Bool.{eqb-true, eqb-false, ltb-false, ltb-true, or_left, or_right, or_from, false_from_ne_true}
 use Rattle.std.proofs.lemmas.Slice.Eq.{bytes_eq-Decides}
 use Rattle.eden_script.specs.Form.{is_number, is_printable, is_among, number_of}
-use Rattle.eden_script.specs.Tree.{Order, create, hold, call, restrict, walk, turn, go, crash, restart, cut, join, fail, stop, finish, Line, idle, nodes, does, declares, unended}
+use Rattle.eden_script.specs.Tree.{WrittenCommand, create, hold, call, restrict, walk, turn, go, crash, restart, cut, join, fail, stop, finish, Line, idle, nodes, does, declares, unended}
 use Rattle.eden_script.specs.Grammar.{◌⋅◌, Is, Number, Command, Idle, Spells}
 use Rattle.eden_script.specs.Declarations.{type_names}
 use Rattle.eden_script.specs.Causes.{Seen, LineFits, first_word, command_words, uses, types, brings, LineTells, LinePasses, rank}
-use Rattle.eden_script.specs.Reading.{Judged, ◌>>=◌, read_word, read_last_digits, within, read_nodes, read_order, is_idle, named_in, judge_order, judge_word, judge}
+use Rattle.eden_script.specs.Reading.{Judged, ◌>>=◌, read_word, read_last_digits, within, read_nodes, read_command, is_idle, named_in, judge_command, judge_word, judge}
 use Rattle.eden_script.specs.declared.cause.ScriptCause.{ScriptCause}
 use Rattle.eden_script.specs.declared.cause.ScriptCause.TheVariants.{BadByte, LongLine, AfterEnd, NoCommand, Misplaced, BadForm, BadNumber, UnknownName, UnknownType, DoubledName, BadEdentype, NoEnd}
 use Rattle.eden_script.proofs.Pieces.{same_ok, word_takes}
@@ -47,7 +47,7 @@ pub idle_false : (bytes : List ℕ) → is_idle bytes ≡ false → Idle bytes �
 idle_false [] h i = both h
 idle_false (b ∷ bytes) h i = eqb-false b 35 h i
 
-abbrev pub word_of : Order → List ℕ
+abbrev pub word_of : WrittenCommand → List ℕ
 word_of (create name n t) = codes "create"
 word_of (hold name n e s) = codes "hold"
 word_of (call name r op args) = codes "call"
@@ -66,7 +66,7 @@ word_of finish = codes "end"
 pub begins_with : (w : List ℕ) (Q : List ℕ → Type 0) (bytes : List ℕ) (h : (Is w ⋅ Q) bytes) → bytes ≡ w ++ h.1
 begins_with w Q bytes h = h.4 ∙ ap (λ (l : List ℕ). l ++ h.1) h.2
 
-pub first_is_word : (o : Order) (bytes : List ℕ) → Command o bytes → first_word bytes ≡ word_of o
+pub first_is_word : (o : WrittenCommand) (bytes : List ℕ) → Command o bytes → first_word bytes ≡ word_of o
 first_is_word (create name n t) bytes h = ap first_word (begins_with _ _ bytes h)
 first_is_word (hold name n e s) bytes h = ap first_word (begins_with _ _ bytes h)
 first_is_word (call name r op args) bytes h = ap first_word (begins_with _ _ bytes h)
@@ -82,7 +82,7 @@ first_is_word (fail n k) bytes h = ap first_word (begins_with _ _ bytes h)
 first_is_word (stop n k how) bytes h = ap first_word (begins_with _ _ bytes h)
 first_is_word finish bytes h = ap first_word h
 
-pub no_nodes : (o : Order) → bytes_eq (word_of o) (codes "nodes") ≡ false
+pub no_nodes : (o : WrittenCommand) → bytes_eq (word_of o) (codes "nodes") ≡ false
 no_nodes (create name n t) = refl
 no_nodes (hold name n e s) = refl
 no_nodes (call name r op args) = refl
@@ -120,15 +120,17 @@ nodes_sound most bytes =
 
 pub nodes_whole : (most n : ℕ) (bytes : List ℕ) → Spells (nodes n) bytes → LineWhole most (nodes n) (read_nodes bytes)
 nodes_whole most n bytes h =
-    let read : read_nodes bytes ≡ (within 1 8 h.1 >>= λ n. Ok (nodes n)) = ap read_nodes (begins_with _ _ bytes h) ∙ ap (λ (r : Judged (List ℕ)). r >>= λ d. within 1 8 d >>= λ n. Ok (nodes n)) (last_again h.1 h.3.0) in
+    let read : read_nodes bytes ≡ (within 1 8 h.1 >>= λ n. Ok (nodes n)) =
+    ap read_nodes (begins_with _ _ bytes h)
+    ∙ ap (λ (r : Judged (List ℕ)). r >>= λ d. within 1 8 d >>= λ n. Ok (nodes n)) (last_again h.1 h.3.0) in
     record { fits = λ f. read ∙ number_step 1 8 n h.1 _ h.3.1 f; form = λ e. number_fails 1 8 h.1 _ (λ n e. ok_not_form e) (sym read ∙ e) }
 
 -- a command as a line
-abbrev as_line : Judged Order → Judged Line
+abbrev as_line : Judged WrittenCommand → Judged Line
 as_line (Ok o) = Ok (does o)
 as_line (Err e) = Err e
 
-does_sound : (most : ℕ) (bytes : List ℕ) (r : Judged Order) → Sound most bytes r → LineSound most bytes (as_line r)
+does_sound : (most : ℕ) (bytes : List ℕ) (r : Judged WrittenCommand) → Sound most bytes r → LineSound most bytes (as_line r)
 does_sound most bytes (Ok o) h = h
 does_sound most bytes (Err BadForm) h = tt
 does_sound most bytes (Err BadNumber) h = (does h.0, h.1)
@@ -143,22 +145,24 @@ does_sound most bytes (Err DoubledName) h = h
 does_sound most bytes (Err BadEdentype) h = h
 does_sound most bytes (Err NoEnd) h = h
 
-form_back : (r : Judged Order) → as_line r ≡ Err BadForm → r ≡ Err BadForm
+form_back : (r : Judged WrittenCommand) → as_line r ≡ Err BadForm → r ≡ Err BadForm
 form_back (Ok o) h = absurd (ok_not_form h)
 form_back (Err e) h = ap (λ (r : Judged Line). back r) h
   where
-    back : Judged Line → Judged Order
+    back : Judged Line → Judged WrittenCommand
     back (Ok l) = Err BadByte
     back (Err e) = Err e
 
-does_whole : (most : ℕ) (o : Order) (r : Judged Order) → Whole most o r → LineWhole most (does o) (as_line r)
+does_whole : (most : ℕ) (o : WrittenCommand) (r : Judged WrittenCommand) → Whole most o r → LineWhole most (does o) (as_line r)
 does_whole most o r h = record { fits = λ f. ap as_line (h.fits f); form = λ e. h.form (form_back r e) }
 
 -- ## The tests, in order
 
 table : (seen : Seen) (bytes : List ℕ) (n : ℕ)
-    → (0 < n → LinePasses BadByte seen bytes) → (1 < n → LinePasses LongLine seen bytes) → (2 < n → LinePasses AfterEnd seen bytes) → (3 < n → LinePasses NoCommand seen bytes) → (4 < n → LinePasses Misplaced seen bytes)
-    → (5 < n → LinePasses BadForm seen bytes) → (6 < n → LinePasses BadNumber seen bytes) → (7 < n → LinePasses UnknownName seen bytes) → (8 < n → LinePasses UnknownType seen bytes) → (9 < n → LinePasses DoubledName seen bytes)
+    → (0 < n → LinePasses BadByte seen bytes) → (1 < n → LinePasses LongLine seen bytes) → (2 < n → LinePasses AfterEnd seen bytes) →
+    (3 < n → LinePasses NoCommand seen bytes) → (4 < n → LinePasses Misplaced seen bytes)
+    → (5 < n → LinePasses BadForm seen bytes) → (6 < n → LinePasses BadNumber seen bytes) → (7 < n → LinePasses UnknownName seen bytes) →
+    (8 < n → LinePasses UnknownType seen bytes) → (9 < n → LinePasses DoubledName seen bytes)
     → (c : ScriptCause) → rank c < n → LinePasses c seen bytes
 table seen bytes n a b c d e f g h i j BadByte w = a w
 table seen bytes n a b c d e f g h i j LongLine w = b w
@@ -196,35 +200,49 @@ record Placed (seen : Seen) (bytes : List ℕ) : Type 0 where
   pub placed : LinePasses Misplaced seen bytes
 
 module _ (seen : Seen) (bytes : List ℕ) (p : Placed seen bytes) where
-  named_by : (l : Line) → LineTells seen bytes l → ((k : Line) → LineTells seen bytes k → k ≡ l) → (u t d : Bool) → list_all (is_among seen.names) (uses l) ≡ u → list_all (is_among (type_names seen.types)) (types l) ≡ t → list_any (is_among seen.names) (brings l) ≡ d
+  named_by : (l : Line) → LineTells seen bytes l → ((k : Line) → LineTells seen bytes k → k ≡ l) → (u t d : Bool)
+      → list_all (is_among seen.names) (uses l) ≡ u → list_all (is_among (type_names seen.types)) (types l) ≡ t
+      → list_any (is_among seen.names) (brings l) ≡ d
       → Verdict seen bytes (cond (not u) (Err UnknownName) (cond (not t) (Err UnknownType) (cond d (Err DoubledName) (Ok l))))
   named_by l tells one false t d e f g = record {
-    before = table seen bytes 7 (λ _. p.printable) (λ _. p.short) (λ _. p.open_) (λ _. p.known) (λ _. p.placed) (λ _. (l, tells.0)) (λ _. (l, tells)) (λ w. absurd (omega (arith, w))) (λ w. absurd (omega (arith, w))) (λ w. absurd (omega (arith, w)));
+    before =
+        table seen bytes 7 (λ _. p.printable) (λ _. p.short) (λ _. p.open_) (λ _. p.known) (λ _. p.placed) (λ _. (l, tells.0))
+        (λ _. (l, tells)) (λ w. absurd (omega (arith, w))) (λ w. absurd (omega (arith, w))) (λ w. absurd (omega (arith, w)));
     fails = λ h. both (sym h.2 ∙ ap (λ k. list_all (is_among seen.names) (uses k)) (one h.0 h.1) ∙ e);
   }
   named_by l tells one true false d e f g = record {
-    before = table seen bytes 8 (λ _. p.printable) (λ _. p.short) (λ _. p.open_) (λ _. p.known) (λ _. p.placed) (λ _. (l, tells.0)) (λ _. (l, tells)) (λ _. (l, tells, e)) (λ w. absurd (omega (arith, w))) (λ w. absurd (omega (arith, w)));
+    before =
+        table seen bytes 8 (λ _. p.printable) (λ _. p.short) (λ _. p.open_) (λ _. p.known) (λ _. p.placed) (λ _. (l, tells.0))
+        (λ _. (l, tells)) (λ _. (l, tells, e)) (λ w. absurd (omega (arith, w))) (λ w. absurd (omega (arith, w)));
     fails = λ h. both (sym h.2 ∙ ap (λ k. list_all (is_among (type_names seen.types)) (types k)) (one h.0 h.1) ∙ f);
   }
   named_by l tells one true true true e f g = record {
-    before = table seen bytes 9 (λ _. p.printable) (λ _. p.short) (λ _. p.open_) (λ _. p.known) (λ _. p.placed) (λ _. (l, tells.0)) (λ _. (l, tells)) (λ _. (l, tells, e)) (λ _. (l, tells, f)) (λ w. absurd (omega (arith, w)));
+    before =
+        table seen bytes 9 (λ _. p.printable) (λ _. p.short) (λ _. p.open_) (λ _. p.known) (λ _. p.placed) (λ _. (l, tells.0))
+        (λ _. (l, tells)) (λ _. (l, tells, e)) (λ _. (l, tells, f)) (λ w. absurd (omega (arith, w)));
     fails = λ h. both (sym g ∙ sym (ap (λ k. list_any (is_among seen.names) (brings k)) (one h.0 h.1)) ∙ h.2);
   }
   named_by l tells one true true false e f g = record {
-    passes = λ c. table seen bytes 12 (λ _. p.printable) (λ _. p.short) (λ _. p.open_) (λ _. p.known) (λ _. p.placed) (λ _. (l, tells.0)) (λ _. (l, tells)) (λ _. (l, tells, e)) (λ _. (l, tells, f)) (λ _. (l, tells, g)) c (rank_small c);
+    passes =
+        λ c. table seen bytes 12 (λ _. p.printable) (λ _. p.short) (λ _. p.open_) (λ _. p.known) (λ _. p.placed) (λ _. (l, tells.0)) (λ _. (l, tells)) (λ _. (l, tells, e)) (λ _. (l, tells, f)) (λ _. (l, tells, g)) c (rank_small c);
     tells = tells;
   }
 
   -- from what was read of the line
-  read_by : (r : Judged Line) → LineSound seen.nodes bytes r → ((l : Line) → Spells l bytes → LineWhole seen.nodes l r) → Verdict seen bytes (r >>= named_in seen)
+  read_by : (r : Judged Line) → LineSound seen.nodes bytes r → ((l : Line) → Spells l bytes → LineWhole seen.nodes l r)
+      → Verdict seen bytes (r >>= named_in seen)
   read_by (Ok l) sound whole =
       named_by l sound (λ k t. sym (same_ok l k ((whole k t.0).fits t.1))) _ _ _ refl refl refl
   read_by (Err BadForm) sound whole = record {
-    before = table seen bytes 5 (λ _. p.printable) (λ _. p.short) (λ _. p.open_) (λ _. p.known) (λ _. p.placed) (λ w. absurd (omega (arith, w))) (λ w. absurd (omega (arith, w))) (λ w. absurd (omega (arith, w))) (λ w. absurd (omega (arith, w))) (λ w. absurd (omega (arith, w)));
+    before =
+        table seen bytes 5 (λ _. p.printable) (λ _. p.short) (λ _. p.open_) (λ _. p.known) (λ _. p.placed) (λ w. absurd (omega (arith, w)))
+        (λ w. absurd (omega (arith, w))) (λ w. absurd (omega (arith, w))) (λ w. absurd (omega (arith, w))) (λ w. absurd (omega (arith, w)));
     fails = λ h. (whole h.0 h.1).form refl;
   }
   read_by (Err BadNumber) sound whole = record {
-    before = table seen bytes 6 (λ _. p.printable) (λ _. p.short) (λ _. p.open_) (λ _. p.known) (λ _. p.placed) (λ _. sound) (λ w. absurd (omega (arith, w))) (λ w. absurd (omega (arith, w))) (λ w. absurd (omega (arith, w))) (λ w. absurd (omega (arith, w)));
+    before =
+        table seen bytes 6 (λ _. p.printable) (λ _. p.short) (λ _. p.open_) (λ _. p.known) (λ _. p.placed) (λ _. sound)
+        (λ w. absurd (omega (arith, w))) (λ w. absurd (omega (arith, w))) (λ w. absurd (omega (arith, w))) (λ w. absurd (omega (arith, w)));
     fails = λ h. number_not_ok ((whole h.0 h.1.0).fits h.1.1);
   }
     where
@@ -243,7 +261,7 @@ module _ (seen : Seen) (bytes : List ℕ) (p : Placed seen bytes) where
 
 -- ## The tests before the form
 
-orders_named : (seen : Seen) (r : Judged Order) → (as_line r >>= named_in seen) ≡ (r >>= λ o. named_in seen (does o))
+orders_named : (seen : Seen) (r : Judged WrittenCommand) → (as_line r >>= named_in seen) ≡ (r >>= λ o. named_in seen (does o))
 orders_named seen (Ok o) = refl
 orders_named seen (Err e) = refl
 
@@ -255,80 +273,128 @@ module _ (seen : Seen) where
   third (Ok n) = refl
   third (Err e) = refl
 
-  second : (b : Judged (List ℕ)) → ((b >>= λ d. within 1 8 d >>= λ n. one_line n) >>= named_in seen) ≡ (b >>= λ d. within 1 8 d >>= λ n. one_line n)
+  second : (b : Judged (List ℕ))
+      → ((b >>= λ d. within 1 8 d >>= λ n. one_line n) >>= named_in seen) ≡ (b >>= λ d. within 1 8 d >>= λ n. one_line n)
   second (Ok d) = third (within 1 8 d)
   second (Err e) = refl
 
-  first : (a : Judged (List ℕ)) → ((a >>= λ rest. read_last_digits rest >>= λ d. within 1 8 d >>= λ n. one_line n) >>= named_in seen) ≡ (a >>= λ rest. read_last_digits rest >>= λ d. within 1 8 d >>= λ n. one_line n)
+  first : (a : Judged (List ℕ))
+      → ((a >>= λ rest. read_last_digits rest >>= λ d. within 1 8 d >>= λ n. one_line n) >>= named_in seen) ≡
+      (a >>= λ rest. read_last_digits rest >>= λ d. within 1 8 d >>= λ n. one_line n)
   first (Ok rest) = second (read_last_digits rest)
   first (Err e) = refl
 
-module _ (seen : Seen) (bytes : List ℕ) (printable : LinePasses BadByte seen bytes) (short : LinePasses LongLine seen bytes) (waits : Idle bytes → ⊥) (open_ : seen.ended ≡ false) where
+module _ (seen : Seen) (bytes : List ℕ) (printable : LinePasses BadByte seen bytes) (short : LinePasses LongLine seen bytes)
+    (waits : Idle bytes → ⊥) (open_ : seen.ended ≡ false) where
   nodes_lines : first_word bytes ≡ codes "nodes" → (l : Line) → Spells l bytes → LineWhole seen.nodes l (read_nodes bytes)
   nodes_lines w idle h = absurd (waits h)
   nodes_lines w (nodes n) h = nodes_whole seen.nodes n bytes h
   nodes_lines w (declares t) h = absurd h
   nodes_lines w unended h = absurd h
-  nodes_lines w (does o) h = absurd (both (sym ((bytes_eq-Decides (word_of o) (codes "nodes")).1 (sym (first_is_word o bytes h.0) ∙ w)) ∙ no_nodes o))
+  nodes_lines w (does o) h =
+      absurd (both (sym ((bytes_eq-Decides (word_of o) (codes "nodes")).1 (sym (first_is_word o bytes h.0) ∙ w)) ∙ no_nodes o))
 
-  command_lines : bytes_eq (first_word bytes) (codes "nodes") ≡ false → (l : Line) → Spells l bytes → LineWhole seen.nodes l (as_line (read_order seen.nodes bytes))
+  command_lines : bytes_eq (first_word bytes) (codes "nodes") ≡ false → (l : Line) → Spells l bytes
+      → LineWhole seen.nodes l (as_line (read_command seen.nodes bytes))
   command_lines w idle h = absurd (waits h)
-  command_lines w (nodes n) h = absurd (both (sym ((bytes_eq-Decides (first_word bytes) (codes "nodes")).1 (ap first_word (begins_with _ _ bytes h))) ∙ w))
+  command_lines w (nodes n) h =
+      absurd (both (sym ((bytes_eq-Decides (first_word bytes) (codes "nodes")).1 (ap first_word (begins_with _ _ bytes h))) ∙ w))
   command_lines w (declares t) h = absurd h
   command_lines w unended h = absurd h
-  command_lines w (does o) h = does_whole seen.nodes o (read_order seen.nodes bytes) (order_whole seen.nodes o bytes short h)
+  command_lines w (does o) h = does_whole seen.nodes o (read_command seen.nodes bytes) (order_whole seen.nodes o bytes short h)
 
   among_nodes : first_word bytes ≡ codes "nodes" → is_among (codes "nodes" ∷ command_words) (first_word bytes) ≡ true
   among_nodes w = or_left _ _ ((bytes_eq-Decides (codes "nodes") (first_word bytes)).1 (sym w))
 
-  word_by : (n z k : Bool) → bytes_eq (first_word bytes) (codes "nodes") ≡ n → (seen.nodes == 0) ≡ z → is_among command_words (first_word bytes) ≡ k
-      → Verdict seen bytes (cond n (cond z (read_nodes bytes) (Err Misplaced)) (cond k (cond z (Err Misplaced) (judge_order seen bytes)) (Err NoCommand)))
+  word_by : (n z k : Bool) → bytes_eq (first_word bytes) (codes "nodes") ≡ n → (seen.nodes == 0) ≡ z
+      → is_among command_words (first_word bytes) ≡ k
+      → Verdict seen bytes
+      (cond n (cond z (read_nodes bytes) (Err Misplaced)) (cond k (cond z (Err Misplaced) (judge_command seen bytes)) (Err NoCommand)))
   word_by true true k e f g =
       let w = (bytes_eq-Decides (first_word bytes) (codes "nodes")).0 e in
       let zero_ : seen.nodes ≡ 0 = eqb-true seen.nodes 0 f in
-      let p : Placed seen bytes = record { printable = printable; short = short; open_ = inr open_; known = inr (among_nodes w); placed = inr ((λ _. zero_), (λ _. w)) } in
-      subst (Verdict seen bytes) (first seen (read_word (codes "nodes ") bytes)) (read_by seen bytes p (read_nodes bytes) (nodes_sound seen.nodes bytes) (nodes_lines w))
+      let p : Placed seen bytes =
+      record { printable = printable; short = short; open_ = inr open_; known = inr (among_nodes w); placed = inr ((λ _. zero_), (λ _. w)) }
+      in
+      subst (Verdict seen bytes) (first seen (read_word (codes "nodes ") bytes))
+      (read_by seen bytes p (read_nodes bytes) (nodes_sound seen.nodes bytes) (nodes_lines w))
   word_by true false k e f g =
       let w = (bytes_eq-Decides (first_word bytes) (codes "nodes")).0 e in
       record {
-        before = table seen bytes 4 (λ _. printable) (λ _. short) (λ _. inr open_) (λ _. inr (among_nodes w)) (λ w. absurd (omega (arith, w))) (λ w. absurd (omega (arith, w))) (λ w. absurd (omega (arith, w))) (λ w. absurd (omega (arith, w))) (λ w. absurd (omega (arith, w))) (λ w. absurd (omega (arith, w)));
+        before =
+            table seen bytes 4 (λ _. printable) (λ _. short) (λ _. inr open_) (λ _. inr (among_nodes w)) (λ w. absurd (omega (arith, w)))
+            (λ w. absurd (omega (arith, w))) (λ w. absurd (omega (arith, w))) (λ w. absurd (omega (arith, w)))
+            (λ w. absurd (omega (arith, w))) (λ w. absurd (omega (arith, w)));
         fails = λ h. elim h [ inl i ↦ waits i | inr x ↦ eqb-false seen.nodes 0 f (x.0 w) ];
       }
   word_by false z false e f g = record {
-    before = table seen bytes 3 (λ _. printable) (λ _. short) (λ _. inr open_) (λ w. absurd (omega (arith, w))) (λ w. absurd (omega (arith, w))) (λ w. absurd (omega (arith, w))) (λ w. absurd (omega (arith, w))) (λ w. absurd (omega (arith, w))) (λ w. absurd (omega (arith, w))) (λ w. absurd (omega (arith, w)));
+    before =
+        table seen bytes 3 (λ _. printable) (λ _. short) (λ _. inr open_) (λ w. absurd (omega (arith, w))) (λ w. absurd (omega (arith, w)))
+        (λ w. absurd (omega (arith, w))) (λ w. absurd (omega (arith, w))) (λ w. absurd (omega (arith, w))) (λ w. absurd (omega (arith, w)))
+        (λ w. absurd (omega (arith, w)));
     fails = λ h. elim h [
       | inl i ↦ waits i
-      | inr x ↦ both (sym x ∙ or_from _ _ (false_from_ne_true _ (λ y. both (sym ((bytes_eq-Decides (first_word bytes) (codes "nodes")).1 (sym ((bytes_eq-Decides (codes "nodes") (first_word bytes)).0 y))) ∙ e))) g)
+      | inr x ↦ both
+          (sym x ∙ or_from _ _ (false_from_ne_true _ (λ y. both (sym
+          ((bytes_eq-Decides (first_word bytes) (codes "nodes")).1 (sym ((bytes_eq-Decides (codes "nodes") (first_word bytes)).0 y)))
+          ∙ e))) g)
     ];
   }
   word_by false true true e f g = record {
-    before = table seen bytes 4 (λ _. printable) (λ _. short) (λ _. inr open_) (λ _. inr (or_right _ _ g)) (λ w. absurd (omega (arith, w))) (λ w. absurd (omega (arith, w))) (λ w. absurd (omega (arith, w))) (λ w. absurd (omega (arith, w))) (λ w. absurd (omega (arith, w))) (λ w. absurd (omega (arith, w)));
-    fails = λ h. elim h [ inl i ↦ waits i | inr x ↦ both (sym ((bytes_eq-Decides (first_word bytes) (codes "nodes")).1 (x.1 (eqb-true seen.nodes 0 f))) ∙ e) ];
+    before =
+        table seen bytes 4 (λ _. printable) (λ _. short) (λ _. inr open_) (λ _. inr (or_right _ _ g)) (λ w. absurd (omega (arith, w)))
+        (λ w. absurd (omega (arith, w))) (λ w. absurd (omega (arith, w))) (λ w. absurd (omega (arith, w))) (λ w. absurd (omega (arith, w)))
+        (λ w. absurd (omega (arith, w)));
+    fails =
+        λ h. elim h [
+          | inl i ↦ waits i
+          | inr x ↦ both (sym ((bytes_eq-Decides (first_word bytes) (codes "nodes")).1
+              (x.1 (eqb-true seen.nodes 0 f))) ∙ e)
+        ];
   }
   word_by false false true e f g =
       let apart : first_word bytes ≡ codes "nodes" → ⊥ = λ w. both (sym ((bytes_eq-Decides (first_word bytes) (codes "nodes")).1 w) ∙ e) in
-      let p : Placed seen bytes = record { printable = printable; short = short; open_ = inr open_; known = inr (or_right _ _ g); placed = inr ((λ w. absurd (apart w)), (λ y. absurd (eqb-false seen.nodes 0 f y))) } in
-      subst (Verdict seen bytes) (orders_named seen (read_order seen.nodes bytes)) (read_by seen bytes p (as_line (read_order seen.nodes bytes)) (does_sound seen.nodes bytes (read_order seen.nodes bytes) (order_sound seen.nodes bytes)) (command_lines e))
+      let p : Placed seen bytes =
+      record
+      { printable = printable; short = short; open_ = inr open_; known = inr (or_right _ _ g); placed = inr ((λ w. absurd (apart w)), (λ y. absurd (eqb-false seen.nodes 0 f y))) }
+      in
+      subst (Verdict seen bytes) (orders_named seen (read_command seen.nodes bytes))
+      (read_by seen bytes p (as_line (read_command seen.nodes bytes))
+      (does_sound seen.nodes bytes (read_command seen.nodes bytes) (order_sound seen.nodes bytes)) (command_lines e))
 
-idle_verdict : (seen : Seen) (bytes : List ℕ) → LinePasses BadByte seen bytes → LinePasses LongLine seen bytes → Idle bytes → Verdict seen bytes (Ok idle)
+idle_verdict : (seen : Seen) (bytes : List ℕ) → LinePasses BadByte seen bytes → LinePasses LongLine seen bytes → Idle bytes
+    → Verdict seen bytes (Ok idle)
 idle_verdict seen bytes printable short i = record {
-  passes = λ c. table seen bytes 12 (λ _. printable) (λ _. short) (λ _. inl i) (λ _. inl i) (λ _. inl i) (λ _. (idle, i)) (λ _. (idle, (i, tt))) (λ _. (idle, (i, tt), refl)) (λ _. (idle, (i, tt), refl)) (λ _. (idle, (i, tt), refl)) c (rank_small c);
+  passes =
+      λ c. table seen bytes 12 (λ _. printable) (λ _. short) (λ _. inl i) (λ _. inl i) (λ _. inl i) (λ _. (idle, i)) (λ _. (idle, (i, tt))) (λ _. (idle, (i, tt), refl)) (λ _. (idle, (i, tt), refl)) (λ _. (idle, (i, tt), refl)) c (rank_small c);
   tells = (i, tt);
 }
 
-judge_by : (seen : Seen) (bytes : List ℕ) (p l i e : Bool) → list_all is_printable bytes ≡ p → nat_lt 4096 (length bytes) ≡ l → is_idle bytes ≡ i → seen.ended ≡ e
-    → Verdict seen bytes (cond (not p) (Err BadByte) (cond l (Err LongLine) (cond i (Ok idle) (cond e (Err AfterEnd) (judge_word seen (first_word bytes) bytes)))))
+judge_by : (seen : Seen) (bytes : List ℕ) (p l i e : Bool) → list_all is_printable bytes ≡ p → nat_lt 4096 (length bytes) ≡ l
+    → is_idle bytes ≡ i → seen.ended ≡ e
+    → Verdict seen bytes
+    (cond (not p) (Err BadByte) (cond l (Err LongLine) (cond i (Ok idle)
+    (cond e (Err AfterEnd) (judge_word seen (first_word bytes) bytes)))))
 judge_by seen bytes false l i e f g h k = record {
-  before = table seen bytes 0 (λ w. absurd (omega (arith, w))) (λ w. absurd (omega (arith, w))) (λ w. absurd (omega (arith, w))) (λ w. absurd (omega (arith, w))) (λ w. absurd (omega (arith, w))) (λ w. absurd (omega (arith, w))) (λ w. absurd (omega (arith, w))) (λ w. absurd (omega (arith, w))) (λ w. absurd (omega (arith, w))) (λ w. absurd (omega (arith, w)));
+  before =
+      table seen bytes 0 (λ w. absurd (omega (arith, w))) (λ w. absurd (omega (arith, w))) (λ w. absurd (omega (arith, w)))
+      (λ w. absurd (omega (arith, w))) (λ w. absurd (omega (arith, w))) (λ w. absurd (omega (arith, w))) (λ w. absurd (omega (arith, w)))
+      (λ w. absurd (omega (arith, w))) (λ w. absurd (omega (arith, w))) (λ w. absurd (omega (arith, w)));
   fails = λ x. both (sym x ∙ f);
 }
 judge_by seen bytes true true i e f g h k = record {
-  before = table seen bytes 1 (λ _. f) (λ w. absurd (omega (arith, w))) (λ w. absurd (omega (arith, w))) (λ w. absurd (omega (arith, w))) (λ w. absurd (omega (arith, w))) (λ w. absurd (omega (arith, w))) (λ w. absurd (omega (arith, w))) (λ w. absurd (omega (arith, w))) (λ w. absurd (omega (arith, w))) (λ w. absurd (omega (arith, w)));
+  before =
+      table seen bytes 1 (λ _. f) (λ w. absurd (omega (arith, w))) (λ w. absurd (omega (arith, w))) (λ w. absurd (omega (arith, w)))
+      (λ w. absurd (omega (arith, w))) (λ w. absurd (omega (arith, w))) (λ w. absurd (omega (arith, w))) (λ w. absurd (omega (arith, w)))
+      (λ w. absurd (omega (arith, w))) (λ w. absurd (omega (arith, w)));
   fails = λ x. omega (arith, x, ltb-true 4096 (length bytes) g);
 }
 judge_by seen bytes true false true e f g h k = idle_verdict seen bytes f (ltb-false 4096 (length bytes) g) (idle_true bytes h)
 judge_by seen bytes true false false true f g h k = record {
-  before = table seen bytes 2 (λ _. f) (λ _. ltb-false 4096 (length bytes) g) (λ w. absurd (omega (arith, w))) (λ w. absurd (omega (arith, w))) (λ w. absurd (omega (arith, w))) (λ w. absurd (omega (arith, w))) (λ w. absurd (omega (arith, w))) (λ w. absurd (omega (arith, w))) (λ w. absurd (omega (arith, w))) (λ w. absurd (omega (arith, w)));
+  before =
+      table seen bytes 2 (λ _. f) (λ _. ltb-false 4096 (length bytes) g) (λ w. absurd (omega (arith, w))) (λ w. absurd (omega (arith, w)))
+      (λ w. absurd (omega (arith, w))) (λ w. absurd (omega (arith, w))) (λ w. absurd (omega (arith, w))) (λ w. absurd (omega (arith, w)))
+      (λ w. absurd (omega (arith, w))) (λ w. absurd (omega (arith, w)));
   fails = λ x. elim x [ inl i ↦ idle_false bytes h i | inr o ↦ both (sym k ∙ o) ];
 }
 judge_by seen bytes true false false false f g h k =

@@ -3,7 +3,7 @@ use Rattle.std.specs.Prelude.{ℕ, ◌≤◌, List, Result, Ok, Err}
 use Rattle.eden_value.specs.Datum.{Datum, Data, number, truth, text, cap, list, no_data, data_and}
 use Rattle.eden_value.specs.View.{datum}
 use Rattle.eden_value.specs.declared.value.Value.{Value}
-use Rattle.eden_script.specs.Tree.{Written, plain, several, Row, no_more, and_more, depth}
+use Rattle.eden_script.specs.Tree.{WrittenArg, plain, several, Row, no_more, and_more, depth}
 use Rattle.eden_script.specs.Grammar as grammar
 use Rattle.eden_script.specs.Causes.{WrittenFits}
 use Rattle.eden_script.specs.declared.cause.ScriptCause.{ScriptCause}
@@ -11,7 +11,7 @@ use Rattle.eden_script.specs.declared.cause.ScriptCause.TheVariants.{BadForm, Ba
 
 -- a value as it is written
 abbrev mutual
-  pub as_written : Datum → Written
+  pub as_written : Datum → WrittenArg
   as_written (number n) = plain (number n)
   as_written (truth b) = plain (truth b)
   as_written (text t) = plain (text t)

@@ -1,15 +1,20 @@
 -- Why a line is refused: the tests of a line, in order.
-use Rattle.std.specs.Prelude.{◌≡◌, ◌⊎◌, ◌↔◌, ℕ, ℤ, pos, negsuc, ◌≤◌, ◌<◌, ◌^◌, Bool, true, false, List, [], ◌∷◌, ◌++◌, length, codes, Option, Some, None}
+use Rattle.std.specs.Prelude.{◌≡◌, ◌⊎◌, ◌↔◌, ℕ, ℤ, pos, negsuc, ◌≤◌, ◌<◌, ◌^◌, Bool, true, false, List, [], ◌∷◌, ◌++◌, length, codes}
+use Rattle.std.specs.Prelude.{Option, Some, None}
 use Rattle.std.specs.List.{take_while, list_all, list_any}
 use Rattle.epl_syntax.specs.Tree.{Edentype}
+pub use Rattle.journal.specs.Fit.{Within}
 use Rattle.eden_script.specs.Parts.{Part, line, declaration, unclosed, lines_of, line_at, line_of_place}
 use Rattle.eden_script.specs.Declarations.{DECLARED_LIMIT, Types, native_alone, type_names, declared_name, Declares, RefusedAt}
 use Rattle.eden_script.specs.Form.{is_printable, is_no_blank, is_among}
-use Rattle.eden_script.specs.Tree.{How, keep, lose, garble, Written, plain, named, several, Row, no_more, and_more, Order, create, hold, call, restrict, walk, turn, go, crash, restart, cut, join, fail, stop, finish, Line, idle, nodes, does, declares, unended}
+use Rattle.eden_script.specs.Tree.{WrittenMode, keep, lose, garble, WrittenArg, plain, named, several, Row, no_more, and_more, WrittenCommand, create, hold}
+use Rattle.eden_script.specs.Tree.{call, restrict, walk, turn, go, crash, restart, cut, join, fail, stop, finish, Line, idle, nodes, does}
+use Rattle.eden_script.specs.Tree.{declares, unended}
 use Rattle.eden_value.specs.Datum.{Datum, number, truth, text, cap, list}
 use Rattle.eden_script.specs.Grammar.{Idle, Spells}
 use Rattle.eden_script.specs.declared.cause.ScriptCause.{ScriptCause}
-use Rattle.eden_script.specs.declared.cause.ScriptCause.TheVariants.{BadByte, LongLine, AfterEnd, NoCommand, Misplaced, BadForm, BadNumber, UnknownName, UnknownType, DoubledName, BadEdentype, NoEnd}
+use Rattle.eden_script.specs.declared.cause.ScriptCause.TheVariants.{BadByte, LongLine, AfterEnd, NoCommand, Misplaced, BadForm, BadNumber}
+use Rattle.eden_script.specs.declared.cause.ScriptCause.TheVariants.{UnknownName, UnknownType, DoubledName, BadEdentype, NoEnd}
 
 -- What the parts so far leave: the types; the number of nodes, 0 before `nodes`; the names that were
 -- introduced, in the order of their bytes; whether `end` stood.
@@ -19,30 +24,35 @@ pub record Seen : Type 0 where
   pub names : List (List ℕ)
   pub ended : Bool
 
+-- before the first part
 abbrev pub at_first : Seen
 at_first = record { types = native_alone; nodes = 0; names = []; ended = false }
 
 -- ## Words
 
+-- the bytes before the first blank
 abbrev pub first_word : List ℕ → List ℕ
 first_word bytes = take_while is_no_blank bytes
 
+-- the words with which the commands behind `nodes` begin
 abbrev pub command_words : List (List ℕ)
-command_words = codes "create" ∷ codes "hold" ∷ codes "call" ∷ codes "restrict" ∷ codes "walk" ∷ codes "turn" ∷ codes "go" ∷ codes "crash" ∷ codes "restart" ∷ codes "cut" ∷ codes "join" ∷ codes "fail" ∷ codes "stop" ∷ codes "end" ∷ []
+command_words =
+    codes "create" ∷ codes "hold" ∷ codes "call" ∷ codes "restrict" ∷ codes "walk" ∷ codes "turn" ∷ codes "go" ∷ codes "crash"
+    ∷ codes "restart" ∷ codes "cut" ∷ codes "join" ∷ codes "fail" ∷ codes "stop" ∷ codes "end" ∷ []
 
 -- ## Numbers
 
-abbrev pub Within : ℕ → ℕ → ℕ → Type 0
-Within low high n = (low ≤ n) × (n ≤ high)
-
+-- a result from 1 to 8, or none
 abbrev pub ResultFits : Option ℕ → Type 0
 ResultFits None = Unit {0}
 ResultFits (Some k) = Within 1 8 k
 
+-- 64 bits, one of them the sign
 abbrev pub IntFits : ℤ → Type 0
 IntFits (pos n) = n < 2 ^ 63
 IntFits (negsuc n) = n < 2 ^ 63
 
+-- a value that is no list: an integer of 64 bits
 abbrev pub PlainFits : Datum → Type 0
 PlainFits (number n) = IntFits n
 PlainFits (truth b) = Unit {0}
@@ -51,7 +61,7 @@ PlainFits (cap c) = Unit {0}
 PlainFits (list ds) = Unit {0}
 
 abbrev mutual
-  pub WrittenFits : Written → Type 0
+  pub WrittenFits : WrittenArg → Type 0
   WrittenFits (plain d) = PlainFits d
   WrittenFits (named r) = ResultFits r.result
   WrittenFits (several gs) = RowFits gs
@@ -60,13 +70,14 @@ abbrev mutual
   RowFits no_more = Unit {0}
   RowFits (and_more g gs) = WrittenFits g × RowFits gs
 
-abbrev pub HowFits : How → Type 0
+-- a byte
+abbrev pub HowFits : WrittenMode → Type 0
 HowFits keep = Unit {0}
 HowFits lose = Unit {0}
 HowFits (garble b) = Within 0 255 b
 
 -- the numbers of a command, where there are so many nodes
-abbrev pub Fits : ℕ → Order → Type 0
+abbrev pub Fits : ℕ → WrittenCommand → Type 0
 Fits most (create name n t) = Within 1 most n
 Fits most (hold name n e s) = Within 1 most n × Within 1 4294967295 e × Within 1 4294967295 s
 Fits most (call name r op args) = ResultFits r.result × RowFits args
@@ -82,6 +93,7 @@ Fits most (fail n k) = Within 1 most n × Within 1 1000000 k
 Fits most (stop n k how) = Within 1 most n × Within 1 1000000 k × HowFits how
 Fits most finish = Unit {0}
 
+-- the numbers of a line, where there are so many nodes, 0 before `nodes`
 abbrev pub LineFits : ℕ → Line → Type 0
 LineFits most idle = Unit {0}
 LineFits most (nodes n) = Within 1 8 n
@@ -92,7 +104,7 @@ LineFits most unended = Unit {0}
 -- ## Names
 
 abbrev mutual
-  pub names_in : Written → List (List ℕ)
+  pub names_in : WrittenArg → List (List ℕ)
   names_in (named r) = r.name ∷ []
   names_in (several gs) = names_of gs
   names_in (plain d) = []
@@ -117,6 +129,7 @@ brings (does (restrict name r mask)) = name ∷ []
 brings (does (walk name r path)) = name ∷ []
 brings _ = []
 
+-- the types that a line refers to
 abbrev pub types : Line → List (List ℕ)
 types (does (create name n t)) = t ∷ []
 types _ = []
@@ -158,8 +171,10 @@ TypePasses LongLine seen body i = length (line_at (lines_of body) i) ≤ 4096
 TypePasses AfterEnd seen body i = i ≡ 0 → seen.ended ≡ false
 TypePasses Misplaced seen body i = i ≡ 0 → seen.nodes ≡ 0
 TypePasses DoubledName seen body i =
-    (place : ℕ) (name : List ℕ) → declared_name body ≡ Some (place, name) → line_of_place body place ≡ i → is_among (type_names seen.types) name ≡ false
-TypePasses BadEdentype seen body i = (i ≡ 0 → declared_count seen < DECLARED_LIMIT) × ((place : ℕ) → RefusedAt seen.types body place → line_of_place body place ≡ i → ⊥)
+    (place : ℕ) (name : List ℕ) → declared_name body ≡ Some (place, name) → line_of_place body place ≡ i
+    → is_among (type_names seen.types) name ≡ false
+TypePasses BadEdentype seen body i =
+    (i ≡ 0 → declared_count seen < DECLARED_LIMIT) × ((place : ℕ) → RefusedAt seen.types body place → line_of_place body place ≡ i → ⊥)
 TypePasses _ seen body i = Unit {0}
 
 -- ### Parts
@@ -171,6 +186,7 @@ UnclosedPasses BadByte lines i = list_all is_printable (line_at lines i) ≡ tru
 UnclosedPasses LongLine lines i = length (line_at lines i) ≤ 4096
 UnclosedPasses _ lines i = Unit {0}
 
+-- the same of any part
 abbrev pub Passes : ScriptCause → Seen → Part → ℕ → Type 0
 Passes c seen (line bytes) i = LinePasses c seen bytes
 Passes c seen (declaration body) i = TypePasses c seen body i

@@ -12,5 +12,7 @@ pub record IsFirstLine (bytes line rest : List ℕ) : Type 0 where
 
 -- the first part of the bytes is an Edentype with its end, or they are the lines of one without
 abbrev pub IsDeclaration : List ℕ → Option (Bor (List ℕ) × Bor (List ℕ)) → Type 0
-IsDeclaration bytes (Some found) = (parts_of (lines_of bytes) ≡ declaration found.0.now ∷ parts_of (lines_of found.1.now)) × (8 ≤ length found.0.now) × (length found.0.now + length found.1.now ≤ length bytes)
+IsDeclaration bytes (Some found) =
+    (parts_of (lines_of bytes) ≡ declaration found.0.now ∷ parts_of (lines_of found.1.now)) × (8 ≤ length found.0.now)
+    × (length found.0.now + length found.1.now ≤ length bytes)
 IsDeclaration bytes None = parts_of (lines_of bytes) ≡ unclosed (lines_of bytes) ∷ []

@@ -1,5 +1,6 @@
 -- What the text of an Edentype declares.
-use Rattle.std.specs.Prelude.{◌≡◌, ◌⊎◌, ℕ, Bool, ◌+◌, ◌==◌, ◌||◌, ◌&&◌, nat_lt, List, [], ◌∷◌, ◌++◌, length, map, drop, Option, Some, None, if◌then◌else◌}
+use Rattle.std.specs.Prelude.{◌≡◌, ◌⊎◌, ℕ, Bool, ◌+◌, ◌==◌, ◌||◌, ◌&&◌, nat_lt, List, [], ◌∷◌, ◌++◌, length, map, drop, Option, Some, None}
+use Rattle.std.specs.Prelude.{if◌then◌else◌}
 use Rattle.std.specs.List.{take_while}
 use Rattle.epl_syntax.specs.Meaning.{name_of, native_types}
 use Rattle.epl_syntax.specs.Rules.First.{broken_at, IsFirst}
@@ -9,19 +10,17 @@ use Rattle.epl_syntax.specs.Tree.{Edentype, edentype}
 use Rattle.epl_syntax.specs.declared.rule.Rule.{Rule}
 use Rattle.epl_syntax.specs.declared.types.Edentype.{Edentype as Native}
 use Rattle.epl_parser.specs.Program.{SpellsType, RefusesType}
+pub use Rattle.journal.specs.Fit.{DECLARED_LIMIT}
 use Rattle.eden_script.specs.Form.{is_name_byte, is_upper}
 use Rattle.eden_script.specs.declared.declared.Refused.{Refused}
 use Rattle.eden_script.specs.declared.declared.Refused.TheVariants.{At, Memory}
-
--- the greatest number of types that a script may declare
-abbrev pub DECLARED_LIMIT : ℕ
-DECLARED_LIMIT = 64
 
 -- the types of a script: the native ones, and those that it declares, in order
 pub record Types : Type 0 where
   pub native : List Native
   pub declared : List Edentype
 
+-- the types before the first declaration
 abbrev pub native_alone : Types
 native_alone = record { native = native_types; declared = [] }
 
@@ -45,13 +44,16 @@ is_space b = b == 32 || b == 10
 abbrev pub name_place : List ℕ → ℕ
 name_place text = 8 + length (take_while is_space (drop 8 text))
 
+-- the name bytes at a place
 abbrev pub name_at : List ℕ → ℕ → List ℕ
 name_at text place = take_while is_name_byte (drop place text)
 
 -- the place and the bytes of the name of a text's type, where the text begins with `edentype` and a name
 abbrev pub declared_name : List ℕ → Option (ℕ × List ℕ)
 declared_name text =
-    if nat_lt 8 (name_place text) && is_upper (name_at text (name_place text)) then Some (name_place text, name_at text (name_place text)) else None
+    if nat_lt 8 (name_place text) && is_upper (name_at text (name_place text))
+    then Some (name_place text, name_at text (name_place text))
+    else None
 
 -- The text spells this type, which keeps the rules behind these types.
 pub record Declares (types : Types) (text : List ℕ) (t : Edentype) : Type 0 where

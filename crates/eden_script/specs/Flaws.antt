@@ -1,5 +1,6 @@
 -- Where the lines of a part fail a test.
-use Rattle.std.specs.Prelude.{◌≡◌, ℕ, suc, ◌+◌, ◌<◌, ◌≤◌, ◌==◌, ◌||◌, ◌&&◌, not, nat_lt, nat_le, Bool, List, [], ◌∷◌, length, Option, Some, None, if◌then◌else◌}
+use Rattle.std.specs.Prelude.{◌≡◌, ℕ, suc, ◌+◌, ◌<◌, ◌≤◌, ◌==◌, ◌||◌, ◌&&◌, not, nat_lt, nat_le, Bool, List, [], ◌∷◌, length, Option, Some}
+use Rattle.std.specs.Prelude.{None, if◌then◌else◌}
 use Rattle.std.specs.List.{list_all}
 use Rattle.eden_script.specs.Form.{is_printable, is_among}
 use Rattle.eden_script.specs.Parts.{Part, lines_of, parts_of, lines_in, line_of_place}
@@ -25,6 +26,7 @@ line_flaw i (bytes ∷ lines) =
 abbrev pub place_flaw : Seen → Option Place
 place_flaw seen = if seen.ended then Some (0, AfterEnd) else (if seen.nodes == 0 then None else Some (0, Misplaced))
 
+-- the flaw of a name that was found, with its place
 abbrev pub name_flaw' : List (List ℕ) → List ℕ → Option (ℕ × List ℕ) → Option Place
 name_flaw' known text None = None
 name_flaw' known text (Some found) = if is_among known found.1 then Some (line_of_place text found.0, DoubledName) else None
@@ -33,6 +35,7 @@ name_flaw' known text (Some found) = if is_among known found.1 then Some (line_o
 abbrev pub name_flaw : Types → List ℕ → Option Place
 name_flaw types text = name_flaw' (type_names types) text (declared_name text)
 
+-- on an earlier line, or on the same one by an earlier test
 abbrev pub is_earlier : Place → Place → Bool
 is_earlier a b = nat_lt a.0 b.0 || (a.0 == b.0 && nat_le (rank a.1) (rank b.1))
 
@@ -53,8 +56,11 @@ with_text (Some a) line = if is_earlier a (line, BadEdentype) then a else (line,
 
 -- The first part of some bytes says this, has so many lines, and these bytes stand behind it.
 abbrev pub FirstSays : Seen → List ℕ → Line → ℕ → List ℕ → Type 0
-FirstSays seen bytes l count behind = (p : Part) × (parts_of (lines_of bytes) ≡ p ∷ parts_of (lines_of behind)) × IsSaid seen p l × (count ≡ length (lines_in p)) × (0 < count) × (count + length behind ≤ length bytes)
+FirstSays seen bytes l count behind =
+    (p : Part) × (parts_of (lines_of bytes) ≡ p ∷ parts_of (lines_of behind)) × IsSaid seen p l × (count ≡ length (lines_in p))
+    × (0 < count) × (count + length behind ≤ length bytes)
 
 -- The first part of some bytes has its first cause at this line, counted from 0.
 abbrev pub FirstFails : Seen → List ℕ → ℕ → ScriptCause → Type 0
-FirstFails seen bytes i cause = (p : Part) × (behind : List Part) × (parts_of (lines_of bytes) ≡ p ∷ behind) × IsCause seen p i cause × (i ≤ length bytes)
+FirstFails seen bytes i cause =
+    (p : Part) × (behind : List Part) × (parts_of (lines_of bytes) ≡ p ∷ behind) × IsCause seen p i cause × (i ≤ length bytes)

@@ -1,23 +1,30 @@
 -- How lines are spelled.
-use Rattle.std.specs.Prelude.{◌≡◌, ◌≢◌, ◌⊎◌, ℕ, zero, suc, ℤ, pos, negsuc, ◌≤◌, Bool, true, false, List, [], ◌∷◌, ◌++◌, codes, Option, Some, None}
-use Rattle.eden_script.specs.Form.{is_lower, is_upper, is_number, number_of, escaped, is_text, is_constant}
+use Rattle.std.specs.Prelude.{◌≡◌, ◌≢◌, ◌⊎◌, ℕ, zero, suc, ℤ, pos, negsuc, ◌≤◌, Bool, true, false, List, [], ◌∷◌, ◌++◌, codes, Option, Some}
+use Rattle.std.specs.Prelude.{None}
+use Rattle.eden_script.specs.Form.{is_lower, is_upper, is_number, number_of, quoted, IsText, is_constant}
 use Rattle.eden_value.specs.Datum.{Datum, number, truth, text, cap, list}
-use Rattle.eden_script.specs.Tree.{Reference, How, keep, lose, garble, Written, plain, named, several, Row, no_more, and_more, size, row_depth, Order, create, hold, call, restrict, walk, turn, go, crash, restart, cut, join, fail, stop, finish, Line, idle, nodes, does, declares, unended}
+use Rattle.eden_script.specs.Tree.{WrittenRef, WrittenMode, keep, lose, garble, WrittenArg, plain, named, several, Row, no_more, and_more, size}
+use Rattle.eden_script.specs.Tree.{row_depth, WrittenCommand, create, hold, call, restrict, walk, turn, go, crash, restart, cut, join, fail, stop}
+use Rattle.eden_script.specs.Tree.{finish, Line, idle, nodes, does, declares, unended}
 
 -- one form right behind another
 infixr 30 ◌⋅◌
 abbrev pub ◌⋅◌ : (List ℕ → Type 0) → (List ℕ → Type 0) → List ℕ → Type 0
 (P ⋅ Q) bytes = (x y : List ℕ) × P x × Q y × (bytes ≡ x ++ y)
 
+-- these bytes
 abbrev pub Is : List ℕ → List ℕ → Type 0
 Is word bytes = bytes ≡ word
 
+-- a single blank
 abbrev pub Blank : List ℕ → Type 0
 Blank bytes = bytes ≡ codes " "
 
+-- a name that begins with a small letter
 abbrev pub Lower : List ℕ → List ℕ → Type 0
 Lower name bytes = (bytes ≡ name) × (is_lower name ≡ true)
 
+-- a name that begins with a great letter
 abbrev pub Upper : List ℕ → List ℕ → Type 0
 Upper name bytes = (bytes ≡ name) × (is_upper name ≡ true)
 
@@ -25,15 +32,17 @@ Upper name bytes = (bytes ≡ name) × (is_upper name ≡ true)
 abbrev pub Number : ℕ → List ℕ → Type 0
 Number n bytes = (is_number bytes ≡ true) × (number_of bytes ≡ n)
 
+-- a text between quotes
 abbrev pub Quoted : List ℕ → List ℕ → Type 0
-Quoted t bytes = (bytes ≡ 34 ∷ escaped t ++ 34 ∷ []) × (is_text t ≡ true)
+Quoted t bytes = (bytes ≡ 34 ∷ quoted t ++ 34 ∷ []) × IsText t
 
 -- NAME or NAME.K
 abbrev pub Refers' : Option ℕ → List ℕ → List ℕ → Type 0
 Refers' None name = Lower name
 Refers' (Some k) name = Lower name ⋅ Is (codes ".") ⋅ Number k
 
-abbrev pub Refers : Reference → List ℕ → Type 0
+-- a reference
+abbrev pub Refers : WrittenRef → List ℕ → Type 0
 Refers r = Refers' r.result r.name
 
 -- a number, with its sign
@@ -41,9 +50,11 @@ abbrev pub minus : ℕ → ℤ
 minus zero = pos zero
 minus (suc n) = negsuc n
 
+-- an integer: digits, with a minus before them or none
 abbrev pub Signed : ℤ → List ℕ → Type 0
 Signed n bytes = ((m : ℕ) × (n ≡ pos m) × Number m bytes) ⊎ ((m : ℕ) × (n ≡ minus m) × (Is (codes "-") ⋅ Number m) bytes)
 
+-- the word of a truth value
 abbrev pub truth_word : Bool → List ℕ
 truth_word true = codes "true"
 truth_word false = codes "false"
@@ -53,7 +64,8 @@ abbrev pub Apart : Option ℕ → List ℕ → Type 0
 Apart None name = is_constant name ≡ false
 Apart (Some k) name = Unit {0}
 
-abbrev pub Named : Reference → List ℕ → Type 0
+-- a reference in place of a value
+abbrev pub Named : WrittenRef → List ℕ → Type 0
 Named r bytes = Refers r bytes × Apart r.result r.name
 
 -- a number, a text, a truth value, or the absent capability; a present capability is never written
@@ -67,7 +79,7 @@ Plain (list ds) bytes = ⊥
 
 -- VALUE, and values parted by a comma and a blank
 abbrev mutual
-  pub Value : Written → List ℕ → Type 0
+  pub Value : WrittenArg → List ℕ → Type 0
   Value (plain d) bytes = Plain d bytes
   Value (named r) bytes = Named r bytes
   Value (several gs) bytes = (Is (codes "[") ⋅ Values gs ⋅ Is (codes "]")) bytes × (size gs ≤ 256)
@@ -81,22 +93,23 @@ abbrev mutual
   Behind (and_more g gs) bytes = (Is (codes ", ") ⋅ Value g ⋅ Behind gs) bytes
 
 -- keep, lose or garble B, with the blank before
-abbrev pub Mode : How → List ℕ → Type 0
+abbrev pub Mode : WrittenMode → List ℕ → Type 0
 Mode keep = Is (codes " keep")
 Mode lose = Is (codes " lose")
 Mode (garble b) = Is (codes " garble ") ⋅ Number b
 
 -- a crash without a mode loses
-abbrev pub CrashMode : How → List ℕ → Type 0
+abbrev pub CrashMode : WrittenMode → List ℕ → Type 0
 CrashMode keep bytes = Mode keep bytes
 CrashMode lose bytes = Mode lose bytes ⊎ (bytes ≡ [])
 CrashMode (garble b) bytes = Mode (garble b) bytes
 
 -- the forms of commands
-abbrev pub Command : Order → List ℕ → Type 0
+abbrev pub Command : WrittenCommand → List ℕ → Type 0
 Command (create name n t) = Is (codes "create ") ⋅ Lower name ⋅ Blank ⋅ Number n ⋅ Blank ⋅ Upper t
 Command (hold name n e s) = Is (codes "hold ") ⋅ Lower name ⋅ Blank ⋅ Number n ⋅ Is (codes ".") ⋅ Number e ⋅ Is (codes ".") ⋅ Number s
-Command (call name r op args) = Is (codes "call ") ⋅ Lower name ⋅ Blank ⋅ Refers r ⋅ Is (codes ".") ⋅ Upper op ⋅ Is (codes "(") ⋅ Values args ⋅ Is (codes ")")
+Command (call name r op args) =
+    Is (codes "call ") ⋅ Lower name ⋅ Blank ⋅ Refers r ⋅ Is (codes ".") ⋅ Upper op ⋅ Is (codes "(") ⋅ Values args ⋅ Is (codes ")")
 Command (restrict name r mask) = Is (codes "restrict ") ⋅ Lower name ⋅ Blank ⋅ Refers r ⋅ Blank ⋅ Number mask
 Command (walk name r path) = Is (codes "walk ") ⋅ Lower name ⋅ Blank ⋅ Refers r ⋅ Blank ⋅ Quoted path
 Command (turn i) = Is (codes "turn ") ⋅ Number i
@@ -110,7 +123,7 @@ Command (stop n k how) = Is (codes "stop ") ⋅ Number n ⋅ Blank ⋅ Number k 
 Command finish = Is (codes "end")
 
 -- Lists are at most four deep, and the two stations of a link differ.
-abbrev pub Holds : Order → Type 0
+abbrev pub Holds : WrittenCommand → Type 0
 Holds (call name r op args) = row_depth args ≤ 4
 Holds (cut a b) = a ≢ b
 Holds (join a b) = a ≢ b
@@ -121,6 +134,7 @@ abbrev pub Idle : List ℕ → Type 0
 Idle [] = Unit {0}
 Idle (b ∷ bs) = b ≡ 35
 
+-- a line without its line feed says this
 abbrev pub Spells : Line → List ℕ → Type 0
 Spells idle bytes = Idle bytes
 Spells (nodes n) bytes = (Is (codes "nodes ") ⋅ Number n) bytes

@@ -2,51 +2,60 @@
 use Rattle.std.specs.Prelude.{ℕ, zero, suc, List, map, Option, Some, None}
 use Rattle.eden_disk.specs.declared.disk.ImageMode.{ImageMode}
 use Rattle.eden_disk.specs.declared.disk.ImageMode.TheVariants as image
-use Rattle.journal.specs.Given as value
-use Rattle.journal.specs.Given.{Given, Givens}
+use Rattle.journal.specs.Argument as value
+use Rattle.journal.specs.Argument.{Argument, Arguments}
 use Rattle.journal.specs.declared.command.Ref.{Ref}
 use Rattle.journal.specs.declared.command.Command.{Command}
 use Rattle.journal.specs.declared.command.Command.TheVariants as command
-use Rattle.eden_script.specs.Tree.{Reference, How, keep, lose, garble, Written, plain, named, several, Row, no_more, and_more, row_of, Order, create, hold, call, restrict, walk, turn, go, crash, restart, cut, join, fail, stop, finish}
+use Rattle.eden_script.specs.Tree.{WrittenRef, WrittenMode, keep, lose, garble, WrittenArg, plain, named, several, Row, no_more, and_more, row_of}
+use Rattle.eden_script.specs.Tree.{WrittenCommand, create, hold, call, restrict, walk, turn, go, crash, restart, cut, join, fail, stop, finish}
 
 -- the result of a call, counted from 1, or a name alone
 abbrev pub result_of : ℕ → Option ℕ
 result_of zero = None
 result_of (suc k) = Some (suc k)
 
-abbrev pub reference : List ℕ → ℕ → Reference
+-- a name, and the number of a result, 0 for the name alone
+abbrev pub reference : List ℕ → ℕ → WrittenRef
 reference name k = record { name = name; result = result_of k }
 
-abbrev pub reference_of : Ref → Reference
+-- a reference of the code
+abbrev pub reference_of : Ref → WrittenRef
 reference_of r = reference r.name r.result
 
 abbrev mutual
-  pub written_of : Given → Written
-  written_of (value.plain d) = plain d
-  written_of (value.named name k) = named (reference name k)
-  written_of (value.several gs) = several (row_from gs)
+  pub written_arg : Argument → WrittenArg
+  written_arg (value.plain d) = plain d
+  written_arg (value.named name k) = named (reference name k)
+  written_arg (value.several gs) = several (row_from gs)
 
-  pub row_from : Givens → Row
-  row_from value.no_givens = no_more
-  row_from (value.given_and g gs) = and_more (written_of g) (row_from gs)
+  pub row_from : Arguments → Row
+  row_from value.no_arguments = no_more
+  row_from (value.argument_and g gs) = and_more (written_arg g) (row_from gs)
 
-abbrev pub how_of : ImageMode → How
-how_of image.Keep = keep
-how_of image.Lose = lose
-how_of (image.Garble b) = garble b
+-- what a power cut leaves, of the code
+abbrev pub written_mode : ImageMode → WrittenMode
+written_mode image.Keep = keep
+written_mode image.Lose = lose
+written_mode (image.Garble b) = garble b
 
-abbrev pub order_of : Command → Order
-order_of (command.Create name n t) = create name n t
-order_of (command.Hold name uid) = hold name uid.node uid.epoch uid.serial
-order_of (command.Call name r op args) = call name (reference_of r) op (row_of (map written_of args))
-order_of (command.Restrict name r mask) = restrict name (reference_of r) mask.bits
-order_of (command.Walk name r path) = walk name (reference_of r) path
-order_of (command.Turn i) = turn i
-order_of (command.Go n) = go n
-order_of (command.Crash n how) = crash n (how_of how)
-order_of (command.Restart n) = restart n
-order_of (command.Cut a b) = cut a b
-order_of (command.Join a b) = join a b
-order_of (command.Fail n k) = fail n k
-order_of (command.Stop n k how) = stop n k (how_of how)
-order_of command.End = finish
+-- a command of the code
+abbrev pub written_command : Command → WrittenCommand
+written_command (command.Create name n t) = create name n t
+written_command (command.Hold name uid) = hold name uid.node uid.epoch uid.serial
+written_command (command.Call name r op args) = call name (reference_of r) op (row_of (map written_arg args))
+written_command (command.Restrict name r mask) = restrict name (reference_of r) mask.bits
+written_command (command.Walk name r path) = walk name (reference_of r) path
+written_command (command.Turn i) = turn i
+written_command (command.Go n) = go n
+written_command (command.Crash n how) = crash n (written_mode how)
+written_command (command.Restart n) = restart n
+written_command (command.Cut a b) = cut a b
+written_command (command.Join a b) = join a b
+written_command (command.Fail n k) = fail n k
+written_command (command.Stop n k how) = stop n k (written_mode how)
+written_command command.End = finish
+
+-- commands of the code
+abbrev pub written_commands : List Command → List WrittenCommand
+written_commands cs = map written_command cs

@@ -8,6 +8,7 @@ use Rattle.std.specs.Ordering.{nat_cmp}
 abbrev pub with_name : List (List ℕ) → List ℕ → List (List ℕ)
 with_name names name = insert_key (slice_cmp nat_cmp) names name
 
+-- and several more
 abbrev pub with_names : List (List ℕ) → List (List ℕ) → List (List ℕ)
 with_names names [] = names
 with_names names (name ∷ more) = with_names (with_name names name) more

@@ -19,9 +19,11 @@ pub data Part : Type 0 where
   declaration : List ℕ → Part
   unclosed : List (List ℕ) → Part
 
+-- a line begins an Edentype
 abbrev pub begins_type : List ℕ → Bool
 begins_type bytes = bytes_eq (take 8 bytes) (codes "edentype")
 
+-- a line ends an Edentype
 abbrev pub ends_type : List ℕ → Bool
 ends_type bytes = bytes_eq bytes (codes "endtype")
 
@@ -33,8 +35,10 @@ abbrev mutual
 
   pub parts_behind : List ℕ → List (List ℕ) → List Part
   parts_behind text [] = unclosed (lines_of text) ∷ []
-  parts_behind text (bytes ∷ lines) = if ends_type bytes then declaration (text ++ bytes) ∷ parts_of lines else parts_behind (text ++ (bytes ++ 10 ∷ [])) lines
+  parts_behind text (bytes ∷ lines) =
+      if ends_type bytes then declaration (text ++ bytes) ∷ parts_of lines else parts_behind (text ++ (bytes ++ 10 ∷ [])) lines
 
+-- the lines of a part
 abbrev pub lines_in : Part → List (List ℕ)
 lines_in (line bytes) = bytes ∷ []
 lines_in (declaration text) = lines_of text

@@ -1,15 +1,18 @@
 -- Reading a line from left to right.
-use Rattle.std.specs.Prelude.{ℕ, zero, suc, pos, Bool, true, false, ◌||◌, ◌&&◌, ◌==◌, not, nat_le, nat_lt, List, [], ◌∷◌, ◌++◌, length, take, drop, codes, Option, Some, None, Result, Ok, Err, if◌then◌else◌, slice_index}
+use Rattle.std.specs.Prelude.{ℕ, zero, suc, pos, Bool, true, false, ◌||◌, ◌&&◌, ◌==◌, not, nat_le, nat_lt, List, [], ◌∷◌, ◌++◌, length}
+use Rattle.std.specs.Prelude.{take, drop, codes, Option, Some, None, Result, Ok, Err, if◌then◌else◌, slice_index}
 use Rattle.std.specs.List.{take_while, list_all, list_any}
 use Rattle.std.specs.Str.{bytes_eq}
 use Rattle.eden_script.specs.Form.{is_printable, is_digit, is_name_byte, is_lower, is_upper, is_number, number_of, is_constant, is_among}
-use Rattle.eden_script.specs.Tree.{Reference, How, keep, lose, garble, Written, plain, named, several, row_of, Order, create, hold, call, restrict, walk, turn, go, crash, restart, cut, join, fail, stop, finish, Line, idle, nodes, does}
+use Rattle.eden_script.specs.Tree.{WrittenRef, WrittenMode, keep, lose, garble, WrittenArg, plain, named, several, row_of, WrittenCommand, create, hold, call}
+use Rattle.eden_script.specs.Tree.{restrict, walk, turn, go, crash, restart, cut, join, fail, stop, finish, Line, idle, nodes, does}
 use Rattle.eden_value.specs.Datum.{number, truth, text, cap}
 use Rattle.eden_script.specs.Grammar.{minus}
 use Rattle.eden_script.specs.Causes.{Seen, uses, types, brings, command_words, first_word}
 use Rattle.eden_script.specs.Declarations.{type_names}
 use Rattle.eden_script.specs.declared.cause.ScriptCause.{ScriptCause}
-use Rattle.eden_script.specs.declared.cause.ScriptCause.TheVariants.{BadByte, LongLine, AfterEnd, NoCommand, Misplaced, BadForm, BadNumber, UnknownName, UnknownType, DoubledName}
+use Rattle.eden_script.specs.declared.cause.ScriptCause.TheVariants.{BadByte, LongLine, AfterEnd, NoCommand, Misplaced, BadForm, BadNumber}
+use Rattle.eden_script.specs.declared.cause.ScriptCause.TheVariants.{UnknownName, UnknownType, DoubledName}
 
 -- a value, or the cause
 abbrev pub Judged : Type 0 → Type 0
@@ -30,13 +33,16 @@ abbrev pub ◌>>=◌ : {A B : Type 0} → Judged A → (A → Judged B) → Judg
 abbrev pub behind : List ℕ → List ℕ → Option (List ℕ)
 behind word bytes = if bytes_eq (take (length word) bytes) word then Some (drop (length word) bytes) else None
 
+-- nothing found is a bad form
 abbrev pub form_of : {A : Type 0} → Option A → Judged A
 form_of None = Err BadForm
 form_of (Some x) = Ok x
 
+-- what stands behind a word that has to stand there
 abbrev pub read_word : List ℕ → List ℕ → Judged (List ℕ)
 read_word word bytes = form_of (behind word bytes)
 
+-- nothing more stands there
 abbrev pub read_end : List ℕ → Judged (Unit {0})
 read_end [] = Ok tt
 read_end (b ∷ bytes) = Err BadForm
@@ -46,12 +52,15 @@ abbrev pub read_while : (ℕ → Bool) → (List ℕ → Bool) → List ℕ → 
 read_while p whole bytes =
     if whole (take_while p bytes) then Ok (take_while p bytes, drop (length (take_while p bytes)) bytes) else Err BadForm
 
+-- a name that begins with a small letter
 abbrev pub read_lower : List ℕ → Reading (List ℕ)
 read_lower bytes = read_while is_name_byte is_lower bytes
 
+-- a name that begins with a great letter
 abbrev pub read_upper : List ℕ → Reading (List ℕ)
 read_upper bytes = read_while is_name_byte is_upper bytes
 
+-- digits, at least one
 abbrev pub read_digits : List ℕ → Reading (List ℕ)
 read_digits bytes = read_while is_digit is_number bytes
 
@@ -59,10 +68,12 @@ read_digits bytes = read_while is_digit is_number bytes
 abbrev pub up_to : ℕ → List ℕ → Option ℕ
 up_to most digits = if nat_le (number_of digits) most then Some (number_of digits) else None
 
+-- a number that is not too great, from a least one on
 abbrev pub at_least : ℕ → Option ℕ → Judged ℕ
 at_least low None = Err BadNumber
 at_least low (Some n) = if nat_le low n then Ok n else Err BadNumber
 
+-- the number of some digits, from one bound to the other
 abbrev pub within : ℕ → ℕ → List ℕ → Judged ℕ
 within low high digits = at_least low (up_to high digits)
 
@@ -73,6 +84,7 @@ abbrev pub with_front : List ℕ → Option (List ℕ × List ℕ) → Option (L
 with_front front None = None
 with_front front (Some found) = Some (front ++ found.0, found.1)
 
+-- one byte more in front of the text that is found
 abbrev pub text_and : ℕ → Option (List ℕ × List ℕ) → Option (List ℕ × List ℕ)
 text_and b None = None
 text_and b (Some found) = Some (b ∷ found.0, found.1)
@@ -86,12 +98,15 @@ text_body false (b ∷ bytes) =
     else (if b == 92 then text_body true bytes
     else (if is_printable b then text_and b (text_body false bytes) else None))
 
+-- a text of at most 1,024 bytes
 abbrev pub short_text : List ℕ × List ℕ → Reading (List ℕ)
 short_text found = if nat_le (length found.0) 1024 then Ok found else Err BadForm
 
+-- a text behind its first quote
 abbrev pub read_text : List ℕ → Reading (List ℕ)
 read_text bytes = form_of (text_body false bytes) >>= short_text
 
+-- a text with both quotes
 abbrev pub read_quoted : List ℕ → Reading (List ℕ)
 read_quoted bytes = read_word (codes "\"") bytes >>= read_text
 
@@ -106,15 +121,17 @@ abbrev pub read_result : List ℕ → List ℕ → Reading (List ℕ × Option (
 read_result name rest =
     if has_result rest then (read_digits (drop 1 rest) >>= λ k. Ok ((name, Some k.0), k.1)) else Ok ((name, None), rest)
 
+-- NAME, or NAME.K
 abbrev pub read_ref : List ℕ → Reading (List ℕ × Option (List ℕ))
 read_ref bytes = read_lower bytes >>= λ name. read_result name.0 name.1
 
-abbrev pub result_within : List ℕ → Judged ℕ → Judged Reference
+-- a reference to a result in its range
+abbrev pub result_within : List ℕ → Judged ℕ → Judged WrittenRef
 result_within name (Err e) = Err e
 result_within name (Ok k) = Ok (record { name = name; result = Some k })
 
 -- a reference whose number is from 1 to 8
-abbrev pub reference : List ℕ × Option (List ℕ) → Judged Reference
+abbrev pub reference : List ℕ × Option (List ℕ) → Judged WrittenRef
 reference (name, None) = Ok (record { name = name; result = None })
 reference (name, Some digits) = result_within name (within 1 8 digits)
 
@@ -122,30 +139,40 @@ reference (name, Some digits) = result_within name (within 1 8 digits)
 
 -- A value is read whole, and is none where a number in it is out of its range.
 abbrev pub Maybe : Type 0
-Maybe = Option Written
+Maybe = Option WrittenArg
 
+-- an integer without a sign, in its range
 abbrev pub positive : Option ℕ → Maybe
 positive None = None
 positive (Some n) = Some (plain (number (pos n)))
 
+-- an integer behind a minus, in its range
 abbrev pub negative : Option ℕ → Maybe
 negative None = None
 negative (Some n) = Some (plain (number (minus n)))
 
+-- an integer without a sign
 abbrev pub read_positive : List ℕ → Reading Maybe
 read_positive bytes = read_digits bytes >>= λ d. Ok (positive (up_to 9223372036854775807 d.0), d.1)
 
+-- an integer behind its minus
 abbrev pub read_negative : List ℕ → Reading Maybe
 read_negative bytes = read_digits bytes >>= λ d. Ok (negative (up_to 9223372036854775808 d.0), d.1)
 
 -- the value of a word of values
 abbrev pub constant : List ℕ → Maybe
-constant word = if bytes_eq word (codes "true") then Some (plain (truth true)) else (if bytes_eq word (codes "false") then Some (plain (truth false)) else (if bytes_eq word (codes "none") then Some (plain (cap None)) else None))
+constant word =
+    if bytes_eq word (codes "true") then Some (plain (truth true))
+    else (if bytes_eq word (codes "false") then Some (plain (truth false))
+    else (if bytes_eq word (codes "none") then Some (plain (cap None))
+    else None))
 
+-- a reference to the result of this number
 abbrev pub result_value' : List ℕ → Option ℕ → Maybe
 result_value' name None = None
 result_value' name (Some k) = if k == 0 then None else Some (named (record { name = name; result = Some k }))
 
+-- a reference to the result that some digits number
 abbrev pub result_value : List ℕ → List ℕ → Maybe
 result_value name digits = result_value' name (up_to 8 digits)
 
@@ -154,9 +181,11 @@ abbrev pub name_value' : List ℕ → Maybe → Maybe
 name_value' name (Some g) = Some g
 name_value' name None = Some (named (record { name = name; result = None }))
 
+-- the value that a name alone stands for, or a reference to it
 abbrev pub name_value : List ℕ → Maybe
 name_value name = name_value' name (constant name)
 
+-- a value by its name
 abbrev pub named_value : List ℕ × Option (List ℕ) → Maybe
 named_value (name, None) = name_value name
 named_value (name, Some digits) = result_value name digits
@@ -170,12 +199,15 @@ is_value_word (name, Some digits) = false
 abbrev pub allowed : Bool → List ℕ × Option (List ℕ) → Judged (Unit {0})
 allowed names words = if names || is_value_word words then Ok tt else Err BadForm
 
+-- a value by its name, where names are read, or a word of values
 abbrev pub read_named : Bool → List ℕ → Reading Maybe
 read_named names bytes = read_ref bytes >>= λ r. allowed names r.0 >>= λ _. Ok (named_value r.0, r.1)
 
+-- a text as a value
 abbrev pub read_text_value : List ℕ → Reading Maybe
 read_text_value bytes = read_text bytes >>= λ t. Ok (Some (plain (text t.0)), t.1)
 
+-- a value that is no list
 abbrev pub read_flat : Bool → List ℕ → Reading Maybe
 read_flat names [] = Err BadForm
 read_flat names (b ∷ bytes) =
@@ -184,37 +216,45 @@ read_flat names (b ∷ bytes) =
     else (if is_digit b then read_positive (b ∷ bytes)
     else read_named names (b ∷ bytes)))
 
-abbrev pub added : Option (List Written) → Maybe → Option (List Written)
+-- one value more at the end, if none was out of range
+abbrev pub added : Option (List WrittenArg) → Maybe → Option (List WrittenArg)
 added None g = None
 added (Some gs) None = None
 added (Some gs) (Some g) = Some (gs ++ g ∷ [])
 
-abbrev pub read_close : List ℕ → Option (List Written) → List ℕ → Reading (Option (List Written))
+-- the end of some values
+abbrev pub read_close : List ℕ → Option (List WrittenArg) → List ℕ → Reading (Option (List WrittenArg))
 read_close close so_far bytes = read_word close bytes >>= λ rest. Ok (so_far, rest)
 
-abbrev pub more_by : Option (List ℕ) → Reading (Option (List Written)) → (List ℕ → Reading (Option (List Written))) → Reading (Option (List Written))
+-- what is read behind a comma, or else
+abbrev pub more_by : Option (List ℕ) → Reading (Option (List WrittenArg)) → (List ℕ → Reading (Option (List WrittenArg)))
+    → Reading (Option (List WrittenArg))
 more_by None else_ then_ = else_
 more_by (Some rest) else_ then_ = then_ rest
 
 -- the values behind the first, at most so many
-abbrev pub more_values : (List ℕ → Reading Maybe) → List ℕ → ℕ → Option (List Written) → List ℕ → Reading (Option (List Written))
+abbrev pub more_values : (List ℕ → Reading Maybe) → List ℕ → ℕ → Option (List WrittenArg) → List ℕ → Reading (Option (List WrittenArg))
 more_values value close zero so_far bytes = read_close close so_far bytes
 more_values value close (suc n) so_far bytes =
-    more_by (behind (codes ", ") bytes) (read_close close so_far bytes) (λ rest. value rest >>= λ x. more_values value close n (added so_far x.0) x.1)
+    more_by (behind (codes ", ") bytes) (read_close close so_far bytes)
+    (λ rest. value rest >>= λ x. more_values value close n (added so_far x.0) x.1)
 
-abbrev pub closed_by : Option (List ℕ) → Reading (Option (List Written)) → Reading (Option (List Written))
+-- no values, or else
+abbrev pub closed_by : Option (List ℕ) → Reading (Option (List WrittenArg)) → Reading (Option (List WrittenArg))
 closed_by None else_ = else_
 closed_by (Some rest) else_ = Ok (Some [], rest)
 
 -- values up to and with what closes them, at most so many and one
-abbrev pub read_values : (List ℕ → Reading Maybe) → List ℕ → ℕ → List ℕ → Reading (Option (List Written))
+abbrev pub read_values : (List ℕ → Reading Maybe) → List ℕ → ℕ → List ℕ → Reading (Option (List WrittenArg))
 read_values value close most bytes =
     closed_by (behind close bytes) (value bytes >>= λ x. more_values value close most (added (Some []) x.0) x.1)
 
-abbrev pub listed : Option (List Written) → Maybe
+-- a list of these values
+abbrev pub listed : Option (List WrittenArg) → Maybe
 listed None = None
 listed (Some gs) = Some (several (row_of gs))
 
+-- a list where it begins, or else
 abbrev pub list_by : Option (List ℕ) → Reading Maybe → (List ℕ → Reading Maybe) → Reading Maybe
 list_by None else_ then_ = else_
 list_by (Some rest) else_ then_ = then_ rest
@@ -223,111 +263,140 @@ list_by (Some rest) else_ then_ = then_ rest
 abbrev pub read_value : Bool → ℕ → List ℕ → Reading Maybe
 read_value names zero bytes = read_flat names bytes
 read_value names (suc n) bytes =
-    list_by (behind (codes "[") bytes) (read_flat names bytes) (λ rest. read_values (read_value names n) (codes "]") 255 rest >>= λ x. Ok (listed x.0, x.1))
+    list_by (behind (codes "[") bytes) (read_flat names bytes)
+    (λ rest. read_values (read_value names n) (codes "]") 255 rest >>= λ x. Ok (listed x.0, x.1))
 
 -- ## Commands, behind their words
 
+-- a name and a blank
 abbrev pub read_lower_and_blank : List ℕ → Reading (List ℕ)
 read_lower_and_blank bytes = read_lower bytes >>= λ n. read_word (codes " ") n.1 >>= λ rest. Ok (n.0, rest)
 
+-- digits and a word behind them
 abbrev pub read_digits_and : List ℕ → List ℕ → Reading (List ℕ)
 read_digits_and mark bytes = read_digits bytes >>= λ d. read_word mark d.1 >>= λ rest. Ok (d.0, rest)
 
+-- digits, and nothing more
 abbrev pub read_last_digits : List ℕ → Judged (List ℕ)
 read_last_digits bytes = read_digits bytes >>= λ d. read_end d.1 >>= λ _. Ok d.0
 
+-- two numbers parted by a blank, and nothing more
 abbrev pub read_two_digits : List ℕ → Judged (List ℕ × List ℕ)
 read_two_digits bytes = read_digits_and (codes " ") bytes >>= λ a. read_last_digits a.1 >>= λ b. Ok (a.0, b)
 
+-- what is none is out of its range
 abbrev pub in_range : {A : Type 0} → Option A → Judged A
 in_range None = Err BadNumber
 in_range (Some x) = Ok x
 
 -- a value alone, with no name in it
-abbrev pub read_alone : List ℕ → Judged Written
+abbrev pub read_alone : List ℕ → Judged WrittenArg
 read_alone bytes = read_value false 4 bytes >>= λ v. read_end v.1 >>= λ _. in_range v.0
 
-abbrev pub garbled : Option ℕ → Option How
+-- a byte in place of unsynced ones
+abbrev pub garbled : Option ℕ → Option WrittenMode
 garbled None = None
 garbled (Some b) = Some (garble b)
 
 -- a mode is none where its byte is out of its range
-abbrev pub read_mode : List ℕ → Judged (Option How)
+abbrev pub read_mode : List ℕ → Judged (Option WrittenMode)
 read_mode bytes =
     if bytes_eq bytes (codes " keep") then Ok (Some keep)
     else (if bytes_eq bytes (codes " lose") then Ok (Some lose)
     else (read_word (codes " garble ") bytes >>= λ rest. read_last_digits rest >>= λ d. Ok (garbled (up_to 255 d))))
 
-abbrev pub read_crash_mode : List ℕ → Judged (Option How)
+-- what a crash leaves, which may be left out
+abbrev pub read_crash_mode : List ℕ → Judged (Option WrittenMode)
 read_crash_mode [] = Ok (Some lose)
 read_crash_mode (b ∷ bytes) = read_mode (b ∷ bytes)
 
-abbrev pub read_create : ℕ → List ℕ → Judged Order
+-- behind `create `
+abbrev pub read_create : ℕ → List ℕ → Judged WrittenCommand
 read_create most bytes =
     read_lower_and_blank bytes >>= λ n. read_digits_and (codes " ") n.1 >>= λ d. read_upper d.1 >>= λ t. read_end t.1 >>= λ _.
     within 1 most d.0 >>= λ node. Ok (create n.0 node t.0)
 
-abbrev pub read_hold : ℕ → List ℕ → Judged Order
+-- behind `hold `
+abbrev pub read_hold : ℕ → List ℕ → Judged WrittenCommand
 read_hold most bytes =
-    read_lower_and_blank bytes >>= λ n. read_digits_and (codes ".") n.1 >>= λ d. read_digits_and (codes ".") d.1 >>= λ e. read_last_digits e.1 >>= λ s.
+    read_lower_and_blank bytes >>= λ n. read_digits_and (codes ".") n.1 >>= λ d. read_digits_and (codes ".") d.1 >>= λ e.
+    read_last_digits e.1 >>= λ s.
     within 1 most d.0 >>= λ node. within 1 4294967295 e.0 >>= λ epoch. within 1 4294967295 s >>= λ serial. Ok (hold n.0 node epoch serial)
 
-abbrev pub read_call : List ℕ → Judged Order
+-- behind `call `
+abbrev pub read_call : List ℕ → Judged WrittenCommand
 read_call bytes =
-    read_lower_and_blank bytes >>= λ n. read_ref n.1 >>= λ r. read_word (codes ".") r.1 >>= λ rest. read_upper rest >>= λ op. read_word (codes "(") op.1 >>= λ rest.
+    read_lower_and_blank bytes >>= λ n. read_ref n.1 >>= λ r. read_word (codes ".") r.1 >>= λ rest. read_upper rest >>= λ op.
+    read_word (codes "(") op.1 >>= λ rest.
     read_values (read_value true 4) (codes ")") 4096 rest >>= λ vs. read_end vs.1 >>= λ _.
     reference r.0 >>= λ target. in_range vs.0 >>= λ args. Ok (call n.0 target op.0 (row_of args))
 
-abbrev pub read_restrict : List ℕ → Judged Order
+-- behind `restrict `
+abbrev pub read_restrict : List ℕ → Judged WrittenCommand
 read_restrict bytes =
     read_lower_and_blank bytes >>= λ n. read_ref n.1 >>= λ r. read_word (codes " ") r.1 >>= λ rest. read_last_digits rest >>= λ d.
     reference r.0 >>= λ target. within 0 65535 d >>= λ mask. Ok (restrict n.0 target mask)
 
-abbrev pub read_walk : List ℕ → Judged Order
+-- behind `walk `
+abbrev pub read_walk : List ℕ → Judged WrittenCommand
 read_walk bytes =
-    read_lower_and_blank bytes >>= λ n. read_ref n.1 >>= λ r. read_word (codes " ") r.1 >>= λ rest. read_quoted rest >>= λ path. read_end path.1 >>= λ _.
+    read_lower_and_blank bytes >>= λ n. read_ref n.1 >>= λ r. read_word (codes " ") r.1 >>= λ rest. read_quoted rest >>= λ path.
+    read_end path.1 >>= λ _.
     reference r.0 >>= λ target. Ok (walk n.0 target path.0)
 
-abbrev pub read_turn : List ℕ → Judged Order
+-- behind `turn `
+abbrev pub read_turn : List ℕ → Judged WrittenCommand
 read_turn bytes = read_last_digits bytes >>= λ d. within 0 1000000 d >>= λ i. Ok (turn i)
 
-abbrev pub read_go : List ℕ → Judged Order
+-- behind `go `
+abbrev pub read_go : List ℕ → Judged WrittenCommand
 read_go bytes = read_last_digits bytes >>= λ d. within 1 1000000 d >>= λ n. Ok (go n)
 
-abbrev pub read_crash : ℕ → List ℕ → Judged Order
+-- behind `crash `
+abbrev pub read_crash : ℕ → List ℕ → Judged WrittenCommand
 read_crash most bytes =
     read_digits bytes >>= λ d. read_crash_mode d.1 >>= λ how. within 1 most d.0 >>= λ node. in_range how >>= λ how. Ok (crash node how)
 
-abbrev pub read_restart : ℕ → List ℕ → Judged Order
+-- behind `restart `
+abbrev pub read_restart : ℕ → List ℕ → Judged WrittenCommand
 read_restart most bytes = read_last_digits bytes >>= λ d. within 1 most d >>= λ node. Ok (restart node)
 
+-- two stations of a link differ
 abbrev pub two_stations : List ℕ × List ℕ → Judged (List ℕ × List ℕ)
 two_stations words = if number_of words.0 == number_of words.1 then Err BadForm else Ok words
 
+-- two stations
 abbrev pub read_stations : ℕ → List ℕ → Judged (ℕ × ℕ)
 read_stations most bytes =
-    read_two_digits bytes >>= λ words. two_stations words >>= λ words. within 0 most words.0 >>= λ a. within 0 most words.1 >>= λ b. Ok (a, b)
+    read_two_digits bytes >>= λ words. two_stations words >>= λ words.
+    within 0 most words.0 >>= λ a. within 0 most words.1 >>= λ b. Ok (a, b)
 
-abbrev pub read_cut : ℕ → List ℕ → Judged Order
+-- behind `cut `
+abbrev pub read_cut : ℕ → List ℕ → Judged WrittenCommand
 read_cut most bytes = read_stations most bytes >>= λ s. Ok (cut s.0 s.1)
 
-abbrev pub read_join : ℕ → List ℕ → Judged Order
+-- behind `join `
+abbrev pub read_join : ℕ → List ℕ → Judged WrittenCommand
 read_join most bytes = read_stations most bytes >>= λ s. Ok (join s.0 s.1)
 
-abbrev pub read_fail : ℕ → List ℕ → Judged Order
+-- behind `fail `
+abbrev pub read_fail : ℕ → List ℕ → Judged WrittenCommand
 read_fail most bytes =
     read_two_digits bytes >>= λ words. within 1 most words.0 >>= λ node. within 1 1000000 words.1 >>= λ k. Ok (fail node k)
 
-abbrev pub read_stop : ℕ → List ℕ → Judged Order
+-- behind `stop `
+abbrev pub read_stop : ℕ → List ℕ → Judged WrittenCommand
 read_stop most bytes =
     read_digits_and (codes " ") bytes >>= λ d. read_digits d.1 >>= λ k. read_mode k.1 >>= λ how.
     within 1 most d.0 >>= λ node. within 1 1000000 k.0 >>= λ after. in_range how >>= λ how. Ok (stop node after how)
 
-abbrev pub when : Option (List ℕ) → (List ℕ → Judged Order) → Judged Order → Judged Order
+-- what is read behind a word, or else
+abbrev pub when : Option (List ℕ) → (List ℕ → Judged WrittenCommand) → Judged WrittenCommand → Judged WrittenCommand
 when None read else_ = else_
 when (Some rest) read else_ = read rest
 
-abbrev pub read_link_or_fault : ℕ → List ℕ → Judged Order
+-- a command on links or disks, or the last one
+abbrev pub read_link_or_fault : ℕ → List ℕ → Judged WrittenCommand
 read_link_or_fault most bytes =
     when (behind (codes "cut ") bytes) (read_cut most) (
     when (behind (codes "join ") bytes) (read_join most) (
@@ -335,7 +404,8 @@ read_link_or_fault most bytes =
     when (behind (codes "stop ") bytes) (read_stop most) (
     if bytes_eq bytes (codes "end") then Ok finish else Err BadForm))))
 
-abbrev pub read_run : ℕ → List ℕ → Judged Order
+-- a command on turns or nodes, or one of those
+abbrev pub read_run : ℕ → List ℕ → Judged WrittenCommand
 read_run most bytes =
     when (behind (codes "turn ") bytes) read_turn (
     when (behind (codes "go ") bytes) read_go (
@@ -343,8 +413,9 @@ read_run most bytes =
     when (behind (codes "restart ") bytes) (read_restart most) (
     read_link_or_fault most bytes))))
 
-abbrev pub read_order : ℕ → List ℕ → Judged Order
-read_order most bytes =
+-- a command behind `nodes`
+abbrev pub read_command : ℕ → List ℕ → Judged WrittenCommand
+read_command most bytes =
     when (behind (codes "create ") bytes) (read_create most) (
     when (behind (codes "hold ") bytes) (read_hold most) (
     when (behind (codes "call ") bytes) read_call (
@@ -352,11 +423,13 @@ read_order most bytes =
     when (behind (codes "walk ") bytes) read_walk (
     read_run most bytes)))))
 
+-- the command `nodes`
 abbrev pub read_nodes : List ℕ → Judged Line
 read_nodes bytes = read_word (codes "nodes ") bytes >>= λ rest. read_last_digits rest >>= λ d. within 1 8 d >>= λ n. Ok (nodes n)
 
 -- ## Lines
 
+-- a blank line or a comment
 abbrev pub is_idle : List ℕ → Bool
 is_idle [] = true
 is_idle (b ∷ bytes) = b == 35
@@ -369,13 +442,15 @@ named_in seen l =
     else (if list_any (is_among seen.names) (brings l) then Err DoubledName
     else Ok l))
 
-abbrev pub judge_order : Seen → List ℕ → Judged Line
-judge_order seen bytes = read_order seen.nodes bytes >>= λ o. named_in seen (does o)
+-- a command whose names are known and new as they have to be
+abbrev pub judge_command : Seen → List ℕ → Judged Line
+judge_command seen bytes = read_command seen.nodes bytes >>= λ o. named_in seen (does o)
 
+-- a line by its first word
 abbrev pub judge_word : Seen → List ℕ → List ℕ → Judged Line
 judge_word seen word bytes =
     if bytes_eq word (codes "nodes") then (if seen.nodes == 0 then read_nodes bytes else Err Misplaced)
-    else (if is_among command_words word then (if seen.nodes == 0 then Err Misplaced else judge_order seen bytes)
+    else (if is_among command_words word then (if seen.nodes == 0 then Err Misplaced else judge_command seen bytes)
     else Err NoCommand)
 
 -- what a line says, or its first cause

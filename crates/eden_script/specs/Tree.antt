@@ -5,38 +5,40 @@ use Rattle.eden_value.specs.Datum.{Datum}
 use Rattle.epl_syntax.specs.Tree.{Edentype}
 
 -- a name alone, or a name and the number of a result
-pub record Reference : Type 0 where
+pub record WrittenRef : Type 0 where
   pub name : List ℕ
   pub result : Option ℕ
 
 -- what a power cut leaves of unsynced bytes
-pub data How : Type 0 where
-  keep : How
-  lose : How
-  garble : ℕ → How
+pub data WrittenMode : Type 0 where
+  keep : WrittenMode
+  lose : WrittenMode
+  garble : ℕ → WrittenMode
 
 -- an argument of a call: a value that is no list, what a name stands for, or a list
 mutual
-  pub data Written : Type 0 where
-    plain : Datum → Written
-    named : Reference → Written
-    several : Row → Written
+  pub data WrittenArg : Type 0 where
+    plain : Datum → WrittenArg
+    named : WrittenRef → WrittenArg
+    several : Row → WrittenArg
 
   pub data Row : Type 0 where
     no_more : Row
-    and_more : Written → Row → Row
+    and_more : WrittenArg → Row → Row
 
-abbrev pub row_of : List Written → Row
+-- the values of a list
+abbrev pub row_of : List WrittenArg → Row
 row_of [] = no_more
 row_of (g ∷ gs) = and_more g (row_of gs)
 
+-- how many they are
 abbrev pub size : Row → ℕ
 size no_more = 0
 size (and_more g gs) = suc (size gs)
 
 -- how deep lists stand in one another; a reference counts as no list
 abbrev mutual
-  pub depth : Written → ℕ
+  pub depth : WrittenArg → ℕ
   depth (plain d) = 0
   depth (named r) = 0
   depth (several gs) = suc (row_depth gs)
@@ -46,26 +48,26 @@ abbrev mutual
   row_depth (and_more g gs) = max (depth g) (row_depth gs)
 
 -- a command behind `nodes`
-pub data Order : Type 0 where
-  create : (name : List ℕ) (node : ℕ) (type_name : List ℕ) → Order
-  hold : (name : List ℕ) (node epoch serial : ℕ) → Order
-  call : (name : List ℕ) (target : Reference) (operation : List ℕ) (args : Row) → Order
-  restrict : (name : List ℕ) (target : Reference) (mask : ℕ) → Order
-  walk : (name : List ℕ) (target : Reference) (path : List ℕ) → Order
-  turn : (i : ℕ) → Order
-  go : (n : ℕ) → Order
-  crash : (node : ℕ) (how : How) → Order
-  restart : (node : ℕ) → Order
-  cut : (a b : ℕ) → Order
-  join : (a b : ℕ) → Order
-  fail : (node after : ℕ) → Order
-  stop : (node after : ℕ) (how : How) → Order
-  finish : Order
+pub data WrittenCommand : Type 0 where
+  create : (name : List ℕ) (node : ℕ) (type_name : List ℕ) → WrittenCommand
+  hold : (name : List ℕ) (node epoch serial : ℕ) → WrittenCommand
+  call : (name : List ℕ) (target : WrittenRef) (operation : List ℕ) (args : Row) → WrittenCommand
+  restrict : (name : List ℕ) (target : WrittenRef) (mask : ℕ) → WrittenCommand
+  walk : (name : List ℕ) (target : WrittenRef) (path : List ℕ) → WrittenCommand
+  turn : (i : ℕ) → WrittenCommand
+  go : (n : ℕ) → WrittenCommand
+  crash : (node : ℕ) (how : WrittenMode) → WrittenCommand
+  restart : (node : ℕ) → WrittenCommand
+  cut : (a b : ℕ) → WrittenCommand
+  join : (a b : ℕ) → WrittenCommand
+  fail : (node after : ℕ) → WrittenCommand
+  stop : (node after : ℕ) (how : WrittenMode) → WrittenCommand
+  finish : WrittenCommand
 
 -- what a part of a script says: nothing (a blank line or a comment), `nodes`, a command, a type, or a type that is not ended
 pub data Line : Type 0 where
   idle : Line
   nodes : ℕ → Line
-  does : Order → Line
+  does : WrittenCommand → Line
   declares : Edentype → Line
   unended : Line

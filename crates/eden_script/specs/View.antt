@@ -1,18 +1,25 @@
 -- What the code's values are, as they are written.
-use Rattle.std.specs.Prelude.{◌≡◌, ℕ, ◌-◌, [], None, Result, Ok, Err}
+use Rattle.std.specs.Prelude.{◌≡◌, ℕ, ◌-◌, false, List, [], map, Option, None, Result, Ok, Err}
+use Rattle.std.specs.List.{list_any}
+use Rattle.std.specs.Option.{option_map}
+use Rattle.std.specs.declared.vec.Vec.{Vec}
+use Rattle.std.specs.declared.alloc.Global.{Global}
+use Rattle.std.specs.Borrow.{Bor}
 use Rattle.eden_value.specs.Datum.{Datum, Data, cap, list, no_data, data_and}
 use Rattle.eden_value.specs.View.{datum}
 use Rattle.eden_value.specs.declared.value.Value.{Value}
-use Rattle.journal.specs.GivenView.{given}
+use Rattle.eden_model.specs.Map.{same_text}
+use Rattle.journal.specs.ArgumentView.{given}
 use Rattle.journal.specs.declared.command.Arg.{Arg}
 use Rattle.epl_syntax.specs.Tree.{edentype}
 use Rattle.epl_syntax.specs.Rules.InItems.{broken_program}
 use Rattle.epl_syntax.specs.Rules.OfTypes.{TypeList, names_of}
 use Rattle.eden_script.specs.Declarations.{DECLARED_LIMIT, types_in}
-use Rattle.eden_script.specs.Tree.{Written, plain, named, several, Row, no_more, and_more, Line, idle, nodes, does, declares, unended}
+use Rattle.eden_script.specs.Tree.{WrittenArg, plain, named, several, Row, no_more, and_more, Line, idle, nodes, does, declares, unended}
 use Rattle.eden_script.specs.Reading.{Judged}
-use Rattle.eden_script.specs.Causes.{Seen as Known, declared_count}
-use Rattle.eden_script.specs.Flaws.{Place}
+use Rattle.eden_script.specs.Parts.{Part}
+use Rattle.eden_script.specs.Causes.{Seen as Known, declared_count, IsCause, IsSaid}
+use Rattle.eden_script.specs.Flaws.{Place, FirstSays, FirstFails}
 use Rattle.eden_script.specs.Script.{after}
 use Rattle.eden_script.specs.declared.cause.ScriptCause.{ScriptCause}
 use Rattle.eden_script.specs.declared.flaw.Place.{Place as CodePlace}
@@ -23,7 +30,7 @@ use Rattle.eden_script.specs.declared.line.Line.{Line as CodeLine}
 use Rattle.eden_script.specs.declared.line.Line.TheVariants as code
 use Rattle.eden_script.specs.declared.reader.Fault.{Fault}
 use Rattle.eden_script.specs.declared.reader.Fault.TheVariants.{Bad, Memory}
-use Rattle.eden_script.specs.Meaning.{written_of, order_of}
+use Rattle.eden_script.specs.Meaning.{written_arg, written_command}
 
 -- What a function returned, seen by view, is what reading gives, unless memory ran out.
 abbrev pub Fails : {B : Type 0} → Fault → Judged B → Type 0
@@ -35,15 +42,20 @@ Gives view (Ok x) r = r ≡ Ok (view x)
 Gives view (Err e) r = Fails e r
 
 -- an argument of the code
-abbrev pub written : Arg → Written
-written a = written_of (given a)
+abbrev pub written : Arg → WrittenArg
+written a = written_arg (given a)
 
-abbrev pub plainly : Value → Written
+-- values that were read in a row, or none where one is out of its range
+abbrev pub values_read : Option (Vec Arg Global) → Option (List WrittenArg)
+values_read found = option_map (λ v. map written v.items) found
+
+-- a value that is written out
+abbrev pub plainly : Value → WrittenArg
 plainly v = plain (datum v)
 
 -- the value that an argument without names is
 abbrev mutual
-  pub value_in : Written → Datum
+  pub value_in : WrittenArg → Datum
   value_in (plain d) = d
   value_in (named r) = cap None
   value_in (several gs) = list (data_in gs)
@@ -52,13 +64,15 @@ abbrev mutual
   data_in no_more = no_data
   data_in (and_more g gs) = data_and (value_in g) (data_in gs)
 
+-- a line of the code
 abbrev pub line_of : CodeLine → Line
 line_of code.Idle = idle
 line_of (code.Nodes n) = nodes n
-line_of (code.Does c) = does (order_of c)
+line_of (code.Does c) = does (written_command c)
 line_of (code.Declares c) = declares (edentype c.program)
 line_of code.Unended = unended
 
+-- what the parts so far leave, in the code
 abbrev pub seen_of : Seen → Known
 seen_of s = record { types = types_in s.types; nodes = s.nodes; names = s.names; ended = s.ended }
 
@@ -71,11 +85,14 @@ abbrev pub room_after : ℕ → Line → ℕ
 room_after room (declares t) = room - 1
 room_after room _ = room
 
--- a type that is declared behind these keeps the rules
+-- a type that is declared behind these keeps the rules, and none of them has its name
 abbrev pub KeepsRules : TypeList → CodeLine → Type 0
-KeepsRules types (code.Declares c) = broken_program (names_of types) (edentype c.program) ≡ []
+KeepsRules types (code.Declares c) =
+    (broken_program (names_of types) (edentype c.program) ≡ [])
+    × (list_any (λ t. same_text t c.program.name.text) (names_of types) ≡ false)
 KeepsRules types _ = Unit {0}
 
+-- a place of the code
 abbrev pub place_of : CodePlace → Place
 place_of p = (p.line, p.cause)
 
@@ -87,6 +104,13 @@ FailsBy Fails (flaw.At at) = Fails at.line at.cause
 abbrev pub Finds : {X : Type 0} → (X → Type 0) → (ℕ → ScriptCause → Type 0) → Result X Flaw → Type 0
 Finds Says Fails (Ok x) = Says x
 Finds Says Fails (Err e) = FailsBy Fails e
+
+-- what a function found of one part, and of the first part of some bytes
+abbrev pub PartFinds : Known → Part → Result CodeLine Flaw → Type 0
+PartFinds seen part found = Finds (λ l. IsSaid seen part (line_of l)) (IsCause seen part) found
+
+abbrev pub FirstFinds : Known → List ℕ → Result (CodeLine × ℕ × Bor (List ℕ)) Flaw → Type 0
+FirstFinds seen bytes found = Finds (λ x. FirstSays seen bytes (line_of x.0) x.1 x.2.now) (FirstFails seen bytes) found
 
 -- what a part leaves besides its type
 abbrev pub noted : Known → Line → Known

@@ -38,6 +38,7 @@ pub enum ScriptCause {
 pub enum ScriptRefusal {
     /// The first bad line, counted from 1, and its first cause.
     Bad { line: u32, cause: ScriptCause },
+    /// No memory was left for it.
     OutOfMemory,
 }
 

@@ -6,7 +6,7 @@ ghost use Rattle.std.specs.Option.{option_map};
 ghost use Rattle.std.specs.Str.{bytes_eq};
 ghost use Rattle.eden_script.specs.Form as form;
 ghost use Rattle.eden_script.specs.Reading as reading;
-ghost use Rattle.eden_script.specs.Meaning.{order_of, how_of};
+ghost use Rattle.eden_script.specs.Meaning.{written_command, written_mode};
 ghost use Rattle.eden_script.specs.View.{Gives, written};
 
 use crate::cause::ScriptCause;
@@ -20,8 +20,9 @@ use eden_disk::ImageMode;
 use journal::{Arg, Args, Command};
 use std::alloc::Global;
 
+/// What stands behind `create `, where there are `most` nodes.
 pub fn create(alloc: Global, most: u8, bytes: &[u8]) -> Result<Command, Fault>
-    ensures { Gives order_of result (reading.read_create most bytes.now) }
+    ensures { Gives written_command result (reading.read_create most bytes.now) }
 {
     let (name, rest) = lower_and_blank(bytes)?;
     let (node, rest) = digits_and(b" ", rest)?;
@@ -35,8 +36,9 @@ pub fn create(alloc: Global, most: u8, bytes: &[u8]) -> Result<Command, Fault>
     })
 }
 
+/// What stands behind `hold `, where there are `most` nodes.
 pub fn hold(alloc: Global, most: u8, bytes: &[u8]) -> Result<Command, Fault>
-    ensures { Gives order_of result (reading.read_hold most bytes.now) }
+    ensures { Gives written_command result (reading.read_hold most bytes.now) }
 {
     let (name, rest) = lower_and_blank(bytes)?;
     let (node, rest) = digits_and(b".", rest)?;
@@ -64,8 +66,9 @@ fn args_in_range(args: Option<Vec<Arg>>) -> Result<Vec<Arg>, Fault>
     }
 }
 
+/// What stands behind `call `.
 pub fn call(alloc: Global, bytes: &[u8]) -> Result<Command, Fault>
-    ensures { Gives order_of result (reading.read_call bytes.now) }
+    ensures { Gives written_command result (reading.read_call bytes.now) }
 {
     let (name, rest) = lower_and_blank(bytes)?;
     let (target, rest) = reference_words(rest)?;
@@ -84,8 +87,9 @@ pub fn call(alloc: Global, bytes: &[u8]) -> Result<Command, Fault>
     })
 }
 
+/// What stands behind `restrict `.
 pub fn restrict(alloc: Global, bytes: &[u8]) -> Result<Command, Fault>
-    ensures { Gives order_of result (reading.read_restrict bytes.now) }
+    ensures { Gives written_command result (reading.read_restrict bytes.now) }
 {
     let (name, rest) = lower_and_blank(bytes)?;
     let (target, rest) = reference_words(rest)?;
@@ -100,8 +104,9 @@ pub fn restrict(alloc: Global, bytes: &[u8]) -> Result<Command, Fault>
     })
 }
 
+/// What stands behind `walk `.
 pub fn walk(alloc: Global, bytes: &[u8]) -> Result<Command, Fault>
-    ensures { Gives order_of result (reading.read_walk bytes.now) }
+    ensures { Gives written_command result (reading.read_walk bytes.now) }
 {
     let (name, rest) = lower_and_blank(bytes)?;
     let (target, rest) = reference_words(rest)?;
@@ -116,16 +121,18 @@ pub fn walk(alloc: Global, bytes: &[u8]) -> Result<Command, Fault>
     })
 }
 
+/// What stands behind `turn `.
 pub fn turn(bytes: &[u8]) -> Result<Command, Fault>
-    ensures { Gives order_of result (reading.read_turn bytes.now) }
+    ensures { Gives written_command result (reading.read_turn bytes.now) }
 {
     let i = last_digits(bytes)?;
     let i = within(0, 1_000_000, i)? as u32;
     Ok(Command::Turn { i })
 }
 
+/// What stands behind `go `.
 pub fn go(bytes: &[u8]) -> Result<Command, Fault>
-    ensures { Gives order_of result (reading.read_go bytes.now) }
+    ensures { Gives written_command result (reading.read_go bytes.now) }
 {
     let n = last_digits(bytes)?;
     let n = within(1, 1_000_000, n)? as u32;
@@ -134,7 +141,7 @@ pub fn go(bytes: &[u8]) -> Result<Command, Fault>
 
 /// A mode that is none where its byte is out of its range.
 fn mode(bytes: &[u8]) -> Result<Option<ImageMode>, Fault>
-    ensures { Gives (option_map how_of) result (reading.read_mode bytes.now) }
+    ensures { Gives (option_map written_mode) result (reading.read_mode bytes.now) }
 {
     if bytes == b" keep".as_slice() {
         return Ok(Some(ImageMode::Keep));
@@ -148,14 +155,14 @@ fn mode(bytes: &[u8]) -> Result<Option<ImageMode>, Fault>
 }
 
 fn garble(digits: &[u8]) -> Option<ImageMode>
-    ensures { option_map how_of result ≡ reading.garbled (reading.up_to 255 digits.now) }
+    ensures { option_map written_mode result ≡ reading.garbled (reading.up_to 255 digits.now) }
 {
     let byte = up_to(255, digits)? as u8;
     Some(ImageMode::Garble { byte })
 }
 
 fn crash_mode(bytes: &[u8]) -> Result<Option<ImageMode>, Fault>
-    ensures { Gives (option_map how_of) result (reading.read_crash_mode bytes.now) }
+    ensures { Gives (option_map written_mode) result (reading.read_crash_mode bytes.now) }
 {
     if bytes.is_empty() {
         return Ok(Some(ImageMode::Lose));
@@ -164,7 +171,7 @@ fn crash_mode(bytes: &[u8]) -> Result<Option<ImageMode>, Fault>
 }
 
 fn mode_in_range(mode: Option<ImageMode>) -> Result<ImageMode, Fault>
-    ensures { Gives how_of result (reading.in_range (option_map how_of mode)) }
+    ensures { Gives written_mode result (reading.in_range (option_map written_mode mode)) }
 {
     match mode {
         Some(mode) => Ok(mode),
@@ -174,8 +181,9 @@ fn mode_in_range(mode: Option<ImageMode>) -> Result<ImageMode, Fault>
     }
 }
 
+/// What stands behind `crash `, where there are `most` nodes.
 pub fn crash(most: u8, bytes: &[u8]) -> Result<Command, Fault>
-    ensures { Gives order_of result (reading.read_crash most bytes.now) }
+    ensures { Gives written_command result (reading.read_crash most bytes.now) }
 {
     let (node, rest) = digits(bytes)?;
     let mode = crash_mode(rest)?;
@@ -184,8 +192,9 @@ pub fn crash(most: u8, bytes: &[u8]) -> Result<Command, Fault>
     Ok(Command::Crash { node, mode })
 }
 
+/// What stands behind `restart `, where there are `most` nodes.
 pub fn restart(most: u8, bytes: &[u8]) -> Result<Command, Fault>
-    ensures { Gives order_of result (reading.read_restart most bytes.now) }
+    ensures { Gives written_command result (reading.read_restart most bytes.now) }
 {
     let node = last_digits(bytes)?;
     let node = within(1, most as u64, node)? as u8;
@@ -244,22 +253,25 @@ fn stations(most: u8, bytes: &[u8]) -> Result<(u8, u8), Fault>
     Ok((a, b))
 }
 
+/// What stands behind `cut `, where there are `most` nodes.
 pub fn cut(most: u8, bytes: &[u8]) -> Result<Command, Fault>
-    ensures { Gives order_of result (reading.read_cut most bytes.now) }
+    ensures { Gives written_command result (reading.read_cut most bytes.now) }
 {
     let (a, b) = stations(most, bytes)?;
     Ok(Command::Cut { a, b })
 }
 
+/// What stands behind `join `, where there are `most` nodes.
 pub fn join(most: u8, bytes: &[u8]) -> Result<Command, Fault>
-    ensures { Gives order_of result (reading.read_join most bytes.now) }
+    ensures { Gives written_command result (reading.read_join most bytes.now) }
 {
     let (a, b) = stations(most, bytes)?;
     Ok(Command::Join { a, b })
 }
 
+/// What stands behind `fail `, where there are `most` nodes.
 pub fn fail(most: u8, bytes: &[u8]) -> Result<Command, Fault>
-    ensures { Gives order_of result (reading.read_fail most bytes.now) }
+    ensures { Gives written_command result (reading.read_fail most bytes.now) }
 {
     let (node, after) = two_digits(bytes)?;
     let node = within(1, most as u64, node)? as u8;
@@ -267,8 +279,9 @@ pub fn fail(most: u8, bytes: &[u8]) -> Result<Command, Fault>
     Ok(Command::Fail { node, after })
 }
 
+/// What stands behind `stop `, where there are `most` nodes.
 pub fn stop(most: u8, bytes: &[u8]) -> Result<Command, Fault>
-    ensures { Gives order_of result (reading.read_stop most bytes.now) }
+    ensures { Gives written_command result (reading.read_stop most bytes.now) }
 {
     let (node, rest) = digits_and(b" ", bytes)?;
     let (after, rest) = digits(rest)?;
@@ -280,7 +293,7 @@ pub fn stop(most: u8, bytes: &[u8]) -> Result<Command, Fault>
 }
 
 fn link_or_fault(most: u8, bytes: &[u8]) -> Result<Command, Fault>
-    ensures { Gives order_of result (reading.read_link_or_fault most bytes.now) }
+    ensures { Gives written_command result (reading.read_link_or_fault most bytes.now) }
 {
     if let Some(rest) = behind(bytes, b"cut ") {
         return cut(most, rest);
@@ -303,7 +316,7 @@ fn link_or_fault(most: u8, bytes: &[u8]) -> Result<Command, Fault>
 }
 
 fn run(most: u8, bytes: &[u8]) -> Result<Command, Fault>
-    ensures { Gives order_of result (reading.read_run most bytes.now) }
+    ensures { Gives written_command result (reading.read_run most bytes.now) }
 {
     if let Some(rest) = behind(bytes, b"turn ") {
         return turn(rest);
@@ -322,7 +335,7 @@ fn run(most: u8, bytes: &[u8]) -> Result<Command, Fault>
 
 /// The command that a line spells.
 pub fn command(alloc: Global, most: u8, bytes: &[u8]) -> Result<Command, Fault>
-    ensures { Gives order_of result (reading.read_order most bytes.now) }
+    ensures { Gives written_command result (reading.read_command most bytes.now) }
 {
     if let Some(rest) = behind(bytes, b"create ") {
         return create(alloc, most, rest);

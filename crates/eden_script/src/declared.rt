@@ -31,7 +31,9 @@ pub const DECLARED_LIMIT: u8 = 64;
 /// Why a text declares no type.
 #[derive(Clone, Copy, Debug, PartialEq, Eq)]
 pub enum Refused {
+    /// The text is refused at this place.
     At { place: u32 },
+    /// No memory was left.
     Memory,
 }
 
@@ -137,7 +139,8 @@ fn refused_by_grammar(refusal: ParseRefusal) -> Refused
 
 /// Where a type breaks a rule.
 fn refused_by_rule(refusal: CheckRefusal) -> Refused
-    ensures { (types : declarations.Types) (text : List ℕ) (t : tree.Edentype) → SpellsType text t → Refuses (broken_program (type_names types) t) refusal → IsRefused types text result }
+    ensures { (types : declarations.Types) (text : List ℕ) (t : tree.Edentype) → SpellsType text t
+        → Refuses (broken_program (type_names types) t) refusal → IsRefused types text result }
 {
     match refusal {
         CheckRefusal::UnknownName { place } => Refused::At { place },
@@ -161,7 +164,7 @@ pub fn declared(alloc: Global, types: &Types, text: &[u8]) -> Result<Checked, Re
         Ok(program) => program,
         Err(refusal) => return Err(refused_by_grammar(refusal)),
     };
-    match check(&program, types) {
+    match check(alloc, &program, types) {
         Ok(()) => Ok(Checked::of(program, types)),
         Err(refusal) => Err(refused_by_rule(refusal)),
     }

@@ -24,7 +24,9 @@ pub struct Place {
 /// Why the reading of a part stops.
 #[derive(Debug, Drop)]
 pub enum Flaw {
+    /// The first line that fails a test, and the first one that it fails.
     At { at: Place },
+    /// No memory was left.
     Memory,
 }
 
@@ -39,6 +41,7 @@ impl From<AllocError> for Flaw {
     }
 }
 
+/// Whether each byte may stand in a line.
 pub fn all_printable(bytes: &[u8]) -> bool
     ensures { result ≡ list_all form.is_printable bytes.now }
 {
@@ -92,6 +95,7 @@ fn rank_of(cause: ScriptCause) -> u8
     }
 }
 
+/// Whether one place stands on an earlier line than another, or on the same one by an earlier test.
 pub fn is_earlier(a: Place, b: Place) -> bool
     ensures { result ≡ flaws.is_earlier (place_of a) (place_of b) }
 {

@@ -11,6 +11,7 @@ mod command;
 mod cut;
 mod declared;
 mod flaw;
+mod law;
 mod line;
 mod names;
 mod parse;
@@ -22,4 +23,5 @@ mod value;
 
 pub use alone::read_value;
 pub use cause::{ScriptCause, ScriptRefusal};
+pub use law::a_script_is_fit;
 pub use parse::{one_reading, parse_script};

@@ -7,7 +7,7 @@ ghost use Rattle.eden_script.specs.Tree.{does, row_of};
 ghost use Rattle.eden_script.specs.Causes as causes;
 ghost use Rattle.eden_script.specs.Script as script;
 ghost use Rattle.eden_script.specs.Reading as reading;
-ghost use Rattle.eden_script.specs.Meaning.{order_of};
+ghost use Rattle.eden_script.specs.Meaning.{written_command};
 ghost use Rattle.eden_script.specs.Declarations.{type_names, types_in};
 ghost use Rattle.eden_script.specs.View.{Gives, noted, room_after, written, line_of, seen_of};
 
@@ -35,10 +35,15 @@ pub struct Seen {
 /// What a part says.
 #[derive(Drop)]
 pub enum Line {
+    /// Nothing: a blank line or a comment.
     Idle,
+    /// The command `nodes`.
     Nodes { n: u8 },
+    /// A command behind `nodes`.
     Does { command: Command },
+    /// A type.
     Declares { edentype: Checked },
+    /// An Edentype without its end.
     Unended,
 }
 
@@ -107,7 +112,7 @@ fn values_known(names: &Names, args: &[Arg]) -> bool
 
 /// Whether the names that a command refers to are known.
 fn uses_known(names: &Names, command: &Command) -> bool
-    ensures { result ≡ list_all (form.is_among names.now) (causes.uses (does (order_of command.now))) }
+    ensures { result ≡ list_all (form.is_among names.now) (causes.uses (does (written_command command.now))) }
 {
     match command {
         Command::Call { target, args, .. } => names.has(&target.name.bytes)
@@ -119,7 +124,7 @@ fn uses_known(names: &Names, command: &Command) -> bool
 }
 
 fn type_known(types: &Types, command: &Command) -> bool
-    ensures { result ≡ list_all (form.is_among (type_names (types_in types.now))) (causes.types (does (order_of command.now))) }
+    ensures { result ≡ list_all (form.is_among (type_names (types_in types.now))) (causes.types (does (written_command command.now))) }
 {
     match command {
         Command::Create { type_name, .. } => is_type(types, type_name),
@@ -129,7 +134,7 @@ fn type_known(types: &Types, command: &Command) -> bool
 
 /// The name that a command introduces.
 fn brings(command: &Command) -> Option<&[u8]>
-    ensures { script.names_of_option result ≡ causes.brings (does (order_of command.now)) }
+    ensures { script.names_of_option result ≡ causes.brings (does (written_command command.now)) }
 {
     match command {
         Command::Create { name, .. } => Some(&name.bytes),
@@ -142,7 +147,7 @@ fn brings(command: &Command) -> Option<&[u8]>
 }
 
 fn is_doubled(names: &Names, command: &Command) -> bool
-    ensures { result ≡ list_any (form.is_among names.now) (causes.brings (does (order_of command.now))) }
+    ensures { result ≡ list_any (form.is_among names.now) (causes.brings (does (written_command command.now))) }
 {
     match brings(command) {
         Some(name) => names.has(name),
@@ -152,7 +157,7 @@ fn is_doubled(names: &Names, command: &Command) -> bool
 
 /// A command whose names are as they have to be.
 fn named(seen: &Seen, command: Command) -> Result<Line, Fault>
-    ensures { Gives line_of result (reading.named_in (seen_of seen.now) (does (order_of command))) }
+    ensures { Gives line_of result (reading.named_in (seen_of seen.now) (does (written_command command))) }
 {
     if !uses_known(&seen.names, &command) {
         return Err(Fault::Bad {
@@ -182,7 +187,7 @@ fn nodes_line(bytes: &[u8]) -> Result<Line, Fault>
 }
 
 fn command_line(alloc: Global, seen: &Seen, bytes: &[u8]) -> Result<Line, Fault>
-    ensures { Gives line_of result (reading.judge_order (seen_of seen.now) bytes.now) }
+    ensures { Gives line_of result (reading.judge_command (seen_of seen.now) bytes.now) }
 {
     let command = command(alloc, seen.nodes, bytes)?;
     named(seen, command)
@@ -247,7 +252,7 @@ pub fn judge(alloc: Global, seen: &Seen, bytes: &[u8]) -> Result<Line, Fault>
 }
 
 fn is_end(command: &Command) -> bool
-    ensures { result ≡ script.is_finish (order_of command.now) }
+    ensures { result ≡ script.is_finish (written_command command.now) }
 {
     match command {
         Command::End => true,

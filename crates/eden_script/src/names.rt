@@ -23,6 +23,7 @@ impl Model for Names {
 }
 
 impl Names {
+    /// No name.
     pub fn new(alloc: Global) -> Names
         ensures { result ≡ [] }
     {
@@ -31,12 +32,14 @@ impl Names {
         }
     }
 
+    /// Whether a name was introduced.
     pub fn has(&self, name: &[u8]) -> bool
         ensures { result ≡ is_among self.now name.now }
     {
         self.in_order.contains(name)
     }
 
+    /// One name more. Where memory runs out, nothing is said of the names.
     pub fn add(&mut self, alloc: Global, name: &[u8]) -> Result<(), AllocError>
         ensures { OnOk result (self.new ≡ with_name self.old name.now) }
     {

@@ -1,10 +1,11 @@
 //! Scripts, part by part.
 
-ghost use Rattle.std.specs.Prelude.{◌≡◌, ◌≤◌, ◌<◌, ◌^◌, ◌+◌, ◌++◌, map, OnOk, IfOk, IfErr, length, List, ℕ};
+ghost use Rattle.std.specs.Prelude.{◌≡◌, ◌≤◌, ◌<◌, ◌^◌, ◌+◌, ◌++◌, OnOk, IfOk, IfErr, length, List, ℕ};
 ghost use Rattle.eden_script.specs.Declarations.{types_in};
-ghost use Rattle.eden_script.specs.Meaning.{order_of};
+ghost use Rattle.eden_script.specs.Meaning.{written_commands};
 ghost use Rattle.eden_script.specs.Script as script;
-ghost use Rattle.eden_script.specs.Script.{IsScript, IsRefusal, AtMostOne};
+ghost use Rattle.eden_script.specs.Script.{IsScript, IsRefusal, AtMostOne, commands_of};
+ghost use Rattle.journal.specs.Laws.{WriteNone};
 ghost use Rattle.eden_script.specs.View.{IsCounted, KeepsRules, line_of, seen_of};
 
 use crate::cause::{ScriptCause, ScriptRefusal};
@@ -13,7 +14,7 @@ use crate::flaw::Flaw;
 use crate::line::{Line, Seen, note};
 use crate::names::Names;
 use crate::part::first_part;
-use epl_parser::{refusals_are_one, types_are_one};
+use epl_parser::{refusals_are_one, types_are_named, types_are_one};
 use epl_syntax::Types;
 use journal::{Command, Commands, Script};
 use std::alloc::{AllocError, Global};
@@ -21,7 +22,8 @@ use std::alloc::{AllocError, Global};
 /// Adds the command or the type of a part.
 fn keep(commands: &mut Vec<Command>, types: &mut Types, said: Line) -> Result<(), AllocError>
     requires { KeepsRules types.old said }
-    ensures commands { OnOk result (map order_of commands.new.items ≡ map order_of commands.old.items ++ script.orders_of (line_of said)) }
+    ensures commands { OnOk result
+        (written_commands commands.new.items ≡ written_commands commands.old.items ++ commands_of (line_of said)) }
     ensures types { OnOk result (types_in types.new ≡ script.types_after (types_in types.old) (line_of said)) }
 {
     match said {
@@ -43,17 +45,19 @@ fn follow(
     requires rules { KeepsRules seen.old.types said }
     ensures counted { OnOk result (IsCounted seen.new) }
     ensures seen { OnOk result (seen_of seen.new ≡ script.after (seen_of seen.old) (line_of said)) }
-    ensures commands { OnOk result (map order_of commands.new.items ≡ map order_of commands.old.items ++ script.orders_of (line_of said)) }
+    ensures commands { OnOk result
+        (written_commands commands.new.items ≡ written_commands commands.old.items ++ commands_of (line_of said)) }
 {
     note(alloc, seen, &said)?;
     keep(commands, &mut seen.types, said)
 }
 
 /// The script that the bytes spell, with its types and its commands in order; else the first bad line, counted from 1, and
-/// its first cause. `NoEnd` has the number of lines plus 1.
+/// its first cause. `NoEnd` has the number of lines plus 1. No capability is written out in a script.
 pub fn parse_script(alloc: Global, bytes: &[u8]) -> Result<Script, ScriptRefusal>
     requires { length bytes.now < 2 ^ 31 }
     ensures script { IfOk result (IsScript bytes.now) }
+    ensures bare { IfOk result (λ s. WriteNone s.commands) }
     ensures bad { IfErr result (IsRefusal bytes.now) }
 {
     let mut seen = Seen {
@@ -77,6 +81,7 @@ pub fn parse_script(alloc: Global, bytes: &[u8]) -> Result<Script, ScriptRefusal
             }
             Err(Flaw::Memory) => return Err(ScriptRefusal::OutOfMemory),
         };
+        types_are_named();
         follow(alloc, &mut seen, &mut commands, said)?;
         rest = behind;
         lines += count;

@@ -1,12 +1,10 @@
 //! Parts of a script.
 
 ghost use Rattle.std.specs.Prelude.{◌≡◌, ◌<◌, ◌≤◌, ◌^◌, IfOk, length};
-ghost use Rattle.eden_script.specs.Causes.{IsSaid, IsCause};
 ghost use Rattle.eden_script.specs.Flaws as flaws;
-ghost use Rattle.eden_script.specs.Flaws.{FirstSays, FirstFails};
 ghost use Rattle.eden_script.specs.Parts as parts;
 ghost use Rattle.eden_script.specs.Parts.{lines_of};
-ghost use Rattle.eden_script.specs.View.{Finds, IsCounted, line_of, seen_of, place_of};
+ghost use Rattle.eden_script.specs.View.{PartFinds, FirstFinds, IsCounted, seen_of, place_of};
 ghost use Rattle.std.specs.Option.{option_map};
 
 use crate::cause::ScriptCause;
@@ -20,7 +18,7 @@ use std::alloc::{AllocError, Global};
 
 /// What a line says.
 fn line(alloc: Global, seen: &Seen, bytes: &[u8]) -> Result<Line, Flaw>
-    ensures { Finds (λ l. IsSaid (seen_of seen.now) (parts.line bytes.now) (line_of l)) (IsCause (seen_of seen.now) (parts.line bytes.now)) result }
+    ensures { PartFinds (seen_of seen.now) (parts.line bytes.now) result }
 {
     match judge(alloc, seen, bytes) {
         Ok(said) => Ok(said),
@@ -46,7 +44,7 @@ fn edentype(alloc: Global, seen: &Seen, text: &[u8]) -> Result<Line, Flaw>
     requires counted { IsCounted seen.now }
     requires long { 8 ≤ length text.now }
     requires short { length text.now < 2 ^ 32 }
-    ensures { Finds (λ l. IsSaid (seen_of seen.now) (parts.declaration text.now) (line_of l)) (IsCause (seen_of seen.now) (parts.declaration text.now)) result }
+    ensures { PartFinds (seen_of seen.now) (parts.declaration text.now) result }
 {
     types_are_one();
     refusals_are_one();
@@ -85,7 +83,7 @@ fn with_text(outer: Option<Place>, line: u32) -> Place
 /// What the lines of an Edentype without its end say.
 fn unclosed(seen: &Seen, bytes: &[u8]) -> Result<Line, Flaw>
     requires { length bytes.now < 2 ^ 32 }
-    ensures { Finds (λ l. IsSaid (seen_of seen.now) (parts.unclosed (lines_of bytes.now)) (line_of l)) (IsCause (seen_of seen.now) (parts.unclosed (lines_of bytes.now))) result }
+    ensures { PartFinds (seen_of seen.now) (parts.unclosed (lines_of bytes.now)) result }
 {
     match line_flaw(bytes) {
         Some(at) => Err(Flaw::At { at }),
@@ -102,7 +100,7 @@ pub fn first_part<'a>(
     requires counted { IsCounted seen.now }
     requires some { 0 < length bytes.now }
     requires short { length bytes.now < 2 ^ 32 }
-    ensures { Finds (λ x. FirstSays (seen_of seen.now) bytes.now (line_of x.0) x.1 x.2.now) (FirstFails (seen_of seen.now) bytes.now) result }
+    ensures { FirstFinds (seen_of seen.now) bytes.now result }
 {
     let (text, behind) = first_line(bytes);
     if !begins_edentype(text) {

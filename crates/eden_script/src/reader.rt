@@ -1,6 +1,7 @@
 //! Reading a line from left to right.
 
-ghost use Rattle.std.specs.Prelude.{true, ◌≡◌, ◌≤◌, ◌<◌, ◌^◌, ℕ, List, [], ◌∷◌, length, drop, take, map, Some, None, Ok, Err, IfOk, option_copied, slice_index, codes};
+ghost use Rattle.std.specs.Prelude.{true, ◌≡◌, ◌≤◌, ◌<◌, ◌^◌, ℕ, List, [], ◌∷◌, length, drop, take, map, Some, None, Ok, Err, IfOk};
+ghost use Rattle.std.specs.Prelude.{option_copied, slice_index, codes};
 ghost use Rattle.std.specs.List.{take_while, list_all};
 ghost use Rattle.std.specs.Option.{option_map};
 ghost use Rattle.eden_script.specs.Form as form;
@@ -13,7 +14,9 @@ use std::alloc::{AllocError, AllocFailed};
 /// Why reading stops.
 #[derive(Debug, Drop)]
 pub enum Fault {
+    /// A test fails.
     Bad { cause: ScriptCause },
+    /// No memory was left.
     Memory,
 }
 
@@ -39,18 +42,21 @@ impl<T: Drop> From<AllocFailed<T>> for Fault {
     }
 }
 
+/// Whether a byte is a digit.
 pub fn is_digit(b: u8) -> bool
     ensures { result ≡ form.is_digit b }
 {
     b'0' <= b && b <= b'9'
 }
 
+/// Whether a byte is a letter, a digit or an underscore.
 pub fn is_name_byte(b: u8) -> bool
     ensures { result ≡ form.is_name_byte b }
 {
     b.is_ascii_alphanumeric() || b == b'_'
 }
 
+/// Whether a byte may stand in a line.
 pub fn is_printable(b: u8) -> bool
     ensures { result ≡ form.is_printable b }
 {
@@ -81,6 +87,7 @@ pub fn word<'a>(bytes: &'a [u8], word: &[u8]) -> Result<&'a [u8], Fault>
     }
 }
 
+/// Nothing more stands there.
 pub fn end(bytes: &[u8]) -> Result<(), Fault>
     ensures { Gives (λ x. x) result (reading.read_end bytes.now) }
 {
@@ -114,6 +121,7 @@ fn is_lower(bytes: &[u8]) -> bool
     }
 }
 
+/// Whether bytes are a name that begins with a great letter.
 pub fn is_upper(bytes: &[u8]) -> bool
     ensures { result ≡ form.is_upper bytes.now }
 {
@@ -149,6 +157,7 @@ fn digit_count(bytes: &[u8]) -> usize
 /// A front and what is behind it.
 pub type Piece<'a> = (&'a [u8], &'a [u8]);
 
+/// A name that begins with a small letter.
 pub fn lower(bytes: &[u8]) -> Result<Piece<'_>, Fault>
     ensures { Gives (λ x. (x.0.now, x.1.now)) result (reading.read_lower bytes.now) }
 {
@@ -163,6 +172,7 @@ pub fn lower(bytes: &[u8]) -> Result<Piece<'_>, Fault>
     }
 }
 
+/// A name that begins with a great letter.
 pub fn upper(bytes: &[u8]) -> Result<Piece<'_>, Fault>
     ensures { Gives (λ x. (x.0.now, x.1.now)) result (reading.read_upper bytes.now) }
 {
@@ -177,6 +187,7 @@ pub fn upper(bytes: &[u8]) -> Result<Piece<'_>, Fault>
     }
 }
 
+/// As many digits as there are, at least one.
 pub fn digits(bytes: &[u8]) -> Result<Piece<'_>, Fault>
     ensures read { Gives (λ x. (x.0.now, x.1.now)) result (reading.read_digits bytes.now) }
     ensures digits { IfOk result (λ x. list_all form.is_digit x.0.now ≡ true) }

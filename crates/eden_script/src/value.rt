@@ -1,12 +1,13 @@
 //! References and values.
 
-ghost use Rattle.std.specs.Prelude.{◌≡◌, ◌≤◌, ◌<◌, ◌^◌, ℕ, ℤ, pos, List, [], ◌∷◌, length, drop, take, map, Some, None, Ok, Err, IfOk, IfSome, option_copied, slice_index, codes, false, true};
+ghost use Rattle.std.specs.Prelude.{◌≡◌, ◌≤◌, ◌<◌, ◌^◌, ℕ, ℤ, pos, List, [], ◌∷◌, length, drop, take, map, Some, None, Ok, Err, IfOk};
+ghost use Rattle.std.specs.Prelude.{IfSome, option_copied, slice_index, codes, false, true};
 ghost use Rattle.std.specs.Option.{option_map};
 ghost use Rattle.eden_script.specs.Form as form;
 ghost use Rattle.eden_script.specs.Grammar.{minus};
 ghost use Rattle.eden_script.specs.Reading as reading;
 ghost use Rattle.eden_script.specs.Meaning.{reference_of};
-ghost use Rattle.eden_script.specs.View.{Gives, written, plainly};
+ghost use Rattle.eden_script.specs.View.{Gives, written, plainly, values_read};
 
 use crate::cause::ScriptCause;
 use crate::reader::{Fault, behind, digits, is_digit, is_printable, lower, up_to, within, word};
@@ -14,6 +15,7 @@ use eden_value::{Txt, Value};
 use journal::{Arg, Args, Ref};
 use std::alloc::{AllocError, Global};
 
+/// Bytes as a text.
 pub fn txt(alloc: Global, bytes: &[u8]) -> Result<Txt, AllocError>
     ensures { IfOk result (λ t. t ≡ bytes.now) }
 {
@@ -60,6 +62,7 @@ fn text(alloc: Global, bytes: &[u8]) -> Result<(Txt, &[u8]), Fault>
     }
 }
 
+/// A text with both quotes.
 pub fn quoted(alloc: Global, bytes: &[u8]) -> Result<(Txt, &[u8]), Fault>
     ensures { Gives (λ x. (x.0, x.1.now)) result (reading.read_quoted bytes.now) }
 {
@@ -84,6 +87,7 @@ pub struct RefWords<'a> {
     pub result: Option<&'a [u8]>,
 }
 
+/// NAME, or NAME.K with the digits of K.
 pub fn reference_words(bytes: &[u8]) -> Result<(RefWords<'_>, &[u8]), Fault>
     ensures { Gives (λ x. ((x.0.name.now, option_copied x.0.result), x.1.now)) result (reading.read_ref bytes.now) }
 {
@@ -271,7 +275,7 @@ fn flat(alloc: Global, names: bool, bytes: &[u8]) -> Result<Found<'_>, Fault>
 
 /// One value more, where there are values.
 fn added(found: Option<Vec<Arg>>, next: Option<Arg>) -> Result<Option<Vec<Arg>>, AllocError>
-    ensures { IfOk result (λ r. option_map (λ v. map written v.items) r ≡ reading.added (option_map (λ v. map written v.items) found) (option_map written next)) }
+    ensures { IfOk result (λ r. values_read r ≡ reading.added (values_read found) (option_map written next)) }
 {
     match (found, next) {
         (Some(mut found), Some(next)) => {
@@ -283,7 +287,7 @@ fn added(found: Option<Vec<Arg>>, next: Option<Arg>) -> Result<Option<Vec<Arg>>,
 }
 
 fn listed(found: Option<Vec<Arg>>) -> Option<Arg>
-    ensures { option_map written result ≡ reading.listed (option_map (λ v. map written v.items) found) }
+    ensures { option_map written result ≡ reading.listed (values_read found) }
 {
     match found {
         Some(args) => Some(Arg::List {
@@ -301,7 +305,7 @@ fn closed<'a>(
     close: &[u8],
     bytes: &'a [u8],
 ) -> Result<FoundValues<'a>, Fault>
-    ensures { Gives (λ x. (option_map (λ v. map written v.items) x.0, x.1.now)) result (reading.read_close close.now (option_map (λ v. map written v.items) found) bytes.now) }
+    ensures { Gives (λ x. (values_read x.0, x.1.now)) result (reading.read_close close.now (values_read found) bytes.now) }
 {
     let rest = word(bytes, close)?;
     Ok((found, rest))
@@ -317,7 +321,8 @@ pub fn values<'a>(
     most: usize,
     bytes: &'a [u8],
 ) -> Result<FoundValues<'a>, Fault>
-    ensures { Gives (λ x. (option_map (λ v. map written v.items) x.0, x.1.now)) result (reading.read_values (reading.read_value names levels) close.now most bytes.now) }
+    ensures { Gives (λ x. (values_read x.0, x.1.now)) result
+        (reading.read_values (reading.read_value names levels) close.now most bytes.now) }
 {
     if let Some(rest) = behind(bytes, close) {
         return Ok((Some(Vec::new(alloc)), rest));

@@ -10,12 +10,16 @@ loop-rest-init c = record {
 
 pub returns-then-ends_edentype : goal.returns-then-ends_edentype
 returns-then-ends_edentype c =
-    let found = cut_found c.args.bytes.now c.loop-rest.rest.now c.first_line.result.0.now c.first_line.result.1.now _ c.loop-rest.invariant.cut (search rules) c.first_line.ensures.first c.first_line.ensures.line (search rules) refl in
+    let found =
+    cut_found c.args.bytes.now c.loop-rest.rest.now c.first_line.result.0.now c.first_line.result.1.now _ c.loop-rest.invariant.cut
+    (search rules) c.first_line.ensures.first c.first_line.ensures.line (search rules) refl in
     (found.parts, found.long, found.short)
 
 pub loop-rest-preserved : goal.loop-rest-preserved
 loop-rest-preserved c = record {
-  cut = cut_step c.args.bytes.now c.loop-rest.rest.now c.first_line.result.0.now c.first_line.result.1.now c.loop-rest.invariant.cut (search rules) c.first_line.ensures.first c.first_line.ensures.line (search rules);
+  cut =
+      cut_step c.args.bytes.now c.loop-rest.rest.now c.first_line.result.0.now c.first_line.result.1.now c.loop-rest.invariant.cut
+      (search rules) c.first_line.ensures.first c.first_line.ensures.line (search rules);
   short = (let shorter = c.first_line.ensures.shorter in let before = c.loop-rest.invariant.short in omega (arith, shorter, before));
 }
 

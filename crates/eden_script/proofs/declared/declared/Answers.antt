@@ -14,10 +14,13 @@ pub returns-in-Ok-check-clause-declares : goal.returns-in-Ok-check-clause-declar
 returns-in-Ok-check-clause-declares c =
     subst (λ (p : Program). Declares (types_in c.args.types.now) c.args.text.now (tree.edentype p)) (sym c.of.ensures) (record {
       spelled = c.in-Ok.ensures.answers;
-      keeps_rules = ap (λ (names : List (List ℕ)). broken_program names (tree.edentype c.in-Ok.program)) (sym (same_names c.args.types.now)) ∙ c.in-Ok-check.ensures.ok;
+      keeps_rules =
+          ap (λ (names : List (List ℕ)). broken_program names (tree.edentype c.in-Ok.program)) (sym (same_names c.args.types.now))
+          ∙ c.in-Ok-check.ensures.ok;
     })
 
 pub returns-in-Err-check-clause-refused : goal.returns-in-Err-check-clause-refused
 returns-in-Err-check-clause-refused c =
     c.refused_by_rule.ensures (types_in c.args.types.now) c.args.text.now (tree.edentype c.in-Ok.program) c.in-Ok.ensures.answers
-    (subst (λ (names : List (List ℕ)). Refuses (broken_program names (tree.edentype c.in-Ok.program)) c.in-Err-check.refusal) (same_names c.args.types.now) c.in-Err-check.ensures.refused)
+    (subst (λ (names : List (List ℕ)). Refuses (broken_program names (tree.edentype c.in-Ok.program)) c.in-Err-check.refusal)
+    (same_names c.args.types.now) c.in-Err-check.ensures.refused)

@@ -7,4 +7,6 @@ use Rattle.eden_script.specs.View.{written}
 use Rattle.eden_script.proofs.line.+known.Given as goal
 
 abbrev pub invariant-values_known-loop-arg : goal.invariant-values_known-loop-arg
-invariant-values_known-loop-arg l = list_all (is_among l.names) (names_of (row_of (map written (drop l.arg-index l.args)))) ≡ list_all (is_among l.names) (names_of (row_of (map written l.args)))
+invariant-values_known-loop-arg l =
+    list_all (is_among l.names) (names_of (row_of (map written (drop l.arg-index l.args)))) ≡ list_all (is_among l.names)
+    (names_of (row_of (map written l.args)))

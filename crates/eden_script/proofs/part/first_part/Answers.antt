@@ -12,14 +12,16 @@ returns-in-Err c =
     let seen = seen_of c.args.seen.now in
     let text = c.first_line.result.0.now in
     pass_on (IsCause seen (parts.line text)) (FirstFails seen c.args.bytes.now)
-    (line_fails seen c.args.bytes.now text c.first_line.result.1.now c.first_line.ensures.line (search rules)) c.in-Err.flaw c.in-Err.ensures
+    (line_fails seen c.args.bytes.now text c.first_line.result.1.now c.first_line.ensures.line (search rules)) c.in-Err.flaw
+    c.in-Err.ensures
 
 pub returns-in-Err-edentype : goal.returns-in-Err-edentype
 returns-in-Err-edentype c =
     let seen = seen_of c.args.seen.now in
     let text = c.in-Some.text.now in
     pass_on (IsCause seen (parts.declaration text)) (FirstFails seen c.args.bytes.now)
-    (declaration_fails seen c.args.bytes.now text (parts_of (lines_of c.in-Some.behind.now)) c.in-Some.ensures.0 (let short = c.in-Some.ensures.2 in omega (arith, short))) c.in-Err-edentype.flaw c.in-Err-edentype.ensures
+    (declaration_fails seen c.args.bytes.now text (parts_of (lines_of c.in-Some.behind.now)) c.in-Some.ensures.0 (let short = c.in-Some.ensures.2 in omega (arith, short)))
+    c.in-Err-edentype.flaw c.in-Err-edentype.ensures
 
 pub returns-in-Err-unclosed : goal.returns-in-Err-unclosed
 returns-in-Err-unclosed c =

@@ -12,7 +12,8 @@ decreases-values l = 2 * l.levels + 1
 
 abbrev pub invariant-values-loop-left : goal.invariant-values-loop-left
 invariant-values-loop-left l =
-    more_values (read_value l.names l.levels) l.close l.left (option_map (λ v. map written v.items) l.found) l.rest ≡ read_values (read_value l.names l.levels) l.close l.most l.bytes
+    more_values (read_value l.names l.levels) l.close l.left (option_map (λ v. map written v.items) l.found) l.rest ≡ read_values
+    (read_value l.names l.levels) l.close l.most l.bytes
 
 abbrev pub decreases-values-loop-left : goal.decreases-values-loop-left
 decreases-values-loop-left l = l.left
