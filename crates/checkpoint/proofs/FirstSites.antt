@@ -1,0 +1,172 @@
+-- The node of a disk that is handed in stands for its image.
+use Rattle.std.proofs.Common.{◌≡◌, ◌≢◌, inl, inr, ◌⊎◌, ◌==◌, ℕ, ◌/◌, ◌%◌, ◌≤◌, ◌<◌, Bool, true, false, cond, T, List, [], ◌∷◌, length, Option, None, Some, Ok, is_some, refl, sym, ap, subst, ◌∙◌, arith}
+use Rattle.std.specs.Prelude.{IfSome}
+use Rattle.std.specs.List.{filter_map}
+use Rattle.std.specs.FinMap as finite
+use Rattle.std.specs.FinMap.Entries.{is_sorted}
+use Rattle.std.specs.Ordering.{eq_by_cmp}
+use Rattle.capability.specs.declared.Uid.{Uid}
+use Rattle.capability.proofs.Uids.{uid_cmp-IsAntisymmetric}
+use Rattle.eden_model.specs.Map.{with_item, uid_cmp, value_at}
+use Rattle.eden_model.proofs.Laws.{eq-same}
+use Rattle.eden_disk.specs.Told.{Told, Contents, contents, at_rest, Left}
+use Rattle.eden_disk.proofs.Held.{only_now}
+use Rattle.std.specs.List.{All}
+use Rattle.passive_store.specs.Kept.{Layout, Kept, IsOwn}
+use Rattle.passive_store.specs.Kept.{Stands as StandsKept}
+use Rattle.passive_store.specs.Layout.{IsLayout}
+use Rattle.journal.specs.World.{Site, Node, Eject}
+use Rattle.journal.specs.Settling.{epoch_uid, epoch_bytes}
+use Rattle.journal.specs.Opening.{passive, passive_entry, number_from, epoch_in, node_from, entries_of, ledger_of}
+use Rattle.checkpoint.specs.Changes.{facts_of}
+use Rattle.checkpoint.specs.StoreStands.{bytes_of_epoch, change_of_epoch, MapStands}
+use Rattle.checkpoint.specs.Turns.{RestStands}
+use Rattle.checkpoint.specs.HandedIn.{IsAtHand}
+use Rattle.journal.proofs.Ordered.{order-passive}
+use Rattle.std.proofs.lemmas.Bool.{eqb-true}
+
+-- 1. The Ejects of an image
+
+-- what is found of a uid among them
+value-passive : (q : Uid) (es : List (Uid × List ℕ)) → value_at uid_cmp q (filter_map passive_entry es) ≡ cond (q.serial == 0) None (with_item (value_at uid_cmp q es) (λ b. Some (passive b)) None)
+value-passive q [] = none (q.serial == 0)
+  where
+    none : (b : Bool) → None ≡ cond {A = Option Eject} b None None
+    none true = refl
+    none false = refl
+value-passive q (e ∷ es) = go (eq_by_cmp uid_cmp q e.0) refl (e.0.serial == 0) refl (value-passive q es)
+  where
+    go : (t : Bool) → eq_by_cmp uid_cmp q e.0 ≡ t → (b : Bool) → (e.0.serial == 0) ≡ b
+        → value_at uid_cmp q (filter_map passive_entry es) ≡ cond (q.serial == 0) None (with_item (value_at uid_cmp q es) (λ b. Some (passive b)) None)
+        → value_at uid_cmp q (filter_map passive_entry (e ∷ es)) ≡ cond (q.serial == 0) None (with_item (value_at uid_cmp q (e ∷ es)) (λ b. Some (passive b)) None)
+    go true tie true zero later = let same : q ≡ e.0 = eq-same uid_cmp uid_cmp-IsAntisymmetric q e.0 tie in
+        let its : (q.serial == 0) ≡ true = ap (λ (u : Uid). u.serial == 0) same ∙ zero in
+        rw (zero, later, its) refl
+    go true tie false zero later = let same : q ≡ e.0 = eq-same uid_cmp uid_cmp-IsAntisymmetric q e.0 tie in
+        let its : (q.serial == 0) ≡ false = ap (λ (u : Uid). u.serial == 0) same ∙ zero in
+        rw (zero, tie, its) refl
+    go false tie true zero later = rw (zero, tie) later
+    go false tie false zero later = rw (zero, tie) later
+
+kept-of : (b : Bool) (o : Option (List ℕ)) → (b ≡ true → o ≡ None) → facts_of (cond b None (with_item o (λ x. Some (passive x)) None)) ≡ (o, None)
+kept-of true o none = ap (λ x. (x, None)) (sym (none refl))
+kept-of false None none = refl
+kept-of false (Some x) none = refl
+
+some-kept : (b : Bool) (o : Option (List ℕ)) → is_some (cond b None (with_item o (λ x. Some (passive x)) None)) ≡ true → is_some o ≡ true
+some-kept true o is = absurd (cc is)
+some-kept false None is = is
+some-kept false (Some x) is = refl
+
+-- 2. The map of the image
+
+at-first : (layout : Layout) (n : ℕ) (s : Site) (kept : Kept) (told : Told) → IsAtHand layout n s kept told → s.node ≡ node_from n (length (contents told).now) (Ok (finite.entries kept.bodies)) false kept.ledger
+at-first layout n s kept told h = h.node
+    ∙ ap (λ f. node_from n (length (contents told).now) (entries_of f) (layout.is_overfull n (contents told).now) (ledger_of f)) h.map
+    ∙ ap (λ b. node_from n (length (contents told).now) (Ok (finite.entries kept.bodies)) b kept.ledger) h.small
+
+-- each uid under which an image keeps bytes is that of an Eject of its node, or the reserved one with the bytes of an epoch
+record IsOwnMap (n : ℕ) (kept : Kept) : Type 0 where
+  of_node : (u : Uid) → is_some (finite.get kept.bodies u) ≡ true → u.node ≡ n
+  own : (u : Uid) → is_some (finite.get kept.bodies u) ≡ true → (u ≡ epoch_uid n) ⊎ (1 ≤ u.serial)
+  spelled : (bytes : List ℕ) → finite.get kept.bodies (epoch_uid n) ≡ Some bytes → epoch_bytes (number_from 0 bytes) ≡ bytes
+
+-- four bytes are those of their number
+spelled-again : (bytes : List ℕ) → length bytes ≡ 4 → All (λ byte. byte < 256) bytes → epoch_bytes (number_from 0 bytes) ≡ bytes
+spelled-again [] four small = absurd (omega (arith, four))
+spelled-again (a ∷ []) four small = absurd (omega (arith, four))
+spelled-again (a ∷ b ∷ []) four small = absurd (omega (arith, four))
+spelled-again (a ∷ b ∷ c ∷ []) four small = absurd (omega (arith, four))
+spelled-again (a ∷ b ∷ c ∷ d ∷ e ∷ es) four small = absurd (omega (arith, four))
+spelled-again (a ∷ b ∷ c ∷ d ∷ []) four small =
+    let a_small : a < 256 = small 0 0 (omega arith) in
+    let b_small : b < 256 = small 1 0 (omega arith) in
+    let c_small : c < 256 = small 2 0 (omega arith) in
+    let d_small : d < 256 = small 3 0 (omega arith) in
+    let first : (number_from 0 (a ∷ b ∷ c ∷ d ∷ []) / 16777216) % 256 ≡ a = omega (arith, a_small, b_small, c_small, d_small) in
+    let second : (number_from 0 (a ∷ b ∷ c ∷ d ∷ []) / 65536) % 256 ≡ b = omega (arith, a_small, b_small, c_small, d_small) in
+    let third : (number_from 0 (a ∷ b ∷ c ∷ d ∷ []) / 256) % 256 ≡ c = omega (arith, a_small, b_small, c_small, d_small) in
+    let fourth : number_from 0 (a ∷ b ∷ c ∷ d ∷ []) % 256 ≡ d = omega (arith, a_small, b_small, c_small, d_small) in
+    λ i. first i ∷ second i ∷ third i ∷ fourth i ∷ []
+
+some-body : {X : Type 0} (o : Option X) → is_some o ≡ true → (x : X) × (o ≡ Some x)
+some-body None is = absurd (cc is)
+some-body (Some x) is = (x, refl)
+
+own-map : (layout : Layout) (n : ℕ) (image : List ℕ) (kept : Kept) → IsLayout layout → layout.map_of n image ≡ Ok kept → All (λ byte. byte < 256) image → IsOwnMap n kept
+own-map layout n image kept law map small = record {
+  of_node = λ u some. let x = some-body (finite.get kept.bodies u) some in (law.own n image kept map u x.0 x.1).0.0;
+  own = λ u some. let x = some-body (finite.get kept.bodies u) some in whose u (length x.0) (law.own n image kept map u x.0 x.1).0;
+  spelled = λ bytes at. spelled-again bytes (sized bytes (law.own n image kept map (epoch_uid n) bytes at).0) (law.bytes n image kept map small (epoch_uid n) bytes at).2;
+}
+  where
+    whose : (u : Uid) (size : ℕ) → IsOwn n u size → (u ≡ epoch_uid n) ⊎ (1 ≤ u.serial)
+    whose u size (node, inl some) = inr some.1
+    whose u size (node, inr none) = inl (λ i. record { node = node i; epoch = none.0 i; serial = none.1 i })
+
+    sized : (bytes : List ℕ) → IsOwn n (epoch_uid n) (length bytes) → length bytes ≡ 4
+    sized bytes (node, inl some) = absurd (let bad : 1 ≤ 0 = some.0 in omega (arith, bad))
+    sized bytes (node, inr none) = none.2
+
+map-first : (n size : ℕ) (kept : Kept) (s : Site) → IsOwnMap n kept → s.node ≡ node_from n size (Ok (finite.entries kept.bodies)) false kept.ledger → MapStands n s kept None
+map-first n size kept s own is = record {
+  undamaged = ap (λ (it : Node). it.damaged) is;
+  ordered = record {
+    in_order = subst (λ (it : Node). T (is_sorted uid_cmp it.ejects)) (sym is) (order-passive (finite.entries kept.bodies) (finite.entries_sorted kept.bodies));
+    of_node = λ u some. own.of_node u (there u some);
+    not_reserved = λ u some same. not-there u same (ap (λ (it : Node). is_some (value_at uid_cmp u it.ejects)) (sym is) ∙ some);
+  };
+  facts = λ u other. ap (λ (it : Node). facts_of (value_at uid_cmp u it.ejects)) is ∙ ap facts_of (found u) ∙ kept-of (u.serial == 0) (finite.get kept.bodies u) (λ zero. unkept u other zero);
+  epoch = epoch_is (finite.get kept.bodies (epoch_uid n)) refl ∙ ap (λ (it : Node). bytes_of_epoch it.epoch) (sym is);
+  epoch_doubt = ap (λ (it : Node). change_of_epoch it.epoch_doubt) (sym is);
+  ledger = ap (λ (it : Node). it.ledger) is;
+  wrote = tt;
+}
+  where
+    found : (u : Uid) → value_at uid_cmp u (filter_map passive_entry (finite.entries kept.bodies)) ≡ cond (u.serial == 0) None (with_item (finite.get kept.bodies u) (λ b. Some (passive b)) None)
+    found u = value-passive u (finite.entries kept.bodies) ∙ ap (λ o. cond (u.serial == 0) None (with_item o (λ b. Some (passive b)) None)) (sym (finite.get-entries kept.bodies u))
+
+    there : (u : Uid) → is_some (value_at uid_cmp u s.node.ejects) ≡ true → is_some (finite.get kept.bodies u) ≡ true
+    there u some = some-kept (u.serial == 0) (finite.get kept.bodies u) (sym (ap (λ (o : Option Eject). is_some o) (found u)) ∙ (ap (λ (it : Node). is_some (value_at uid_cmp u it.ejects)) (sym is) ∙ some))
+
+    not-there : (u : Uid) → u ≡ epoch_uid n → is_some (value_at uid_cmp u (filter_map passive_entry (finite.entries kept.bodies))) ≡ true → ⊥
+    not-there u same some = let zero : (u.serial == 0) ≡ true = ap (λ (v : Uid). v.serial == 0) same in
+        let none : is_some (value_at uid_cmp u (filter_map passive_entry (finite.entries kept.bodies))) ≡ false = ap (λ (o : Option Eject). is_some o) (found u) ∙ ap (λ b. is_some (cond b None (with_item (finite.get kept.bodies u) (λ b. Some (passive b)) None))) zero in
+        let bad : false ≡ true = sym none ∙ some in cc bad
+
+    unkept : (u : Uid) → u ≢ epoch_uid n → (u.serial == 0) ≡ true → finite.get kept.bodies u ≡ None
+    unkept u other zero = go (finite.get kept.bodies u) refl
+      where
+        go : (o : Option (List ℕ)) → finite.get kept.bodies u ≡ o → o ≡ None
+        go None at = refl
+        go (Some bytes) at = absurd (elim (own.own u (ap (λ (x : Option (List ℕ)). is_some x) at)) [ inl same ↦ other same | inr some ↦ omega (arith, some, eqb-true u.serial 0 zero) ])
+
+    epoch_is : (o : Option (List ℕ)) → finite.get kept.bodies (epoch_uid n) ≡ o → finite.get kept.bodies (epoch_uid n) ≡ bytes_of_epoch (epoch_in n (finite.entries kept.bodies))
+    epoch_is None at = at ∙ sym (ap (λ x. bytes_of_epoch (with_item x (λ bytes. Some (number_from 0 bytes)) None)) (sym (finite.get-entries kept.bodies (epoch_uid n)) ∙ at))
+    epoch_is (Some bytes) at = at ∙ ap (λ b. Some b) (sym (own.spelled bytes at)) ∙ sym (ap (λ x. bytes_of_epoch (with_item x (λ bytes. Some (number_from 0 bytes)) None)) (sym (finite.get-entries kept.bodies (epoch_uid n)) ∙ at))
+
+-- 3. So it rests before its first boot
+
+resting : (c : Contents) → c.unsynced ≡ [] → c.stable ≡ c.now → c ≡ at_rest c.now
+resting c none same = λ i. record { now = c.now; stable = same i; unsynced = none i }
+
+pub rests-first : (layout : Layout) (n : ℕ) (s : Site) (kept : Kept) (told : Told) (size clock : ℕ) → IsLayout layout → IsAtHand layout n s kept told
+    → length (contents told).now ≡ size → RestStands layout n (layout.changes_told n (contents told).now) s None size clock told
+rests-first layout n s kept told size clock law h its_size =
+    let is = at-first layout n s kept told h in
+    record {
+      number = h.number;
+      its_layout = h.its_layout;
+      is_down = ap (λ (it : Node). it.up) is;
+      queue = ap (λ (it : Node). it.requests) is;
+      unsynced = ap (λ (it : Node). it.synced) is;
+      its_size = ap (λ (it : Node). it.size) is ∙ its_size;
+      its_clock = subst (λ (it : Node). IfSome it.clock (λ c. c ≡ clock)) (sym is) tt;
+      not_overfull = ap (λ (it : Node). it.overfull) is;
+      kept = kept;
+      doubt = None;
+      keeps = map-first n (length (contents told).now) kept s (own-map layout n (contents told).now kept law h.map h.of_bytes) is;
+      is_noted = refl;
+      fresh = tt;
+      stands = λ image left. subst (StandsKept layout n (layout.changes_told n (contents told).now) kept []) (sym (only_now (contents told).now image (subst (λ c. Left c image) (resting (contents told) h.nothing_unsynced h.same) left))) (record { found = h.map; opens = h.small; told = omega arith });
+    }

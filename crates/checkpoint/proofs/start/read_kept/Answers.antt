@@ -1,0 +1,20 @@
+use Rattle.std.proofs.Common.{sym}
+use Rattle.checkpoint.proofs.StoreCalls.{reads-once}
+use Rattle.checkpoint.proofs.Starting.{reads-found, reads-not, reads-none}
+use Rattle.checkpoint.proofs.start.read_kept.Goals as goal
+
+pub returns-then-not-holds-clause-reads : goal.returns-then-not-holds-clause-reads
+returns-then-not-holds-clause-reads g c = λ so other t requests h.
+    reads-none g.St.Store.layout _ t requests (g.St.Store.seen c.args.store.now) c.args.uid h other (sym (c.if-not-holds.ensures so))
+
+pub returns-in-Ok-clause-reads : goal.returns-in-Ok-clause-reads
+returns-in-Ok-clause-reads g c = λ so other t requests h.
+    let r = reads-once _ _ g.St.Store.layout c.args.uid _ (g.St.Store.seen c.args.store.now) (g.St.Store.seen c.get.new.self) so c.in-Ok.ensures in
+    reads-found g.St.Store.layout _ t requests (g.St.Store.seen c.args.store.now) (g.St.Store.seen c.get.new.self) c.args.uid c.in-Ok.found h other
+    c.requires.settled r (c.in-Ok.ensures.body so)
+
+pub returns-in-Err-clause-reads : goal.returns-in-Err-clause-reads
+returns-in-Err-clause-reads g c = λ so other t requests h.
+    let r = reads-once _ _ g.St.Store.layout c.args.uid _ (g.St.Store.seen c.args.store.now) (g.St.Store.seen c.get.new.self) so c.in-Err.ensures in
+    reads-not g.St.Store.layout _ t requests (g.St.Store.seen c.args.store.now) (g.St.Store.seen c.get.new.self) c.args.uid c.in-Err.refusal h other
+    c.requires.settled r c.in-Err.ensures.only (sym (c.if-not-holds.ensures so))

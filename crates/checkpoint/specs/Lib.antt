@@ -1,0 +1,13 @@
+pub mod Asked
+pub mod Changes
+pub mod Found
+pub mod Queues
+pub mod StoreCalls
+pub mod StoreStands
+pub mod Stretch
+pub mod Throughout
+pub mod Turns
+pub mod Starting
+pub mod Booting
+pub mod Boots
+pub mod HandedIn
