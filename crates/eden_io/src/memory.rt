@@ -160,7 +160,8 @@ impl MemSink {
         failing: Vec<u32>,
     ) -> Result<MemSink, OutOfMemory>
         requires { 0 < step }
-        ensures { IfOk result (λ sink. sink ≡ record { step = step; room = room; written = []; calls = 0; failing = failing.items; faults = 0 }) }
+        ensures { IfOk result
+            (λ sink. sink ≡ record { step = step; room = room; written = []; calls = 0; failing = failing.items; faults = 0 }) }
     {
         let bytes = Vec::with_capacity(alloc, room as usize)?;
         Ok(MemSink {

@@ -101,7 +101,8 @@ invocation_of name (target ∷ rest ∷ []) = operation_of name target (slice_sp
 invocation_of name pieces = None
 
 abbrev pub call_of : List ℕ → List ℕ → List ℕ → Option Command
-call_of verb name invoked = if bytes_eq verb (codes "call") && is_name name then invocation_of name (slice_split (λ b. b == 46) invoked) else None
+call_of verb name invoked = if bytes_eq verb (codes "call") && is_name name then invocation_of name
+    (slice_split (λ b. b == 46) invoked) else None
 
 -- `go N`
 abbrev pub turns_of : Option ℕ → Option Command
@@ -139,7 +140,8 @@ is_among names name = list_any (λ n. bytes_eq n name) names
 -- an Eject, and `end` is the last command.
 abbrev pub are_in_order : List (List ℕ) → List (List ℕ) → List Command → Bool
 are_in_order names ejects [] = false
-are_in_order names ejects (Create name node type_name ∷ rest) = not (is_among names name) && are_in_order (names ++ name ∷ []) (ejects ++ name ∷ []) rest
+are_in_order names ejects (Create name node type_name ∷ rest) =
+    not (is_among names name) && are_in_order (names ++ name ∷ []) (ejects ++ name ∷ []) rest
 are_in_order names ejects (Call name target operation args ∷ rest) =
     not (is_among names name) && (is_among ejects target.name && are_in_order (names ++ name ∷ []) ejects rest)
 are_in_order names ejects (Go n ∷ rest) = are_in_order names ejects rest

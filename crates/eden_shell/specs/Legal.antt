@@ -45,8 +45,13 @@ Move = Option (Entry × Position)
 -- What each command makes of a world
 
 abbrev pub booted : ℕ → NodeState → World → Event × World
-booted number node w =
-    (Boot number (node.epoch + 1) Up, record w { nodes = slice_set w.nodes (number - 1) (record { up = true; epoch = node.epoch + 1; serial = 0 }) })
+booted number node w = (
+  Boot number (node.epoch + 1) Up,
+  record w {
+    nodes = slice_set w.nodes (number - 1)
+        (record { up = true; epoch = node.epoch + 1; serial = 0 });
+  },
+)
 
 abbrev pub made : List ℕ → ℕ → NodeState → World → Event × World
 made name number node w =
@@ -63,7 +68,15 @@ abbrev pub asked : List ℕ → Uid → List ℕ → List ℤ → World → Even
 asked name target operation args w = (
   Asked (length w.calls + 1) name None,
   record w {
-    calls = w.calls ++ record { number = length w.calls + 1; name = name; target = target; operation = operation; args = args; place = Asking; sent = w.sends } ∷ [];
+    calls = w.calls ++ record {
+      number = length w.calls + 1;
+      name = name;
+      target = target;
+      operation = operation;
+      args = args;
+      place = Asking;
+      sent = w.sends;
+    } ∷ [];
     sends = w.sends + 1;
   },
 )

@@ -85,7 +85,8 @@ IsDueFor bytes OutOfMemory history = ⊥
 abbrev pub IsDue : List (List ℕ) → Reading → Outcome → List Entry → Type 0
 IsDue words s Ran history = AreRun words × (bytes : List ℕ) × IsRead s bytes × IsLegalFor bytes history
 IsDue words s BadWords history = (AreRun words → ⊥) × (history ≡ [])
-IsDue words s (BadScript line cause) history = AreRun words × (bytes : List ℕ) × IsRead s bytes × HasNoForm bytes × (line ≡ 1) × (cause ≡ BadForm) × (history ≡ [])
+IsDue words s (BadScript line cause) history =
+    AreRun words × (bytes : List ℕ) × IsRead s bytes × HasNoForm bytes × (line ≡ 1) × (cause ≡ BadForm) × (history ≡ [])
 IsDue words s ReadFault history = AreRun words × Rose s.faults s.faults_after × (history ≡ [])
 IsDue words s TooLong history = AreRun words × TookTooMany s × (history ≡ [])
 IsDue words s WriteFault history = ⊥
@@ -104,15 +105,18 @@ IsBegun words s history = AreRun words × ((history ≡ []) ⊎ ((bytes : List �
 -- no memory, the text of what was carried out was written as far as it goes.
 abbrev pub Answers : (Outcome → List Entry → Type 0) → (List Entry → Type 0) → Writing → Outcome → List Entry → Type 0
 Answers due begun k WriteFault history =
-    Rose k.faults k.faults_after × (outcome : Outcome) × due outcome history × AppendsPart k.written k.written_after (text_for outcome history)
+    Rose k.faults k.faults_after × (outcome : Outcome) × due outcome history
+    × AppendsPart k.written k.written_after (text_for outcome history)
 Answers due begun k OutOfMemory history = begun history × AppendsPart k.written k.written_after (text history)
 Answers due begun k Ran history = due Ran history × Appends k.written k.written_after (text_for Ran history)
 Answers due begun k BadWords history = due BadWords history × Appends k.written k.written_after (text_for BadWords history)
-Answers due begun k (BadScript line cause) history = due (BadScript line cause) history × Appends k.written k.written_after (text_for (BadScript line cause) history)
+Answers due begun k (BadScript line cause) history =
+    due (BadScript line cause) history × Appends k.written k.written_after (text_for (BadScript line cause) history)
 Answers due begun k ReadFault history = due ReadFault history × Appends k.written k.written_after (text_for ReadFault history)
 Answers due begun k TooLong history = due TooLong history × Appends k.written k.written_after (text_for TooLong history)
 
 -- a text was written whole, and the outcome stays; or a write failed, and a part of it was written
 abbrev pub IsDelivered : Writing → Outcome → List ℕ → Outcome → Type 0
 IsDelivered k due bytes outcome =
-    ((outcome ≡ due) × Appends k.written k.written_after bytes) ⊎ ((outcome ≡ WriteFault) × Rose k.faults k.faults_after × AppendsPart k.written k.written_after bytes)
+    ((outcome ≡ due) × Appends k.written k.written_after bytes)
+    ⊎ ((outcome ≡ WriteFault) × Rose k.faults k.faults_after × AppendsPart k.written k.written_after bytes)

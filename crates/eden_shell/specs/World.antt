@@ -77,7 +77,9 @@ first_message a b calls = fold (λ best c. if is_between a b (route_of c.target.
 -- The order of turns
 
 abbrev pub key_cmp : Key → Key → Ordering
-key_cmp a b = ordering_then (nat_cmp a.station b.station) (ordering_then (nat_cmp a.kind b.kind) (ordering_then (nat_cmp a.sender b.sender) (ordering_then (uid_cmp a.uid b.uid) (nat_cmp a.process b.process))))
+key_cmp a b = ordering_then (nat_cmp a.station b.station)
+    (ordering_then (nat_cmp a.kind b.kind) (ordering_then (nat_cmp a.sender b.sender)
+    (ordering_then (uid_cmp a.uid b.uid) (nat_cmp a.process b.process))))
 
 abbrev pub no_uid : Uid
 no_uid = record { node = 0; epoch = 0; serial = 0 }
@@ -140,7 +142,8 @@ with_place place c = record c { place = place }
 -- a call is queued at its target
 abbrev pub queued_at : ℕ → Option ℕ → List Eject → List Eject
 queued_at number None ejects = ejects
-queued_at number (Some place) ejects = option_map_or (λ e. slice_set ejects place (record e { queued = e.queued ++ number ∷ [] })) (slice_get ejects place) ejects
+queued_at number (Some place) ejects = option_map_or (λ e. slice_set ejects place (record e { queued = e.queued ++ number ∷ [] }))
+    (slice_get ejects place) ejects
 
 -- a call is at another place
 abbrev pub placed_at : ℕ → Place → List Call → List Call
@@ -171,7 +174,8 @@ start w place e = option_and_then (λ number. option_map (λ c. (
   Start number e.uid 1,
   record w {
     calls = slice_set w.calls (number - 1) (with_place Running c);
-    ejects = slice_set w.ejects place (record e { queued = drop 1 e.queued; processes = e.processes ++ record { number = 1; call = number } ∷ [] });
+    ejects = slice_set w.ejects place
+        (record e { queued = drop 1 e.queued; processes = e.processes ++ record { number = 1; call = number } ∷ [] });
   },
 )) (call_at number w.calls)) (slice_get e.queued 0)
 

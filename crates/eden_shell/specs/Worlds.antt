@@ -5,7 +5,14 @@ use Rattle.eden_shell.specs.declared.bench.Bench.{Bench}
 use Rattle.eden_shell.specs.Steps.{IsSound}
 
 abbrev pub world_of : Bench → World
-world_of b = record { nodes = b.node ∷ []; ejects = b.ejects.items; calls = b.calls.items; names = b.names.items; sends = b.sends; last = b.last }
+world_of b = record {
+  nodes = b.node ∷ [];
+  ejects = b.ejects.items;
+  calls = b.calls.items;
+  names = b.names.items;
+  sends = b.sends;
+  last = b.last;
+}
 
 -- The world is sound, and the last serial counts its Ejects.
 pub record IsReady (b : Bench) : Type 0 where

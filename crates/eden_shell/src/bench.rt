@@ -151,7 +151,8 @@ impl Bench {
     // Delivers the first message between two stations.
     #[tactic(auto, unfolding(crate::specs::World::delivery))]
     fn deliver(&mut self, alloc: Global, from: u8, to: u8) -> Result<Option<Event>, AllocError>
-        ensures turned { IfOk result (λ event. option_and_then (λ c. delivery (world_of self.old) c c.place) (first_message from to self.old.calls.items)
+        ensures turned { IfOk result (λ event. option_and_then (λ c. delivery (world_of self.old) c c.place)
+            (first_message from to self.old.calls.items)
             ≡ option_map (λ e. (e, world_of self.new)) event) }
         ensures counted { self.new.sends ≤ self.old.sends + 1 }
         ensures node { self.new.node ≡ self.old.node }
@@ -195,7 +196,8 @@ impl Bench {
     #[tactic(auto, unfolding(crate::specs::World::start))]
     fn start(&mut self, place: usize) -> Result<Option<Event>, AllocError>
         requires { place < vec_len self.old.ejects }
-        ensures turned { IfOk result (λ event. option_and_then (λ e. start (world_of self.old) place e) (slice_get self.old.ejects.items place)
+        ensures turned { IfOk result (λ event. option_and_then (λ e. start (world_of self.old) place e)
+            (slice_get self.old.ejects.items place)
             ≡ option_map (λ e. (e, world_of self.new)) event) }
         ensures counted { self.new.sends ≤ self.old.sends + 1 }
         ensures node { self.new.node ≡ self.old.node }
@@ -237,7 +239,8 @@ impl Bench {
         requires asked { index < vec_len self.old.calls }
         requires serves { index ≡ process.call - 1 }
         requires countable { self.old.sends < 2 ^ 63 }
-        ensures turned { IfOk result (λ event. (e : Eject) (c : Call) → slice_get self.old.ejects.items place ≡ Some e → slice_get self.old.calls.items index ≡ Some c
+        ensures turned { IfOk result (λ event. (e : Eject) (c : Call) → slice_get self.old.ejects.items place ≡ Some e
+            → slice_get self.old.calls.items index ≡ Some c
             → returned (world_of self.old) place e process c ≡ (event, world_of self.new)) }
         ensures counted { self.new.sends ≤ self.old.sends + 1 }
         ensures node { self.new.node ≡ self.old.node }
@@ -269,7 +272,8 @@ impl Bench {
     ) -> Result<Option<Event>, AllocError>
         requires in_range { place < vec_len self.old.ejects }
         requires countable { self.old.sends < 2 ^ 63 }
-        ensures turned { IfOk result (λ event. option_and_then (λ e. process_turn (world_of self.old) place e number) (slice_get self.old.ejects.items place)
+        ensures turned { IfOk result (λ event. option_and_then (λ e. process_turn (world_of self.old) place e number)
+            (slice_get self.old.ejects.items place)
             ≡ option_map (λ e. (e, world_of self.new)) event) }
         ensures counted { self.new.sends ≤ self.old.sends + 1 }
         ensures node { self.new.node ≡ self.old.node }
@@ -406,7 +410,8 @@ impl Bench {
     ) -> Result<Event, AllocError>
         requires few { vec_len self.old.calls < 2 ^ 32 - 1 }
         requires countable { self.old.sends < 2 ^ 63 }
-        ensures asked { IfOk result (λ event. asked name.now target operation.now args.now (world_of self.old) ≡ (event, world_of self.new)) }
+        ensures asked { IfOk result (λ event. asked name.now target operation.now args.now (world_of self.old)
+            ≡ (event, world_of self.new)) }
         ensures names { self.new.names ≡ self.old.names }
         ensures sends { self.new.sends ≤ self.old.sends + 1 }
         ensures node { self.new.node ≡ self.old.node }

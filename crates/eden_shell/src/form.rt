@@ -369,8 +369,10 @@ fn have_form(alloc: Global, commands: &[Command]) -> Result<bool, AllocError>
 
 // The commands that lines say.
 fn commands_in(alloc: Global, lines: &[&[u8]]) -> Result<Option<Vec<Command>>, AllocError>
-    ensures said { IfOk result (λ found. IfSome found (λ commands. map line_command (map (λ r. r.now) lines.now) ≡ map Some commands.items)) }
-    ensures unsaid { IfOk result (λ found. IfNone found ((commands : List Command) → map line_command (map (λ r. r.now) lines.now) ≡ map Some commands → ⊥)) }
+    ensures said { IfOk result
+        (λ found. IfSome found (λ commands. map line_command (map (λ r. r.now) lines.now) ≡ map Some commands.items)) }
+    ensures unsaid { IfOk result
+        (λ found. IfNone found ((commands : List Command) → map line_command (map (λ r. r.now) lines.now) ≡ map Some commands → ⊥)) }
     ensures as_many { IfOk result (λ found. IfSome found (λ commands. length commands.items ≡ length lines.now)) }
 {
     let mut commands = Vec::new(alloc);

@@ -103,7 +103,8 @@ fn create(
     requires serial { bench.old.node.serial < 2 ^ 32 - 1 }
     requires ready { IsReady bench.old }
     ensures done { OnOk result ((type_name : List ℕ) (rest : List Command)
-        → Advances (at (world_of bench.old) (Create name.now 1 type_name ∷ rest)) history.old.items history.new.items (at (world_of bench.new) rest)) }
+        → Advances (at (world_of bench.old) (Create name.now 1 type_name ∷ rest)) history.old.items history.new.items
+        (at (world_of bench.new) rest)) }
     ensures err { OnErr result (history.new.items ≡ history.old.items) }
     ensures sends { bench.new.sends ≡ bench.old.sends }
     ensures ready { OnOk result (IsReady bench.new) }
@@ -132,7 +133,8 @@ fn call(
     requires countable { bench.old.sends < 2 ^ 63 }
     requires ready { IsReady bench.old }
     ensures done { OnOk result ((rest : List Command)
-        → Advances (at (world_of bench.old) (Call name.now target.now operation.now args.now ∷ rest)) history.old.items history.new.items (at (world_of bench.new) rest)) }
+        → Advances (at (world_of bench.old) (Call name.now target.now operation.now args.now ∷ rest)) history.old.items history.new.items
+        (at (world_of bench.new) rest)) }
     ensures err { OnErr result (history.new.items ≡ history.old.items) }
     ensures sends { bench.new.sends ≤ bench.old.sends + 1 }
     ensures ready { OnOk result (IsReady bench.new) }
