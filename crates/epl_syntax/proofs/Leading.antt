@@ -1,14 +1,12 @@
 -- How tokens follow one another.
 use Rattle.std.proofs.Common.{◌≡◌, ℕ, zero, suc, ◌+◌, ◌-◌, ◌*◌, ◌<◌, ◌≤◌, Bool, true, false, cond, List, [], ◌∷◌, ◌++◌, length, take, drop, Option, Some, None, refl, sym, ap, ◌∙◌, subst, arith, get_or, drop-cons}
-use Rattle.std.specs.Prelude.{slice_index, option_and_then, IfSome, nat_le, ◌==◌, ◌||◌, ◌&&◌}
+use Rattle.std.specs.Prelude.{option_and_then, IfSome, nat_le, ◌==◌, ◌||◌, ◌&&◌}
 use Rattle.std.specs.List.{take_while, prefix_len}
-use Rattle.std.specs.Char.{is_ascii_uppercase, is_ascii_lowercase, is_ascii_alphanumeric}
-use Rattle.std.proofs.lemmas.List.Sums.{take_while-cons, prefix_len-le-length}
+use Rattle.std.specs.Char.{is_ascii_uppercase, is_ascii_lowercase}
+use Rattle.std.proofs.lemmas.List.Sums.{prefix_len-le-length}
 use Rattle.std.proofs.lemmas.List.Folds.{length-prefix_len}
 use Rattle.std.proofs.lemmas.Grind.{common_steps}
-use Rattle.std.proofs.lemmas.Bool.{cases_lt}
-use Rattle.std.proofs.Common.{◌⊎◌, inl, inr}
-use Rattle.epl_syntax.specs.Form.{is_blank, is_digit, is_name_byte, name_length, digit_count, number_of, decimal_from, with_byte, text_body}
+use Rattle.epl_syntax.specs.Form.{is_digit, is_name_byte, name_length, digit_count, number_of, decimal_from, with_byte, text_body}
 use Rattle.epl_syntax.specs.Words.{word_of}
 use Rattle.epl_syntax.specs.Token.{mark_of, named, name_token, number_token, text_token, mark_token, token_at, AreBlanks, Leads}
 use Rattle.epl_syntax.specs.declared.token.Token.{Token}

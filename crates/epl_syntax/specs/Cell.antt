@@ -5,31 +5,23 @@
 --   Save   needs 4, makes a checkpoint and returns the number of its status
 --   Sleep  needs 8, deactivates the Cell
 --   Kill   needs 16, destroys the Cell and returns the number of the status, where that is not 0
-use Rattle.std.specs.Prelude.{ℕ, ℤ, pos, cond, List, [], ◌∷◌, codes}
+use Rattle.std.specs.Prelude.{ℕ, ℤ, pos, true, cond, List, [], ◌∷◌, codes}
 use Rattle.eden_value.specs.Datum.{Datum, number}
-use Rattle.eden_value.specs.Shape.{Shape, ints}
+use Rattle.eden_value.specs.Shape.{ints}
 use Rattle.eden_value.specs.Status.{status_number}
 use Rattle.eden_model.specs.Map.{same_text}
 use Rattle.epl_syntax.specs.declared.effect.Answer.{Answer}
 use Rattle.epl_syntax.specs.declared.effect.Answer.TheVariants.{Code}
 use Rattle.epl_syntax.specs.declared.effect.Effect.{Effect}
 use Rattle.epl_syntax.specs.declared.effect.Effect.TheVariants.{Return, Checkpoint, Deactivate, Destroy}
+use Rattle.epl_syntax.specs.Outline.{Outline, kept}
+use Rattle.epl_syntax.specs.Simple.{of_one_class, outline}
 
--- an operation: its name, the rights that it needs as a word of bits, its class, and the kinds of its arguments
-pub record Operation : Type 0 where
-  pub name : List ℕ
-  pub needs : ℕ
-  pub class : ℕ
-  pub params : List Shape
-
--- an operation of a type with one class, by its name, the rights that it needs and the kinds of its arguments
-abbrev pub of_one_class : List ℕ → ℕ → List Shape → Operation
-of_one_class name needs params = record { name = name; needs = needs; class = 0; params = params }
-
--- the operations of a Cell
-abbrev pub operations : List Operation
-operations = of_one_class (codes "Set") 1 (ints ∷ []) ∷ of_one_class (codes "Get") 2 [] ∷ of_one_class (codes "Save") 4 []
-    ∷ of_one_class (codes "Sleep") 8 [] ∷ of_one_class (codes "Kill") 16 [] ∷ []
+-- its variables and operations
+abbrev pub cell : Outline
+cell = outline (codes "Cell") (kept (number (pos 0)) ints true ∷ [])
+    (of_one_class (codes "Set") 1 (ints ∷ []) ∷ of_one_class (codes "Get") 2 [] ∷ of_one_class (codes "Save") 4 []
+    ∷ of_one_class (codes "Sleep") 8 [] ∷ of_one_class (codes "Kill") 16 [] ∷ [])
 
 -- What is left to do of an operation. Of one that has returned or has lost its active part it is never looked at again.
 pub data Stage : Type 0 where
@@ -49,7 +41,7 @@ abbrev pub sets_to : List Datum → Stage
 sets_to (number n ∷ []) = sets n
 sets_to _ = gets
 
--- what is left to do of an operation that begins
+-- how an operation begins
 abbrev pub first_stage : List ℕ → List Datum → Stage
 first_stage name args =
     cond (same_text name (codes "Set")) (sets_to args)

@@ -1,4 +1,4 @@
--- The tree of an Edentype, without where it lies in memory.
+-- The tree that the text of a declared type spells, without where it lies in memory.
 use Rattle.std.specs.Prelude.{ℕ, ℤ, Bool, List, [], ◌∷◌, map, Option}
 use Rattle.eden_value.specs.Shape.{Shape, shape}
 use Rattle.epl_syntax.specs.declared.tree.Name.{Name}
@@ -235,7 +235,7 @@ abbrev pub upgrade : UpgradeDecl → Upgrade
 upgrade u = record { from = u.from; params = map parameter u.params.items; changes = map change u.assignments.items; place = u.place }
 
 -- a type, as it is written
-pub record Edentype : Type 0 where
+pub record TypeTree : Type 0 where
   pub name : Name
   pub version : Option Number
   pub vars : List Variable
@@ -247,8 +247,8 @@ pub record Edentype : Type 0 where
   pub upgrades : List Upgrade
 
 -- the type that a program of the code is
-abbrev pub edentype : Program → Edentype
-edentype p = record {
+abbrev pub type_tree : Program → TypeTree
+type_tree p = record {
   name = p.name;
   version = p.version;
   vars = map variable p.vars.items;

@@ -1,6 +1,6 @@
 //! A type that keeps the rules.
 ghost use Rattle.std.specs.Prelude.{◌≡◌, ℕ, List, []};
-ghost use Rattle.epl_syntax.specs.Tree.{edentype};
+ghost use Rattle.epl_syntax.specs.Tree.{type_tree};
 ghost use Rattle.epl_syntax.specs.Rules.InItems.{broken_program};
 
 use crate::tree::Program;
@@ -10,7 +10,7 @@ use crate::types::Types;
 #[derive(Drop)]
 pub struct Checked {
     pub program: Program,
-    pub ghost keeps_rules: { ∥ ((earlier : List (List ℕ)) × (broken_program earlier (edentype program) ≡ [])) ∥₁ },
+    pub ghost keeps_rules: { ∥ ((earlier : List (List ℕ)) × (broken_program earlier (type_tree program) ≡ [])) ∥₁ },
 }
 
 impl Checked {
@@ -18,7 +18,7 @@ impl Checked {
 
     /// A type that keeps the rules with the types before it.
     pub fn of(program: Program, earlier: &Types) -> Checked
-        requires { broken_program (names_of earlier.now) (edentype program) ≡ [] }
+        requires { broken_program (names_of earlier.now) (type_tree program) ≡ [] }
         ensures { result.program ≡ program }
     {
         Checked { program }

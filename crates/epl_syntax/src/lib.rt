@@ -22,7 +22,9 @@ mod word;
 
 pub use checked::Checked;
 pub use effect::{Answer, Effect, FaultCause};
-pub use law::tokens_are_one;
+pub use law::{
+    filters_make_their_functions, tokens_are_one, types_keep_monitors, types_make_no_capabilities,
+};
 pub use lexer::{leading_tokens, tokens};
 pub use rule::{Broken, Rule};
 pub use text::same_text;
@@ -32,5 +34,5 @@ pub use tree::{
     Operator, ParDecl, Prefix, ProcDecl, Program, Start, Stmt, Target, UpgradeDecl, VarDecl,
     WrittenKind,
 };
-pub use types::{Edentype, Types};
+pub use types::{Native, Types};
 pub use word::Word;

@@ -1,4 +1,4 @@
-//! The tree of an Edentype. It follows the grammar; places are those of first tokens.
+//! The tree of a declared type. It follows the grammar; places are those of first tokens.
 use eden_value::{Kind, Txt};
 
 /// A name as it is written.
@@ -273,7 +273,7 @@ pub struct UpgradeDecl {
     pub place: u32,
 }
 
-/// An Edentype. Without `version` it has version 1. Each list is in the order of the text.
+/// A declared type, as its text spells it. Without `version` it has version 1. Each list is in the order of the text.
 #[derive(Drop)]
 pub struct Program {
     pub name: Name,

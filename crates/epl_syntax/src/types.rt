@@ -2,8 +2,8 @@
 ghost use Rattle.std.specs.Prelude.{◌≡◌, ◌+◌, ◌<◌, ◌^◌, [], map, length, false, IfOk, OnOk, OnErr, option_copied};
 ghost use Rattle.std.specs.List.{list_any, position_from};
 ghost use Rattle.eden_model.specs.Map.{same_text};
-ghost use Rattle.epl_syntax.specs.Meaning as meaning;
-ghost use Rattle.epl_syntax.specs.Tree.{edentype};
+ghost use Rattle.epl_syntax.specs.Natives as natives;
+ghost use Rattle.epl_syntax.specs.Tree.{type_tree};
 ghost use Rattle.epl_syntax.specs.Rules.InItems.{broken_program};
 ghost use Rattle.epl_syntax.specs.Rules.OfTypes as rules;
 ghost use Rattle.epl_syntax.specs.Rules.OfTypes.{native_only, with_type, names_of, NamesDiffer, place_named};
@@ -17,16 +17,42 @@ use std::marker::Model;
 
 /// A native type.
 #[derive(Clone, Copy, Debug, PartialEq, Eq)]
-pub enum Edentype {
+pub enum Native {
     /// It holds an integer.
     Cell,
+    /// It holds names with capabilities.
+    Directory,
+    /// The first stage of a stream, filled with texts.
+    Lines,
+    /// It hands on the first items of a stream.
+    Take,
+    /// It hands on all but the first items of a stream.
+    Skip,
+    /// It hands on the items that begin with a text.
+    Only,
+    /// It hands on each item with its number.
+    Number,
+    /// The last stage of a stream.
+    Sink,
 }
+
+/// The native types, in the order in which they stand in each script.
+const NATIVE_TYPES: [Native; 8] = [
+    Native::Cell,
+    Native::Directory,
+    Native::Lines,
+    Native::Take,
+    Native::Skip,
+    Native::Only,
+    Native::Number,
+    Native::Sink,
+];
 
 /// The types of a script in order: the native ones, then those that the script declares, each of
 /// which keeps the rules with those before it. No two have one name. Contracts see both lists.
 #[derive(Drop)]
 pub struct Types {
-    native: Vec<Edentype>,
+    native: Vec<Native>,
     declared: Vec<Checked>,
 }
 
@@ -38,7 +64,7 @@ impl Model for Types {
     ghost use Rattle.eden_value.specs.contracts.kind.Kind as kind;
     ghost use Rattle.epl_syntax.specs.contracts.tree.Expr as expr;
     ghost use Rattle.epl_syntax.specs.contracts.tree.Stmt as stmt;
-    ghost use Rattle.epl_syntax.specs.Meaning.{name_of, native_types};
+    ghost use Rattle.epl_syntax.specs.Natives.{native_name, native_types};
     ghost use Rattle.epl_syntax.specs.Rules.OfTypes.{TypeList, broken_types};
 
     ghost Value = { TypeList };
@@ -47,24 +73,37 @@ impl Model for Types {
 
     ghost view = { λ t. record { native = t.native.items; declared = map (λ c. c.program) t.declared.items } };
 
-    ghost invariant = { λ t. (broken_types (map name_of t.native.items) (map (λ c. c.program) t.declared.items) ≡ [])
+    ghost invariant = { λ t. (broken_types (map native_name t.native.items) (map (λ c. c.program) t.declared.items) ≡ [])
         × (t.native.items ≡ native_types)
-        × IsDistinct same_text (map name_of t.native.items ++ map (λ p. p.name.text) (map (λ c. c.program) t.declared.items)) };
+        × IsDistinct same_text (map native_name t.native.items ++ map (λ p. p.name.text) (map (λ c. c.program) t.declared.items)) };
 }
 
-fn name_of(kind: &Edentype) -> &'static [u8]
-    ensures { result.now ≡ meaning.name_of kind.now }
+fn name_of(kind: &Native) -> &'static [u8]
+    ensures { result.now ≡ natives.native_name kind.now }
 {
     match kind {
-        Edentype::Cell => b"Cell",
+        Native::Cell => b"Cell",
+        Native::Directory => b"Directory",
+        Native::Lines => b"Lines",
+        Native::Take => b"Take",
+        Native::Skip => b"Skip",
+        Native::Only => b"Only",
+        Native::Number => b"Number",
+        Native::Sink => b"Sink",
     }
 }
 
-fn has_native(types: &[Edentype], name: &Txt) -> bool
-    ensures { result ≡ list_any (λ t. same_text t name.now) (map meaning.name_of types.now) }
+fn is_named(kind: &Native, name: &Txt) -> bool
+    ensures { result ≡ same_text (natives.native_name kind.now) name.now }
+{
+    name_of(kind) == name.bytes.as_slice()
+}
+
+fn has_native(types: &[Native], name: &Txt) -> bool
+    ensures { result ≡ list_any (λ t. same_text t name.now) (map natives.native_name types.now) }
 {
     for t in types {
-        if name.bytes.as_slice() == name_of(t) {
+        if is_named(t, name) {
             return true;
         }
     }
@@ -82,11 +121,11 @@ fn has_declared(types: &[Checked], name: &Txt) -> bool
     false
 }
 
-fn find_native(types: &[Edentype], name: &Txt) -> Option<usize>
-    ensures { result ≡ position_from (λ t. same_text t name.now) 0 (map meaning.name_of types.now) }
+fn find_native(types: &[Native], name: &Txt) -> Option<usize>
+    ensures { result ≡ position_from (λ t. same_text t name.now) 0 (map natives.native_name types.now) }
 {
     for (i, t) in types.iter().enumerate() {
-        if name.bytes.as_slice() == name_of(t) {
+        if is_named(t, name) {
             return Some(i);
         }
     }
@@ -111,8 +150,7 @@ impl Types {
     pub fn native(alloc: Global) -> Result<Types, AllocError>
         ensures { IfOk result (λ t. t ≡ native_only) }
     {
-        let mut native = Vec::new(alloc);
-        native.push(Edentype::Cell)?;
+        let native = Vec::from_slice(alloc, &NATIVE_TYPES)?;
         Ok(Types {
             native,
             declared: Vec::new(alloc),
@@ -138,7 +176,7 @@ impl Types {
     }
 
     /// The native type at a place.
-    pub fn native_at(&self, place: usize) -> Option<Edentype>
+    pub fn native_at(&self, place: usize) -> Option<Native>
         ensures { result ≡ rules.native_at self.now place }
     {
         self.native.get(place).copied()
@@ -160,7 +198,7 @@ impl Types {
     /// One more type, behind those that are there, of a name that none of them has. Where memory runs out, they stay as
     /// they are.
     pub fn add(&mut self, checked: Checked) -> Result<(), AllocError>
-        requires rules { broken_program (names_of self.old) (edentype checked.program) ≡ [] }
+        requires rules { broken_program (names_of self.old) (type_tree checked.program) ≡ [] }
         requires name { list_any (λ t. same_text t checked.program.name.text) (names_of self.old) ≡ false }
         ensures ok { OnOk result (self.new ≡ with_type self.old checked.program) }
         ensures err { OnErr result (self.new ≡ self.old) }

@@ -1,15 +1,15 @@
 -- The rules that an expression breaks.
-use Rattle.std.specs.Prelude.{ℕ, zero, suc, Bool, true, false, ◌==◌, ◌||◌, not, nat_lt, List, [], ◌∷◌, ◌++◌, length, Option, Some, None}
-use Rattle.eden_value.specs.Shape.{Shape, ints, truths, texts, caps, lists}
+use Rattle.std.specs.Prelude.{ℕ, suc, Bool, false, ◌==◌, ◌||◌, not, nat_lt, List, [], ◌∷◌, ◌++◌, length, Option, Some, None}
+use Rattle.eden_value.specs.Shape.{Shape, ints, truths, lists}
 use Rattle.epl_syntax.specs.declared.tree.Name.{Name}
 use Rattle.epl_syntax.specs.declared.tree.Operator.{Operator}
 use Rattle.epl_syntax.specs.declared.tree.Operator.TheVariants.{Or, And, Equal, Different, Less, LessEqual, Greater, GreaterEqual, Add, Subtract, Join, Multiply, Divide, Modulo}
-use Rattle.epl_syntax.specs.Tree.{PlacedShape, Constant, integer, text, truth, absent, empty_list, Expression, Const_, Name_, Me, Unary, Binary, Index, ListOf, Apply, Expressions, no_expressions, expression_and}
+use Rattle.epl_syntax.specs.Tree.{PlacedShape, Constant, empty_list, Expression, Const_, Name_, Me, Unary, Binary, Index, ListOf, Apply, Expressions, no_expressions, expression_and}
 use Rattle.epl_syntax.specs.declared.rule.Broken.{Broken}
 use Rattle.epl_syntax.specs.declared.rule.Rule.TheVariants.{UnknownName, KindDiffers, Unguarded, BadLimit}
 use Rattle.epl_syntax.specs.Rules.First.{broken_if, broken_at}
 use Rattle.epl_syntax.specs.Rules.Scopes.{Scope, Seen, variable_named}
-use Rattle.epl_syntax.specs.Rules.KindsOf.{same_shape, is_list, has_size, kind_named, sized_kind, kind_of_prefix, kind_of, kind_of_first, argument_tests}
+use Rattle.epl_syntax.specs.Rules.KindsOf.{same_shape, is_list, has_size, sized_kind, kind_of_prefix, kind_of, kind_of_first, argument_tests}
 
 -- the place of an expression's first token
 abbrev pub place_of : Expression → ℕ

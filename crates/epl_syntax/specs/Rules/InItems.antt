@@ -1,5 +1,5 @@
 -- The rules that the items of a type break.
-use Rattle.std.specs.Prelude.{ℕ, Bool, true, false, ◌-◌, ◌&&◌, not, nat_le, List, [], ◌∷◌, ◌++◌, map, length, drop, Option, Some, None, if◌then◌else◌}
+use Rattle.std.specs.Prelude.{ℕ, ◌-◌, ◌&&◌, not, nat_le, List, [], ◌∷◌, ◌++◌, map, drop, Option, Some, None, if◌then◌else◌}
 use Rattle.std.specs.List.{flat_map}
 use Rattle.eden_value.specs.Shape.{Shape}
 use Rattle.eden_model.specs.Map.{same_text}
@@ -7,12 +7,12 @@ use Rattle.epl_syntax.specs.declared.tree.Name.{Name}
 use Rattle.epl_syntax.specs.declared.tree.Number.{Number}
 use Rattle.epl_syntax.specs.declared.tree.ClassDecl.{ClassDecl}
 use Rattle.epl_syntax.specs.declared.tree.CondDecl.{CondDecl}
-use Rattle.epl_syntax.specs.Tree.{PlacedShape, Beginning, Variable, Local, Parameter, Operation, Process, Change, Upgrade, Edentype, Statement, block_of}
+use Rattle.epl_syntax.specs.Tree.{PlacedShape, Beginning, Variable, Local, Parameter, Operation, Process, Change, Upgrade, TypeTree, block_of}
 use Rattle.epl_syntax.specs.declared.rule.Broken.{Broken}
-use Rattle.epl_syntax.specs.declared.rule.Rule.TheVariants.{UnknownName, KindDiffers, Doubled, BadLimit}
+use Rattle.epl_syntax.specs.declared.rule.Rule.TheVariants.{UnknownName, BadLimit}
 use Rattle.epl_syntax.specs.Rules.First.{broken_if, broken_at}
 use Rattle.epl_syntax.specs.Rules.Scopes.{Scope, is_among, doubled, as_variables, doubled_numbers}
-use Rattle.epl_syntax.specs.Rules.KindsOf.{same_shape, kind_of, kind_of_constant}
+use Rattle.epl_syntax.specs.Rules.KindsOf.{kind_of, kind_of_constant}
 use Rattle.epl_syntax.specs.Rules.InExpressions.{place_of, misfit, misfit_known, broken_kind, broken_constant, broken_expression}
 use Rattle.epl_syntax.specs.Rules.InStatements.{broken_block}
 
@@ -96,7 +96,7 @@ abbrev pub broken_class : ClassDecl → List Broken
 broken_class c = outside 1 16 c.limit
 
 -- what the bodies in a type see
-abbrev pub scope_in : Edentype → List (List ℕ) → List Parameter → List Local → Option (List PlacedShape) → Scope
+abbrev pub scope_in : TypeTree → List (List ℕ) → List Parameter → List Local → Option (List PlacedShape) → Scope
 scope_in t types params locals results = record {
   locals = locals;
   params = params;
@@ -119,14 +119,14 @@ abbrev pub broken_declared : Operation → List Broken
 broken_declared o = flat_map broken_param o.params ++ flat_map broken_kind o.results ++ flat_map broken_local o.locals
 
 -- what an operation breaks
-abbrev pub broken_operation : Edentype → List (List ℕ) → Operation → List Broken
+abbrev pub broken_operation : TypeTree → List (List ℕ) → Operation → List Broken
 broken_operation t types o =
     broken_head (names_of_classes t.classes) o ++ broken_names (names_of_vars t.vars) (names_of_params o.params ++ names_of_locals o.locals)
     ++ broken_declared o
     ++ broken_block (scope_in t types o.params o.locals (Some o.results)) None (block_of o.body)
 
 -- what a process breaks
-abbrev pub broken_process : Edentype → List (List ℕ) → Process → List Broken
+abbrev pub broken_process : TypeTree → List (List ℕ) → Process → List Broken
 broken_process t types p =
     too_many 32 (places_of (names_of_locals p.locals)) ++ broken_names (names_of_vars t.vars) (names_of_locals p.locals)
     ++ flat_map broken_local p.locals ++ broken_block (scope_in t types [] p.locals None) None (block_of p.body)
@@ -161,7 +161,7 @@ version_number None = 1
 version_number (Some number) = number.n
 
 -- what an upgrade breaks
-abbrev pub broken_upgrade : Edentype → List (List ℕ) → Upgrade → List Broken
+abbrev pub broken_upgrade : TypeTree → List (List ℕ) → Upgrade → List Broken
 broken_upgrade t types u =
     outside 1 (version_number t.version - 1) u.from
     ++ too_many 64 (places_of (names_of_params u.params)) ++ too_many 64 (places_of (names_of_changes u.changes))
@@ -176,26 +176,26 @@ broken_version None = []
 broken_version (Some number) = outside 1 65535 number
 
 -- counts past their limits
-abbrev pub broken_counts : Edentype → List Broken
+abbrev pub broken_counts : TypeTree → List Broken
 broken_counts t =
     too_many 64 (places_of (names_of_vars t.vars)) ++ too_many 16 (places_of (names_of_classes t.classes))
     ++ too_many 8 (places_of t.monitors) ++ too_many 32 (places_of (names_of_conditions t.conditions))
     ++ too_many 32 (places_of (names_of_operations t.operations)) ++ too_many 8 (places_of (names_of_processes t.processes))
 
 -- names that are declared twice: those that begin with a small letter, and those that begin with a great one
-abbrev pub broken_small_names : Edentype → List Broken
+abbrev pub broken_small_names : TypeTree → List Broken
 broken_small_names t = doubled (names_of_vars t.vars ++ names_of_conditions t.conditions ++ names_of_classes t.classes)
 
 -- names of operations, processes and monitors that are declared twice
-abbrev pub broken_great_names : Edentype → List Broken
+abbrev pub broken_great_names : TypeTree → List Broken
 broken_great_names t = doubled (names_of_operations t.operations ++ names_of_processes t.processes ++ t.monitors)
 
 -- two upgrades from one version
-abbrev pub broken_numbers : Edentype → List Broken
+abbrev pub broken_numbers : TypeTree → List Broken
 broken_numbers t = doubled_numbers (map (λ u. u.from) t.upgrades)
 
 -- Every broken rule of a type, with its place. `earlier` has the names of the native types and of the types before it.
-unfoldable pub broken_program : List (List ℕ) → Edentype → List Broken
+unfoldable pub broken_program : List (List ℕ) → TypeTree → List Broken
 broken_program earlier t =
     broken_version t.version ++ broken_counts t ++ broken_small_names t ++ broken_great_names t ++ broken_numbers t
     ++ flat_map broken_var t.vars ++ flat_map broken_class t.classes

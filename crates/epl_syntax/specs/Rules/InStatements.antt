@@ -1,5 +1,5 @@
 -- The rules that a statement breaks.
-use Rattle.std.specs.Prelude.{ℕ, Bool, true, false, ◌==◌, not, is_some, List, [], ◌∷◌, ◌++◌, length, Option, Some, None}
+use Rattle.std.specs.Prelude.{ℕ, ◌==◌, not, is_some, List, [], ◌∷◌, ◌++◌, length, Option, Some, None}
 use Rattle.std.specs.List.{flat_map}
 use Rattle.eden_value.specs.Shape.{Shape, ints, truths, caps}
 use Rattle.epl_syntax.specs.declared.tree.Name.{Name}

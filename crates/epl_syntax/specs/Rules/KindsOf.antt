@@ -1,5 +1,5 @@
 -- The kinds of expressions.
-use Rattle.std.specs.Prelude.{ℕ, Bool, true, false, ◌&&◌, List, [], ◌∷◌, Option, Some, None}
+use Rattle.std.specs.Prelude.{ℕ, Bool, true, false, List, [], ◌∷◌, Option, Some, None}
 use Rattle.eden_value.specs.Shape.{Shape, ints, truths, texts, caps, lists}
 use Rattle.epl_syntax.specs.declared.tree.Prefix.{Prefix}
 use Rattle.epl_syntax.specs.declared.tree.Prefix.TheVariants.{Not, Negate}

@@ -1,5 +1,5 @@
 -- What the names of a program stand for.
-use Rattle.std.specs.Prelude.{ℕ, zero, suc, ◌+◌, Bool, true, false, ◌==◌, ◌||◌, ◌&&◌, max, not, List, [], ◌∷◌, ◌++◌, map, Option, Some, None, if◌then◌else◌}
+use Rattle.std.specs.Prelude.{ℕ, ◌+◌, Bool, ◌==◌, max, List, [], ◌∷◌, ◌++◌, Option, Some, None, if◌then◌else◌}
 use Rattle.std.specs.List.{flat_map, list_any}
 use Rattle.eden_value.specs.Shape.{Shape}
 use Rattle.eden_model.specs.Map.{same_text}
