@@ -12,7 +12,10 @@ use Rattle.epl_parser.specs.declared.head.PrimaryHead.TheVariants as head
 use Rattle.epl_parser.specs.OneToken.{if_mark, the_mark, if_word, the_word}
 use Rattle.epl_parser.specs.Heads.{primary_head}
 use Rattle.epl_syntax.specs.Tree.{Expression}
-use Rattle.epl_parser.specs.Expressions.{Parsed, IsChain, chain, conj, neg, term, unit, IsNeg, not_neg, cmp, IsCmp, sum, compared, IsUnit, minus, indexed, IsPrimary, int_operand, text_operand, bool_operand, none_operand, self_operand, name_operand, parens_operand, list_operand, empty_list_operand, builtin_operand, IsExpression}
+use Rattle.epl_parser.specs.Expressions.{Parsed, IsChain, chain, conj, neg, term, unit, IsNeg, not_neg, cmp, IsCmp}
+use Rattle.epl_parser.specs.Expressions.{sum, compared, IsUnit, minus, indexed, IsPrimary, int_operand, text_operand}
+use Rattle.epl_parser.specs.Expressions.{bool_operand, none_operand, self_operand, name_operand, parens_operand}
+use Rattle.epl_parser.specs.Expressions.{list_operand, empty_list_operand, builtin_operand, IsExpression}
 
 -- the first token's kind is such
 abbrev pub FirstIs : (TokenKind → Type 0) → List (Token × ℕ) → Type 0

@@ -20,10 +20,12 @@ none_or : {A : Type 0} (o : Option A) → ((a : A) → o ≡ Some a → ⊥) →
 none_or None h = refl
 none_or (Some a) h = absurd (h a refl)
 
-pub no_word : {A : Type 0} (w : Word) (f : TokenKind → Option A) (a : A) (t : Token) → f t.kind ≡ Some a → f (kind.Word w) ≡ None → the_word w t ≡ None
+pub no_word : {A : Type 0} (w : Word) (f : TokenKind → Option A) (a : A) (t : Token) → f t.kind ≡ Some a → f (kind.Word w) ≡ None
+    → the_word w t ≡ None
 no_word w f a t e n = none_or (the_word w t) (λ u k. let same : f t.kind ≡ f (kind.Word w) = ap f (is_the_word w t u k).0 in absurd (cc))
 
-pub no_mark : {A : Type 0} (m : Mark) (f : TokenKind → Option A) (a : A) (t : Token) → f t.kind ≡ Some a → f (kind.Mark m) ≡ None → the_mark m t ≡ None
+pub no_mark : {A : Type 0} (m : Mark) (f : TokenKind → Option A) (a : A) (t : Token) → f t.kind ≡ Some a → f (kind.Mark m) ≡ None
+    → the_mark m t ≡ None
 no_mark m f a t e n = none_or (the_mark m t) (λ u k. let same : f t.kind ≡ f (kind.Mark m) = ap f (is_the_mark m t u k).0 in absurd (cc))
 
 pub is_not : (m : Mark) (t : Token) → the_mark m t ≡ None → not_mark m t ≡ Some tt
@@ -46,7 +48,8 @@ statement_ties kind.Text h e = refl
 statement_ties (kind.Mark m) h e = absurd (cc)
 statement_ties (kind.Word w) h e = word_ties w h e
 
-pub before_statement : (t : Token) (ts : List Token) (h : StatementHead × Token) → headed statement_head t ≡ Some h → EndsExpression (t ∷ ts)
+pub before_statement : (t : Token) (ts : List Token) (h : StatementHead × Token) → headed statement_head t ≡ Some h
+    → EndsExpression (t ∷ ts)
 before_statement t ts h e = let z = statement_ties t.kind h.0 (is_headed statement_head t h e).0 in omega arith
 
 -- a word that ends what stands before it

@@ -3,7 +3,11 @@ use Rattle.std.proofs.Common.{ℕ, suc, ◌≤◌, List, arith}
 use Rattle.epl_syntax.specs.declared.token.Token.{Token}
 use Rattle.epl_parser.specs.declared.head.Level.{Level}
 use Rattle.epl_parser.specs.declared.head.Level.TheVariants as level
-use Rattle.epl_parser.specs.Expressions.{Parsed, joined, at_index, IsChain, chain, IsPart, conj, neg, term, unit, IsMore, no_more, more, IsNeg, not_neg, cmp, IsCmp, sum, compared, IsUnit, minus, indexed, IsIndices, no_index, index, IsPrimary, int_operand, text_operand, bool_operand, none_operand, self_operand, name_operand, parens_operand, list_operand, empty_list_operand, builtin_operand}
+use Rattle.epl_parser.specs.Expressions.{Parsed, joined, at_index, IsChain, chain, IsPart, conj, neg, term, unit}
+use Rattle.epl_parser.specs.Expressions.{IsMore, no_more, more, IsNeg, not_neg, cmp, IsCmp, sum, compared, IsUnit}
+use Rattle.epl_parser.specs.Expressions.{minus, indexed, IsIndices, no_index, index, IsPrimary, int_operand}
+use Rattle.epl_parser.specs.Expressions.{text_operand, bool_operand, none_operand, self_operand, name_operand}
+use Rattle.epl_parser.specs.Expressions.{parens_operand, list_operand, empty_list_operand, builtin_operand}
 
 module _ (bytes : List ℕ) (outer : ℕ) where
   pub grows_primary : (d : ℕ) (ps : List (Token × ℕ)) (x : Parsed) → IsPrimary bytes outer d ps x → d ≤ x.behind
@@ -38,7 +42,8 @@ module _ (bytes : List ℕ) (outer : ℕ) where
 
     grows_more : (l : Level) (x : Parsed) (ps : List (Token × ℕ)) (y : Parsed) → IsMore bytes outer l x ps y → x.behind ≤ y.behind
     grows_more l x ps y no_more = omega arith
-    grows_more l x ps z (more {ps = qs} {qs = rs} {y = y} t op e p m) = omega (arith, grows_part l (suc x.behind) qs y p, grows_more l (joined op x y) rs z m)
+    grows_more l x ps z (more {ps = qs} {qs = rs} {y = y} t op e p m) =
+        omega (arith, grows_part l (suc x.behind) qs y p, grows_more l (joined op x y) rs z m)
 
     pub grows_neg : (d : ℕ) (ps : List (Token × ℕ)) (x : Parsed) → IsNeg bytes outer d ps x → d ≤ x.behind
     grows_neg d ps x (not_neg {ps = qs} {x = y} t e n) = omega (arith, grows_neg (suc d) qs y n)
@@ -46,4 +51,5 @@ module _ (bytes : List ℕ) (outer : ℕ) where
 
     grows_cmp : (d : ℕ) (ps : List (Token × ℕ)) (x : Parsed) → IsCmp bytes outer d ps x → d ≤ x.behind
     grows_cmp d ps x (sum c) = grows_chain level.Sum d ps x c
-    grows_cmp d ps x (compared {ps = qs} {qs = rs} {x = y} {y = z} t op c e b) = omega (arith, grows_chain level.Sum d qs y c, grows_chain level.Sum (suc y.behind) rs z b)
+    grows_cmp d ps x (compared {ps = qs} {qs = rs} {x = y} {y = z} t op c e b) =
+        omega (arith, grows_chain level.Sum d qs y c, grows_chain level.Sum (suc y.behind) rs z b)

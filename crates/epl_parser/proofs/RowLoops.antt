@@ -1,5 +1,6 @@
 -- One turn of a loop of the parser that collects what it reads is one step of its reader.
-use Rattle.std.proofs.Common.{◌≡◌, ℕ, zero, suc, ◌+◌, ◌-◌, ◌<◌, List, [], ◌∷◌, ◌++◌, Option, Some, None, Ok, refl, sym, ap, ◌∙◌, arith, add-one}
+use Rattle.std.proofs.Common.{◌≡◌, ℕ, zero, suc, ◌+◌, ◌-◌, ◌<◌, List, [], ◌∷◌, ◌++◌, Option, Some, None, Ok, refl}
+use Rattle.std.proofs.Common.{sym, ap, ◌∙◌, arith, add-one}
 use Rattle.grammar.specs.Depths.{Look, Looker, look_then, look_both, led, look_mapped, look_here, look_if, look_many}
 use Rattle.grammar.specs.Separated.{look_next}
 use Rattle.grammar.specs.Sequences.{look_row}
@@ -10,10 +11,14 @@ use Rattle.epl_parser.specs.StatementReader.{read_statements_by, inner_block, re
 use Rattle.epl_parser.proofs.Loops.{steps_on}
 
 module _ {A K : Type 0} (f : Token → Option K) (R : Looker Token A) where
-  pub row_on : (n : ℕ) (had : List A) (ts : List Token) (k : K) (a : A) (v : List Token) (whole : Look Token (List A)) → 0 < n → peeked f ts ≡ Some k → R ts ≡ Ok (a, v) → look_row f R n had ts ≡ whole → look_row f R (n - 1) (had ++ a ∷ []) v ≡ whole
-  row_on n had ts k a v whole some h r e = steps_on f (λ l. look_mapped (λ x. l ++ x ∷ []) R) n had ts k (had ++ a ∷ []) v whole some h (ap (λ z. look_then z (λ x. look_here (had ++ x ∷ []))) r) e
+  pub row_on : (n : ℕ) (had : List A) (ts : List Token) (k : K) (a : A) (v : List Token) (whole : Look Token (List A)) → 0 < n
+      → peeked f ts ≡ Some k → R ts ≡ Ok (a, v) → look_row f R n had ts ≡ whole → look_row f R (n - 1) (had ++ a ∷ []) v ≡ whole
+  row_on n had ts k a v whole some h r e =
+      steps_on f (λ l. look_mapped (λ x. l ++ x ∷ []) R) n had ts k (had ++ a ∷ []) v whole some h
+      (ap (λ z. look_then z (λ x. look_here (had ++ x ∷ []))) r) e
 
-  pub row_turn : (n : ℕ) (had : List A) (ts : List Token) (k : K) (whole : Look Token (List A)) → 0 < n → peeked f ts ≡ Some k → look_row f R n had ts ≡ whole
+  pub row_turn : (n : ℕ) (had : List A) (ts : List Token) (k : K) (whole : Look Token (List A)) → 0 < n → peeked f ts ≡ Some k
+      → look_row f R n had ts ≡ whole
       → whole ≡ look_then (look_then (R ts) (λ x. look_here (had ++ x ∷ []))) (look_row f R (n - 1))
   row_turn zero had ts k whole some h e = absurd (omega arith)
   row_turn (suc n) had [] k whole some h e = absurd (cc)
@@ -24,23 +29,27 @@ module _ {A K : Type 0} (f : Token → Option K) (R : Looker Token A) where
 
 -- ---- with a symbol between each two
 module _ {A K : Type 0} (place : ℕ) (f : Token → Option K) (R : Looker Token A) where
-  pub parted_on : (n : ℕ) (had : List A) (ts us : List Token) (k j : K) (a : A) (v : List Token) (whole : Look Token (List A)) → 0 < n → peeked f ts ≡ Some k → look_one place f ts ≡ Ok (j, us) → R us ≡ Ok (a, v)
+  pub parted_on : (n : ℕ) (had : List A) (ts us : List Token) (k j : K) (a : A) (v : List Token) (whole : Look Token (List A)) → 0 < n
+      → peeked f ts ≡ Some k → look_one place f ts ≡ Ok (j, us) → R us ≡ Ok (a, v)
       → look_many f (look_next 32 place f R) n had ts ≡ whole → look_many f (look_next 32 place f R) (n - 1) (had ++ a ∷ []) v ≡ whole
   parted_on n had ts us k j a v whole some h s r e =
       steps_on f (look_next 32 place f R) n had ts k (had ++ a ∷ []) v whole some h
       (ap (λ z. look_then z (λ i. look_mapped (λ x. had ++ x ∷ []) R)) s ∙ ap (λ z. look_then z (λ x. look_here (had ++ x ∷ []))) r) e
 
 -- ---- a part that may be left out
-pub if_over : {A K : Type 0} (f : Token → Option K) (a : A) (R : Looker Token A) (ts : List Token) → peeked f ts ≡ None → look_if f a R ts ≡ Ok (a, ts)
+pub if_over : {A K : Type 0} (f : Token → Option K) (a : A) (R : Looker Token A) (ts : List Token) → peeked f ts ≡ None
+    → look_if f a R ts ≡ Ok (a, ts)
 if_over f a R [] h = refl
 if_over f a R (t ∷ ts) h = ap (λ o. led o R (Ok (a, t ∷ ts)) (t ∷ ts)) h
 
-pub if_on : {A K : Type 0} (f : Token → Option K) (a : A) (R : Looker Token A) (ts : List Token) (k : K) → peeked f ts ≡ Some k → look_if f a R ts ≡ R ts
+pub if_on : {A K : Type 0} (f : Token → Option K) (a : A) (R : Looker Token A) (ts : List Token) (k : K) → peeked f ts ≡ Some k
+    → look_if f a R ts ≡ R ts
 if_on f a R [] k h = absurd (cc)
 if_on f a R (t ∷ ts) k h = ap (λ o. led o R (Ok (a, t ∷ ts)) (t ∷ ts)) h
 
 -- ---- the statements in a statement
-pub inner_block_is : (bytes : List ℕ) (turns n d : ℕ) (ts : List Token) → 0 < n → inner_block bytes turns n (suc d) ts ≡ look_mapped block_of (read_statements bytes turns (n - 1) (d + 1)) ts
+pub inner_block_is : (bytes : List ℕ) (turns n d : ℕ) (ts : List Token) → 0 < n
+    → inner_block bytes turns n (suc d) ts ≡ look_mapped block_of (read_statements bytes turns (n - 1) (d + 1)) ts
 unfolding inner_block read_statements
 inner_block_is bytes turns zero d ts some = absurd (omega arith)
 inner_block_is bytes turns (suc n) d ts some =

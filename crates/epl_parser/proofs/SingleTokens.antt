@@ -12,7 +12,8 @@ use Rattle.epl_syntax.specs.declared.token.TokenKind.TheVariants as kind
 use Rattle.epl_parser.specs.OneToken.{if_mark, the_mark, if_word, the_word, with_token, headed}
 
 -- ---- marks
-mark_by : (m found : Mark) (t u : Token) → t.kind ≡ kind.Mark found → (b : Bool) → sameb the_marks found m ≡ b → ◌≡◌ {A = Option Token} (if b then Some t else None) (Some u) → (t.kind ≡ kind.Mark m) × (t ≡ u)
+mark_by : (m found : Mark) (t u : Token) → t.kind ≡ kind.Mark found → (b : Bool) → sameb the_marks found m ≡ b
+    → ◌≡◌ {A = Option Token} (if b then Some t else None) (Some u) → (t.kind ≡ kind.Mark m) × (t ≡ u)
 mark_by m found t u k false e h = absurd (cc)
 mark_by m found t u k true e h = (k ∙ ap kind.Mark (same_true the_marks (search rules) found m e), cc)
 
@@ -33,7 +34,8 @@ unfolding the_mark
 the_mark_is m t e = ap (if_mark m t) e ∙ ap (λ (b : Bool). if b then Some t else None) (true_same the_marks m m refl)
 
 -- ---- words
-word_by : (w found : Word) (t u : Token) → t.kind ≡ kind.Word found → (b : Bool) → sameb the_words found w ≡ b → ◌≡◌ {A = Option Token} (if b then Some t else None) (Some u) → (t.kind ≡ kind.Word w) × (t ≡ u)
+word_by : (w found : Word) (t u : Token) → t.kind ≡ kind.Word found → (b : Bool) → sameb the_words found w ≡ b
+    → ◌≡◌ {A = Option Token} (if b then Some t else None) (Some u) → (t.kind ≡ kind.Word w) × (t ≡ u)
 word_by w found t u k false e h = absurd (cc)
 word_by w found t u k true e h = (k ∙ ap kind.Word (same_true the_words (search rules) found w e), cc)
 
@@ -58,7 +60,8 @@ headed_by : {A : Type 0} (o : Option A) (t : Token) (a : A) (u : Token) → with
 headed_by None t a u h = absurd (cc)
 headed_by {A} (Some b) t a u h = let p : ◌≡◌ {A = A × Token} (b, t) (a, u) = cc in (ap (λ x. Some x.0) p, ap (λ x. x.1) p)
 
-pub is_headed : {A : Type 0} (f : TokenKind → Option A) (t : Token) (x : A × Token) → headed f t ≡ Some x → (f t.kind ≡ Some x.0) × (t ≡ x.1)
+pub is_headed : {A : Type 0} (f : TokenKind → Option A) (t : Token) (x : A × Token) → headed f t ≡ Some x → (f t.kind ≡ Some x.0)
+    × (t ≡ x.1)
 is_headed f t x h = headed_by (f t.kind) t x.0 x.1 h
 
 pub headed_is : {A : Type 0} (f : TokenKind → Option A) (t : Token) (a : A) → f t.kind ≡ Some a → headed f t ≡ Some (a, t)

@@ -15,28 +15,33 @@ use Rattle.epl_parser.specs.declared.statement.StatementHead.TheVariants as head
 use Rattle.epl_syntax.specs.Tree.{Statement, Statements, If, While, With, no_statements, statement_and, block_of}
 use Rattle.epl_parser.specs.OneToken.{name_at, if_upper, the_word, the_upper, headed, OneAt}
 use Rattle.epl_parser.specs.Expressions.{IsExpression}
-use Rattle.epl_parser.specs.Statements.{statement_head, PlainRest, IsStatement, plain, tested, repeated, guarded, IsElse, no_else, or_else, IsBlock, no_statement, and_statement}
+use Rattle.epl_parser.specs.Statements.{statement_head, PlainRest, IsStatement, plain, tested, repeated, guarded}
+use Rattle.epl_parser.specs.Statements.{IsElse, no_else, or_else, IsBlock, no_statement, and_statement}
 use Rattle.epl_parser.proofs.SingleTokens.{is_the_word, the_word_is, is_headed, headed_is}
 
 -- ---- one token, and what comes behind it
-pub next_token : {A B : Type 0} (d : ℕ) (f : Token → Option A) (H : A → Grammar (Placed Token) B) (ps : List (Token × ℕ)) (b : B) → Then (OneAt d f) H ps b
+pub next_token : {A B : Type 0} (d : ℕ) (f : Token → Option A) (H : A → Grammar (Placed Token) B) (ps : List (Token × ℕ)) (b : B)
+    → Then (OneAt d f) H ps b
     → (u : Token) × (a : A) × (f u ≡ Some a) × (back : List (Token × ℕ)) × (ps ≡ (u, d) ∷ back) × H a back b
 next_token d f H ps b t =
     let o = at_one (λ a. d) f t.front t.first t.begins in
     (o.0, t.first, o.1, t.back, t.whole ∙ ap (λ l. l ++ t.back) o.2, t.goes_on)
 
-pub next_word : {B : Type 0} (d : ℕ) (w : Word) (H : Token → Grammar (Placed Token) B) (ps : List (Token × ℕ)) (b : B) → Then (OneAt d (the_word w)) H ps b
+pub next_word : {B : Type 0} (d : ℕ) (w : Word) (H : Token → Grammar (Placed Token) B) (ps : List (Token × ℕ)) (b : B)
+    → Then (OneAt d (the_word w)) H ps b
     → (u : Token) × (u.kind ≡ kind.Word w) × (back : List (Token × ℕ)) × (ps ≡ (u, d) ∷ back) × H u back b
 next_word d w H ps b t =
     let o = next_token d (the_word w) H ps b t in
     let is = is_the_word w o.0 o.1 o.2 in
     (o.0, is.0, o.3, o.4, subst (λ u. H u o.3 b) (sym is.1) o.5)
 
-pub token_then : {A B : Type 0} (d : ℕ) (f : Token → Option A) (H : A → Grammar (Placed Token) B) (u : Token) (a : A) → f u ≡ Some a → (back : List (Token × ℕ)) (b : B) → H a back b
+pub token_then : {A B : Type 0} (d : ℕ) (f : Token → Option A) (H : A → Grammar (Placed Token) B) (u : Token) (a : A) → f u ≡ Some a
+    → (back : List (Token × ℕ)) (b : B) → H a back b
     → Then (OneAt d f) H ((u, d) ∷ back) b
 token_then d f H u a e back b h = record { front = (u, d) ∷ []; back = back; first = a; whole = refl; begins = (refl, e); goes_on = h }
 
-pub word_then : {B : Type 0} (d : ℕ) (w : Word) (H : Token → Grammar (Placed Token) B) (u : Token) → u.kind ≡ kind.Word w → (back : List (Token × ℕ)) (b : B) → H u back b
+pub word_then : {B : Type 0} (d : ℕ) (w : Word) (H : Token → Grammar (Placed Token) B) (u : Token) → u.kind ≡ kind.Word w
+    → (back : List (Token × ℕ)) (b : B) → H u back b
     → Then (OneAt d (the_word w)) H ((u, d) ∷ back) b
 word_then d w H u e back b h = token_then d (the_word w) H u u (the_word_is w u e) back b h
 
@@ -87,30 +92,35 @@ module _ (bytes : List ℕ) where
     Rest d h.0 h.1
 
   -- ---- from that form
-  to_if : (d : ℕ) (t : Token) → statement_head t.kind ≡ Some head.If → (ps : List (Token × ℕ)) (s : Statement) → Rest d head.If t ps s → IsStatement bytes d ((t, d) ∷ ps) s
+  to_if : (d : ℕ) (t : Token) → statement_head t.kind ≡ Some head.If → (ps : List (Token × ℕ)) (s : Statement) → Rest d head.If t ps s
+      → IsStatement bytes d ((t, d) ∷ ps) s
   to_if d t e ps s r =
       let u = next_word d word.Then _ r.back s r.goes_on in
       let so = u.4 in
       let other = so.goes_on in
       let v = next_word d word.End _ other.back s other.goes_on in
       let whole : ps ≡ r.front ++ (u.0, d) ∷ (so.front ++ (other.front ++ (v.0, d) ∷ [])) =
-      r.whole ∙ ap (λ l. r.front ++ l) (u.3 ∙ ap (λ l. (u.0, d) ∷ l) (so.whole ∙ ap (λ l. so.front ++ l) (other.whole ∙ ap (λ l. other.front ++ l) (v.3 ∙ ap (λ l. (v.0, d) ∷ l) v.4.0)))) in
+      r.whole ∙ ap (λ l. r.front ++ l) (u.3 ∙ ap (λ l. (u.0, d) ∷ l)
+      (so.whole ∙ ap (λ l. so.front ++ l) (other.whole ∙ ap (λ l. other.front ++ l) (v.3 ∙ ap (λ l. (v.0, d) ∷ l) v.4.0)))) in
       subst (λ l. IsStatement bytes d ((t, d) ∷ l) s) (sym whole)
       (subst (λ x. IsStatement bytes d ((t, d) ∷ (r.front ++ (u.0, d) ∷ (so.front ++ (other.front ++ (v.0, d) ∷ [])))) x) (sym v.4.1)
       (tested t u.0 v.0 e r.begins u.1 so.begins other.begins v.1))
 
-  to_while : (d : ℕ) (t : Token) → statement_head t.kind ≡ Some head.While → (ps : List (Token × ℕ)) (s : Statement) → Rest d head.While t ps s → IsStatement bytes d ((t, d) ∷ ps) s
+  to_while : (d : ℕ) (t : Token) → statement_head t.kind ≡ Some head.While → (ps : List (Token × ℕ)) (s : Statement)
+      → Rest d head.While t ps s → IsStatement bytes d ((t, d) ∷ ps) s
   to_while d t e ps s r =
       let u = next_word d word.Do _ r.back s r.goes_on in
       let body = u.4 in
       let v = next_word d word.End _ body.back s body.goes_on in
       let whole : ps ≡ r.front ++ (u.0, d) ∷ (body.front ++ (v.0, d) ∷ []) =
-      r.whole ∙ ap (λ l. r.front ++ l) (u.3 ∙ ap (λ l. (u.0, d) ∷ l) (body.whole ∙ ap (λ l. body.front ++ l) (v.3 ∙ ap (λ l. (v.0, d) ∷ l) v.4.0))) in
+      r.whole ∙ ap (λ l. r.front ++ l) (u.3 ∙ ap (λ l. (u.0, d) ∷ l)
+      (body.whole ∙ ap (λ l. body.front ++ l) (v.3 ∙ ap (λ l. (v.0, d) ∷ l) v.4.0))) in
       subst (λ l. IsStatement bytes d ((t, d) ∷ l) s) (sym whole)
       (subst (λ x. IsStatement bytes d ((t, d) ∷ (r.front ++ (u.0, d) ∷ (body.front ++ (v.0, d) ∷ []))) x) (sym v.4.1)
       (repeated t u.0 v.0 e r.begins u.1 body.begins v.1))
 
-  to_with : (d : ℕ) (t : Token) → statement_head t.kind ≡ Some head.With → (ps : List (Token × ℕ)) (s : Statement) → Rest d head.With t ps s → IsStatement bytes d ((t, d) ∷ ps) s
+  to_with : (d : ℕ) (t : Token) → statement_head t.kind ≡ Some head.With → (ps : List (Token × ℕ)) (s : Statement) → Rest d head.With t ps s
+      → IsStatement bytes d ((t, d) ∷ ps) s
   to_with d t e ps s r =
       let m = next_token d (the_upper bytes) _ ps s r in
       let is = is_the_upper bytes m.0 m.1 m.2 in
@@ -118,12 +128,15 @@ module _ (bytes : List ℕ) where
       let body = u.4 in
       let v = next_word d word.End _ body.back s body.goes_on in
       let whole : ps ≡ (m.0, d) ∷ (u.0, d) ∷ (body.front ++ (v.0, d) ∷ []) =
-      m.4 ∙ ap (λ l. (m.0, d) ∷ l) (u.3 ∙ ap (λ l. (u.0, d) ∷ l) (body.whole ∙ ap (λ l. body.front ++ l) (v.3 ∙ ap (λ l. (v.0, d) ∷ l) v.4.0))) in
+      m.4 ∙ ap (λ l. (m.0, d) ∷ l) (u.3 ∙ ap (λ l. (u.0, d) ∷ l)
+      (body.whole ∙ ap (λ l. body.front ++ l) (v.3 ∙ ap (λ l. (v.0, d) ∷ l) v.4.0))) in
       subst (λ l. IsStatement bytes d ((t, d) ∷ l) s) (sym whole)
-      (subst (λ x. IsStatement bytes d ((t, d) ∷ (m.0, d) ∷ (u.0, d) ∷ (body.front ++ (v.0, d) ∷ [])) x) (sym (v.4.1 ∙ ap (λ n. With n body.first t.start) is.1))
+      (subst (λ x. IsStatement bytes d ((t, d) ∷ (m.0, d) ∷ (u.0, d) ∷ (body.front ++ (v.0, d) ∷ [])) x)
+      (sym (v.4.1 ∙ ap (λ n. With n body.first t.start) is.1))
       (guarded t m.0 u.0 v.0 e is.0 u.1 body.begins v.1))
 
-  to_rest : (d : ℕ) (t : Token) (h : StatementHead) → statement_head t.kind ≡ Some h → (ps : List (Token × ℕ)) (s : Statement) → Rest d h t ps s → IsStatement bytes d ((t, d) ∷ ps) s
+  to_rest : (d : ℕ) (t : Token) (h : StatementHead) → statement_head t.kind ≡ Some h → (ps : List (Token × ℕ)) (s : Statement)
+      → Rest d h t ps s → IsStatement bytes d ((t, d) ∷ ps) s
   to_rest d t head.If e ps s r = to_if d t e ps s r
   to_rest d t head.While e ps s r = to_while d t e ps s r
   to_rest d t head.With e ps s r = to_with d t e ps s r
@@ -146,10 +159,12 @@ module _ (bytes : List ℕ) where
       (to_rest d o.1.1 o.1.0 (subst (λ (t : Token). statement_head t.kind ≡ Some o.1.0) is.1 is.0) o.3 s o.5)
 
   -- ---- to that form
-  form : (d : ℕ) (h : StatementHead) (t : Token) → statement_head t.kind ≡ Some h → (ps : List (Token × ℕ)) (s : Statement) → Rest d h t ps s → Form d ((t, d) ∷ ps) s
+  form : (d : ℕ) (h : StatementHead) (t : Token) → statement_head t.kind ≡ Some h → (ps : List (Token × ℕ)) (s : Statement)
+      → Rest d h t ps s → Form d ((t, d) ∷ ps) s
   form d h t e ps s r = token_then d (headed statement_head) (λ x. Rest d x.0 x.1) t (h, t) (headed_is statement_head t h e) ps s r
 
-  from_plain : (d : ℕ) (h : StatementHead) (t : Token) (ps : List (Token × ℕ)) (s : Statement) → PlainRest bytes d h t ps s → Rest d h t ps s
+  from_plain : (d : ℕ) (h : StatementHead) (t : Token) (ps : List (Token × ℕ)) (s : Statement) → PlainRest bytes d h t ps s
+      → Rest d h t ps s
   from_plain d head.If t ps s r = absurd r
   from_plain d head.While t ps s r = absurd r
   from_plain d head.With t ps s r = absurd r
@@ -173,7 +188,15 @@ module _ (bytes : List ℕ) where
               first = so;
               whole = refl;
               begins = b;
-              goes_on = record { front = cs; back = (v, d) ∷ []; first = otherwise; whole = refl; begins = o; goes_on = word_then d word.End _ v g [] s (refl, refl) };
+              goes_on =
+                  record {
+                    front = cs;
+                    back = (v, d) ∷ [];
+                    first = otherwise;
+                    whole = refl;
+                    begins = o;
+                    goes_on = word_then d word.End _ v g [] s (refl, refl);
+                  };
             });
       })
   from_statement d ps s (repeated {ps = as_} {qs = bs} {test = test} {body = body} t u v e x f b g) =
@@ -186,13 +209,27 @@ module _ (bytes : List ℕ) where
         begins = x;
         goes_on =
             word_then d word.Do _ u f (bs ++ (v, d) ∷ []) s
-            (record { front = bs; back = (v, d) ∷ []; first = body; whole = refl; begins = b; goes_on = word_then d word.End _ v g [] s (refl, refl) });
+            (record {
+              front = bs;
+              back = (v, d) ∷ [];
+              first = body;
+              whole = refl;
+              begins = b;
+              goes_on = word_then d word.End _ v g [] s (refl, refl);
+            });
       })
   from_statement d ps s (guarded {ps = bs} {body = body} t m u v e n f b g) =
       form d head.With t e ((m, d) ∷ (u, d) ∷ (bs ++ (v, d) ∷ [])) s
       (token_then d (the_upper bytes) _ m (name_at bytes m) (the_upper_is bytes m n) ((u, d) ∷ (bs ++ (v, d) ∷ [])) s
       (word_then d word.Do _ u f (bs ++ (v, d) ∷ []) s
-      (record { front = bs; back = (v, d) ∷ []; first = body; whole = refl; begins = b; goes_on = word_then d word.End _ v g [] s (refl, refl) })))
+      (record {
+        front = bs;
+        back = (v, d) ∷ [];
+        first = body;
+        whole = refl;
+        begins = b;
+        goes_on = word_then d word.End _ v g [] s (refl, refl);
+      })))
 
   -- ---- blocks
   row_block : (d : ℕ) (ps : List (Token × ℕ)) (ss : List Statement) → Row (IsStatement bytes d) ps ss → IsBlock bytes d ps (block_of ss)
@@ -202,7 +239,8 @@ module _ (bytes : List ℕ) where
   pub to_block : (d : ℕ) (ps : List (Token × ℕ)) (b : Statements) → Mapped block_of (Row (IsStatement bytes d)) ps b → IsBlock bytes d ps b
   to_block d ps b m = subst (λ x. IsBlock bytes d ps x) (sym m.2) (row_block d ps m.0 m.1)
 
-  pub from_block : (d : ℕ) (ps : List (Token × ℕ)) (b : Statements) → IsBlock bytes d ps b → Mapped block_of (Row (IsStatement bytes d)) ps b
+  pub from_block : (d : ℕ) (ps : List (Token × ℕ)) (b : Statements) → IsBlock bytes d ps b
+      → Mapped block_of (Row (IsStatement bytes d)) ps b
   from_block d ps b no_statement = ([], no_more, refl)
   from_block d ps b (and_statement {qs = qs} {s = s} {rest = rest} x r) =
       let m = from_block d qs rest r in

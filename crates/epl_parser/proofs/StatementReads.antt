@@ -18,19 +18,27 @@ use Rattle.epl_syntax.specs.declared.tree.Target.TheVariants as target
 use Rattle.epl_syntax.specs.declared.word.Word.TheVariants as word
 use Rattle.epl_parser.specs.declared.statement.StatementHead.{StatementHead}
 use Rattle.epl_parser.specs.declared.statement.StatementHead.TheVariants as head
-use Rattle.epl_syntax.specs.Tree.{Expression, Statement, Statements, Assign, If, While, With, Wait, Signal, Yield, Deactivate, Checkpoint, Destroy, Create, Invoke, Return, no_statements, block_of}
+use Rattle.epl_syntax.specs.Tree.{Expression, Statement, Statements, Assign, If, While, With, Wait, Signal, Yield}
+use Rattle.epl_syntax.specs.Tree.{Deactivate, Checkpoint, Destroy, Create, Invoke, Return, no_statements, block_of}
 use Rattle.epl_parser.specs.Heads.{ties}
 use Rattle.epl_parser.specs.OneToken.{name_at, the_mark, the_word, the_lower, the_upper, headed, OneAt, look_one}
 use Rattle.epl_parser.specs.Expressions.{IsExpression}
 use Rattle.epl_parser.specs.ExpressionReader.{read_expression, EndsExpression}
-use Rattle.epl_parser.specs.Statements.{statement_head, the_target, InParens, IsGives, PlainRest, IsStatement, IsElse, no_else, or_else, IsBlock, no_statement}
-use Rattle.epl_parser.specs.StatementReader.{not_mark, look_in_parens, read_expressions, read_names, read_gives, read_name_for, read_assign, read_create, read_invoke, read_return, read_else_by, read_if_by, read_while_by, read_with_by, read_rest_by, read_statement_by, read_statements_by, inner_block, read_statement, read_statements}
+use Rattle.epl_parser.specs.Statements.{statement_head, the_target, InParens, IsGives, PlainRest, IsStatement, IsElse}
+use Rattle.epl_parser.specs.Statements.{no_else, or_else, IsBlock, no_statement}
+use Rattle.epl_parser.specs.StatementReader.{not_mark, look_in_parens, read_expressions, read_names, read_gives}
+use Rattle.epl_parser.specs.StatementReader.{read_name_for, read_assign, read_create, read_invoke, read_return}
+use Rattle.epl_parser.specs.StatementReader.{read_else_by, read_if_by, read_while_by, read_with_by, read_rest_by}
+use Rattle.epl_parser.specs.StatementReader.{read_statement_by, read_statements_by, inner_block, read_statement}
+use Rattle.epl_parser.specs.StatementReader.{read_statements}
 use Rattle.epl_parser.proofs.KindReader.{sample}
 use Rattle.epl_parser.proofs.SingleTokens.{the_mark_is, the_word_is}
 use Rattle.epl_parser.proofs.Firsts.{FirstIs, BeginsExpression, expression_first, no_close}
 use Rattle.epl_parser.proofs.Follows.{is_not, no_head, before_word, before_mark, EndsStatement, EndsBlock, statement_goes}
-use Rattle.epl_parser.proofs.TokenReads.{word_reads, mark_reads, lower_reads, upper_reads, before_token, part_reads, end_reads, other_mark, other_word, parens_reads, separated_begins}
-use Rattle.epl_parser.proofs.StatementForms.{token_then, word_then, Rest, Form, to_statement, from_statement, to_block, from_block, ElseForm, to_else, from_else}
+use Rattle.epl_parser.proofs.TokenReads.{word_reads, mark_reads, lower_reads, upper_reads, before_token, part_reads}
+use Rattle.epl_parser.proofs.TokenReads.{end_reads, other_mark, other_word, parens_reads, separated_begins}
+use Rattle.epl_parser.proofs.StatementForms.{token_then, word_then, Rest, Form, to_statement, from_statement}
+use Rattle.epl_parser.proofs.StatementForms.{to_block, from_block, ElseForm, to_else, from_else}
 
 -- ---- what follows
 pub end_block : (t u : Token) (w : List Token) → the_word word.End t ≡ Some u → EndsBlock (t ∷ w)
@@ -60,15 +68,18 @@ close_ends t u w e = before_mark mark.Close refl t u w e
 pub close_no_comma : (t u : Token) → the_mark mark.Close t ≡ Some u → the_mark mark.Comma t ≡ None
 close_no_comma t u e = other_mark mark.Close mark.Comma (λ t. refl) t u e
 
-module _ (bytes : List ℕ) (turns : ℕ) (reads : (outer : ℕ) → Reads 32 turns (IsExpression bytes outer) EndsExpression (read_expression bytes turns outer)) where
+module _ (bytes : List ℕ) (turns : ℕ) (reads : (outer : ℕ)
+    → Reads 32 turns (IsExpression bytes outer) EndsExpression (read_expression bytes turns outer)) where
   -- ---- lists
   abbrev EndsList : List Token → Type 0
   EndsList v = EndsExpression v × EndsBefore (the_mark mark.Comma) v
 
-  pub expressions_reads : (d : ℕ) → Reads 32 turns (Separated d (the_mark mark.Comma) (IsExpression bytes d)) EndsList (read_expressions bytes turns d)
+  expressions_reads : (d : ℕ) → Reads 32 turns (Separated d (the_mark mark.Comma) (IsExpression bytes d)) EndsList
+      (read_expressions bytes turns d)
   unfolding read_expressions
   expressions_reads d =
-      separated_reads 32 turns d (the_mark mark.Comma) (IsExpression bytes d) EndsExpression EndsList (read_expression bytes turns d) (reads d) (λ v k. k.1) (λ v k. k.0) comma_ends
+      separated_reads 32 turns d (the_mark mark.Comma) (IsExpression bytes d) EndsExpression EndsList (read_expression bytes turns d)
+      (reads d) (λ v k. k.1) (λ v k. k.0) comma_ends
       (sample (kind.Mark mark.Comma)) (sample (kind.Mark mark.Comma)) (the_mark_is mark.Comma (sample (kind.Mark mark.Comma)) refl)
 
   expression_opens : (d : ℕ) (ps : List (Token × ℕ)) (e : Expression) → IsExpression bytes d ps e → BeginsBy (not_mark mark.Close) ps
@@ -78,17 +89,22 @@ module _ (bytes : List ℕ) (turns : ℕ) (reads : (outer : ℕ) → Reads 32 tu
       opens [] h = absurd h
       opens (p ∷ ps) h = (tt, is_not mark.Close p.0 (no_close p.0 h))
 
-  pub args_reads : (d : ℕ) {m : List Token → Type 0} → Reads 32 turns (InParens d (Separated d (the_mark mark.Comma) (IsExpression bytes d))) m (look_in_parens d (read_expressions bytes turns d))
+  pub args_reads : (d : ℕ) {m : List Token → Type 0} → Reads 32 turns
+      (InParens d (Separated d (the_mark mark.Comma) (IsExpression bytes d))) m (look_in_parens d (read_expressions bytes turns d))
   args_reads d {m = m} =
-      parens_reads turns d (Separated d (the_mark mark.Comma) (IsExpression bytes d)) EndsList (read_expressions bytes turns d) m (expressions_reads d)
+      parens_reads turns d (Separated d (the_mark mark.Comma) (IsExpression bytes d)) EndsList (read_expressions bytes turns d) m
+      (expressions_reads d)
       (λ t u w e. (close_ends t u w e, close_no_comma t u e))
       (separated_begins d (the_mark mark.Comma) (not_mark mark.Close) (IsExpression bytes d) (expression_opens d))
 
-  pub names_reads : (d : ℕ) → Reads 32 turns (Separated d (the_mark mark.Comma) (OneAt d (the_lower bytes))) (EndsBefore (the_mark mark.Comma)) (read_names bytes turns d)
+  names_reads : (d : ℕ) → Reads 32 turns (Separated d (the_mark mark.Comma) (OneAt d (the_lower bytes)))
+      (EndsBefore (the_mark mark.Comma)) (read_names bytes turns d)
   unfolding read_names the_lower
   names_reads d =
-      separated_reads 32 turns d (the_mark mark.Comma) (OneAt d (the_lower bytes)) Anything (EndsBefore (the_mark mark.Comma)) (look_one d (the_lower bytes))
-      (at_reads 32 turns (λ n. d) (the_lower bytes) (sample kind.Lower) (name_at bytes (sample kind.Lower)) refl) (λ v k. k) (λ v k. tt) (λ t w u e. tt)
+      separated_reads 32 turns d (the_mark mark.Comma) (OneAt d (the_lower bytes)) Anything (EndsBefore (the_mark mark.Comma))
+      (look_one d (the_lower bytes))
+      (at_reads 32 turns (λ n. d) (the_lower bytes) (sample kind.Lower) (name_at bytes (sample kind.Lower)) refl) (λ v k. k) (λ v k. tt)
+      (λ t w u e. tt)
       (sample (kind.Mark mark.Comma)) (sample (kind.Mark mark.Comma)) (the_mark_is mark.Comma (sample (kind.Mark mark.Comma)) refl)
 
   gives_reads : (d : ℕ) {m : List Token → Type 0} → Reads 32 turns (IsGives bytes d) m (read_gives bytes turns d)
@@ -100,7 +116,8 @@ module _ (bytes : List ℕ) (turns : ℕ) (reads : (outer : ℕ) → Reads 32 tu
       mark_reads turns d mark.Close (λ c. value_reads 32 turns names))))
 
   -- ---- statements without statements
-  name_for_reads : (d : ℕ) (f : Name → Statement) {m : List Token → Type 0} → Reads 32 turns (Then (OneAt d (the_lower bytes)) (λ n. Nothing (f n))) m (read_name_for bytes turns f d)
+  name_for_reads : (d : ℕ) (f : Name → Statement) {m : List Token → Type 0}
+      → Reads 32 turns (Then (OneAt d (the_lower bytes)) (λ n. Nothing (f n))) m (read_name_for bytes turns f d)
   name_for_reads d f = lower_reads turns d bytes (λ n. value_reads 32 turns (f n))
 
   assign_reads : (d : ℕ) (t : Token) → Reads 32 turns (PlainRest bytes d head.Assign t) EndsStatement (read_assign bytes turns d t)
@@ -118,9 +135,11 @@ module _ (bytes : List ℕ) (turns : ℕ) (reads : (outer : ℕ) → Reads 32 tu
       lower_reads turns d bytes (λ gives.
       mark_reads turns d mark.Close (λ c. value_reads 32 turns (Create type_name status gives t.start))))))))
 
-  some_gives : (d : ℕ) → Reads 32 turns (Perhaps [] (IsGives bytes d)) EndsStatement (look_if (the_word word.Gives) [] (read_gives bytes turns d))
+  some_gives : (d : ℕ) → Reads 32 turns (Perhaps [] (IsGives bytes d)) EndsStatement
+      (look_if (the_word word.Gives) [] (read_gives bytes turns d))
   some_gives d =
-      if_reads 32 turns (the_word word.Gives) [] (IsGives bytes d) EndsStatement (read_gives bytes turns d) (gives_reads d) (λ ps b p. then_begins (λ u. d) (the_word word.Gives) _ ps b p) (λ v k. k.1)
+      if_reads 32 turns (the_word word.Gives) [] (IsGives bytes d) EndsStatement (read_gives bytes turns d) (gives_reads d)
+      (λ ps b p. then_begins (λ u. d) (the_word word.Gives) _ ps b p) (λ v k. k.1)
 
   invoke_reads : (d : ℕ) (t : Token) → Reads 32 turns (PlainRest bytes d head.Invoke t) EndsStatement (read_invoke bytes turns d t)
   unfolding read_invoke the_target
@@ -130,7 +149,8 @@ module _ (bytes : List ℕ) (turns : ℕ) (reads : (outer : ℕ) → Reads 32 tu
       upper_reads turns d bytes (λ operation.
       and_reads 32 turns (args_reads d) (λ args.
       word_reads turns d word.Status (λ w.
-      lower_reads turns d bytes (λ status. end_reads turns (λ gives. Invoke whom operation args status gives t.start) (some_gives d) (λ v k. k)))))))
+      lower_reads turns d bytes (λ status. end_reads turns (λ gives. Invoke whom operation args status gives t.start) (some_gives d)
+      (λ v k. k)))))))
 
   return_reads : (d : ℕ) (t : Token) → Reads 32 turns (PlainRest bytes d head.Return t) EndsStatement (read_return bytes turns d t)
   unfolding read_return
@@ -143,7 +163,8 @@ module _ (bytes : List ℕ) (turns : ℕ) (reads : (outer : ℕ) → Reads 32 tu
 
     else_reads : Reads 32 turns (IsElse bytes d) EndsElse (read_else_by bytes turns block d)
     else_reads =
-        same_reads 32 turns (ElseForm bytes d) (IsElse bytes d) EndsElse (read_else_by bytes turns block d) (to_else bytes d) (from_else bytes d)
+        same_reads 32 turns (ElseForm bytes d) (IsElse bytes d) EndsElse (read_else_by bytes turns block d) (to_else bytes d)
+        (from_else bytes d)
         (if_reads 32 turns (the_word word.Else) no_statements (Then (OneAt d (the_word word.Else)) (λ u. IsBlock bytes (suc d))) EndsElse _
         (word_reads turns d word.Else (λ u. before_less 32 turns (IsBlock bytes (suc d)) EndsBlock EndsElse block (λ v h. h.0) k))
         (λ ps b p. then_begins (λ u. d) (the_word word.Else) _ ps b p) (λ v h. h.1))
@@ -151,9 +172,11 @@ module _ (bytes : List ℕ) (turns : ℕ) (reads : (outer : ℕ) → Reads 32 tu
     end_else : (t u : Token) (w : List Token) → the_word word.End t ≡ Some u → EndsElse (t ∷ w)
     end_else t u w e = (end_block t u w e, other_word word.End word.Else (λ t. refl) t u e)
 
-    else_or_end : {B : Type 0} (H : Statements → Token → Grammar (Placed Token) B) (front back : List (Token × ℕ)) (o : Statements) (b : B) → IsElse bytes d front o → Then (OneAt d (the_word word.End)) (H o) back b
+    else_or_end : {B : Type 0} (H : Statements → Token → Grammar (Placed Token) B) (front back : List (Token × ℕ)) (o : Statements) (b : B)
+        → IsElse bytes d front o → Then (OneAt d (the_word word.End)) (H o) back b
         → (v : List Token) → EndsBlock (bare (front ++ back) ++ v)
-    else_or_end H front back o b no_else next v = before_token EndsBlock d (the_word word.End) (λ t u w e. end_block t u w e) (H o) back b next v
+    else_or_end H front back o b no_else next v =
+        before_token EndsBlock d (the_word word.End) (λ t u w e. end_block t u w e) (H o) back b next v
     else_or_end H front back o b (or_else {ps = qs} t e p) next v = else_block t t (bare (qs ++ back) ++ v) (the_word_is word.Else t e)
 
     if_rest_reads : (t : Token) → Reads 32 turns (Rest bytes d head.If t) EndsStatement (read_if_by bytes turns block d t)
@@ -161,9 +184,11 @@ module _ (bytes : List ℕ) (turns : ℕ) (reads : (outer : ℕ) → Reads 32 tu
         part_reads turns d (the_word word.Then) (reads d) then_ends (λ test.
         word_reads turns d word.Then (λ u.
         then_reads 32 turns turns 0 (IsBlock bytes (suc d)) _ EndsBlock EndsStatement block _ k
-        (λ ps so p. part_reads turns d (the_word word.End) else_reads end_else (λ otherwise. word_reads turns d word.End (λ v. value_reads 32 turns (If test so otherwise t.start))))
+        (λ ps so p. part_reads turns d (the_word word.End) else_reads end_else
+        (λ otherwise. word_reads turns d word.End (λ v. value_reads 32 turns (If test so otherwise t.start))))
         (λ ps so p. omega arith) (omega arith)
-        (λ ps so p qs s q v h. subst (λ l. EndsBlock (bare l ++ v)) (sym q.whole) (else_or_end (λ o u. Nothing (If test so o t.start)) q.front q.back q.first s q.begins q.goes_on v))))
+        (λ ps so p qs s q v h. subst (λ l. EndsBlock (bare l ++ v)) (sym q.whole)
+        (else_or_end (λ o u. Nothing (If test so o t.start)) q.front q.back q.first s q.begins q.goes_on v))))
 
     while_rest_reads : (t : Token) → Reads 32 turns (Rest bytes d head.While t) EndsStatement (read_while_by bytes turns block d t)
     while_rest_reads t =
@@ -211,7 +236,22 @@ module _ (bytes : List ℕ) (turns : ℕ) (reads : (outer : ℕ) → Reads 32 tu
           begins = x.2;
           goes_on =
               word_then d word.Then _ u refl ((v, d) ∷ []) s
-              (record { front = []; back = (v, d) ∷ []; first = no_statements; whole = refl; begins = no_statement; goes_on = record { front = []; back = (v, d) ∷ []; first = no_statements; whole = refl; begins = no_else; goes_on = word_then d word.End _ v refl [] s (refl, refl) } });
+              (record {
+                front = [];
+                back = (v, d) ∷ [];
+                first = no_statements;
+                whole = refl;
+                begins = no_statement;
+                goes_on =
+                    record {
+                      front = [];
+                      back = (v, d) ∷ [];
+                      first = no_statements;
+                      whole = refl;
+                      begins = no_else;
+                      goes_on = word_then d word.End _ v refl [] s (refl, refl);
+                    };
+              });
         },
       )
 
@@ -231,7 +271,14 @@ module _ (bytes : List ℕ) (turns : ℕ) (reads : (outer : ℕ) → Reads 32 tu
           begins = x.2;
           goes_on =
               word_then d word.Do _ u refl ((v, d) ∷ []) s
-              (record { front = []; back = (v, d) ∷ []; first = no_statements; whole = refl; begins = no_statement; goes_on = word_then d word.End _ v refl [] s (refl, refl) });
+              (record {
+                front = [];
+                back = (v, d) ∷ [];
+                first = no_statements;
+                whole = refl;
+                begins = no_statement;
+                goes_on = word_then d word.End _ v refl [] s (refl, refl);
+              });
         },
       )
 
@@ -246,7 +293,14 @@ module _ (bytes : List ℕ) (turns : ℕ) (reads : (outer : ℕ) → Reads 32 tu
         s,
         token_then d (the_upper bytes) _ m (name_at bytes m) refl ((u, d) ∷ (v, d) ∷ []) s
             (word_then d word.Do _ u refl ((v, d) ∷ []) s
-            (record { front = []; back = (v, d) ∷ []; first = no_statements; whole = refl; begins = no_statement; goes_on = word_then d word.End _ v refl [] s (refl, refl) })),
+            (record {
+              front = [];
+              back = (v, d) ∷ [];
+              first = no_statements;
+              whole = refl;
+              begins = no_statement;
+              goes_on = word_then d word.End _ v refl [] s (refl, refl);
+            })),
       )
 
   some_rest : (d : ℕ) (h : StatementHead) (t : Token) → (ps : List (Token × ℕ)) × (s : Statement) × Rest bytes d h t ps s
@@ -265,19 +319,25 @@ module _ (bytes : List ℕ) (turns : ℕ) (reads : (outer : ℕ) → Reads 32 tu
   some_rest d head.Return t = (return_reads d t).made
 
   -- ---- statements and blocks
-  statement_reads_by : (d : ℕ) (block : Looker Token Statements) → (d ≤ 32 → Reads 32 turns (IsBlock bytes (suc d)) EndsBlock block) → Reads 32 turns (IsStatement bytes d) EndsStatement (read_statement_by bytes turns block d)
+  statement_reads_by : (d : ℕ) (block : Looker Token Statements) → (d ≤ 32 → Reads 32 turns (IsBlock bytes (suc d)) EndsBlock block)
+      → Reads 32 turns (IsStatement bytes d) EndsStatement (read_statement_by bytes turns block d)
   unfolding statement_head
   statement_reads_by d block k =
-      same_reads 32 turns (Form bytes d) (IsStatement bytes d) EndsStatement (read_statement_by bytes turns block d) (to_statement bytes d) (from_statement bytes d)
-      (lead_reads 32 turns (λ h. d) (headed statement_head) (λ h. Rest bytes d h.0 h.1) EndsStatement (λ h. read_rest_by bytes turns block d h.0 h.1) (λ h. some_rest d h.0 h.1)
+      same_reads 32 turns (Form bytes d) (IsStatement bytes d) EndsStatement (read_statement_by bytes turns block d) (to_statement bytes d)
+      (from_statement bytes d)
+      (lead_reads 32 turns (λ h. d) (headed statement_head) (λ h. Rest bytes d h.0 h.1) EndsStatement
+      (λ h. read_rest_by bytes turns block d h.0 h.1) (λ h. some_rest d h.0 h.1)
       (sample (kind.Word word.Yield)) (head.Yield, sample (kind.Word word.Yield)) refl (λ h fit. rest_reads d block (k fit) h.0 h.1))
 
   pub statement_begins : (d : ℕ) (ps : List (Token × ℕ)) (s : Statement) → IsStatement bytes d ps s → BeginsBy (headed statement_head) ps
   statement_begins d ps s p = then_begins (λ h. d) (headed statement_head) (λ h. Rest bytes d h.0 h.1) ps s (from_statement bytes d ps s p)
 
-  row_of_reads : (d : ℕ) (block : Looker Token Statements) → Reads 32 turns (IsStatement bytes d) EndsStatement (read_statement_by bytes turns block d) → Reads 32 turns (Row (IsStatement bytes d)) EndsBlock (read_statements_by bytes turns block d)
+  row_of_reads : (d : ℕ) (block : Looker Token Statements)
+      → Reads 32 turns (IsStatement bytes d) EndsStatement (read_statement_by bytes turns block d)
+      → Reads 32 turns (Row (IsStatement bytes d)) EndsBlock (read_statements_by bytes turns block d)
   row_of_reads d block k =
-      all_reads 32 turns (headed statement_head) (IsStatement bytes d) EndsStatement EndsBlock (read_statement_by bytes turns block d) k (statement_begins d) (λ v h. h.1) (λ v h. h.0) (λ t w h e. statement_goes t w h e)
+      all_reads 32 turns (headed statement_head) (IsStatement bytes d) EndsStatement EndsBlock (read_statement_by bytes turns block d) k
+      (statement_begins d) (λ v h. h.1) (λ v h. h.0) (λ t w h e. statement_goes t w h e)
 
   pub statement_reads : (n d : ℕ) → 32 < d + n → Reads 32 turns (IsStatement bytes d) EndsStatement (read_statement bytes turns n d)
   unfolding read_statement inner_block
@@ -285,8 +345,10 @@ module _ (bytes : List ℕ) (turns : ℕ) (reads : (outer : ℕ) → Reads 32 tu
   statement_reads (suc n) d h =
       statement_reads_by d (inner_block bytes turns (suc n) (suc d))
       (λ fit.
-      same_reads 32 turns (Mapped block_of (Row (IsStatement bytes (suc d)))) (IsBlock bytes (suc d)) EndsBlock (inner_block bytes turns (suc n) (suc d)) (to_block bytes (suc d)) (from_block bytes (suc d))
-      (mapped_reads 32 turns block_of (Row (IsStatement bytes (suc d))) EndsBlock _ (row_of_reads (suc d) (inner_block bytes turns n (suc (suc d))) (statement_reads n (suc d) (omega arith)))))
+      same_reads 32 turns (Mapped block_of (Row (IsStatement bytes (suc d)))) (IsBlock bytes (suc d)) EndsBlock
+      (inner_block bytes turns (suc n) (suc d)) (to_block bytes (suc d)) (from_block bytes (suc d))
+      (mapped_reads 32 turns block_of (Row (IsStatement bytes (suc d))) EndsBlock _
+      (row_of_reads (suc d) (inner_block bytes turns n (suc (suc d))) (statement_reads n (suc d) (omega arith)))))
 
   pub statements_reads : (n d : ℕ) → 32 < d + n → Reads 32 turns (Row (IsStatement bytes d)) EndsBlock (read_statements bytes turns n d)
   unfolding read_statement read_statements

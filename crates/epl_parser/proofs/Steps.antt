@@ -8,7 +8,8 @@ use Rattle.epl_parser.specs.declared.head.KindHead.TheVariants as head
 use Rattle.epl_parser.specs.OneToken.{peeked, take_found, look_one, the_word}
 use Rattle.epl_parser.specs.WrittenKinds.{kind_head, inner_kind, read_kind, read_kind_rest}
 
-pub take_is_look : {A : Type 0} (depth : ℕ) (f : Token → Option A) (ts : List Token) → take_found depth (peeked f ts) ts ≡ look_one depth f ts
+pub take_is_look : {A : Type 0} (depth : ℕ) (f : Token → Option A) (ts : List Token)
+    → take_found depth (peeked f ts) ts ≡ look_one depth f ts
 take_is_look depth f [] = refl
 take_is_look depth f (t ∷ ts) = refl
 
@@ -22,7 +23,8 @@ inner_kind_is (suc n) outer d ts some = let one : suc n - 1 ≡ n = omega arith 
 pub goes_on : {S A B : Type 0} (f : A → Looker S B) (r : Look S A) (a : A) (w : List S) → r ≡ Ok (a, w) → look_then r f ≡ f a w
 goes_on f r a w e = ap (λ x. look_then x f) e
 
-pub list_kind_step : (n outer d : ℕ) (ts us vs ws : List Token) (u : Token) (s : Shape) → 0 < n → look_one (max outer d) (λ t. kind_head t.kind) ts ≡ Ok (head.List, us) → look_one (max outer d) (the_word word.Of) us ≡ Ok (u, vs)
+pub list_kind_step : (n outer d : ℕ) (ts us vs ws : List Token) (u : Token) (s : Shape) → 0 < n
+    → look_one (max outer d) (λ t. kind_head t.kind) ts ≡ Ok (head.List, us) → look_one (max outer d) (the_word word.Of) us ≡ Ok (u, vs)
     → read_kind (n - 1) outer (d + 1) vs ≡ Ok (s, ws) → read_kind n outer d ts ≡ Ok (lists s, ws)
 unfolding read_kind
 list_kind_step n outer d ts us vs ws u s some first of_ inside =

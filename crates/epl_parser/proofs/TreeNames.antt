@@ -1,9 +1,9 @@
 -- The name of a type in its tree is that of the token behind the first one.
-use Rattle.std.proofs.Common.{◌≡◌, ◌∙◌, ap, sym, refl, subst, ℕ, List, [], ◌∷◌, ◌++◌, Option, Some}
+use Rattle.std.proofs.Common.{◌≡◌, ◌∙◌, ap, sym, refl, subst, ℕ, List, ◌∷◌, ◌++◌, Some}
 use Rattle.grammar.specs.Depths.{Placed, bare, Steps, no_step, step_on}
 use Rattle.grammar.specs.Grammar.{Grammar}
 use Rattle.grammar.proofs.Leads.{at_one}
-use Rattle.epl_syntax.specs.Tree.{Edentype}
+use Rattle.epl_syntax.specs.Tree.{TypeTree}
 use Rattle.epl_syntax.specs.Token.{Spells}
 use Rattle.epl_syntax.specs.declared.token.Token.{Token}
 use Rattle.epl_syntax.specs.declared.token.TokenKind.{TokenKind}
@@ -20,30 +20,30 @@ use Rattle.epl_parser.specs.declared.item.MemberHead.{MemberHead}
 use Rattle.epl_parser.specs.declared.item.MemberHead.TheVariants as member
 
 -- a grammar that makes of a type another of the same name
-abbrev KeepsName : (Edentype → Grammar (Placed Token) Edentype) → Type 0
-KeepsName G = (e : Edentype) (ps : List (Placed Token)) (f : Edentype) → G e ps f → f.name ≡ e.name
+abbrev KeepsName : (TypeTree → Grammar (Placed Token) TypeTree) → Type 0
+KeepsName G = (e : TypeTree) (ps : List (Placed Token)) (f : TypeTree) → G e ps f → f.name ≡ e.name
 
-steps_keep : (G : Edentype → Grammar (Placed Token) Edentype) → KeepsName G → KeepsName (Steps G)
+steps_keep : (G : TypeTree → Grammar (Placed Token) TypeTree) → KeepsName G → KeepsName (Steps G)
 steps_keep G one e ps f no_step = refl
 steps_keep G one e ps f (step_on {b = b} {front = front} {back = back} g h) = steps_keep G one b back f h ∙ one e front b g
 
 member_rest : (text : List ℕ) (number : ℕ) (h : MemberHead) → KeepsName (λ e. MemberRest text number e h)
-member_rest text number member.Durable e ps f t = ap (λ (x : Edentype). x.name) t.goes_on.1
-member_rest text number member.Working e ps f t = ap (λ (x : Edentype). x.name) t.goes_on.1
-member_rest text number member.Condition e ps f t = ap (λ (x : Edentype). x.name) t.goes_on.1
+member_rest text number member.Durable e ps f t = ap (λ (x : TypeTree). x.name) t.goes_on.1
+member_rest text number member.Working e ps f t = ap (λ (x : TypeTree). x.name) t.goes_on.1
+member_rest text number member.Condition e ps f t = ap (λ (x : TypeTree). x.name) t.goes_on.1
 
 member_keeps : (text : List ℕ) (number : ℕ) → KeepsName (IsMember text number)
 member_keeps text number e ps f t = member_rest text number t.first e t.back f t.goes_on
 
 item_rest : (text : List ℕ) (h : ItemHead) → KeepsName (λ e. ItemRest text e h)
-item_rest text item.Durable e ps f t = ap (λ (x : Edentype). x.name) t.goes_on.1
-item_rest text item.Working e ps f t = ap (λ (x : Edentype). x.name) t.goes_on.1
-item_rest text item.Class e ps f t = ap (λ (x : Edentype). x.name) t.goes_on.1
+item_rest text item.Durable e ps f t = ap (λ (x : TypeTree). x.name) t.goes_on.1
+item_rest text item.Working e ps f t = ap (λ (x : TypeTree). x.name) t.goes_on.1
+item_rest text item.Class e ps f t = ap (λ (x : TypeTree). x.name) t.goes_on.1
 item_rest text item.Monitor e ps f t =
-    ap (λ (x : Edentype). x.name) t.goes_on.goes_on.goes_on.1
+    ap (λ (x : TypeTree). x.name) t.goes_on.goes_on.goes_on.1
     ∙ steps_keep (IsMember text _) (member_keeps text _) _ t.goes_on.front t.goes_on.first t.goes_on.begins
-item_rest text item.Operation e ps f t = ap (λ (x : Edentype). x.name) t.goes_on.1
-item_rest text item.Process e ps f t = ap (λ (x : Edentype). x.name) t.goes_on.1
+item_rest text item.Operation e ps f t = ap (λ (x : TypeTree). x.name) t.goes_on.1
+item_rest text item.Process e ps f t = ap (λ (x : TypeTree). x.name) t.goes_on.1
 
 item_keeps : (text : List ℕ) → KeepsName (IsItem text)
 item_keeps text e ps f t = item_rest text t.first e t.back f t.goes_on
@@ -62,14 +62,14 @@ is_the_upper : (text : List ℕ) (t : Token) (name : Name) → the_upper text t 
 unfolding the_upper
 is_the_upper text t name h = upper_in text t name t.kind h
 
-named_by : (text : List ℕ) (tokens : List Token) (ps : List (Placed Token)) (e : Edentype) → Spells text tokens → tokens ≡ bare ps
+named_by : (text : List ℕ) (tokens : List Token) (ps : List (Placed Token)) (e : TypeTree) → Spells text tokens → tokens ≡ bare ps
     → IsEdentype text ps e → IsNamed text e.name
 named_by text tokens ps e spelled whole g =
     let one = at_one _ (the_word word.Edentype) g.front g.first g.begins in
     let two = at_one _ (the_upper text) g.goes_on.front g.goes_on.first g.goes_on.begins in
     let rest = g.goes_on.goes_on.goes_on in
     let same : e.name ≡ g.goes_on.first =
-    ap (λ (x : Edentype). x.name) rest.goes_on.goes_on.goes_on.1
+    ap (λ (x : TypeTree). x.name) rest.goes_on.goes_on.goes_on.1
     ∙ steps_keep (IsItem text) (item_keeps text) _ rest.front rest.first rest.begins
     in
     let upper = is_the_upper text two.0 g.goes_on.first two.1 in
@@ -87,5 +87,5 @@ named_by text tokens ps e spelled whole g =
       is_name = upper.1 ∙ sym same;
     }
 
-pub is_named : (text : List ℕ) (e : Edentype) → SpellsType text e → IsNamed text e.name
+pub is_named : (text : List ℕ) (e : TypeTree) → SpellsType text e → IsNamed text e.name
 is_named text e h = named_by text h.tokens h.type.placed e h.spelled h.type.whole h.type.member

@@ -14,7 +14,8 @@ use Rattle.epl_parser.specs.declared.head.Level.TheVariants as level
 use Rattle.epl_parser.specs.declared.head.PrimaryHead.{PrimaryHead}
 use Rattle.epl_parser.specs.declared.head.PrimaryHead.TheVariants as head
 use Rattle.epl_parser.specs.declared.expression_parser.Found.{Found}
-use Rattle.epl_syntax.specs.Tree.{integer, text, truth, absent, empty_list, Expression, expression, Const_, Name_, Me, ListOf, Apply, in_order}
+use Rattle.epl_syntax.specs.Tree.{integer, text, truth, absent, empty_list, Expression, expression, Const_, Name_, Me}
+use Rattle.epl_syntax.specs.Tree.{ListOf, Apply, in_order}
 use Rattle.epl_parser.specs.OneToken.{name_at, the_mark, the_word, headed, look_one}
 use Rattle.epl_parser.specs.Heads.{operator_at, comparison, primary_head, ties}
 use Rattle.epl_parser.specs.WrittenKinds.{out_of_steps}
@@ -33,6 +34,12 @@ EndsExpression = Ends 1
 -- a reader at each depth
 abbrev pub Reader : Type 0
 Reader = ℕ → Looker Token Parsed
+
+-- expressions with commas between them stand before this mark
+abbrev pub IsClosing : Mark → Type 0
+IsClosing mark.Close = Unit {0}
+IsClosing mark.CloseList = Unit {0}
+IsClosing _ = ⊥
 
 -- what the parser found, as the grammar has it
 abbrev pub parsed : Found → Parsed

@@ -13,7 +13,8 @@ use Rattle.epl_syntax.specs.declared.tree.Builtin.{Builtin}
 use Rattle.epl_parser.specs.declared.head.Level.{Level}
 use Rattle.epl_parser.specs.declared.head.Level.TheVariants as level
 use Rattle.epl_parser.specs.declared.head.PrimaryHead.TheVariants as head
-use Rattle.epl_syntax.specs.Tree.{PlacedShape, integer, text, truth, absent, empty_list, Expression, Const_, Name_, Me, Unary, Binary, Index, ListOf, Apply, in_order}
+use Rattle.epl_syntax.specs.Tree.{PlacedShape, integer, text, truth, absent, empty_list, Expression, Const_, Name_}
+use Rattle.epl_syntax.specs.Tree.{Me, Unary, Binary, Index, ListOf, Apply, in_order}
 use Rattle.epl_parser.specs.OneToken.{name_at}
 use Rattle.epl_parser.specs.Heads.{operator_at, comparison, primary_head}
 use Rattle.epl_parser.specs.WrittenKinds.{IsWrittenKind}
@@ -85,7 +86,8 @@ mutual
         → IsIndices bytes outer (at_index x y) qs z
         → IsIndices bytes outer x ((t, max outer (suc x.behind)) ∷ ((ps ++ (u, max outer (suc x.behind)) ∷ []) ++ qs)) z
 
-  -- prim = INT | TEXT | "true" | "false" | "none" | "self" | LOWER | "(" expr ")" | "[" exprs "]" | "list" "(" kind ")" | builtin "(" exprs ")"
+  -- prim = INT | TEXT | "true" | "false" | "none" | "self" | LOWER | "(" expr ")" | "[" exprs "]" | "list" "(" kind
+  -- ")" | builtin "(" exprs ")"
   pub data IsPrimary (bytes : List ℕ) (outer : ℕ) : ℕ → List (Token × ℕ) → Parsed → Type 0 where
     int_operand : {d : ℕ} {n : ℤ} (t : Token) → primary_head t.kind ≡ Some (head.Int n)
         → IsPrimary bytes outer d ((t, max outer d) ∷ []) (single (Const_ (integer n) t.start) t d)

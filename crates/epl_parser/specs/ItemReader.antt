@@ -16,13 +16,14 @@ use Rattle.epl_parser.specs.declared.item.ItemHead.{ItemHead}
 use Rattle.epl_parser.specs.declared.item.ItemHead.TheVariants as item
 use Rattle.epl_parser.specs.declared.item.MemberHead.{MemberHead}
 use Rattle.epl_parser.specs.declared.item.MemberHead.TheVariants as member
-use Rattle.epl_syntax.specs.Tree.{PlacedShape, Local, Parameter, Operation, Process, Change, Upgrade, Edentype}
+use Rattle.epl_syntax.specs.Tree.{PlacedShape, Local, Parameter, Operation, Process, Change, Upgrade, TypeTree}
 use Rattle.epl_parser.specs.OneToken.{the_mark, the_word, the_lower, the_upper, the_number, look_one}
 use Rattle.epl_parser.specs.WrittenKinds.{read_written_kind}
 use Rattle.epl_parser.specs.Constants.{read_constant}
 use Rattle.epl_parser.specs.ExpressionReader.{read_expression}
 use Rattle.epl_parser.specs.StatementReader.{look_in_parens, read_body}
-use Rattle.epl_parser.specs.Items.{with_variable, with_class, with_monitor, with_condition, with_operation, with_process, with_upgrades, without_items, declared, member_head, item_head}
+use Rattle.epl_parser.specs.Items.{with_variable, with_class, with_monitor, with_condition, with_operation}
+use Rattle.epl_parser.specs.Items.{with_process, with_upgrades, without_items, declared, member_head, item_head}
 
 -- a name with a small first letter
 unfoldable pub lower_kind : TokenKind → Option (Unit {0})
@@ -106,37 +107,37 @@ module _ (bytes : List ℕ) (turns : ℕ) where
     look_here (record { name = name; locals = locals; body = body })
 
   -- a variable, added to the type
-  unfoldable pub read_variable : Bool → ℕ → Edentype → Looker Token Edentype
+  unfoldable pub read_variable : Bool → ℕ → TypeTree → Looker Token TypeTree
   read_variable durable number e = do
     x ← read_binding
     look_here (with_variable (declared durable number x) e)
 
-  unfoldable pub read_condition : ℕ → Edentype → Looker Token Edentype
+  unfoldable pub read_condition : ℕ → TypeTree → Looker Token TypeTree
   read_condition number e = do
     name ← look_one 0 (the_lower bytes)
     look_here (with_condition (record { name = name; monitor = number }) e)
 
-  abbrev pub read_member_rest : ℕ → Edentype → MemberHead → Looker Token Edentype
+  abbrev pub read_member_rest : ℕ → TypeTree → MemberHead → Looker Token TypeTree
   read_member_rest number e member.Durable = read_variable true number e
   read_member_rest number e member.Working = read_variable false number e
   read_member_rest number e member.Condition = read_condition number e
 
-  unfoldable pub read_member : ℕ → Edentype → Looker Token Edentype
+  unfoldable pub read_member : ℕ → TypeTree → Looker Token TypeTree
   read_member number e = do
     h ← look_one 0 (λ t. member_head t.kind)
     read_member_rest number e h
 
-  unfoldable pub read_members : ℕ → Edentype → Looker Token Edentype
+  unfoldable pub read_members : ℕ → TypeTree → Looker Token TypeTree
   read_members number e = look_many (λ t. member_head t.kind) (read_member number) turns e
 
-  unfoldable pub read_monitor : Edentype → Looker Token Edentype
+  unfoldable pub read_monitor : TypeTree → Looker Token TypeTree
   read_monitor e = do
     name ← look_one 0 (the_upper bytes)
     inside ← read_members (length e.monitors + 1) (with_monitor name e)
     look_one 0 (the_word word.End)
     look_here inside
 
-  abbrev pub read_item_rest : Edentype → ItemHead → Looker Token Edentype
+  abbrev pub read_item_rest : TypeTree → ItemHead → Looker Token TypeTree
   read_item_rest e item.Durable = read_variable true 0 e
   read_item_rest e item.Working = read_variable false 0 e
   read_item_rest e item.Class = do
@@ -150,12 +151,12 @@ module _ (bytes : List ℕ) (turns : ℕ) where
     p ← read_process
     look_here (with_process p e)
 
-  unfoldable pub read_item : Edentype → Looker Token Edentype
+  unfoldable pub read_item : TypeTree → Looker Token TypeTree
   read_item e = do
     h ← look_one 0 (λ t. item_head t.kind)
     read_item_rest e h
 
-  unfoldable pub read_items : Edentype → Looker Token Edentype
+  unfoldable pub read_items : TypeTree → Looker Token TypeTree
   read_items e = look_many (λ t. item_head t.kind) read_item turns e
 
   -- ---- upgrades
@@ -183,7 +184,7 @@ module _ (bytes : List ℕ) (turns : ℕ) where
   read_upgrades = look_row (the_word word.Upgrade) read_upgrade turns []
 
   -- ---- the type
-  unfoldable pub read_edentype : Looker Token Edentype
+  unfoldable pub read_edentype : Looker Token TypeTree
   read_edentype = do
     look_one 0 (the_word word.Edentype)
     name ← look_one 0 (the_upper bytes)
@@ -194,5 +195,5 @@ module _ (bytes : List ℕ) (turns : ℕ) where
     look_here (with_upgrades upgrades e)
 
   -- all the tokens
-  unfoldable pub read_program : Looker Token Edentype
+  unfoldable pub read_program : Looker Token TypeTree
   read_program = look_whole read_edentype

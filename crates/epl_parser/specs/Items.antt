@@ -17,7 +17,7 @@ use Rattle.epl_parser.specs.declared.item.ItemHead.{ItemHead}
 use Rattle.epl_parser.specs.declared.item.ItemHead.TheVariants as item
 use Rattle.epl_parser.specs.declared.item.MemberHead.{MemberHead}
 use Rattle.epl_parser.specs.declared.item.MemberHead.TheVariants as member
-use Rattle.epl_syntax.specs.Tree.{Variable, Local, Parameter, Operation, Process, Change, Upgrade, Edentype}
+use Rattle.epl_syntax.specs.Tree.{Variable, Local, Parameter, Operation, Process, Change, Upgrade, TypeTree}
 use Rattle.epl_parser.specs.OneToken.{the_mark, the_word, the_lower, the_upper, the_number, OneAt}
 use Rattle.epl_parser.specs.WrittenKinds.{IsWrittenKind}
 use Rattle.epl_parser.specs.Constants.{IsConstant}
@@ -25,29 +25,29 @@ use Rattle.epl_parser.specs.Expressions.{IsExpression}
 use Rattle.epl_parser.specs.Statements.{InParens, IsStatement}
 
 -- ---- what a type has, with one more
-abbrev pub with_variable : Variable → Edentype → Edentype
+abbrev pub with_variable : Variable → TypeTree → TypeTree
 with_variable v e = record e { vars = e.vars ++ v ∷ [] }
 
-abbrev pub with_class : ClassDecl → Edentype → Edentype
+abbrev pub with_class : ClassDecl → TypeTree → TypeTree
 with_class c e = record e { classes = e.classes ++ c ∷ [] }
 
-abbrev pub with_monitor : Name → Edentype → Edentype
+abbrev pub with_monitor : Name → TypeTree → TypeTree
 with_monitor name e = record e { monitors = e.monitors ++ name ∷ [] }
 
-abbrev pub with_condition : CondDecl → Edentype → Edentype
+abbrev pub with_condition : CondDecl → TypeTree → TypeTree
 with_condition c e = record e { conditions = e.conditions ++ c ∷ [] }
 
-abbrev pub with_operation : Operation → Edentype → Edentype
+abbrev pub with_operation : Operation → TypeTree → TypeTree
 with_operation o e = record e { operations = e.operations ++ o ∷ [] }
 
-abbrev pub with_process : Process → Edentype → Edentype
+abbrev pub with_process : Process → TypeTree → TypeTree
 with_process p e = record e { processes = e.processes ++ p ∷ [] }
 
-abbrev pub with_upgrades : List Upgrade → Edentype → Edentype
+abbrev pub with_upgrades : List Upgrade → TypeTree → TypeTree
 with_upgrades upgrades e = record e { upgrades = upgrades }
 
 -- a type without items
-abbrev pub without_items : Name → Option Number → Edentype
+abbrev pub without_items : Name → Option Number → TypeTree
 without_items name version =
     record {
       name = name;
@@ -136,7 +136,7 @@ member_head (kind.Word word.Condition) = Some member.Condition
 member_head _ = None
 
 -- decl | "condition" LOWER, in the monitor of this number
-abbrev pub MemberRest : List ℕ → ℕ → Edentype → MemberHead → Grammar (Placed Token) Edentype
+abbrev pub MemberRest : List ℕ → ℕ → TypeTree → MemberHead → Grammar (Placed Token) TypeTree
 MemberRest bytes number e member.Durable = do
   x ← IsBinding bytes
   Nothing (with_variable (declared true number x) e)
@@ -148,7 +148,7 @@ MemberRest bytes number e member.Condition = do
   Nothing (with_condition (record { name = name; monitor = number }) e)
 
 -- what a type becomes by a part of the monitor of this number
-abbrev pub IsMember : List ℕ → ℕ → Edentype → Grammar (Placed Token) Edentype
+abbrev pub IsMember : List ℕ → ℕ → TypeTree → Grammar (Placed Token) TypeTree
 IsMember bytes number e = do
   h ← OneAt 0 (λ t. member_head t.kind)
   MemberRest bytes number e h
@@ -163,7 +163,7 @@ item_head (kind.Word word.Operation) = Some item.Operation
 item_head (kind.Word word.Process) = Some item.Process
 item_head _ = None
 
-abbrev pub ItemRest : List ℕ → Edentype → ItemHead → Grammar (Placed Token) Edentype
+abbrev pub ItemRest : List ℕ → TypeTree → ItemHead → Grammar (Placed Token) TypeTree
 -- ( "durable" | "working" ) LOWER ":" kind "=" const
 ItemRest bytes e item.Durable = do
   x ← IsBinding bytes
@@ -188,7 +188,7 @@ ItemRest bytes e item.Process = do
   Nothing (with_process p e)
 
 -- what a type becomes by an item
-abbrev pub IsItem : List ℕ → Edentype → Grammar (Placed Token) Edentype
+abbrev pub IsItem : List ℕ → TypeTree → Grammar (Placed Token) TypeTree
 IsItem bytes e = do
   h ← OneAt 0 (λ t. item_head t.kind)
   ItemRest bytes e h
@@ -222,7 +222,7 @@ IsVersion =
       Nothing (Some number))
 
 -- edentype = "edentype" UPPER [ "version" INT ] { item } { upgrade } "endtype"
-abbrev pub IsEdentype : List ℕ → Grammar (Placed Token) Edentype
+abbrev pub IsEdentype : List ℕ → Grammar (Placed Token) TypeTree
 IsEdentype bytes = do
   OneAt 0 (the_word word.Edentype)
   name ← OneAt 0 (the_upper bytes)

@@ -1,5 +1,6 @@
 -- Which Edentype a text spells, and where a text is refused: by its tokens and the grammar alone.
-use Rattle.std.specs.Prelude.{◌≡◌, ℕ, ◌-◌, ◌<◌, List, [], ◌∷◌, length, drop, None, Result, Ok, Err, ◌⊎◌}
+use Rattle.std.specs.Prelude.{◌≡◌, ℕ, ◌-◌, ◌<◌, ◌≤◌, List, [], ◌∷◌, length, drop, None, Result, Ok, Err, ◌⊎◌}
+use Rattle.std.specs.List.{AllByRecursion}
 use Rattle.grammar.specs.FirstFault.{Spells as SpellsShallow, Breaks as BreaksGrammar, Deepens}
 use Rattle.epl_syntax.specs.declared.token.ParseRefusal.{ParseRefusal}
 use Rattle.epl_syntax.specs.declared.token.ParseRefusal.TheVariants.{BadToken, TooDeep, OutOfMemory}
@@ -9,12 +10,12 @@ use Rattle.epl_syntax.specs.declared.tree.Name.{Name}
 use Rattle.epl_syntax.specs.declared.tree.Program.{Program}
 use Rattle.epl_syntax.specs.declared.word.Word.TheVariants as word
 use Rattle.epl_syntax.specs.Token.{token_at, Leads, Spells}
-use Rattle.epl_syntax.specs.Tree.{Edentype, edentype}
+use Rattle.epl_syntax.specs.Tree.{TypeTree, type_tree}
 use Rattle.epl_parser.specs.Items.{IsEdentype}
 use Rattle.epl_parser.specs.OneToken.{name_at}
 
 -- The whole text spells tokens, and they the type, none of them past depth 32.
-pub record SpellsType (text : List ℕ) (e : Edentype) : Type 0 where
+pub record SpellsType (text : List ℕ) (e : TypeTree) : Type 0 where
   pub tokens : List Token
   pub spelled : Spells text tokens
   pub type : SpellsShallow 32 (IsEdentype text) tokens e
@@ -28,6 +29,10 @@ pub record IsNamed (text : List ℕ) (name : Name) : Type 0 where
   pub is_word : first.kind ≡ kind.Word word.Edentype
   pub is_upper : second.kind ≡ kind.Upper
   pub is_name : name_at text second ≡ name
+
+-- each condition of the type is of one of its monitors, which are counted from 1
+abbrev pub AreInMonitors : TypeTree → Type 0
+AreInMonitors e = AllByRecursion (λ c. (1 ≤ c.monitor) × (c.monitor ≤ length e.monitors)) e.conditions
 
 -- The text has these tokens up to this place, at which no token begins.
 pub record HasTokens (text : List ℕ) (tokens : List Token) (end : ℕ) : Type 0 where
@@ -57,7 +62,7 @@ pub record BreaksType (text : List ℕ) (place : ℕ) : Type 0 where
 pub record GoesOn (text : List ℕ) (place : ℕ) : Type 0 where
   pub tokens : List Token
   pub has : HasTokens text tokens place
-  pub value : Edentype
+  pub value : TypeTree
   pub type : SpellsShallow 32 (IsEdentype text) tokens value
   pub within : place < length text
 
@@ -77,14 +82,14 @@ RefusesType text place = (BreaksType text place ⊎ GoesOn text place) ⊎ Deepe
 
 -- what `parse_edentype` answers
 abbrev pub TypeIs : List ℕ → Result Program ParseRefusal → Type 0
-TypeIs text (Ok p) = SpellsType text (edentype p)
+TypeIs text (Ok p) = SpellsType text (type_tree p)
 TypeIs text (Err (BadToken place)) = BreaksType text place ⊎ GoesOn text place
 TypeIs text (Err (TooDeep place)) = DeepensType text place
 TypeIs text (Err OutOfMemory) = Unit {0}
 
 -- it is the type, or memory ran out
-abbrev pub IsTaken : Edentype → Result Program ParseRefusal → Type 0
-IsTaken e (Ok p) = edentype p ≡ e
+abbrev pub IsTaken : TypeTree → Result Program ParseRefusal → Type 0
+IsTaken e (Ok p) = type_tree p ≡ e
 IsTaken e (Err (BadToken place)) = ⊥
 IsTaken e (Err (TooDeep place)) = ⊥
 IsTaken e (Err OutOfMemory) = Unit {0}

@@ -11,7 +11,8 @@ use Rattle.epl_syntax.specs.declared.tree.Name.{Name}
 use Rattle.epl_syntax.specs.declared.word.Word.TheVariants as word
 use Rattle.epl_parser.specs.declared.statement.StatementHead.{StatementHead}
 use Rattle.epl_parser.specs.declared.statement.StatementHead.TheVariants as head
-use Rattle.epl_syntax.specs.Tree.{Expression, Statement, Statements, Assign, If, While, With, Wait, Signal, Yield, Deactivate, Checkpoint, Destroy, Create, Invoke, Return, no_statements, block_of}
+use Rattle.epl_syntax.specs.Tree.{Expression, Statement, Statements, Assign, If, While, With, Wait, Signal, Yield}
+use Rattle.epl_syntax.specs.Tree.{Deactivate, Checkpoint, Destroy, Create, Invoke, Return, no_statements, block_of}
 use Rattle.epl_parser.specs.OneToken.{name_at, the_mark, the_word, the_lower, the_upper, headed, look_one}
 use Rattle.epl_parser.specs.WrittenKinds.{out_of_steps}
 use Rattle.epl_parser.specs.ExpressionReader.{read_expression}
@@ -170,9 +171,6 @@ module _ (bytes : List ℕ) (turns : ℕ) where
 
   unfoldable pub read_with : ℕ → ℕ → Token → Looker Token Statement
   read_with n d t = read_with_by (inner_block n (suc d)) d t
-
-  unfoldable pub read_arguments : ℕ → Looker Token (List Expression)
-  read_arguments d = look_in_parens d (read_expressions d)
 
   -- the statements of an operation or a process
   unfoldable pub read_body : Looker Token (List Statement)

@@ -14,9 +14,18 @@ use Rattle.epl_syntax.specs.declared.tree.Target.TheVariants as target
 use Rattle.epl_syntax.specs.declared.word.Word.TheVariants as word
 use Rattle.epl_parser.specs.declared.statement.StatementHead.{StatementHead}
 use Rattle.epl_parser.specs.declared.statement.StatementHead.TheVariants as head
-use Rattle.epl_syntax.specs.Tree.{Expression, Statement, Statements, Assign, If, While, With, Wait, Signal, Yield, Deactivate, Checkpoint, Destroy, Create, Invoke, Return, no_statements, statement_and}
+use Rattle.epl_syntax.specs.Tree.{Expression, Statement, Statements, Assign, If, While, With, Wait, Signal, Yield}
+use Rattle.epl_syntax.specs.Tree.{Deactivate, Checkpoint, Destroy, Create, Invoke, Return, no_statements}
+use Rattle.epl_syntax.specs.Tree.{statement_and}
 use Rattle.epl_parser.specs.OneToken.{name_at, the_mark, the_word, the_lower, the_upper, OneAt}
 use Rattle.epl_parser.specs.Expressions.{IsExpression}
+
+-- no statements stand in a statement with this head
+abbrev pub IsPlain : StatementHead → Type 0
+IsPlain head.If = ⊥
+IsPlain head.While = ⊥
+IsPlain head.With = ⊥
+IsPlain _ = Unit {0}
 
 -- which statement begins with a token of this kind
 unfoldable pub statement_head : TokenKind → Option StatementHead

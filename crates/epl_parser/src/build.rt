@@ -1,6 +1,7 @@
 //! Making the parts of a tree.
 ghost use Rattle.std.specs.Prelude.{◌≡◌, map, IfOk};
-ghost use Rattle.epl_syntax.specs.Tree.{Unary, Binary, Index, ListOf, Apply, expression, expressions, If, While, With, statement, statements};
+ghost use Rattle.epl_syntax.specs.Tree.{Unary, Binary, Index, ListOf, Apply, expression, expressions, If, While};
+ghost use Rattle.epl_syntax.specs.Tree.{With, statement, statements};
 
 use epl_syntax::{Builtin, Expr, Name, Operator, Prefix, Stmt};
 use std::alloc::{AllocError, Global};

@@ -6,7 +6,9 @@ ghost use Rattle.epl_parser.specs.OneToken.{peeked, headed, look_one, name_at};
 ghost use Rattle.epl_parser.specs.Heads.{operator_at, comparison, primary_head};
 ghost use Rattle.epl_parser.specs.Constants.{text_at};
 ghost use Rattle.epl_parser.specs.Expressions.{joined, prefixed, at_index, single};
-ghost use Rattle.epl_parser.specs.ExpressionReader.{parsed, read_step, read_index, read_exprs_to, inner, read_part, read_chain, read_neg, read_cmp, read_unit, read_indexed, read_primary, read_expression};
+ghost use Rattle.epl_parser.specs.ExpressionReader.{IsClosing, parsed, read_step, read_index, read_exprs_to, inner};
+ghost use Rattle.epl_parser.specs.ExpressionReader.{read_part, read_chain, read_neg, read_cmp, read_unit};
+ghost use Rattle.epl_parser.specs.ExpressionReader.{read_indexed, read_primary, read_expression};
 
 use crate::build::{apply, binary, index as index_of, list_of, unary};
 use crate::constant_parser::{kind_in_parens, text_value};
@@ -170,10 +172,12 @@ fn chain<'a>(
     depth: u32,
     tokens: &'a [Token],
 ) -> Result<(Found, &'a [Token]), Halt>
-    requires { depth ≤ 33 }
+    requires depth { depth ≤ 33 }
+    requires levels { 33 ≤ depth + levels }
     ensures read { Tells (λ x. (parsed x.0, x.1.now)) result
         (read_chain source.now.text.now source.now.turns outer level levels depth tokens.now) }
     ensures small { IfOk result (λ x. x.0.behind ≤ 32) }
+    ensures great { IfOk result (λ x. depth ≤ x.0.behind) }
 {
     let (mut found, mut rest) = part(level, source, levels, outer, depth, tokens)?;
     let mut left = source.turns;
@@ -186,8 +190,7 @@ fn chain<'a>(
         rest = behind;
         left -= 1;
     }
-    // Never reached: there are more turns than tokens.
-    Err(Halt::Memory)
+    unreachable!()
 }
 
 /// An operator of a level, and the part behind it.
@@ -200,10 +203,13 @@ fn step<'a>(
     found: Found,
     tokens: &'a [Token],
 ) -> Result<(Found, &'a [Token]), Halt>
-    requires { found.behind ≤ 32 }
+    requires depth { found.behind ≤ 32 }
+    requires levels { 32 ≤ found.behind + levels }
     ensures read { Tells (λ x. (parsed x.0, x.1.now)) result
-        (read_step source.now.text.now source.now.turns outer level (read_part source.now.text.now source.now.turns outer level levels) (parsed found) tokens.now) }
+        (read_step source.now.text.now source.now.turns outer level
+        (read_part source.now.text.now source.now.turns outer level levels) (parsed found) tokens.now) }
     ensures small { IfOk result (λ x. x.0.behind ≤ 32) }
+    ensures great { IfOk result (λ x. found.behind ≤ x.0.behind) }
 {
     let depth = found.behind + 1;
     let (operator, rest) = take_operator(level, outer.max(depth), tokens)?;
@@ -222,10 +228,12 @@ fn part<'a>(
     depth: u32,
     tokens: &'a [Token],
 ) -> Result<(Found, &'a [Token]), Halt>
-    requires { depth ≤ 33 }
+    requires depth { depth ≤ 33 }
+    requires levels { 33 ≤ depth + levels }
     ensures read { Tells (λ x. (parsed x.0, x.1.now)) result
         (read_part source.now.text.now source.now.turns outer level levels depth tokens.now) }
     ensures small { IfOk result (λ x. x.0.behind ≤ 32) }
+    ensures great { IfOk result (λ x. depth ≤ x.0.behind) }
 {
     match level {
         Level::Or => chain(Level::And, source, levels, outer, depth, tokens),
@@ -245,18 +253,16 @@ fn negation<'a>(
     depth: u32,
     tokens: &'a [Token],
 ) -> Result<(Found, &'a [Token]), Halt>
-    requires { depth ≤ 33 }
+    requires depth { depth ≤ 33 }
+    requires levels { 33 ≤ depth + levels }
     ensures read { Tells (λ x. (parsed x.0, x.1.now)) result (read_neg source.now.text.now source.now.turns outer levels depth tokens.now) }
     ensures small { IfOk result (λ x. x.0.behind ≤ 32) }
+    ensures great { IfOk result (λ x. depth ≤ x.0.behind) }
 {
     let Some(_) = peek_word(Word::Not, tokens) else {
         return compared(source, levels, outer, depth, tokens);
     };
     let (token, rest) = take_word(Word::Not, outer.max(depth + 1), tokens)?;
-    if levels == 0 {
-        // Never reached: the token before is past the limit of depth then.
-        return Err(Halt::Memory);
-    }
     let (of, rest) = negation(source, levels - 1, outer, depth + 1, rest)?;
     Ok((prefix(source.alloc, Prefix::Not, token, of)?, rest))
 }
@@ -271,9 +277,11 @@ fn compared<'a>(
     depth: u32,
     tokens: &'a [Token],
 ) -> Result<(Found, &'a [Token]), Halt>
-    requires { depth ≤ 33 }
+    requires depth { depth ≤ 33 }
+    requires levels { 33 ≤ depth + levels }
     ensures read { Tells (λ x. (parsed x.0, x.1.now)) result (read_cmp source.now.text.now source.now.turns outer levels depth tokens.now) }
     ensures small { IfOk result (λ x. x.0.behind ≤ 32) }
+    ensures great { IfOk result (λ x. depth ≤ x.0.behind) }
 {
     let (found, rest) = chain(Level::Sum, source, levels, outer, depth, tokens)?;
     let Some(_) = peek_comparison(rest) else {
@@ -295,19 +303,17 @@ fn unit<'a>(
     depth: u32,
     tokens: &'a [Token],
 ) -> Result<(Found, &'a [Token]), Halt>
-    requires { depth ≤ 33 }
+    requires depth { depth ≤ 33 }
+    requires levels { 33 ≤ depth + levels }
     ensures read { Tells (λ x. (parsed x.0, x.1.now)) result
         (read_unit source.now.text.now source.now.turns outer levels depth tokens.now) }
     ensures small { IfOk result (λ x. x.0.behind ≤ 32) }
+    ensures great { IfOk result (λ x. depth ≤ x.0.behind) }
 {
     let Some(_) = peek_mark(Mark::Minus, tokens) else {
         return indexed(source, levels, outer, depth, tokens);
     };
     let (token, rest) = take_mark(Mark::Minus, outer.max(depth + 1), tokens)?;
-    if levels == 0 {
-        // Never reached: the token before is past the limit of depth then.
-        return Err(Halt::Memory);
-    }
     let (of, rest) = unit(source, levels - 1, outer, depth + 1, rest)?;
     Ok((prefix(source.alloc, Prefix::Negate, token, of)?, rest))
 }
@@ -322,10 +328,12 @@ fn indexed<'a>(
     depth: u32,
     tokens: &'a [Token],
 ) -> Result<(Found, &'a [Token]), Halt>
-    requires { depth ≤ 33 }
+    requires depth { depth ≤ 33 }
+    requires levels { 33 ≤ depth + levels }
     ensures read { Tells (λ x. (parsed x.0, x.1.now)) result
         (read_indexed source.now.text.now source.now.turns outer levels depth tokens.now) }
     ensures small { IfOk result (λ x. x.0.behind ≤ 32) }
+    ensures great { IfOk result (λ x. depth ≤ x.0.behind) }
 {
     let (mut found, mut rest) = primary(source, levels, outer, depth, tokens)?;
     let mut left = source.turns;
@@ -338,8 +346,7 @@ fn indexed<'a>(
         rest = behind;
         left -= 1;
     }
-    // Never reached: there are more turns than tokens.
-    Err(Halt::Memory)
+    unreachable!()
 }
 
 /// An index in brackets.
@@ -351,10 +358,13 @@ fn index<'a>(
     found: Found,
     tokens: &'a [Token],
 ) -> Result<(Found, &'a [Token]), Halt>
-    requires { found.behind ≤ 32 }
+    requires depth { found.behind ≤ 32 }
+    requires levels { 32 ≤ found.behind + levels }
     ensures read { Tells (λ x. (parsed x.0, x.1.now)) result
-        (read_index source.now.text.now source.now.turns outer (inner source.now.text.now source.now.turns outer levels).expr (parsed found) tokens.now) }
+        (read_index source.now.text.now source.now.turns outer
+        (inner source.now.text.now source.now.turns outer levels).expr (parsed found) tokens.now) }
     ensures small { IfOk result (λ x. x.0.behind ≤ 32) }
+    ensures great { IfOk result (λ x. found.behind ≤ x.0.behind) }
 {
     let depth = found.behind + 1;
     let (_, rest) = take_mark(Mark::OpenList, outer.max(depth), tokens)?;
@@ -373,10 +383,12 @@ fn primary<'a>(
     depth: u32,
     tokens: &'a [Token],
 ) -> Result<(Found, &'a [Token]), Halt>
-    requires { depth ≤ 33 }
+    requires depth { depth ≤ 33 }
+    requires levels { 33 ≤ depth + levels }
     ensures read { Tells (λ x. (parsed x.0, x.1.now)) result
         (read_primary source.now.text.now source.now.turns outer levels depth tokens.now) }
     ensures small { IfOk result (λ x. x.0.behind ≤ 32) }
+    ensures great { IfOk result (λ x. depth ≤ x.0.behind) }
 {
     let place = outer.max(depth);
     let ((head, token), rest) = take_primary(place, tokens)?;
@@ -418,15 +430,13 @@ fn inside<'a>(
     depth: u32,
     tokens: &'a [Token],
 ) -> Result<(Found, &'a [Token]), Halt>
-    requires { depth ≤ 33 }
+    requires depth { depth ≤ 33 }
+    requires levels { 34 ≤ depth + levels }
     ensures read { Tells (λ x. (parsed x.0, x.1.now)) result
         ((inner source.now.text.now source.now.turns outer levels).expr depth tokens.now) }
     ensures small { IfOk result (λ x. x.0.behind ≤ 32) }
+    ensures great { IfOk result (λ x. depth ≤ x.0.behind) }
 {
-    if levels == 0 {
-        // Never reached: the token before is past the limit of depth then.
-        return Err(Halt::Memory);
-    }
     chain(Level::Or, source, levels - 1, outer, depth, tokens)
 }
 
@@ -440,9 +450,12 @@ fn items<'a>(
     depth: u32,
     tokens: &'a [Token],
 ) -> Result<(Vec<Expr>, &'a [Token]), Halt>
-    requires { depth ≤ 32 }
+    requires closing { IsClosing mark }
+    requires depth { depth ≤ 32 }
+    requires levels { 33 ≤ depth + levels }
     ensures { Tells (λ x. (map expression x.0.items, x.1.now)) result
-        (read_exprs_to source.now.text.now source.now.turns outer mark (inner source.now.text.now source.now.turns outer levels).expr depth tokens.now) }
+        (read_exprs_to source.now.text.now source.now.turns outer mark
+        (inner source.now.text.now source.now.turns outer levels).expr depth tokens.now) }
 {
     let place = outer.max(depth);
     let (first, mut rest) = inside(source, levels, outer, depth + 1, tokens)?;
@@ -460,8 +473,7 @@ fn items<'a>(
         rest = behind;
         left -= 1;
     }
-    // Never reached: there are more turns than tokens.
-    Err(Halt::Memory)
+    unreachable!()
 }
 
 /// An expression that stands in no other; a token's depth is at least `outer`.

@@ -138,7 +138,7 @@ fn shown(alloc: Global, text: &[u8]) -> Result<Vec<u8>, AllocError> {
     let source = Source {
         alloc,
         text,
-        turns: found.len() + 1,
+        turns: usize::MAX,
     };
     let Ok((expr, _)) = expression(&source, 0, &found) else {
         return Ok(out);
@@ -211,7 +211,7 @@ fn end_of(alloc: Global, text: &[u8]) -> End {
     let source = Source {
         alloc,
         text,
-        turns: found.len() + 1,
+        turns: usize::MAX,
     };
     match expression(&source, 0, &found) {
         Ok((_, rest)) => End::Read { left: rest.len() },

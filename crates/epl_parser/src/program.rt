@@ -1,7 +1,7 @@
 //! Reading a whole Edentype.
 ghost use Rattle.std.specs.Prelude.{◌≡◌, ◌<◌, ◌≤◌, ◌^◌, ℕ, List, [], length};
 ghost use Rattle.grammar.specs.Tells.{Tells};
-ghost use Rattle.epl_syntax.specs.Tree.{Edentype, edentype};
+ghost use Rattle.epl_syntax.specs.Tree.{TypeTree, type_tree};
 ghost use Rattle.epl_parser.specs.ItemReader.{read_program};
 ghost use Rattle.epl_parser.specs.Program.{SpellsType, TypeIs, IsTaken, place_of};
 
@@ -14,7 +14,8 @@ use std::alloc::Global;
 /// An Edentype of all the tokens.
 #[tactic(auto, unfolding(crate::specs::ItemReader::read_program))]
 fn whole(source: &Source<'_>, tokens: &[Token]) -> Result<Program, Halt>
-    ensures { Tells (λ p. (edentype p, [])) result (read_program source.now.text.now source.now.turns tokens.now) }
+    requires few { length tokens.now < 2 ^ 32 }
+    ensures { Tells (λ p. (type_tree p, [])) result (read_program source.now.text.now source.now.turns tokens.now) }
 {
     let (program, rest) = edentype(source, tokens)?;
     if !rest.is_empty() {
@@ -44,10 +45,10 @@ pub fn parse_edentype(alloc: Global, text: &[u8]) -> Result<Program, ParseRefusa
     // What is answered is so by the text's tokens and the grammar.
     ensures answers { TypeIs text.now result }
     // What is spelled is taken, unless memory runs out.
-    ensures taken { (e : Edentype) → SpellsType text.now e → IsTaken e result }
+    ensures taken { (e : TypeTree) → SpellsType text.now e → IsTaken e result }
 {
     let (tokens, end) = leading_tokens(alloc, text)?;
-    let turns = tokens.len() + 1;
+    let turns = usize::MAX;
     let source = Source { alloc, text, turns };
     match whole(&source, &tokens) {
         Ok(program) => {

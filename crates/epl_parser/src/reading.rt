@@ -1,7 +1,8 @@
 //! Reading single tokens: marks, words, names and numbers at a depth.
-ghost use Rattle.std.specs.Prelude.{◌≡◌, ◌≤◌, IfOk, drop, take};
+ghost use Rattle.std.specs.Prelude.{◌≡◌, ◌≤◌, ◌^◌, IfOk, drop, take};
 ghost use Rattle.grammar.specs.Tells.{Tells};
-ghost use Rattle.epl_parser.specs.OneToken.{bytes_at, name_at, the_mark, the_word, the_lower, the_upper, the_number, peeked, take_found, look_one};
+ghost use Rattle.epl_parser.specs.OneToken.{bytes_at, name_at, the_mark, the_word, the_lower, the_upper, the_number};
+ghost use Rattle.epl_parser.specs.OneToken.{peeked, take_found, look_one};
 
 use eden_value::Txt;
 use epl_syntax::{Mark, Name, Number, Token, TokenKind, Word};
@@ -12,13 +13,13 @@ use std::alloc::{AllocError, Global};
 pub(crate) const DEPTH_LIMIT: u32 = 32;
 
 /// What every part of the parser reads from: the text whose tokens are read, and how many turns a
-/// loop may take, which is more than there are tokens. So no loop takes them all; one that did
-/// would answer as where memory runs out.
+/// loop may take, which is more than there can be tokens. So no loop takes them all.
 #[derive(Clone, Copy)]
 pub(crate) struct Source<'a> {
     pub(crate) alloc: Global,
     pub(crate) text: &'a [u8],
     pub(crate) turns: usize,
+    pub(crate) ghost enough: { 2 ^ 63 ≤ turns },
 }
 
 /// The first token's value, and the tokens behind it.

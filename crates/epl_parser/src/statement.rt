@@ -1,14 +1,17 @@
 //! Reading statements.
-ghost use Rattle.std.specs.Prelude.{◌≡◌, ◌≤◌, ◌+◌, suc, IfOk, map};
+ghost use Rattle.std.specs.Prelude.{◌≡◌, ◌<◌, ◌≤◌, ◌+◌, suc, IfOk, map};
 ghost use Rattle.grammar.specs.Tells.{Tells};
 ghost use Rattle.epl_syntax.specs.Tree.{statement, statements};
 ghost use Rattle.epl_parser.specs.OneToken.{peeked, headed, look_one};
-ghost use Rattle.epl_parser.specs.Statements.{statement_head, the_target};
-ghost use Rattle.epl_parser.specs.StatementReader.{read_assign, read_create, read_invoke, read_return, read_plain, read_else, read_if, read_while, read_with, inner_block, read_statement, read_statements, read_body};
+ghost use Rattle.epl_parser.specs.Statements.{statement_head, the_target, IsPlain};
+ghost use Rattle.epl_parser.specs.StatementReader.{read_assign, read_create, read_invoke, read_return, read_plain};
+ghost use Rattle.epl_parser.specs.StatementReader.{read_else, read_if, read_while, read_with, inner_block};
+ghost use Rattle.epl_parser.specs.StatementReader.{read_statement, read_statements, read_body};
 
 use crate::build::{make_if, make_while, make_with};
 use crate::expression_parser::expression;
-use crate::parens::{arguments, optional_gives, take_lower, take_upper};
+use crate::lists::in_parens;
+use crate::parens::{optional_gives, take_lower, take_upper};
 use crate::reading::{DEPTH_LIMIT, Source, name_of, peek_word, take_found, take_mark, take_word};
 use epl_syntax::{Mark, Stmt, Target, Token, TokenKind, Word};
 use grammar::Halt;
@@ -150,7 +153,7 @@ fn create<'a>(
     ))
 }
 
-#[tactic(auto, unfolding(crate::specs::StatementReader::read_invoke, crate::specs::StatementReader::read_arguments))]
+#[tactic(auto, unfolding(crate::specs::StatementReader::read_invoke, crate::specs::StatementReader::read_expressions))]
 fn invoke<'a>(
     source: &Source<'_>,
     depth: u32,
@@ -162,7 +165,7 @@ fn invoke<'a>(
     let (target, rest) = take_target(source, depth, tokens)?;
     let (_, rest) = take_mark(Mark::Dot, depth, rest)?;
     let (operation, rest) = take_upper(source, depth, rest)?;
-    let (args, rest) = arguments(source, depth, rest)?;
+    let (args, rest) = in_parens(source, depth, rest)?;
     let (_, rest) = take_word(Word::Status, depth, rest)?;
     let (status, rest) = take_lower(source, depth, rest)?;
     let (gives, rest) = optional_gives(source, depth, rest)?;
@@ -180,7 +183,7 @@ fn invoke<'a>(
     ))
 }
 
-#[tactic(auto, unfolding(crate::specs::StatementReader::read_return, crate::specs::StatementReader::read_arguments))]
+#[tactic(auto, unfolding(crate::specs::StatementReader::read_return, crate::specs::StatementReader::read_expressions))]
 fn make_return<'a>(
     source: &Source<'_>,
     depth: u32,
@@ -189,7 +192,7 @@ fn make_return<'a>(
 ) -> Result<(Stmt, &'a [Token]), Halt>
     ensures { Tells (λ x. (statement x.0, x.1.now)) result (read_return source.now.text.now source.now.turns depth token tokens.now) }
 {
-    let (results, rest) = arguments(source, depth, tokens)?;
+    let (results, rest) = in_parens(source, depth, tokens)?;
     let place = token.start;
     Ok((Stmt::Return { results, place }, rest))
 }
@@ -203,6 +206,7 @@ fn plain<'a>(
     token: Token,
     tokens: &'a [Token],
 ) -> Result<(Stmt, &'a [Token]), Halt>
+    requires { IsPlain head }
     ensures { Tells (λ x. (statement x.0, x.1.now)) result (read_plain source.now.text.now source.now.turns depth head token tokens.now) }
 {
     let place = token.start;
@@ -229,8 +233,8 @@ fn plain<'a>(
         StatementHead::Create => create(source, depth, token, tokens),
         StatementHead::Invoke => invoke(source, depth, token, tokens),
         StatementHead::Return => make_return(source, depth, token, tokens),
-        // Never reached: statements with statements in them are read by `statement`.
-        StatementHead::If | StatementHead::While | StatementHead::With => Err(Halt::Memory),
+        // Statements with statements in them are read by `statement`.
+        StatementHead::If | StatementHead::While | StatementHead::With => unreachable!(),
     }
 }
 
@@ -246,7 +250,8 @@ fn if_rest<'a>(
     token: Token,
     tokens: &'a [Token],
 ) -> Result<(Stmt, &'a [Token]), Halt>
-    requires { depth + levels ≤ 64 }
+    requires depth { depth + levels ≡ 33 }
+    requires inside { 0 < levels }
     ensures { Tells (λ x. (statement x.0, x.1.now)) result (read_if source.now.text.now source.now.turns levels depth token tokens.now) }
 {
     let (test, rest) = expression(source, depth, tokens)?;
@@ -266,7 +271,8 @@ fn otherwise<'a>(
     depth: u32,
     tokens: &'a [Token],
 ) -> Result<(Vec<Stmt>, &'a [Token]), Halt>
-    requires { depth + levels ≤ 64 }
+    requires depth { depth + levels ≡ 33 }
+    requires inside { 0 < levels }
     ensures { Tells (λ x. (statements x.0.items, x.1.now)) result (read_else source.now.text.now source.now.turns levels depth tokens.now) }
 {
     let Some(_) = peek_word(Word::Else, tokens) else {
@@ -286,7 +292,8 @@ fn while_rest<'a>(
     token: Token,
     tokens: &'a [Token],
 ) -> Result<(Stmt, &'a [Token]), Halt>
-    requires { depth + levels ≤ 64 }
+    requires depth { depth + levels ≡ 33 }
+    requires inside { 0 < levels }
     ensures { Tells (λ x. (statement x.0, x.1.now)) result (read_while source.now.text.now source.now.turns levels depth token tokens.now) }
 {
     let (test, rest) = expression(source, depth, tokens)?;
@@ -306,7 +313,8 @@ fn with_rest<'a>(
     token: Token,
     tokens: &'a [Token],
 ) -> Result<(Stmt, &'a [Token]), Halt>
-    requires { depth + levels ≤ 64 }
+    requires depth { depth + levels ≡ 33 }
+    requires inside { 0 < levels }
     ensures { Tells (λ x. (statement x.0, x.1.now)) result (read_with source.now.text.now source.now.turns levels depth token tokens.now) }
 {
     let (monitor, rest) = take_upper(source, depth, tokens)?;
@@ -325,14 +333,11 @@ fn block<'a>(
     depth: u32,
     tokens: &'a [Token],
 ) -> Result<(Vec<Stmt>, &'a [Token]), Halt>
-    requires { depth + levels ≤ 64 }
+    requires depth { depth + levels ≡ 33 }
+    requires inside { 0 < levels }
     ensures { Tells (λ x. (statements x.0.items, x.1.now)) result
         (inner_block source.now.text.now source.now.turns levels (suc depth) tokens.now) }
 {
-    if levels == 0 {
-        // Never reached: the token before is past the limit of depth then.
-        return Err(Halt::Memory);
-    }
     row(source, levels - 1, depth + 1, tokens)
 }
 
@@ -345,7 +350,7 @@ fn statement<'a>(
     depth: u32,
     tokens: &'a [Token],
 ) -> Result<(Stmt, &'a [Token]), Halt>
-    requires { depth + levels ≤ 64 }
+    requires { depth + levels ≡ 33 }
     ensures { Tells (λ x. (statement x.0, x.1.now)) result (read_statement source.now.text.now source.now.turns levels depth tokens.now) }
 {
     let ((head, token), rest) = take_head(depth, tokens)?;
@@ -353,7 +358,16 @@ fn statement<'a>(
         StatementHead::If => if_rest(source, levels, depth, token, rest),
         StatementHead::While => while_rest(source, levels, depth, token, rest),
         StatementHead::With => with_rest(source, levels, depth, token, rest),
-        _ => plain(source, depth, head, token, rest),
+        StatementHead::Assign
+        | StatementHead::Wait
+        | StatementHead::Signal
+        | StatementHead::Yield
+        | StatementHead::Deactivate
+        | StatementHead::Checkpoint
+        | StatementHead::Destroy
+        | StatementHead::Create
+        | StatementHead::Invoke
+        | StatementHead::Return => plain(source, depth, head, token, rest),
     }
 }
 
@@ -366,7 +380,7 @@ fn row<'a>(
     depth: u32,
     tokens: &'a [Token],
 ) -> Result<(Vec<Stmt>, &'a [Token]), Halt>
-    requires { depth + levels ≤ 64 }
+    requires { depth + levels ≡ 33 }
     ensures { Tells (λ x. (map statement x.0.items, x.1.now)) result
         (read_statements source.now.text.now source.now.turns levels depth tokens.now) }
 {
@@ -382,7 +396,7 @@ fn row<'a>(
         rest = behind;
         left -= 1;
     }
-    Err(Halt::Memory)
+    unreachable!()
 }
 
 /// The statements of an operation or a process.

@@ -1,6 +1,7 @@
 use Rattle.std.proofs.Common.{◌≡◌, ◌≤◌, ◌+◌, ◌*◌, map}
 use Rattle.epl_syntax.specs.Tree.{expression}
-use Rattle.epl_parser.specs.ExpressionReader.{parsed, inner, read_steps, read_indices, read_part, read_chain, read_indexed, read_exprs_to, exprs_on}
+use Rattle.epl_parser.specs.ExpressionReader.{parsed, inner, read_steps, read_indices, read_part, read_chain}
+use Rattle.epl_parser.specs.ExpressionReader.{read_indexed, read_exprs_to, exprs_on}
 use Rattle.epl_parser.proofs.Ranks.{chain_rank}
 use Rattle.epl_parser.proofs.expression_parser.+expression.Given as goal
 
@@ -39,8 +40,11 @@ decreases-negation l = 20 * l.levels + 12
 
 abbrev pub invariant-chain-loop-left : goal.invariant-chain-loop-left
 invariant-chain-loop-left l = record {
-  read : read_steps l.source.text.now l.source.turns l.outer l.level (read_part l.source.text.now l.source.turns l.outer l.level l.levels) l.left (parsed l.found) l.rest ≡ read_chain l.source.text.now l.source.turns l.outer l.level l.levels l.depth l.tokens;
+  read : read_steps l.source.text.now l.source.turns l.outer l.level
+      (read_part l.source.text.now l.source.turns l.outer l.level l.levels) l.left (parsed l.found) l.rest
+      ≡ read_chain l.source.text.now l.source.turns l.outer l.level l.levels l.depth l.tokens;
   small : l.found.behind ≤ 32;
+  great : l.depth ≤ l.found.behind;
 }
 
 abbrev pub decreases-chain-loop-left : goal.decreases-chain-loop-left
@@ -48,16 +52,21 @@ decreases-chain-loop-left l = l.left
 
 abbrev pub invariant-indexed-loop-left : goal.invariant-indexed-loop-left
 invariant-indexed-loop-left l = record {
-  read : read_indices l.source.text.now l.source.turns l.outer (inner l.source.text.now l.source.turns l.outer l.levels).expr l.left (parsed l.found) l.rest ≡ read_indexed l.source.text.now l.source.turns l.outer l.levels l.depth l.tokens;
+  read : read_indices l.source.text.now l.source.turns l.outer (inner l.source.text.now l.source.turns l.outer l.levels).expr l.left
+      (parsed l.found) l.rest ≡ read_indexed l.source.text.now l.source.turns l.outer l.levels l.depth l.tokens;
   small : l.found.behind ≤ 32;
+  great : l.depth ≤ l.found.behind;
 }
 
 abbrev pub decreases-indexed-loop-left : goal.decreases-indexed-loop-left
 decreases-indexed-loop-left l = l.left
 
 abbrev pub invariant-items-loop-left : goal.invariant-items-loop-left
-invariant-items-loop-left l = exprs_on l.source.text.now l.source.turns l.outer l.mark (inner l.source.text.now l.source.turns l.outer l.levels).expr l.depth l.left (map expression l.found.items) l.rest
-    ≡ read_exprs_to l.source.text.now l.source.turns l.outer l.mark (inner l.source.text.now l.source.turns l.outer l.levels).expr l.depth l.tokens
+invariant-items-loop-left l =
+    exprs_on l.source.text.now l.source.turns l.outer l.mark (inner l.source.text.now l.source.turns l.outer l.levels).expr l.depth l.left
+    (map expression l.found.items) l.rest
+    ≡ read_exprs_to l.source.text.now l.source.turns l.outer l.mark
+    (inner l.source.text.now l.source.turns l.outer l.levels).expr l.depth l.tokens
 
 abbrev pub decreases-items-loop-left : goal.decreases-items-loop-left
 decreases-items-loop-left l = l.left

@@ -7,7 +7,9 @@ use Rattle.epl_parser.specs.ItemReader.{read_local, read_locals}
 use Rattle.epl_parser.proofs.item.locals.Given as goal
 
 abbrev pub invariant-loop-left : goal.invariant-loop-left
-invariant-loop-left l = look_row (the_word word.Var) (read_local l.source.text.now l.source.turns) l.left (map local_of l.found.items) l.rest ≡ read_locals l.source.text.now l.source.turns l.tokens
+invariant-loop-left l =
+    look_row (the_word word.Var) (read_local l.source.text.now l.source.turns) l.left (map local_of l.found.items) l.rest
+    ≡ read_locals l.source.text.now l.source.turns l.tokens
 
 abbrev pub decreases-loop-left : goal.decreases-loop-left
 decreases-loop-left l = l.left

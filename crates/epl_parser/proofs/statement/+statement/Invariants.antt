@@ -28,7 +28,9 @@ abbrev pub decreases-row : goal.decreases-row
 decreases-row l = 8 * l.levels + 4
 
 abbrev pub invariant-row-loop-left : goal.invariant-row-loop-left
-invariant-row-loop-left l = look_row (headed statement_head) (read_statement l.source.text.now l.source.turns l.levels l.depth) l.left (map statement l.found.items) l.rest ≡ read_statements l.source.text.now l.source.turns l.levels l.depth l.tokens
+invariant-row-loop-left l =
+    look_row (headed statement_head) (read_statement l.source.text.now l.source.turns l.levels l.depth) l.left
+    (map statement l.found.items) l.rest ≡ read_statements l.source.text.now l.source.turns l.levels l.depth l.tokens
 
 abbrev pub decreases-row-loop-left : goal.decreases-row-loop-left
 decreases-row-loop-left l = l.left
