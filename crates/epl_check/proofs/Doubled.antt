@@ -1,24 +1,22 @@
 -- Names that are declared twice.
-use Rattle.std.proofs.Common.{◌≡◌, ℕ, zero, suc, ◌+◌, ◌-◌, ◌<◌, ◌≤◌, max, take, length-drop, true, refl, ap, sym, ◌∙◌, List, [], ◌∷◌, ◌++◌, map, length, drop, get_or, Option, append_assoc, arith}
+use Rattle.std.proofs.Common.{◌≡◌, ℕ, zero, suc, ◌+◌, ◌-◌, ◌<◌, ◌≤◌, max, take, length-drop, true, refl, ap, sym, ◌∙◌}
+use Rattle.std.proofs.Common.{List, [], ◌∷◌, ◌++◌, map, length, drop, get_or, Option, append_assoc, arith}
 use Rattle.std.specs.List.{flat_map}
 use Rattle.epl_syntax.specs.declared.tree.Name.{Name}
-use Rattle.epl_syntax.specs.declared.tree.Number.{Number}
 use Rattle.eden_model.specs.Map.{same_text}
 use Rattle.epl_syntax.specs.declared.rule.Broken.{Broken}
 use Rattle.epl_syntax.specs.declared.rule.Rule.TheVariants.{Doubled}
 use Rattle.epl_syntax.specs.Rules.First.{least}
-use Rattle.epl_syntax.specs.Rules.Scopes.{clash, clashes, doubled, same_number, doubled_numbers, is_among, as_variable}
-use Rattle.epl_check.specs.View.{doubled_before, numbers_before, is_past}
+use Rattle.epl_syntax.specs.Rules.Scopes.{clash, clashes, doubled, is_among, as_variable}
+use Rattle.epl_check.specs.View.{doubled_before, is_past}
 use Rattle.epl_check.proofs.Least.{least_append, drop_item, past_one, past_all}
 
 at_least : (a b : ℕ) → a ≤ max a b
 at_least a b = omega arith
 
 pub past_clashes : (o : Option Broken) (n : Name) (ns : List Name) → is_past o n.place ≡ true → o ≡ least o (clashes n ns)
-past_clashes o n ns h = past_all (clash n) o (λ m. past_one o n.place (max n.place m.place) Doubled (same_text n.text m.text) h (at_least n.place m.place)) ns
-
-pub past_numbers : (o : Option Broken) (a : Number) (ns : List Number) → is_past o a.place ≡ true → o ≡ least o (numbers_before a ns)
-past_numbers o a ns h = past_all (same_number a) o (λ b. past_one o a.place (max a.place b.place) Doubled _ h (at_least a.place b.place)) ns
+past_clashes o n ns h =
+    past_all (clash n) o (λ m. past_one o n.place (max n.place m.place) Doubled (same_text n.text m.text) h (at_least n.place m.place)) ns
 
 pub past_variable : (o : Option Broken) (vars : List Name) (n : Name) → is_past o n.place ≡ true → o ≡ least o (as_variable vars n)
 past_variable o vars n h = past_one o n.place n.place Doubled (is_among vars n.text) h (omega arith)
@@ -28,7 +26,8 @@ flat_append f [] ys = refl
 flat_append f (x ∷ xs) ys = ap (λ l. f x ++ l) (flat_append f xs ys) ∙ sym (append_assoc (f x) (flat_map f xs) (flat_map f ys))
 
 -- one name has been compared with what is behind it
-pub doubled_turn : {A : Type 0} (g : A → Name) (xs rest : List A) (more others : List Name) (i : ℕ) (x : A) (o o1 o2 o3 whole : Option Broken)
+pub doubled_turn : {A : Type 0} (g : A → Name) (xs rest : List A) (more others : List Name) (i : ℕ) (x : A)
+    (o o1 o2 o3 whole : Option Broken)
     → i < length xs → x ≡ get_or xs i x → rest ≡ drop (i + 1) xs
     → o1 ≡ least o (clashes (g x) (map g rest)) → o2 ≡ least o1 (clashes (g x) more) → o3 ≡ least o2 (clashes (g x) others)
     → least o (doubled_before (map g (drop i xs)) (more ++ others)) ≡ whole
@@ -39,29 +38,20 @@ doubled_turn g xs rest more others i x o o1 o2 o3 whole h k r s t u w =
     let last = doubled_before a (more ++ others) in
     let all : clashes n (a ++ (more ++ others)) ≡ clashes n a ++ (clashes n more ++ clashes n others) =
     flat_append _ a (more ++ others) ∙ ap (λ l. clashes n a ++ l) (flat_append _ more others) in
-    ap (λ p. least p last) (u ∙ ap (λ p. least p (clashes n others)) (t ∙ ap (λ p. least p (clashes n more)) (s ∙ ap (λ l. least o (clashes n (map g l))) r)))
-    ∙ ap (λ p. least p last) (sym (least_append (least o (clashes n a)) (clashes n more) (clashes n others)) ∙ sym (least_append o (clashes n a) (clashes n more ++ clashes n others)) ∙ ap (least o) (sym all))
+    ap (λ p. least p last) (u ∙ ap (λ p. least p (clashes n others))
+    (t ∙ ap (λ p. least p (clashes n more)) (s ∙ ap (λ l. least o (clashes n (map g l))) r)))
+    ∙ ap (λ p. least p last) (sym (least_append (least o (clashes n a)) (clashes n more) (clashes n others))
+    ∙ sym (least_append o (clashes n a) (clashes n more ++ clashes n others)) ∙ ap (least o) (sym all))
     ∙ sym (least_append o (clashes n (a ++ (more ++ others))) last)
     ∙ sym (ap (λ l. least o (doubled_before (map g l) (more ++ others))) (drop_item xs i x h k))
-    ∙ w
-
-pub numbers_turn : {A : Type 0} (g : A → Number) (xs rest : List A) (i : ℕ) (x : A) (o o' whole : Option Broken)
-    → i < length xs → x ≡ get_or xs i x → rest ≡ drop (i + 1) xs
-    → o' ≡ least o (numbers_before (g x) (map g rest))
-    → least o (doubled_numbers (map g (drop i xs))) ≡ whole
-    → least o' (doubled_numbers (map g (drop (i + 1) xs))) ≡ whole
-numbers_turn g xs rest i x o o' whole h k r s w =
-    let last = doubled_numbers (map g (drop (i + 1) xs)) in
-    ap (λ p. least p last) (s ∙ ap (λ l. least o (numbers_before (g x) (map g l))) r)
-    ∙ sym (least_append o (numbers_before (g x) (map g (drop (i + 1) xs))) last)
-    ∙ sym (ap (λ l. least o (doubled_numbers (map g l))) (drop_item xs i x h k))
     ∙ w
 
 -- ---- the names of several lists
 pub doubled_append : (ns ms : List Name) → doubled (ns ++ ms) ≡ doubled_before ns ms ++ doubled ms
 doubled_append [] ms = refl
 doubled_append (n ∷ ns) ms =
-    ap (λ l. clashes n (ns ++ ms) ++ l) (doubled_append ns ms) ∙ sym (append_assoc (clashes n (ns ++ ms)) (doubled_before ns ms) (doubled ms))
+    ap (λ l. clashes n (ns ++ ms) ++ l) (doubled_append ns ms)
+    ∙ sym (append_assoc (clashes n (ns ++ ms)) (doubled_before ns ms) (doubled ms))
 
 pub append_nothing : {A : Type 0} (xs : List A) → xs ++ [] ≡ xs
 append_nothing [] = refl
@@ -70,7 +60,8 @@ append_nothing (x ∷ xs) = ap (λ l. x ∷ l) (append_nothing xs)
 pub doubled_alone : (ns : List Name) → doubled ns ≡ doubled_before ns []
 doubled_alone ns = ap doubled (sym (append_nothing ns)) ∙ doubled_append ns [] ∙ append_nothing (doubled_before ns [])
 
-pub least_two : (o : Option Broken) (ns ms : List Name) → least (least o (doubled_before ns (ms ++ []))) (doubled_before ms ([] ++ [])) ≡ least o (doubled (ns ++ ms))
+pub least_two : (o : Option Broken) (ns ms : List Name)
+    → least (least o (doubled_before ns (ms ++ []))) (doubled_before ms ([] ++ [])) ≡ least o (doubled (ns ++ ms))
 least_two o ns ms =
     ap (λ l. least (least o (doubled_before ns l)) (doubled_before ms [])) (append_nothing ms)
     ∙ sym (least_append o (doubled_before ns ms) (doubled_before ms []))
@@ -78,7 +69,8 @@ least_two o ns ms =
     ∙ ap (least o) (sym (doubled_append ns ms))
 
 pub least_three : (o : Option Broken) (ns ms ks : List Name)
-    → least (least (least o (doubled_before ns (ms ++ ks))) (doubled_before ms (ks ++ []))) (doubled_before ks ([] ++ [])) ≡ least o (doubled (ns ++ ms ++ ks))
+    → least (least (least o (doubled_before ns (ms ++ ks))) (doubled_before ms (ks ++ []))) (doubled_before ks ([] ++ []))
+    ≡ least o (doubled (ns ++ ms ++ ks))
 least_three o ns ms ks =
     least_two (least o (doubled_before ns (ms ++ ks))) ms ks
     ∙ sym (least_append o (doubled_before ns (ms ++ ks)) (doubled (ms ++ ks)))
@@ -96,7 +88,8 @@ behind xs j = whole (drop j xs) (length xs - j) (sym (length-drop j xs))
     whole (y ∷ ys) (suc n) h = ap (λ l. y ∷ l) (whole ys n (omega (arith, h)))
 
 pub three_told : (o o1 o2 o3 : Option Broken) (ns ms ks : List Name)
-    → o1 ≡ least o (doubled_before ns (ms ++ ks)) → o2 ≡ least o1 (doubled_before ms (ks ++ [])) → o3 ≡ least o2 (doubled_before ks ([] ++ []))
+    → o1 ≡ least o (doubled_before ns (ms ++ ks)) → o2 ≡ least o1 (doubled_before ms (ks ++ []))
+    → o3 ≡ least o2 (doubled_before ks ([] ++ []))
     → o3 ≡ least o (doubled (ns ++ ms ++ ks))
 three_told o o1 o2 o3 ns ms ks s t u =
     u ∙ ap (λ p. least p (doubled_before ks ([] ++ []))) (t ∙ ap (λ p. least p (doubled_before ms (ks ++ []))) s) ∙ least_three o ns ms ks

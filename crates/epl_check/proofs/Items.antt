@@ -14,7 +14,9 @@ use Rattle.epl_syntax.specs.declared.rule.Broken.{Broken}
 use Rattle.epl_syntax.specs.declared.rule.Rule.TheVariants.{UnknownName, KindDiffers}
 use Rattle.epl_syntax.specs.Rules.First.{least, broken_if}
 use Rattle.epl_syntax.specs.Rules.Scopes.{doubled, as_variable, as_variables, is_among}
-use Rattle.epl_syntax.specs.Rules.InItems.{names_of_vars, names_of_params, names_of_locals, names_of_changes, names_of_operations, names_of_processes, broken_names, broken_head, broken_durable, outside, too_many, places_of}
+use Rattle.epl_syntax.specs.Rules.InItems.{names_of_vars, names_of_params, names_of_locals, names_of_changes}
+use Rattle.epl_syntax.specs.Rules.InItems.{names_of_operations, names_of_processes, broken_names, broken_head}
+use Rattle.epl_syntax.specs.Rules.InItems.{broken_durable, outside, too_many, places_of}
 use Rattle.epl_syntax.specs.Rules.KindsOf.{same_shape}
 use Rattle.epl_syntax.specs.Rules.InExpressions.{misfit_known}
 use Rattle.epl_check.specs.View.{doubled_before, is_past}
@@ -59,9 +61,12 @@ names_alone vars params locals o o1 o2 o3 o4 s t u w =
     ∙ sym (least_append o d (as_variables vars (params ++ locals)))
 
 pub names_told : (vs : List VarDecl) (ps : List ParDecl) (ls : List LocalDecl) (o o1 o2 o3 o4 : Option Broken)
-    → o1 ≡ least o (doubled_before (map (λ p. p.name) ps) (map (λ v. v.name) ls ++ [])) → o2 ≡ least o1 (doubled_before (map (λ v. v.name) ls) ([] ++ []))
-    → o3 ≡ least o2 (as_variables (map (λ v. v.name) vs) (map (λ p. p.name) ps)) → o4 ≡ least o3 (as_variables (map (λ v. v.name) vs) (map (λ v. v.name) ls))
-    → o4 ≡ least o (broken_names (names_of_vars (map variable vs)) (names_of_params (map parameter ps) ++ names_of_locals (map local_of ls)))
+    → o1 ≡ least o (doubled_before (map (λ p. p.name) ps) (map (λ v. v.name) ls ++ []))
+    → o2 ≡ least o1 (doubled_before (map (λ v. v.name) ls) ([] ++ []))
+    → o3 ≡ least o2 (as_variables (map (λ v. v.name) vs) (map (λ p. p.name) ps))
+    → o4 ≡ least o3 (as_variables (map (λ v. v.name) vs) (map (λ v. v.name) ls))
+    → o4 ≡ least o (broken_names (names_of_vars (map variable vs))
+    (names_of_params (map parameter ps) ++ names_of_locals (map local_of ls)))
 names_told vs ps ls o o1 o2 o3 o4 s t u w =
     names_alone (map (λ v. v.name) vs) (map (λ p. p.name) ps) (map (λ v. v.name) ls) o o1 o2 o3 o4 s t u w
     ∙ ap (λ n. least o (broken_names n (map (λ p. p.name) ps ++ map (λ v. v.name) ls))) (vars_named vs)
@@ -83,7 +88,9 @@ head_told classes d o o1 o2 o3 o4 o5 s t u v w =
     let h = too_many 32 (places_of (names_of_locals (map local_of d.locals.items))) in
     let params : o3 ≡ least o2 e = u ∙ ap (λ n. least o2 (too_many 8 (places_of n))) (params_named d.params.items) in
     let locals : o5 ≡ least o4 h = w ∙ ap (λ n. least o4 (too_many 32 (places_of n))) (locals_named d.locals.items) in
-    locals ∙ ap (λ p. least p h) (v ∙ ap (λ p. least p f) (params ∙ ap (λ p. least p e) (t ∙ ap (λ p. least p b) s ∙ sym (least_append o a b)) ∙ sym (least_append o (a ++ b) e)) ∙ sym (least_append o (a ++ b ++ e) f))
+    locals ∙ ap (λ p. least p h) (v ∙ ap (λ p. least p f) (params
+    ∙ ap (λ p. least p e) (t ∙ ap (λ p. least p b) s ∙ sym (least_append o a b)) ∙ sym (least_append o (a ++ b) e))
+    ∙ sym (least_append o (a ++ b ++ e) f))
     ∙ sym (least_append o (a ++ b ++ e ++ f) h)
 
 pub map_same : (ns : List Name) → map (λ n. n) ns ≡ ns
@@ -99,7 +106,8 @@ unknown_past : (o : Option Broken) (wanted : Option Shape) (place : ℕ) → is_
 unknown_past o None place h = past_one o place place UnknownName true h (omega arith)
 unknown_past o (Some k) place h = refl
 
-misfit_past : (o : Option Broken) (wanted found : Option Shape) (place : ℕ) → is_past o place ≡ true → o ≡ least o (misfit_known wanted found place)
+misfit_past : (o : Option Broken) (wanted found : Option Shape) (place : ℕ) → is_past o place ≡ true
+    → o ≡ least o (misfit_known wanted found place)
 misfit_past o None found place h = refl
 misfit_past o (Some k) None place h = refl
 misfit_past o (Some k) (Some f) place h = past_one o place place KindDiffers (not (same_shape k f)) h (omega arith)

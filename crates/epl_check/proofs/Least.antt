@@ -1,5 +1,6 @@
 -- The first of broken rules.
-use Rattle.std.proofs.Common.{◌≡◌, ℕ, zero, suc, ◌<◌, ◌≤◌, Bool, true, false, cond, List, [], ◌∷◌, ◌++◌, Option, Some, None, refl, sym, ap, ◌∙◌, subst, arith}
+use Rattle.std.proofs.Common.{◌≡◌, ℕ, zero, suc, ◌<◌, ◌≤◌, Bool, true, false, cond, List, [], ◌∷◌, ◌++◌, Option, Some}
+use Rattle.std.proofs.Common.{None, refl, sym, ap, ◌∙◌, subst, arith}
 use Rattle.std.proofs.Common.{map, ◌+◌, length, drop, get_or}
 use Rattle.std.proofs.Common.{◌⊎◌, inl, inr}
 use Rattle.std.specs.Prelude.{nat_lt, ◌==◌, ◌||◌, ◌&&◌}
@@ -23,14 +24,17 @@ drop_item (y ∷ xs) (suc i) x h k =
     drop_item xs i x (omega arith) k ∙ ap (λ j. x ∷ drop j (y ∷ xs)) (sym n)
 
 -- one more of a list has been told
-pub turn : {A : Type 0} (f : A → List Broken) (xs : List A) (i : ℕ) (x : A) (o o' whole : Option Broken) → i < length xs → x ≡ get_or xs i x → o' ≡ least o (f x) → least o (flat_map f (drop i xs)) ≡ whole → least o' (flat_map f (drop (i + 1) xs)) ≡ whole
+pub turn : {A : Type 0} (f : A → List Broken) (xs : List A) (i : ℕ) (x : A) (o o' whole : Option Broken) → i < length xs → x ≡ get_or xs i x
+    → o' ≡ least o (f x) → least o (flat_map f (drop i xs)) ≡ whole → least o' (flat_map f (drop (i + 1) xs)) ≡ whole
 turn f xs i x o o' whole h k s w =
     ap (λ p. least p (flat_map f (drop (i + 1) xs))) s
     ∙ sym (least_append o (f x) (flat_map f (drop (i + 1) xs)))
     ∙ sym (ap (λ es. least o (flat_map f es)) (drop_item xs i x h k))
     ∙ w
 
-pub map_turn : {A B : Type 0} (f : B → List Broken) (g : A → B) (xs : List A) (i : ℕ) (x : A) (o o' whole : Option Broken) → i < length xs → x ≡ get_or xs i x → o' ≡ least o (f (g x)) → least o (flat_map f (map g (drop i xs))) ≡ whole → least o' (flat_map f (map g (drop (i + 1) xs))) ≡ whole
+pub map_turn : {A B : Type 0} (f : B → List Broken) (g : A → B) (xs : List A) (i : ℕ) (x : A) (o o' whole : Option Broken) → i < length xs
+    → x ≡ get_or xs i x → o' ≡ least o (f (g x)) → least o (flat_map f (map g (drop i xs))) ≡ whole
+    → least o' (flat_map f (map g (drop (i + 1) xs))) ≡ whole
 map_turn f g xs i x o o' whole h k s w =
     ap (λ p. least p (flat_map f (map g (drop (i + 1) xs)))) s
     ∙ sym (least_append o (f (g x)) (flat_map f (map g (drop (i + 1) xs))))
@@ -49,18 +53,21 @@ stays a c h = by_test (before c a) h
     by_test true e = absurd cc
     by_test false e = refl
 
-pub past_one : (o : Option Broken) (place q : ℕ) (rule : Rule) (t : Bool) → is_past o place ≡ true → place ≤ q → o ≡ least o (broken_if t rule q)
+pub past_one : (o : Option Broken) (place q : ℕ) (rule : Rule) (t : Bool) → is_past o place ≡ true → place ≤ q
+    → o ≡ least o (broken_if t rule q)
 past_one None place q rule t h k = absurd cc
 past_one (Some a) place q rule false h k = refl
 past_one (Some a) place q rule true h k =
     stays a (broken_at rule q) (not_lower_behind q (rank rule) a.place (rank a.rule) place h k)
 
-pub past_all : {A : Type 0} (f : A → List Broken) (o : Option Broken) → ((x : A) → o ≡ least o (f x)) → (xs : List A) → o ≡ least o (flat_map f xs)
+pub past_all : {A : Type 0} (f : A → List Broken) (o : Option Broken) → ((x : A) → o ≡ least o (f x)) → (xs : List A)
+    → o ≡ least o (flat_map f xs)
 past_all f o h [] = refl
 past_all f o h (x ∷ xs) = past_all f o h xs ∙ ap (λ p. least p (flat_map f xs)) (h x) ∙ sym (least_append o (f x) (flat_map f xs))
 
 -- what is told earlier stays past a place
-sooner_past : (a b : Broken) (place : ℕ) (t : Bool) → before b a ≡ t → nat_lt a.place place ≡ true → is_past (cond t (Some b) (Some a)) place ≡ true
+sooner_past : (a b : Broken) (place : ℕ) (t : Bool) → before b a ≡ t → nat_lt a.place place ≡ true
+    → is_past (cond t (Some b) (Some a)) place ≡ true
 sooner_past a b place false h k = k
 sooner_past a b place true h k = lower_past_place b.place (rank b.rule) a.place (rank a.rule) place h k
   where
@@ -74,7 +81,8 @@ still_past (Some a) (b ∷ bs) place h = still_past (sooner (Some a) b) bs place
 
 -- ## It is the first
 
-kept_by : (c a : Broken) (bs : List Broken) (t : Bool) → (b : Broken) × (least (Some c) bs ≡ Some b) → (b : Broken) × (least (Some a) bs ≡ Some b) → (b : Broken) × (least (cond t (Some c) (Some a)) bs ≡ Some b)
+kept_by : (c a : Broken) (bs : List Broken) (t : Bool) → (b : Broken) × (least (Some c) bs ≡ Some b) → (b : Broken)
+    × (least (Some a) bs ≡ Some b) → (b : Broken) × (least (cond t (Some c) (Some a)) bs ≡ Some b)
 kept_by c a bs true h k = h
 kept_by c a bs false h k = k
 
@@ -111,13 +119,22 @@ in_rest a b c bs (inr i) = inr (inr i)
 
 keep : (a b c : Broken) (bs : List Broken) → Result_ a b bs → before c a ≡ false → Result_ a b (c ∷ bs)
 keep a b c bs r e =
-    record { member = in_rest a b c bs r.member; not_a = r.not_a; rest = (not_lower c.place (rank c.rule) a.place (rank a.rule) b.place (rank b.rule) e r.not_a, r.rest) }
+    record {
+      member = in_rest a b c bs r.member;
+      not_a = r.not_a;
+      rest = (not_lower c.place (rank c.rule) a.place (rank a.rule) b.place (rank b.rule) e r.not_a, r.rest);
+    }
 
 change : (a b c : Broken) (bs : List Broken) → Result_ c b bs → before c a ≡ true → Result_ a b (c ∷ bs)
 change a b c bs r e =
-    record { member = inr r.member; not_a = lower_past c.place (rank c.rule) a.place (rank a.rule) b.place (rank b.rule) e r.not_a; rest = (r.not_a, r.rest) }
+    record {
+      member = inr r.member;
+      not_a = lower_past c.place (rank c.rule) a.place (rank a.rule) b.place (rank b.rule) e r.not_a;
+      rest = (r.not_a, r.rest);
+    }
 
-first_by : (a b c : Broken) (bs : List Broken) (t : Bool) → before c a ≡ t → ((x : Broken) → least (Some x) bs ≡ Some b → Result_ x b bs) → least (cond t (Some c) (Some a)) bs ≡ Some b → Result_ a b (c ∷ bs)
+first_by : (a b c : Broken) (bs : List Broken) (t : Bool) → before c a ≡ t → ((x : Broken) → least (Some x) bs ≡ Some b → Result_ x b bs)
+    → least (cond t (Some c) (Some a)) bs ≡ Some b → Result_ a b (c ∷ bs)
 first_by a b c bs true e again h = change a b c bs (again c h) e
 first_by a b c bs false e again h = keep a b c bs (again a h) e
 

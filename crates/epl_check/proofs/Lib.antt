@@ -1,5 +1,6 @@
 pub mod ArgumentTests
 pub mod Doubled
+pub mod DoubledNumbers
 pub mod Items
 pub mod Least
 pub mod Named

@@ -1,5 +1,6 @@
 -- What is found by a name.
-use Rattle.std.proofs.Common.{◌≡◌, ℕ, zero, suc, ◌+◌, ◌-◌, ◌<◌, ◌≤◌, Bool, true, false, cond, List, [], ◌∷◌, map, length, drop, get_or, Option, Some, None, refl, ap, sym, ◌∙◌, arith}
+use Rattle.std.proofs.Common.{◌≡◌, ℕ, zero, suc, ◌+◌, ◌-◌, ◌<◌, ◌≤◌, Bool, true, false, cond, List, [], ◌∷◌, map}
+use Rattle.std.proofs.Common.{length, drop, get_or, Option, Some, None, refl, ap, sym, ◌∙◌, arith}
 use Rattle.std.specs.Prelude.{slice_get, is_some, ◌||◌, Vec}
 use Rattle.std.specs.Borrow.{Bor}
 use Rattle.std.specs.declared.cmp.Ordering.{Ordering}
@@ -36,23 +37,28 @@ abbrev pub seen_var : VarDecl → Seen
 seen_var v = record { kind = shape v.kind.kind; monitor = v.monitor }
 
 -- a choice made before or behind a function
-chosen : {A B : Type 0} (f : A → B) (b : Bool) (x : A) (o : Option A) (p : Option B) → p ≡ option_map f o → cond b (Some (f x)) p ≡ option_map f (cond b (Some x) o)
+chosen : {A B : Type 0} (f : A → B) (b : Bool) (x : A) (o : Option A) (p : Option B) → p ≡ option_map f o
+    → cond b (Some (f x)) p ≡ option_map f (cond b (Some x) o)
 chosen f true x o p h = refl
 chosen f false x o p h = h
 
-pub param_first : (ps : List ParDecl) (text : List ℕ) → param_named (map parameter ps) text ≡ option_map seen_par (first_named (λ p. p.name) ps text)
+pub param_first : (ps : List ParDecl) (text : List ℕ) → param_named (map parameter ps) text
+    ≡ option_map seen_par (first_named (λ p. p.name) ps text)
 param_first [] text = refl
 param_first (p ∷ ps) text = chosen seen_par (same_text p.name.text text) p _ _ (param_first ps text)
 
-pub local_first : (vs : List LocalDecl) (text : List ℕ) → local_named (map local_of vs) text ≡ option_map seen_local (first_named (λ v. v.name) vs text)
+pub local_first : (vs : List LocalDecl) (text : List ℕ)
+    → local_named (map local_of vs) text ≡ option_map seen_local (first_named (λ v. v.name) vs text)
 local_first [] text = refl
 local_first (v ∷ vs) text = chosen seen_local (same_text v.name.text text) v _ _ (local_first vs text)
 
-pub var_first : (vs : List VarDecl) (text : List ℕ) → var_named (map variable vs) text ≡ option_map seen_var (first_named (λ v. v.name) vs text)
+pub var_first : (vs : List VarDecl) (text : List ℕ) → var_named (map variable vs) text
+    ≡ option_map seen_var (first_named (λ v. v.name) vs text)
 var_first [] text = refl
 var_first (v ∷ vs) text = chosen seen_var (same_text v.name.text text) v _ _ (var_first vs text)
 
-pub condition_first : (cs : List CondDecl) (text : List ℕ) → monitor_of_condition cs text ≡ option_map (λ c. c.monitor) (first_named (λ c. c.name) cs text)
+pub condition_first : (cs : List CondDecl) (text : List ℕ)
+    → monitor_of_condition cs text ≡ option_map (λ c. c.monitor) (first_named (λ c. c.name) cs text)
 condition_first [] text = refl
 condition_first (c ∷ cs) text = chosen (λ (c : CondDecl). c.monitor) (same_text c.name.text text) c _ _ (condition_first cs text)
 
@@ -80,7 +86,8 @@ found_there v w rest true = refl
 found_there v w rest false = refl
 
 -- what is found where a value comes behind an entry of a lesser text
-found_behind : (k a text : List ℕ) (v w : ℕ) (rest : Option ℕ) (t u : Bool) → same_text text a ≡ t → same_text text k ≡ u → slice_cmp nat_cmp k a ≡ Greater
+found_behind : (k a text : List ℕ) (v w : ℕ) (rest : Option ℕ) (t u : Bool) → same_text text a ≡ t → same_text text k ≡ u
+    → slice_cmp nat_cmp k a ≡ Greater
     → cond t (Some w) (cond u (Some v) rest) ≡ cond u (Some v) (cond t (Some w) rest)
 found_behind k a text v w rest false u p q h = refl
 found_behind k a text v w rest true false p q h = refl
@@ -95,9 +102,11 @@ in_entries text es = lookup (is_at (λ (q : Vec ℕ Global). slice_cmp nat_cmp t
 abbrev with_entry : List (Vec ℕ Global × ℕ) → Vec ℕ Global → ℕ → List (Vec ℕ Global × ℕ)
 with_entry es k v = insert_entry (λ (a b : Vec ℕ Global). slice_cmp nat_cmp a.items b.items) es k v
 
-at_insert_by : (e : Vec ℕ Global × ℕ) (es : List (Vec ℕ Global × ℕ)) (k : Vec ℕ Global) (v : ℕ) (text : List ℕ) (o : Ordering) → slice_cmp nat_cmp k.items e.0.items ≡ o
+at_insert_by : (e : Vec ℕ Global × ℕ) (es : List (Vec ℕ Global × ℕ)) (k : Vec ℕ Global) (v : ℕ) (text : List ℕ) (o : Ordering)
+    → slice_cmp nat_cmp k.items e.0.items ≡ o
     → in_entries text (with_entry es k v) ≡ cond (same_text text k.items) (Some v) (in_entries text es)
-    → in_entries text (match_ordering o ((k, v) ∷ e ∷ es) ((e.0, v) ∷ es) (e ∷ with_entry es k v)) ≡ cond (same_text text k.items) (Some v) (in_entries text (e ∷ es))
+    → in_entries text (match_ordering o ((k, v) ∷ e ∷ es) ((e.0, v) ∷ es) (e ∷ with_entry es k v))
+    ≡ cond (same_text text k.items) (Some v) (in_entries text (e ∷ es))
 at_insert_by e es k v text Less c h = refl
 at_insert_by e es k v text Equal c h =
     found_there v e.1 (in_entries text es) (same_text text e.0.items)
@@ -151,7 +160,8 @@ none_by : {A : Type 0} (g : A → Name) (x : A) (xs : List A) (text : List ℕ) 
 none_by g x xs text b true again k = absurd cc
 none_by g x xs text b false again k = again k
 
-pub none_at : {A : Type 0} (g : A → Name) (xs : List A) (text : List ℕ) (b : ℕ) → number_in (map g xs) text b ≡ None → None ≡ first_named g xs text
+pub none_at : {A : Type 0} (g : A → Name) (xs : List A) (text : List ℕ) (b : ℕ) → number_in (map g xs) text b ≡ None
+    → None ≡ first_named g xs text
 none_at g [] text b h = refl
 none_at g (x ∷ xs) text b h = none_by g x xs text b (same_text (g x).text text) (λ k. none_at g xs text (b + 1) k) h
 

@@ -1,7 +1,9 @@
 -- The turns of loops over the rows of a tree.
-use Rattle.std.proofs.Common.{◌≡◌, ℕ, zero, suc, ◌+◌, ◌<◌, ◌≤◌, Bool, true, refl, ap, sym, ◌∙◌, List, [], ◌∷◌, ◌++◌, map, length, take, drop, get_or, Option, Some, None, arith}
+use Rattle.std.proofs.Common.{◌≡◌, ℕ, zero, suc, ◌+◌, ◌<◌, ◌≤◌, Bool, true, refl, ap, sym, ◌∙◌, List, [], ◌∷◌, ◌++◌}
+use Rattle.std.proofs.Common.{map, length, take, drop, get_or, Option, Some, None, arith}
 use Rattle.eden_value.specs.Shape.{Shape}
-use Rattle.epl_syntax.specs.Tree.{PlacedShape, written, Expression, Expressions, expression_and, expression, expressions, statement, statements}
+use Rattle.epl_syntax.specs.Tree.{PlacedShape, written, Expression, Expressions, expression_and, expression}
+use Rattle.epl_syntax.specs.Tree.{expressions, statement, statements}
 use Rattle.epl_syntax.specs.declared.tree.Expr.{Expr}
 use Rattle.epl_syntax.specs.declared.tree.Stmt.{Stmt}
 use Rattle.epl_syntax.specs.declared.rule.Broken.{Broken}
@@ -32,7 +34,8 @@ first_turn sc (x ∷ es) (suc i) e first this h k l m =
     let n : suc i + 1 ≡ suc (i + 1) = omega arith in
     l ∙ ap (λ j. kind_of_first sc (expressions (take j (x ∷ es)))) (sym n)
 
-pub first_whole : (sc : Scope) (es : List Expr) (i : ℕ) → i < length es → kind_of_first sc (expressions (take (i + 1) es)) ≡ kind_of_first sc (expressions es)
+pub first_whole : (sc : Scope) (es : List Expr) (i : ℕ) → i < length es
+    → kind_of_first sc (expressions (take (i + 1) es)) ≡ kind_of_first sc (expressions es)
 first_whole sc [] i h = absurd (omega arith)
 first_whole sc (x ∷ es) i h =
     let n : i + 1 ≡ suc i = omega arith in
@@ -85,13 +88,15 @@ one_argument : (sc : Scope) (held : Option ℕ) (ts : List (Shape → Bool)) (x 
     ≡ broken_expression sc held x ++ failing (passes_at ts 0) (kind_of sc x) (place_of x) ++ broken_arguments sc held (drop 1 ts) xs
 one_argument sc held (t ∷ ts) x xs = refl
 one_argument sc held [] x xs =
-    sym (ap (λ l. l ++ broken_arguments sc held [] xs) (ap (λ l. broken_expression sc held x ++ l) (any_fits (kind_of sc x) (place_of x)) ∙ append_nothing (broken_expression sc held x)))
+    sym (ap (λ l. l ++ broken_arguments sc held [] xs) (ap (λ l. broken_expression sc held x ++ l) (any_fits (kind_of sc x) (place_of x))
+    ∙ append_nothing (broken_expression sc held x)))
 
 same_failing : (f g : Shape → Bool) (k : Option Shape) (place : ℕ) → ((s : Shape) → f s ≡ g s) → failing f k place ≡ failing g k place
 same_failing f g None place h = refl
 same_failing f g (Some s) place h = ap (λ b. failing (λ t. b) (Some s) place) (h s)
 
-pub arguments_turn : (sc : Scope) (held : Option ℕ) (es : List Expr) (i : ℕ) (e : Expr) (ts : List (Shape → Bool)) (o o1 o2 whole : Option Broken)
+pub arguments_turn : (sc : Scope) (held : Option ℕ) (es : List Expr) (i : ℕ) (e : Expr) (ts : List (Shape → Bool))
+    (o o1 o2 whole : Option Broken)
     → i < length es → e ≡ get_or es i e
     → o1 ≡ least o (broken_expression sc held (expression e))
     → o2 ≡ least o1 (failing (passes_at ts i) (kind_of sc (expression e)) (place_of (expression e)))
@@ -102,7 +107,8 @@ arguments_turn sc held es i e ts o o1 o2 whole h k told fits w =
     let rest = broken_arguments sc held (drop (i + 1) ts) (expressions (drop (i + 1) es)) in
     let a = broken_expression sc held x in
     let b = failing (passes_at (drop i ts) 0) (kind_of sc x) (place_of x) in
-    let same : failing (passes_at ts i) (kind_of sc x) (place_of x) ≡ b = sym (same_failing (passes_at (drop i ts) 0) (passes_at ts i) (kind_of sc x) (place_of x) (this_test ts i)) in
+    let same : failing (passes_at ts i) (kind_of sc x) (place_of x) ≡ b =
+    sym (same_failing (passes_at (drop i ts) 0) (passes_at ts i) (kind_of sc x) (place_of x) (this_test ts i)) in
     ap (λ p. least p rest) (fits ∙ ap (λ l. least o1 l) same ∙ ap (λ p. least p b) told ∙ sym (least_append o a b))
     ∙ sym (least_append o (a ++ b) rest)
     ∙ ap (λ l. least o (a ++ b ++ broken_arguments sc held l (expressions (drop (i + 1) es)))) (sym (next_test ts i))
@@ -111,36 +117,43 @@ arguments_turn sc held es i e ts o o1 o2 whole h k told fits w =
     ∙ w
 
 -- ---- whole loops, from what each step tells
-pub items_step : (sc : Scope) (held : Option ℕ) (es : List Expr) (i : ℕ) (e : Expr) (first this now : Option Shape) (o o1 o2 whole : Option Broken)
+pub items_step : (sc : Scope) (held : Option ℕ) (es : List Expr) (i : ℕ) (e : Expr) (first this now : Option Shape)
+    (o o1 o2 whole : Option Broken)
     → i < length es → e ≡ get_or es i e
     → first ≡ kind_of_first sc (expressions (take i es)) → this ≡ kind_of sc (expression e) → now ≡ first_of i first this
     → o1 ≡ least o (broken_expression sc held (expression e))
     → o2 ≡ least o1 (misfit_known now this (place_of (expression e)))
     → least o (broken_items sc held (kind_of_first sc (expressions es)) (expressions (drop i es))) ≡ whole
-    → (now ≡ kind_of_first sc (expressions (take (i + 1) es))) × (least o2 (broken_items sc held (kind_of_first sc (expressions es)) (expressions (drop (i + 1) es))) ≡ whole)
+    → (now ≡ kind_of_first sc (expressions (take (i + 1) es)))
+    × (least o2 (broken_items sc held (kind_of_first sc (expressions es)) (expressions (drop (i + 1) es))) ≡ whole)
 items_step sc held es i e first this now o o1 o2 whole h k f t n told fits w =
     let kind = n ∙ first_turn sc es i e first this h k f t in
     let x = expression e in
     let wanted = kind ∙ first_whole sc es i h in (
       kind,
       items_turn sc held es i e (kind_of_first sc (expressions es)) o o1 o2 whole h k told
-          (fits ∙ ap (λ a. least o1 (misfit_known a this (place_of x))) wanted ∙ ap (λ a. least o1 (misfit_known (kind_of_first sc (expressions es)) a (place_of x))) t) w,
+          (fits ∙ ap (λ a. least o1 (misfit_known a this (place_of x))) wanted
+          ∙ ap (λ a. least o1 (misfit_known (kind_of_first sc (expressions es)) a (place_of x))) t) w,
     )
 
-pub arguments_step : (sc : Scope) (held : Option ℕ) (es : List Expr) (i : ℕ) (e : Expr) (tests : Option Shape → List (Shape → Bool)) (first this now : Option Shape) (o o1 o2 whole : Option Broken)
+pub arguments_step : (sc : Scope) (held : Option ℕ) (es : List Expr) (i : ℕ) (e : Expr) (tests : Option Shape → List (Shape → Bool))
+    (first this now : Option Shape) (o o1 o2 whole : Option Broken)
     → i < length es → e ≡ get_or es i e
     → first ≡ kind_of_first sc (expressions (take i es)) → this ≡ kind_of sc (expression e) → now ≡ first_of i first this
     → o1 ≡ least o (broken_expression sc held (expression e))
     → o2 ≡ least o1 (failing (passes_at (tests now) i) this (place_of (expression e)))
     → least o (broken_arguments sc held (drop i (tests (kind_of_first sc (expressions es)))) (expressions (drop i es))) ≡ whole
-    → (now ≡ kind_of_first sc (expressions (take (i + 1) es))) × (least o2 (broken_arguments sc held (drop (i + 1) (tests (kind_of_first sc (expressions es)))) (expressions (drop (i + 1) es))) ≡ whole)
+    → (now ≡ kind_of_first sc (expressions (take (i + 1) es)))
+    × (least o2 (broken_arguments sc held (drop (i + 1) (tests (kind_of_first sc (expressions es)))) (expressions (drop (i + 1) es)))
+    ≡ whole)
 arguments_step sc held es i e tests first this now o o1 o2 whole h k f t n told fits w =
     let kind = n ∙ first_turn sc es i e first this h k f t in
     let x = expression e in
     let wanted = kind ∙ first_whole sc es i h in (
       kind,
       arguments_turn sc held es i e (tests (kind_of_first sc (expressions es))) o o1 o2 whole h k told
-          (fits ∙ ap (λ a. least o1 (failing (passes_at (tests a) i) this (place_of x))) wanted ∙ ap (λ a. least o1 (failing (passes_at (tests (kind_of_first sc (expressions es))) i) a (place_of x))) t) w,
+          (fits ∙ ap (λ a. least o1 (failing (passes_at (tests a) i) this (place_of x))) wanted
+          ∙ ap (λ a. least o1 (failing (passes_at (tests (kind_of_first sc (expressions es))) i) a (place_of x))) t) w,
     )
 
 -- ---- turns of loops over statements and values
@@ -169,12 +182,14 @@ get_past [] i h = refl
 get_past (w ∷ ws) zero h = absurd (omega arith)
 get_past (w ∷ ws) (suc i) h = get_past ws i (omega arith)
 
-get_there : (ws : List WrittenKind) (i : ℕ) (w : WrittenKind) → i < length ws → w ≡ get_or ws i w → Some (written w) ≡ slice_get (map written ws) i
+get_there : (ws : List WrittenKind) (i : ℕ) (w : WrittenKind) → i < length ws → w ≡ get_or ws i w
+    → Some (written w) ≡ slice_get (map written ws) i
 get_there [] i w h k = absurd (omega arith)
 get_there (x ∷ ws) zero w h k = ap (λ y. Some (written y)) k
 get_there (x ∷ ws) (suc i) w h k = get_there ws i w (omega arith) k
 
-pub kind_at : (ws : List WrittenKind) (i : ℕ) (r : Option (Bor WrittenKind)) → IsItemAt ws i r → kind_wanted r ≡ slice_get (map written ws) i
+pub kind_at : (ws : List WrittenKind) (i : ℕ) (r : Option (Bor WrittenKind)) → IsItemAt ws i r
+    → kind_wanted r ≡ slice_get (map written ws) i
 kind_at ws i None h = get_past ws i h.3
 kind_at ws i (Some k) h = get_there ws i k.now h.3.0 (h.3.1 k.now)
 
@@ -199,7 +214,8 @@ next_kinds (w ∷ ws) (suc i) =
     let n : suc i + 1 ≡ suc (i + 1) = omega arith in
     next_kinds ws i ∙ ap (λ j. map written (drop j (w ∷ ws))) (sym n)
 
-pub values_turn : (sc : Scope) (held : Option ℕ) (ws : List WrittenKind) (es : List Expr) (i : ℕ) (e : Expr) (k : Option PlacedShape) (o o' whole : Option Broken)
+pub values_turn : (sc : Scope) (held : Option ℕ) (ws : List WrittenKind) (es : List Expr) (i : ℕ) (e : Expr) (k : Option PlacedShape)
+    (o o' whole : Option Broken)
     → i < length es → e ≡ get_or es i e → k ≡ slice_get (map written ws) i
     → o' ≡ least o (broken_value sc held k (expression e))
     → least o (broken_values sc held (map written (drop i ws)) (map expression (drop i es))) ≡ whole

@@ -1,11 +1,15 @@
--- Names that are found in an index.
-use Rattle.std.specs.Prelude.{◌≡◌, ℕ, Vec, List, [], ◌∷◌, map, Option, Some, None, if◌then◌else◌}
+-- Names that are found in an index, and numbers.
+use Rattle.std.specs.Prelude.{◌≡◌, ◌==◌, ℕ, max, min, Vec, List, [], ◌∷◌, Option, Some, None, if◌then◌else◌}
 use Rattle.std.specs.declared.alloc.Global.{Global}
 use Rattle.std.specs.Ordering.{nat_cmp}
 use Rattle.std.specs.Cmp.Lexicographic.{slice_cmp}
-use Rattle.std.specs.BTreeMap.{BTreeMap, get_by}
+use Rattle.std.specs.BTreeMap.{BTreeMap, get, get_by}
 use Rattle.eden_model.specs.Map.{same_text}
 use Rattle.epl_syntax.specs.declared.tree.Name.{Name}
+use Rattle.epl_syntax.specs.declared.tree.Number.{Number}
+use Rattle.epl_syntax.specs.declared.rule.Broken.{Broken}
+use Rattle.epl_syntax.specs.declared.rule.Rule.TheVariants.{Doubled}
+use Rattle.epl_syntax.specs.Rules.First.{broken_at}
 use Rattle.epl_syntax.specs.Rules.Scopes.{number_in}
 
 -- what an index of texts has at one
@@ -20,3 +24,24 @@ IsIndex m names = (text : List ℕ) → at m text ≡ number_in names text 0
 abbrev pub first_named : {A : Type 0} → (A → Name) → List A → List ℕ → Option A
 first_named named [] text = None
 first_named named (x ∷ xs) text = if same_text (named x).text text then Some x else first_named named xs text
+
+-- ---- numbers
+
+-- the lesser of a place and another, if there is another
+abbrev pub least_with : ℕ → Option ℕ → ℕ
+least_with place None = place
+least_with place (Some other) = min place other
+
+-- the least place at which a number stands in a list
+abbrev pub least_place : List Number → ℕ → Option ℕ
+least_place [] n = None
+least_place (a ∷ ns) n = if n == a.n then Some (least_with a.place (least_place ns n)) else least_place ns n
+
+-- an index gives the least place of each number in a list, and for other numbers none
+abbrev pub HasPlaces : BTreeMap ℕ ℕ → List Number → Type 0
+HasPlaces m ns = (n : ℕ) → get nat_cmp m n ≡ least_place ns n
+
+-- what a number breaks that stands at another place, too: the later of both breaks the rule
+abbrev pub told_among : Number → Option ℕ → List Broken
+told_among a None = []
+told_among a (Some place) = broken_at Doubled (max a.place place) ∷ []

@@ -10,10 +10,8 @@ use Rattle.epl_check.specs.declared.scope.Scope.{Scope as Sight}
 use Rattle.epl_check.specs.declared.scope.Variable.{Variable}
 use Rattle.epl_syntax.specs.Tree.{Expression}
 use Rattle.epl_syntax.specs.declared.rule.Broken.{Broken}
-use Rattle.std.specs.List.{flat_map}
 use Rattle.epl_syntax.specs.declared.tree.Name.{Name}
-use Rattle.epl_syntax.specs.declared.tree.Number.{Number}
-use Rattle.epl_syntax.specs.Rules.Scopes.{Scope, Seen, clashes, same_number}
+use Rattle.epl_syntax.specs.Rules.Scopes.{Scope, Seen, clashes}
 use Rattle.epl_syntax.specs.Rules.InExpressions.{broken_expression}
 use Rattle.epl_syntax.specs.Rules.InStatements.{broken_as}
 
@@ -81,9 +79,6 @@ is_past (Some b) place = nat_lt b.place place
 abbrev pub doubled_before : List Name → List Name → List Broken
 doubled_before [] rest = []
 doubled_before (n ∷ ns) rest = clashes n (ns ++ rest) ++ doubled_before ns rest
-
-abbrev pub numbers_before : Number → List Number → List Broken
-numbers_before a ns = flat_map (same_number a) ns
 
 -- the kind that is written, if one is
 abbrev pub kind_found : Option (Bor WrittenKind) → Option Shape

@@ -6,14 +6,20 @@ use std::test::Fail;
 
 /// Before a body stand these declarations, in an operation that returns one integer.
 const FRAME: &[u8] =
-    b"edentype A durable n : int = 0 durable b : bool = false durable t : text = \"\" durable c : cap = none durable l : list of int = list(int) class all limit 1 monitor M working m : int = 0 working g : cap = none condition ready end monitor N working k : int = 0 condition done end operation O needs 1 class all (p : int) returns (int) var s : int = 0 var q : bool = true ";
+    b"edentype A durable n : int = 0 durable b : bool = false durable t : text = \"\" \
+        durable c : cap = none durable l : list of int = list(int) class all limit 1 \
+        monitor M working m : int = 0 working g : cap = none condition ready end \
+        monitor N working k : int = 0 condition done end \
+        operation O needs 1 class all (p : int) returns (int) var s : int = 0 var q : bool = true ";
 
 const FRAME_END: &[u8] = b" end endtype";
 
 const KEPT: [&[u8]; 9] = [
     b"",
     b"return (1)",
-    b"n := p + s * 2 - n / 3 mod 4 s := -n b := not b and n < 1 or n = 1 or t <> \"a\" t := t & \"b\" & str(n) l := l & [1, n] & put(l, 0, n) & cut(l, 1) c := restrict(c, 1) c := self c := none n := size(l) + size(t) + l[n] t := part(t, 0, n) q := c = self",
+    b"n := p + s * 2 - n / 3 mod 4 s := -n b := not b and n < 1 or n = 1 or t <> \"a\" \
+        t := t & \"b\" & str(n) l := l & [1, n] & put(l, 0, n) & cut(l, 1) c := restrict(c, 1) c := self \
+        c := none n := size(l) + size(t) + l[n] t := part(t, 0, n) q := c = self",
     b"b := n <= 1 and n > 2 and n >= 3 if b then n := 1 else while n > 0 do n := n - 1 end end checkpoint s destroy s yield deactivate",
     b"create Cell status s gives (c) create A status n gives (c) create Old status p gives (c) create Older status s gives (c)",
     b"invoke c.Any(1, true, [c], list(text)) status s gives (n, b, t, c, l) invoke self.O(1) status p",

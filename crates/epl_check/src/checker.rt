@@ -31,7 +31,7 @@ pub enum CheckRefusal {
     Doubled { place: u32 },
     /// A number is outside its limits, a kind is too deep, or there are too many of something.
     BadLimit { place: u32 },
-    /// There was no memory for the order of the names, or for a kind.
+    /// There was no memory for the order of the names or numbers, or for a kind.
     OutOfMemory,
 }
 
@@ -72,7 +72,7 @@ fn check_process_count(processes: &[ProcDecl], first: &mut Option<Broken>)
 
 #[tactic(auto, using(crate::proofs::Least::least_append))]
 fn check_counts(program: &Program, first: &mut Option<Broken>)
-    ensures { first.new ≡ least first.old (rules.broken_counts (tree.edentype program.now)) }
+    ensures { first.new ≡ least first.old (rules.broken_counts (tree.type_tree program.now)) }
 {
     check_var_count(&program.vars, first);
     check_count(16, &program.classes, first);
@@ -84,7 +84,7 @@ fn check_counts(program: &Program, first: &mut Option<Broken>)
 
 /// Names that begin with a small letter.
 fn check_small_names(program: &Program, first: &mut Option<Broken>)
-    ensures { first.new ≡ least first.old (rules.broken_small_names (tree.edentype program.now)) }
+    ensures { first.new ≡ least first.old (rules.broken_small_names (tree.type_tree program.now)) }
 {
     let none: &[Name] = &[];
     let vars = program.vars.as_slice();
@@ -97,7 +97,7 @@ fn check_small_names(program: &Program, first: &mut Option<Broken>)
 
 /// Names that begin with a great letter.
 fn check_great_names(program: &Program, first: &mut Option<Broken>)
-    ensures { first.new ≡ least first.old (rules.broken_great_names (tree.edentype program.now)) }
+    ensures { first.new ≡ least first.old (rules.broken_great_names (tree.type_tree program.now)) }
 {
     let none: &[Name] = &[];
     let operations = program.operations.as_slice();
@@ -108,10 +108,14 @@ fn check_great_names(program: &Program, first: &mut Option<Broken>)
     check_doubled(monitors, none, none, first);
 }
 
-fn check_upgrade_numbers(program: &Program, first: &mut Option<Broken>)
-    ensures { first.new ≡ least first.old (rules.broken_numbers (tree.edentype program.now)) }
+fn check_upgrade_numbers(
+    alloc: Global,
+    program: &Program,
+    first: &mut Option<Broken>,
+) -> Result<(), AllocError>
+    ensures { OnOk result (first.new ≡ least first.old (rules.broken_numbers (tree.type_tree program.now))) }
 {
-    check_doubled_numbers(&program.upgrades, first);
+    check_doubled_numbers(alloc, &program.upgrades, first)
 }
 
 /// What the operations, the processes and the upgrades of a type break.
@@ -122,7 +126,7 @@ fn check_bodies(
     earlier: &Types,
     first: &mut Option<Broken>,
 ) -> Result<(), AllocError>
-    ensures { OnOk result (first.new ≡ least first.old (broken_bodies (names_of earlier.now) (tree.edentype program.now))) }
+    ensures { OnOk result (first.new ≡ least first.old (broken_bodies (names_of earlier.now) (tree.type_tree program.now))) }
 {
     let no_names: &[Name] = &[];
     let none = index(alloc, no_names)?;
@@ -152,13 +156,13 @@ fn check_program(
     first: &mut Option<Broken>,
 ) -> Result<(), AllocError>
     ensures { OnOk result (first.new ≡ least first.old
-        (rules.broken_program (names_of earlier.now) (tree.edentype program.now))) }
+        (rules.broken_program (names_of earlier.now) (tree.type_tree program.now))) }
 {
     check_version(&program.version, first);
     check_counts(program, first);
     check_small_names(program, first);
     check_great_names(program, first);
-    check_upgrade_numbers(program, first);
+    check_upgrade_numbers(alloc, program, first)?;
     check_vars(alloc, &program.vars, first)?;
     check_classes(&program.classes, first);
     check_bodies(alloc, program, earlier, first)
@@ -168,11 +172,11 @@ fn check_program(
 /// declares before it. Of several broken rules the one at the first place is answered, and at one
 /// place the one that stands first in `CheckRefusal`.
 ///
-/// Memory is taken for the order of the names, by which each is found among very many, and for the
-/// kinds of expressions that are lists.
+/// Memory is taken for the order of the names and of the upgrades' numbers, by which each is found
+/// among very many, and for the kinds of expressions that are lists.
 pub fn check(alloc: Global, program: &Program, earlier: &Types) -> Result<(), CheckRefusal>
-    ensures ok { IfOk result (λ _. rules.broken_program (names_of earlier.now) (tree.edentype program.now) ≡ []) }
-    ensures refused { IfErr result (Refuses (rules.broken_program (names_of earlier.now) (tree.edentype program.now))) }
+    ensures ok { IfOk result (λ _. rules.broken_program (names_of earlier.now) (tree.type_tree program.now) ≡ []) }
+    ensures refused { IfErr result (Refuses (rules.broken_program (names_of earlier.now) (tree.type_tree program.now))) }
 {
     let mut first = None;
     if check_program(alloc, program, earlier, &mut first).is_err() {

@@ -235,3 +235,21 @@ fn names_are_found_among_very_many(rt: HostRuntime) -> Result<(), Fail> {
     assert!(rt; is_answered(rt.alloc(), &types, Some(Rule::UnknownName), &unknown)?);
     Ok(())
 }
+
+/// A type of very many upgrades, each from another version, and of a last one from the first's.
+fn of_many_upgrades(alloc: Global, count: u32) -> Result<Vec<u8>, Fail> {
+    let mut text = Vec::from_slice(alloc, b"edentype A version 65535 ")?;
+    for i in 1..count {
+        append_part(alloc, &mut text, b"upgrade from # () end ", i)?;
+    }
+    text.extend_from_slice(b"upgrade from |1 () end endtype")?;
+    Ok(text)
+}
+
+#[test]
+fn versions_are_found_among_very_many(rt: HostRuntime) -> Result<(), Fail> {
+    let types = types_before(rt.alloc())?;
+    let text = of_many_upgrades(rt.alloc(), 40_000)?;
+    assert!(rt; is_answered(rt.alloc(), &types, Some(Rule::Doubled), &text)?);
+    Ok(())
+}

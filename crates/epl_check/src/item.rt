@@ -195,7 +195,7 @@ fn body_scope<'a>(
 ) -> Scope<'a>
     requires params { IsIndex params.numbers.now (map (λ p. p.name) params.items.now) }
     requires locals { IsIndex locals.numbers.now (map (λ v. v.name) locals.items.now) }
-    ensures { seen result ≡ rules.scope_in (tree.edentype around.now.program.now)
+    ensures { seen result ≡ rules.scope_in (tree.type_tree around.now.program.now)
         (types_seen around.now.program.now.name around.now.earlier.now)
         (map tree.parameter params.entry.items.now) (map tree.local_of locals.entry.items.now) (results_of results.entry) }
 {
@@ -239,7 +239,7 @@ fn check_body<'a>(
     first: &mut Option<Broken>,
 ) -> Result<(), AllocError>
     ensures { OnOk result (first.new ≡ least first.old (statements.broken_block
-        (rules.scope_in (tree.edentype around.now.program.now)
+        (rules.scope_in (tree.type_tree around.now.program.now)
         (types_seen around.now.program.now.name around.now.earlier.now)
         (map tree.parameter params.now) (map tree.local_of locals.now) (results_of results.entry)) None (tree.statements body.now))) }
 {
@@ -264,7 +264,7 @@ fn check_operation<'a>(
     first: &mut Option<Broken>,
 ) -> Result<(), AllocError>
     ensures { OnOk result (first.new ≡ least first.old
-        (rules.broken_operation (tree.edentype around.now.program.now)
+        (rules.broken_operation (tree.type_tree around.now.program.now)
         (types_seen around.now.program.now.name around.now.earlier.now) (tree.operation o.now))) }
 {
     check_head(&around.program.classes, o, first);
@@ -287,7 +287,7 @@ fn check_process<'a>(
     first: &mut Option<Broken>,
 ) -> Result<(), AllocError>
     ensures { OnOk result (first.new ≡ least first.old
-        (rules.broken_process (tree.edentype around.now.program.now)
+        (rules.broken_process (tree.type_tree around.now.program.now)
         (types_seen around.now.program.now.name around.now.earlier.now) (tree.process p.now))) }
 {
     check_local_count(&p.locals, first);
@@ -302,7 +302,7 @@ pub(crate) fn check_operations(
     first: &mut Option<Broken>,
 ) -> Result<(), AllocError>
     ensures { OnOk result (first.new ≡ least first.old
-        (flat_map (rules.broken_operation (tree.edentype around.now.program.now)
+        (flat_map (rules.broken_operation (tree.type_tree around.now.program.now)
         (types_seen around.now.program.now.name around.now.earlier.now))
         (map tree.operation around.now.program.now.operations.items))) }
 {
@@ -318,7 +318,7 @@ pub(crate) fn check_processes(
     first: &mut Option<Broken>,
 ) -> Result<(), AllocError>
     ensures { OnOk result (first.new ≡ least first.old
-        (flat_map (rules.broken_process (tree.edentype around.now.program.now)
+        (flat_map (rules.broken_process (tree.type_tree around.now.program.now)
         (types_seen around.now.program.now.name around.now.earlier.now))
         (map tree.process around.now.program.now.processes.items))) }
 {
@@ -489,7 +489,7 @@ fn check_upgrade<'a>(
     first: &mut Option<Broken>,
 ) -> Result<(), AllocError>
     ensures { OnOk result (first.new ≡ least first.old
-        (rules.broken_upgrade (tree.edentype around.now.program.now)
+        (rules.broken_upgrade (tree.type_tree around.now.program.now)
         (types_seen around.now.program.now.name around.now.earlier.now) (tree.upgrade u.now))) }
 {
     let version = version_number(&around.program.version);
@@ -507,7 +507,7 @@ pub(crate) fn check_upgrades(
     first: &mut Option<Broken>,
 ) -> Result<(), AllocError>
     ensures { OnOk result (first.new ≡ least first.old
-        (flat_map (rules.broken_upgrade (tree.edentype around.now.program.now)
+        (flat_map (rules.broken_upgrade (tree.type_tree around.now.program.now)
         (types_seen around.now.program.now.name around.now.earlier.now))
         (map tree.upgrade around.now.program.now.upgrades.items))) }
 {

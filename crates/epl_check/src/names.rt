@@ -1,11 +1,14 @@
 //! Names that are declared twice, and counts of what is declared.
-ghost use Rattle.std.specs.Prelude.{◌≡◌, ◌+◌, ◌++◌, length, map, not};
+ghost use Rattle.std.specs.Prelude.{◌≡◌, ◌+◌, ◌++◌, length, map, not, Some, OnOk};
+ghost use Rattle.std.specs.Ordering.{nat_cmp};
+ghost use Rattle.std.specs.BTreeMap.{get, Updates};
 ghost use Rattle.epl_syntax.specs.declared.rule.Rule.TheVariants.{UnknownName};
 ghost use Rattle.epl_syntax.specs.Rules.First.{least, broken_if};
 ghost use Rattle.epl_syntax.specs.Rules.Scopes as scopes;
 ghost use Rattle.epl_syntax.specs.Rules.InItems.{too_many, places_of};
 ghost use Rattle.epl_check.specs.Numbered.{IsIndex};
-ghost use Rattle.epl_check.specs.View.{doubled_before, numbers_before, is_past};
+ghost use Rattle.epl_check.specs.Numbered.{least_with, told_among};
+ghost use Rattle.epl_check.specs.View.{doubled_before, is_past};
 
 use crate::first::tell_if;
 use crate::index::{Listed, has};
@@ -14,6 +17,8 @@ use epl_syntax::{
     Assignment, Broken, ClassDecl, CondDecl, LocalDecl, Name, Number, OpDecl, ParDecl, ProcDecl,
     Rule, UpgradeDecl, VarDecl, same_text,
 };
+use std::alloc::{AllocError, Global};
+use std::collections::BTreeMap;
 
 /// What has a name.
 pub(crate) trait Named {
@@ -201,27 +206,41 @@ pub(crate) fn check_as_variables<T: Named>(
     }
 }
 
-fn check_same_numbers(number: Number, others: &[UpgradeDecl], first: &mut Option<Broken>)
-    ensures { first.new ≡ least first.old (numbers_before number (map (λ u. u.from) others.now)) }
+/// The least place of each number.
+pub(crate) type Places = BTreeMap<u64, u32>;
+
+/// Tells where a number is among those of a list, and adds its place to theirs.
+fn check_same_number(
+    number: Number,
+    places: &mut Places,
+    first: &mut Option<Broken>,
+) -> Result<(), AllocError>
+    ensures told { OnOk result (first.new ≡ least first.old (told_among number (get nat_cmp places.old number.n))) }
+    ensures placed { OnOk result (Updates nat_cmp places.old places.new number.n
+        (Some (least_with number.place (get nat_cmp places.old number.n)))) }
 {
-    if is_past(first, number.place) {
-        return;
+    let mut place = number.place;
+    if let Some(other) = places.get(&number.n) {
+        tell_if(true, Rule::Doubled, place.max(*other), first);
+        place = place.min(*other);
     }
-    for other in others {
-        tell_if(
-            number.n == other.from.n,
-            Rule::Doubled,
-            number.place.max(other.from.place),
-            first,
-        );
-    }
+    places.insert(number.n, place)?;
+    Ok(())
 }
 
 /// Tells which upgrades are from one version.
-pub(crate) fn check_doubled_numbers(upgrades: &[UpgradeDecl], first: &mut Option<Broken>)
-    ensures { first.new ≡ least first.old (scopes.doubled_numbers (map (λ u. u.from) upgrades.now)) }
+pub(crate) fn check_doubled_numbers(
+    alloc: Global,
+    upgrades: &[UpgradeDecl],
+    first: &mut Option<Broken>,
+) -> Result<(), AllocError>
+    ensures { OnOk result (first.new ≡ least first.old (scopes.doubled_numbers (map (λ u. u.from) upgrades.now))) }
 {
-    for i in 0..upgrades.len() {
-        check_same_numbers(upgrades[i].from, &upgrades[i + 1..], first);
+    let mut places = BTreeMap::new(alloc);
+    let mut i = upgrades.len();
+    while i > 0 {
+        check_same_number(upgrades[i - 1].from, &mut places, first)?;
+        i -= 1;
     }
+    Ok(())
 }

@@ -1,7 +1,7 @@
 use Rattle.std.proofs.Common.{◌≡◌, ℕ, sym, ◌∙◌, subst, List, Result, Ok, Err, false}
 use Rattle.std.specs.Prelude.{OnOk}
 use Rattle.std.specs.Result.{is_err}
-use Rattle.epl_syntax.specs.Tree.{edentype}
+use Rattle.epl_syntax.specs.Tree.{type_tree}
 use Rattle.epl_syntax.specs.Rules.OfTypes.{names_of}
 use Rattle.epl_syntax.specs.declared.rule.Broken.{Broken}
 use Rattle.epl_syntax.specs.declared.rule.Rule.{Rule}
@@ -28,11 +28,11 @@ refuses bs rule.BadLimit place h = h
 pub returns-in-None-clause-ok : goal.returns-in-None-clause-ok
 returns-in-None-clause-ok c =
     let told = at_ok c.check_program.result _ c.if-is_err.ensures.value c.check_program.ensures in
-    none_told (broken_program (names_of c.args.earlier.now) (edentype c.args.program.now)) (sym told ∙ c.in-None.is)
+    none_told (broken_program (names_of c.args.earlier.now) (type_tree c.args.program.now)) (sym told ∙ c.in-None.is)
 
 pub returns-in-Some-clause-refused : goal.returns-in-Some-clause-refused
 returns-in-Some-clause-refused c =
-    let bs = broken_program (names_of c.args.earlier.now) (edentype c.args.program.now) in
+    let bs = broken_program (names_of c.args.earlier.now) (type_tree c.args.program.now) in
     let told = at_ok c.check_program.result _ c.if-is_err.ensures.value c.check_program.ensures in
     let b = c.in-Some.b in
     subst (Refuses bs) (sym c.refusal_of.ensures) (refuses bs b.rule b.place (first_told bs b (sym told ∙ c.in-Some.is)))

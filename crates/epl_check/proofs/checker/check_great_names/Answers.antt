@@ -14,9 +14,12 @@ returns c =
     let os = c.as_slice-operations.result.now in
     let ps = c.as_slice-processes.result.now in
     let ms = map (λ m. m) c.as_slice-monitors.result.now in
-    three_told o c.check_doubled.new.first c.check_doubled-2.new.first c.check_doubled-3.new.first (map (λ v. v.name) os) (map (λ k. k.name) ps) ms c.check_doubled.ensures c.check_doubled-2.ensures c.check_doubled-3.ensures
+    three_told o c.check_doubled.new.first c.check_doubled-2.new.first c.check_doubled-3.new.first (map (λ v. v.name) os)
+    (map (λ k. k.name) ps) ms c.check_doubled.ensures c.check_doubled-2.ensures c.check_doubled-3.ensures
     ∙ ap (λ l. least o (doubled (map (λ v. v.name) l ++ map (λ k. k.name) ps ++ ms))) c.as_slice-operations.ensures.value
     ∙ ap (λ l. least o (doubled (l ++ map (λ k. k.name) ps ++ ms))) (operations_named p.operations.items)
-    ∙ ap (λ l. least o (doubled (names_of_operations (map operation p.operations.items) ++ map (λ k. k.name) l ++ ms))) c.as_slice-processes.ensures.value
+    ∙ ap (λ l. least o (doubled (names_of_operations (map operation p.operations.items) ++ map (λ k. k.name) l ++ ms)))
+    c.as_slice-processes.ensures.value
     ∙ ap (λ l. least o (doubled (names_of_operations (map operation p.operations.items) ++ l ++ ms))) (processes_named p.processes.items)
-    ∙ ap (λ l. least o (doubled (names_of_operations (map operation p.operations.items) ++ names_of_processes (map process p.processes.items) ++ l))) (map_same c.as_slice-monitors.result.now ∙ c.as_slice-monitors.ensures.value)
+    ∙ ap (λ l. least o (doubled (names_of_operations (map operation p.operations.items) ++ names_of_processes
+    (map process p.processes.items) ++ l))) (map_same c.as_slice-monitors.result.now ∙ c.as_slice-monitors.ensures.value)

@@ -19,7 +19,8 @@ check_items-loop-i-preserved t c =
     ∙ ap (λ p. least o1 (misfit_known (found c.first_of-of_first.result) this p)) c.place_of.ensures in
     let s =
     items_step (seen c.args.scope.now) c.args.held c.args.items.now c.loop-i.i c.index-items-i.result (found c.loop-i.of_first) this
-    (found c.first_of-of_first.result) c.loop-i.first o1 c.fit_known.new.first _ c.loop-i-test.true c.index-items-i.is c.loop-i.invariant.kind
+    (found c.first_of-of_first.result) c.loop-i.first o1 c.fit_known.new.first _ c.loop-i-test.true c.index-items-i.is
+    c.loop-i.invariant.kind
     c.in_ok-kind.ensures.kind c.first_of-of_first.ensures c.in_ok-kind.ensures.told fits c.loop-i.invariant.told in
     record { kind = s.0; told = s.1 }
 
@@ -34,7 +35,8 @@ check_arguments-loop-i-preserved t c =
     ∙ ap (λ p. least o1 (failing (passes_at (tests (found c.first_of-of_first.result)) c.loop-i.i) this p)) c.place_of.ensures in
     let s =
     arguments_step (seen c.args.scope.now) c.args.held c.args.args.now c.loop-i.i c.index-args-i.result tests (found c.loop-i.of_first) this
-    (found c.first_of-of_first.result) c.loop-i.first o1 c.fit_argument.new.first _ c.loop-i-test.true c.index-args-i.is c.loop-i.invariant.kind
+    (found c.first_of-of_first.result) c.loop-i.first o1 c.fit_argument.new.first _ c.loop-i-test.true c.index-args-i.is
+    c.loop-i.invariant.kind
     c.in_ok-kind.ensures.kind c.first_of-of_first.ensures c.in_ok-kind.ensures.told fits c.loop-i.invariant.told in
     record { kind = s.0; told = s.1 }
 

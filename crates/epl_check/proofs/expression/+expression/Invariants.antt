@@ -9,13 +9,16 @@ use Rattle.epl_check.proofs.expression.+expression.Given as goal
 abbrev pub invariant-check_items-loop-i : goal.invariant-check_items-loop-i
 invariant-check_items-loop-i l = record {
   kind : found l.of_first ≡ kind_of_first (seen l.scope) (expressions (take l.i l.items));
-  told : least l.first (broken_items (seen l.scope) l.held (kind_of_first (seen l.scope) (expressions l.items)) (expressions (drop l.i l.items)))
+  told : least l.first (broken_items (seen l.scope) l.held (kind_of_first (seen l.scope) (expressions l.items))
+      (expressions (drop l.i l.items)))
       ≡ least l.fn.first (broken_items (seen l.scope) l.held (kind_of_first (seen l.scope) (expressions l.items)) (expressions l.items));
 }
 
 abbrev pub invariant-check_arguments-loop-i : goal.invariant-check_arguments-loop-i
 invariant-check_arguments-loop-i l = record {
   kind : found l.of_first ≡ kind_of_first (seen l.scope) (expressions (take l.i l.args));
-  told : least l.first (broken_arguments (seen l.scope) l.held (drop l.i (argument_tests l.builtin (kind_of_first (seen l.scope) (expressions l.args)))) (expressions (drop l.i l.args)))
-      ≡ least l.fn.first (broken_arguments (seen l.scope) l.held (argument_tests l.builtin (kind_of_first (seen l.scope) (expressions l.args))) (expressions l.args));
+  told : least l.first (broken_arguments (seen l.scope) l.held
+      (drop l.i (argument_tests l.builtin (kind_of_first (seen l.scope) (expressions l.args)))) (expressions (drop l.i l.args)))
+      ≡ least l.fn.first (broken_arguments (seen l.scope) l.held
+      (argument_tests l.builtin (kind_of_first (seen l.scope) (expressions l.args))) (expressions l.args));
 }

@@ -13,5 +13,7 @@ returns-then-is_past-2 c =
     let name = c.args.change.now.name in
     let e = expression c.args.change.now.value in
     let scope = seen c.args.scope.now in
-    change_past o c.check_expression.new.first (durable_named (map variable c.args.vars.now) name.text) (kind_of scope e) (broken_expression scope None e) name.place (place_of e)
-    (sym c.if-is_past.ensures) (ap (is_past o) (sym c.place_of-place.ensures) ∙ sym c.if-is_past-2.ensures) c.in_ok-check_expression.ensures.told
+    change_past o c.check_expression.new.first (durable_named (map variable c.args.vars.now) name.text) (kind_of scope e)
+    (broken_expression scope None e) name.place (place_of e)
+    (sym c.if-is_past.ensures) (ap (is_past o) (sym c.place_of-place.ensures) ∙ sym c.if-is_past-2.ensures)
+    c.in_ok-check_expression.ensures.told

@@ -10,7 +10,8 @@ returns c =
     let o2 = c.check_among.new.first in
     let o3 = c.check_count.new.first in
     let o4 = c.check_result_count.new.first in
-    head_told (map (λ k. k.name) c.args.classes.now) c.args.o.now c.args.first.now c.check_number.new.first o2 o3 o4 c.check_count-2.new.first c.check_number.ensures
+    head_told (map (λ k. k.name) c.args.classes.now) c.args.o.now c.args.first.now c.check_number.new.first o2 o3 o4
+    c.check_count-2.new.first c.check_number.ensures
     c.check_among.ensures
     (c.check_count.ensures ∙ ap (λ ps. least o2 (too_many 8 (places_of (map (λ p. p.name) ps)))) c.deref.ensures.value)
     (c.check_result_count.ensures ∙ ap (λ ks. least o3 (too_many 8 (map (λ k. k.place) (map written ks)))) c.deref-2.ensures.value)

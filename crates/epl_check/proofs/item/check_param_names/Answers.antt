@@ -8,4 +8,5 @@ use Rattle.epl_check.proofs.item.check_param_names.Goals as goal
 pub returns : goal.returns
 returns c =
     c.check_names.ensures
-    ∙ ap (λ n. least c.args.first.now (broken_names (names_of_vars (map variable c.args.vars.items.now)) n)) (append_nothing (names_of_params (map parameter c.args.params.now)))
+    ∙ ap (λ n. least c.args.first.now (broken_names (names_of_vars (map variable c.args.vars.items.now)) n))
+    (append_nothing (names_of_params (map parameter c.args.params.now)))

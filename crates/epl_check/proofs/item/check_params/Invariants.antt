@@ -6,4 +6,6 @@ use Rattle.epl_syntax.specs.Rules.InItems.{broken_param}
 use Rattle.epl_check.proofs.item.check_params.Given as goal
 
 abbrev pub invariant-loop-p : goal.invariant-loop-p
-invariant-loop-p l = least l.first (flat_map broken_param (map parameter (drop l.p-index l.params))) ≡ least l.fn.first (flat_map broken_param (map parameter l.params))
+invariant-loop-p l =
+    least l.first (flat_map broken_param (map parameter (drop l.p-index l.params)))
+    ≡ least l.fn.first (flat_map broken_param (map parameter l.params))

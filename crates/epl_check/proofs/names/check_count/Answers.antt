@@ -5,7 +5,8 @@ use Rattle.epl_syntax.specs.Rules.First.{least, broken_at}
 use Rattle.epl_syntax.specs.Rules.InItems.{too_many, places_of}
 use Rattle.epl_check.proofs.names.check_count.Goals as goal
 
-past_limit : {A : Type 0} (g : A → Name) (xs : List A) (i : ℕ) (x : A) → i < length xs → x ≡ get_or xs i x → too_many i (places_of (map g xs)) ≡ broken_at BadLimit (g x).place ∷ []
+past_limit : {A : Type 0} (g : A → Name) (xs : List A) (i : ℕ) (x : A) → i < length xs → x ≡ get_or xs i x
+    → too_many i (places_of (map g xs)) ≡ broken_at BadLimit (g x).place ∷ []
 past_limit g [] i x h k = absurd (omega arith)
 past_limit g (y ∷ xs) zero x h k = ap (λ z. broken_at BadLimit (g z).place ∷ []) (sym k)
 past_limit g (y ∷ xs) (suc i) x h k = past_limit g xs i x (omega arith) k

@@ -18,4 +18,5 @@ loop-i-preserved g c =
     let first = c.check_clashes.ensures ∙ ap (λ m. least o (clashes m (map g.A.Named.named rest))) n in
     let second = c.check_clashes-in-loop-i.ensures ∙ ap (λ m. least o1 (clashes m b)) n in
     let third = c.check_clashes-in-loop-i-2.ensures ∙ ap (λ m. least o2 (clashes m d)) n in
-    doubled_turn g.A.Named.named xs rest b d c.loop-i.i c.index-a-i.result o o1 o2 c.check_clashes-in-loop-i-2.new.first _ c.loop-i-test.true c.index-a-i.is (behind xs j) first second third c.loop-i.invariant
+    doubled_turn g.A.Named.named xs rest b d c.loop-i.i c.index-a-i.result o o1 o2 c.check_clashes-in-loop-i-2.new.first _
+    c.loop-i-test.true c.index-a-i.is (behind xs j) first second third c.loop-i.invariant

@@ -1,13 +1,20 @@
-use Rattle.std.proofs.Common.{◌+◌, ◌-◌, map, take, drop, length, ap, sym, ◌∙◌}
-use Rattle.epl_syntax.specs.Rules.First.{least}
-use Rattle.epl_check.specs.View.{numbers_before}
-use Rattle.epl_check.proofs.Doubled.{numbers_turn, behind}
+use Rattle.std.proofs.Common.{◌≡◌, ◌+◌, ◌-◌, ◌<◌, length, get_or, ap, arith}
+use Rattle.epl_check.proofs.DoubledNumbers.{numbers_turn, places_turn}
 use Rattle.epl_check.proofs.names.check_doubled_numbers.Goals as goal
 
 pub loop-i-preserved : goal.loop-i-preserved
 loop-i-preserved c =
     let xs = c.args.upgrades.now in
-    let j = c.loop-i.i + 1 in
-    let rest = take (length xs - j) (drop j xs) in
-    numbers_turn (λ u. u.from) xs rest c.loop-i.i c.index-upgrades-i.result c.loop-i.first c.check_same_numbers.new.first _ c.loop-i-test.true c.index-upgrades-i.is (behind xs j)
-    (c.check_same_numbers.ensures ∙ ap (λ u. least c.loop-i.first (numbers_before u.from (map (λ v. v.from) rest))) (sym c.index-upgrades-i.is)) c.loop-i.invariant
+    let i = c.loop-i.i in
+    let x = get_or xs (i - 1) c.index-upgrades-i.result in
+    let here : x ≡ get_or xs (i - 1) x = ap (get_or xs (i - 1)) c.index-upgrades-i.is in
+    let v = c.loop-i.invariant in
+    let told = c.in_ok-check_same_number.ensures in
+    let down : i ≡ (i - 1) + 1 = omega (arith, c.loop-i-test.true) in
+    let below : i - 1 < length xs = omega (arith, c.loop-i-test.true, v.placed) in
+    record {
+      placed = omega (arith, v.placed);
+      places = places_turn (λ u. u.from) xs i (i - 1) x c.loop-i.places c.check_same_number.new.places down below here v.places told.placed;
+      told = numbers_turn (λ u. u.from) xs i (i - 1) x c.loop-i.places c.args.first.now c.loop-i.first c.check_same_number.new.first
+          down below here v.places v.told told.told;
+    }
