@@ -1,6 +1,5 @@
 -- A queue of invocations, whose numbers and classes are kept side by side.
-use Rattle.std.specs.Prelude.{◌≡◌, ℕ, ◌≤◌, List, [], ◌∷◌, length}
-use Rattle.std.specs.Vec.{vec_capacity}
+use Rattle.std.specs.Prelude.{◌≡◌, ℕ, List, [], ◌∷◌, length}
 use Rattle.eden_model.specs.Crew.{Invocation}
 use Rattle.coordinator.specs.declared.queue.Queue.TheInside.{Inside}
 
@@ -14,8 +13,6 @@ invocations (k ∷ ks) (c ∷ cs) = record { call = k; class = c } ∷ invocatio
 abbrev pub queued_of : Inside → List Invocation
 queued_of q = invocations q.calls.items q.classes.items
 
--- each number has a class, and there is room for sixty-four
-pub record IsQueue (q : Inside) : Type 0 where
-  pub same : length q.calls.items ≡ length q.classes.items
-  pub few : length q.calls.items ≤ 64
-  pub room : 64 ≤ vec_capacity q.calls
+-- each number has a class
+abbrev pub IsQueue : Inside → Type 0
+IsQueue q = length q.calls.items ≡ length q.classes.items

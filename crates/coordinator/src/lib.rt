@@ -4,8 +4,9 @@
 //! belongs to a class, and of each class no more invocations run at once than its limit says.
 //! A monitor has one holder, an entry queue, and conditions on which processes wait.
 //!
-//! Classes and conditions are counted from 0, monitors and processes from 1. All memory is taken
-//! by `Coordinator::new`; every other call succeeds without any.
+//! Classes and conditions are counted from 0, monitors and processes from 1. `Coordinator::new`
+//! takes the memory of an idle Eject; `offer` and `start` take more at the first need, and change
+//! nothing for want of it. Every other call succeeds without any.
 #![tactic(auto)]
 
 mod monitors;
@@ -16,8 +17,8 @@ mod slots;
 #[cfg(test)]
 mod tests;
 
-ghost use Rattle.std.specs.Prelude.{◌≡◌, ◌<◌, ◌≤◌, ◌+◌, ◌==◌, ◌↔◌, ◌++◌, ◌∷◌, [], ℕ, List, length, map, Some, None, IfSome, IfOk};
-ghost use Rattle.std.specs.Prelude.{MatchResult, IsTrue, slice_get};
+ghost use Rattle.std.specs.Prelude.{◌≡◌, ◌<◌, ◌≤◌, ◌+◌, ◌==◌, ◌↔◌, ◌++◌, ◌∷◌, [], ℕ, List, length, map, Some, None, IfSome, IsSome};
+ghost use Rattle.std.specs.Prelude.{IfOk, OnOk, OnErr, IsErrOf, IsTrue, slice_get};
 ghost use Rattle.std.specs.List.{All};
 ghost use Rattle.std.specs.Option.{option_map};
 ghost use Rattle.eden_model.specs.Crew.{Crew, Coordination, Runs, Waits as WaitsFor, Holds, outside, nothing, is_free, locked, left};
@@ -34,7 +35,7 @@ use crate::slots::{
 };
 use capability::CallNumbers;
 pub use monitors::{Condition, Monitor};
-pub use parts::{Busy, CondMonitors, Limits, Pairs, Parts, Setup, Started};
+pub use parts::{CondMonitors, Limits, OfferRefusal, Pairs, Parts, Setup, Started};
 pub use process_queue::ProcessQueue;
 pub use slots::{Serving, Slot, Waits};
 use std::alloc::{AllocError, Global};
@@ -65,7 +66,7 @@ impl Model for Coordinator {
 
 impl Coordinator {
     /// The declared processes run under the numbers 1 upward, all monitors are free, and nothing is
-    /// queued. All memory is taken here.
+    /// queued. No room is taken for other processes, nor for invocations.
     pub fn new(alloc: Global, setup: Setup) -> Result<Coordinator, AllocError>
         requires declared { setup.declared ≤ 8 }
         requires monitors { setup.monitors ≤ 8 }
@@ -75,13 +76,12 @@ impl Coordinator {
         let slots = declared_slots(alloc, setup.declared)?;
         let monitors = new_monitors(alloc, setup.monitors)?;
         let conditions = new_conditions(alloc, setup.conditions.as_slice())?;
-        let queued = Queue::new(alloc)?;
         Ok(Coordinator {
             limits: setup.limits,
             slots,
             monitors,
             conditions,
-            queued,
+            queued: Queue::new(alloc),
         })
     }
 
@@ -92,19 +92,20 @@ impl Coordinator {
         self.queued.len() >= 64
     }
 
-    /// The invocation goes to the back of the queue, unless 64 are queued.
-    pub fn offer(&mut self, call: u32, class: u8) -> Result<(), Busy>
-        ensures { MatchResult result
-            (λ _. (length self.old.queued < 64)
-            × (self.new ≡ record self.old {
-              queued = self.old.queued ++ record { call = call; class = class } ∷ [];
-            }))
-            (λ _. (length self.old.queued ≡ 64) × (self.new ≡ self.old)) }
+    /// The invocation goes to the back of the queue, unless 64 are queued, or there is no memory
+    /// for it. A refusal changes nothing.
+    pub fn offer(&mut self, call: u32, class: u8) -> Result<(), OfferRefusal>
+        ensures busy { IsErrOf result OfferRefusal.Busy ↔ (length self.old.queued ≡ 64) }
+        ensures after { OnOk result (self.new ≡ record self.old {
+          queued = self.old.queued ++ record { call = call; class = class } ∷ [];
+        }) }
+        ensures room { OnOk result (length self.old.queued < 64) }
+        ensures unchanged { OnErr result (self.new ≡ self.old) }
     {
         if self.queued.len() >= 64 {
-            return Err(Busy);
+            return Err(OfferRefusal::Busy);
         }
-        self.queued.push(call, class);
+        self.queued.push(call, class)?;
         Ok(())
     }
 
@@ -120,21 +121,26 @@ impl Coordinator {
     }
 
     /// The startable invocation leaves the queue and runs, in a process of the least free number.
-    /// None exactly where there is none, and then nothing changes.
-    pub fn start(&mut self) -> Option<Started>
-        ensures call { option_map (λ s. s.call) result ≡ option_map (λ i. i.call) (startable self.old.crew self.old.queued) }
-        ensures process { IfSome result (λ s. s.process ≡ least_free self.old.crew) }
-        ensures after { self.new ≡ with_item (startable self.old.crew self.old.queued) (λ i. started_in i self.old) self.old }
+    /// None exactly where there is none, and then nothing changes; nor does anything for want of
+    /// memory, which only an invocation that would start can meet.
+    pub fn start(&mut self) -> Result<Option<Started>, AllocError>
+        ensures call { IfOk result (λ it. option_map (λ s. s.call) it
+            ≡ option_map (λ i. i.call) (startable self.old.crew self.old.queued)) }
+        ensures process { IfOk result (λ it. IfSome it (λ s. s.process ≡ least_free self.old.crew)) }
+        ensures after { OnOk result (self.new
+            ≡ with_item (startable self.old.crew self.old.queued) (λ i. started_in i self.old) self.old) }
+        ensures unchanged { OnErr result (self.new ≡ self.old) }
+        ensures refused { OnErr result (IsSome (startable self.old.crew self.old.queued)) }
     {
         match next_to_start(&self.slots, self.limits.as_slice(), &self.queued) {
             Some(next) => {
                 let call = next.call;
                 let process = least_free(&self.slots);
-                insert_slot(&mut self.slots, process, next);
+                insert_slot(&mut self.slots, process, next)?;
                 self.queued.remove(call);
-                Some(Started { call, process })
+                Ok(Some(Started { call, process }))
             }
-            None => None,
+            None => Ok(None),
         }
     }
 

@@ -2,7 +2,6 @@
 ghost use Rattle.std.specs.Prelude.{◌≡◌, ◌<◌, ◌≤◌, ◌+◌, ◌-◌, ◌++◌, ◌∷◌, [], ℕ, List, length, map, None, Some, IfOk, IsTrue, ◌↔◌, slice_get};
 ghost use Rattle.std.specs.Prelude.{vec_len};
 ghost use Rattle.std.specs.Option.{option_map};
-ghost use Rattle.std.specs.Vec.{vec_capacity};
 ghost use Rattle.eden_model.specs.Crew.{left, locked, queued_at, leave_held, is_held_by, is_free, free_monitors, quiet_at};
 ghost use Rattle.eden_model.specs.Crew as crew;
 ghost use Rattle.eden_model.specs.Map.{first, rest};
@@ -31,12 +30,12 @@ pub struct Condition {
 pub fn new_monitors(alloc: Global, count: u8) -> Result<Vec<Monitor>, AllocError>
     ensures { IfOk result (λ v. map monitor_of v.items ≡ free_monitors count) }
 {
-    let mut monitors = Vec::new(alloc);
+    let mut monitors = Vec::with_capacity(alloc, count as usize)?;
     for _i in 0..count {
-        monitors.push(Monitor {
+        monitors.push_reserved(Monitor {
             holder: None,
             entering: ProcessQueue::new(),
-        })?;
+        });
     }
     Ok(monitors)
 }
@@ -45,12 +44,12 @@ pub fn new_monitors(alloc: Global, count: u8) -> Result<Vec<Monitor>, AllocError
 pub fn new_conditions(alloc: Global, monitors: &[u8]) -> Result<Vec<Condition>, AllocError>
     ensures { IfOk result (λ v. map condition_of v.items ≡ map quiet_at monitors.now) }
 {
-    let mut conditions = Vec::new(alloc);
+    let mut conditions = Vec::with_capacity(alloc, monitors.len())?;
     for monitor in monitors {
-        conditions.push(Condition {
+        conditions.push_reserved(Condition {
             monitor: *monitor,
             waiters: ProcessQueue::new(),
-        })?;
+        });
     }
     Ok(conditions)
 }
@@ -93,7 +92,6 @@ pub fn pass_on(slots: &mut Vec<Slot>, monitors: &mut Vec<Monitor>, monitor: u8)
     requires to { monitor ≤ length monitors.old.items }
     ensures crew { (ls : List ℕ) (cs : List crew.Condition) → crew_of ls cs slots.new.items monitors.new.items
         ≡ left monitor (crew_of ls cs slots.old.items monitors.old.items) }
-    ensures room { vec_capacity slots.new ≡ vec_capacity slots.old }
     ensures slots { length slots.new.items ≡ length slots.old.items }
     ensures monitors { length monitors.new.items ≡ length monitors.old.items }
 {
@@ -110,7 +108,6 @@ pub fn join(slots: &mut Vec<Slot>, monitors: &mut Vec<Monitor>, process: u8, mon
     requires room { EntryRoom monitors.old.items (monitor - 1) }
     ensures crew { (ls : List ℕ) (cs : List crew.Condition) → crew_of ls cs slots.new.items monitors.new.items
         ≡ queued_at (Some process) monitor (crew_of ls cs slots.old.items monitors.old.items) }
-    ensures room { vec_capacity slots.new ≡ vec_capacity slots.old }
     ensures slots { length slots.new.items ≡ length slots.old.items }
     ensures monitors { length monitors.new.items ≡ length monitors.old.items }
 {
@@ -127,7 +124,6 @@ pub fn admit(slots: &mut Vec<Slot>, monitors: &mut Vec<Monitor>, process: u8, mo
     ensures held { (ls : List ℕ) (cs : List crew.Condition) → result ≡ is_free (crew_of ls cs slots.old.items monitors.old.items) monitor }
     ensures crew { (ls : List ℕ) (cs : List crew.Condition) → crew_of ls cs slots.new.items monitors.new.items
         ≡ locked process monitor (crew_of ls cs slots.old.items monitors.old.items) }
-    ensures room { vec_capacity slots.new ≡ vec_capacity slots.old }
     ensures slots { length slots.new.items ≡ length slots.old.items }
     ensures monitors { length monitors.new.items ≡ length monitors.old.items }
 {
@@ -147,7 +143,6 @@ pub fn pass_on_all(slots: &mut Vec<Slot>, monitors: &mut Vec<Monitor>, process: 
     requires { length monitors.old.items ≤ 8 }
     ensures crew { (ls : List ℕ) (cs : List crew.Condition) → crew_of ls cs slots.new.items monitors.new.items
         ≡ leave_held process (length monitors.old.items) (crew_of ls cs slots.old.items monitors.old.items) }
-    ensures room { vec_capacity slots.new ≡ vec_capacity slots.old }
     ensures slots { length slots.new.items ≡ length slots.old.items }
     ensures monitors { length monitors.new.items ≡ length monitors.old.items }
 {

@@ -3,7 +3,9 @@ ghost use Rattle.std.specs.Prelude.{◌≡◌};
 
 use arrayvec::ArrayVec;
 use capability::CallNumbers;
+use std::alloc::AllocError;
 use std::marker::Model;
+use thiserror::Error;
 
 /// The limits of the classes: how many invocations of each class may run at once, 1 to 16.
 #[derive(Drop)]
@@ -94,6 +96,22 @@ pub struct Parts {
     pub queued: CallNumbers,
 }
 
-/// The refusal of `offer`: 64 invocations are queued.
-#[derive(Clone, Copy, Debug)]
-pub struct Busy;
+/// Why `offer` refuses an invocation.
+#[derive(Clone, Copy, Debug, PartialEq, Eq, Error)]
+pub enum OfferRefusal {
+    /// 64 invocations are queued.
+    #[error("64 invocations are queued")]
+    Busy,
+    #[error("there is no memory for the invocation")]
+    OutOfMemory,
+}
+
+impl From<AllocError> for OfferRefusal {
+    ghost use Rattle.coordinator.specs.declared.parts.OfferRefusal.TheVariants.{OutOfMemory};
+
+    ghost from_gives = { λ _ e. e ≡ OutOfMemory };
+
+    fn from(_: AllocError) -> Self {
+        OfferRefusal::OutOfMemory
+    }
+}

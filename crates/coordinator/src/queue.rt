@@ -1,22 +1,21 @@
-//! The invocations that are queued, of which there are at most sixty-four.
-ghost use Rattle.std.specs.Prelude.{◌≡◌, ◌≤◌, ◌<◌, ◌++◌, ◌∷◌, [], length, map, IfOk, Some, slice_get};
+//! The invocations that are queued.
+ghost use Rattle.std.specs.Prelude.{◌≡◌, ◌≤◌, ◌<◌, ◌++◌, ◌∷◌, [], length, map, OnOk, OnErr, Some, slice_get};
 ghost use Rattle.coordinator.specs.View.{invocation_of};
-ghost use Rattle.std.specs.Vec.{vec_capacity};
 ghost use Rattle.coordinator.specs.Queued.{invocations};
 ghost use Rattle.eden_model.specs.Crew.{without_call};
 
 use crate::slots::Serving;
-use arrayvec::ArrayVec;
 use std::alloc::{AllocError, Global};
 use std::marker::Model;
 
 /// Invocations in the order of coming: their numbers, and beside them their classes.
 ///
-/// The numbers stand alone, so that they can be handed out as they are.
+/// The numbers stand alone, so that they can be handed out as they are. Memory is taken as
+/// invocations come, and kept as they go.
 #[derive(Drop)]
 pub struct Queue {
     calls: Vec<u32>,
-    classes: ArrayVec<u8, 64>,
+    classes: Vec<u8>,
 }
 
 impl Model for Queue {
@@ -33,15 +32,14 @@ impl Model for Queue {
 }
 
 impl Queue {
-    /// The empty queue, with room for sixty-four.
-    pub fn new(alloc: Global) -> Result<Queue, AllocError>
-        ensures { IfOk result (λ q. q ≡ []) }
+    /// The empty queue, which takes no memory.
+    pub fn new(alloc: Global) -> Queue
+        ensures { result ≡ [] }
     {
-        let calls = Vec::with_capacity(alloc, 64)?;
-        Ok(Queue {
-            calls,
-            classes: ArrayVec::new(),
-        })
+        Queue {
+            calls: Vec::new(alloc),
+            classes: Vec::new(alloc),
+        }
     }
 
     /// How many are queued.
@@ -62,12 +60,15 @@ impl Queue {
     }
 
     /// The invocation is the last of the queue.
-    pub fn push(&mut self, call: u32, class: u8)
-        requires { length self.old < 64 }
-        ensures { self.new ≡ self.old ++ record { call = call; class = class } ∷ [] }
+    pub fn push(&mut self, call: u32, class: u8) -> Result<(), AllocError>
+        ensures pushed { OnOk result (self.new ≡ self.old ++ record { call = call; class = class } ∷ []) }
+        ensures unchanged { OnErr result (self.new ≡ self.old) }
     {
+        self.calls.reserve(1)?;
+        self.classes.reserve(1)?;
         self.calls.push_reserved(call);
-        self.classes.push(class);
+        self.classes.push_reserved(class);
+        Ok(())
     }
 
     /// The call leaves the queue.
@@ -75,6 +76,12 @@ impl Queue {
         ensures { self.new ≡ without_call call self.old }
     {
         remove_from(&mut self.calls, &mut self.classes, call);
+    }
+
+    /// For how many numbers and for how many classes there is room now.
+    #[cfg(test)]
+    pub fn room(&self) -> (usize, usize) {
+        (self.calls.capacity(), self.classes.capacity())
     }
 
     /// The numbers of the calls, in order.
@@ -86,12 +93,11 @@ impl Queue {
 }
 
 /// Removes a call's number and its class, wherever they stand.
-fn remove_from(calls: &mut Vec<u32>, classes: &mut ArrayVec<u8, 64>, call: u32)
+fn remove_from(calls: &mut Vec<u32>, classes: &mut Vec<u8>, call: u32)
     requires { length calls.old.items ≡ length classes.old.items }
-    ensures after { invocations calls.new.items classes.new.items ≡ without_call call (invocations calls.old.items classes.old.items) }
+    ensures after { invocations calls.new.items classes.new.items
+        ≡ without_call call (invocations calls.old.items classes.old.items) }
     ensures same { length calls.new.items ≡ length classes.new.items }
-    ensures few { length calls.new.items ≤ length calls.old.items }
-    ensures room { vec_capacity calls.new ≡ vec_capacity calls.old }
 {
     let count = calls.len();
     for done in 0..count {

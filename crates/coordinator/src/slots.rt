@@ -1,8 +1,7 @@
 //! The processes, each with what it serves and what it waits for.
 ghost use Rattle.std.specs.Prelude.{◌≡◌, ◌<◌, ◌≤◌, ◌+◌, ◌↔◌, ◌==◌, IsTrue, ℕ, false, map, filter_map, [], ◌++◌, option_to_list, not};
-ghost use Rattle.std.specs.Prelude.{length, Some, OnSome, IfOk, List, slice_index, slice_index_or, count_by, vec_len};
+ghost use Rattle.std.specs.Prelude.{length, Some, OnSome, IfOk, OnOk, OnErr, List, slice_index, slice_index_or, count_by, vec_len};
 ghost use Rattle.std.specs.List.{filter, find, list_any, insert};
-ghost use Rattle.std.specs.Vec.{vec_capacity};
 ghost use Rattle.std.specs.Option.{option_map};
 ghost use Rattle.eden_model.specs.Map.{put_at};
 ghost use Rattle.std.specs.Ordering.{nat_cmp};
@@ -87,13 +86,12 @@ impl Slot {
     }
 }
 
-/// The declared processes, with room for sixteen.
+/// The declared processes, with room for no others.
 pub fn declared_slots(alloc: Global, declared: u8) -> Result<Vec<Slot>, AllocError>
     requires { declared ≤ 8 }
-    ensures slots { IfOk result (λ v. map process_of v.items ≡ declared_from 1 declared) }
-    ensures room { IfOk result (λ v. 16 ≤ vec_capacity v) }
+    ensures { IfOk result (λ v. map process_of v.items ≡ declared_from 1 declared) }
 {
-    let mut slots = Vec::with_capacity(alloc, 16)?;
+    let mut slots = Vec::with_capacity(alloc, declared as usize)?;
     for number in 0..declared {
         slots.push_reserved(Slot {
             number: number + 1,
@@ -105,8 +103,7 @@ pub fn declared_slots(alloc: Global, declared: u8) -> Result<Vec<Slot>, AllocErr
 }
 
 pub fn set_slots(slots: &mut Vec<Slot>, process: u8, waits: Waits)
-    ensures slots { slots.new.items ≡ map (with_slot process waits) slots.old.items }
-    ensures room { vec_capacity slots.new ≡ vec_capacity slots.old }
+    ensures { slots.new.items ≡ map (with_slot process waits) slots.old.items }
 {
     for i in 0..slots.len() {
         let slot = slots[i];
@@ -152,8 +149,8 @@ fn first_to_start(slots: &[Slot], limits: &[u8], queued: &Queue) -> Option<Servi
 /// The earliest invocation that may start, while fewer than sixteen processes exist.
 pub fn next_to_start(slots: &[Slot], limits: &[u8], queued: &Queue) -> Option<Serving>
     ensures few { OnSome result (length slots.now < 16) }
-    ensures found { (ms : List Monitor) (cs : List Condition) → option_map invocation_of result
-        ≡ startable (record { limits = limits.now; processes = map process_of slots.now; monitors = ms; conditions = cs }) queued.now }
+    ensures found { (ms : List Monitor) (cs : List Condition) → option_map invocation_of result ≡ startable
+        (record { limits = limits.now; processes = map process_of slots.now; monitors = ms; conditions = cs }) queued.now }
 {
     if slots.len() < 16 {
         first_to_start(slots, limits, queued)
@@ -195,13 +192,12 @@ fn place_of(slots: &[Slot], number: u8) -> usize
 }
 
 /// A process that serves the invocation joins in the place of its number.
-pub fn insert_slot(slots: &mut Vec<Slot>, number: u8, serving: Serving)
-    requires few { length slots.old.items < 16 }
-    requires room { 16 ≤ vec_capacity slots.old }
-    requires free { is_taken number (map process_of slots.old.items) ≡ false }
-    ensures slots { map process_of slots.new.items ≡ put_at nat_cmp number (started_slot serving) (map process_of slots.old.items) }
-    ensures room { 16 ≤ vec_capacity slots.new }
-    ensures len { length slots.new.items ≡ length slots.old.items + 1 }
+pub fn insert_slot(slots: &mut Vec<Slot>, number: u8, serving: Serving) -> Result<(), AllocError>
+    requires { is_taken number (map process_of slots.old.items) ≡ false }
+    ensures slots { OnOk result (map process_of slots.new.items
+        ≡ put_at nat_cmp number (started_slot serving) (map process_of slots.old.items)) }
+    ensures len { OnOk result (length slots.new.items ≡ length slots.old.items + 1) }
+    ensures unchanged { OnErr result (slots.new.items ≡ slots.old.items) }
 {
     let at = place_of(slots, number);
     let slot = Slot {
@@ -209,15 +205,12 @@ pub fn insert_slot(slots: &mut Vec<Slot>, number: u8, serving: Serving)
         serves: Some(serving),
         waits: Waits::Nothing,
     };
-    match slots.insert(at, slot) {
-        Ok(()) => {}
-        Err(_) => unreachable!(),
-    }
+    slots.insert(at, slot)?;
+    Ok(())
 }
 
 pub fn remove_slot(slots: &mut Vec<Slot>, process: u8)
-    ensures slots { slots.new.items ≡ filter (λ s. not (s.number == process)) slots.old.items }
-    ensures room { vec_capacity slots.new ≡ vec_capacity slots.old }
+    ensures { slots.new.items ≡ filter (λ s. not (s.number == process)) slots.old.items }
 {
     slots.retain(|slot| slot.number != process);
 }

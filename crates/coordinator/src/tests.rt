@@ -1,31 +1,37 @@
 use super::*;
-use std::alloc::AllocError;
+use std::alloc::{AllocError, Global};
+use std::mem::size_of;
 
-#[test]
-fn one_of_a_class_with_limit_one(rt: HostRuntime) -> Result<(), AllocError> {
+/// A coordinator of one class with this limit, and of no process, monitor or condition.
+fn idle(alloc: Global, limit: u8) -> Result<Coordinator, AllocError> {
     let limits = Limits {
-        limits: vec![in rt.alloc(); 1]?,
+        limits: vec![in alloc; limit]?,
     };
     let conditions = CondMonitors {
-        monitors: Vec::new(rt.alloc()),
+        monitors: Vec::new(alloc),
     };
-    let mut c = Coordinator::new(
-        rt.alloc(),
+    Coordinator::new(
+        alloc,
         Setup {
             limits,
             declared: 0,
             monitors: 0,
             conditions,
         },
-    )?;
+    )
+}
+
+#[test]
+fn one_of_a_class_with_limit_one(rt: HostRuntime) -> Result<(), AllocError> {
+    let mut c = idle(rt.alloc(), 1)?;
     for i in 0..64 {
         assert!(rt; !c.is_full(), "at {i}");
         assert!(rt; c.offer(100 + i, 0).is_ok(), "at {i}");
     }
     assert!(rt; c.is_full());
-    assert!(rt; c.offer(164, 0).is_err());
+    assert!(rt; c.offer(164, 0) == Err(OfferRefusal::Busy));
     assert_eq!(rt; c.startable(), Some(100));
-    match c.start() {
+    match c.start()? {
         Some(started) => {
             assert_eq!(rt; started.call, 100);
             assert_eq!(rt; started.process, 1);
@@ -36,11 +42,49 @@ fn one_of_a_class_with_limit_one(rt: HostRuntime) -> Result<(), AllocError> {
     assert_eq!(rt; c.serves(1), Some(100));
     assert_eq!(rt; c.serves(2), None);
     assert_eq!(rt; c.startable(), None);
-    assert!(rt; c.start().is_none());
+    assert!(rt; c.start()?.is_none());
     let parts = c.into_parts();
     assert_eq!(rt; parts.running.pairs.len(), 1);
     assert_eq!(rt; parts.queued.numbers.len(), 63);
     assert_eq!(rt; parts.queued.numbers.first().copied(), Some(101));
+    Ok(())
+}
+
+#[test]
+fn an_idle_one_takes_145_bytes(rt: HostRuntime) -> Result<(), AllocError> {
+    let c = idle(rt.alloc(), 16)?;
+    assert_eq!(rt; size_of::<Coordinator>(), 144);
+    assert_eq!(rt; size_of::<Slot>(), 16);
+    assert_eq!(rt; size_of::<Monitor>(), 32);
+    assert_eq!(rt; size_of::<Condition>(), 32);
+    assert_eq!(rt; c.limits.limits.capacity(), 1);
+    assert_eq!(rt; c.slots.capacity(), 0);
+    assert_eq!(rt; c.monitors.capacity(), 0);
+    assert_eq!(rt; c.conditions.capacity(), 0);
+    assert_eq!(rt; c.queued.room(), (0, 0));
+    Ok(())
+}
+
+#[test]
+fn room_grows_to_sixteen_processes(rt: HostRuntime) -> Result<(), AllocError> {
+    let mut c = idle(rt.alloc(), 16)?;
+    for i in 0..17 {
+        assert!(rt; c.offer(100 + i, 0).is_ok(), "at {i}");
+    }
+    for i in 0..16u8 {
+        match c.start()? {
+            Some(started) => {
+                assert_eq!(rt; started.call, 100 + u32::from(i));
+                assert_eq!(rt; started.process, i + 1);
+            }
+            None => panic!(rt; "nothing started at {i}"),
+        }
+    }
+    assert!(rt; c.start()?.is_none());
+    assert_eq!(rt; c.next_ready(15), Some(16));
+    let parts = c.into_parts();
+    assert_eq!(rt; parts.running.pairs.len(), 16);
+    assert_eq!(rt; parts.queued.numbers.len(), 1);
     Ok(())
 }
 

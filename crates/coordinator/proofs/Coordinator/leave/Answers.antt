@@ -8,6 +8,8 @@ use Rattle.coordinator.proofs.Coordinator.leave.Goals as goal
 pub invariant_of-self : goal.invariant_of-self
 invariant_of-self c =
     let a = c.self.inside in
-    kept a _ c.self.invariant refl c.pass_on.ensures.room c.pass_on.ensures.slots c.pass_on.ensures.monitors c.self.invariant.monitors
-    (rw (c.pass_on.ensures.crew a.limits (map condition_of a.conditions.items)) (left-lines (view_of a).crew c.self.invariant.lines c.args.monitor))
-    (ascend-as _ _ (c.pass_on.ensures.crew a.limits (map condition_of a.conditions.items)) (ascend-left 0 c.args.monitor (view_of a).crew c.self.invariant.ascend))
+    kept a _ c.self.invariant refl c.pass_on.ensures.slots c.pass_on.ensures.monitors c.self.invariant.monitors
+    (rw (c.pass_on.ensures.crew a.limits (map condition_of a.conditions.items))
+    (left-lines (view_of a).crew c.self.invariant.lines c.args.monitor))
+    (ascend-as _ _ (c.pass_on.ensures.crew a.limits (map condition_of a.conditions.items))
+    (ascend-left 0 c.args.monitor (view_of a).crew c.self.invariant.ascend))

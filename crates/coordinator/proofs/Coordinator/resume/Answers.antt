@@ -13,10 +13,12 @@ pub invariant_of-self : goal.invariant_of-self
 invariant_of-self c =
     let a = c.self.inside in
     let runs = rw (← c.self.view_is) at c.requires in
-    let lines = waits-changed (view_of a).crew c.self.invariant.lines c.args.process nothing (out-outside (view_of a).crew c.self.invariant.lines c.args.process runs) in
-    kept a _ c.self.invariant refl c.set_slots.ensures.room (rw (c.set_slots.ensures.slots, length-map) refl) refl c.self.invariant.monitors
-    (rw (c.set_slots.ensures.slots, slots-wait c.args.process waits.Nothing a.slots.items) lines)
-    (rw (c.set_slots.ensures.slots, slots-wait c.args.process waits.Nothing a.slots.items) (ascend-waits c.args.process nothing 0 (view_of a).crew.processes c.self.invariant.ascend))
+    let lines = waits-changed (view_of a).crew c.self.invariant.lines c.args.process nothing
+    (out-outside (view_of a).crew c.self.invariant.lines c.args.process runs) in
+    kept a _ c.self.invariant refl (rw (c.set_slots.ensures, length-map) refl) refl c.self.invariant.monitors
+    (rw (c.set_slots.ensures, slots-wait c.args.process waits.Nothing a.slots.items) lines)
+    (rw (c.set_slots.ensures, slots-wait c.args.process waits.Nothing a.slots.items)
+    (ascend-waits c.args.process nothing 0 (view_of a).crew.processes c.self.invariant.ascend))
 
 pub returns : goal.returns
-returns c = rw (← c.self.view_is, c.set_slots.ensures.slots, slots-wait c.args.process waits.Nothing c.self.inside.slots.items) refl
+returns c = rw (← c.self.view_is, c.set_slots.ensures, slots-wait c.args.process waits.Nothing c.self.inside.slots.items) refl

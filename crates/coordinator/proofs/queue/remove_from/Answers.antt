@@ -1,4 +1,4 @@
-use Rattle.std.proofs.Common.{◌≡◌, ◌<◌, ◌+◌, ◌-◌, ◌∙◌, refl, sym, suc, length, get_or, arith}
+use Rattle.std.proofs.Common.{◌≡◌, ◌<◌, ◌+◌, ◌-◌, sym, suc, length, get_or, arith}
 use Rattle.coordinator.specs.Queued.{invocations}
 use Rattle.coordinator.proofs.Queues.{length-invocations, without-none, step-gone, step-kept}
 use Rattle.coordinator.proofs.queue.remove_from.Goals as goal
@@ -16,29 +16,27 @@ loop-done-preserved c =
       | then-index-call w ↦
           let here : get_or c.loop-done.calls.items place c.args.call ≡ c.args.call = rw w.if-index-call.true at at in
           rw (now, w.calls-is, w.classes-is) (record {
-            after = rw (w.remove.ensures.items, w.remove-then-index-call.ensures.items) (step-gone c.loop-done.calls.items c.loop-done.classes.items was place _ c.args.call c.loop-done.invariant.same within next c.loop-done.invariant.after here);
+            after = rw (w.remove.ensures.items, w.remove-then-index-call.ensures.items)
+                (step-gone c.loop-done.calls.items c.loop-done.classes.items was place _ c.args.call c.loop-done.invariant.same within next
+                c.loop-done.invariant.after here);
             same = omega (arith, w.remove.ensures.len, w.remove-then-index-call.ensures.len, c.loop-done.invariant.same);
-            few = omega (arith, w.remove.ensures.len, c.loop-done.invariant.few);
             enough = omega (arith, w.remove.ensures.len, within);
-            room = w.remove.ensures.capacity ∙ c.loop-done.invariant.room;
           })
       | else-index-call w ↦ rw (now, w.calls-is, w.classes-is) (record {
-        after = step-kept c.loop-done.calls.items c.loop-done.classes.items was place _ c.args.call c.index.result.now c.loop-done.invariant.same within next c.loop-done.invariant.after at w.if-index-call.false;
+        after = step-kept c.loop-done.calls.items c.loop-done.classes.items was place _ c.args.call c.index.result.now
+            c.loop-done.invariant.same within next c.loop-done.invariant.after at w.if-index-call.false;
         same = c.loop-done.invariant.same;
-        few = c.loop-done.invariant.few;
         enough = omega (arith, within);
-        room = c.loop-done.invariant.room;
       })
     ]
 
 pub loop-done-init : goal.loop-done-init
 loop-done-init c =
     let was = invocations c.args.calls.now.items c.args.classes.now.items in
-    let all : c.len-count.result - 0 ≡ length was = omega (arith, c.len-count.ensures, length-invocations c.args.calls.now.items c.args.classes.now.items c.requires) in
+    let all : c.len-count.result - 0 ≡ length was =
+    omega (arith, c.len-count.ensures, length-invocations c.args.calls.now.items c.args.classes.now.items c.requires) in
     record {
       after = rw all (sym (without-none c.args.call was));
       same = c.requires;
-      few = omega arith;
       enough = omega (arith, c.len-count.ensures);
-      room = refl;
     }

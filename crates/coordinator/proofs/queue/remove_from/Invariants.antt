@@ -1,5 +1,4 @@
 use Rattle.std.proofs.Common.{◌≡◌, ◌≤◌, ◌-◌, length}
-use Rattle.std.specs.Vec.{vec_capacity}
 use Rattle.coordinator.specs.Queued.{invocations}
 use Rattle.coordinator.proofs.Queues.{without_from}
 use Rattle.coordinator.proofs.queue.remove_from.Given as goal
@@ -7,9 +6,8 @@ use Rattle.coordinator.proofs.queue.remove_from.Given as goal
 -- what stands from the place on has lost the call
 abbrev pub invariant-loop-done : goal.invariant-loop-done
 invariant-loop-done l = record {
-  after : invocations l.calls.items l.classes.items ≡ without_from (l.count - l.done) l.call (invocations l.initial.calls.items l.initial.classes.items);
+  after : invocations l.calls.items l.classes.items ≡ without_from (l.count - l.done) l.call
+      (invocations l.initial.calls.items l.initial.classes.items);
   same : length l.calls.items ≡ length l.classes.items;
-  few : length l.calls.items ≤ length l.initial.calls.items;
   enough : l.count - l.done ≤ length l.calls.items;
-  room : vec_capacity l.calls ≡ vec_capacity l.initial.calls;
 }

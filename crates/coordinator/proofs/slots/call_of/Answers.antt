@@ -7,7 +7,9 @@ use Rattle.coordinator.proofs.Table.{served-found}
 use Rattle.coordinator.proofs.slots.call_of.Goals as goal
 
 pub returns-in-Some : goal.returns-in-Some
-returns-in-Some c = c.call.ensures ∙ sym (served-found c.args.process c.args.slots.now ∙ ap (λ o. with_item o (λ (s : Slot). option_map (λ (t : Serving). t.call) s.serves) None) (sym c.in-Some.ensures))
+returns-in-Some c = c.call.ensures ∙ sym (served-found c.args.process c.args.slots.now
+    ∙ ap (λ o. with_item o (λ (s : Slot). option_map (λ (t : Serving). t.call) s.serves) None) (sym c.in-Some.ensures))
 
 pub returns-in-None : goal.returns-in-None
-returns-in-None c = sym (served-found c.args.process c.args.slots.now ∙ ap (λ o. with_item o (λ (s : Slot). option_map (λ (t : Serving). t.call) s.serves) None) (sym c.in-None.ensures))
+returns-in-None c = sym (served-found c.args.process c.args.slots.now
+    ∙ ap (λ o. with_item o (λ (s : Slot). option_map (λ (t : Serving). t.call) s.serves) None) (sym c.in-None.ensures))

@@ -8,5 +8,5 @@ abbrev pub invariant-loop-number : goal.invariant-loop-number
 invariant-loop-number l = record {
   slots : map process_of l.slots.items ++ declared_from (l.number + 1) (l.declared - l.number) ≡ declared_from 1 l.declared;
   count : length l.slots.items ≡ l.number;
-  room : 16 ≤ vec_capacity l.slots;
+  room : l.declared ≤ vec_capacity l.slots;
 }

@@ -4,4 +4,5 @@ use Rattle.coordinator.proofs.queue.Queue.len.Goals as goal
 
 pub returns : goal.returns
 returns c =
-    rw (← c.self.view_is, length-invocations c.self.inside.calls.items c.self.inside.classes.items c.self.invariant.same) (omega (arith, c.len.ensures))
+    rw (← c.self.view_is, length-invocations c.self.inside.calls.items c.self.inside.classes.items c.self.invariant)
+    (omega (arith, c.len.ensures))
