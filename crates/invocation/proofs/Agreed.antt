@@ -1,5 +1,6 @@
 -- The calls of the code and of the model, changed together.
-use Rattle.std.proofs.Common.{subst, ◌≡◌, ◌≤◌, ◌<◌, ℕ, zero, suc, ◌+◌, ◌-◌, ◌==◌, Bool, true, false, cond, List, [], ◌∷◌, ◌++◌, map, length, Option, None, Some, refl, sym, ◌∙◌, ap, arith}
+use Rattle.std.proofs.Common.{subst, ◌≡◌, ◌≤◌, ◌<◌, ℕ, zero, suc, ◌+◌, ◌-◌, ◌==◌, Bool, true, false, cond, List, [], ◌∷◌, ◌++◌, map, length}
+use Rattle.std.proofs.Common.{Option, None, Some, refl, sym, ◌∙◌, ap, arith}
 use Rattle.std.specs.Prelude.{filter_map}
 use Rattle.std.specs.List.{All}
 use Rattle.std.proofs.lemmas.List.Elements.{All-head, All-tail}
@@ -41,7 +42,8 @@ agree-each f g both n [] (e ∷ es) h = absurd h
 agree-each f g both n (c ∷ cs) [] h = absurd h
 
 -- a call that is not the first
-changed-later : (k : ℕ) (g : traffic.Call → traffic.Call) (e : ℕ × traffic.Call) (es : List (ℕ × traffic.Call)) → e.0 < k → changed_at nat_cmp k g (e ∷ es) ≡ e ∷ changed_at nat_cmp k g es
+changed-later : (k : ℕ) (g : traffic.Call → traffic.Call) (e : ℕ × traffic.Call) (es : List (ℕ × traffic.Call)) → e.0 < k
+    → changed_at nat_cmp k g (e ∷ es) ≡ e ∷ changed_at nat_cmp k g es
 changed-later k g e es h = go (value_at nat_cmp k es) refl
   where
     other : eq_by_cmp nat_cmp k e.0 ≡ false
@@ -51,11 +53,13 @@ changed-later k g e es h = go (value_at nat_cmp k es) refl
     more = greater-than k e.0 h
 
     go : (o : Option traffic.Call) → value_at nat_cmp k es ≡ o
-        → with_item (cond (eq_by_cmp nat_cmp k e.0) (Some e.1) (value_at nat_cmp k es)) (λ x. put_at nat_cmp k (g x) (e ∷ es)) (e ∷ es) ≡ e ∷ with_item (value_at nat_cmp k es) (λ x. put_at nat_cmp k (g x) es) es
+        → with_item (cond (eq_by_cmp nat_cmp k e.0) (Some e.1) (value_at nat_cmp k es)) (λ x. put_at nat_cmp k (g x) (e ∷ es)) (e ∷ es)
+        ≡ e ∷ with_item (value_at nat_cmp k es) (λ x. put_at nat_cmp k (g x) es) es
     go None is = rw (other, is) refl
     go (Some x) is = rw (other, is) (rw more refl)
 
-changed-first : (k : ℕ) (g : traffic.Call → traffic.Call) (e : ℕ × traffic.Call) (es : List (ℕ × traffic.Call)) → nat_cmp k e.0 ≡ Equal → changed_at nat_cmp k g (e ∷ es) ≡ (e.0, g e.1) ∷ es
+changed-first : (k : ℕ) (g : traffic.Call → traffic.Call) (e : ℕ × traffic.Call) (es : List (ℕ × traffic.Call)) → nat_cmp k e.0 ≡ Equal
+    → changed_at nat_cmp k g (e ∷ es) ≡ (e.0, g e.1) ∷ es
 changed-first k g e es h = rw h refl
 
 -- the call of this number is changed on both sides
@@ -63,11 +67,13 @@ abbrev Both : (f : Call → Call) (g : traffic.Call → traffic.Call) (k : ℕ) 
 Both f g k es = (c : Call) (d : traffic.Call) → value_at nat_cmp k es ≡ Some d → Same c d → Same (f c) (g d)
 
 pub agree-changed : (f : Call → Call) (g : traffic.Call → traffic.Call)
-    → (k n : ℕ) (cs : List Call) (es : List (ℕ × traffic.Call)) → Both f g k es → n ≤ k → Agree n cs es → Agree n (change (k - n) f cs) (changed_at nat_cmp k g es)
+    → (k n : ℕ) (cs : List Call) (es : List (ℕ × traffic.Call)) → Both f g k es → n ≤ k → Agree n cs es
+    → Agree n (change (k - n) f cs) (changed_at nat_cmp k g es)
 agree-changed f g k n [] [] both from h = tt
 agree-changed f g k n (c ∷ cs) (e ∷ es) both from h = go (n == k) refl (λ later more. agree-changed f g k (n + 1) cs es later more h.2)
   where
-    go : (b : Bool) → (n == k) ≡ b → (Both f g k es → n + 1 ≤ k → Agree (n + 1) (change (k - (n + 1)) f cs) (changed_at nat_cmp k g es)) → Agree n (change (k - n) f (c ∷ cs)) (changed_at nat_cmp k g (e ∷ es))
+    go : (b : Bool) → (n == k) ≡ b → (Both f g k es → n + 1 ≤ k → Agree (n + 1) (change (k - (n + 1)) f cs) (changed_at nat_cmp k g es))
+        → Agree n (change (k - n) f (c ∷ cs)) (changed_at nat_cmp k g (e ∷ es))
     go true is ih =
         let same : n ≡ k = grind arith in
         let none : k - n ≡ 0 = omega (arith, same) in
@@ -90,12 +96,14 @@ change-none zero (c ∷ cs) = refl
 change-none (suc i) (c ∷ cs) = ap (λ l. c ∷ l) (change-none i cs)
 
 -- the model's call alone is changed
-pub agree-placed : (g : traffic.Call → traffic.Call) (k : ℕ) (cs : List Call) (es : List (ℕ × traffic.Call)) → Both (λ c. c) g k es → 1 ≤ k → Agree 1 cs es → Agree 1 cs (changed_at nat_cmp k g es)
+pub agree-placed : (g : traffic.Call → traffic.Call) (k : ℕ) (cs : List Call) (es : List (ℕ × traffic.Call)) → Both (λ c. c) g k es → 1 ≤ k
+    → Agree 1 cs es → Agree 1 cs (changed_at nat_cmp k g es)
 agree-placed g k cs es both from h =
     let e = change-none (k - 1) cs in
     subst (λ l. Agree 1 l (changed_at nat_cmp k g es)) e (agree-changed (λ c. c) g k 1 cs es both from h)
 
-pub agree-push : (c : Call) (d : traffic.Call) → Same c d → (n : ℕ) (cs : List Call) (es : List (ℕ × traffic.Call)) → Agree n cs es → Agree n (cs ++ c ∷ []) (put_at nat_cmp (n + length cs) d es)
+pub agree-push : (c : Call) (d : traffic.Call) → Same c d → (n : ℕ) (cs : List Call) (es : List (ℕ × traffic.Call)) → Agree n cs es
+    → Agree n (cs ++ c ∷ []) (put_at nat_cmp (n + length cs) d es)
 agree-push c d same n [] [] h = let e : n + 0 ≡ n = omega arith in (e, same, tt)
 agree-push c d same n (x ∷ cs) (e ∷ es) h =
     let more : nat_cmp (n + suc (length cs)) e.0 ≡ Greater = greater-than (n + suc (length cs)) e.0 (omega (arith, h.0)) in
@@ -107,7 +115,8 @@ agree-push c d same n (x ∷ cs) [] h = absurd h
 -- 3. The numbers of those that pass
 
 pub agree-numbers : (p : Call → Bool) (q : traffic.Call → Bool) → ((c : Call) (d : traffic.Call) → Same c d → q d ≡ p c)
-    → (n : ℕ) (cs : List Call) (es : List (ℕ × traffic.Call)) → Agree n cs es → filter_map (λ (e : ℕ × traffic.Call). cond (q e.1) (Some e.0) None) es ≡ numbers_where p n cs
+    → (n : ℕ) (cs : List Call) (es : List (ℕ × traffic.Call)) → Agree n cs es
+    → filter_map (λ (e : ℕ × traffic.Call). cond (q e.1) (Some e.0) None) es ≡ numbers_where p n cs
 agree-numbers p q both n [] [] h = refl
 agree-numbers p q both n (c ∷ cs) (e ∷ es) h = go (p c) refl (agree-numbers p q both (n + 1) cs es h.2)
   where
@@ -115,7 +124,8 @@ agree-numbers p q both n (c ∷ cs) (e ∷ es) h = go (p c) refl (agree-numbers 
     is = both c e.1 h.1
 
     go : (b : Bool) → p c ≡ b → filter_map (λ (e : ℕ × traffic.Call). cond (q e.1) (Some e.0) None) es ≡ numbers_where p (n + 1) cs
-        → filter_map (λ (e : ℕ × traffic.Call). cond (q e.1) (Some e.0) None) (e ∷ es) ≡ cond (p c) (n ∷ numbers_where p (n + 1) cs) (numbers_where p (n + 1) cs)
+        → filter_map (λ (e : ℕ × traffic.Call). cond (q e.1) (Some e.0) None) (e ∷ es) ≡ cond (p c) (n ∷ numbers_where p (n + 1) cs)
+        (numbers_where p (n + 1) cs)
     go true b ih = rw (is, b) (rw ih (ap (λ k. k ∷ numbers_where p (n + 1) cs) h.0))
     go false b ih = rw (is, b) ih
 agree-numbers p q both n [] (e ∷ es) h = absurd h
@@ -135,11 +145,13 @@ spent-same c d read same = record {
   args = λ awaited. let bad : true ≡ false = sym awaited ∙ read in cc;
 }
 
-agree-spent : (k n : ℕ) (cs : List Call) (es : List (ℕ × traffic.Call)) → IsRead k es → n ≤ k → Agree n cs es → Agree n (change (k - n) spent cs) es
+agree-spent : (k n : ℕ) (cs : List Call) (es : List (ℕ × traffic.Call)) → IsRead k es → n ≤ k → Agree n cs es
+    → Agree n (change (k - n) spent cs) es
 agree-spent k n [] [] read from h = tt
 agree-spent k n (c ∷ cs) (e ∷ es) read from h = go (n == k) refl (λ later more. agree-spent k (n + 1) cs es later more h.2)
   where
-    go : (b : Bool) → (n == k) ≡ b → (IsRead k es → n + 1 ≤ k → Agree (n + 1) (change (k - (n + 1)) spent cs) es) → Agree n (change (k - n) spent (c ∷ cs)) (e ∷ es)
+    go : (b : Bool) → (n == k) ≡ b → (IsRead k es → n + 1 ≤ k → Agree (n + 1) (change (k - (n + 1)) spent cs) es)
+        → Agree n (change (k - n) spent (c ∷ cs)) (e ∷ es)
     go true is ih =
         let same : n ≡ k = grind arith in
         let none : k - n ≡ 0 = omega (arith, same) in
@@ -157,8 +169,10 @@ agree-spent k n (c ∷ cs) [] read from h = absurd h
 abbrev pub AllRead : List (ℕ × traffic.Call) → List Message → Type 0
 AllRead es ms = All (λ m. (1 ≤ number_of m) × IsRead (number_of m) es) ms
 
-pub agree-let_go : (ms : List Message) (cs : List Call) (es : List (ℕ × traffic.Call)) → AllRead es ms → Agree 1 cs es → Agree 1 (let_go ms cs) es
+pub agree-let_go : (ms : List Message) (cs : List Call) (es : List (ℕ × traffic.Call)) → AllRead es ms → Agree 1 cs es
+    → Agree 1 (let_go ms cs) es
 agree-let_go [] cs es all h = h
 agree-let_go (m ∷ ms) cs es all h =
     let one = All-head (λ x. (1 ≤ number_of x) × IsRead (number_of x) es) m ms all in
-    agree-let_go ms (change (number_of m - 1) spent cs) es (All-tail (λ x. (1 ≤ number_of x) × IsRead (number_of x) es) m ms all) (agree-spent (number_of m) 1 cs es one.1 one.0 h)
+    agree-let_go ms (change (number_of m - 1) spent cs) es (All-tail (λ x. (1 ≤ number_of x) × IsRead (number_of x) es) m ms all)
+    (agree-spent (number_of m) 1 cs es one.1 one.0 h)

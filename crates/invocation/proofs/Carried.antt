@@ -1,5 +1,6 @@
 -- Each change of the calls and queues is the model's change of its traffic.
-use Rattle.std.proofs.Common.{subst, ◌≡◌, ◌≢◌, ◌≤◌, ℕ, zero, suc, ◌+◌, ◌*◌, ◌==◌, Bool, true, false, cond, not, List, [], ◌∷◌, ◌++◌, map, length, get_or, Option, None, Some, refl, sym, ◌∙◌, ap, arith}
+use Rattle.std.proofs.Common.{subst, ◌≡◌, ◌≢◌, ◌≤◌, ℕ, zero, suc, ◌+◌, ◌*◌, ◌==◌, Bool, true, false, cond, not, List, [], ◌∷◌, ◌++◌, map}
+use Rattle.std.proofs.Common.{length, get_or, Option, None, Some, refl, sym, ◌∙◌, ap, arith}
 use Rattle.std.specs.Prelude.{slice_set}
 use Rattle.std.specs.List.{filter}
 use Rattle.std.specs.Option.{option_map}
@@ -14,7 +15,8 @@ use Rattle.eden_model.specs.Map.{with_item, first, value_at, changed_at}
 use Rattle.eden_model.proofs.Laws.{value-changed_same, value-changed_other}
 use Rattle.eden_model.proofs.Numbers.{same-true}
 use Rattle.eden_model.specs.Lines.{has, Distinct}
-use Rattle.eden_model.specs.Traffic.{Traffic, Place, asked, held, answered, done, call_at, goes, queue, asking_station, target_station, in_transit, next_message, taken, changed_call, at_place, closed, waiting_process}
+use Rattle.eden_model.specs.Traffic.{Traffic, Place, asked, held, answered, done, call_at, goes, queue, asking_station, target_station}
+use Rattle.eden_model.specs.Traffic.{in_transit, next_message, taken, changed_call, at_place, closed, waiting_process}
 use Rattle.eden_model.specs.Traffic as traffic
 use Rattle.invocation.specs.declared.call.Call.{Call}
 use Rattle.invocation.specs.declared.call.Message.{Message}
@@ -23,8 +25,10 @@ use Rattle.invocation.specs.Queues.{row, with_row, sent_to}
 use Rattle.invocation.specs.Numbers.{item_in, passes_at}
 use Rattle.invocation.proofs.CarriesLaws.{asked-call}
 use Rattle.invocation.specs.Mail.{Mail, received, over, spent, is_open, delivery_of, no_mail}
-use Rattle.invocation.specs.Carries.{Carries, CarriesDelivery, Same, Agree, IsAt, IsAskedBy, is_awaited, is_sent, message_at, message_of, no_traffic}
-use Rattle.invocation.proofs.Filters.{has-here, has-filter, keep-all, distinct-filter, taken-out, left-in, apart, filter-same, map-same, eq-apart}
+use Rattle.invocation.specs.Carries.{Carries, CarriesDelivery, Same, Agree, IsAt, IsAskedBy, is_awaited, is_sent, message_at, message_of}
+use Rattle.invocation.specs.Carries.{no_traffic}
+use Rattle.invocation.proofs.Filters.{has-here, has-filter, keep-all, distinct-filter, taken-out, left-in, apart, filter-same, map-same}
+use Rattle.invocation.proofs.Filters.{eq-apart}
 use Rattle.invocation.proofs.Agreed.{agree-changed, agree-placed, none-before}
 use Rattle.invocation.proofs.Moves.{same-goes, same-message, messages-left, once-left, sent-left, messages-came, one-way}
 
@@ -63,48 +67,63 @@ module _ (m : Mail) (t : Traffic) (h : Carries m t) (pairs : length m.queues ≡
             absurd (other (one-way t k c d a b goes_c goes-there))
         go j there false e = refl
 
-    pub rows-left : (u : Traffic) → u.transit ≡ filter (λ j. not (j == k)) t.transit → ((j : ℕ) → not (j == k) ≡ true → call_at u j ≡ call_at t j)
-        → (ms : List Message) → map (message_of t) ks ≡ ms → (c d : ℕ) → c ≤ 8 → d ≤ 8 → map (message_of u) (queue u c d) ≡ row c d (with_row a b ms m.queues)
+    pub rows-left : (u : Traffic) → u.transit ≡ filter (λ j. not (j == k)) t.transit
+        → ((j : ℕ) → not (j == k) ≡ true → call_at u j ≡ call_at t j)
+        → (ms : List Message) → map (message_of t) ks ≡ ms → (c d : ℕ) → c ≤ 8 → d ≤ 8
+        → map (message_of u) (queue u c d) ≡ row c d (with_row a b ms m.queues)
     rows-left u left same ms rest c d c8 d8 = messages-left t u (λ j. not (j == k)) left same c d ∙ go ((9 * c + d) == (9 * a + b)) refl
       where
-        go : (x : Bool) → ((9 * c + d) == (9 * a + b)) ≡ x → map (message_of t) (filter (λ j. not (j == k)) (queue t c d)) ≡ row c d (with_row a b ms m.queues)
+        go : (x : Bool) → ((9 * c + d) == (9 * a + b)) ≡ x
+            → map (message_of t) (filter (λ j. not (j == k)) (queue t c d)) ≡ row c d (with_row a b ms m.queues)
         go true e =
             let place : (9 * c + d) ≡ (9 * a + b) = eqb-true (9 * c + d) (9 * a + b) e in
             let both = pair-apart a b c d from to c8 d8 place in
             let mine : queue t c d ≡ k ∷ ks = ap (λ x. queue t x d) both.0 ∙ ap (queue t a) both.1 ∙ is in
             ap (λ l. map (message_of t) (filter (λ j. not (j == k)) l)) mine ∙ ap (map (message_of t)) own ∙ rest
-            ∙ sym (ap (λ i. get_or (slice_set m.queues (9 * a + b) ms) i []) place ∙ get_or-set_same m.queues (9 * a + b) ms [] (omega (arith, from, to, pairs)))
+            ∙ sym (ap (λ i. get_or (slice_set m.queues (9 * a + b) ms) i []) place
+            ∙ get_or-set_same m.queues (9 * a + b) ms [] (omega (arith, from, to, pairs)))
         go false e =
             let place : (9 * c + d) ≢ (9 * a + b) = eq-apart (9 * c + d) (9 * a + b) e in
-            ap (map (message_of t)) (others c d (λ both. place (ap (λ x. 9 * x + d) both.0 ∙ ap (λ x. 9 * a + x) both.1))) ∙ h.queues c d c8 d8
+            ap (map (message_of t)) (others c d (λ both. place (ap (λ x. 9 * x + d) both.0 ∙ ap (λ x. 9 * a + x) both.1)))
+            ∙ h.queues c d c8 d8
             ∙ sym (get_or-set_other m.queues (9 * a + b) (9 * c + d) ms [] place)
 
   -- a message that is sent is the last of its queue
-  pub rows-came : (u : Traffic) (k : ℕ) → u.transit ≡ t.transit ++ k ∷ [] → has k t.transit ≡ false → ((j : ℕ) → eq_by_cmp nat_cmp j k ≡ false → call_at u j ≡ call_at t j)
-      → (msg : Message) → goes u a b k ≡ true → message_of u k ≡ msg → (c d : ℕ) → c ≤ 8 → d ≤ 8 → map (message_of u) (queue u c d) ≡ row c d (sent_to a b msg m.queues)
-  rows-came u k came new same msg there says c d c8 d8 = messages-came t u k came new same c d ∙ ap (λ l. l ++ cond (goes u c d k) (message_of u k ∷ []) []) (h.queues c d c8 d8) ∙ go ((9 * c + d) == (9 * a + b)) refl
+  pub rows-came : (u : Traffic) (k : ℕ) → u.transit ≡ t.transit ++ k ∷ [] → has k t.transit ≡ false
+      → ((j : ℕ) → eq_by_cmp nat_cmp j k ≡ false → call_at u j ≡ call_at t j)
+      → (msg : Message) → goes u a b k ≡ true → message_of u k ≡ msg → (c d : ℕ) → c ≤ 8 → d ≤ 8
+      → map (message_of u) (queue u c d) ≡ row c d (sent_to a b msg m.queues)
+  rows-came u k came new same msg there says c d c8 d8 = messages-came t u k came new same c d
+      ∙ ap (λ l. l ++ cond (goes u c d k) (message_of u k ∷ []) []) (h.queues c d c8 d8) ∙ go ((9 * c + d) == (9 * a + b)) refl
     where
       elsewhere : (9 * c + d) ≢ (9 * a + b) → (x : Bool) → goes u c d k ≡ x → x ≡ false
-      elsewhere place true e = absurd (let both = one-way u k c d a b e there in place (ap (λ x. 9 * x + d) both.0 ∙ ap (λ x. 9 * a + x) both.1))
+      elsewhere place true e = absurd (let both = one-way u k c d a b e there in
+          place (ap (λ x. 9 * x + d) both.0 ∙ ap (λ x. 9 * a + x) both.1))
       elsewhere place false e = refl
 
-      go : (x : Bool) → ((9 * c + d) == (9 * a + b)) ≡ x → row c d m.queues ++ cond (goes u c d k) (message_of u k ∷ []) [] ≡ row c d (sent_to a b msg m.queues)
+      go : (x : Bool) → ((9 * c + d) == (9 * a + b)) ≡ x
+          → row c d m.queues ++ cond (goes u c d k) (message_of u k ∷ []) [] ≡ row c d (sent_to a b msg m.queues)
       go true e =
           let place : (9 * c + d) ≡ (9 * a + b) = eqb-true (9 * c + d) (9 * a + b) e in
           let both = pair-apart a b c d from to c8 d8 place in
           let goes_c : goes u c d k ≡ true = ap (λ x. goes u x d k) both.0 ∙ ap (λ x. goes u a x k) both.1 ∙ there in
           rw (goes_c, says) (ap (λ i. get_or m.queues i [] ++ msg ∷ []) place
-          ∙ sym (ap (λ i. get_or (sent_to a b msg m.queues) i []) place ∙ get_or-set_same m.queues (9 * a + b) (row a b m.queues ++ msg ∷ []) [] (omega (arith, from, to, pairs))))
+          ∙ sym (ap (λ i. get_or (sent_to a b msg m.queues) i []) place
+          ∙ get_or-set_same m.queues (9 * a + b) (row a b m.queues ++ msg ∷ []) [] (omega (arith, from, to, pairs))))
       go false e =
           let place : (9 * c + d) ≢ (9 * a + b) = eq-apart (9 * c + d) (9 * a + b) e in
           let none : goes u c d k ≡ false = elsewhere place (goes u c d k) refl in
-          rw none (append-nil (row c d m.queues) ∙ sym (get_or-set_other m.queues (9 * a + b) (9 * c + d) (row a b m.queues ++ msg ∷ []) [] place))
+          rw none (append-nil (row c d m.queues)
+          ∙ sym (get_or-set_other m.queues (9 * a + b) (9 * c + d) (row a b m.queues ++ msg ∷ []) [] place))
 
 -- the model's places alone change, of calls that have no message on its way
-pub rows-still : (t u : Traffic) → u.transit ≡ t.transit → ((j : ℕ) → has j t.transit ≡ true → call_at u j ≡ call_at t j) → (c d : ℕ) → map (message_of u) (queue u c d) ≡ map (message_of t) (queue t c d)
+pub rows-still : (t u : Traffic) → u.transit ≡ t.transit → ((j : ℕ) → has j t.transit ≡ true → call_at u j ≡ call_at t j) → (c d : ℕ)
+    → map (message_of u) (queue u c d) ≡ map (message_of t) (queue t c d)
 rows-still t u transit same c d =
-    ap (map (message_of u)) (ap (filter (goes u c d)) transit ∙ filter-same (goes u c d) (goes t c d) t.transit (λ j there. same-goes t u j c d (same j there)))
-    ∙ map-same (message_of u) (message_of t) (queue t c d) (λ j there. same-message t u j (same j (has-filter (goes t c d) t.transit j there).0))
+    ap (map (message_of u)) (ap (filter (goes u c d)) transit
+    ∙ filter-same (goes u c d) (goes t c d) t.transit (λ j there. same-goes t u j c d (same j there)))
+    ∙ map-same (message_of u) (message_of t) (queue t c d)
+    (λ j there. same-message t u j (same j (has-filter (goes t c d) t.transit j there).0))
 
 -- 2. Deliveries
 
@@ -116,31 +135,64 @@ Tells t k (Reply j s results) = (k ≡ j) × IsAt t k (answered s results)
 told : (t : Traffic) (k : ℕ) → is_sent t k ≡ true → Tells t k (message_of t k)
 told t k = go (call_at t k) refl
   where
-    at : (x : traffic.Call) → call_at t k ≡ Some x → (place : Place) → x.place ≡ place → in_transit place ≡ true → Tells t k (message_at k place)
+    at : (x : traffic.Call) → call_at t k ≡ Some x → (place : Place) → x.place ≡ place → in_transit place ≡ true
+        → Tells t k (message_at k place)
     at x e asked p h = (refl, ap (option_map (λ (c : traffic.Call). c.place)) e ∙ ap Some p)
     at x e (answered s results) p h = (refl, ap (option_map (λ (c : traffic.Call). c.place)) e ∙ ap Some p)
     at x e held p h = absurd (let bad : false ≡ true = h in cc)
     at x e done p h = absurd (let bad : false ≡ true = h in cc)
 
-    go : (o : Option traffic.Call) → call_at t k ≡ o → with_item o (λ (c : traffic.Call). in_transit c.place) false ≡ true → Tells t k (with_item o (λ (c : traffic.Call). message_at k c.place) (Request k))
+    go : (o : Option traffic.Call) → call_at t k ≡ o → with_item o (λ (c : traffic.Call). in_transit c.place) false ≡ true
+        → Tells t k (with_item o (λ (c : traffic.Call). message_at k c.place) (Request k))
     go None e h = absurd (let bad : false ≡ true = h in cc)
     go (Some x) e h = at x e x.place refl h
 
 -- the place of the call that is found
-place-found : (t : Traffic) (k : ℕ) (place : Place) (d : traffic.Call) → IsAt t k place → value_at nat_cmp k t.calls ≡ Some d → d.place ≡ place
-place-found t k place d is found = let e : Some d.place ≡ Some place = ap (option_map (λ (c : traffic.Call). c.place)) (sym found) ∙ is in cc
+place-found : (t : Traffic) (k : ℕ) (place : Place) (d : traffic.Call) → IsAt t k place → value_at nat_cmp k t.calls ≡ Some d
+    → d.place ≡ place
+place-found t k place d is found = let e : Some d.place ≡ Some place = ap (option_map (λ (c : traffic.Call). c.place)) (sym found) ∙ is in
+    cc
 
 held-same : (c : Call) (d : traffic.Call) → d.place ≡ asked → Same c d → Same c (at_place held d)
-held-same c d is same = record { asker = same.asker; target = same.target; operation = same.operation; open_ = same.open_; args = λ e. same.args (ap is_awaited is) }
+held-same c d is same = record {
+  asker = same.asker;
+  target = same.target;
+  operation = same.operation;
+  open_ = same.open_;
+  args =
+      λ e. same.args (ap is_awaited is);
+}
 
 closed-same : (c : Call) (d : traffic.Call) → Same c d → Same (over c) (closed d)
-closed-same c d same = record { asker = same.asker; target = same.target; operation = same.operation; open_ = refl; args = λ e. let bad : false ≡ true = e in cc }
+closed-same c d same = record {
+  asker = same.asker;
+  target = same.target;
+  operation = same.operation;
+  open_ = refl;
+  args =
+      λ e. let bad : false ≡ true = e in cc;
+}
 
 pub done-same : (c : Call) (d : traffic.Call) → Same c d → Same (spent c) (at_place done d)
-done-same c d same = record { asker = same.asker; target = same.target; operation = same.operation; open_ = same.open_; args = λ e. let bad : false ≡ true = e in cc }
+done-same c d same = record {
+  asker = same.asker;
+  target = same.target;
+  operation = same.operation;
+  open_ = same.open_;
+  args =
+      λ e. let bad : false ≡ true = e in cc;
+}
 
-pub answered-same : (c : Call) (d : traffic.Call) (s : Status) (results : List Datum) → Same c d → Same (spent c) (at_place (answered s results) d)
-answered-same c d s results same = record { asker = same.asker; target = same.target; operation = same.operation; open_ = same.open_; args = λ e. let bad : false ≡ true = e in cc }
+pub answered-same : (c : Call) (d : traffic.Call) (s : Status) (results : List Datum) → Same c d
+    → Same (spent c) (at_place (answered s results) d)
+answered-same c d s results same = record {
+  asker = same.asker;
+  target = same.target;
+  operation = same.operation;
+  open_ = same.open_;
+  args =
+      λ e. let bad : false ≡ true = e in cc;
+}
 
 -- what the code has of a call that was asked is what the model tells
 asked-by : (m : Mail) (t : Traffic) → Carries m t → (k : ℕ) (place : Place) → IsAt t k place
@@ -157,16 +209,20 @@ asked-by m t h k place at = go (call_at t k) refl at
         )
 
 -- the other calls, as one is changed
-pub other-call : (t : Traffic) (k j : ℕ) (g : traffic.Call → traffic.Call) → eq_by_cmp nat_cmp j k ≡ false → value_at nat_cmp j (changed_at nat_cmp k g t.calls) ≡ call_at t j
+pub other-call : (t : Traffic) (k j : ℕ) (g : traffic.Call → traffic.Call) → eq_by_cmp nat_cmp j k ≡ false
+    → value_at nat_cmp j (changed_at nat_cmp k g t.calls) ≡ call_at t j
 other-call t k j g other = value-changed_other nat_cmp nat_cmp_total nat_cmp-IsAntisymmetric j k g t.calls other
 
-pub this-call : (t : Traffic) (k : ℕ) (g : traffic.Call → traffic.Call) → value_at nat_cmp k (changed_at nat_cmp k g t.calls) ≡ option_map g (call_at t k)
+pub this-call : (t : Traffic) (k : ℕ) (g : traffic.Call → traffic.Call)
+    → value_at nat_cmp k (changed_at nat_cmp k g t.calls) ≡ option_map g (call_at t k)
 this-call t k g = value-changed_same nat_cmp nat_cmp_total nat_cmp-IsAntisymmetric k g t.calls
 
 module _ (m : Mail) (t : Traffic) (h : Carries m t) (pairs : length m.queues ≡ 81) (a b : ℕ) (from : a ≤ 8) (to : b ≤ 8) where
   -- the message of k leaves, and its call may change
-  left-carried : (k : ℕ) (ks : List ℕ) → queue t a b ≡ k ∷ ks → (ms : List Message) → map (message_of t) ks ≡ ms → (u : Traffic) → u.transit ≡ filter (λ j. not (j == k)) t.transit
-      → ((j : ℕ) → not (j == k) ≡ true → call_at u j ≡ call_at t j) → (cs : List Call) → Agree 1 cs u.calls → Carries (record { calls = cs; queues = with_row a b ms m.queues }) u
+  left-carried : (k : ℕ) (ks : List ℕ) → queue t a b ≡ k ∷ ks → (ms : List Message) → map (message_of t) ks ≡ ms → (u : Traffic)
+      → u.transit ≡ filter (λ j. not (j == k)) t.transit
+      → ((j : ℕ) → not (j == k) ≡ true → call_at u j ≡ call_at t j) → (cs : List Call) → Agree 1 cs u.calls
+      → Carries (record { calls = cs; queues = with_row a b ms m.queues }) u
   left-carried k ks is ms rest u left same cs agree = record {
     calls = agree;
     queues = rows-left m t h pairs a b from to k ks is u left same ms rest;
@@ -174,25 +230,32 @@ module _ (m : Mail) (t : Traffic) (h : Carries m t) (pairs : length m.queues ≡
     sent = sent-left t u (λ j. not (j == k)) left same h.sent;
   }
 
-  received-carried : (k : ℕ) (ks : List ℕ) → queue t a b ≡ k ∷ ks → (ms : List Message) → map (message_of t) ks ≡ ms → 1 ≤ k → (msg : Message) → Tells t k msg
+  received-carried : (k : ℕ) (ks : List ℕ) → queue t a b ≡ k ∷ ks → (ms : List Message) → map (message_of t) ks ≡ ms → 1 ≤ k
+      → (msg : Message) → Tells t k msg
       → CarriesDelivery a b (Some (delivery_of msg m.calls)) (record { calls = received msg m.calls; queues = with_row a b ms m.queues }) t
   received-carried k ks is ms rest one (Request j) says =
-      subst (λ n. (next_message t a b ≡ Some n) × IsAt t n asked × Carries after (taken n t) × Carries after (changed_call n (at_place held) (taken n t))) says.0 (
+      subst (λ n. (next_message t a b ≡ Some n) × IsAt t n asked × Carries after (taken n t) × Carries after
+      (changed_call n (at_place held) (taken n t))) says.0 (
         ap first is,
         says.1,
         left-carried k ks is ms rest (taken k t) refl (λ i e. refl) m.calls h.calls,
-        left-carried k ks is ms rest (changed_call k (at_place held) (taken k t)) refl (λ i e. other-call t k i (at_place held) (taken-out k i e)) m.calls
-            (agree-placed (at_place held) k m.calls t.calls (λ c d found same. held-same c d (place-found t k asked d says.1 found) same) one h.calls),
+        left-carried k ks is ms rest (changed_call k (at_place held) (taken k t)) refl
+            (λ i e. other-call t k i (at_place held) (taken-out k i e)) m.calls
+            (agree-placed (at_place held) k m.calls t.calls (λ c d found same. held-same c d (place-found t k asked d says.1 found) same)
+            one h.calls),
       )
     where
       after : Mail
       after = record { calls = m.calls; queues = with_row a b ms m.queues }
   received-carried k ks is ms rest one (Reply j s results) says =
-      subst (λ n. (next_message t a b ≡ Some n) × IsAt t n (answered s results) × IsAskedBy t n (passes_at is_open m.calls n) (with_item (item_in n m.calls) (λ c. waiting_process c.asker) None) × Carries (after n) (changed_call n closed (taken n t))) says.0 (
+      subst (λ n. (next_message t a b ≡ Some n) × IsAt t n (answered s results) × IsAskedBy t n (passes_at is_open m.calls n)
+      (with_item (item_in n m.calls) (λ c. waiting_process c.asker) None) × Carries (after n) (changed_call n closed (taken n t)))
+      says.0 (
         ap first is,
         says.1,
         asked-by m t h k (answered s results) says.1,
-        left-carried k ks is ms rest (changed_call k closed (taken k t)) refl (λ i e. other-call t k i closed (taken-out k i e)) (received (Reply k s results) m.calls)
+        left-carried k ks is ms rest (changed_call k closed (taken k t)) refl (λ i e. other-call t k i closed (taken-out k i e))
+            (received (Reply k s results) m.calls)
             (agree-changed over closed k 1 m.calls t.calls (λ c d found same. closed-same c d same) one h.calls),
       )
     where
@@ -201,13 +264,18 @@ module _ (m : Mail) (t : Traffic) (h : Carries m t) (pairs : length m.queues ≡
 
   -- numbers of calls begin at 1
   at-least-one : (k : ℕ) → is_sent t k ≡ true → 1 ≤ k
-  at-least-one zero sent = absurd (let e : is_sent t 0 ≡ false = ap (λ (o : Option traffic.Call). with_item o (λ c. in_transit c.place) false) (none-before 1 m.calls t.calls h.calls 0 (omega arith)) in let bad : true ≡ false = sym sent ∙ e in cc)
+  at-least-one zero sent = absurd (let e : is_sent t 0 ≡ false =
+      ap (λ (o : Option traffic.Call). with_item o (λ c. in_transit c.place) false) (none-before 1 m.calls t.calls h.calls 0 (omega arith))
+      in let bad : true ≡ false = sym sent ∙ e in cc)
   at-least-one (suc k) sent = omega arith
 
-  pub delivery-carried : (msg : Message) (ms : List Message) → row a b m.queues ≡ msg ∷ ms → CarriesDelivery a b (Some (delivery_of msg m.calls)) (record { calls = received msg m.calls; queues = with_row a b ms m.queues }) t
+  pub delivery-carried : (msg : Message) (ms : List Message) → row a b m.queues ≡ msg ∷ ms
+      → CarriesDelivery a b (Some (delivery_of msg m.calls)) (record { calls = received msg m.calls; queues = with_row a b ms m.queues }) t
   delivery-carried msg ms is = go (queue t a b) refl (h.queues a b from to ∙ is)
     where
-      go : (q : List ℕ) → queue t a b ≡ q → map (message_of t) q ≡ msg ∷ ms → CarriesDelivery a b (Some (delivery_of msg m.calls)) (record { calls = received msg m.calls; queues = with_row a b ms m.queues }) t
+      go : (q : List ℕ) → queue t a b ≡ q → map (message_of t) q ≡ msg ∷ ms
+          → CarriesDelivery a b (Some (delivery_of msg m.calls))
+          (record { calls = received msg m.calls; queues = with_row a b ms m.queues }) t
       go [] e says = absurd (let bad : [] ≡ msg ∷ ms = says in cc)
       go (k ∷ ks) e says =
           let head : message_of t k ≡ msg = cc in

@@ -1,5 +1,6 @@
 -- What the calls tell of the traffic that they carry: laws for the crates above.
-use Rattle.std.proofs.Common.{subst, ◌≡◌, ◌≤◌, ◌<◌, ℕ, zero, suc, ◌+◌, ◌-◌, Bool, true, false, cond, List, [], ◌∷◌, length, Option, None, Some, refl, sym, ◌∙◌, ap, arith}
+use Rattle.std.proofs.Common.{subst, ◌≡◌, ◌≤◌, ◌<◌, ℕ, zero, suc, ◌+◌, ◌-◌, Bool, true, false, cond, List, [], ◌∷◌, length, Option, None}
+use Rattle.std.proofs.Common.{Some, refl, sym, ◌∙◌, ap, arith}
 use Rattle.std.specs.Prelude.{slice_get, filter_map}
 use Rattle.std.specs.List.{cons_option}
 use Rattle.std.specs.declared.cmp.Ordering.TheVariants.{Equal}
@@ -35,7 +36,8 @@ pub record FoundCall (c : Call) (o : Option traffic.Call) : Type 0 where
   pub is : o ≡ Some call
   pub same : Same c call
 
-pub found-at : (n : ℕ) (cs : List Call) (es : List (ℕ × traffic.Call)) → Agree n cs es → (i : ℕ) (c : Call) → slice_get cs i ≡ Some c → FoundCall c (value_at nat_cmp (n + i) es)
+pub found-at : (n : ℕ) (cs : List Call) (es : List (ℕ × traffic.Call)) → Agree n cs es → (i : ℕ) (c : Call) → slice_get cs i ≡ Some c
+    → FoundCall c (value_at nat_cmp (n + i) es)
 found-at n [] [] h i c e = absurd (let bad : None ≡ Some c = e in cc)
 found-at n (x ∷ cs) (e ∷ es) h zero c is =
     let same : x ≡ c = cc in
@@ -44,7 +46,8 @@ found-at n (x ∷ cs) (e ∷ es) h zero c is =
 found-at n (x ∷ cs) (e ∷ es) h (suc i) c is =
     let next : n + 1 + i ≡ n + suc i = omega arith in
     let other : eq_by_cmp nat_cmp (n + suc i) e.0 ≡ false = apart-numbers (n + suc i) e.0 (λ same. omega (arith, same, h.0)) in
-    let r : FoundCall c (value_at nat_cmp (n + suc i) es) = subst (λ k. FoundCall c (value_at nat_cmp k es)) next (found-at (n + 1) cs es h.2 i c is) in
+    let r : FoundCall c (value_at nat_cmp (n + suc i) es) = subst (λ k. FoundCall c (value_at nat_cmp k es)) next
+    (found-at (n + 1) cs es h.2 i c is) in
     record { call = r.call; is = rw other r.is; same = r.same }
 found-at n [] (e ∷ es) h i c is = absurd h
 found-at n (x ∷ cs) [] h i c is = absurd h
@@ -56,11 +59,13 @@ pub record FoundItem (d : traffic.Call) (n k : ℕ) (cs : List Call) : Type 0 wh
   pub is : slice_get cs (k - n) ≡ Some call
   pub same : Same call d
 
-pub item-found : (n : ℕ) (cs : List Call) (es : List (ℕ × traffic.Call)) → Agree n cs es → (k : ℕ) (d : traffic.Call) → value_at nat_cmp k es ≡ Some d → FoundItem d n k cs
+pub item-found : (n : ℕ) (cs : List Call) (es : List (ℕ × traffic.Call)) → Agree n cs es → (k : ℕ) (d : traffic.Call)
+    → value_at nat_cmp k es ≡ Some d → FoundItem d n k cs
 item-found n [] [] h k d is = absurd (let bad : None ≡ Some d = is in cc)
 item-found n (c ∷ cs) (e ∷ es) h k d is = go (eq_by_cmp nat_cmp k e.0) refl is (item-found (n + 1) cs es h.2 k d)
   where
-    go : (b : Bool) → eq_by_cmp nat_cmp k e.0 ≡ b → cond b (Some e.1) (value_at nat_cmp k es) ≡ Some d → (value_at nat_cmp k es ≡ Some d → FoundItem d (n + 1) k cs) → FoundItem d n k (c ∷ cs)
+    go : (b : Bool) → eq_by_cmp nat_cmp k e.0 ≡ b → cond b (Some e.1) (value_at nat_cmp k es) ≡ Some d
+        → (value_at nat_cmp k es ≡ Some d → FoundItem d (n + 1) k cs) → FoundItem d n k (c ∷ cs)
     go true same at ih =
         let number : k ≡ n = same-true k e.0 same ∙ h.0 in
         let none : k - n ≡ 0 = omega (arith, number) in
@@ -90,7 +95,8 @@ asked-call m t carries (suc k) d is =
 -- the call of this number is one in the traffic
 pub found-call : (m : Mail) (t : Traffic) → Carries m t → (k : ℕ) (c : Call) → item_in k m.calls ≡ Some c → FoundCall c (call_at t k)
 found-call m t carries zero c is = absurd (let bad : None ≡ Some c = is in cc)
-found-call m t carries (suc k) c is = let same : 1 + k ≡ suc k = omega arith in subst (λ j. FoundCall c (call_at t j)) same (found-at 1 m.calls t.calls carries.calls k c is)
+found-call m t carries (suc k) c is = let same : 1 + k ≡ suc k = omega arith in
+    subst (λ j. FoundCall c (call_at t j)) same (found-at 1 m.calls t.calls carries.calls k c is)
 
 -- the next number
 pub next-number : (m : Mail) (t : Traffic) → Carries m t → next_call t ≡ length m.calls + 1
@@ -107,7 +113,8 @@ given-call cs zero c is = absurd (let bad : None ≡ Some c = is in cc)
 given-call cs (suc k) c is = (omega arith, omega (arith, item-given cs k c is))
 
 -- no message of a call that is held at its target is on its way
-pub held-not-sent : (m : Mail) (t : Traffic) → Carries m t → (k : ℕ) (c : traffic.Call) → call_at t k ≡ Some c → c.place ≡ held → has k t.transit ≡ false
+pub held-not-sent : (m : Mail) (t : Traffic) → Carries m t → (k : ℕ) (c : traffic.Call) → call_at t k ≡ Some c → c.place ≡ held
+    → has k t.transit ≡ false
 held-not-sent m t carries k c is place = go (has k t.transit) refl
   where
     not_sent : is_sent t k ≡ false
@@ -117,7 +124,8 @@ held-not-sent m t carries k c is place = go (has k t.transit) refl
     go false out = refl
     go true out = absurd (let bad : true ≡ false = sym (carries.sent k out) ∙ not_sent in cc)
 
-pub none-after : (n : ℕ) (cs : List Call) (es : List (ℕ × traffic.Call)) → Agree n cs es → (j : ℕ) → n + length cs ≤ j → value_at nat_cmp j es ≡ None
+pub none-after : (n : ℕ) (cs : List Call) (es : List (ℕ × traffic.Call)) → Agree n cs es → (j : ℕ) → n + length cs ≤ j
+    → value_at nat_cmp j es ≡ None
 none-after n [] [] h j after = refl
 none-after n (c ∷ cs) (e ∷ es) h j after =
     rw (apart-numbers j e.0 (λ same. omega (arith, same, h.0, after))) (none-after (n + 1) cs es h.2 j (omega (arith, after)))
@@ -129,10 +137,12 @@ pub next-is-none : (m : Mail) (t : Traffic) → Carries m t → call_at t (next_
 next-is-none m t carries = none-after 1 m.calls t.calls carries.calls (next_call t) (omega (arith, next-number m t carries))
 
 -- what is told of the calls that pass a test, by their numbers
-by-number : {Y : Type 0} (g : traffic.Call → Option Y) (hits : traffic.Call → Bool) (all : List (ℕ × traffic.Call)) (n : ℕ) (cs : List Call) (es : List (ℕ × traffic.Call)) → Agree n cs es
+by-number : {Y : Type 0} (g : traffic.Call → Option Y) (hits : traffic.Call
+    → Bool) (all : List (ℕ × traffic.Call)) (n : ℕ) (cs : List Call) (es : List (ℕ × traffic.Call)) → Agree n cs es
     → ((k : ℕ) → n ≤ k → value_at nat_cmp k all ≡ value_at nat_cmp k es)
     → filter_map (λ (e : ℕ × traffic.Call). cond (hits e.1) (g e.1) None) es
-    ≡ filter_map (λ k. with_item (value_at nat_cmp k all) g None) (filter_map (λ (e : ℕ × traffic.Call). cond (hits e.1) (Some e.0) None) es)
+    ≡ filter_map (λ k. with_item (value_at nat_cmp k all) g None)
+    (filter_map (λ (e : ℕ × traffic.Call). cond (hits e.1) (Some e.0) None) es)
 by-number g hits all n [] [] h same = refl
 by-number {Y} g hits all n (c ∷ cs) (e ∷ es) h same = go (hits e.1) refl (by-number g hits all (n + 1) cs es h.2 later)
   where
@@ -143,19 +153,26 @@ by-number {Y} g hits all n (c ∷ cs) (e ∷ es) h same = go (hits e.1) refl (by
     here = same e.0 (omega (arith, h.0)) ∙ rw (equal-numbers e.0 e.0 refl) refl
 
     go : (b : Bool) → hits e.1 ≡ b
-        → filter_map (λ (e : ℕ × traffic.Call). cond (hits e.1) (g e.1) None) es ≡ filter_map (λ k. with_item (value_at nat_cmp k all) g None) (filter_map (λ (e : ℕ × traffic.Call). cond (hits e.1) (Some e.0) None) es)
-        → filter_map (λ (e : ℕ × traffic.Call). cond (hits e.1) (g e.1) None) (e ∷ es) ≡ filter_map (λ k. with_item (value_at nat_cmp k all) g None) (filter_map (λ (e : ℕ × traffic.Call). cond (hits e.1) (Some e.0) None) (e ∷ es))
+        → filter_map (λ (e : ℕ × traffic.Call). cond (hits e.1) (g e.1) None) es ≡ filter_map
+        (λ k. with_item (value_at nat_cmp k all) g None) (filter_map (λ (e : ℕ × traffic.Call). cond (hits e.1) (Some e.0) None) es)
+        → filter_map (λ (e : ℕ × traffic.Call). cond (hits e.1) (g e.1) None) (e ∷ es) ≡ filter_map
+        (λ k. with_item (value_at nat_cmp k all) g None) (filter_map (λ (e : ℕ × traffic.Call). cond (hits e.1) (Some e.0) None)
+        (e ∷ es))
     go true is ih = rw (is, here) (told (g e.1))
       where
-        told : (o : Option Y) → cons_option o (filter_map (λ (e : ℕ × traffic.Call). cond (hits e.1) (g e.1) None) es) ≡ cons_option o (filter_map (λ k. with_item (value_at nat_cmp k all) g None) (filter_map (λ (e : ℕ × traffic.Call). cond (hits e.1) (Some e.0) None) es))
+        told : (o : Option Y) → cons_option o (filter_map (λ (e : ℕ × traffic.Call). cond (hits e.1) (g e.1) None) es) ≡ cons_option o
+            (filter_map (λ k. with_item (value_at nat_cmp k all) g None)
+            (filter_map (λ (e : ℕ × traffic.Call). cond (hits e.1) (Some e.0) None) es))
         told None = ih
         told (Some y) = ap (λ l. y ∷ l) ih
     go false is ih = rw is ih
 by-number g hits all n [] (e ∷ es) h same = absurd h
 by-number g hits all n (c ∷ cs) [] h same = absurd h
 
-pub names-by-number : (m : Mail) (t : Traffic) → Carries m t → (hits : traffic.Call → Bool) → names_of hits t ≡ filter_map (λ k. with_item (call_at t k) (λ c. shell_name c.asker) None) (numbers_of hits t)
+pub names-by-number : (m : Mail) (t : Traffic) → Carries m t → (hits : traffic.Call → Bool)
+    → names_of hits t ≡ filter_map (λ k. with_item (call_at t k) (λ c. shell_name c.asker) None) (numbers_of hits t)
 names-by-number m t carries hits = by-number (λ c. shell_name c.asker) hits t.calls 1 m.calls t.calls carries.calls (λ k le. refl)
 
-pub processes-by-number : (m : Mail) (t : Traffic) → Carries m t → (hits : traffic.Call → Bool) → processes_of hits t ≡ filter_map (λ k. with_item (call_at t k) (λ c. waiting_process c.asker) None) (numbers_of hits t)
+pub processes-by-number : (m : Mail) (t : Traffic) → Carries m t → (hits : traffic.Call → Bool)
+    → processes_of hits t ≡ filter_map (λ k. with_item (call_at t k) (λ c. waiting_process c.asker) None) (numbers_of hits t)
 processes-by-number m t carries hits = by-number (λ c. waiting_process c.asker) hits t.calls 1 m.calls t.calls carries.calls (λ k le. refl)

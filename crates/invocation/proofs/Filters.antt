@@ -1,5 +1,6 @@
 -- Lists of numbers that are told apart, and what passes a test.
-use Rattle.std.proofs.Common.{◌≡◌, ◌≢◌, ℕ, ◌==◌, Bool, true, false, cond, not, ◌||◌, List, [], ◌∷◌, ◌++◌, map, refl, sym, ◌∙◌, ap, arith, ◌⊎◌, inl, inr}
+use Rattle.std.proofs.Common.{◌≡◌, ◌≢◌, ℕ, ◌==◌, Bool, true, false, cond, not, ◌||◌, List, [], ◌∷◌, ◌++◌, map, refl, sym, ◌∙◌, ap, arith}
+use Rattle.std.proofs.Common.{◌⊎◌, inl, inr}
 use Rattle.std.specs.List.{filter}
 use Rattle.std.specs.Ordering.{nat_cmp, eq_by_cmp}
 use Rattle.eden_model.specs.Lines.{has, Distinct}
@@ -47,14 +48,17 @@ pub has-filter : (p : ℕ → Bool) (xs : List ℕ) (k : ℕ) → has k (filter 
 has-filter p [] k h = absurd (let bad : false ≡ true = h in cc)
 has-filter p (x ∷ xs) k h = go (p x) refl h (has-filter p xs k)
   where
-    later : (has k (filter p xs) ≡ true → (has k xs ≡ true) × (p k ≡ true)) → has k (filter p xs) ≡ true → (has k (x ∷ xs) ≡ true) × (p k ≡ true)
+    later : (has k (filter p xs) ≡ true → (has k xs ≡ true) × (p k ≡ true)) → has k (filter p xs) ≡ true
+        → (has k (x ∷ xs) ≡ true) × (p k ≡ true)
     later ih i = let r = ih i in (has-later k x xs r.0, r.1)
 
-    here : p x ≡ true → (e : Bool) → eq_by_cmp nat_cmp k x ≡ e → (e || has k (filter p xs)) ≡ true → (has k (filter p xs) ≡ true → (has k xs ≡ true) × (p k ≡ true)) → (has k (x ∷ xs) ≡ true) × (p k ≡ true)
+    here : p x ≡ true → (e : Bool) → eq_by_cmp nat_cmp k x ≡ e → (e || has k (filter p xs)) ≡ true
+        → (has k (filter p xs) ≡ true → (has k xs ≡ true) × (p k ≡ true)) → (has k (x ∷ xs) ≡ true) × (p k ≡ true)
     here is true e i ih = let same : k ≡ x = same-true k x e in (rw e refl, ap p same ∙ is)
     here is false e i ih = later ih i
 
-    go : (b : Bool) → p x ≡ b → has k (cond b (x ∷ filter p xs) (filter p xs)) ≡ true → (has k (filter p xs) ≡ true → (has k xs ≡ true) × (p k ≡ true)) → (has k (x ∷ xs) ≡ true) × (p k ≡ true)
+    go : (b : Bool) → p x ≡ b → has k (cond b (x ∷ filter p xs) (filter p xs)) ≡ true
+        → (has k (filter p xs) ≡ true → (has k xs ≡ true) × (p k ≡ true)) → (has k (x ∷ xs) ≡ true) × (p k ≡ true)
     go true is i ih = here is (eq_by_cmp nat_cmp k x) refl i ih
     go false is i ih = later ih i
 
@@ -81,7 +85,8 @@ has-push [] y k h = go (eq_by_cmp nat_cmp k y) refl h
     go false e i = inl i
 has-push (x ∷ xs) y k h = go (eq_by_cmp nat_cmp k x) refl h (has-push xs y k)
   where
-    go : (b : Bool) → eq_by_cmp nat_cmp k x ≡ b → (b || has k (xs ++ y ∷ [])) ≡ true → (has k (xs ++ y ∷ []) ≡ true → (has k xs ≡ true) ⊎ (k ≡ y)) → (has k (x ∷ xs) ≡ true) ⊎ (k ≡ y)
+    go : (b : Bool) → eq_by_cmp nat_cmp k x ≡ b → (b || has k (xs ++ y ∷ [])) ≡ true
+        → (has k (xs ++ y ∷ []) ≡ true → (has k xs ≡ true) ⊎ (k ≡ y)) → (has k (x ∷ xs) ≡ true) ⊎ (k ≡ y)
     go true e i ih = inl (rw e refl)
     go false e i ih = elim (ih i) [ inl h ↦ inl (has-later k x xs h) | inr same ↦ inr same ]
 
@@ -112,14 +117,16 @@ pub taken-out : (k j : ℕ) → not (j == k) ≡ true → eq_by_cmp nat_cmp j k 
 taken-out k j h = go (eq_by_cmp nat_cmp j k) refl
   where
     go : (b : Bool) → eq_by_cmp nat_cmp j k ≡ b → b ≡ false
-    go true e = let same : j ≡ k = same-true j k e in absurd (let bad : not (j == k) ≡ false = grind (arith, same) in let no : true ≡ false = sym h ∙ bad in cc)
+    go true e = let same : j ≡ k = same-true j k e in absurd (let bad : not (j == k) ≡ false = grind (arith, same) in
+        let no : true ≡ false = sym h ∙ bad in cc)
     go false e = refl
 
 pub left-in : (k j : ℕ) → eq_by_cmp nat_cmp j k ≡ false → not (j == k) ≡ true
 left-in k j h = go (j == k) refl
   where
     go : (b : Bool) → (j == k) ≡ b → not b ≡ true
-    go true e = let same : j ≡ k = grind arith in absurd (let no : true ≡ false = sym (same-self k) ∙ ap (λ n. eq_by_cmp nat_cmp n k) (sym same) ∙ h in cc)
+    go true e = let same : j ≡ k = grind arith in
+        absurd (let no : true ≡ false = sym (same-self k) ∙ ap (λ n. eq_by_cmp nat_cmp n k) (sym same) ∙ h in cc)
     go false e = refl
 
 pub eq-self : (x : ℕ) → (x == x) ≡ true

@@ -1,5 +1,6 @@
 -- The index of the live calls, as calls change.
-use Rattle.std.proofs.Common.{◌≡◌, ◌≤◌, ◌<◌, ℕ, zero, suc, ◌+◌, ◌-◌, ◌==◌, Bool, true, false, cond, not, ◌&&◌, ◌||◌, List, [], ◌∷◌, ◌++◌, map, length, Option, refl, sym, ◌∙◌, ap, arith}
+use Rattle.std.proofs.Common.{◌≡◌, ◌≤◌, ◌<◌, ℕ, zero, suc, ◌+◌, ◌-◌, ◌==◌, Bool, true, false, cond, not, ◌&&◌, ◌||◌, List, [], ◌∷◌, ◌++◌}
+use Rattle.std.proofs.Common.{map, length, Option, refl, sym, ◌∙◌, ap, arith}
 use Rattle.std.specs.Prelude.{slice_get}
 use Rattle.std.specs.List.{All, filter}
 use Rattle.std.proofs.lemmas.Bool.{eqb-true}
@@ -15,13 +16,15 @@ use Rattle.invocation.specs.Mail.{IsGiven, is_open, spent, over, closed_if, let_
 use Rattle.invocation.specs.Causes.{hits, ends, breaks, is_broken, closed_by}
 use Rattle.invocation.specs.Numbers.{numbers_where, passes_at, changed_at_all}
 use Rattle.invocation.specs.Whole.{IsIndex, is_live}
-use Rattle.invocation.proofs.Numbers.{Falls, Fixed, falls-map, falls-change, falls-trans, falls-pass, passed-before, passes-by, numbers-same, numbers-push, filter-narrow, both-pass, changed-skip, all-changed, length-change}
+use Rattle.invocation.proofs.Numbers.{Falls, Fixed, falls-map, falls-change, falls-trans, falls-pass, passed-before, passes-by}
+use Rattle.invocation.proofs.Numbers.{numbers-same, numbers-push, filter-narrow, both-pass, changed-skip, all-changed, length-change}
 
 -- 1. Calls that change
 
 pub index-falls : (cs ds : List Call) (ks : List ℕ) → length cs ≤ length ds → Falls is_live cs ds → IsIndex cs ks → IsIndex ds ks
 index-falls cs ds ks more falls it = record {
-  live = sym (filter-narrow (passes_at is_live cs) (passes_at is_live ds) ks (passed-before is_live cs ds falls)) ∙ ap (filter (passes_at is_live ds)) it.live ∙ falls-pass is_live cs ds falls;
+  live = sym (filter-narrow (passes_at is_live cs) (passes_at is_live ds) ks (passed-before is_live cs ds falls))
+      ∙ ap (filter (passes_at is_live ds)) it.live ∙ falls-pass is_live cs ds falls;
   given = All-weaker (IsGiven cs) (IsGiven ds) (λ k h. (h.0, omega (arith, h.1, more))) ks it.given;
 }
 
@@ -38,7 +41,8 @@ item-pushed : (cs : List Call) (x : Call) (k : ℕ) → IsGiven cs k → passes_
 item-pushed cs x zero h = absurd (omega (arith, h.0))
 item-pushed cs x (suc k) h = go cs k (omega (arith, h.1))
   where
-    go : (ds : List Call) (i : ℕ) → i < length ds → with_item (slice_get (ds ++ x ∷ []) i) is_live false ≡ with_item (slice_get ds i) is_live false
+    go : (ds : List Call) (i : ℕ) → i < length ds
+        → with_item (slice_get (ds ++ x ∷ []) i) is_live false ≡ with_item (slice_get ds i) is_live false
     go [] i less = absurd (omega (arith, less))
     go (d ∷ ds) zero less = refl
     go (d ∷ ds) (suc i) less = go ds i (omega (arith, less))
@@ -57,16 +61,21 @@ filter-where P f g (k ∷ ks) all same = rw (same k (All-head P k ks all), filte
 given-pushed : (cs : List Call) (x : Call) (ks : List ℕ) → All (IsGiven cs) ks → All (IsGiven (cs ++ x ∷ [])) ks
 given-pushed cs x ks all = All-weaker (IsGiven cs) (IsGiven (cs ++ x ∷ [])) (λ k h. (h.0, omega (arith, h.1, length_push cs x))) ks all
 
-old-pushed : (cs : List Call) (x : Call) (ks : List ℕ) → IsIndex cs ks → filter (passes_at is_live (cs ++ x ∷ [])) ks ≡ numbers_where is_live 1 cs
-old-pushed cs x ks it = filter-where (IsGiven cs) (passes_at is_live (cs ++ x ∷ [])) (passes_at is_live cs) ks it.given (item-pushed cs x) ∙ it.live
+old-pushed : (cs : List Call) (x : Call) (ks : List ℕ) → IsIndex cs ks
+    → filter (passes_at is_live (cs ++ x ∷ [])) ks ≡ numbers_where is_live 1 cs
+old-pushed cs x ks it = filter-where (IsGiven cs) (passes_at is_live (cs ++ x ∷ [])) (passes_at is_live cs) ks it.given (item-pushed cs x)
+    ∙ it.live
 
-pub index-live : (cs : List Call) (x : Call) (ks : List ℕ) → is_live x ≡ true → IsIndex cs ks → IsIndex (cs ++ x ∷ []) (ks ++ (length cs + 1) ∷ [])
+pub index-live : (cs : List Call) (x : Call) (ks : List ℕ) → is_live x ≡ true → IsIndex cs ks
+    → IsIndex (cs ++ x ∷ []) (ks ++ (length cs + 1) ∷ [])
 index-live cs x ks alive it =
     let n : 1 + length cs ≡ length cs + 1 = omega arith in
     record {
-      live = filter-append (passes_at is_live (cs ++ x ∷ [])) ks ((length cs + 1) ∷ []) ∙ rw (last-pushed cs x, alive) (ap (λ l. l ++ (length cs + 1) ∷ []) (old-pushed cs x ks it)
+      live = filter-append (passes_at is_live (cs ++ x ∷ [])) ks ((length cs + 1) ∷ [])
+          ∙ rw (last-pushed cs x, alive) (ap (λ l. l ++ (length cs + 1) ∷ []) (old-pushed cs x ks it)
           ∙ sym (numbers-push is_live 1 cs x ∙ rw alive (ap (λ k. numbers_where is_live 1 cs ++ k ∷ []) n)));
-      given = All-push (IsGiven (cs ++ x ∷ [])) ks (length cs + 1) (given-pushed cs x ks it.given) (omega arith, omega (arith, length_push cs x));
+      given = All-push (IsGiven (cs ++ x ∷ [])) ks (length cs + 1) (given-pushed cs x ks it.given)
+          (omega arith, omega (arith, length_push cs x));
     }
 
 pub index-dead : (cs : List Call) (x : Call) (ks : List ℕ) → is_live x ≡ false → IsIndex cs ks → IsIndex (cs ++ x ∷ []) ks
@@ -107,7 +116,8 @@ closed-falls false c = self (is_live c)
 pub closing-falls : (cause : Cause) (c : Call) → is_live (closed_by cause c) ≡ (is_live c && is_live (closed_by cause c))
 closing-falls cause c = go (ends cause c)
   where
-    go : (b : Bool) → is_live (cond b (over c) (closed_if (hits cause c) c)) ≡ (is_live c && is_live (cond b (over c) (closed_if (hits cause c) c)))
+    go : (b : Bool) → is_live (cond b (over c) (closed_if (hits cause c) c)) ≡
+        (is_live c && is_live (cond b (over c) (closed_if (hits cause c) c)))
     go true = over-falls c
     go false = closed-falls (hits cause c) c
 
@@ -135,11 +145,13 @@ closing-fixed cause c dead = go (ends cause c) (hits cause c)
     shut false = refl
 
     go : (a b : Bool) → cond a (over c) (closed_if b c) ≡ c
-    go true b = ap (λ (x : List Datum). record c { args = x; closed = true }) (sym both.1) ∙ ap (λ (x : Bool). record c { closed = x }) (sym both.0)
+    go true b = ap (λ (x : List Datum). record c { args = x; closed = true }) (sym both.1)
+        ∙ ap (λ (x : Bool). record c { closed = x }) (sym both.0)
     go false b = shut b
 
 -- it is enough to close those of the index
-pub index-closed : (cause : Cause) (cs : List Call) (ks : List ℕ) → IsIndex cs ks → changed_at_all (closed_by cause) 1 ks cs ≡ map (closed_by cause) cs
+pub index-closed : (cause : Cause) (cs : List Call) (ks : List ℕ) → IsIndex cs ks
+    → changed_at_all (closed_by cause) 1 ks cs ≡ map (closed_by cause) cs
 index-closed cause cs ks it =
     changed-skip (closed_by cause) (passes_at is_live cs) ks cs (All-weaker (IsGiven cs) (λ k. 1 ≤ k) (λ k h. h.0) ks it.given) fixed
     ∙ ap (λ l. changed_at_all (closed_by cause) 1 l cs) it.live ∙ all-changed is_live (closed_by cause) 1 cs ∙ all cs
@@ -159,7 +171,8 @@ index-closed cause cs ks it =
     all (x ∷ xs) = rw (one_of x (is_live x) refl) (ap (λ l. closed_by cause x ∷ l) (all xs))
 
 pub index-closing : (cause : Cause) (cs : List Call) (ks : List ℕ) → IsIndex cs ks → IsIndex (map (closed_by cause) cs) ks
-index-closing cause cs ks it = index-falls cs (map (closed_by cause) cs) ks (omega (arith, length-map cs (closed_by cause))) (falls-map is_live (closed_by cause) (closing-falls cause) cs) it
+index-closing cause cs ks it = index-falls cs (map (closed_by cause) cs) ks (omega (arith, length-map cs (closed_by cause)))
+    (falls-map is_live (closed_by cause) (closing-falls cause) cs) it
 
 and-first : (a b : Bool) → (a && b) ≡ true → a ≡ true
 and-first true b h = refl
@@ -174,11 +187,14 @@ and-implied false true h = h refl
 and-implied false false h = refl
 
 -- those that are answered `broken` are found in the index
-pub index-broken : (cause : Cause) (cs : List Call) (ks : List ℕ) → IsIndex cs ks → filter (passes_at (is_broken cause) cs) ks ≡ numbers_where (is_broken cause) 1 cs
+pub index-broken : (cause : Cause) (cs : List Call) (ks : List ℕ) → IsIndex cs ks
+    → filter (passes_at (is_broken cause) cs) ks ≡ numbers_where (is_broken cause) 1 cs
 index-broken cause cs ks it =
-    sym (filter-narrow (passes_at is_live cs) (passes_at (is_broken cause) cs) ks (passes-by (is_broken cause) is_live (broken-live cause) cs))
+    sym (filter-narrow (passes_at is_live cs) (passes_at (is_broken cause) cs) ks
+    (passes-by (is_broken cause) is_live (broken-live cause) cs))
     ∙ ap (filter (passes_at (is_broken cause) cs)) it.live ∙ both-pass is_live (is_broken cause) cs
-    ∙ numbers-same (λ x. is_live x && is_broken cause x) (is_broken cause) (λ x. and-implied (is_live x) (is_broken cause x) (broken-live cause x)) 1 cs
+    ∙ numbers-same (λ x. is_live x && is_broken cause x) (is_broken cause)
+    (λ x. and-implied (is_live x) (is_broken cause x) (broken-live cause x)) 1 cs
 
 -- 4. Arguments that are let go
 
@@ -197,13 +213,16 @@ let_go-falls [] cs = self cs
     self [] = tt
     self (x ∷ xs) = (both (is_live x), self xs)
 let_go-falls (m ∷ ms) cs =
-    falls-trans is_live cs (change (number_of m - 1) spent cs) (let_go ms (change (number_of m - 1) spent cs)) (falls-change is_live spent spent-falls (number_of m - 1) cs) (let_go-falls ms (change (number_of m - 1) spent cs))
+    falls-trans is_live cs (change (number_of m - 1) spent cs) (let_go ms (change (number_of m - 1) spent cs))
+    (falls-change is_live spent spent-falls (number_of m - 1) cs) (let_go-falls ms (change (number_of m - 1) spent cs))
 
 pub index-let_go : (ms : List Message) (cs : List Call) (ks : List ℕ) → IsIndex cs ks → IsIndex (let_go ms cs) ks
 index-let_go ms cs ks it = index-falls cs (let_go ms cs) ks (omega (arith, length-let_go ms cs)) (let_go-falls ms cs) it
 
-pub index-change : (f : Call → Call) → ((c : Call) → is_live (f c) ≡ (is_live c && is_live (f c))) → (i : ℕ) (cs : List Call) (ks : List ℕ) → IsIndex cs ks → IsIndex (change i f cs) ks
-index-change f falls i cs ks it = index-falls cs (change i f cs) ks (omega (arith, length-change f cs i)) (falls-change is_live f falls i cs) it
+pub index-change : (f : Call → Call) → ((c : Call) → is_live (f c) ≡ (is_live c && is_live (f c))) → (i : ℕ) (cs : List Call) (ks : List ℕ)
+    → IsIndex cs ks → IsIndex (change i f cs) ks
+index-change f falls i cs ks it = index-falls cs (change i f cs) ks (omega (arith, length-change f cs i))
+    (falls-change is_live f falls i cs) it
 
 pub let_go-append : (ms ns : List Message) (cs : List Call) → let_go (ms ++ ns) cs ≡ let_go ns (let_go ms cs)
 let_go-append [] ns cs = refl

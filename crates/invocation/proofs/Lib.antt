@@ -1,6 +1,7 @@
 mod Numbers
 mod Index
 mod Closed
+mod Own
 mod Mails
 mod Filters
 mod Agreed

@@ -1,10 +1,16 @@
 -- What the invariant needs, as calls and queues change.
-use Rattle.std.proofs.Common.{◌≡◌, ◌≢◌, ◌≤◌, ◌<◌, ℕ, zero, suc, ◌+◌, ◌-◌, ◌*◌, ◌==◌, Bool, true, false, cond, List, [], ◌∷◌, ◌++◌, map, length, get_or, replicate, None, Some, subst, refl, sym, ◌∙◌, ap, arith}
+use Rattle.std.proofs.Common.{◌≡◌, ◌≢◌, ◌≤◌, ◌<◌, ℕ, zero, suc, ◌+◌, ◌-◌, ◌*◌, ◌==◌, Bool, true, false, cond, List, [], ◌∷◌, ◌++◌, map}
+use Rattle.std.proofs.Common.{length, get_or, replicate, None, Some, subst, refl, sym, ◌∙◌, ap, arith}
 use Rattle.std.specs.Prelude.{slice_get, slice_set, nat_le}
 use Rattle.std.specs.List.{All}
 use Rattle.std.proofs.lemmas.List.{length-replicate, length-set, length_push, get_or-set_same, get_or-set_other}
 use Rattle.std.proofs.lemmas.List.Elements.{All-nil, All-cons, All-head, All-tail, All-push, All-weaker}
-use Rattle.eden_model.specs.Map.{first, rest}
+use Rattle.std.specs.List.{filter}
+use Rattle.std.specs.Map.{lookup}
+use Rattle.std.specs.BTreeMap.{is_at}
+use Rattle.capability.specs.declared.Uid.{Uid}
+use Rattle.capability.specs.Uids.{uid_cmp}
+use Rattle.eden_model.specs.Map.{first, rest, with_item}
 use Rattle.eden_model.specs.Crew.{change}
 use Rattle.eden_model.specs.Traffic.{asking_station}
 use Rattle.eden_value.specs.Datum.{Datum}
@@ -14,22 +20,26 @@ use Rattle.invocation.specs.declared.call.Call.{Call}
 use Rattle.invocation.specs.declared.call.Message.{Message}
 use Rattle.invocation.specs.declared.call.Message.TheVariants.{Request, Reply}
 use Rattle.invocation.specs.Queues.{Rows, row, with_row, sent_to, cut_between, cleared}
-use Rattle.invocation.specs.Numbers.{item_in}
+use Rattle.invocation.specs.Numbers.{item_in, passes_at}
+use Rattle.invocation.specs.Made.{Made, is_own}
 use Rattle.invocation.specs.declared.closing.Cause.{Cause}
 use Rattle.invocation.specs.Causes.{hits, ends, closed_by}
 use Rattle.invocation.specs.Mail.{IsGiven, is_open, target_of, number_of, spent, over, received, closed_if, let_go, refused_at_once}
 use Rattle.invocation.specs.Whole.{IsWhole, IsIndex, IsBetween, AllGiven, is_live}
 use Rattle.invocation.proofs.Numbers.{length-change}
 use Rattle.invocation.proofs.Index.{index-change, index-live, index-dead, over-falls, spent-falls}
+use Rattle.invocation.proofs.Own.{Notes, made-noted, made-given_up, made-other, made-spent}
 
 all-map : {X : Type 0} (P : X → Type 0) (f : X → X) → ((x : X) → P x → P (f x)) → (xs : List X) → All P xs → All P (map f xs)
 all-map P f keeps [] all = All-nil P
 all-map P f keeps (x ∷ xs) all = All-cons P (f x) (map f xs) (keeps x (All-head P x xs all)) (all-map P f keeps xs (All-tail P x xs all))
 
-all-change : {X : Type 0} (P : X → Type 0) (f : X → X) → ((x : X) → P x → P (f x)) → (i : ℕ) (xs : List X) → All P xs → All P (change i f xs)
+all-change : {X : Type 0} (P : X → Type 0) (f : X → X) → ((x : X) → P x → P (f x)) → (i : ℕ) (xs : List X) → All P xs
+    → All P (change i f xs)
 all-change P f keeps i [] all = All-nil P
 all-change P f keeps zero (x ∷ xs) all = All-cons P (f x) xs (keeps x (All-head P x xs all)) (All-tail P x xs all)
-all-change P f keeps (suc i) (x ∷ xs) all = All-cons P x (change i f xs) (All-head P x xs all) (all-change P f keeps i xs (All-tail P x xs all))
+all-change P f keeps (suc i) (x ∷ xs) all = All-cons P x (change i f xs) (All-head P x xs all)
+    (all-change P f keeps i xs (All-tail P x xs all))
 
 -- 1. Calls
 
@@ -76,18 +86,22 @@ abbrev pub RowsGiven : List Call → Rows → Type 0
 RowsGiven cs rows = (i : ℕ) → AllGiven cs (get_or rows i [])
 
 pub given-more : (cs ds : List Call) → length cs ≤ length ds → (rows : Rows) → RowsGiven cs rows → RowsGiven ds rows
-given-more cs ds more rows given i = All-weaker (λ m. IsGiven cs (number_of m)) (λ m. IsGiven ds (number_of m)) (λ m h. (h.0, omega (arith, h.1, more))) (get_or rows i []) (given i)
+given-more cs ds more rows given i = All-weaker (λ m. IsGiven cs (number_of m)) (λ m. IsGiven ds (number_of m))
+    (λ m h. (h.0, omega (arith, h.1, more))) (get_or rows i []) (given i)
 
-pub given-with : (cs : List Call) (rows : Rows) → RowsGiven cs rows → (i : ℕ) (ms : List Message) → i < length rows → AllGiven cs ms → RowsGiven cs (slice_set rows i ms)
+pub given-with : (cs : List Call) (rows : Rows) → RowsGiven cs rows → (i : ℕ) (ms : List Message) → i < length rows → AllGiven cs ms
+    → RowsGiven cs (slice_set rows i ms)
 given-with cs rows given i ms within new j = go (j == i) refl
   where
     go : (b : Bool) → (j == i) ≡ b → AllGiven cs (get_or (slice_set rows i ms) j [])
     go true e = let same : j ≡ i = grind arith in rw (same, get_or-set_same rows i ms [] within) new
     go false e = let other : j ≢ i = grind arith in rw (get_or-set_other rows i j ms [] other) (given j)
 
-pub given-sent : (cs : List Call) (rows : Rows) → RowsGiven cs rows → length rows ≡ 81 → (a b : ℕ) → a ≤ 8 → b ≤ 8 → (m : Message) → IsGiven cs (number_of m) → RowsGiven cs (sent_to a b m rows)
+pub given-sent : (cs : List Call) (rows : Rows) → RowsGiven cs rows → length rows ≡ 81 → (a b : ℕ) → a ≤ 8 → b ≤ 8 → (m : Message)
+    → IsGiven cs (number_of m) → RowsGiven cs (sent_to a b m rows)
 given-sent cs rows given pairs a b from to m h =
-    given-with cs rows given (9 * a + b) (row a b rows ++ m ∷ []) (omega (arith, pairs)) (All-push (λ x. IsGiven cs (number_of x)) (row a b rows) m (given (9 * a + b)) h)
+    given-with cs rows given (9 * a + b) (row a b rows ++ m ∷ []) (omega (arith, pairs))
+    (All-push (λ x. IsGiven cs (number_of x)) (row a b rows) m (given (9 * a + b)) h)
 
 given-none : (cs : List Call) → AllGiven cs []
 given-none cs = All-nil (λ m. IsGiven cs (number_of m))
@@ -99,7 +113,8 @@ length-cut a b rows = go (a == b)
     go true = refl
     go false = length-set (with_row a b [] rows) (9 * b + a) [] ∙ length-set rows (9 * a + b) []
 
-pub given-cut : (cs : List Call) (rows : Rows) → RowsGiven cs rows → length rows ≡ 81 → (a b : ℕ) → a ≤ 8 → b ≤ 8 → RowsGiven cs (cut_between a b rows)
+pub given-cut : (cs : List Call) (rows : Rows) → RowsGiven cs rows → length rows ≡ 81 → (a b : ℕ) → a ≤ 8 → b ≤ 8
+    → RowsGiven cs (cut_between a b rows)
 given-cut cs rows given pairs a b from to = go (a == b)
   where
     go : (x : Bool) → RowsGiven cs (cond x rows (with_row b a [] (with_row a b [] rows)))
@@ -110,14 +125,17 @@ given-cut cs rows given pairs a b from to = go (a == b)
 
 pub length-cleared : (n k : ℕ) (rows : Rows) → length (cleared n k rows) ≡ length rows
 length-cleared n zero rows = refl
-length-cleared n (suc k) rows = length-set (with_row n k [] (cleared n k rows)) (9 * k + n) [] ∙ length-set (cleared n k rows) (9 * n + k) [] ∙ length-cleared n k rows
+length-cleared n (suc k) rows = length-set (with_row n k [] (cleared n k rows)) (9 * k + n) []
+    ∙ length-set (cleared n k rows) (9 * n + k) [] ∙ length-cleared n k rows
 
-pub given-cleared : (cs : List Call) (rows : Rows) → RowsGiven cs rows → length rows ≡ 81 → (n k : ℕ) → n ≤ 8 → k ≤ 9 → RowsGiven cs (cleared n k rows)
+pub given-cleared : (cs : List Call) (rows : Rows) → RowsGiven cs rows → length rows ≡ 81 → (n k : ℕ) → n ≤ 8 → k ≤ 9
+    → RowsGiven cs (cleared n k rows)
 given-cleared cs rows given pairs n zero node to = given
 given-cleared cs rows given pairs n (suc k) node to =
     let before : length (cleared n k rows) ≡ 81 = length-cleared n k rows ∙ pairs in
     given-with cs (with_row n k [] (cleared n k rows))
-    (given-with cs (cleared n k rows) (given-cleared cs rows given pairs n k node (omega (arith, to))) (9 * n + k) [] (omega (arith, before, node, to)) (given-none cs))
+    (given-with cs (cleared n k rows) (given-cleared cs rows given pairs n k node (omega (arith, to))) (9 * n + k) []
+    (omega (arith, before, node, to)) (given-none cs))
     (9 * k + n) [] (omega (arith, before, node, to, length-set (cleared n k rows) (9 * n + k) [])) (given-none cs)
 
 pub first-rest : {X : Type 0} (xs : List X) (x : X) → Some x ≡ first xs → xs ≡ x ∷ rest xs
@@ -130,10 +148,11 @@ row-read [] i q e h = absurd (omega arith)
 row-read (r ∷ rows) zero q e h = sym e
 row-read (r ∷ rows) (suc i) q e h = row-read rows i q e (omega arith)
 
-pub none-whole : IsWhole [] [] (replicate 81 [])
-none-whole = record {
+pub none-whole : (made : Made) → made.entries ≡ [] → IsWhole [] [] made (replicate 81 [])
+none-whole made empty = record {
   few = omega arith;
   index = record { live = refl; given = All-nil (IsGiven []) };
+  made = λ u. ap (λ es. filter (passes_at (is_own u) []) (with_item (lookup (is_at (uid_cmp u)) es) (λ v. v.items) [])) empty;
   between = All-nil IsBetween;
   pairs = length-replicate {A = List Message} 81 [];
   given = λ i. rw (none 81 i) (given-none []);
@@ -149,27 +168,44 @@ none-whole = record {
 pub more-pairs : (rows : Rows) (i : ℕ) (ms : List Message) → length rows ≡ 81 → length (slice_set rows i ms) ≡ 81
 more-pairs rows i ms pairs = length-set rows i ms ∙ pairs
 
-module _ (cs : List Call) (ks : List ℕ) (rows : Rows) (w : IsWhole cs ks rows) (few : length cs < 4294967295) (x : Call) (between : IsBetween x) where
+module _ (cs : List Call) (ks : List ℕ) (made : Made) (rows : Rows) (w : IsWhole cs ks made rows) (few : length cs < 4294967295) (x : Call)
+    (between : IsBetween x) where
   count : length (cs ++ x ∷ []) ≡ length cs + 1
   count = length_push cs x
 
-  pub asked-open : is_open x ≡ true → (a b : ℕ) → a ≤ 8 → b ≤ 8 → IsWhole (cs ++ x ∷ []) (ks ++ (length cs + 1) ∷ []) (sent_to a b (Request (length cs + 1)) rows)
-  asked-open opens a b from to = record {
+  pub asked-open : (new : Made) → Notes x cs made new → is_open x ≡ true → (a b : ℕ) → a ≤ 8 → b ≤ 8
+      → IsWhole (cs ++ x ∷ []) (ks ++ (length cs + 1) ∷ []) new (sent_to a b (Request (length cs + 1)) rows)
+  asked-open new notes opens a b from to = record {
     few = omega (arith, count, few);
     index = index-live cs x ks (rw opens refl) w.index;
+    made = made-noted x cs made new opens notes w.made;
     between = All-push IsBetween cs x w.between between;
     pairs = more-pairs rows (9 * a + b) (row a b rows ++ Request (length cs + 1) ∷ []) w.pairs;
-    given = given-sent (cs ++ x ∷ []) rows (given-more cs (cs ++ x ∷ []) (omega (arith, count)) rows w.given) w.pairs a b from to (Request (length cs + 1)) (omega arith, omega (arith, count));
+    given = given-sent (cs ++ x ∷ []) rows (given-more cs (cs ++ x ∷ []) (omega (arith, count)) rows w.given) w.pairs a b from to
+        (Request (length cs + 1)) (omega arith, omega (arith, count));
   }
 
-  pub asked-closed : is_live x ≡ false → IsWhole (cs ++ x ∷ []) ks rows
-  asked-closed dead = record {
+  pub asked-closed : is_live x ≡ false → ((u : Uid) → is_own u x ≡ false) → IsWhole (cs ++ x ∷ []) ks made rows
+  asked-closed dead none = record {
     few = omega (arith, count, few);
     index = index-dead cs x ks dead w.index;
+    made = made-other x cs made none w.made;
     between = All-push IsBetween cs x w.between between;
     pairs = w.pairs;
     given = given-more cs (cs ++ x ∷ []) (omega (arith, count)) rows w.given;
   }
+
+-- a call that was noted was not sent
+pub given_up-whole : (cs : List Call) (ks : List ℕ) (made : Made) (rows : Rows) → IsWhole cs ks made rows → (x : Call) (new : Made)
+    → Notes x cs made new → IsWhole cs ks new rows
+given_up-whole cs ks made rows w x new notes = record {
+  few = w.few;
+  index = w.index;
+  made = made-given_up x cs made new notes w.made;
+  between = w.between;
+  pairs = w.pairs;
+  given = w.given;
+}
 
 -- a call that is not answered at once goes to a station that is reached
 pub asked-reached : (reached : Bool) (args : List Datum) → refused_at_once reached args ≡ None → reached ≡ true
@@ -181,7 +217,8 @@ asked-reached reached args = go (nat_le (values_size args) 65536) reached
     go false r h = cc
 
 -- the messages of a row, read with another default
-pub row-given : (cs : List Call) (rows : Rows) → RowsGiven cs rows → (i : ℕ) (q : List Message) → q ≡ get_or rows i q → i < length rows → AllGiven cs q
+pub row-given : (cs : List Call) (rows : Rows) → RowsGiven cs rows → (i : ℕ) (q : List Message) → q ≡ get_or rows i q → i < length rows
+    → AllGiven cs q
 row-given cs rows given i q is within = rw (← row-read rows i q is within) (given i)
 
 -- what holds of all calls holds of one
@@ -196,11 +233,13 @@ all-item {X} P xs (suc k) x all is = go xs k all is
 
 -- 4. A reply
 
-pub answered-whole : (cs : List Call) (ks : List ℕ) (rows : Rows) → IsWhole cs ks rows → (k : ℕ) (x : Call) → item_in k cs ≡ Some x → IsGiven cs k → (m : Message) → number_of m ≡ k
-    → IsWhole (change (k - 1) spent cs) ks (cond (is_open x) (sent_to (target_of x) (asking_station x.asker) m rows) rows)
-answered-whole cs ks rows w k x is given m of = record {
+pub answered-whole : (cs : List Call) (ks : List ℕ) (made : Made) (rows : Rows) → IsWhole cs ks made rows
+    → (k : ℕ) (x : Call) → item_in k cs ≡ Some x → IsGiven cs k → (m : Message) → number_of m ≡ k
+    → IsWhole (change (k - 1) spent cs) ks made (cond (is_open x) (sent_to (target_of x) (asking_station x.asker) m rows) rows)
+answered-whole cs ks made rows w k x is given m of = record {
   few = omega (arith, length-change spent cs (k - 1), w.few);
   index = index-change spent spent-falls (k - 1) cs ks w.index;
+  made = made-spent (k - 1) cs made w.made;
   between = between-spent (k - 1) cs w.between;
   pairs = pairs (is_open x);
   given = all (is_open x) refl;
@@ -213,10 +252,12 @@ answered-whole cs ks rows w k x is given m of = record {
     more = given-more cs (change (k - 1) spent cs) (omega (arith, length-change spent cs (k - 1))) rows w.given
 
     pairs : (b : Bool) → length (cond b (sent_to (target_of x) (asking_station x.asker) m rows) rows) ≡ 81
-    pairs true = more-pairs rows (9 * target_of x + asking_station x.asker) (row (target_of x) (asking_station x.asker) rows ++ m ∷ []) w.pairs
+    pairs true = more-pairs rows (9 * target_of x + asking_station x.asker) (row (target_of x) (asking_station x.asker) rows ++ m ∷ [])
+        w.pairs
     pairs false = w.pairs
 
-    all : (b : Bool) → is_open x ≡ b → RowsGiven (change (k - 1) spent cs) (cond b (sent_to (target_of x) (asking_station x.asker) m rows) rows)
+    all : (b : Bool) → is_open x ≡ b
+        → RowsGiven (change (k - 1) spent cs) (cond b (sent_to (target_of x) (asking_station x.asker) m rows) rows)
     all true e = given-sent (change (k - 1) spent cs) rows more w.pairs (target_of x) (asking_station x.asker) (between.1 e) between.0 m
         (omega (arith, of, given.0), omega (arith, of, given.1, length-change spent cs (k - 1)))
     all false e = more

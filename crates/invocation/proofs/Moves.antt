@@ -1,5 +1,6 @@
 -- The model's queues, as messages are sent, delivered and lost.
-use Rattle.std.proofs.Common.{subst, ◌≡◌, ℕ, ◌==◌, Bool, true, false, cond, ◌&&◌, [], ◌∷◌, ◌++◌, map, Option, None, Some, refl, sym, ◌∙◌, ap, ◌⊎◌, inl, inr}
+use Rattle.std.proofs.Common.{subst, ◌≡◌, ℕ, ◌==◌, Bool, true, false, cond, ◌&&◌, [], ◌∷◌, ◌++◌, map, Option, None, Some, refl, sym, ◌∙◌}
+use Rattle.std.proofs.Common.{ap, ◌⊎◌, inl, inr}
 use Rattle.std.specs.List.{filter}
 use Rattle.std.specs.Ordering.{nat_cmp, eq_by_cmp}
 use Rattle.std.proofs.lemmas.Bool.{eqb-true}
@@ -7,7 +8,8 @@ use Rattle.std.proofs.lemmas.List.{map-append}
 use Rattle.std.proofs.lemmas.List.Elements.{filter-append}
 use Rattle.eden_model.specs.Map.{with_item}
 use Rattle.eden_model.specs.Lines.{has, Distinct}
-use Rattle.eden_model.specs.Traffic.{Traffic, Call, Place, asked, held, answered, done, call_at, goes, goes_by, queue, asking_station, target_station, in_transit}
+use Rattle.eden_model.specs.Traffic.{Traffic, Call, Place, asked, held, answered, done, call_at, goes, goes_by, queue, asking_station}
+use Rattle.eden_model.specs.Traffic.{target_station, in_transit}
 use Rattle.invocation.specs.Carries.{message_at, message_of, is_sent}
 use Rattle.invocation.proofs.Filters.{filter-filter, map-same, has-filter, distinct-filter, filter-same, distinct-push, has-push, apart}
 
@@ -27,14 +29,17 @@ same-sent t u k e = ap (λ (o : Option Call). with_item o (λ c. in_transit c.pl
 
 -- 2. Some messages leave
 
-module _ (t u : Traffic) (p : ℕ → Bool) (left : u.transit ≡ filter p t.transit) (same : (k : ℕ) → p k ≡ true → call_at u k ≡ call_at t k) where
+module _ (t u : Traffic) (p : ℕ → Bool) (left : u.transit ≡ filter p t.transit) (same : (k : ℕ) → p k ≡ true
+    → call_at u k ≡ call_at t k) where
   pub queue-left : (a b : ℕ) → queue u a b ≡ filter p (queue t a b)
-  queue-left a b = ap (filter (goes u a b)) left ∙ filter-filter p (goes u a b) (goes t a b) t.transit (λ k is. same-goes t u k a b (same k is))
+  queue-left a b = ap (filter (goes u a b)) left ∙ filter-filter p (goes u a b) (goes t a b) t.transit
+      (λ k is. same-goes t u k a b (same k is))
 
   pub messages-left : (a b : ℕ) → map (message_of u) (queue u a b) ≡ map (message_of t) (filter p (queue t a b))
   messages-left a b =
       ap (map (message_of u)) (queue-left a b)
-      ∙ map-same (message_of u) (message_of t) (filter p (queue t a b)) (λ k there. same-message t u k (same k (has-filter p (queue t a b) k there).1))
+      ∙ map-same (message_of u) (message_of t) (filter p (queue t a b))
+      (λ k there. same-message t u k (same k (has-filter p (queue t a b) k there).1))
 
   pub once-left : Distinct t.transit → Distinct u.transit
   once-left once = subst Distinct (sym left) (distinct-filter p t.transit once)
@@ -46,20 +51,24 @@ module _ (t u : Traffic) (p : ℕ → Bool) (left : u.transit ≡ filter p t.tra
 
 -- 3. One message comes
 
-module _ (t u : Traffic) (k : ℕ) (came : u.transit ≡ t.transit ++ k ∷ []) (new : has k t.transit ≡ false) (same : (j : ℕ) → eq_by_cmp nat_cmp j k ≡ false → call_at u j ≡ call_at t j) where
+module _ (t u : Traffic) (k : ℕ) (came : u.transit ≡ t.transit ++ k ∷ []) (new : has k t.transit ≡ false) (same : (j : ℕ)
+    → eq_by_cmp nat_cmp j k ≡ false → call_at u j ≡ call_at t j) where
   pub queue-came : (a b : ℕ) → queue u a b ≡ queue t a b ++ cond (goes u a b k) (k ∷ []) []
   queue-came a b =
       ap (filter (goes u a b)) came ∙ filter-append (goes u a b) t.transit (k ∷ [])
-      ∙ ap (λ l. l ++ cond (goes u a b k) (k ∷ []) []) (filter-same (goes u a b) (goes t a b) t.transit (λ j there. same-goes t u j a b (same j (apart t.transit k j new there))))
+      ∙ ap (λ l. l ++ cond (goes u a b k) (k ∷ []) []) (filter-same (goes u a b) (goes t a b) t.transit
+      (λ j there. same-goes t u j a b (same j (apart t.transit k j new there))))
 
-  pub messages-came : (a b : ℕ) → map (message_of u) (queue u a b) ≡ map (message_of t) (queue t a b) ++ cond (goes u a b k) (message_of u k ∷ []) []
+  pub messages-came : (a b : ℕ) → map (message_of u) (queue u a b) ≡ map (message_of t) (queue t a b) ++ cond (goes u a b k)
+      (message_of u k ∷ []) []
   messages-came a b =
       ap (map (message_of u)) (queue-came a b) ∙ map-append (message_of u) (queue t a b) (cond (goes u a b k) (k ∷ []) [])
       ∙ ap (λ l. l ++ map (message_of u) (cond (goes u a b k) (k ∷ []) [])) old
       ∙ ap (λ l. map (message_of t) (queue t a b) ++ l) (one (goes u a b k))
     where
       old : map (message_of u) (queue t a b) ≡ map (message_of t) (queue t a b)
-      old = map-same (message_of u) (message_of t) (queue t a b) (λ j there. same-message t u j (same j (apart t.transit k j new (has-filter (goes t a b) t.transit j there).0)))
+      old = map-same (message_of u) (message_of t) (queue t a b)
+          (λ j there. same-message t u j (same j (apart t.transit k j new (has-filter (goes t a b) t.transit j there).0)))
 
       one : (b : Bool) → map (message_of u) (cond b (k ∷ []) []) ≡ cond b (message_of u k ∷ []) []
       one true = refl
@@ -68,7 +77,8 @@ module _ (t u : Traffic) (k : ℕ) (came : u.transit ≡ t.transit ++ k ∷ []) 
   pub once-came : Distinct t.transit → Distinct u.transit
   once-came once = subst Distinct (sym came) (distinct-push t.transit k once new)
 
-  pub sent-came : is_sent u k ≡ true → ((j : ℕ) → has j t.transit ≡ true → is_sent t j ≡ true) → (j : ℕ) → has j u.transit ≡ true → is_sent u j ≡ true
+  pub sent-came : is_sent u k ≡ true → ((j : ℕ) → has j t.transit ≡ true → is_sent t j ≡ true) → (j : ℕ) → has j u.transit ≡ true
+      → is_sent u j ≡ true
   sent-came here sent j there = go (has-push t.transit k j (ap (has j) (sym came) ∙ there))
     where
       go : ((has j t.transit ≡ true) ⊎ (j ≡ k)) → is_sent u j ≡ true
@@ -112,7 +122,8 @@ pub tells-queue : (h : ℕ → ℕ → Bool) → ((x y : ℕ) → h x y ≡ h y 
     → with_item (call_at t k) (λ x. h (asking_station x.asker) (target_station x)) false ≡ h c d
 tells-queue h both t k c d = go (call_at t k)
   where
-    at : (x : Call) → (((asking_station x.asker ≡ c) × (target_station x ≡ d)) ⊎ ((asking_station x.asker ≡ d) × (target_station x ≡ c))) → h (asking_station x.asker) (target_station x) ≡ h c d
+    at : (x : Call) → (((asking_station x.asker ≡ c) × (target_station x ≡ d)) ⊎ ((asking_station x.asker ≡ d) × (target_station x ≡ c)))
+        → h (asking_station x.asker) (target_station x) ≡ h c d
     at x (inl e) = ap (λ n. h n (target_station x)) e.0 ∙ ap (h c) e.1
     at x (inr e) = ap (λ n. h n (target_station x)) e.0 ∙ ap (h d) e.1 ∙ both d c
 

@@ -1,5 +1,6 @@
 -- Laws of numbered items.
-use Rattle.std.proofs.Common.{◌≡◌, ◌≤◌, ◌<◌, ℕ, zero, suc, ◌+◌, ◌-◌, Bool, true, false, cond, ◌&&◌, List, [], ◌∷◌, ◌++◌, map, length, Option, None, Some, refl, sym, ◌∙◌, ap, arith}
+use Rattle.std.proofs.Common.{◌≡◌, ◌≤◌, ◌<◌, ℕ, zero, suc, ◌+◌, ◌-◌, Bool, true, false, cond, ◌&&◌, List, [], ◌∷◌, ◌++◌, map, length}
+use Rattle.std.proofs.Common.{Option, None, Some, refl, sym, ◌∙◌, ap, arith}
 use Rattle.std.specs.Prelude.{slice_get, slice_set}
 use Rattle.std.specs.List.{All, filter}
 use Rattle.std.proofs.lemmas.List.Elements.{All-nil, All-cons, All-head, All-tail, All-weaker}
@@ -14,12 +15,14 @@ Picks p q t n (x ∷ xs) (y ∷ ys) = (q y ≡ (p x && t n)) × Picks p q t (n +
 Picks p q t n [] (y ∷ ys) = ⊥
 Picks p q t n (x ∷ xs) [] = ⊥
 
-pub numbers-picked : {X : Type 0} (p q : X → Bool) (t : ℕ → Bool) (n : ℕ) (xs ys : List X) → Picks p q t n xs ys → filter t (numbers_where p n xs) ≡ numbers_where q n ys
+pub numbers-picked : {X : Type 0} (p q : X → Bool) (t : ℕ → Bool) (n : ℕ) (xs ys : List X) → Picks p q t n xs ys
+    → filter t (numbers_where p n xs) ≡ numbers_where q n ys
 numbers-picked p q t n [] [] h = refl
 numbers-picked p q t n (x ∷ xs) (y ∷ ys) h = go (p x) refl (t n) refl (numbers-picked p q t (n + 1) xs ys h.1)
   where
     go : (a : Bool) → p x ≡ a → (b : Bool) → t n ≡ b → filter t (numbers_where p (n + 1) xs) ≡ numbers_where q (n + 1) ys
-        → filter t (cond (p x) (n ∷ numbers_where p (n + 1) xs) (numbers_where p (n + 1) xs)) ≡ cond (q y) (n ∷ numbers_where q (n + 1) ys) (numbers_where q (n + 1) ys)
+        → filter t (cond (p x) (n ∷ numbers_where p (n + 1) xs) (numbers_where p (n + 1) xs)) ≡ cond (q y) (n ∷ numbers_where q (n + 1) ys)
+        (numbers_where q (n + 1) ys)
     go true a true b ih = let e : q y ≡ true = h.0 ∙ rw (a, b) refl in rw (a, e) (rw b (ap (λ l. n ∷ l) ih))
     go true a false b ih = let e : q y ≡ false = h.0 ∙ rw (a, b) refl in rw (a, e) (rw b ih)
     go false a b c ih = let e : q y ≡ false = h.0 ∙ rw a refl in rw (a, e) ih
@@ -36,9 +39,13 @@ test-here : {X : Type 0} (test : X → Bool) (t : ℕ → Bool) (n : ℕ) (x : X
     → ((i : ℕ) → t (n + i) ≡ with_item (slice_get (x ∷ xs) i) test false) → t n ≡ test x
 test-here test t n x xs h = let e : n ≡ n + 0 = omega arith in ap t e ∙ h 0
 
-picks-test : {X : Type 0} (p test : X → Bool) (t : ℕ → Bool) (n : ℕ) (xs : List X) → ((i : ℕ) → t (n + i) ≡ with_item (slice_get xs i) test false) → Picks p (λ x. p x && test x) t n xs xs
+picks-test : {X : Type 0} (p test : X → Bool) (t : ℕ → Bool) (n : ℕ) (xs : List X)
+    → ((i : ℕ) → t (n + i) ≡ with_item (slice_get xs i) test false) → Picks p (λ x. p x && test x) t n xs xs
 picks-test p test t n [] h = tt
-picks-test p test t n (x ∷ xs) h = (ap (λ b. p x && b) (sym (test-here test t n x xs h)), picks-test p test t (n + 1) xs (test-next test t n x xs h))
+picks-test p test t n (x ∷ xs) h = (
+  ap (λ b. p x && b) (sym (test-here test t n x xs h)),
+  picks-test p test t (n + 1) xs (test-next test t n x xs h),
+)
 
 -- an item of the second list passes only where that of the first does
 abbrev pub Falls : {X : Type 0} → (X → Bool) → List X → List X → Type 0
@@ -47,7 +54,8 @@ Falls p (x ∷ xs) (y ∷ ys) = (p y ≡ (p x && p y)) × Falls p xs ys
 Falls p [] (y ∷ ys) = ⊥
 Falls p (x ∷ xs) [] = ⊥
 
-picks-falls : {X : Type 0} (p : X → Bool) (t : ℕ → Bool) (n : ℕ) (xs ys : List X) → Falls p xs ys → ((i : ℕ) → t (n + i) ≡ with_item (slice_get ys i) p false) → Picks p p t n xs ys
+picks-falls : {X : Type 0} (p : X → Bool) (t : ℕ → Bool) (n : ℕ) (xs ys : List X) → Falls p xs ys
+    → ((i : ℕ) → t (n + i) ≡ with_item (slice_get ys i) p false) → Picks p p t n xs ys
 picks-falls p t n [] [] falls h = tt
 picks-falls p t n (x ∷ xs) (y ∷ ys) falls h =
     (falls.0 ∙ ap (λ b. p x && b) (sym (test-here p t n y ys h)), picks-falls p t (n + 1) xs ys falls.1 (test-next p t n y ys h))
@@ -59,11 +67,14 @@ from-one : {X : Type 0} (test : X → Bool) (xs : List X) (i : ℕ) → passes_a
 from-one test xs i = let e : 1 + i ≡ suc i = omega arith in ap (passes_at test xs) e
 
 -- those that pass two tests
-pub both-pass : {X : Type 0} (p test : X → Bool) (xs : List X) → filter (passes_at test xs) (numbers_where p 1 xs) ≡ numbers_where (λ x. p x && test x) 1 xs
-both-pass p test xs = numbers-picked p (λ x. p x && test x) (passes_at test xs) 1 xs xs (picks-test p test (passes_at test xs) 1 xs (from-one test xs))
+pub both-pass : {X : Type 0} (p test : X → Bool) (xs : List X)
+    → filter (passes_at test xs) (numbers_where p 1 xs) ≡ numbers_where (λ x. p x && test x) 1 xs
+both-pass p test xs = numbers-picked p (λ x. p x && test x) (passes_at test xs) 1 xs xs
+    (picks-test p test (passes_at test xs) 1 xs (from-one test xs))
 
 -- those that pass still, where none comes to pass
-pub falls-pass : {X : Type 0} (p : X → Bool) (xs ys : List X) → Falls p xs ys → filter (passes_at p ys) (numbers_where p 1 xs) ≡ numbers_where p 1 ys
+pub falls-pass : {X : Type 0} (p : X → Bool) (xs ys : List X) → Falls p xs ys
+    → filter (passes_at p ys) (numbers_where p 1 xs) ≡ numbers_where p 1 ys
 falls-pass p xs ys falls = numbers-picked p p (passes_at p ys) 1 xs ys (picks-falls p (passes_at p ys) 1 xs ys falls (from-one p ys))
 
 -- 2. Items of which none comes to pass
@@ -80,7 +91,8 @@ falls-self : {X : Type 0} (p : X → Bool) (xs : List X) → Falls p xs xs
 falls-self p [] = tt
 falls-self p (x ∷ xs) = (and-self (p x), falls-self p xs)
 
-pub falls-change : {X : Type 0} (p : X → Bool) (f : X → X) → ((x : X) → p (f x) ≡ (p x && p (f x))) → (i : ℕ) (xs : List X) → Falls p xs (change i f xs)
+pub falls-change : {X : Type 0} (p : X → Bool) (f : X → X) → ((x : X) → p (f x) ≡ (p x && p (f x))) → (i : ℕ) (xs : List X)
+    → Falls p xs (change i f xs)
 falls-change p f each i [] = tt
 falls-change p f each zero (x ∷ xs) = (each x, falls-self p xs)
 falls-change p f each (suc i) (x ∷ xs) = (and-self (p x), falls-change p f each i xs)
@@ -102,7 +114,8 @@ and-right true b h k = refl
 and-right false b h k = sym h ∙ k
 
 -- what passes passed before
-pub passed-before : {X : Type 0} (p : X → Bool) (xs ys : List X) → Falls p xs ys → (k : ℕ) → passes_at p ys k ≡ true → passes_at p xs k ≡ true
+pub passed-before : {X : Type 0} (p : X → Bool) (xs ys : List X) → Falls p xs ys → (k : ℕ) → passes_at p ys k ≡ true
+    → passes_at p xs k ≡ true
 passed-before p xs ys falls zero h = absurd (let bad : false ≡ true = h in cc)
 passed-before {X} p xs ys falls (suc k) h = go xs ys falls k h
   where
@@ -114,14 +127,16 @@ passed-before {X} p xs ys falls (suc k) h = go xs ys falls k h
     go (u ∷ us) [] f i e = absurd f
 
 -- a test that implies another
-pub passes-by : {X : Type 0} (q p : X → Bool) → ((x : X) → q x ≡ true → p x ≡ true) → (xs : List X) (k : ℕ) → passes_at q xs k ≡ true → passes_at p xs k ≡ true
+pub passes-by : {X : Type 0} (q p : X → Bool) → ((x : X) → q x ≡ true → p x ≡ true) → (xs : List X) (k : ℕ) → passes_at q xs k ≡ true
+    → passes_at p xs k ≡ true
 passes-by {X} q p implies xs k = go (item_in k xs)
   where
     go : (o : Option X) → with_item o q false ≡ true → with_item o p false ≡ true
     go None e = e
     go (Some x) e = implies x e
 
-pub numbers-same : {X : Type 0} (p q : X → Bool) → ((x : X) → p x ≡ q x) → (n : ℕ) (xs : List X) → numbers_where p n xs ≡ numbers_where q n xs
+pub numbers-same : {X : Type 0} (p q : X → Bool) → ((x : X) → p x ≡ q x) → (n : ℕ) (xs : List X)
+    → numbers_where p n xs ≡ numbers_where q n xs
 numbers-same p q same n [] = refl
 numbers-same p q same n (x ∷ xs) = rw (same x, numbers-same p q same (n + 1) xs) refl
 
@@ -130,7 +145,8 @@ pub filter-narrow : (p q : ℕ → Bool) (ks : List ℕ) → ((k : ℕ) → q k 
 filter-narrow p q [] wider = refl
 filter-narrow p q (k ∷ ks) wider = go (p k) refl (q k) refl (filter-narrow p q ks wider)
   where
-    go : (a : Bool) → p k ≡ a → (b : Bool) → q k ≡ b → filter q (filter p ks) ≡ filter q ks → filter q (cond (p k) (k ∷ filter p ks) (filter p ks)) ≡ cond (q k) (k ∷ filter q ks) (filter q ks)
+    go : (a : Bool) → p k ≡ a → (b : Bool) → q k ≡ b → filter q (filter p ks) ≡ filter q ks
+        → filter q (cond (p k) (k ∷ filter p ks) (filter p ks)) ≡ cond (q k) (k ∷ filter q ks) (filter q ks)
     go true a true b ih = rw (a, b) (ap (λ l. k ∷ l) ih)
     go true a false b ih = rw (a, b) ih
     go false a true b ih = absurd (let bad : true ≡ false = sym (wider k b) ∙ a in cc)
@@ -144,52 +160,65 @@ IsWithin n more k = (n ≤ k) × (k < n + more)
 pub numbers-within : {X : Type 0} (p : X → Bool) (n : ℕ) (xs : List X) → All (IsWithin n (length xs)) (numbers_where p n xs)
 numbers-within p n [] = All-nil (IsWithin n 0)
 numbers-within {X} p n (x ∷ xs) =
-    go (p x) (All-weaker (IsWithin (n + 1) (length xs)) (IsWithin n (suc (length xs))) (λ k h. (omega (arith, h.0), omega (arith, h.1))) (numbers_where p (n + 1) xs) (numbers-within p (n + 1) xs))
+    go (p x) (All-weaker (IsWithin (n + 1) (length xs)) (IsWithin n (suc (length xs))) (λ k h. (omega (arith, h.0), omega (arith, h.1)))
+    (numbers_where p (n + 1) xs) (numbers-within p (n + 1) xs))
   where
-    go : (b : Bool) → All (IsWithin n (suc (length xs))) (numbers_where p (n + 1) xs) → All (IsWithin n (suc (length xs))) (cond b (n ∷ numbers_where p (n + 1) xs) (numbers_where p (n + 1) xs))
+    go : (b : Bool) → All (IsWithin n (suc (length xs))) (numbers_where p (n + 1) xs)
+        → All (IsWithin n (suc (length xs))) (cond b (n ∷ numbers_where p (n + 1) xs) (numbers_where p (n + 1) xs))
     go true later = All-cons (IsWithin n (suc (length xs))) n (numbers_where p (n + 1) xs) (omega arith, omega arith) later
     go false later = later
 
 -- numbers from 1
 pub numbers-given : {X : Type 0} (p : X → Bool) (xs : List X) → All (λ k. (1 ≤ k) × (k ≤ length xs)) (numbers_where p 1 xs)
-numbers-given p xs = All-weaker (IsWithin 1 (length xs)) (λ k. (1 ≤ k) × (k ≤ length xs)) (λ k h. (h.0, omega (arith, h.1))) (numbers_where p 1 xs) (numbers-within p 1 xs)
+numbers-given p xs = All-weaker (IsWithin 1 (length xs)) (λ k. (1 ≤ k) × (k ≤ length xs)) (λ k h. (h.0, omega (arith, h.1)))
+    (numbers_where p 1 xs) (numbers-within p 1 xs)
 
 -- one more item
-pub numbers-push : {X : Type 0} (p : X → Bool) (n : ℕ) (xs : List X) (x : X) → numbers_where p n (xs ++ x ∷ []) ≡ numbers_where p n xs ++ cond (p x) ((n + length xs) ∷ []) []
+pub numbers-push : {X : Type 0} (p : X → Bool) (n : ℕ) (xs : List X) (x : X)
+    → numbers_where p n (xs ++ x ∷ []) ≡ numbers_where p n xs ++ cond (p x) ((n + length xs) ∷ []) []
 numbers-push p n [] x = let e : n + 0 ≡ n = omega arith in rw e refl
-numbers-push {X} p n (y ∷ ys) x = let e : n + 1 + length ys ≡ n + suc (length ys) = omega arith in go (p y) (numbers-push p (n + 1) ys x ∙ ap (λ m. numbers_where p (n + 1) ys ++ cond (p x) (m ∷ []) []) e)
+numbers-push {X} p n (y ∷ ys) x = let e : n + 1 + length ys ≡ n + suc (length ys) = omega arith in
+    go (p y) (numbers-push p (n + 1) ys x ∙ ap (λ m. numbers_where p (n + 1) ys ++ cond (p x) (m ∷ []) []) e)
   where
     go : (b : Bool) → numbers_where p (n + 1) (ys ++ x ∷ []) ≡ numbers_where p (n + 1) ys ++ cond (p x) ((n + suc (length ys)) ∷ []) []
-        → cond b (n ∷ numbers_where p (n + 1) (ys ++ x ∷ [])) (numbers_where p (n + 1) (ys ++ x ∷ [])) ≡ cond b (n ∷ numbers_where p (n + 1) ys) (numbers_where p (n + 1) ys) ++ cond (p x) ((n + suc (length ys)) ∷ []) []
+        → cond b (n ∷ numbers_where p (n + 1) (ys ++ x ∷ [])) (numbers_where p (n + 1) (ys ++ x ∷ [])) ≡ cond b
+        (n ∷ numbers_where p (n + 1) ys) (numbers_where p (n + 1) ys) ++ cond (p x) ((n + suc (length ys)) ∷ []) []
     go true ih = ap (λ l. n ∷ l) ih
     go false ih = ih
 
 -- 4. All that pass are changed
 
-pub changed-push : {X : Type 0} (f : X → X) (n : ℕ) (ks : List ℕ) (k : ℕ) (xs : List X) → changed_at_all f n (ks ++ k ∷ []) xs ≡ change (k - n) f (changed_at_all f n ks xs)
+pub changed-push : {X : Type 0} (f : X → X) (n : ℕ) (ks : List ℕ) (k : ℕ) (xs : List X)
+    → changed_at_all f n (ks ++ k ∷ []) xs ≡ change (k - n) f (changed_at_all f n ks xs)
 changed-push f n [] k xs = refl
 changed-push f n (j ∷ ks) k xs = changed-push f n ks k (change (j - n) f xs)
 
-changed-past : {X : Type 0} (p : X → Bool) (f : X → X) (n m : ℕ) (ys : List X) (x : X) (xs : List X) → n < m → changed_at_all f n (numbers_where p m ys) (x ∷ xs) ≡ x ∷ changed_at_all f (n + 1) (numbers_where p m ys) xs
+changed-past : {X : Type 0} (p : X → Bool) (f : X → X) (n m : ℕ) (ys : List X) (x : X) (xs : List X) → n < m
+    → changed_at_all f n (numbers_where p m ys) (x ∷ xs) ≡ x ∷ changed_at_all f (n + 1) (numbers_where p m ys) xs
 changed-past p f n m [] x xs h = refl
 changed-past {X} p f n m (y ∷ ys) x xs h = go (p y) (λ zs. changed-past p f n (m + 1) ys x zs (omega (arith, h)))
   where
-    go : (b : Bool) → ((zs : List X) → changed_at_all f n (numbers_where p (m + 1) ys) (x ∷ zs) ≡ x ∷ changed_at_all f (n + 1) (numbers_where p (m + 1) ys) zs)
-        → changed_at_all f n (cond b (m ∷ numbers_where p (m + 1) ys) (numbers_where p (m + 1) ys)) (x ∷ xs) ≡ x ∷ changed_at_all f (n + 1) (cond b (m ∷ numbers_where p (m + 1) ys) (numbers_where p (m + 1) ys)) xs
+    go : (b : Bool) → ((zs : List X)
+        → changed_at_all f n (numbers_where p (m + 1) ys) (x ∷ zs) ≡ x ∷ changed_at_all f (n + 1) (numbers_where p (m + 1) ys) zs)
+        → changed_at_all f n (cond b (m ∷ numbers_where p (m + 1) ys) (numbers_where p (m + 1) ys)) (x ∷ xs) ≡ x ∷ changed_at_all f (n + 1)
+        (cond b (m ∷ numbers_where p (m + 1) ys) (numbers_where p (m + 1) ys)) xs
     go true ih =
         let e : m - n ≡ suc (m - (n + 1)) = omega (arith, h) in
         ap (λ i. changed_at_all f n (numbers_where p (m + 1) ys) (change i f (x ∷ xs))) e ∙ ih (change (m - (n + 1)) f xs)
     go false ih = ih xs
 
-pub all-changed : {X : Type 0} (p : X → Bool) (f : X → X) (n : ℕ) (xs : List X) → changed_at_all f n (numbers_where p n xs) xs ≡ map (λ x. cond (p x) (f x) x) xs
+pub all-changed : {X : Type 0} (p : X → Bool) (f : X → X) (n : ℕ) (xs : List X)
+    → changed_at_all f n (numbers_where p n xs) xs ≡ map (λ x. cond (p x) (f x) x) xs
 all-changed p f n [] = refl
 all-changed {X} p f n (x ∷ xs) = go (p x) (all-changed p f (n + 1) xs)
   where
     go : (b : Bool) → changed_at_all f (n + 1) (numbers_where p (n + 1) xs) xs ≡ map (λ x. cond (p x) (f x) x) xs
-        → changed_at_all f n (cond b (n ∷ numbers_where p (n + 1) xs) (numbers_where p (n + 1) xs)) (x ∷ xs) ≡ cond b (f x) x ∷ map (λ x. cond (p x) (f x) x) xs
+        → changed_at_all f n (cond b (n ∷ numbers_where p (n + 1) xs) (numbers_where p (n + 1) xs)) (x ∷ xs) ≡ cond b (f x) x ∷ map
+        (λ x. cond (p x) (f x) x) xs
     go true ih =
         let e : n - n ≡ 0 = omega arith in
-        ap (λ i. changed_at_all f n (numbers_where p (n + 1) xs) (change i f (x ∷ xs))) e ∙ changed-past p f n (n + 1) xs (f x) xs (omega arith) ∙ ap (λ l. f x ∷ l) ih
+        ap (λ i. changed_at_all f n (numbers_where p (n + 1) xs) (change i f (x ∷ xs))) e
+        ∙ changed-past p f n (n + 1) xs (f x) xs (omega arith) ∙ ap (λ l. f x ∷ l) ih
     go false ih = changed-past p f n (n + 1) xs x xs (omega arith) ∙ ap (λ l. x ∷ l) ih
 
 -- a change that leaves the item there as it is
@@ -198,7 +227,8 @@ change-fixed f [] i fixed = refl
 change-fixed f (x ∷ xs) zero fixed = ap (λ y. y ∷ xs) (fixed x refl)
 change-fixed f (x ∷ xs) (suc i) fixed = ap (λ l. x ∷ l) (change-fixed f xs i fixed)
 
-fixed-changed : {X : Type 0} (f : X → X) (xs : List X) (i j : ℕ) → ((x : X) → slice_get xs j ≡ Some x → f x ≡ x) → (x : X) → slice_get (change i f xs) j ≡ Some x → f x ≡ x
+fixed-changed : {X : Type 0} (f : X → X) (xs : List X) (i j : ℕ) → ((x : X) → slice_get xs j ≡ Some x → f x ≡ x) → (x : X)
+    → slice_get (change i f xs) j ≡ Some x → f x ≡ x
 fixed-changed f [] i j fixed x is = fixed x is
 fixed-changed f (y ∷ ys) zero zero fixed x is = let e : f y ≡ x = cc in ap f (sym e ∙ fixed y refl) ∙ e
 fixed-changed f (y ∷ ys) zero (suc j) fixed x is = fixed x is
@@ -209,7 +239,8 @@ abbrev pub Fixed : {X : Type 0} → (X → X) → (ℕ → Bool) → List X → 
 Fixed {X} f t xs = (k : ℕ) → 1 ≤ k → t k ≡ false → (x : X) → slice_get xs (k - 1) ≡ Some x → f x ≡ x
 
 -- numbers of items that the change leaves as they are may be left out
-pub changed-skip : {X : Type 0} (f : X → X) (t : ℕ → Bool) (ks : List ℕ) (xs : List X) → All (λ k. 1 ≤ k) ks → Fixed f t xs → changed_at_all f 1 ks xs ≡ changed_at_all f 1 (filter t ks) xs
+pub changed-skip : {X : Type 0} (f : X → X) (t : ℕ → Bool) (ks : List ℕ) (xs : List X) → All (λ k. 1 ≤ k) ks → Fixed f t xs
+    → changed_at_all f 1 ks xs ≡ changed_at_all f 1 (filter t ks) xs
 changed-skip f t [] xs all fixed = refl
 changed-skip {X} f t (k ∷ ks) xs all fixed = go (t k) refl (λ ys. changed-skip f t ks ys (All-tail (λ j. 1 ≤ j) k ks all))
   where

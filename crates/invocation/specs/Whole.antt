@@ -1,5 +1,5 @@
--- What holds of all calls: an index of those that something may still become of, stations within 0 to 8, a queue for each pair of stations,
--- and in them numbers that were given.
+-- What holds of all calls: an index of those that something may still become of, a note of each Eject's open calls, stations within 0 to 8,
+-- a queue for each pair of stations, and in them numbers that were given.
 use Rattle.std.specs.Prelude.{◌≡◌, ℕ, ◌≤◌, ◌||◌, ◌==◌, Bool, true, not, List, length, slice_index_or, []}
 use Rattle.std.specs.List.{All, filter}
 use Rattle.eden_model.specs.Traffic.{asking_station}
@@ -7,6 +7,7 @@ use Rattle.invocation.specs.declared.call.Call.{Call}
 use Rattle.invocation.specs.declared.call.Message.{Message}
 use Rattle.invocation.specs.Mail.{IsGiven, is_open, number_of, target_of}
 use Rattle.invocation.specs.Numbers.{numbers_where, passes_at}
+use Rattle.invocation.specs.Made.{Made, AreMade}
 
 -- the call is open, or has its arguments still
 abbrev pub is_live : Call → Bool
@@ -26,9 +27,10 @@ pub record IsIndex (calls : List Call) (index : List ℕ) : Type 0 where
   pub given : All (IsGiven calls) index
 
 -- what holds of all calls together
-pub record IsWhole (calls : List Call) (numbers : List ℕ) (queues : List (List Message)) : Type 0 where
+pub record IsWhole (calls : List Call) (numbers : List ℕ) (noted : Made) (queues : List (List Message)) : Type 0 where
   pub few : length calls ≤ 4294967295
   pub index : IsIndex calls numbers
+  pub made : AreMade calls noted
   pub between : All IsBetween calls
   pub pairs : length queues ≡ 81
   pub given : (i : ℕ) → AllGiven calls (slice_index_or queues i [])

@@ -124,7 +124,7 @@ pub fn broken_numbers(
 }
 
 /// Closes each call of the index that the cause hits.
-fn close_each(alloc: Global, calls: &mut Vec<Call>, index: &[u32], cause: Cause)
+pub fn close_each(alloc: Global, calls: &mut Vec<Call>, index: &[u32], cause: Cause)
     requires { All (IsGiven calls.old.items) index.now }
     ensures { calls.new.items ≡ changed_at_all (closed_by cause) 1 index.now calls.old.items }
 {

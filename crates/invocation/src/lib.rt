@@ -6,6 +6,7 @@
 //! answered at most once: at once as it is asked, by its reply, or by a cut or a crash.
 #![tactic(auto)]
 
+mod askers;
 mod call;
 mod closing;
 mod queues;
@@ -23,6 +24,7 @@ ghost use Rattle.invocation.specs.Numbers.{item_in, passes_at};
 ghost use Rattle.invocation.specs.Answered.{Change, all_answered};
 ghost use Rattle.invocation.specs.Carries.{Carries, CarriesDelivery, no_traffic};
 
+use crate::askers::{close_own, note};
 use crate::call::{new_call, station};
 use crate::closing::{broken_numbers, call_at, close_all, receive};
 use crate::queues::{
@@ -37,6 +39,7 @@ use eden_value::{Items, Status, Txt};
 use locator::Places;
 pub use queues::Queue;
 use std::alloc::{AllocError, Global};
+use std::collections::BTreeMap;
 use std::marker::Model;
 
 /// All calls that were asked, and the messages on their way.
@@ -47,6 +50,9 @@ pub struct Calls {
     // The numbers of the calls that are open or have their arguments, ascending, and perhaps of some
     // that were: so a delivery leaves it as it is, and what closes many calls looks at no others.
     index: Vec<u32>,
+    // The numbers of the open calls of each Eject that asked, ascending, and perhaps of some that
+    // closed since it last asked: so what closes its calls looks at no others.
+    made: BTreeMap<Uid, Vec<u32>>,
     queues: Vec<Queue>,
 }
 
@@ -64,7 +70,7 @@ impl Model for Calls {
 
     ghost view = { λ c. record { calls = c.calls.items; queues = c.queues.items } };
 
-    ghost invariant = { λ c. IsWhole c.calls.items c.index.items c.queues.items };
+    ghost invariant = { λ c. IsWhole c.calls.items c.index.items c.made c.queues.items };
 }
 
 impl Calls {
@@ -78,6 +84,7 @@ impl Calls {
             alloc,
             calls: Vec::new(alloc),
             index: Vec::new(alloc),
+            made: BTreeMap::new(alloc),
             queues,
         })
     }
@@ -137,6 +144,7 @@ impl Calls {
         self.index.reserve(1)?;
         match at_once {
             None => {
+                note(self.alloc, &self.calls, &mut self.made, &asker, call)?;
                 send(&mut self.queues, from, to, Message::Request { call })?;
                 self.index.push_reserved(call);
             }
@@ -190,8 +198,7 @@ impl Calls {
         ensures after { self.new ≡ orphaned uid self.old }
         ensures model { (t : Traffic) → Carries self.old t → Carries self.new (traffic.orphaned uid t) }
     {
-        let cause = Cause::Lost { uid };
-        close_all(self.alloc, &mut self.calls, &mut self.index, cause);
+        close_own(self.alloc, &mut self.calls, &mut self.made, uid);
     }
 
     /// The link between the two stations is cut: the calls over it are closed, the messages on it

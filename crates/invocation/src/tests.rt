@@ -228,3 +228,42 @@ fn a_cut_and_an_orphan(rt: HostRuntime) -> Result<(), AllocError> {
     assert!(rt; !answer(&mut calls, rt.alloc(), 4)?, "not yet given");
     Ok(())
 }
+
+/// Asks the first Eject of the node, in its own name, from a process of it.
+fn asks_itself(
+    calls: &mut Calls,
+    alloc: Global,
+    node: u8,
+    process: u8,
+    places: &Places,
+) -> Result<Asked, AllocError>
+    requires few { length calls.old.calls < 100 }
+    requires node { node ≤ 8 }
+    ensures ok { OnOk result (length calls.new.calls ≡ length calls.old.calls + 1) }
+{
+    let uid = uid_at(node);
+    ask(calls, alloc, Asker::Eject { uid, process }, node, 1, places)
+}
+
+#[test]
+fn an_orphan_closes_its_own_calls_alone(rt: HostRuntime) -> Result<(), AllocError> {
+    let places = two_of_three();
+    let mut calls = Calls::new(rt.alloc())?;
+    asks_itself(&mut calls, rt.alloc(), 1, 1, &places)?;
+    asks_itself(&mut calls, rt.alloc(), 2, 1, &places)?;
+    asks_itself(&mut calls, rt.alloc(), 1, 2, &places)?;
+    asks_itself(&mut calls, rt.alloc(), 1, 3, &places)?;
+    assert!(rt; answer(&mut calls, rt.alloc(), 1)?);
+    for _ in 0..4 {
+        assert!(rt; calls.deliver(1, 1).is_some());
+    }
+    assert!(rt; is_closed(&calls, 1), "the reply has come");
+    assert!(rt; !is_closed(&calls, 3));
+    calls.orphan(uid_at(1));
+    assert!(rt; is_closed(&calls, 3));
+    assert!(rt; is_closed(&calls, 4));
+    assert!(rt; !is_closed(&calls, 2), "another Eject's");
+    calls.orphan(uid_at(2));
+    assert!(rt; is_closed(&calls, 2));
+    Ok(())
+}

@@ -15,17 +15,20 @@ use Rattle.invocation.proofs.Calls.answer.Goals as goal
 
 pub send_where-requires-clause-from : goal.send_where-requires-clause-from
 send_where-requires-clause-from c =
-    let is : item_in c.args.call c.self.inside.calls.items ≡ Some c.in-Some.asked.now = rw c.deref.ensures.value at (sym c.in-Some.ensures) in
+    let is : item_in c.args.call c.self.inside.calls.items ≡ Some c.in-Some.asked.now =
+    rw c.deref.ensures.value at (sym c.in-Some.ensures) in
     (all-item IsBetween c.self.inside.calls.items c.args.call c.in-Some.asked.now c.self.invariant.between is).1
 
 pub send_where-requires-clause-to : goal.send_where-requires-clause-to
 send_where-requires-clause-to c =
-    let is : item_in c.args.call c.self.inside.calls.items ≡ Some c.in-Some.asked.now = rw c.deref.ensures.value at (sym c.in-Some.ensures) in
+    let is : item_in c.args.call c.self.inside.calls.items ≡ Some c.in-Some.asked.now =
+    rw c.deref.ensures.value at (sym c.in-Some.ensures) in
     rw c.station-to.ensures (all-item IsBetween c.self.inside.calls.items c.args.call c.in-Some.asked.now c.self.invariant.between is).0
 
 pub index_mut-asked-requires : goal.index_mut-asked-requires
 index_mut-asked-requires c =
-    let is : item_in c.args.call c.self.inside.calls.items ≡ Some c.in-Some.asked.now = rw c.deref.ensures.value at (sym c.in-Some.ensures) in
+    let is : item_in c.args.call c.self.inside.calls.items ≡ Some c.in-Some.asked.now =
+    rw c.deref.ensures.value at (sym c.in-Some.ensures) in
     let g = given-call c.self.inside.calls.items c.args.call c.in-Some.asked.now is in
     omega (arith, g.0, g.1)
 
@@ -41,9 +44,11 @@ invariant_of-self-2 c =
     let is : item_in c.args.call a.calls.items ≡ Some x = rw c.deref.ensures.value at (sym c.in-Some.ensures) in
     let g : IsGiven a.calls.items c.args.call = given-call a.calls.items c.args.call x is in
     let now : slice_set a.calls.items k c.spend.new.self ≡ change k spent a.calls.items =
-    ap (slice_set a.calls.items k) c.spend.ensures ∙ sym (change-set spent a.calls.items k y (read-at a.calls.items k y (omega (arith, g.0, g.1)) c.index_mut-asked.ensures.value)) in
+    ap (slice_set a.calls.items k) c.spend.ensures
+    ∙ sym (change-set spent a.calls.items k y (read-at a.calls.items k y (omega (arith, g.0, g.1)) c.index_mut-asked.ensures.value)) in
     rw (now, c.in_ok-send_where.ensures, c.station-to.ensures)
-    (answered-whole a.calls.items a.index.items a.queues.items c.self.invariant c.args.call x is g (Reply c.args.call c.args.status c.args.results) refl)
+    (answered-whole a.calls.items a.index.items a.made a.queues.items c.self.invariant c.args.call x is g
+    (Reply c.args.call c.args.status c.args.results) refl)
 
 pub returns-clause-cases : goal.returns-clause-cases
 returns-clause-cases c =
@@ -54,7 +59,8 @@ returns-clause-cases c =
     let is : item_in c.args.call a.calls.items ≡ Some x = rw c.deref.ensures.value at (sym c.in-Some.ensures) in
     let g : IsGiven a.calls.items c.args.call = given-call a.calls.items c.args.call x is in
     let now : slice_set a.calls.items k c.spend.new.self ≡ change k spent a.calls.items =
-    ap (slice_set a.calls.items k) c.spend.ensures ∙ sym (change-set spent a.calls.items k y (read-at a.calls.items k y (omega (arith, g.0, g.1)) c.index_mut-asked.ensures.value)) in
+    ap (slice_set a.calls.items k) c.spend.ensures
+    ∙ sym (change-set spent a.calls.items k y (read-at a.calls.items k y (omega (arith, g.0, g.1)) c.index_mut-asked.ensures.value)) in
     rw (← c.self.view_is, is, now, c.in_ok-send_where.ensures, c.station-to.ensures) (refl, refl)
 
 pub returns-clause-model : goal.returns-clause-model
@@ -69,7 +75,8 @@ returns-clause-model c t carries out =
     let b : IsBetween x = all-item IsBetween a.calls.items c.args.call x c.self.invariant.between is in
     let g : IsGiven a.calls.items c.args.call = given-call a.calls.items c.args.call x is in
     let now : slice_set a.calls.items k c.spend.new.self ≡ change k spent a.calls.items =
-    ap (slice_set a.calls.items k) c.spend.ensures ∙ sym (change-set spent a.calls.items k y (read-at a.calls.items k y (omega (arith, g.0, g.1)) c.index_mut-asked.ensures.value)) in
+    ap (slice_set a.calls.items k) c.spend.ensures
+    ∙ sym (change-set spent a.calls.items k y (read-at a.calls.items k y (omega (arith, g.0, g.1)) c.index_mut-asked.ensures.value)) in
     rw (now, c.in_ok-send_where.ensures, c.station-to.ensures)
     (either-carried old t before c.self.invariant.pairs c.args.call x is out c.args.status c.args.results b.1 b.0)
 

@@ -5,15 +5,29 @@ use Rattle.invocation.specs.declared.call.Message.TheVariants.{Request}
 use Rattle.invocation.specs.declared.Calls.TheInside.{Inside}
 use Rattle.invocation.specs.Queues.{sent_to}
 use Rattle.locator.specs.Reach.{reaches}
-use Rattle.invocation.specs.Mail.{Mail, asked_call, refused_at_once}
+use Rattle.invocation.specs.Mail.{Mail, asked_call, asked_by, refused_at_once}
+use Rattle.invocation.specs.Made.{made_by}
 use Rattle.invocation.specs.Carries.{Carries}
-use Rattle.invocation.proofs.Mails.{asked-open, asked-closed, asked-reached}
+use Rattle.invocation.proofs.Mails.{asked-open, asked-closed, asked-reached, given_up-whole}
 use Rattle.invocation.proofs.Sent.{ask-carried}
+use Rattle.invocation.proofs.Own.{Notes, noted_of}
 use Rattle.invocation.proofs.Calls.ask.Goals as goal
-use Rattle.invocation.proofs.Calls.ask.Goals.{in-None+in_ok-send-in-None, in-Some}
+use Rattle.invocation.proofs.Calls.ask.Goals.{in-None+in_ok-note-in-None+in_ok-send-in-None, in-Some}
 
 pub send-requires-clause-to : goal.send-requires-clause-to
 send-requires-clause-to c = c.reach.ensures.within (asked-reached c.reach.result c.args.args (sym c.refusal-at_once.ensures ∙ c.in-None.is))
+
+pub invariant_of-self-in_err-send-in-None : goal.invariant_of-self-in_err-send-in-None
+invariant_of-self-in_err-send-in-None c =
+    let a = c.self.inside in
+    let n : c.len.result ≡ length a.calls.items = omega (arith, c.len.ensures) in
+    let x : Call = asked_call c.args.asker c.args.target c.args.operation c.args.args false in
+    let notes : Notes x a.calls.items a.made c.note.new.made =
+    λ u. c.in_ok-note-in-None.ensures.noted u
+    ∙ ap (λ cs. noted_of u (asked_by u x) cs (c.len.result + 1) a.made) (c.deref.ensures.value ∙ c.reserve.ensures.items)
+    ∙ ap (λ k. noted_of u (asked_by u x) a.calls.items (k + 1) a.made) n in
+    rw (c.in_err-send-in-None.ensures, c.reserve.ensures.items, c.reserve-2.ensures.items)
+    (given_up-whole a.calls.items a.index.items a.made a.queues.items c.self.invariant x c.note.new.made notes)
 
 pub invariant_of-self-2 : goal.invariant_of-self-2
 invariant_of-self-2 c =
@@ -23,28 +37,39 @@ invariant_of-self-2 c =
     let from = c.requires.asker in
     let x : Bool → Call = asked_call c.args.asker c.args.target c.args.operation c.args.args in
     elim c.match-at_once.branch [
-      | in-None+in_ok-send-in-None w ↦
+      | in-None+in_ok-note-in-None+in_ok-send-in-None w ↦
           let refused : c.is_some.result ≡ false = c.is_some.ensures ∙ ap is_some w.in-None.is in
           let calls : c.push_reserved-2.new.self.items ≡ a.calls.items ++ x false ∷ [] =
           c.push_reserved-2.ensures.items ∙ ap (λ (s : Inside). s.calls.items ++ c.new_call.result ∷ []) w.self-inside-is
-          ∙ ap (λ l. l ++ c.new_call.result ∷ []) c.reserve.ensures.items ∙ ap (λ y. a.calls.items ++ y ∷ []) (c.new_call.ensures ∙ ap x refused) in
+          ∙ ap (λ l. l ++ c.new_call.result ∷ []) c.reserve.ensures.items
+          ∙ ap (λ y. a.calls.items ++ y ∷ []) (c.new_call.ensures ∙ ap x refused) in
           let opens : c.match-at_once.self-inside.index.items ≡ a.index.items ++ (length a.calls.items + 1) ∷ [] =
           ap (λ (s : Inside). s.index.items) w.self-inside-is ∙ w.push_reserved.ensures.items
           ∙ ap (λ l. l ++ (c.len.result + 1) ∷ []) c.reserve-2.ensures.items ∙ ap (λ n. a.index.items ++ (n + 1) ∷ []) n in
-          let queues : c.match-at_once.self-inside.queues.items ≡ sent_to (asking_station c.args.asker) c.args.target.uid.node (Request (length a.calls.items + 1)) a.queues.items =
+          let queues : c.match-at_once.self-inside.queues.items ≡ sent_to (asking_station c.args.asker) c.args.target.uid.node
+          (Request (length a.calls.items + 1)) a.queues.items =
           ap (λ (s : Inside). s.queues.items) w.self-inside-is ∙ w.in_ok-send-in-None.ensures
           ∙ ap (λ s. sent_to s c.args.target.uid.node (Request (c.len.result + 1)) a.queues.items) c.station-from.ensures
           ∙ ap (λ n. sent_to (asking_station c.args.asker) c.args.target.uid.node (Request (n + 1)) a.queues.items) n in
           let to = c.reach.ensures.within (asked-reached c.reach.result c.args.args (sym c.refusal-at_once.ensures ∙ w.in-None.is)) in
-          rw (calls, opens, queues) (asked-open a.calls.items a.index.items a.queues.items c.self.invariant few (x false) (from, λ e. to) refl (asking_station c.args.asker) c.args.target.uid.node from to)
+          let notes : Notes (x false) a.calls.items a.made c.match-at_once.self-inside.made =
+          λ u. ap (λ (s : Inside). made_by u s.made) w.self-inside-is ∙ w.in_ok-note-in-None.ensures.noted u
+          ∙ ap (λ cs. noted_of u (asked_by u (x false)) cs (c.len.result + 1) a.made) (w.deref.ensures.value ∙ c.reserve.ensures.items)
+          ∙ ap (λ k. noted_of u (asked_by u (x false)) a.calls.items (k + 1) a.made) n in
+          rw (calls, opens, queues) (asked-open a.calls.items a.index.items a.made a.queues.items c.self.invariant few (x false)
+          (from, λ e. to) _ notes refl (asking_station c.args.asker) c.args.target.uid.node from to)
       | in-Some w ↦
           let refused : c.is_some.result ≡ true = c.is_some.ensures ∙ ap is_some w.in-Some.is in
           let calls : c.push_reserved-2.new.self.items ≡ a.calls.items ++ x true ∷ [] =
           c.push_reserved-2.ensures.items ∙ ap (λ (s : Inside). s.calls.items ++ c.new_call.result ∷ []) w.self-inside-is
-          ∙ ap (λ l. l ++ c.new_call.result ∷ []) c.reserve.ensures.items ∙ ap (λ y. a.calls.items ++ y ∷ []) (c.new_call.ensures ∙ ap x refused) in
-          let opens : c.match-at_once.self-inside.index.items ≡ a.index.items = ap (λ (s : Inside). s.index.items) w.self-inside-is ∙ c.reserve-2.ensures.items in
+          ∙ ap (λ l. l ++ c.new_call.result ∷ []) c.reserve.ensures.items
+          ∙ ap (λ y. a.calls.items ++ y ∷ []) (c.new_call.ensures ∙ ap x refused) in
+          let opens : c.match-at_once.self-inside.index.items ≡ a.index.items = ap (λ (s : Inside). s.index.items) w.self-inside-is
+          ∙ c.reserve-2.ensures.items in
           let queues : c.match-at_once.self-inside.queues.items ≡ a.queues.items = ap (λ (s : Inside). s.queues.items) w.self-inside-is in
-          rw (calls, opens, queues) (asked-closed a.calls.items a.index.items a.queues.items c.self.invariant few (x true) (from, λ e. let bad : false ≡ true = e in cc) refl)
+          let made : c.match-at_once.self-inside.made ≡ a.made = ap (λ (s : Inside). s.made) w.self-inside-is in
+          rw (calls, opens, queues, made) (asked-closed a.calls.items a.index.items a.made a.queues.items c.self.invariant few (x true)
+          (from, λ e. let bad : false ≡ true = e in cc) refl (λ u. refl))
     ]
 
 pub returns-clause-cases : goal.returns-clause-cases
@@ -54,14 +79,17 @@ returns-clause-cases c =
     let x : Bool → Call = asked_call c.args.asker c.args.target c.args.operation c.args.args in
     rw (← c.self.view_is) (record {
       number = ap (λ k. k + 1) n;
-      at_once = c.refusal-at_once.ensures ∙ ap (λ r. refused_at_once r c.args.args) c.reach.ensures.reached ∙ ap (λ s. refused_at_once (reaches c.args.places.now s c.args.target.uid.node) c.args.args) c.station-from.ensures;
+      at_once = c.refusal-at_once.ensures ∙ ap (λ r. refused_at_once r c.args.args) c.reach.ensures.reached
+          ∙ ap (λ s. refused_at_once (reaches c.args.places.now s c.args.target.uid.node) c.args.args) c.station-from.ensures;
       after = elim c.match-at_once.branch [
-        | in-None+in_ok-send-in-None w ↦
+        | in-None+in_ok-note-in-None+in_ok-send-in-None w ↦
             let refused : c.is_some.result ≡ false = c.is_some.ensures ∙ ap is_some w.in-None.is in
             let calls : c.push_reserved-2.new.self.items ≡ a.calls.items ++ x false ∷ [] =
             c.push_reserved-2.ensures.items ∙ ap (λ (s : Inside). s.calls.items ++ c.new_call.result ∷ []) w.self-inside-is
-            ∙ ap (λ l. l ++ c.new_call.result ∷ []) c.reserve.ensures.items ∙ ap (λ y. a.calls.items ++ y ∷ []) (c.new_call.ensures ∙ ap x refused) in
-            let queues : c.match-at_once.self-inside.queues.items ≡ sent_to (asking_station c.args.asker) c.args.target.uid.node (Request (length a.calls.items + 1)) a.queues.items =
+            ∙ ap (λ l. l ++ c.new_call.result ∷ []) c.reserve.ensures.items
+            ∙ ap (λ y. a.calls.items ++ y ∷ []) (c.new_call.ensures ∙ ap x refused) in
+            let queues : c.match-at_once.self-inside.queues.items ≡ sent_to (asking_station c.args.asker) c.args.target.uid.node
+            (Request (length a.calls.items + 1)) a.queues.items =
             ap (λ (s : Inside). s.queues.items) w.self-inside-is ∙ w.in_ok-send-in-None.ensures
             ∙ ap (λ s. sent_to s c.args.target.uid.node (Request (c.len.result + 1)) a.queues.items) c.station-from.ensures
             ∙ ap (λ k. sent_to (asking_station c.args.asker) c.args.target.uid.node (Request (k + 1)) a.queues.items) n in
@@ -70,7 +98,8 @@ returns-clause-cases c =
             let refused : c.is_some.result ≡ true = c.is_some.ensures ∙ ap is_some w.in-Some.is in
             let calls : c.push_reserved-2.new.self.items ≡ a.calls.items ++ x true ∷ [] =
             c.push_reserved-2.ensures.items ∙ ap (λ (s : Inside). s.calls.items ++ c.new_call.result ∷ []) w.self-inside-is
-            ∙ ap (λ l. l ++ c.new_call.result ∷ []) c.reserve.ensures.items ∙ ap (λ y. a.calls.items ++ y ∷ []) (c.new_call.ensures ∙ ap x refused) in
+            ∙ ap (λ l. l ++ c.new_call.result ∷ []) c.reserve.ensures.items
+            ∙ ap (λ y. a.calls.items ++ y ∷ []) (c.new_call.ensures ∙ ap x refused) in
             let queues : c.match-at_once.self-inside.queues.items ≡ a.queues.items = ap (λ (s : Inside). s.queues.items) w.self-inside-is in
             rw (calls, queues, w.in-Some.is) refl
       ];
@@ -84,4 +113,5 @@ returns-clause-model c t carries =
     let n : c.len.result ≡ length a.calls.items = omega (arith, c.len.ensures) in
     let asks = returns-clause-cases c in
     rw (asks.after, n, ← c.self.view_is)
-    (ask-carried old t before c.self.invariant.pairs c.args.asker c.args.target c.args.operation c.args.args c.refusal-at_once.result c.requires.asker (λ none. c.reach.ensures.within (asked-reached c.reach.result c.args.args (sym c.refusal-at_once.ensures ∙ none))))
+    (ask-carried old t before c.self.invariant.pairs c.args.asker c.args.target c.args.operation c.args.args c.refusal-at_once.result
+    c.requires.asker (λ none. c.reach.ensures.within (asked-reached c.reach.result c.args.args (sym c.refusal-at_once.ensures ∙ none))))

@@ -19,5 +19,7 @@ pub returns-clause-index : goal.returns-clause-index
 returns-clause-index c =
     let calls : c.close_each.new.calls.items ≡ map (closed_by c.args.cause) c.args.calls.now.items = returns-clause-calls c in
     let kept : c.retain.new.self.items ≡ filter (passes_at is_live c.close_each.new.calls.items) c.args.index.now.items =
-    filter_same _ (passes_at is_live c.close_each.new.calls.items) _ (λ x b f' k. search rules) c.args.index.now.items c.retain.new.self.items c.retain.ensures.filtered in
-    rw (kept, calls) (index-kept (map (closed_by c.args.cause) c.args.calls.now.items) c.args.index.now.items (index-closing c.args.cause c.args.calls.now.items c.args.index.now.items c.requires))
+    filter_same _ (passes_at is_live c.close_each.new.calls.items) _ (λ x b f' k. search rules) c.args.index.now.items
+    c.retain.new.self.items c.retain.ensures.filtered in
+    rw (kept, calls) (index-kept (map (closed_by c.args.cause) c.args.calls.now.items) c.args.index.now.items
+    (index-closing c.args.cause c.args.calls.now.items c.args.index.now.items c.requires))

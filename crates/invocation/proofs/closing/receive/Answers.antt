@@ -7,7 +7,8 @@ use Rattle.invocation.proofs.Closed.{read-at, item-read}
 use Rattle.invocation.proofs.closing.receive.Goals as goal
 
 pub index_mut-asked-requires : goal.index_mut-asked-requires
-index_mut-asked-requires c = let g : IsGiven c.args.calls.now.items c.in-Reply.call = rw c.in-Reply.is at c.requires in omega (arith, g.0, g.1)
+index_mut-asked-requires c = let g : IsGiven c.args.calls.now.items c.in-Reply.call = rw c.in-Reply.is at c.requires in
+    omega (arith, g.0, g.1)
 
 pub returns-in-Reply-clause-told : goal.returns-in-Reply-clause-told
 returns-in-Reply-clause-told c =
@@ -21,4 +22,5 @@ returns-in-Reply-clause-calls c =
     let g : IsGiven c.args.calls.now.items c.in-Reply.call = rw c.in-Reply.is at c.requires in
     let k = c.in-Reply.call - 1 in
     rw c.in-Reply.is (ap (slice_set c.args.calls.now.items k) c.finish.ensures
-    ∙ sym (change-set over c.args.calls.now.items k c.index_mut-asked.result.now (read-at c.args.calls.now.items k c.index_mut-asked.result.now (omega (arith, g.0, g.1)) c.index_mut-asked.ensures.value)))
+    ∙ sym (change-set over c.args.calls.now.items k c.index_mut-asked.result.now
+    (read-at c.args.calls.now.items k c.index_mut-asked.result.now (omega (arith, g.0, g.1)) c.index_mut-asked.ensures.value)))
