@@ -12,15 +12,18 @@ use Rattle.eden_disk.specs.Told.{Told, contents}
 use Rattle.passive_store.specs.Kept.{nothing_kept}
 use Rattle.passive_store.specs.Log.{log_map}
 use Rattle.passive_store.specs.LogLayout.{log_layout}
-use Rattle.epl_syntax.specs.Meaning.{native_types}
+use Rattle.epl_syntax.specs.Meaning.{types_in}
+use Rattle.epl_syntax.specs.Edentype.{Edentype}
+use Rattle.epl_syntax.specs.Rules.OfTypes.{TypeList, native_only}
 use Rattle.journal.specs.declared.command.Command.{Command}
 use Rattle.journal.specs.declared.event.Entry.{Entry}
+use Rattle.journal.specs.World.{Node}
 use Rattle.journal.specs.Opening.{IsFitImage, node_of, found_in, entries_of, opening_of}
 use Rattle.journal.specs.Run.{Follows}
 use Rattle.journal.specs.Standing.{DiskRun}
 use Rattle.journal.specs.LegalRun.{IsHandedIn, images, numbered_from, opening_world}
-use Rattle.journal.specs.RefusedRuns.{BlankDisksMayBeHandedIn, script_of, zeros, blank_told}
-use Rattle.journal.proofs.Scenes.{blank_node, blank_node_of, blank_nodes, blank_world}
+use Rattle.journal.specs.RefusedRuns.{BlankDisksMayBeHandedIn, script_with, script_of, zeros, blank_told}
+use Rattle.journal.proofs.Scenes.{blank_node, blank_node_of, blank_nodes, blank_world_of, blank_world}
 use Rattle.journal.proofs.Following.{follows, follows-sound}
 
 -- 1. What nothing was written on keeps nothing.
@@ -82,18 +85,51 @@ opens-from (suc n) k (d ∷ disks) are = λ i. (k, node i) ∷ opens-from n (k +
     node : node_of log_layout (k, (contents d.before).now) ≡ blank_node
     node = ap (λ t. node_of log_layout (k, (contents t).now)) are.0 ∙ opens-node k 1048576 (omega arith)
 
+-- of a script with these types
+pub opens-blank-of : (ts : TypeList) (types : List Edentype) (n : ℕ) (cs : List Command) (disks : List DiskRun)
+    → types_in ts ≡ types → AreBlank n disks → opening_world log_layout (script_with ts n cs) disks ≡ blank_world_of types n
+opens-blank-of ts types n cs disks same are =
+    ap (opening_of (types_in ts) log_layout) (opens-from n 1 disks are) ∙ ap (λ all. blank_world_of all n) same
+
 pub opens-blank : (n : ℕ) (cs : List Command) (disks : List DiskRun) → AreBlank n disks
     → opening_world log_layout (script_of n cs) disks ≡ blank_world n
-opens-blank n cs disks are = ap (opening_of native_types log_layout) (opens-from n 1 disks are)
+opens-blank n cs disks are = opens-blank-of native_only (types_in native_only) n cs disks refl are
 
 -- 4. Histories over blank disks
 
--- The history follows the script from the opening world of whatever blank disks.
+-- The history follows the script from the opening world of whatever blank disks, for each script with these types.
+abbrev pub FollowsOverBlankOf : List Edentype → ℕ → List Command → List Entry → Type 0
+FollowsOverBlankOf types n cs history = (ts : TypeList) → types_in ts ≡ types → (disks : List DiskRun) → AreBlank n disks
+    → Follows (opening_world log_layout (script_with ts n cs) disks) n cs history
+
+pub follows-over-blank-of : (types : List Edentype) (n : ℕ) (cs : List Command) (history : List Entry)
+    → IsTrue (follows (blank_world_of types n) n cs history) → FollowsOverBlankOf types n cs history
+follows-over-blank-of types n cs history is ts same disks are =
+    subst (λ w. Follows w n cs history) (sym (opens-blank-of ts types n cs disks same are))
+    (follows-sound (blank_world_of types n) n cs history is)
+
+-- and for a script that declares no type
 abbrev pub FollowsOverBlank : ℕ → List Command → List Entry → Type 0
 FollowsOverBlank n cs history =
     (disks : List DiskRun) → AreBlank n disks → Follows (opening_world log_layout (script_of n cs) disks) n cs history
 
 pub follows-over-blank : (n : ℕ) (cs : List Command) (history : List Entry) → IsTrue (follows (blank_world n) n cs history)
     → FollowsOverBlank n cs history
-follows-over-blank n cs history is disks are =
-    subst (λ w. Follows w n cs history) (sym (opens-blank n cs disks are)) (follows-sound (blank_world n) n cs history is)
+follows-over-blank n cs history is disks are = follows-over-blank-of (types_in native_only) n cs history is native_only refl disks are
+
+-- 5. Histories over disks that a run left
+
+-- the nodes as which these disks open
+abbrev pub nodes_over : List DiskRun → List (ℕ × Node)
+nodes_over disks = map (λ d. (d.0, node_of log_layout d)) (images (numbered_from 1 disks))
+
+-- The history follows the script from the opening world of whatever disks that open as these nodes.
+abbrev pub FollowsOver : List Edentype → List (ℕ × Node) → ℕ → List Command → List Entry → Type 0
+FollowsOver types nodes n cs history = (ts : TypeList) → types_in ts ≡ types → (disks : List DiskRun) → nodes_over disks ≡ nodes
+    → Follows (opening_world log_layout (script_with ts n cs) disks) n cs history
+
+pub follows-over : (types : List Edentype) (nodes : List (ℕ × Node)) (n : ℕ) (cs : List Command) (history : List Entry)
+    → IsTrue (follows (opening_of types log_layout nodes) n cs history) → FollowsOver types nodes n cs history
+follows-over types nodes n cs history is ts same disks are = subst (λ w. Follows w n cs history)
+    (sym (ap (opening_of (types_in ts) log_layout) are ∙ ap (λ all. opening_of all log_layout nodes) same))
+    (follows-sound (opening_of types log_layout nodes) n cs history is)

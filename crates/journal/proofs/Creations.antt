@@ -13,7 +13,7 @@ use Rattle.eden_model.specs.Map.{with_item, uid_cmp, value_at}
 use Rattle.eden_model.specs.Crew.{Invocation, Process as Worker}
 use Rattle.epl_syntax.specs.declared.effect.Effect.{Effect}
 use Rattle.epl_syntax.specs.declared.effect.Effect.TheVariants as effect
-use Rattle.epl_syntax.specs.declared.types.Edentype.{Edentype}
+use Rattle.epl_syntax.specs.Edentype.{Edentype}
 use Rattle.epl_syntax.specs.Meaning.{Turned, type_of, first_values}
 use Rattle.journal.specs.declared.command.Command.{Command}
 use Rattle.journal.specs.declared.command.Command.TheVariants as command
@@ -38,7 +38,7 @@ unfolding on_node
 born-there v it s = ap is_some (find-put uid_cmp uid_cmp_total v v _ s.node.ejects) ∙ rw (tied_itself uid_cmp_total v) refl
 
 -- a change of an active part changes nothing of what comes next
-next-active : (u : Uid) (f : Active → Active) (s : Site) → InOrder s.node.ejects → next_uid (on_eject u (on_active f) s) ≡ next_uid s
+pub next-active : (u : Uid) (f : Active → Active) (s : Site) → InOrder s.node.ejects → next_uid (on_eject u (on_active f) s) ≡ next_uid s
 unfolding on_eject
 next-active u f s ordered = ap (λ n. cond (nat_le 4096 n) (Err status.TooMany) (cond (nat_le 4294967295 s.node.last_serial) (Err status.SerialsSpent)
     (Ok (record { node = s.number; epoch = with_item s.node.epoch (λ e. e) 0; serial = s.node.last_serial + 1 })))) (count-changed is_there u (on_active f) (there-active f) s.node.ejects ordered)

@@ -1,6 +1,6 @@
 -- While a node is down, nobody waits for a call to it or from it, and nothing of them is on its way.
-use Rattle.std.proofs.Common.{◌≡◌, ◌==◌, ◌+◌, ◌<◌, ℕ, Bool, true, false, cond, not, ◌&&◌, ◌||◌, List, [], ◌∷◌, map, Option, None, Some, is_some, refl, sym, ◌∙◌, ap, subst, arith, inl, inr}
-use Rattle.std.specs.Prelude.{IsSomeAnd, IfSome, ◌⊎◌}
+use Rattle.std.proofs.Common.{◌≡◌, ◌==◌, ◌+◌, ◌<◌, ℕ, Bool, true, false, cond, ◌&&◌, ◌||◌, List, [], ◌∷◌, map, Option, None, Some, is_some, refl, sym, ◌∙◌, ap, subst, arith, inl, inr}
+use Rattle.std.specs.Prelude.{IsSomeAnd, ◌⊎◌}
 use Rattle.std.specs.List.{filter}
 use Rattle.std.specs.Option.{option_map}
 use Rattle.std.specs.Ordering.{nat_cmp, eq_by_cmp}
@@ -14,9 +14,9 @@ use Rattle.eden_model.specs.Map.{with_item, value_at}
 use Rattle.eden_model.proofs.Numbers.{same-true}
 use Rattle.eden_model.specs.declared.Asker.{Asker}
 use Rattle.eden_model.specs.declared.Asker.TheVariants.{Shell, Eject as Process}
-use Rattle.eden_model.specs.Traffic.{Place, asked, held, answered, done as over, Traffic, Call, call_at, asking_station, target_station, goes_by, goes, queue, in_transit, touches, crashed_call, next_call, new_call, with_call, without_node, processes_of, broken_by_node, broken_by_link, without_link}
+use Rattle.eden_model.specs.Traffic.{Place, asked, held, answered, done as over, Traffic, Call, call_at, asking_station, target_station, goes_by, goes, in_transit, touches, crashed_call, next_call, new_call, with_call, without_node, processes_of, broken_by_node, broken_by_link, without_link}
 use Rattle.epl_syntax.specs.declared.effect.Answer.TheVariants.{Reply as Told}
-use Rattle.epl_syntax.specs.declared.types.Edentype.{Edentype}
+use Rattle.epl_syntax.specs.Edentype.{Edentype}
 use Rattle.epl_syntax.specs.Meaning.{type_of, first_values}
 use Rattle.passive_store.specs.Kept.{Layout}
 use Rattle.passive_store.specs.Layout.{IsLayout}
@@ -29,7 +29,7 @@ use Rattle.journal.specs.declared.event.RequestEnd.TheVariants as end
 use Rattle.journal.specs.declared.event.Event.{Event}
 use Rattle.journal.specs.declared.event.Event.TheVariants as event
 use Rattle.journal.specs.declared.event.Entry.{Entry}
-use Rattle.journal.specs.World.{World, Site, Node, Active, Eject, node_at, site_of, site_at, at_node, on_node, on_traffic, is_up, reaches}
+use Rattle.journal.specs.World.{World, Site, Node, node_at, site_of, site_at, at_node, on_node, on_traffic, is_up, reaches}
 use Rattle.journal.specs.Ejects.{tells, fresh, born}
 use Rattle.journal.specs.Deliveries.{received}
 use Rattle.journal.specs.Crashes.{crashed, tells_each, linked}
@@ -37,25 +37,26 @@ use Rattle.journal.specs.References.{cap_at}
 use Rattle.journal.specs.Commands.{AllowsCommand, AllowsAsked, asked as asks, asked_by, ready_call, born_as, made, type_name_of, held_by, restricted_by}
 use Rattle.journal.specs.Kept.{crashes}
 use Rattle.journal.specs.Opening.{node_of}
-use Rattle.journal.specs.Step.{AllowsAt, IsActiveAnd, AllowsInTurn, AllowsEvent, Allows, next, after_turn, after_command, happened, at_site, stopped_at, site_turn, clocked, counted, key_of}
+use Rattle.journal.specs.Step.{AllowsAt, AllowsInTurn, AllowsEvent, Allows, next, after_turn, after_command, happened, at_site, stopped_at, site_turn, clocked, counted, key_of}
 use Rattle.journal.specs.Falls.{before_fall}
 use Rattle.journal.specs.Run.{AllowsLookUp, looked_up, beginning}
 use Rattle.journal.specs.Standing.{DiskRun}
 use Rattle.journal.specs.LegalRun.{AreHandedIn, numbered, numbered_from, images, opening_world, last_world}
-use Rattle.journal.specs.Sites.{SoundWorld, AllSound, AreNumbered, GoesOn, IsNewFrom, CallsGoOn, IsAskedAt, Concerns, IsCutOff}
+use Rattle.journal.specs.Sites.{AreNumbered, GoesOn, IsNewFrom, IsAskedAt, Concerns, IsCutOff}
 use Rattle.journal.specs.Laws.{Begins, IsAtRest}
 use Rattle.journal.proofs.Lifts.{traffic-after}
 use Rattle.journal.proofs.SafeRuns.{same-number}
 use Rattle.journal.proofs.Runs.{Any, of-any, no-turn, end-keeps, world-booting, nodes-looked_up}
 use Rattle.journal.proofs.EveryNode.{at-its-site}
 use Rattle.journal.proofs.Messages.{value-calls}
-use Rattle.journal.proofs.Down.{IsIdle, Rests, Calm, not-active}
-use Rattle.journal.proofs.DownRuns.{false-true, crashing, node-up, up-next, AskedUp, AllCalm, DownWorld, down-next, down-looked_up, calm-opening}
+use Rattle.journal.proofs.Down.{Rests, Calm, not-active}
+use Rattle.journal.proofs.DownRuns.{false-true, node-up, up-next, DownWorld, down-next, down-looked_up, calm-opening}
 use Rattle.journal.proofs.SiteWorlds.{traffic-tells}
-use Rattle.journal.proofs.SiteRuns.{SiteWorld, site-next, site-looked_up, site-opening, all-sound}
+use Rattle.journal.proofs.SiteRuns.{KnownWorld, is-known, known-next, known-looked_up, known-opening}
 use Rattle.journal.proofs.Falling.{Quiet, quiet-before, falls-turn}
-use Rattle.journal.proofs.Goings.{GoOn, on-same, on-received, on-without_link, GoFrom, from-on, from-around, from-call}
-use Rattle.journal.proofs.EventCalls.{IsNoTurn, event-on, calls-go-on, boot-on, crashed-on, born-on, same-on}
+use Rattle.journal.proofs.CallsKeep.{IsKnown}
+use Rattle.journal.proofs.Goings.{on-same, on-received, on-without_link, GoFrom, from-on, from-around, from-call}
+use Rattle.journal.proofs.EventCalls.{IsNoTurn, event-on, calls-around, boot-on, crashed-on, born-on, same-on}
 
 -- 1. Calls that concern a node, all cut off
 
@@ -247,16 +248,16 @@ its-site : (w : World) (n : ℕ) (e : Event) → IsSomeAnd (site_at w n) (λ s. 
     → AllowsAt (site_of w n it) e
 its-site w n e allowed it is = at-its-site w n (λ s. AllowsAt s e) it is allowed
 
-goes-process : (m : ℕ) (w : World) (v : Uid) (p : ℕ) (e : Event) → AllSound w → (v.node ≡ m → ⊥)
+goes-process : (m : ℕ) (w : World) (v : Uid) (p : ℕ) (e : Event) → IsKnown w → (v.node ≡ m → ⊥)
     → ((it : Node) → node_at w v.node ≡ Some it → AllowsAt (site_of w v.node it) e) → Goes m w (at_site w v.node e)
 goes-process m w v p e sound apart allowed = goes-at_node m w v.node (site_turn (reaches w v.node) e) (λ it is.
     from-around (Fresh m) v.node w.traffic _ (λ d new. record { elsewhere = away d new; place = new.place })
-    (calls-go-on (reaches w v.node) e (site_of w v.node it) (sound v.node it is) (allowed it is)))
+    (calls-around (reaches w v.node) e (site_of w v.node it) (sound.nodes v.node it is) sound.numbered (allowed it is)).calls)
   where
     away : (d : Call) → IsNewFrom v.node d → IsAskedAt m d.asker → ⊥
     away d new by = let at : new.uid.node ≡ m = subst (IsAskedAt m) new.asker by in apart (sym new.of_node ∙ at)
 
-goes-turn : (m : ℕ) (w : World) (e : Event) → AllSound w → ((it : Node) → node_at w m ≡ Some it → Rests it) → AllowsInTurn w e
+goes-turn : (m : ℕ) (w : World) (e : Event) → IsKnown w → ((it : Node) → node_at w m ≡ Some it → Rests it) → AllowsInTurn w e
     → Goes m w (after_turn w e)
 goes-turn m w (event.Request k a b refused) sound rest allowed =
     goes-site m w b (event.Request k a b refused) tt (its-site w b (event.Request k a b refused) allowed)
@@ -387,15 +388,15 @@ goes-command m w c event.Quiet ordered allowed = goes-same m w w refl
 goes-command m w c event.Spent ordered allowed = goes-same m w w refl
 goes-command m w c (event.Left names) ordered allowed = goes-same m w w refl
 
-goes-happened : (m : ℕ) (w : World) (c : Option Command) (e : Event) → AllSound w → AreNumbered 1 w.traffic.calls
+goes-happened : (m : ℕ) (w : World) (c : Option Command) (e : Event) → IsKnown w
     → ((it : Node) → node_at w m ≡ Some it → Rests it) → AllowsEvent w c e → Goes m w (happened w c e)
-goes-happened m w None e sound ordered rest allowed = goes-turn m w e sound rest allowed
-goes-happened m w (Some c) e sound ordered rest allowed = goes-command m w c e ordered allowed
+goes-happened m w None e sound rest allowed = goes-turn m w e sound rest allowed
+goes-happened m w (Some c) e sound rest allowed = goes-command m w c e sound.numbered allowed
 
 -- 5. Every history
 
 pub record CutWorld (H : ℕ → Bool) (w : World) : Type 0 where
-  pub site : SiteWorld H w
+  pub site : KnownWorld H w
   pub down : DownWorld H w
   pub cut : (m : ℕ) (it : Node) → node_at w m ≡ Some it → it.up ≡ false → AllCutOff m w.traffic
 
@@ -405,7 +406,7 @@ traffic-counted (Some k) n c w = refl
 
 cut-next : (H : ℕ → Bool) (w : World) (c : Option Command) (e : Entry) → Allows w c e → CutWorld H w → CutWorld H (next w c e)
 cut-next H w c e allowed h = record {
-  site = site-next H w c e allowed h.site;
+  site = known-next H w c e allowed h.site;
   down = after;
   cut = λ m jt is off. subst (AllCutOff m) (sym traffic) (go m jt is off (crashes m e.event) refl (node_at w m) refl);
 }
@@ -428,7 +429,7 @@ cut-next H w c e allowed h = record {
     was m jt is off calm it at true up = absurd (let on : is_up w m ≡ true = ap (λ o. with_item o (λ (x : Node). x.up) false) at ∙ up in
         let bad : false ≡ true = sym off ∙ node-up (next w c e) m jt is (up-next H w c e allowed h.down.sound m calm on) in cc bad)
     was m jt is off calm it at false down = cut-from m w.traffic (happened w c e.event).traffic
-        (goes-happened m w c e.event (all-sound H w h.site) (h.site.sites m it at).numbered (λ x found. resting x found) allowed.event)
+        (goes-happened m w c e.event (is-known H w h.site) (λ x found. resting x found) allowed.event)
         (unreached m jt is off) (h.cut m it at down)
       where
         by_calm : (x : Node) → x.up ≡ false → Calm x → Rests x
@@ -450,7 +451,7 @@ cut-next H w c e allowed h = record {
 cut-looked_up : (H : ℕ → Bool) (w : World) (name : List ℕ) (target : Option Cap) (path : List (List ℕ)) (e : Event)
     → AllowsLookUp w name target path e → CutWorld H w → CutWorld H (looked_up w name target path e)
 cut-looked_up H w name target path e allowed h = record {
-  site = site-looked_up H w name target path e allowed h.site;
+  site = known-looked_up H w name target path e allowed h.site;
   down = after;
   cut = λ m jt is off. one name target path e allowed m jt (ap (λ ns. value_at nat_cmp m ns) (sym (nodes-looked_up w name target path e))
       ∙ is) off (unreached m jt is off);
@@ -471,7 +472,7 @@ cut-looked_up H w name target path e allowed h = record {
         → ((k : ℕ) (d : Call) → call_at (looked_up w name target path e).traffic k ≡ Some d → d.place ≡ asked → target_station d ≡ m → ⊥)
         → AllCutOff m (looked_up w name target path e).traffic
     one name (Some cap) path (event.Asked k said at_once) a m jt is off none =
-        cut-from m w.traffic _ (goes-shell m w name cap _ _ k at_once (h.site.sites m jt is).numbered a.1.number) none (h.cut m jt is off)
+        cut-from m w.traffic _ (goes-shell m w name cap _ _ k at_once h.site.numbered a.1.number) none (h.cut m jt is off)
     one name None path (event.Void said) a m jt is off none = h.cut m jt is off
     one name target path _ a m jt is off none = absurd a
 
@@ -578,10 +579,10 @@ down-nodes-rest layout script disks history lays fits begins =
     here n = is_some (node_at w n)
 
     opening : CutWorld here w
-    opening = let site = site-opening layout script disks lays fits in record {
+    opening = let site = known-opening layout script disks lays fits in record {
       site = site;
       down = record {
-        sound = site.known.sound;
+        sound = site.sound;
         asked_up = record { at = λ k c is. absurd (cc is) };
         calm =
             calm-opening layout (images (numbered disks));

@@ -108,7 +108,7 @@ kept-up w e = record {
   turns = λ n it at place allowed h calm up. up-turn w e n (site_of w n it) place allowed calm (h calm up);
   crashes = λ n s is number h calm up. crashing n n refl (ap (λ x. crashes n x) (sym is) ∙ subst (λ m. crashes m e ≡ false) number calm);
   tellings = λ u p a s h calm up. up-tells u p a s (h calm up);
-  births = λ u t s is on h calm up. up-born u _ s (h calm up);
+  births = λ u t s is on known h calm up. up-born u _ s (h calm up);
   clocks = λ n c it h. h;
 }
 
@@ -272,7 +272,7 @@ kept-calm w e all = record {
   turns = λ n it at place allowed h. calm-site_turn (reaches w n) e (site_of w n it) (comes-up w all e n it at place allowed) allowed h;
   crashes = λ n s is number h. inr (rest-crashed s);
   tellings = λ u p a s h. told u p a s h;
-  births = λ u t s is on h. inl (up-born u _ s on);
+  births = λ u t s is on known h. inl (up-born u _ s on);
   clocks = λ n c it h. h;
 }
   where

@@ -14,7 +14,7 @@ use Rattle.eden_value.specs.declared.status.Status.TheVariants as status
 use Rattle.eden_model.specs.Map.{with_item, uid_cmp, value_at}
 use Rattle.eden_model.proofs.Laws.{eq-same}
 use Rattle.epl_syntax.specs.declared.effect.Answer.{Answer}
-use Rattle.epl_syntax.specs.declared.types.Edentype.{Edentype}
+use Rattle.epl_syntax.specs.Edentype.{Edentype}
 use Rattle.epl_syntax.specs.Meaning.{first_values}
 use Rattle.passive_store.specs.declared.store.Pick.{Pick}
 use Rattle.passive_store.specs.Kept.{Layout}
@@ -371,7 +371,7 @@ kept-state w e sound = record {
       (turns-same w e sound n it at place allowed off);
   crashes = λ n s is number h off. apart-node s.number (subst (λ k. (k == s.number) ≡ false) (ap (touched w) is ∙ sym number) off);
   tellings = λ u p a s h off old is. same-then old s.node (tells u p a s).node (h off old is) (same-tells u p a s);
-  births = λ u t s next up h off old is. same-then old s.node (born u (fresh t (first_values t)) s).node (h off old is)
+  births = λ u t s next up known h off old is. same-then old s.node (born u (fresh t (first_values t)) s).node (h off old is)
       (same-born u (fresh t (first_values t)) s);
   clocks = λ n c it h off old is. same-then old it (with_clock c it) (h off old is)
       (record { facts = λ u. refl; epoch = refl; epoch_doubt = refl; damaged = refl });

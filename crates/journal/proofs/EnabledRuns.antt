@@ -1,7 +1,7 @@
--- At the end of every history of every script, over disks that are handed in fit, each enabled key has its turn.
-use Rattle.std.proofs.Common.{◌≡◌, ◌==◌, ◌+◌, ◌<◌, ℕ, Bool, true, false, cond, ◌&&◌, T, List, [], ◌∷◌, map, Option, None, Some, Result, Ok, Err, is_some, refl, sym, subst, arith}
+-- The opening world, over disks that are handed in fit, is sound.
+use Rattle.std.proofs.Common.{◌≡◌, ◌==◌, ◌+◌, ◌<◌, ℕ, Bool, true, false, cond, ◌&&◌, T, List, [], ◌∷◌, map, Option, None, Some, Result, Ok, Err, is_some, refl, subst, arith}
 use Rattle.std.specs.Prelude.{IsSomeAnd, IfSome}
-use Rattle.std.specs.List.{All, filter_map, cons_option}
+use Rattle.std.specs.List.{filter_map, cons_option}
 use Rattle.std.specs.Ordering.{nat_cmp, eq_by_cmp, is_lt}
 use Rattle.std.specs.declared.cmp.Ordering.TheVariants.{Less}
 use Rattle.std.specs.Cmp.{nat_cmp_is}
@@ -12,23 +12,14 @@ use Rattle.eden_disk.specs.Told.{contents}
 use Rattle.passive_store.specs.Kept.{Layout}
 use Rattle.passive_store.specs.Layout.{IsLayout}
 use Rattle.journal.specs.declared.command.Script.{Script}
-use Rattle.journal.specs.declared.event.Entry.{Entry}
-use Rattle.journal.specs.World.{World, Node, Eject, node_at}
+use Rattle.journal.specs.World.{Node, Eject, node_at}
 use Rattle.journal.specs.Opening.{found_in, node_of, node_from, passive, passive_entry}
-use Rattle.journal.specs.Run.{beginning}
 use Rattle.journal.specs.Standing.{DiskRun}
-use Rattle.journal.specs.LegalRun.{IsHandedIn, AreHandedIn, numbered, numbered_from, images, opening_world, last_world}
-use Rattle.journal.specs.Enabled.{enabled}
-use Rattle.journal.specs.Laws.{Begins, HasTurn}
+use Rattle.journal.specs.LegalRun.{IsHandedIn, AreHandedIn, numbered, numbered_from, images, opening_world}
 use Rattle.journal.specs.Sites.{MannedEject, Sound, SoundWorld}
-use Rattle.journal.proofs.Runs.{Any, of-any, world-booting, end-keeps}
 use Rattle.journal.proofs.Ordered.{order-passive}
-use Rattle.journal.proofs.SoundWorld.{sound-next, sound-looked_up}
 use Rattle.journal.proofs.HandedIn.{IsOwnMap, own-map}
 use Rattle.journal.proofs.NoUidTwice.{kept-there, in-order, disk-node}
-use Rattle.journal.proofs.EnabledTurns.{enabled-turns}
-
--- 1. The opening world
 
 manned-passive : (u : Uid) (e : Eject) (kept : List (Uid × List ℕ)) → value_at uid_cmp u (filter_map passive_entry kept) ≡ Some e → MannedEject e
 manned-passive u e [] is = absurd (cc is)
@@ -87,18 +78,3 @@ sound-opening-world layout script disks lays fits = record {
   nodes = sound-opening layout (numbered disks) lays fits;
   asked = record { at = λ k c is. absurd (cc is) };
 }
-
--- 2. Every history
-
-pub enabled-keys-have-turns : (layout : Layout) (script : Script) (disks : List DiskRun) (history : List Entry) → IsLayout layout → AreHandedIn layout disks → Begins layout script disks history
-    → All (HasTurn (last_world (opening_world layout script disks) script history)) (enabled (last_world (opening_world layout script disks) script history))
-enabled-keys-have-turns layout script disks history lays fits begins = enabled-turns here (last_world w script history) (end-keeps Any (SoundWorld here) (record {
-  entries = λ past w c e any allowed i. (tt, sound-next here w c e allowed i);
-  look_ups = λ past w name target path e any allowed plain i. (tt, sound-looked_up here w name target path e.event allowed i);
-}) (beginning w script.nodes script.commands) [] history (of-any 1 script.nodes w script.commands) (subst (SoundWorld here) (sym (world-booting 1 script.nodes w script.commands)) (sound-opening-world layout script disks lays fits)) begins)
-  where
-    w : World
-    w = opening_world layout script disks
-
-    here : ℕ → Bool
-    here n = is_some (node_at w n)

@@ -12,11 +12,10 @@ use Rattle.eden_value.specs.declared.status.Status.{Status}
 use Rattle.eden_model.specs.Map.{with_item, first, value_at, uid_cmp}
 use Rattle.eden_model.specs.Crew.{Waiting, nothing, Process, Invocation, may_start, least_free}
 use Rattle.eden_model.specs.Traffic.{Place, asked, held, answered, done as over, Call, call_at, asking_station, target_station, goes_by, goes, next_message, names_of, shell_name}
-use Rattle.epl_syntax.specs.declared.effect.Answer.{Answer}
-use Rattle.epl_syntax.specs.declared.types.Edentype.{Edentype}
-use Rattle.epl_syntax.specs.declared.types.Edentype.TheVariants.{Cell}
-use Rattle.epl_syntax.specs.Cell.{sets, gets, saves, saved, sleeps, kills, killed}
-use Rattle.epl_syntax.specs.Meaning.{Rest, cell, turn}
+use Rattle.epl_syntax.specs.declared.effect.Effect.{Effect}
+use Rattle.epl_syntax.specs.declared.effect.Effect.TheVariants as effect
+use Rattle.epl_syntax.specs.Edentype.{Edentype}
+use Rattle.epl_syntax.specs.Meaning.{turn}
 use Rattle.journal.specs.declared.event.Key.{Key}
 use Rattle.journal.specs.declared.event.Event.{Event}
 use Rattle.journal.specs.declared.event.Event.TheVariants as event
@@ -26,7 +25,7 @@ use Rattle.journal.specs.declared.event.RequestEnd.{RequestEnd}
 use Rattle.journal.specs.declared.event.RequestEnd.TheVariants as end
 use Rattle.journal.specs.World.{World, Site, Node, Eject, Active, StoreRequest, Task, node_at, site_of, site_at, eject_in}
 use Rattle.journal.specs.Deliveries.{refusal_at}
-use Rattle.journal.specs.Processes.{CreatesKnown, next_start, invocation, shown_of}
+use Rattle.journal.specs.Processes.{CreatesKnown, next_start, invocation, serving, shown_of}
 use Rattle.journal.specs.Settling.{to_settle}
 use Rattle.journal.specs.Stores.{AllowsStore, Work, syncs, reads, unkept, without_room, calls, work_of}
 use Rattle.journal.specs.Starts.{StartsFrom, is_worked_on}
@@ -34,6 +33,7 @@ use Rattle.journal.specs.Enabled.{no_uid, stations, delivery, deliveries, activi
 use Rattle.journal.specs.Step.{AllowsAt, AllowsInTurn, touched, touches_store, node_if, last_clock, one_more, clock_before, ClockFits, StoreClock, StoreClockFits, breaks, key_of}
 use Rattle.journal.specs.Laws.{HasTurn}
 use Rattle.journal.specs.Sites.{IsManned, Sound, SoundWorld}
+use Rattle.journal.proofs.Tasks.{FitsEffect, EffectsFit}
 use Rattle.journal.proofs.SafeRuns.{same-number}
 use Rattle.journal.proofs.StoreLaw.{first-there}
 use Rattle.journal.proofs.EntryLists.{all-none, all-one, all-where, all-flat, all-found, first-passes, found-mapped}
@@ -167,14 +167,9 @@ start-turn w n it u e at number is may = by_active e.active refl may
 -- 5. Turns of processes
 
 -- a turn creates only Ejects of types that are there
-creates-known : (types : List Edentype) (t : Edentype) (vars : List Datum) (rest : Rest) (answer : Answer) (u : Uid) → CreatesKnown types (turn t vars rest answer u).effect
-creates-known types Cell vars (cell (sets n)) answer u = tt
-creates-known types Cell vars (cell gets) answer u = tt
-creates-known types Cell vars (cell saves) answer u = tt
-creates-known types Cell vars (cell saved) answer u = tt
-creates-known types Cell vars (cell sleeps) answer u = tt
-creates-known types Cell vars (cell kills) answer u = tt
-creates-known types Cell vars (cell killed) answer u = tt
+creates-known : (types : List Edentype) (serves : Bool) (e : Effect) → FitsEffect types serves e → CreatesKnown types e
+creates-known types serves (effect.Create name) fits = fits
+creates-known types serves _ fits = tt
 
 ready-is : (q : Process) → is_ready q.waits ≡ true → q.waits ≡ nothing
 ready-is q is = go q.waits is
@@ -183,16 +178,21 @@ ready-is q is = go q.waits is
     go nothing e = refl
     go _ e = absurd (cc e)
 
-process-turn : (w : World) (n : ℕ) (it : Node) (u : Uid) (e : Eject) (a : Active) (p : ℕ) (q : Process) → node_at w n ≡ Some it → u.node ≡ n → eject_in (site_of w n it) u ≡ Some e → e.active ≡ Some a → IsManned a
+process-turn : (w : World) (n : ℕ) (it : Node) (u : Uid) (e : Eject) (a : Active) (p : ℕ) (q : Process) → EffectsFit w.types w → node_at w n ≡ Some it → u.node ≡ n → eject_in (site_of w n it) u ≡ Some e → e.active ≡ Some a → IsManned a
     → value_at nat_cmp p a.crew.processes ≡ Some q → is_ready q.waits ≡ true → HasTurn w (activity u.node 4 u p)
-process-turn w n it u e a p q at number is active m found waits = go (value_at nat_cmp p a.tasks) refl (m.tasked p (ap is_some found))
+process-turn w n it u e a p q fits at number is active m found waits = go (value_at nat_cmp p a.tasks) refl (m.tasked p (ap is_some found))
   where
     go : (o : Option Task) → value_at nat_cmp p a.tasks ≡ o → is_some o ≡ true → HasTurn w (activity u.node 4 u p)
     go None none some = absurd (cc some)
     go (Some t) task some = let said = shown_of (site_of w n it) q.serves (turn a.kind a.vars t.rest t.answer u).effect in
         plain-turn w (activity u.node 4 u p) (event.Process u p said) refl refl
         (subst (λ m. IsSomeAnd (with_item (node_at w m) (λ it. Some (site_of w m it)) None) (λ s. AllowsAt s (event.Process u p said))) (sym number)
-        (rw (at, is, active, found) (record { ready = ready-is q waits; known = rw task (creates-known w.types a.kind a.vars t.rest t.answer u); shows = rw task refl }))) (λ c. tt)
+        (rw (at, is, active, found) (record {
+          ready = ready-is q waits;
+          known = rw task (creates-known w.types (is_some (serving a p)) (turn a.kind a.vars t.rest t.answer u).effect
+              (fits n it at u p e is a active (turn a.kind a.vars t.rest t.answer u) (ap (λ o. with_item o (λ t. Some (turn a.kind a.vars t.rest t.answer u)) None) task)));
+          shows = rw task refl;
+        }))) (λ c. tt)
 
 -- 6. Turns of the store
 
@@ -274,8 +274,8 @@ store-turn w n it r at number is h = by_disk (touched w (ev 0)) refl
 
 -- 7. All keys
 
-node-turns : (H : ℕ → Bool) (w : World) → SoundWorld H w → (n : ℕ) (it : Node) → node_at w n ≡ Some it → All (HasTurn w) (node_keys (site_of w n it))
-node-turns H w h n it at =
+node-turns : (H : ℕ → Bool) (w : World) → SoundWorld H w → EffectsFit w.types w → (n : ℕ) (it : Node) → node_at w n ≡ Some it → All (HasTurn w) (node_keys (site_of w n it))
+node-turns H w h fits n it at =
     All-append (HasTurn w) (activations s ++ starts s ++ processes s) (store_of s)
     (All-append (HasTurn w) (activations s ++ starts s) (processes s)
     (All-append (HasTurn w) (activations s) (starts s) activate begin) run) keep
@@ -315,7 +315,7 @@ node-turns H w h n it at =
         of : (e : Uid × Eject) → Found e → (a : Active) → e.1.active ≡ Some a → IsManned a → All (HasTurn w) (ready e.0 a)
         of e is a active m = All-map (HasTurn w) (λ q. activity e.0.node 4 e.0 q.0) (filter (λ q. is_ready q.1.waits) a.crew.processes)
             (all-where (λ q. value_at nat_cmp q.0 a.crew.processes ≡ Some q.1) (λ q. HasTurn w (activity e.0.node 4 e.0 q.0)) (λ q. is_ready q.1.waits)
-            (λ q has waits. process-turn w n it e.0 e.1 a q.0 q.1 at (own e is) is active m has waits) a.crew.processes (all-found nat_cmp nat_cmp_total a.crew.processes m.numbered))
+            (λ q has waits. process-turn w n it e.0 e.1 a q.0 q.1 fits at (own e is) is active m has waits) a.crew.processes (all-found nat_cmp nat_cmp_total a.crew.processes m.numbered))
 
         go : (e : Uid × Eject) → Found e → (o : Option Active) → e.1.active ≡ o → IfSome o IsManned → All (HasTurn w) (with_item o (ready e.0) [])
         go e is None active m = all-none (HasTurn w)
@@ -328,7 +328,7 @@ node-turns H w h n it at =
         go None is = all-none (HasTurn w)
         go (Some r) is = all-one (HasTurn w) (activity n 5 no_uid 0) (store-turn w n it r at (sound.of_node r.uid (first-there it.requests it.ejects r is sound.there)) is sound)
 
-pub enabled-turns : (H : ℕ → Bool) (w : World) → SoundWorld H w → All (HasTurn w) (enabled w)
-enabled-turns H w h = All-append (HasTurn w) (deliveries w 0) (flat_map (λ e. deliveries w e.0 ++ node_keys (site_of w e.0 e.1)) w.nodes) (deliveries-turn H w h 0)
+pub enabled-turns : (H : ℕ → Bool) (w : World) → SoundWorld H w → EffectsFit w.types w → All (HasTurn w) (enabled w)
+enabled-turns H w h fits = All-append (HasTurn w) (deliveries w 0) (flat_map (λ e. deliveries w e.0 ++ node_keys (site_of w e.0 e.1)) w.nodes) (deliveries-turn H w h 0)
     (all-flat (λ e. node_at w e.0 ≡ Some e.1) (HasTurn w) (λ e. deliveries w e.0 ++ node_keys (site_of w e.0 e.1))
-    (λ e at. All-append (HasTurn w) (deliveries w e.0) (node_keys (site_of w e.0 e.1)) (deliveries-turn H w h e.0) (node-turns H w h e.0 e.1 at)) w.nodes (all-found nat_cmp nat_cmp_total w.nodes h.place.ordered))
+    (λ e at. All-append (HasTurn w) (deliveries w e.0) (node_keys (site_of w e.0 e.1)) (deliveries-turn H w h e.0) (node-turns H w h fits e.0 e.1 at)) w.nodes (all-found nat_cmp nat_cmp_total w.nodes h.place.ordered))

@@ -212,7 +212,7 @@ kept-epochs w e = record {
   turns = λ n it at place allowed h. epochs-turn (reaches w n) e (site_of w n it) allowed h;
   crashes = λ n s is number h. epochs-crashed s h;
   tellings = λ u p a s h. epochs-left _ (spares (λ a b. refl) (λ a b. refl)) s _ (leaves-tells u p a s) h;
-  births = λ u t s next up h. epochs-left _ (spares (λ a b. refl) (λ a b. refl)) s _ (leaves-born u _ s) h;
+  births = λ u t s next up known h. epochs-left _ (spares (λ a b. refl) (λ a b. refl)) s _ (leaves-born u _ s) h;
   clocks = λ n c it h. record { stored = h.stored; doubted = h.doubted };
 }
 

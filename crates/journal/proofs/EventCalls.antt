@@ -1,7 +1,6 @@
 -- The calls go on through every event at a node, and a process of that node may have asked a new one.
-use Rattle.std.proofs.Common.{◌≡◌, ◌==◌, ◌+◌, ℕ, nat_le, Bool, true, false, cond, not, List, [], ◌∷◌, ◌++◌, Option, None, Some, is_some, Result, Ok, Err, length, refl, sym, ◌∙◌, ap, subst}
+use Rattle.std.proofs.Common.{◌≡◌, ℕ, nat_le, Bool, true, false, cond, List, [], Option, None, Some, is_some, Result, Ok, Err, length, refl, ap, subst}
 use Rattle.std.specs.Prelude.{IsSomeAnd}
-use Rattle.std.specs.List.{filter}
 use Rattle.capability.specs.declared.Uid.{Uid}
 use Rattle.capability.specs.declared.TheConstants.{BODY_LIMIT}
 use Rattle.capability.specs.Capability.{full}
@@ -19,7 +18,7 @@ use Rattle.epl_syntax.specs.declared.effect.Answer.{Answer}
 use Rattle.epl_syntax.specs.declared.effect.Answer.TheVariants.{Code, Reply as Told, Created as Made}
 use Rattle.epl_syntax.specs.declared.effect.Effect.{Effect}
 use Rattle.epl_syntax.specs.declared.effect.Effect.TheVariants as effect
-use Rattle.epl_syntax.specs.declared.types.Edentype.{Edentype}
+use Rattle.epl_syntax.specs.Edentype.{Edentype}
 use Rattle.epl_syntax.specs.Meaning.{Turned, rep_of, type_of, first_values}
 use Rattle.passive_store.specs.declared.store.Pick.{Pick}
 use Rattle.journal.specs.Change.{Change, body, removal, kept_of}
@@ -32,16 +31,16 @@ use Rattle.journal.specs.declared.event.Event.TheVariants as event
 use Rattle.journal.specs.World.{Active, Eject, StoreRequest, Node, Site, eject_in, on_eject, on_node, on_traffic}
 use Rattle.journal.specs.Ejects.{with_active, with_queued, on_active, on_crew, is_there, told, tells, without_requests, deactivated, turned_away, gone_if_unkept, fresh, next_uid, born_in, born}
 use Rattle.journal.specs.Deliveries.{requested, tells_asker, received, heard, AllowsRequest, refusal_at}
-use Rattle.journal.specs.Processes.{turn_of, turned, serving, with_start as starting, start, without_process, asks_store, answers, refused_at_once, waits_or_told, creates, checkpoints, effected, process_turn}
+use Rattle.journal.specs.Processes.{turn_of, turned, serving, start, without_process, asks_store, answers, refused_at_once, waits_or_told, creates, checkpoints, effected, process_turn}
 use Rattle.journal.specs.Crashes.{down, crashed}
 use Rattle.journal.specs.Stores.{Work, syncs, reads, unkept, without_room, calls, work_of, more_made, doubted, tells_code, request_ended, removed, stored, done, worked, store_turn}
-use Rattle.journal.specs.Starts.{start_of, misfits_answered, activated, start_settled, activation_turn}
+use Rattle.journal.specs.Starts.{start_of, misfits_answered, activated, start_settled}
 use Rattle.journal.specs.Boots.{booted_node, boot_turn}
 use Rattle.journal.specs.Step.{site_turn, AllowsAt, IsActiveAnd}
-use Rattle.journal.specs.Settling.{first_request, settled_node, settled, unsynced, written_with, to_settle}
+use Rattle.journal.specs.Settling.{first_request, settled_node, settled, unsynced, to_settle}
 use Rattle.journal.specs.declared.event.BootEnd.{BootEnd}
-use Rattle.journal.specs.Sites.{AreNumbered, CallsGoOn, IsSoundSite}
-use Rattle.journal.proofs.Goings.{GoOn, on-same, on-then, on-replied, on-all_replied, on-refused, on-taken_in, on-received, on-orphaned, on-without_node, on-answers, on-misfits, on-around, around-call}
+use Rattle.journal.specs.Sites.{AreNumbered, CallsGoOn, IsSoundSite, Sound}
+use Rattle.journal.proofs.Goings.{GoOn, on-same, on-then, on-all_replied, on-refused, on-taken_in, on-received, on-orphaned, on-without_node, on-answers, on-misfits, Around, on-around, around-call}
 
 abbrev pub On : Site → Site → Type 0
 On s new = GoOn s.traffic new.traffic
@@ -114,14 +113,14 @@ creates-on v p (Some t) (Err why) s mid h = tells-on v p (Made why None) s mid h
 
 invoked-around : (v : Uid) (p : ℕ) (target : Cap) (operation : List ℕ) (args : List Datum) (at_once : Option Status) (s : Site)
     → AreNumbered 1 s.traffic.calls
-    → CallsGoOn v.node s.traffic (on_traffic (λ t. with_call (next_call t) (Process v p) target operation args at_once t)
+    → Around v.node s.traffic (on_traffic (λ t. with_call (next_call t) (Process v p) target operation args at_once t)
     (on_eject v (on_active (waits_or_told p at_once)) s)).traffic
 unfolding on_traffic on_eject
 invoked-around v p target operation args at_once s numbered = around-call v p target operation args at_once s.traffic numbered
 
 effected-around : (reach : ℕ → Bool) (v : Uid) (p : ℕ) (i : Option Invocation) (t : Edentype) (vars : List Datum) (e : Effect) (s : Site)
     → AreNumbered 1 s.traffic.calls
-    → CallsGoOn v.node s.traffic (effected reach v p i t vars e s).traffic
+    → Around v.node s.traffic (effected reach v p i t vars e s).traffic
 effected-around reach v p i t vars (effect.Return results) s numbered = on-around v.node s.traffic _
     (traffic-on (answers i results) s (on_eject v (on_active (without_process p)) s)
     (eject-on v (on_active (without_process p)) s s (same-on s)) (on-answers i results _))
@@ -148,19 +147,19 @@ effected-around reach v p i t vars (effect.Signal c) s numbered =
     on-around v.node s.traffic _ (eject-on v (on_active (on_crew (signalled c))) s s (same-on s))
 effected-around reach v p i t vars effect.Yield s numbered = on-around v.node s.traffic _ (same-on s)
 
-around-item : {X : Type 0} (n : ℕ) (s : Site) (o : Option X) (f : X → Site) → ((x : X) → CallsGoOn n s.traffic (f x).traffic)
-    → CallsGoOn n s.traffic (with_item o f s).traffic
+around-item : {X : Type 0} (n : ℕ) (s : Site) (o : Option X) (f : X → Site) → ((x : X) → Around n s.traffic (f x).traffic)
+    → Around n s.traffic (with_item o f s).traffic
 around-item n s None f each = on-around n s.traffic _ (same-on s)
 around-item n s (Some x) f each = each x
 
 turned-around : (reach : ℕ → Bool) (v : Uid) (p : ℕ) (it : Active) (t : Turned) (s : Site) → AreNumbered 1 s.traffic.calls
-    → CallsGoOn v.node s.traffic (effected reach v p (serving it p) it.kind t.vars t.effect (on_eject v (on_active (turned p t)) s)).traffic
+    → Around v.node s.traffic (effected reach v p (serving it p) it.kind t.vars t.effect (on_eject v (on_active (turned p t)) s)).traffic
 unfolding on_eject
 turned-around reach v p it t s numbered = effected-around reach v p (serving it p) it.kind t.vars t.effect
     (on_eject v (on_active (turned p t)) s) numbered
 
 process_turn-around : (reach : ℕ → Bool) (v : Uid) (p : ℕ) (s : Site) → AreNumbered 1 s.traffic.calls
-    → CallsGoOn v.node s.traffic (process_turn reach v p s).traffic
+    → Around v.node s.traffic (process_turn reach v p s).traffic
 process_turn-around reach v p s numbered = around-item v.node s (eject_in s v) _ (λ e.
     around-item v.node s e.active _ (λ it. around-item v.node s (turn_of v it p) _ (λ t. turned-around reach v p it t s numbered)))
 
@@ -271,12 +270,12 @@ placed s k a b refused allowed = go (call_at s.traffic k) allowed.delivered
     go (Some c) x = x.0
 
 -- the node of an Eject that is active
-pub of-site : (s : Site) (u : Uid) (P : Eject → Active → Type 0) → IsSoundSite s → IsActiveAnd s u P → u.node ≡ s.number
+pub of-site : (s : Site) (u : Uid) (P : Eject → Active → Type 0) → Sound s.number s.node → IsActiveAnd s u P → u.node ≡ s.number
 of-site s u P sound active = go (eject_in s u) refl active
   where
     go : (o : Option Eject) → eject_in s u ≡ o → IsSomeAnd o (λ e. IsSomeAnd e.active (λ it. P e it)) → u.node ≡ s.number
     go None is x = absurd x
-    go (Some e) is x = sound.node.of_node u (ap is_some is)
+    go (Some e) is x = sound.of_node u (ap is_some is)
 
 -- no turn of a process
 abbrev pub IsNoTurn : Event → Type 0
@@ -294,21 +293,25 @@ event-on reach (event.Boot n e how p began) s allowed other = boot-on e how p be
 event-on reach (event.Crash n) s allowed other = crashed-on s s (same-on s)
 event-on reach _ s allowed other = absurd allowed
 
+pub calls-around : (reach : ℕ → Bool) (e : Event) (s : Site) → Sound s.number s.node → AreNumbered 1 s.traffic.calls → AllowsAt s e
+    → Around s.number s.traffic (site_turn reach e s).traffic
+calls-around reach (event.Process u p said) s sound numbered allowed =
+    subst (λ n. Around n s.traffic (process_turn reach u p s).traffic) (of-site s u _ sound allowed)
+    (process_turn-around reach u p s numbered)
+calls-around reach (event.Request k a b refused) s sound numbered allowed =
+    on-around s.number s.traffic _ (event-on reach (event.Request k a b refused) s allowed tt)
+calls-around reach (event.Reply k a b name why values) s sound numbered allowed =
+    on-around s.number s.traffic _ (event-on reach (event.Reply k a b name why values) s allowed tt)
+calls-around reach (event.Activate u how p) s sound numbered allowed = on-around s.number s.traffic _
+    (event-on reach (event.Activate u how p) s allowed tt)
+calls-around reach (event.Start k u p) s sound numbered allowed = on-around s.number s.traffic _ (event-on reach (event.Start k u p) s allowed tt)
+calls-around reach (event.Store u clock how p) s sound numbered allowed =
+    on-around s.number s.traffic _ (event-on reach (event.Store u clock how p) s allowed tt)
+calls-around reach (event.Boot n e how p began) s sound numbered allowed =
+    on-around s.number s.traffic _ (event-on reach (event.Boot n e how p began) s allowed tt)
+calls-around reach (event.Crash n) s sound numbered allowed = on-around s.number s.traffic _ (event-on reach (event.Crash n) s allowed tt)
+calls-around reach _ s sound numbered allowed = absurd allowed
+
 pub calls-go-on : (reach : ℕ → Bool) (e : Event) (s : Site) → IsSoundSite s → AllowsAt s e
     → CallsGoOn s.number s.traffic (site_turn reach e s).traffic
-calls-go-on reach (event.Process u p said) s sound allowed =
-    subst (λ n. CallsGoOn n s.traffic (process_turn reach u p s).traffic) (of-site s u _ sound allowed)
-    (process_turn-around reach u p s sound.numbered)
-calls-go-on reach (event.Request k a b refused) s sound allowed =
-    on-around s.number s.traffic _ (event-on reach (event.Request k a b refused) s allowed tt)
-calls-go-on reach (event.Reply k a b name why values) s sound allowed =
-    on-around s.number s.traffic _ (event-on reach (event.Reply k a b name why values) s allowed tt)
-calls-go-on reach (event.Activate u how p) s sound allowed = on-around s.number s.traffic _
-    (event-on reach (event.Activate u how p) s allowed tt)
-calls-go-on reach (event.Start k u p) s sound allowed = on-around s.number s.traffic _ (event-on reach (event.Start k u p) s allowed tt)
-calls-go-on reach (event.Store u clock how p) s sound allowed =
-    on-around s.number s.traffic _ (event-on reach (event.Store u clock how p) s allowed tt)
-calls-go-on reach (event.Boot n e how p began) s sound allowed =
-    on-around s.number s.traffic _ (event-on reach (event.Boot n e how p began) s allowed tt)
-calls-go-on reach (event.Crash n) s sound allowed = on-around s.number s.traffic _ (event-on reach (event.Crash n) s allowed tt)
-calls-go-on reach _ s sound allowed = absurd allowed
+calls-go-on reach e s sound allowed = (calls-around reach e s sound.node sound.numbered allowed).calls

@@ -13,7 +13,7 @@ use Rattle.eden_model.specs.Traffic.{processes_of, broken_by_node, broken_by_lin
 use Rattle.eden_model.proofs.Laws.{eq-same, value-changed}
 use Rattle.epl_syntax.specs.declared.effect.Answer.{Answer}
 use Rattle.epl_syntax.specs.declared.effect.Answer.TheVariants.{Reply as Told}
-use Rattle.epl_syntax.specs.declared.types.Edentype.{Edentype}
+use Rattle.epl_syntax.specs.Edentype.{Edentype}
 use Rattle.epl_syntax.specs.Meaning.{type_of, first_values}
 use Rattle.passive_store.specs.declared.store.Pick.{Pick}
 use Rattle.journal.specs.declared.command.Command.{Command}
@@ -58,13 +58,38 @@ IsAt (event.Boot m e how p began) n = m ≡ n
 IsAt (event.Activate u how p) n = u.node ≡ n
 IsAt _ n = Unit {0}
 
--- this event keeps F at each node of this world, and so does what is changed elsewhere
+-- the type is one of these
+abbrev pub IsTypeOf : List Edentype → Edentype → Type 0
+IsTypeOf types t = (name : List ℕ) × (type_of types name ≡ Some t)
+
+-- This event keeps F at each node of this world, and so does what is changed elsewhere: calls are broken, and an Eject is created where
+-- this very event makes one.
+pub record IsKeptBy (F : ℕ → Node → Type 0) (w : World) (e : Event) : Type 0 where
+  pub turns : (n : ℕ) (it : Node) → node_at w n ≡ Some it → IsAt e n → AllowsAt (site_of w n it) e → F n it
+      → F n (site_turn (reaches w n) e (site_of w n it)).node
+  pub crashes : (n : ℕ) (s : Site) → e ≡ event.Crash n → s.number ≡ n → F s.number s.node → F s.number (crashed s).node
+  pub broken : (u : Uid) (p : ℕ) (s : Site) → F s.number s.node → F s.number (tells u p (Told status.Broken []) s).node
+  pub births : (u : Uid) (t : Edentype) (s : Site) (name : List ℕ) (why : Status) → e ≡ event.Made name why (Some u) → next_uid s ≡ Ok u
+      → s.node.up ≡ true → IsTypeOf w.types t → F s.number s.node → F s.number (born u (fresh t (first_values t)) s).node
+  pub clocks : (n c : ℕ) (it : Node) → F n it → F n (with_clock c it)
+
+-- the same of whatever is told, and of whatever is created
 pub record IsKeptAt (F : ℕ → Node → Type 0) (w : World) (e : Event) : Type 0 where
   pub turns : (n : ℕ) (it : Node) → node_at w n ≡ Some it → IsAt e n → AllowsAt (site_of w n it) e → F n it → F n (site_turn (reaches w n) e (site_of w n it)).node
   pub crashes : (n : ℕ) (s : Site) → e ≡ event.Crash n → s.number ≡ n → F s.number s.node → F s.number (crashed s).node
   pub tellings : (u : Uid) (p : ℕ) (a : Answer) (s : Site) → F s.number s.node → F s.number (tells u p a s).node
-  pub births : (u : Uid) (t : Edentype) (s : Site) → next_uid s ≡ Ok u → s.node.up ≡ true → F s.number s.node → F s.number (born u (fresh t (first_values t)) s).node
+  pub births : (u : Uid) (t : Edentype) (s : Site) → next_uid s ≡ Ok u → s.node.up ≡ true → IsTypeOf w.types t → F s.number s.node
+      → F s.number (born u (fresh t (first_values t)) s).node
   pub clocks : (n c : ℕ) (it : Node) → F n it → F n (with_clock c it)
+
+kept-by : (F : ℕ → Node → Type 0) (w : World) (e : Event) → IsKeptAt F w e → IsKeptBy F w e
+kept-by F w e kept = record {
+  turns = kept.turns;
+  crashes = kept.crashes;
+  broken = λ u p s f. kept.tellings u p (Told status.Broken []) s f;
+  births = λ u t s name why is gives on known f. kept.births u t s gives on known f;
+  clocks = kept.clocks;
+}
 
 -- 1. A change at one node
 
@@ -87,24 +112,31 @@ all-at_node F w n f keeps all m jt is = go (eq_by_cmp nat_cmp m n) refl (node_at
 pub at-its-site : (w : World) (n : ℕ) (P : Site → Type 0) (it : Node) → node_at w n ≡ Some it → IsSomeAnd (site_at w n) P → P (site_of w n it)
 at-its-site w n P it is p = subst (λ o. IsSomeAnd (with_item o (λ it. Some (site_of w n it)) None) P) is p
 
-all-turn : (F : ℕ → Node → Type 0) (w : World) (n : ℕ) (e : Event) → IsAt e n → IsKeptAt F w e → IsSomeAnd (site_at w n) (λ s. AllowsAt s e) → Everywhere F w → Everywhere F (at_site w n e)
+all-turn : (F : ℕ → Node → Type 0) (w : World) (n : ℕ) (e : Event) → IsAt e n → IsKeptBy F w e → IsSomeAnd (site_at w n) (λ s. AllowsAt s e)
+    → Everywhere F w → Everywhere F (at_site w n e)
 all-turn F w n e place kept allowed all = all-at_node F w n (site_turn (reaches w n) e) (λ it is f. kept.turns n it is place (at-its-site w n (λ s. AllowsAt s e) it is allowed) f) all
 
-all-tells_each : (F : ℕ → Node → Type 0) → ((u : Uid) (p : ℕ) (a : Answer) (s : Site) → F s.number s.node → F s.number (tells u p a s).node) → (qs : List (Uid × ℕ)) (w : World) → Everywhere F w → Everywhere F (tells_each qs w)
+all-tells_each : (F : ℕ → Node → Type 0)
+    → ((u : Uid) (p : ℕ) (s : Site) → F s.number s.node → F s.number (tells u p (Told status.Broken []) s).node)
+    → (qs : List (Uid × ℕ)) (w : World) → Everywhere F w → Everywhere F (tells_each qs w)
 all-tells_each F kept [] w all = all
 all-tells_each F kept (q ∷ qs) w all = all-tells_each F kept qs (at_node q.0.node (tells q.0 q.1 (Told status.Broken [])) w)
-    (all-at_node F w q.0.node (tells q.0 q.1 (Told status.Broken [])) (λ it is f. kept q.0 q.1 (Told status.Broken []) (site_of w q.0.node it) f) all)
+    (all-at_node F w q.0.node (tells q.0 q.1 (Told status.Broken [])) (λ it is f. kept q.0 q.1 (site_of w q.0.node it) f) all)
 
-all-stopped : (F : ℕ → Node → Type 0) → ((u : Uid) (p : ℕ) (a : Answer) (s : Site) → F s.number s.node → F s.number (tells u p a s).node) → (w : World) (n : ℕ) (e : Event) → Everywhere F (at_site w n e) → Everywhere F (stopped_at w n e)
+all-stopped : (F : ℕ → Node → Type 0)
+    → ((u : Uid) (p : ℕ) (s : Site) → F s.number s.node → F s.number (tells u p (Told status.Broken []) s).node)
+    → (w : World) (n : ℕ) (e : Event) → Everywhere F (at_site w n e) → Everywhere F (stopped_at w n e)
 all-stopped F kept w n e all = all-tells_each F kept (processes_of (broken_by_node n) w.traffic) (at_site w n e) all
 
 -- 2. Turns
 
 -- a reply that a node hears is allowed at its site where it is allowed in the world
-all-replied : (F : ℕ → Node → Type 0) (w : World) (b : ℕ) (e : Event) → IsAt e b → IsKeptAt F w e → ((it : Node) → AllowsAt (site_of w b it) e) → Everywhere F w → Everywhere F (at_site w b e)
+all-replied : (F : ℕ → Node → Type 0) (w : World) (b : ℕ) (e : Event) → IsAt e b → IsKeptBy F w e
+    → ((it : Node) → AllowsAt (site_of w b it) e) → Everywhere F w → Everywhere F (at_site w b e)
 all-replied F w b e place kept allowed all = all-at_node F w b (site_turn (reaches w b) e) (λ it is f. kept.turns b it is place (allowed it) f) all
 
-all-in_turn : (F : ℕ → Node → Type 0) (w : World) (e : Event) → IsKeptAt F w e → AllowsInTurn w e → Everywhere F w → Everywhere F (after_turn w e)
+all-in_turn : (F : ℕ → Node → Type 0) (w : World) (e : Event) → IsKeptBy F w e → AllowsInTurn w e → Everywhere F w
+    → Everywhere F (after_turn w e)
 all-in_turn F w (event.Boot n e how p began) kept allowed all = absurd allowed
 all-in_turn F w (event.Crash n) kept allowed all = absurd allowed
 all-in_turn F w (event.Still n up) kept allowed all = absurd allowed
@@ -126,12 +158,14 @@ all-in_turn F w (event.Activate v start_end.Ok p) kept allowed all = all-turn F 
 all-in_turn F w (event.Activate v start_end.Gone p) kept allowed all = all-turn F w v.node (event.Activate v start_end.Gone p) refl kept allowed all
 all-in_turn F w (event.Activate v start_end.Fault p) kept allowed all = all-turn F w v.node (event.Activate v start_end.Fault p) refl kept allowed all
 all-in_turn F w (event.Activate v start_end.Damaged p) kept allowed all = all-turn F w v.node (event.Activate v start_end.Damaged p) refl kept allowed all
-all-in_turn F w (event.Activate v start_end.Stop p) kept allowed all = all-stopped F kept.tellings w v.node (event.Activate v start_end.Stop p) (all-turn F w v.node (event.Activate v start_end.Stop p) refl kept allowed all)
+all-in_turn F w (event.Activate v start_end.Stop p) kept allowed all = all-stopped F kept.broken w v.node
+    (event.Activate v start_end.Stop p) (all-turn F w v.node (event.Activate v start_end.Stop p) refl kept allowed all)
 all-in_turn F w (event.Store v clock end.Part p) kept allowed all = all-turn F w v.node (event.Store v clock end.Part p) refl kept allowed all
 all-in_turn F w (event.Store v clock end.Done p) kept allowed all = all-turn F w v.node (event.Store v clock end.Done p) refl kept allowed all
 all-in_turn F w (event.Store v clock end.Fault p) kept allowed all = all-turn F w v.node (event.Store v clock end.Fault p) refl kept allowed all
 all-in_turn F w (event.Store v clock end.Full p) kept allowed all = all-turn F w v.node (event.Store v clock end.Full p) refl kept allowed all
-all-in_turn F w (event.Store v clock end.Stop p) kept allowed all = all-stopped F kept.tellings w v.node (event.Store v clock end.Stop p) (all-turn F w v.node (event.Store v clock end.Stop p) refl kept allowed all)
+all-in_turn F w (event.Store v clock end.Stop p) kept allowed all = all-stopped F kept.broken w v.node (event.Store v clock end.Stop p)
+    (all-turn F w v.node (event.Store v clock end.Stop p) refl kept allowed all)
 
 -- 3. Commands
 
@@ -151,11 +185,14 @@ all-asked_by : (F : ℕ → Node → Type 0) (c : Command) (k : ℕ) (at_once : 
 all-asked_by F (command.Call name target operation args) k at_once w all = same-item F w (ready_call w (command.Call name target operation args)) _ (λ c. all) all
 all-asked_by F _ k at_once w all = all
 
-all-linked : (F : ℕ → Node → Type 0) → ((u : Uid) (p : ℕ) (a : Answer) (s : Site) → F s.number s.node → F s.number (tells u p a s).node) → (a b : ℕ) (joined : Bool) (w : World) → Everywhere F w → Everywhere F (linked a b joined w)
+all-linked : (F : ℕ → Node → Type 0)
+    → ((u : Uid) (p : ℕ) (s : Site) → F s.number s.node → F s.number (tells u p (Told status.Broken []) s).node)
+    → (a b : ℕ) (joined : Bool) (w : World) → Everywhere F w → Everywhere F (linked a b joined w)
 all-linked F kept a b true w all = all
 all-linked F kept a b false w all = all-tells_each F kept (processes_of (broken_by_link a b) w.traffic) (record w { cuts = (a, b) ∷ w.cuts; traffic = without_link a b w.traffic }) all
 
-all-boot : (F : ℕ → Node → Type 0) (w : World) (c : Command) (n e : ℕ) (how : BootEnd) (p : Option Pick) (began : Bool) → IsKeptAt F w (event.Boot n e how p began) → AllowsCommand w c (event.Boot n e how p began)
+all-boot : (F : ℕ → Node → Type 0) (w : World) (c : Command) (n e : ℕ) (how : BootEnd) (p : Option Pick) (began : Bool)
+    → IsKeptBy F w (event.Boot n e how p began) → AllowsCommand w c (event.Boot n e how p began)
     → Everywhere F w → Everywhere F (at_site w n (event.Boot n e how p began))
 all-boot F w (command.Restart m) n e how p began kept allowed all =
     let same : n ≡ m = allowed.0 in
@@ -217,21 +254,32 @@ made-up w (command.Create said n type_name) name why u allowed = creation-up w n
     is-creation (Err w) why u is = absurd (let bad : Some u ≡ None = is.1 in cc bad)
 made-up w _ name why u allowed = absurd allowed
 
-all-born_as : (F : ℕ → Node → Type 0) → ((u : Uid) (t : Edentype) (s : Site) → next_uid s ≡ Ok u → s.node.up ≡ true → F s.number s.node → F s.number (born u (fresh t (first_values t)) s).node) → (u : Uid) (t : Option Edentype) (w : World) → IsNext w u → IsUpAt w u → Everywhere F w → Everywhere F (born_as u t w)
-all-born_as F kept u None w is on all = all
-all-born_as F kept u (Some t) w is on all = all-at_node F w u.node (born u (fresh t (first_values t)))
-    (λ it at f. kept u t (site_of w u.node it) (at-its-site w u.node (λ s. next_uid s ≡ Ok u) it at is) (on it at) f) all
+all-born_as : (F : ℕ → Node → Type 0) (w : World) (u : Uid)
+    → ((t : Edentype) (s : Site) → next_uid s ≡ Ok u → s.node.up ≡ true → IsTypeOf w.types t → F s.number s.node
+    → F s.number (born u (fresh t (first_values t)) s).node)
+    → (t : Option Edentype) → ((x : Edentype) → t ≡ Some x → IsTypeOf w.types x) → IsNext w u → IsUpAt w u → Everywhere F w
+    → Everywhere F (born_as u t w)
+all-born_as F w u kept None known is on all = all
+all-born_as F w u kept (Some t) known is on all = all-at_node F w u.node (born u (fresh t (first_values t)))
+    (λ it at f. kept t (site_of w u.node it) (at-its-site w u.node (λ s. next_uid s ≡ Ok u) it at is) (on it at) (known t refl) f) all
 
-all-made : (F : ℕ → Node → Type 0) → ((u : Uid) (t : Edentype) (s : Site) → next_uid s ≡ Ok u → s.node.up ≡ true → F s.number s.node → F s.number (born u (fresh t (first_values t)) s).node) → (w : World) (c : Command) (name : List ℕ) (why : Status) (u : Option Uid) → AllowsCommand w c (event.Made name why u)
-    → Everywhere F w → Everywhere F (made name (type_name_of c) u w)
-all-made F kept w c name why None allowed all = all
-all-made F kept w c name why (Some u) allowed all = all-born_as F kept u (type_of w.types (type_name_of c)) w (made-next w c name why u allowed) (made-up w c name why u allowed) all
+all-made : (F : ℕ → Node → Type 0) (w : World) (c : Command) (name : List ℕ) (why : Status) (u : Option Uid)
+    → ((v : Uid) (t : Edentype) (s : Site) → event.Made name why u ≡ event.Made name why (Some v) → next_uid s ≡ Ok v → s.node.up ≡ true
+    → IsTypeOf w.types t → F s.number s.node → F s.number (born v (fresh t (first_values t)) s).node)
+    → AllowsCommand w c (event.Made name why u) → Everywhere F w → Everywhere F (made name (type_name_of c) u w)
+all-made F w c name why None kept allowed all = all
+all-made F w c name why (Some u) kept allowed all = all-born_as F w u (λ t s. kept u t s refl) (type_of w.types (type_name_of c))
+    (λ x is. (type_name_of c, is))
+    (made-next w c name why u allowed) (made-up w c name why u allowed) all
 
-all-by_command : (F : ℕ → Node → Type 0) (w : World) (c : Command) (e : Event) → IsKeptAt F w e → AllowsCommand w c e → Everywhere F w → Everywhere F (after_command w c e)
+all-by_command : (F : ℕ → Node → Type 0) (w : World) (c : Command) (e : Event) → IsKeptBy F w e → AllowsCommand w c e → Everywhere F w
+    → Everywhere F (after_command w c e)
 all-by_command F w c (event.Boot n e how p began) kept allowed all = all-boot F w c n e how p began kept allowed all
-all-by_command F w c (event.Crash n) kept allowed all = all-stopped F kept.tellings w n (event.Crash n) (all-at_node F w n (site_turn (reaches w n) (event.Crash n)) (λ it is f. kept.crashes n (site_of w n it) refl refl f) all)
-all-by_command F w c (event.Link a b joined) kept allowed all = all-linked F kept.tellings a b joined w all
-all-by_command F w c (event.Made name why v) kept allowed all = all-made F kept.births w c name why v allowed all
+all-by_command F w c (event.Crash n) kept allowed all = all-stopped F kept.broken w n (event.Crash n)
+    (all-at_node F w n (site_turn (reaches w n) (event.Crash n)) (λ it is f. kept.crashes n (site_of w n it) refl refl f) all)
+all-by_command F w c (event.Link a b joined) kept allowed all = all-linked F kept.broken a b joined w all
+all-by_command F w c (event.Made name why v) kept allowed all = all-made F w c name why v
+    (λ u t s is. kept.births u t s name why is) allowed all
 all-by_command F w c (event.Bound name true) kept allowed all = all-held_by F c w all
 all-by_command F w c (event.Bound name false) kept allowed all = all-restricted_by F c w all
 all-by_command F w c (event.Asked k name at_once) kept allowed all = all-asked_by F c k at_once w all
@@ -250,7 +298,8 @@ all-by_command F w c (event.Left names) kept allowed all = all
 
 -- 5. Every entry
 
-pub all-happened : (F : ℕ → Node → Type 0) (w : World) (c : Option Command) (e : Event) → IsKeptAt F w e → AllowsEvent w c e → Everywhere F w → Everywhere F (happened w c e)
+pub all-happened : (F : ℕ → Node → Type 0) (w : World) (c : Option Command) (e : Event) → IsKeptBy F w e → AllowsEvent w c e
+    → Everywhere F w → Everywhere F (happened w c e)
 all-happened F w None e kept allowed all = all-in_turn F w e kept allowed all
 all-happened F w (Some c) e kept allowed all = all-by_command F w c e kept allowed all
 
@@ -270,9 +319,14 @@ all-clocked F kept n c w all = go (n == 0)
     go true = all
     go false = λ m jt is. here m jt (eq_by_cmp nat_cmp m n) (node_at w m) refl (sym (value-changed nat_cmp nat_cmp_total nat_cmp-IsAntisymmetric m n (with_clock c) w.nodes) ∙ is)
 
-pub all-next : (F : ℕ → Node → Type 0) (w : World) (c : Option Command) (e : Entry) → IsKeptAt F w e.event → Allows w c e → Everywhere F w → Everywhere F (next w c e)
-all-next F w c e kept allowed all = all-counted F (key_of e.event) (clocked e.node e.clock (happened w c e.event))
+pub all-next_by : (F : ℕ → Node → Type 0) (w : World) (c : Option Command) (e : Entry) → IsKeptBy F w e.event → Allows w c e
+    → Everywhere F w → Everywhere F (next w c e)
+all-next_by F w c e kept allowed all = all-counted F (key_of e.event) (clocked e.node e.clock (happened w c e.event))
     (all-clocked F kept.clocks e.node e.clock (happened w c e.event) (all-happened F w c e.event kept allowed.event all))
+
+pub all-next : (F : ℕ → Node → Type 0) (w : World) (c : Option Command) (e : Entry) → IsKeptAt F w e.event → Allows w c e → Everywhere F w
+    → Everywhere F (next w c e)
+all-next F w c e kept allowed all = all-next_by F w c e (kept-by F w e.event kept) allowed all
 
 pub all-same_nodes : (F : ℕ → Node → Type 0) (w v : World) → v.nodes ≡ w.nodes → Everywhere F w → Everywhere F v
 all-same_nodes F w v same all = λ n it is. all n it (ap (λ ns. value_at nat_cmp n ns) (sym same) ∙ is)

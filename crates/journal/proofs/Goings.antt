@@ -1,5 +1,5 @@
 -- The calls go on: what each change of the messages leaves of a call.
-use Rattle.std.proofs.Common.{◌≡◌, ◌==◌, ◌+◌, ℕ, nat_le, Bool, true, false, cond, not, ◌||◌, List, [], ◌∷◌, Option, None, Some, is_some, length, refl, sym, ◌∙◌, ap, subst, arith, inl, inr}
+use Rattle.std.proofs.Common.{◌≡◌, ◌==◌, ℕ, nat_le, Bool, true, false, cond, ◌||◌, List, [], ◌∷◌, Option, None, Some, is_some, refl, sym, ◌∙◌, ap, subst, arith, inl, inr}
 use Rattle.std.specs.Prelude.{IsSomeAnd, ◌⊎◌}
 use Rattle.std.specs.Option.{option_map}
 use Rattle.std.specs.Ordering.{nat_cmp, eq_by_cmp}
@@ -10,19 +10,19 @@ use Rattle.eden_value.specs.Datum.{Datum}
 use Rattle.eden_value.specs.declared.status.Status.{Status}
 use Rattle.eden_value.specs.declared.status.Status.TheVariants as status
 use Rattle.eden_codec.specs.Spelling.{values_size}
-use Rattle.eden_model.specs.Map.{with_item, value_at, each_value}
+use Rattle.eden_model.specs.Map.{with_item, each_value}
 use Rattle.eden_model.proofs.Numbers.{same-true}
 use Rattle.eden_model.specs.Crew.{Invocation}
-use Rattle.eden_model.specs.Traffic.{Place, asked, held, answered, done as over, Traffic, Call, call_at, target_station, next_call, changed_call, at_place, closed, sent, taken, replied, all_replied, new_call, with_call, asks, orphaned, in_transit, touches, crashed_call, on_link, cut_call, without_node, without_link}
+use Rattle.eden_model.specs.Traffic.{asked, held, answered, done as over, Traffic, Call, call_at, target_station, next_call, changed_call, at_place, closed, sent, taken, replied, all_replied, new_call, with_call, asks, orphaned, in_transit, touches, crashed_call, on_link, cut_call, without_node, without_link}
 use Rattle.eden_model.specs.declared.Asker.{Asker}
 use Rattle.eden_model.specs.declared.Asker.TheVariants.{Eject as Process}
-use Rattle.epl_syntax.specs.declared.types.Edentype.{Edentype}
+use Rattle.epl_syntax.specs.Edentype.{Edentype}
 use Rattle.journal.specs.Deliveries.{misfit, received}
 use Rattle.journal.specs.Processes.{answers}
 use Rattle.journal.specs.Starts.{misfits_answered}
 use Rattle.journal.specs.Sites.{AreNumbered, GoesOn, IsNewFrom, CallsGoOn}
 use Rattle.journal.proofs.Messages.{value-calls}
-use Rattle.journal.proofs.Times.{call-changed, call-more, none-behind}
+use Rattle.journal.proofs.Times.{call-changed, call-more, none-behind, numbered-changed, numbered-each, numbered-more}
 
 -- 1. One call
 
@@ -139,9 +139,14 @@ goes-lost true x c = record {
 pub record GoOn (t new : Traffic) : Type 0 where
   pub goes : (k : ℕ) (c : Call) → call_at t k ≡ Some c → IsSomeAnd (call_at new k) (GoesOn c)
   pub came : (k : ℕ) → is_some (call_at new k) ≡ true → is_some (call_at t k) ≡ true
+  pub numbered : AreNumbered 1 t.calls → AreNumbered 1 new.calls
 
 pub on-same : (t : Traffic) → GoOn t t
-on-same t = record { goes = λ k c is. subst (λ o. IsSomeAnd o (GoesOn c)) (sym is) (goes-same c); came = λ k some. some }
+on-same t = record {
+  goes = λ k c is. subst (λ o. IsSomeAnd o (GoesOn c)) (sym is) (goes-same c);
+  came = λ k some. some;
+  numbered = λ h. h;
+}
 
 goes-further : (c : Call) (o : Option Call) (later : Option Call) → IsSomeAnd o (GoesOn c)
     → ((d : Call) → o ≡ Some d → IsSomeAnd later (GoesOn d))
@@ -157,11 +162,12 @@ pub on-then : (t new later : Traffic) → GoOn t new → GoOn new later → GoOn
 on-then t new later a b = record {
   goes = λ k c is. goes-further c (call_at new k) (call_at later k) (a.goes k c is) (λ d at. b.goes k d at);
   came = λ k some. a.came k (b.came k some);
+  numbered = λ h. b.numbered (a.numbered h);
 }
 
 -- what is on its way does not count
 pub on-transit : (t : Traffic) (transit : List ℕ) → GoOn t (record t { transit = transit })
-on-transit t transit = record { goes = (on-same t).goes; came = λ k some. some }
+on-transit t transit = record { goes = (on-same t).goes; came = λ k some. some; numbered = λ h. h }
 
 there-mapped : (b : Bool) (f : Call → Call) (o : Option Call) → is_some (cond b (option_map f o) o) ≡ true → is_some o ≡ true
 there-mapped true f None some = some
@@ -173,6 +179,7 @@ pub on-changed : (k : ℕ) (f : Call → Call) (t : Traffic) → ((c : Call) →
 on-changed k f t goes = record {
   goes = λ j c is. subst (λ o. IsSomeAnd o (GoesOn c)) (sym (call-changed j k f t)) (go j c (eq_by_cmp nat_cmp j k) refl is);
   came = λ j some. there-mapped (eq_by_cmp nat_cmp j k) f (call_at t j) (sym (ap is_some (call-changed j k f t)) ∙ some);
+  numbered = λ h. numbered-changed k f t.calls h;
 }
   where
     go : (j : ℕ) (c : Call) (b : Bool) → eq_by_cmp nat_cmp j k ≡ b → call_at t j ≡ Some c
@@ -186,6 +193,7 @@ on-each : (f : Call → Call) (t : Traffic) (transit : List ℕ) → ((c : Call)
 on-each f t transit goes = record {
   goes = λ k c is. subst (λ o. IsSomeAnd o (GoesOn c)) (sym (value-calls k f t.calls ∙ ap (option_map f) is)) (goes c);
   came = λ k some. there-mapped true f (call_at t k) (sym (ap is_some (value-calls k f t.calls)) ∙ some);
+  numbered = λ h. numbered-each 1 f t.calls h;
 }
 
 pub on-replied : (why : Status) (results : List Datum) (k : ℕ) (t : Traffic) → GoOn t (replied why results k t)
@@ -289,16 +297,26 @@ from-call P a target operation args at_once t numbered holds = record {
     new k d true is = inr (subst P (cc is) holds)
     new k d false is = inl (ap is_some is)
 
--- 4. Around an event at a node
+-- 4. Around an event at a node: besides, the calls stay numbered
 
-pub on-around : (n : ℕ) (t new : Traffic) → GoOn t new → CallsGoOn n t new
-on-around n t new a = record { goes = a.goes; comes = λ k d is. inl (a.came k (ap is_some is)) }
+pub record Around (n : ℕ) (t new : Traffic) : Type 0 where
+  pub calls : CallsGoOn n t new
+  pub numbered : AreNumbered 1 t.calls → AreNumbered 1 new.calls
+
+pub on-around : (n : ℕ) (t new : Traffic) → GoOn t new → Around n t new
+on-around n t new a = record {
+  calls = record { goes = a.goes; comes = λ k d is. inl (a.came k (ap is_some is)) };
+  numbered = a.numbered;
+}
 
 pub around-call : (u : Uid) (p : ℕ) (target : Cap) (operation : List ℕ) (args : List Datum) (at_once : Option Status) (t : Traffic)
-    → AreNumbered 1 t.calls → CallsGoOn u.node t (with_call (next_call t) (Process u p) target operation args at_once t)
+    → AreNumbered 1 t.calls → Around u.node t (with_call (next_call t) (Process u p) target operation args at_once t)
 around-call u p target operation args at_once t numbered =
     let x = from-call (IsNewFrom u.node) (Process u p) target operation args at_once t numbered (fresh at_once) in
-    record { goes = x.goes; comes = x.comes }
+    record {
+      calls = record { goes = x.goes; comes = x.comes };
+      numbered = λ h. numbered-more t.calls h (new_call (Process u p) target operation args at_once);
+    }
   where
     fresh : (o : Option Status) → IsNewFrom u.node (new_call (Process u p) target operation args o)
     fresh None = record { uid = u; process = p; asker = refl; of_node = refl; place = inl refl }

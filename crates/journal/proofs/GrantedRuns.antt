@@ -1,8 +1,9 @@
 -- In every history of a script that writes out no capabilities, each entry uses only what was granted before it.
-use Rattle.std.proofs.Common.{◌≡◌, inl, ◌==◌, ℕ, Bool, true, false, cond, ◌&&◌, List, [], ◌∷◌, ◌++◌, map, Option, None, Some, Result, Ok, Err, is_some, refl, sym, ◌∙◌, ap, subst}
+use Rattle.std.proofs.Common.{◌≡◌, inl, ◌==◌, ℕ, Bool, true, false, cond, ◌&&◌, T, List, [], ◌∷◌, ◌++◌, map, Option, None, Some, Result, Ok, Err, is_some, refl, sym, ◌∙◌, ap, subst}
 use Rattle.std.specs.Prelude.{IsSomeAnd, IfSome, codes}
 use Rattle.std.specs.List.{filter_map, cons_option}
 use Rattle.std.specs.Ordering.{nat_cmp, eq_by_cmp}
+use Rattle.std.specs.FinMap.Entries.{is_sorted}
 use Rattle.capability.specs.declared.Uid.{Uid}
 use Rattle.capability.specs.declared.Cap.{Cap}
 use Rattle.capability.specs.Capability.{full, restricted}
@@ -18,18 +19,21 @@ use Rattle.eden_model.specs.declared.Asker.{Asker}
 use Rattle.eden_model.specs.declared.Asker.TheVariants.{Shell, Eject as Process}
 use Rattle.eden_model.specs.Traffic.{Call, call_at, answered, shell_name, processes_of, broken_by_node, broken_by_link, without_link}
 use Rattle.epl_syntax.specs.declared.effect.Answer.TheVariants.{Reply as Told}
-use Rattle.epl_syntax.specs.declared.types.Edentype.{Edentype}
-use Rattle.epl_syntax.specs.Meaning.{turn, type_of, first_values}
+use Rattle.epl_syntax.specs.Edentype.{Edentype}
+use Rattle.epl_syntax.specs.Meaning.{Turned, type_of, first_values}
 use Rattle.passive_store.specs.Kept.{Layout}
 use Rattle.journal.specs.declared.command.Command.{Command}
 use Rattle.journal.specs.declared.command.Command.TheVariants as command
 use Rattle.journal.specs.declared.event.Key.{Key}
 use Rattle.journal.specs.declared.event.Event.{Event}
 use Rattle.journal.specs.declared.event.Event.TheVariants as event
+use Rattle.journal.specs.declared.event.Shown.{Shown}
+use Rattle.journal.specs.declared.event.Shown.TheVariants as shown
 use Rattle.journal.specs.declared.event.StartEnd.TheVariants as start_end
 use Rattle.journal.specs.declared.event.RequestEnd.TheVariants as end
 use Rattle.journal.specs.declared.event.Entry.{Entry}
-use Rattle.journal.specs.World.{World, Node, Eject, Active, Task, Meaning, capability, nothing, node_at, eject_at, at_node, site_of, reaches}
+use Rattle.journal.specs.Processes.{turn_of}
+use Rattle.journal.specs.World.{World, Node, Eject, Active, Meaning, capability, nothing, node_at, eject_at, at_node, site_of, reaches}
 use Rattle.journal.specs.Ejects.{fresh, tells, born}
 use Rattle.journal.specs.Deliveries.{AllowsReply, meaning_of_reply}
 use Rattle.journal.specs.Crashes.{tells_each, linked}
@@ -39,12 +43,14 @@ use Rattle.journal.specs.Step.{AllowsInTurn, AllowsEvent, Allows, next, after_tu
 use Rattle.journal.specs.Run.{Step, AllowsLookUp, lookup_args, looked_up, beginning}
 use Rattle.journal.specs.Opening.{found_in, node_of, node_from, passive, passive_entry}
 use Rattle.journal.specs.LegalRun.{numbered, images, opening_world}
-use Rattle.journal.specs.Granted.{effect_uses, kept_settled, Holder, the_shell, eject, holder_of, same_holder, grants, granted_to, granted, kept_after_pick, stored_caps, uses, turn_uses, active_uses, AllBelow, AllGranted, is_ok, cap_meant}
+use Rattle.journal.specs.Granted.{Grant, effect_uses, kept_settled, Holder, the_shell, eject, holder_of, same_holder, grants, granted_to, granted, kept_after_pick, stored_caps, uses, turn_uses, active_uses, IsBelowOne, AllBelow, AllGranted, is_ok, cap_meant}
 use Rattle.journal.specs.Laws.{WritesNone, WriteNone, OnlyGrantedAreUsed}
 use Rattle.journal.proofs.Frame.{only-at_node}
 use Rattle.journal.proofs.Runs.{step, IsNamed, EachOf, of-booting, each-step, world-booting, nodes-looked_up}
-use Rattle.journal.proofs.EveryNode.{IsAt, all-next, all-same_nodes}
-use Rattle.journal.proofs.Held.{below-more, below-later, turn-uses, vars_caps, Holds, Brings, kept-holds}
+use Rattle.journal.proofs.EveryNode.{IsAt, all-next_by, all-same_nodes}
+use Rattle.journal.proofs.Ordered.{order-passive}
+use Rattle.journal.proofs.NoUidTwice.{in-order}
+use Rattle.journal.proofs.Held.{below-later, Has, EntryHas, entry-more, AskerNamed, ShownNamed, turn-left, effect-uses, Holds, Brings, kept-holds}
 use Rattle.journal.proofs.ShellHolds.{NamesHold, meaning_in, meant_caps, names-more, names-with, same-text, named-held, cap-held, restricted-held, args-held, shell-uses}
 
 -- what is granted to a holder in a step
@@ -223,71 +229,168 @@ path-caps (c ∷ cs) D = tt
 
 -- 3. What Ejects have
 
--- what a step grants an Eject that it activates
+-- D names what these grants give to Ejects
+abbrev GrantNamed : (Uid → List Cap) → Holder → List Cap → Type 0
+GrantNamed D the_shell cs = Unit {0}
+GrantNamed D (eject u) cs = AllBelow cs (D u)
+
+abbrev GrantsNamed : (Uid → List Cap) → List Grant → Type 0
+GrantsNamed D [] = Unit {0}
+GrantsNamed D (g ∷ gs) = GrantNamed D g.0 g.1 × GrantsNamed D gs
+
 self-holder : (u : Uid) → same_holder (eject u) (eject u) ≡ true
 self-holder u = (eq_by_cmp_equiv uid_cmp_total).refl u
 
-brings-at : (past : List Step) (w : World) (ent : Entry) (later : World) (ev : Event) (n : ℕ) (it : Node) → node_at w n ≡ Some it → IsAt ev n
-    → Brings (site_of w n it) ev (λ u. granted (eject u) past ++ granted_to (eject u) (grants (step w ent later) ev))
-brings-at past w ent later (event.Activate v start_end.Ok p) n it at place = λ bytes is. below-later (stored_caps bytes) (granted (eject v) past) _
-    (subst (λ b. AllBelow (stored_caps bytes) (cond b ((full v ∷ with_item (kept_after_pick w v (event.Activate v start_end.Ok p)) stored_caps []) ++ []) [])) (sym (self-holder v))
-    (subst (λ o. AllBelow (stored_caps bytes) ((full v ∷ with_item o stored_caps []) ++ [])) (sym (kept bytes is)) (below-later (stored_caps bytes) (full v ∷ []) (stored_caps bytes ++ []) (itself (stored_caps bytes) []))))
+grants-named : (D : Uid → List Cap) (gs : List Grant)
+    → ((u : Uid) (cs : List Cap) → AllBelow cs (granted_to (eject u) gs) → AllBelow cs (D u))
+    → GrantsNamed D gs
+grants-named D [] named = tt
+grants-named D (g ∷ gs) named = (first g.0 refl, grants-named D gs (λ u cs h. named u cs (later u cs (same_holder (eject u) g.0) h)))
   where
-    kept : (bytes : List ℕ) → kept_settled v p (site_of w n it) ≡ Some bytes → kept_after_pick w v (event.Activate v start_end.Ok p) ≡ Some bytes
-    kept bytes is = ap (λ m. with_item (with_item (node_at w m) (λ jt. Some (site_of w m jt)) None) (λ s. kept_settled v p s) None) place ∙ (ap (λ o. with_item (with_item o (λ jt. Some (site_of w n jt)) None) (λ s. kept_settled v p s) None) at ∙ is)
+    first : (who : Holder) → g.0 ≡ who → GrantNamed D who g.1
+    first the_shell is = tt
+    first (eject u) is = named u g.1 (subst (λ b. AllBelow g.1 (cond b (g.1 ++ granted_to (eject u) gs) (granted_to (eject u) gs)))
+        (sym (ap (same_holder (eject u)) is ∙ self-holder u)) (itself g.1 (granted_to (eject u) gs)))
+
+    later : (u : Uid) (cs : List Cap) (b : Bool) → AllBelow cs (granted_to (eject u) gs)
+        → AllBelow cs (cond b (g.1 ++ granted_to (eject u) gs) (granted_to (eject u) gs))
+    later u cs true h = below-later cs g.1 (granted_to (eject u) gs) h
+    later u cs false h = h
+
+-- what an Eject was granted before a step and in it
+abbrev Now : List Step → Step → Event → Uid → List Cap
+Now past s ev u = granted (eject u) past ++ granted_to (eject u) (grants s ev)
+
+now-named : (past : List Step) (s : Step) (ev : Event) → GrantsNamed (Now past s ev) (grants s ev)
+now-named past s ev = grants-named (Now past s ev) (grants s ev) (λ u cs h. below-later cs (granted (eject u) past) _ h)
+
+-- a reply with results grants them to the process that asked
+reply-by : (D : Uid → List Cap) (a : Asker) (why : Status) (values : List Datum)
+    → GrantsNamed D (cond (is_ok why && true) ((holder_of a, caps_of values) ∷ []) []) → AskerNamed D a why values
+reply-by D (Shell name) why values named = tt
+reply-by D (Process u p) status.Ok values named = named.0
+reply-by D (Process u p) _ values named = tt
+
+reply-named : (D : Uid → List Cap) (why : Status) (c : Call) (values : List Datum) → c.open_ ≡ true
+    → GrantsNamed D (cond (is_ok why && c.open_) ((holder_of c.asker, caps_of values) ∷ []) []) → AskerNamed D c.asker why values
+reply-named D why c values still named =
+    reply-by D c.asker why values (subst (λ b. GrantsNamed D (cond (is_ok why && b)
+    ((holder_of c.asker, caps_of values) ∷ []) [])) still named)
+
+shown-named : (D : Uid → List Cap) (s : Step) (v : Uid) (p : ℕ) (said : Shown) → GrantsNamed D (grants s (event.Process v p said))
+    → ShownNamed D v said
+shown-named D s v p (shown.Created new) named = (named.0.0, named.1.0.0)
+shown-named D s v p _ named = tt
+
+brings-at : (past : List Step) (w : World) (ent : Entry) (later : World) (ev : Event) (n : ℕ) (it : Node) → node_at w n ≡ Some it → IsAt ev n
+    → Brings (site_of w n it) ev (Now past (step w ent later) ev)
+brings-at past w ent later (event.Activate v start_end.Ok p) n it at place = (
+  x.0.0,
+  λ bytes is.
+      subst (λ o. AllBelow (with_item o stored_caps []) (D v)) (kept bytes is) x.0.1,
+)
+  where
+    ev : Event
+    ev = event.Activate v start_end.Ok p
+
+    D : Uid → List Cap
+    D = Now past (step w ent later) ev
+
+    x : GrantsNamed D (grants (step w ent later) ev)
+    x = now-named past (step w ent later) ev
+
+    kept : (bytes : List ℕ) → kept_settled v p (site_of w n it) ≡ Some bytes → kept_after_pick w v ev ≡ Some bytes
+    kept bytes is = ap (λ m. with_item (with_item (node_at w m) (λ jt. Some (site_of w m jt)) None) (λ s. kept_settled v p s) None) place
+        ∙ (ap (λ o. with_item (with_item o (λ jt. Some (site_of w n jt)) None) (λ s. kept_settled v p s) None) at ∙ is)
 brings-at past w ent later (event.Activate v start_end.Gone p) n it at place = tt
 brings-at past w ent later (event.Activate v start_end.Fault p) n it at place = tt
 brings-at past w ent later (event.Activate v start_end.Damaged p) n it at place = tt
 brings-at past w ent later (event.Activate v start_end.Stop p) n it at place = tt
+brings-at past w ent later (event.Start k v p) n it at place = λ c is.
+    let D = Now past (step w ent later) (event.Start k v p) in
+    subst (λ o. AllBelow (with_item o (λ (c : Call). caps_of c.args) []) (D v)) is (now-named past (step w ent later) (event.Start k v p)).0
+brings-at past w ent later (event.Reply k a b name why values) n it at place = λ c is still.
+    let D = Now past (step w ent later) (event.Reply k a b name why values) in
+    reply-named D why c values still
+    (subst (λ o. GrantsNamed D (with_item o (λ (c : Call). cond (is_ok why && c.open_)
+    ((holder_of c.asker, caps_of values) ∷ []) []) [])) is
+    (now-named past (step w ent later) (event.Reply k a b name why values)))
+brings-at past w ent later (event.Process v p said) n it at place =
+    shown-named (Now past (step w ent later) (event.Process v p said)) (step w ent later) v p said
+    (now-named past (step w ent later) (event.Process v p said))
 brings-at past w ent later _ n it at place = tt
+
+-- a creation grants the new Eject its own capability
+made-at : (past : List Step) (w : World) (ent : Entry) (later : World) (ev : Event) (u : Uid) (name : List ℕ) (why : Status)
+    → ev ≡ event.Made name why (Some u) → IsBelowOne (full u) (Now past (step w ent later) ev u)
+made-at past w ent later ev u name why is = subst (λ e. IsBelowOne (full u) (Now past (step w ent later) e u)) (sym is)
+    (now-named past (step w ent later) (event.Made name why (Some u))).1.0.0
 
 -- each Eject of each node has only what it was granted
 abbrev EjectsHold : List Step → World → Type 0
 EjectsHold past w = (n : ℕ) (it : Node) → node_at w n ≡ Some it → Holds n (λ u. granted (eject u) past) it.ejects
 
 -- one without an active part has nothing
-active-only : (D : List Cap) (o : Option Eject) → AllBelow (vars_caps o) D → AllBelow (vars_caps o) (cond (with_item o (λ e. is_some e.active) false) D [])
-active-only D None h = tt
-active-only D (Some e) h = go e.active h
+active-only : (u : Uid) (D : List Cap) (o : Option Eject) → EntryHas u D o
+    → EntryHas u (cond (with_item o (λ e. is_some e.active) false) D []) o
+active-only u D None h = tt
+active-only u D (Some e) h = go e.active h
   where
-    go : (a : Option Active) → AllBelow (with_item a (λ it. caps_of it.vars) []) D → AllBelow (with_item a (λ it. caps_of it.vars) []) (cond (is_some a) D [])
+    go : (a : Option Active) → IfSome a (Has u D) → IfSome a (Has u (cond (is_some a) D []))
     go None x = tt
     go (Some it) x = x
 
-granted-now : (past : List Step) (s : Step) → ((n : ℕ) (it : Node) → node_at s.later n ≡ Some it → Holds n (λ u. granted (eject u) past ++ new_to (eject u) s) it.ejects) → EjectsHold (s ∷ past) s.later
+granted-now : (past : List Step) (s : Step)
+    → ((n : ℕ) (it : Node) → node_at s.later n ≡ Some it → Holds n (λ u. granted (eject u) past ++ new_to (eject u) s) it.ejects)
+    → EjectsHold (s ∷ past) s.later
 granted-now past s all n it at = record {
-  at = λ u number. subst (λ o. AllBelow (vars_caps (value_at uid_cmp u it.ejects)) (cond (with_item o (λ e. is_some e.active) false) (granted (eject u) past ++ new_to (eject u) s) []))
-      (sym (here u number)) (active-only (granted (eject u) past ++ new_to (eject u) s) (value_at uid_cmp u it.ejects) ((all n it at).at u number));
+  in_order = (all n it at).in_order;
+  at = λ u number. subst (λ o. EntryHas u (cond (with_item o (λ e. is_some e.active) false)
+      (granted (eject u) past ++ new_to (eject u) s) [])
+      (value_at uid_cmp u it.ejects)) (sym (here u number))
+      (active-only u (granted (eject u) past ++ new_to (eject u) s) (value_at uid_cmp u it.ejects) ((all n it at).at u number));
 }
   where
     here : (u : Uid) → u.node ≡ n → eject_at s.later u ≡ value_at uid_cmp u it.ejects
     here u number = ap (λ o. with_item o (λ (jt : Node). value_at uid_cmp u jt.ejects) None) (ap (node_at s.later) number ∙ at)
 
-ejects-more : (past : List Step) (w : World) (s : Step) → EjectsHold past w → (n : ℕ) (it : Node) → node_at w n ≡ Some it → Holds n (λ u. granted (eject u) past ++ new_to (eject u) s) it.ejects
-ejects-more past w s all n it at = record { at = λ u number. below-more (vars_caps (value_at uid_cmp u it.ejects)) (granted (eject u) past) (new_to (eject u) s) ((all n it at).at u number) }
+ejects-more : (past : List Step) (w : World) (s : Step) → EjectsHold past w → (n : ℕ) (it : Node) → node_at w n ≡ Some it
+    → Holds n (λ u. granted (eject u) past ++ new_to (eject u) s) it.ejects
+ejects-more past w s all n it at = record {
+  in_order = (all n it at).in_order;
+  at = λ u number. entry-more u (granted (eject u) past) (new_to (eject u) s) (value_at uid_cmp u it.ejects) ((all n it at).at u number);
+}
 
-ejects-next : (past : List Step) (w : World) (c : Option Command) (e : Entry) → Allows w c e → EjectsHold past w → EjectsHold (step w e (next w c e) ∷ past) (next w c e)
+ejects-next : (past : List Step) (w : World) (c : Option Command) (e : Entry) → Allows w c e → EjectsHold past w
+    → EjectsHold (step w e (next w c e) ∷ past) (next w c e)
 ejects-next past w c e allowed all = granted-now past (step w e (next w c e))
-    (all-next (λ n it. Holds n (λ u. granted (eject u) past ++ new_to (eject u) (step w e (next w c e))) it.ejects) w c e
-    (kept-holds (λ u. granted (eject u) past ++ new_to (eject u) (step w e (next w c e))) w e.event (brings-at past w e (next w c e) e.event)) allowed (ejects-more past w (step w e (next w c e)) all))
+    (all-next_by (λ n it. Holds n (λ u. granted (eject u) past ++ new_to (eject u) (step w e (next w c e))) it.ejects) w c e
+    (kept-holds (λ u. granted (eject u) past ++ new_to (eject u) (step w e (next w c e))) w e.event
+    (brings-at past w e (next w c e) e.event) (made-at past w e (next w c e) e.event)) allowed
+    (ejects-more past w (step w e (next w c e)) all))
 
 process-uses : (past : List Step) (w : World) (u : Uid) (p : ℕ) → EjectsHold past w → AllGranted (turn_uses w u p) past
 process-uses past w u p all = by_node (node_at w u.node) refl
   where
-    by_task : (it : Active) → AllBelow (caps_of it.vars) (granted (eject u) past) → (o : Option Task)
-        → AllGranted (with_item (with_item o (λ t. Some (turn it.kind it.vars t.rest t.answer u)) None) (λ t. effect_uses u it.kind t.vars t.effect) []) past
-    by_task it h None = tt
-    by_task it h (Some t) = turn-uses it.kind it.vars t.rest t.answer u past h
+    by_turn : (it : Active) → Has u (granted (eject u) past) it → (o : Option Turned) → turn_of u it p ≡ o
+        → AllGranted (with_item o (λ t. effect_uses u it.kind t.vars t.effect) []) past
+    by_turn it h None is = tt
+    by_turn it h (Some t) is = let left = turn-left u (granted (eject u) past) it p t is h in
+        effect-uses u it.kind t.vars t.effect past left.vars left.effect
 
-    by_active : (a : Option Active) → AllBelow (with_item a (λ it. caps_of it.vars) []) (granted (eject u) past) → AllGranted (with_item a (λ it. active_uses u p it) []) past
+    by_active : (a : Option Active) → IfSome a (Has u (granted (eject u) past))
+        → AllGranted (with_item a (λ it. active_uses u p it) []) past
     by_active None h = tt
-    by_active (Some it) h = by_task it h (value_at nat_cmp p it.tasks)
+    by_active (Some it) h = by_turn it h (turn_of u it p) refl
 
-    by_eject : (o : Option Eject) → AllBelow (vars_caps o) (granted (eject u) past) → AllGranted (with_item o (λ e. with_item e.active (λ it. active_uses u p it) []) []) past
+    by_eject : (o : Option Eject) → EntryHas u (granted (eject u) past) o
+        → AllGranted (with_item o (λ e. with_item e.active (λ it. active_uses u p it) []) []) past
     by_eject None h = tt
     by_eject (Some e) h = by_active e.active h
 
-    by_node : (o : Option Node) → node_at w u.node ≡ o → AllGranted (with_item (with_item (node_at w u.node) (λ it. value_at uid_cmp u it.ejects) None) (λ e. with_item e.active (λ it. active_uses u p it) []) []) past
+    by_node : (o : Option Node) → node_at w u.node ≡ o
+        → AllGranted (with_item (with_item (node_at w u.node) (λ it. value_at uid_cmp u it.ejects) None)
+        (λ e. with_item e.active (λ it. active_uses u p it) []) []) past
     by_node None at = rw at tt
     by_node (Some it) at = rw at (by_eject (value_at uid_cmp u it.ejects) ((all u.node it at).at u refl))
 
@@ -330,28 +433,36 @@ ejects-looked_up past w later ent same all = granted-now past (step w ent later)
 
 -- 5. Every history
 
-passive-caps : (u : Uid) (kept : List (Uid × List ℕ)) → vars_caps (value_at uid_cmp u (filter_map passive_entry kept)) ≡ []
-passive-caps u [] = refl
-passive-caps u (e ∷ es) = go (e.0.serial == 0) (passive-caps u es)
+passive-has : (u : Uid) (D : List Cap) (kept : List (Uid × List ℕ)) → EntryHas u D (value_at uid_cmp u (filter_map passive_entry kept))
+passive-has u D [] = tt
+passive-has u D (e ∷ es) = go (e.0.serial == 0) (passive-has u D es)
   where
-    found : (b : Bool) → vars_caps (value_at uid_cmp u (filter_map passive_entry es)) ≡ [] → vars_caps (cond b (Some (passive e.1)) (value_at uid_cmp u (filter_map passive_entry es))) ≡ []
-    found true h = refl
+    found : (b : Bool) → EntryHas u D (value_at uid_cmp u (filter_map passive_entry es))
+        → EntryHas u D (cond b (Some (passive e.1)) (value_at uid_cmp u (filter_map passive_entry es)))
+    found true h = tt
     found false h = h
 
-    go : (skipped : Bool) → vars_caps (value_at uid_cmp u (filter_map passive_entry es)) ≡ [] → vars_caps (value_at uid_cmp u (cons_option (cond skipped None (Some (e.0, passive e.1))) (filter_map passive_entry es))) ≡ []
+    go : (skipped : Bool) → EntryHas u D (value_at uid_cmp u (filter_map passive_entry es))
+        → EntryHas u D (value_at uid_cmp u (cons_option (cond skipped None (Some (e.0, passive e.1))) (filter_map passive_entry es)))
     go true h = h
     go false h = found (eq_by_cmp uid_cmp u e.0) h
 
-nothing-held : (n m size : ℕ) (D : Uid → List Cap) (found : Result (List (Uid × List ℕ)) ℕ) (overfull : Bool) (ledger : List ℕ) → Holds m D (node_from n size found overfull ledger).ejects
-nothing-held n m size D (Ok kept) overfull ledger = record { at = λ u number. subst (λ cs. AllBelow cs (D u)) (sym (passive-caps u kept)) tt }
-nothing-held n m size D (Err place) overfull ledger = record { at = λ u number. tt }
+nothing-held : (n m size : ℕ) (D : Uid → List Cap) (found : Result (List (Uid × List ℕ)) ℕ) (overfull : Bool) (ledger : List ℕ)
+    → ((kept : List (Uid × List ℕ)) → found ≡ Ok kept → T (is_sorted uid_cmp kept))
+    → Holds m D (node_from n size found overfull ledger).ejects
+nothing-held n m size D (Ok kept) overfull ledger sorted = record {
+  in_order = order-passive kept (sorted kept refl);
+  at = λ u number. passive-has u (D u) kept;
+}
+nothing-held n m size D (Err place) overfull ledger sorted = record { in_order = tt; at = λ u number. tt }
 
 opening-holds : (layout : Layout) (D : Uid → List Cap) (images : List (ℕ × List ℕ)) (n : ℕ) (it : Node) → value_at nat_cmp n (map (λ d. (d.0, node_of layout d)) images) ≡ Some it → Holds n D it.ejects
 opening-holds layout D [] n it is = absurd (cc is)
 opening-holds layout D (d ∷ ds) n it is = go (eq_by_cmp nat_cmp n d.0) (opening-holds layout D ds n it) is
   where
     go : (b : Bool) → (value_at nat_cmp n (map (λ d. (d.0, node_of layout d)) ds) ≡ Some it → Holds n D it.ejects) → cond b (Some (node_of layout d)) (value_at nat_cmp n (map (λ d. (d.0, node_of layout d)) ds)) ≡ Some it → Holds n D it.ejects
-    go true later e = subst (λ o. IfSome o (λ (x : Node). Holds n D x.ejects)) e (nothing-held d.0 n _ D (found_in layout d.0 d.1) _ _)
+    go true later e = subst (λ o. IfSome o (λ (x : Node). Holds n D x.ejects)) e
+        (nothing-held d.0 n _ D (found_in layout d.0 d.1) _ _ (in-order layout d.0 d.1))
     go false later e = later e
 
 each-none : (cs : List Command) → WriteNone cs → EachOf WritesNone cs

@@ -1,5 +1,5 @@
 -- In every world of a history, each call that is held at an Eject is one that it runs or has queued.
-use Rattle.std.proofs.Common.{◌≡◌, ◌==◌, ◌+◌, ◌≤◌, ℕ, Bool, true, false, cond, ◌&&◌, ◌||◌, List, [], ◌∷◌, ◌++◌, map, Option, None, Some, Ok, is_some, refl, sym, ◌∙◌, ap, subst, arith, inl, inr}
+use Rattle.std.proofs.Common.{◌≡◌, ◌==◌, ◌+◌, ◌≤◌, ℕ, Bool, true, false, cond, ◌||◌, List, [], ◌∷◌, ◌++◌, Option, None, Some, Ok, is_some, refl, sym, ◌∙◌, ap, subst, arith, inl, inr}
 use Rattle.std.specs.Prelude.{IsSomeAnd, ◌⊎◌}
 use Rattle.std.proofs.lemmas.Cmp.{tied_itself}
 use Rattle.std.specs.Option.{option_map}
@@ -11,13 +11,13 @@ use Rattle.eden_value.specs.Datum.{Datum}
 use Rattle.eden_value.specs.declared.status.Status.{Status}
 use Rattle.eden_value.specs.declared.status.Status.TheVariants as status
 use Rattle.eden_model.specs.Map.{with_item, value_at, uid_cmp}
-use Rattle.eden_model.proofs.Laws.{eq-same}
 use Rattle.eden_model.proofs.Numbers.{same-true, same-self}
 use Rattle.eden_model.specs.Lines.{has}
 use Rattle.eden_model.specs.declared.Asker.TheVariants.{Shell}
 use Rattle.eden_model.specs.Traffic.{Traffic, Call, asked, held, call_at, changed_call, at_place, taken, asking_station, target_station, goes_by, goes, with_call, processes_of, broken_by_node, broken_by_link, without_link}
 use Rattle.epl_syntax.specs.declared.effect.Answer.TheVariants.{Reply as Told}
-use Rattle.epl_syntax.specs.declared.types.Edentype.{Edentype}
+use Rattle.epl_syntax.specs.Edentype.{Edentype}
+use Rattle.epl_syntax.specs.Rules.OfTypes.{KeepRules, HaveMonitors}
 use Rattle.epl_syntax.specs.Meaning.{type_of, first_values}
 use Rattle.passive_store.specs.declared.store.Pick.{Pick}
 use Rattle.passive_store.specs.Kept.{Layout}
@@ -33,31 +33,30 @@ use Rattle.journal.specs.declared.event.RequestEnd.TheVariants as end
 use Rattle.journal.specs.declared.event.Event.{Event}
 use Rattle.journal.specs.declared.event.Event.TheVariants as event
 use Rattle.journal.specs.declared.event.Entry.{Entry}
-use Rattle.journal.specs.World.{World, Site, Node, Eject, Active, node_at, site_of, site_at, at_node, eject_in, on_eject, on_traffic, reaches}
-use Rattle.journal.specs.Ejects.{with_active, tells, fresh, next_uid, born}
-use Rattle.journal.specs.Deliveries.{refusal, refusal_at, received, requested}
+use Rattle.journal.specs.World.{World, Site, Node, Eject, node_at, site_of, at_node, eject_in, on_eject, on_traffic, reaches}
+use Rattle.journal.specs.Ejects.{tells, fresh, next_uid, born}
+use Rattle.journal.specs.Deliveries.{refusal, refusal_at, received}
 use Rattle.journal.specs.Crashes.{tells_each, linked}
 use Rattle.journal.specs.References.{cap_at}
 use Rattle.journal.specs.Starts.{AllowsActivate}
-use Rattle.journal.specs.Commands.{AllowsCommand, AllowsAsked, asked as asks, asked_by, ready_call, born_as, made, type_name_of, held_by, restricted_by}
-use Rattle.journal.specs.Step.{AllowsAt, IsActiveAnd, AllowsInTurn, AllowsEvent, Allows, next, after_turn, after_command, happened, at_site, stopped_at, site_turn, clocked, counted, key_of}
+use Rattle.journal.specs.Commands.{AllowsCommand, asked as asks, asked_by, ready_call, born_as, made, type_name_of, held_by, restricted_by}
+use Rattle.journal.specs.Step.{AllowsAt, AllowsInTurn, AllowsEvent, Allows, next, after_turn, after_command, happened, at_site, stopped_at, site_turn, clocked, counted, key_of}
 use Rattle.journal.specs.Run.{AllowsLookUp, looked_up, beginning}
 use Rattle.journal.specs.Standing.{DiskRun}
 use Rattle.journal.specs.LegalRun.{AreHandedIn, opening_world, last_world}
 use Rattle.journal.specs.Laws.{Begins}
-use Rattle.journal.specs.Sites.{IsManned, runs_of, work_of, active_in, IsHeldAt, Everywhere, HoldsItsWork}
+use Rattle.journal.specs.Sites.{runs_of, work_of, active_in, IsHeldAt, Everywhere, HoldsItsWork}
 use Rattle.journal.proofs.Frame.{node-at_node, after_at, eject-on_eject}
 use Rattle.journal.proofs.Lifts.{traffic-after}
 use Rattle.journal.proofs.SafeRuns.{same-number}
 use Rattle.journal.proofs.EntryLists.{first-passes}
-use Rattle.journal.proofs.Runs.{Any, of-any, end-keeps, world-booting, nodes-looked_up}
+use Rattle.journal.proofs.Runs.{Any, of-any, end-keeps, world-booting}
 use Rattle.journal.proofs.EveryNode.{IsNext, at-its-site, made-next, all-clocked}
 use Rattle.journal.proofs.UidLaw.{fit-on_eject}
-use Rattle.journal.proofs.Fits.{times, queued_in, times_in}
+use Rattle.journal.proofs.Fits.{times, times_in}
 use Rattle.journal.proofs.Times.{times-append, call-changed}
-use Rattle.journal.proofs.SiteTurns.{IsNew}
 use Rattle.journal.proofs.SiteWorlds.{at-none}
-use Rattle.journal.proofs.SiteRuns.{KnownWorld, SiteWorld, new-by, both-true, on-call, site-next, site-looked_up, site-opening}
+use Rattle.journal.proofs.SiteRuns.{KnownWorld, SiteWorld, new-by, both-true, on-call, effects-fit, site-next, site-looked_up, site-opening}
 use Rattle.journal.proofs.HeldWork.{Lets, lets-without_link, lets-call, lets-received, Part, part-born, part-process_turn, part-refused, part-heard, part-start, part-crashed, part-store_turn, part-activation, part-boot, part-told}
 
 -- 1. A site, and what an event leaves elsewhere
@@ -275,7 +274,8 @@ have-turn H w (event.Start k v p) site allowed all = have-part v.node (site_turn
     (at-its-site w v.node (λ s. AllowsAt s (event.Start k v p)) it is allowed) (λ e at j.
     subst (λ o. times_in j o ≤ 1) at (((site.sites v.node it is).fits v refl).once j)) h) all
 have-turn H w (event.Process v p said) site allowed all = have-part v.node (site_turn (reaches w v.node) (event.Process v p said)) w
-    (λ it is h. part-process_turn (reaches w v.node) v p (site_of w v.node it) (site_of w v.node it)
+    (λ it is h. part-process_turn w.types (reaches w v.node) v p (site_of w v.node it) (site_of w v.node it)
+    (effects-fit H w site v.node it is v p)
     (λ e at. (site.known.sound.nodes v.node it is).manned v e at) (λ f.
     new-by (on_eject v f (site_of w v.node it)) (fit-on_eject v f (site_of w v.node it) (site.known.fit v.node it is))) h) all
 have-turn H w (event.Store v clock end.Part p) site allowed all = have-store w v clock end.Part p all
@@ -413,10 +413,10 @@ holds s h u k at on = go (eject_in s u) (h.at u k at on)
     go (Some e) some = has-times k (work_of e) (omega (arith, some, times-append k (runs_of e.active) e.queued))
 
 pub held-calls-are-work : (layout : Layout) (script : Script) (disks : List DiskRun) (history : List Entry) → IsLayout layout
-    → AreHandedIn layout disks → Begins layout script disks history
+    → AreHandedIn layout disks → KeepRules script.types → HaveMonitors script.types → Begins layout script disks history
     → Everywhere (λ n it. HoldsItsWork (site_of (last_world (opening_world layout script disks) script history) n it))
     (last_world (opening_world layout script disks) script history)
-held-calls-are-work layout script disks history lays fits begins n it is =
+held-calls-are-work layout script disks history lays fits rules monitors begins n it is =
     holds (site_of (last_world w script history) n it) (last.have n it is)
   where
     w : World
@@ -426,7 +426,7 @@ held-calls-are-work layout script disks history lays fits begins n it is =
     here n = is_some (node_at w n)
 
     opening : HeldWorld here w
-    opening = record { site = site-opening layout script disks lays fits; have = λ n it is. record { at = λ u k at on. absurd on } }
+    opening = record { site = site-opening layout script disks lays fits rules monitors; have = λ n it is. record { at = λ u k at on. absurd on } }
 
     last : HeldWorld here (last_world w script history)
     last = end-keeps Any (HeldWorld here) (record {

@@ -1,5 +1,5 @@
 -- Each call that is held at an Eject is one that it runs or has queued: what the parts of a turn keep of that.
-use Rattle.std.proofs.Common.{◌≡◌, ◌==◌, ◌+◌, ◌≤◌, ◌<◌, ℕ, nat_le, Bool, true, false, cond, not, ◌&&◌, ◌||◌, T, List, [], ◌∷◌, ◌++◌, map, Option, None, Some, is_some, Result, Ok, Err, length, refl, sym, ◌∙◌, ap, subst, arith}
+use Rattle.std.proofs.Common.{◌≡◌, ◌==◌, ◌+◌, ◌≤◌, ℕ, nat_le, Bool, true, false, cond, not, ◌&&◌, ◌||◌, T, List, [], ◌∷◌, ◌++◌, Option, None, Some, is_some, Result, Ok, Err, length, refl, sym, ◌∙◌, ap, subst, arith}
 use Rattle.std.specs.Prelude.{IsSomeAnd, IfSome}
 use Rattle.std.proofs.lemmas.Bool.{eq-eqb, eqb-true}
 use Rattle.std.proofs.lemmas.Cmp.{tied_itself}
@@ -31,10 +31,8 @@ use Rattle.epl_syntax.specs.declared.effect.Answer.{Answer}
 use Rattle.epl_syntax.specs.declared.effect.Answer.TheVariants.{Code, Reply as Told, Created as Made}
 use Rattle.epl_syntax.specs.declared.effect.Effect.{Effect}
 use Rattle.epl_syntax.specs.declared.effect.Effect.TheVariants as effect
-use Rattle.epl_syntax.specs.declared.types.Edentype.{Edentype}
-use Rattle.epl_syntax.specs.declared.types.Edentype.TheVariants.{Cell}
-use Rattle.epl_syntax.specs.Cell.{sets, gets, saves, saved, sleeps, kills, killed}
-use Rattle.epl_syntax.specs.Meaning.{Rest, Turned, cell, turn, rep_of, type_of, first_values, values_from}
+use Rattle.epl_syntax.specs.Edentype.{Edentype}
+use Rattle.epl_syntax.specs.Meaning.{Turned, rep_of, type_of, first_values, values_from}
 use Rattle.passive_store.specs.declared.store.Pick.{Pick}
 use Rattle.journal.specs.Change.{Change, body, removal, kept_of}
 use Rattle.journal.specs.declared.event.BootEnd.{BootEnd}
@@ -43,12 +41,12 @@ use Rattle.journal.specs.declared.event.StartEnd.{StartEnd}
 use Rattle.journal.specs.declared.event.StartEnd.TheVariants as start_end
 use Rattle.journal.specs.declared.event.RequestEnd.{RequestEnd}
 use Rattle.journal.specs.declared.event.RequestEnd.TheVariants as end
-use Rattle.journal.specs.World.{Task, Active, Eject, StoreRequest, Node, Site, eject_in, on_eject, on_node, on_traffic}
+use Rattle.journal.specs.World.{Active, Eject, StoreRequest, Node, Site, eject_in, on_eject, on_node, on_traffic}
 use Rattle.journal.specs.Ejects.{with_active, with_queued, on_active, on_crew, is_there, told, tells, without_requests, deactivated, turned_away, gone_if_unkept, fresh, next_uid, newborn, born}
 use Rattle.journal.specs.Deliveries.{misfit, requested, tells_asker, received, heard}
 use Rattle.journal.specs.Processes.{AllowsStart, invocation, turn_of, turned, serving, with_start, start, without_process, asks_store, answers, refused_at_once, waits_or_told, creates, checkpoints, effected, process_turn}
 use Rattle.journal.specs.Settling.{first_request, settled_eject, settled_node, settled, unsynced, written_with, to_settle}
-use Rattle.journal.specs.Crashes.{fallen, down, crashed}
+use Rattle.journal.specs.Crashes.{crashed}
 use Rattle.journal.specs.Stores.{Work, syncs, reads, unkept, without_room, calls, work_of, more_made, doubted, tells_code, request_ended, removed, stored, done, worked, store_turn}
 use Rattle.journal.specs.Starts.{start_of, misfits_answered, fits_at, awake_as, activated, start_settled, activation_turn}
 use Rattle.journal.specs.Boots.{booted_node, boot_turn}
@@ -58,12 +56,13 @@ use Rattle.journal.proofs.Frame.{eject-on_eject}
 use Rattle.journal.proofs.KeptTurns.{value-each}
 use Rattle.journal.proofs.Messages.{value-calls}
 use Rattle.journal.proofs.Manned.{sorted-waits, manned-turned}
-use Rattle.journal.proofs.Fits.{times, queued_in, times_in}
-use Rattle.journal.proofs.Times.{times-append, times-filter, times-gone, call-changed, call-more}
+use Rattle.journal.proofs.Fits.{times, times_in}
+use Rattle.journal.proofs.Times.{times-append, call-changed, call-more}
 use Rattle.journal.proofs.SiteChanges.{SameParts}
 use Rattle.journal.proofs.SiteCrews.{runs-set, runs-left, runs-held, by-held, serves_at, serves-with_waits}
 use Rattle.journal.proofs.SiteQueues.{runs-locked, runs-waited, runs-signalled}
 use Rattle.journal.proofs.SiteParts.{HasPart, eject-here}
+use Rattle.journal.proofs.Tasks.{FitsEffect, EffectFits}
 use Rattle.journal.proofs.SiteTurns.{IsNew}
 use Rattle.journal.proofs.SiteEvents.{startable-there}
 use Rattle.journal.proofs.SiteStores.{fits-replied, same-settled, active-started}
@@ -516,15 +515,10 @@ abbrev pub EndsAlone : Effect → Option Invocation → Type 0
 EndsAlone effect.End i = i ≡ None
 EndsAlone _ i = Unit {0}
 
-turn-alone : (t : Edentype) (vars : List Datum) (left : Rest) (answer : Answer) (u : Uid) (i : Option Invocation)
-    → EndsAlone (turn t vars left answer u).effect i
-turn-alone Cell vars (cell (sets n)) answer u i = tt
-turn-alone Cell vars (cell gets) answer u i = tt
-turn-alone Cell vars (cell saves) answer u i = tt
-turn-alone Cell vars (cell saved) answer u i = tt
-turn-alone Cell vars (cell sleeps) answer u i = tt
-turn-alone Cell vars (cell kills) answer u i = tt
-turn-alone Cell vars (cell killed) answer u i = tt
+ends-alone : (types : List Edentype) (i : Option Invocation) (e : Effect) → FitsEffect types (is_some i) e → EndsAlone e i
+ends-alone types None effect.End fits = refl
+ends-alone types (Some i) effect.End fits = absurd (cc fits)
+ends-alone types i _ fits = tt
 
 -- what is known of the active part whose process takes a turn
 abbrev Serves : Site → Uid → ℕ → Option Invocation → Type 0
@@ -575,22 +569,12 @@ part-effected reach v p i t vars (effect.Signal c) first s alone serves new h =
     part-crew v (signalled c) first s (λ crew. runs-signalled c crew) h
 part-effected reach v p i t vars effect.Yield first s alone serves new h = h
 
-pub part-process_turn : (reach : ℕ → Bool) (v : Uid) (p : ℕ) (first s : Site)
+pub part-process_turn : (types : List Edentype) (reach : ℕ → Bool) (v : Uid) (p : ℕ) (first s : Site) → EffectFits types s v p
     → ((e : Eject) → eject_in s v ≡ Some e → IfSome e.active IsManned) → ((f : Eject → Eject) → IsNew (on_eject v f s))
     → Part [] first s → Part [] first (process_turn reach v p s)
-part-process_turn reach v p first s manned new h = part-item first s (eject_in s v) _ h (λ e is.
+part-process_turn types reach v p first s fits manned new h = part-item first s (eject_in s v) _ h (λ e is.
     part-item first s e.active _ h (λ it is_it. part-item first s (turn_of v it p) _ h (λ t is_t. go e is it is_it t is_t)))
   where
-    alone : (it : Active) (t : Turned) → turn_of v it p ≡ Some t → EndsAlone t.effect (serving it p)
-    alone it t is_t = by_task (value_at nat_cmp p it.tasks) is_t
-      where
-        by_task : (o : Option Task) → with_item o (λ x. Some (turn it.kind it.vars x.rest x.answer v)) None ≡ Some t
-            → EndsAlone t.effect (serving it p)
-        by_task None bad = absurd (cc bad)
-        by_task (Some x) same = let equal : Some (turn it.kind it.vars x.rest x.answer v) ≡ Some t = same in
-            subst (λ o. IfSome o (λ y. EndsAlone y.effect (serving it p))) equal
-            (turn-alone it.kind it.vars x.rest x.answer v (serving it p))
-
     manned-at : (e : Eject) → eject_in s v ≡ Some e → (it : Active) → e.active ≡ Some it → IsManned it
     manned-at e is it is_it = subst (λ o. IfSome o IsManned) is_it (manned e is)
 
@@ -603,7 +587,7 @@ part-process_turn reach v p first s manned new h = part-item first s (eject_in s
     go : (e : Eject) → eject_in s v ≡ Some e → (it : Active) → e.active ≡ Some it → (t : Turned) → turn_of v it p ≡ Some t
         → Part [] first (effected reach v p (serving it p) it.kind t.vars t.effect (on_eject v (on_active (turned p t)) s))
     go e is it is_it t is_t = part-effected reach v p (serving it p) it.kind t.vars t.effect first (on_eject v (on_active (turned p t)) s)
-        (alone it t is_t) (serves e is it is_it t) (new (on_active (turned p t)))
+        (ends-alone types (serving it p) t.effect (fits e is it is_it t is_t)) (serves e is it is_it t) (new (on_active (turned p t)))
         (part-on_active v (turned p t) [] first s (λ x at k. omega arith) h)
 
 -- 6. Deliveries, starts and crashes

@@ -1,23 +1,27 @@
 -- The processes of an active part stand in ascending order of their numbers, and each has its task; every change keeps that.
-use Rattle.std.proofs.Common.{◌≡◌, ◌==◌, ◌-◌, ◌+◌, ℕ, zero, suc, Bool, true, false, cond, not, ◌&&◌, T, List, [], ◌∷◌, ◌++◌, map, length, Option, None, Some, is_some, slice_get, refl, sym, ◌∙◌, ap, subst}
+use Rattle.std.proofs.Common.{◌≡◌, ◌==◌, ◌-◌, ◌+◌, ◌<◌, arith, ℕ, zero, suc, Bool, true, false, cond, not, ◌&&◌, T, List, [], ◌∷◌, ◌++◌, map, length, Option, None, Some, is_some, slice_get, refl, sym, ◌∙◌, ap, subst}
 use Rattle.std.specs.Option.{option_map}
 use Rattle.std.specs.Ordering.{nat_cmp, eq_by_cmp, is_lt}
-use Rattle.std.specs.Cmp.{nat_cmp_total}
+use Rattle.std.specs.declared.cmp.Ordering.TheVariants.{Less}
+use Rattle.std.specs.Cmp.{nat_cmp_total, nat_cmp_is}
 use Rattle.std.specs.FinMap.{nat_cmp-IsAntisymmetric}
 use Rattle.std.specs.FinMap.Entries.{is_sorted, below_all, is_sorted-put, is_sorted-where_key, find-put, find-where_key}
 use Rattle.eden_value.specs.Datum.{Datum}
 use Rattle.eden_model.specs.Map.{with_item, first, value_at, changed_at, where_key}
-use Rattle.eden_model.specs.Crew.{Waiting, nothing, outside, Process, Monitor, Crew, with_waits, set_waits, set_waits_of, set_monitor, set_condition, match_holder, locked_by, locked, left, waited, queued_at, signalled, least_free, is_held_by, leave_held, entry, condition}
+use Rattle.eden_model.specs.Crew.{Waiting, nothing, outside, Process, Monitor, Crew, with_waits, set_waits, set_waits_of, set_monitor, set_condition, match_holder, locked_by, locked, left, waited, queued_at, signalled, least_free, is_held_by, leave_held, declared_from, entry, condition}
 use Rattle.eden_model.specs.Traffic.{Traffic, Call}
 use Rattle.eden_model.proofs.Laws.{value-changed}
 use Rattle.epl_syntax.specs.declared.effect.Answer.{Answer}
-use Rattle.epl_syntax.specs.declared.types.Edentype.{Edentype}
-use Rattle.epl_syntax.specs.declared.types.Edentype.TheVariants.{Cell}
+use Rattle.epl_syntax.specs.Edentype.{Edentype}
+use Rattle.epl_syntax.specs.declared.types.Native.TheVariants as code
+use Rattle.epl_syntax.specs.Edentype.{native, declared as declared_type}
+use Rattle.epl_syntax.specs.Tree.{Process as Body}
+use Rattle.epl_syntax.specs.Turns.{process_left}
 use Rattle.epl_syntax.specs.declared.effect.Answer.TheVariants.{Go}
-use Rattle.epl_syntax.specs.Meaning.{Turned, begin}
+use Rattle.epl_syntax.specs.Meaning.{Rest, of_declared, Turned, begin}
 use Rattle.eden_value.specs.declared.status.Status.{Status}
 use Rattle.journal.specs.World.{Task, Active}
-use Rattle.journal.specs.Ejects.{on_crew, told, fresh}
+use Rattle.journal.specs.Ejects.{on_crew, told, fresh, tasks_from}
 use Rattle.journal.specs.Processes.{invocation, with_start, turned, without_process, waits_or_told}
 use Rattle.journal.specs.Sites.{IsManned}
 
@@ -147,7 +151,7 @@ manned-start traffic k p c it is m = record {
     go q true h = refl
     go q false h = m.tasked q h
 
-other-key : {X : Type 0} (p q : ℕ) (es : List (ℕ × X)) → value_at nat_cmp q (where_key nat_cmp (λ k. not (k == p)) es) ≡ cond (not (q == p)) (value_at nat_cmp q es) None
+pub other-key : {X : Type 0} (p q : ℕ) (es : List (ℕ × X)) → value_at nat_cmp q (where_key nat_cmp (λ k. not (k == p)) es) ≡ cond (not (q == p)) (value_at nat_cmp q es) None
 other-key p q es = find-where_key nat_cmp (λ k. not (k == p)) q (λ x same. ap (λ k. not (k == p)) (sym (nat_cmp-IsAntisymmetric q x same))) es
 
 -- a process that ends goes with its task
@@ -169,5 +173,35 @@ manned-without p it m = record {
 
 -- 3. A new active part: the declared processes have the declared tasks
 
+both : (a b : Bool) → T a → T b → T (a && b)
+both true b x y = y
+both false b x y = absurd x
+
+below-declared : (k n more : ℕ) → k < n → T (below_all nat_cmp k (declared_from n more))
+below-declared k n zero lt = tt
+below-declared k n (suc more) lt = both (is_lt (nat_cmp k n)) (below_all nat_cmp k (declared_from (n + 1) more)) (subst (λ o. T (is_lt o)) (nat_cmp_is k n Less lt) tt) (below-declared k (n + 1) more (omega (arith, lt)))
+
+sorted-declared : (n more : ℕ) → T (is_sorted nat_cmp (declared_from n more))
+sorted-declared n zero = tt
+sorted-declared n (suc more) = both (below_all nat_cmp n (declared_from (n + 1) more)) (is_sorted nat_cmp (declared_from (n + 1) more)) (below-declared n (n + 1) more (omega arith)) (sorted-declared (n + 1) more)
+
+tasked-declared : (k : ℕ) (ps : List Body) (p : ℕ) → is_some (value_at nat_cmp p (declared_from k (length ps))) ≡ true → is_some (value_at nat_cmp p (tasks_from k (map (λ q. of_declared (process_left q)) ps))) ≡ true
+tasked-declared k [] p is = is
+tasked-declared k (b ∷ ps) p is = go (eq_by_cmp nat_cmp p k) is (tasked-declared (k + 1) ps p)
+  where
+    go : (same : Bool) → is_some (cond same (Some (record { serves = None; waits = nothing })) (value_at nat_cmp p (declared_from (k + 1) (length ps)))) ≡ true
+        → (is_some (value_at nat_cmp p (declared_from (k + 1) (length ps))) ≡ true → is_some (value_at nat_cmp p (tasks_from (k + 1) (map (λ q. of_declared (process_left q)) ps))) ≡ true)
+        → is_some (cond same (Some (record { rest = of_declared (process_left b); answer = Go })) (value_at nat_cmp p (tasks_from (k + 1) (map (λ q. of_declared (process_left q)) ps)))) ≡ true
+    go true is more = refl
+    go false is more = more is
+
 pub manned-fresh : (t : Edentype) (vars : List Datum) → IsManned (fresh t vars)
-manned-fresh Cell vars = record { numbered = tt; tasked = λ p is. absurd (cc is) }
+manned-fresh (native code.Cell) vars = record { numbered = tt; tasked = λ p is. absurd (cc is) }
+manned-fresh (native code.Directory) vars = record { numbered = tt; tasked = λ p is. absurd (cc is) }
+manned-fresh (native code.Lines) vars = record { numbered = tt; tasked = λ p is. absurd (cc is) }
+manned-fresh (native code.Take) vars = record { numbered = tt; tasked = λ p is. absurd (cc is) }
+manned-fresh (native code.Skip) vars = record { numbered = tt; tasked = λ p is. absurd (cc is) }
+manned-fresh (native code.Only) vars = record { numbered = tt; tasked = λ p is. absurd (cc is) }
+manned-fresh (native code.Number) vars = record { numbered = tt; tasked = λ p is. absurd (cc is) }
+manned-fresh (native code.Sink) vars = record { numbered = tt; tasked = λ p is. absurd (cc is) }
+manned-fresh (declared_type t) vars = record { numbered = sorted-declared 1 (length t.processes); tasked = λ p is. tasked-declared 1 t.processes p is }

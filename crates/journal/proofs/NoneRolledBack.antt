@@ -14,7 +14,7 @@ use Rattle.epl_syntax.specs.declared.effect.Answer.TheVariants.{Reply as Told}
 use Rattle.eden_model.proofs.Laws.{eq-same, value-changed}
 use Rattle.std.specs.Cmp.{nat_cmp_total}
 use Rattle.eden_value.specs.declared.status.Status.{Status}
-use Rattle.epl_syntax.specs.declared.types.Edentype.{Edentype}
+use Rattle.epl_syntax.specs.Edentype.{Edentype}
 use Rattle.epl_syntax.specs.Meaning.{type_of, first_values}
 use Rattle.journal.specs.declared.command.Command.{Command}
 use Rattle.journal.specs.declared.command.Command.TheVariants as command

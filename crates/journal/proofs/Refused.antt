@@ -1,5 +1,5 @@
 -- Wrong entries that are not due.
-use Rattle.std.proofs.Common.{◌≡◌, ℕ, List, [], ◌∷◌, Option, None, Some, true, false, take, codes, arith, ap}
+use Rattle.std.proofs.Common.{◌≡◌, List, [], ◌∷◌, None, Some, true, take, codes, arith, ap}
 use Rattle.eden_value.specs.declared.status.Status.TheVariants as status
 use Rattle.eden_model.specs.Traffic.{answered}
 use Rattle.journal.specs.declared.event.Event.TheVariants as event
@@ -9,9 +9,9 @@ use Rattle.journal.specs.declared.event.StartEnd.TheVariants as start_end
 use Rattle.passive_store.specs.declared.store.Pick.TheVariants as pick
 use Rattle.eden_model.specs.Crew.{least_number}
 use Rattle.journal.specs.World.{at_node, on_eject, on_node, on_traffic}
-use Rattle.journal.specs.declared.event.Key.{Key}
 use Rattle.journal.specs.Run.{IsDue, beginning, end_of}
 use Rattle.journal.proofs.Scenes.{one_node, plain, on_disk, c_uid, int}
+use Rattle.journal.proofs.Wrong.{none-some, some-none, false-true, kind_of}
 use Rattle.journal.proofs.SetThenGet as set_get
 use Rattle.journal.proofs.CrashAfterSave as crash
 use Rattle.journal.proofs.StopLosesTheWrite as stop
@@ -19,24 +19,11 @@ use Rattle.journal.proofs.SaveAfterAFailedSave as fail
 use Rattle.journal.proofs.CallsAroundACrash as calls
 use Rattle.journal.proofs.OtherTurnsComeBetween as between
 
-none-some : {X : Type 0} {x : X} → None ≡ Some x → ⊥
-none-some e = absurd (cc)
-
-some-none : {X : Type 0} {x : X} → Some x ≡ None → ⊥
-some-none e = absurd (cc)
-
 nil-cons : {X : Type 0} {x : X} {xs : List X} → [] ≡ x ∷ xs → ⊥
 nil-cons e = absurd (cc)
 
 five-zero : answered status.Ok (int 5 ∷ []) ≡ answered status.Ok (int 0 ∷ []) → ⊥
 five-zero e = absurd (cc)
-
-abbrev kind_of : Option Key → ℕ
-kind_of None = 0
-kind_of (Some k) = k.kind
-
-false-true : false ≡ true → ⊥
-false-true e = absurd (cc)
 
 -- `go` ends with `quiet` although an invocation may start
 ends_early : IsDue (end_of (beginning one_node 1 set_get.commands) (take 4 set_get.history)) (plain event.Quiet) → ⊥

@@ -34,7 +34,7 @@ pub runs-set : (p : ℕ) (w : Waiting) (crew : Crew) → running (set_waits p w 
 runs-set p w crew = runs-with_waits p w crew.processes
 
 -- what does not tell who waits is the same after a monitor is left
-by-left : {X : Type 0} (g : List (ℕ × Process) → X) → ((p : ℕ) (w : Waiting) (es : List (ℕ × Process))
+pub by-left : {X : Type 0} (g : List (ℕ × Process) → X) → ((p : ℕ) (w : Waiting) (es : List (ℕ × Process))
     → g (map (with_waits p w) es) ≡ g es) → (m : ℕ) (crew : Crew) → g (left m crew).processes ≡ g crew.processes
 by-left {X = X} g same m crew = go (slice_get crew.monitors (m - 1))
   where

@@ -1,5 +1,5 @@
 -- Every turn at a site keeps it sound: a process's turn, deliveries, starts, activations, the store's turns, boots and crashes.
-use Rattle.std.proofs.Common.{◌≡◌, ◌==◌, ◌+◌, ◌≤◌, ◌<◌, ℕ, nat_lt, zero, suc, Bool, true, false, cond, not, List, [], ◌∷◌, ◌++◌, map, Option, None, Some, length, refl, sym, ◌∙◌, ap, subst, arith, inl, inr}
+use Rattle.std.proofs.Common.{◌≡◌, ◌==◌, ◌+◌, ◌≤◌, ◌<◌, ℕ, nat_lt, zero, suc, Bool, true, false, cond, not, List, [], ◌∷◌, ◌++◌, map, Option, None, Some, is_some, length, refl, sym, ◌∙◌, ap, subst, arith, inl, inr}
 use Rattle.std.specs.Prelude.{IsSomeAnd, IfSome, ◌⊎◌}
 use Rattle.std.specs.List.{filter, find}
 use Rattle.std.specs.Option.{option_map}
@@ -18,9 +18,9 @@ use Rattle.eden_model.specs.Traffic.{Traffic, Call, asked, held, answered, call_
 use Rattle.eden_model.specs.declared.Asker.{Asker}
 use Rattle.eden_model.specs.declared.Asker.TheVariants.{Shell, Eject as Asking}
 use Rattle.epl_syntax.specs.declared.effect.Answer.TheVariants.{Reply as Told}
-use Rattle.epl_syntax.specs.declared.types.Edentype.{Edentype}
-use Rattle.epl_syntax.specs.Meaning.{Turned, turn}
-use Rattle.journal.specs.World.{Active, Eject, Site, eject_in, on_eject, on_node, on_traffic, Task}
+use Rattle.epl_syntax.specs.Edentype.{Edentype}
+use Rattle.epl_syntax.specs.Meaning.{Turned}
+use Rattle.journal.specs.World.{Active, Eject, Site, eject_in, on_eject, on_node, on_traffic}
 use Rattle.journal.specs.Ejects.{with_active, on_active, tells}
 use Rattle.journal.specs.Deliveries.{requested, tells_asker, received, heard}
 use Rattle.journal.specs.Processes.{invocation, AllowsStart, with_start, start, AllowsTurn, worker_at, turn_of, turned, serving, effected, process_turn}
@@ -35,14 +35,19 @@ use Rattle.journal.proofs.Times.{times-append, times-filter, times-gone, Passes,
 use Rattle.journal.proofs.SiteChanges.{Claims, AddsNothing, nothing-sound, StaysSound, stays-same, stays-then, nothing-stays, stays-item, nothing-on_traffic, nothing-on_eject}
 use Rattle.journal.proofs.SiteCrews.{runs-started, laid-started, waits-put}
 use Rattle.journal.proofs.SiteParts.{nothing-on_active, nothing-tells, loose-waits, eject-here}
-use Rattle.journal.proofs.SiteTurns.{stays-effected, Plain, turn-plain, IsNew}
+use Rattle.journal.proofs.Tasks.{Ruling, EffectFits}
+use Rattle.journal.proofs.SiteTurns.{stays-effected, IsNew}
 
 -- 1. A turn of a process
 
-pub stays-process_turn : (reach : ℕ → Bool) (v : Uid) (p : ℕ) (said : Shown) (s : Site) → v.node ≡ s.number
-    → IsActiveAnd s v (λ e it. IsSomeAnd (worker_at it p) (λ q. AllowsTurn s v p said it q))
+pub ruling-on_eject : (types : List Edentype) (v : Uid) (f : Eject → Eject) (s : Site) → Ruling types s → Ruling types (on_eject v f s)
+unfolding on_eject
+ruling-on_eject types v f s ruled = ruled
+
+pub stays-process_turn : (types : List Edentype) (reach : ℕ → Bool) (v : Uid) (p : ℕ) (said : Shown) (s : Site) → v.node ≡ s.number
+    → EffectFits types s v p → Ruling types s → IsActiveAnd s v (λ e it. IsSomeAnd (worker_at it p) (λ q. AllowsTurn s v p said it q))
     → ((f : Eject → Eject) → IsNew (on_eject v f s)) → SoundSite s → StaysSound s (process_turn reach v p s)
-stays-process_turn reach v p said s here allowed new h = stays-item s (eject_in s v) _ h (λ e is.
+stays-process_turn types reach v p said s here fits ruled allowed new h = stays-item s (eject_in s v) _ h (λ e is.
     stays-item s e.active _ h (λ it is_it. stays-item s (turn_of v it p) _ h (λ t is_t. go e is it is_it t is_t)))
   where
     runs : (it : Active) (o : Option Process) → value_at nat_cmp p it.crew.processes ≡ o → IsSomeAnd o (λ q. AllowsTurn s v p said it q)
@@ -55,14 +60,6 @@ stays-process_turn reach v p said s here allowed new h = stays-item s (eject_in 
     allowed-at e is it is_it = subst (λ o. IsSomeAnd o (λ x. IsSomeAnd (worker_at x p) (λ q. AllowsTurn s v p said x q))) is_it
         (subst (λ o. IsSomeAnd o (λ y. IsSomeAnd y.active (λ x. IsSomeAnd (worker_at x p) (λ q. AllowsTurn s v p said x q)))) is allowed)
 
-    plain : (it : Active) (t : Turned) → turn_of v it p ≡ Some t → Plain t.effect
-    plain it t is_t = by_task (value_at nat_cmp p it.tasks) is_t
-      where
-        by_task : (o : Option Task) → with_item o (λ x. Some (turn it.kind it.vars x.rest x.answer v)) None ≡ Some t → Plain t.effect
-        by_task None bad = absurd (cc bad)
-        by_task (Some x) same = let equal : Some (turn it.kind it.vars x.rest x.answer v) ≡ Some t = same in
-            subst (λ o. IfSome o (λ y. Plain y.effect)) equal (turn-plain it.kind it.vars x.rest x.answer v)
-
     go : (e : Eject) → eject_in s v ≡ Some e → (it : Active) → e.active ≡ Some it → (t : Turned) → turn_of v it p ≡ Some t
         → StaysSound s (effected reach v p (serving it p) it.kind t.vars t.effect (on_eject v (on_active (turned p t)) s))
     go e is it is_it t is_t =
@@ -71,7 +68,9 @@ stays-process_turn reach v p said s here allowed new h = stays-item s (eject_in 
         let part : active_in (eject_in (on_eject v (on_active (turned p t)) s) v) ≡ Some (turned p t it) =
         ap active_in (eject-here v (on_active (turned p t)) s e is) ∙ rw is_it refl in
         stays-then s (on_eject v (on_active (turned p t)) s) _ (nothing-stays s (on_eject v (on_active (turned p t)) s) step h)
-        (λ later. stays-effected reach v p (serving it p) it.kind t.vars t.effect (on_eject v (on_active (turned p t)) s) (plain it t is_t)
+        (λ later. stays-effected types (is_some (serving it p)) reach v p (serving it p) it.kind t.vars t.effect
+        (on_eject v (on_active (turned p t)) s)
+        (fits e is it is_it t is_t) (ruling-on_eject types v (on_active (turned p t)) s ruled)
         (record {
           here = here ∙ sym step.number;
           part = turned p t it;

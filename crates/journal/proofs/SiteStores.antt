@@ -1,6 +1,6 @@
 -- The store's turns, activations and boots keep a site sound.
 use Rattle.std.proofs.Common.{◌≡◌, ◌+◌, ◌≤◌, ℕ, Bool, true, false, cond, not, ◌&&◌, List, [], ◌∷◌, Option, None, Some, is_some, refl, sym, ◌∙◌, ap, subst, arith, inl, inr}
-use Rattle.std.specs.Prelude.{IsSomeAnd}
+use Rattle.std.specs.Prelude.{IsSomeAnd, IfSome}
 use Rattle.std.specs.List.{filter}
 use Rattle.std.specs.Option.{option_map}
 use Rattle.std.specs.Ordering.{nat_cmp, eq_by_cmp, is_eq}
@@ -10,13 +10,15 @@ use Rattle.capability.proofs.Uids.{uid_cmp_total}
 use Rattle.eden_value.specs.Datum.{Datum}
 use Rattle.eden_value.specs.declared.status.Status.{Status}
 use Rattle.eden_value.specs.declared.status.Status.TheVariants as status
+use Rattle.eden_codec.specs.declared.rep.Rep.{Rep}
+use Rattle.eden_codec.specs.Reading.{reading}
 use Rattle.eden_model.specs.Map.{with_item, uid_cmp, value_at, rest, first, same_uid}
 use Rattle.eden_model.proofs.Numbers.{same-self}
 use Rattle.eden_model.specs.Crew.{outside, Waits, running}
 use Rattle.eden_model.specs.Traffic.{Traffic, Call, Place, answered, call_at, changed_call, at_place, replied, sent, done as over}
 use Rattle.epl_syntax.specs.declared.effect.Answer.TheVariants.{Code}
-use Rattle.epl_syntax.specs.declared.types.Edentype.{Edentype}
-use Rattle.epl_syntax.specs.Meaning.{values_from}
+use Rattle.epl_syntax.specs.Edentype.{Edentype}
+use Rattle.epl_syntax.specs.Meaning.{type_of, durable_from, started_from, values_from}
 use Rattle.passive_store.specs.declared.store.Pick.{Pick}
 use Rattle.passive_store.specs.declared.store.Pick.TheVariants as pick
 use Rattle.journal.specs.Change.{Change, body, removal, kept_of}
@@ -40,12 +42,13 @@ use Rattle.journal.proofs.KeptTurns.{value-each}
 use Rattle.journal.proofs.Times.{times-filter, Passes, passes-same, passes-replied, call-changed, passes-then}
 use Rattle.journal.proofs.SiteChanges.{Claims, AddsNothing, StaysSound, stays-same, stays-then, nothing-stays, stays-item, nothing-on_traffic, SameParts, nothing-on_node, nothing-on_eject}
 use Rattle.journal.proofs.SiteParts.{nothing-tells, loose-waits, eject-here, stays-turned_away, stays-deactivated, out-of}
+use Rattle.journal.proofs.Tasks.{IsRuledType, Ruling}
 use Rattle.journal.proofs.SiteTurns.{laid-fresh, runs-fresh}
 use Rattle.journal.proofs.SiteEvents.{stays-crashed}
 
 -- 1. A request ends
 
-first-is : (rs : List StoreRequest) (r : StoreRequest) → first rs ≡ Some r → rs ≡ r ∷ rest rs
+pub first-is : (rs : List StoreRequest) (r : StoreRequest) → first rs ≡ Some r → rs ≡ r ∷ rest rs
 first-is [] r is = absurd (cc is)
 first-is (x ∷ rs) r is = let same : x ≡ r = cc is in ap (λ y. y ∷ rs) same
 
@@ -57,7 +60,7 @@ at-rest u p (r ∷ rs) = go (same_uid r.uid u && is_number p r.process)
     go true = omega arith
     go false = omega arith
 
-at-own : (r : StoreRequest) (p : ℕ) (rs : List StoreRequest) → r.process ≡ Some p → at_store r.uid p (r ∷ rs) ≡ at_store r.uid p rs + 1
+pub at-own : (r : StoreRequest) (p : ℕ) (rs : List StoreRequest) → r.process ≡ Some p → at_store r.uid p (r ∷ rs) ≡ at_store r.uid p rs + 1
 at-own r p rs is = go (same_uid r.uid r.uid) (ap is_eq (tied_itself uid_cmp_total r.uid)) (is_number p r.process) (ap (is_number p) is
     ∙ same-self p)
   where
@@ -272,10 +275,32 @@ times-parted k p (x ∷ xs) = go (p x) (eq_by_cmp nat_cmp k x) refl (times-parte
     go false true is ih = rw is (omega (arith, ih))
     go false false is ih = rw is ih
 
-stays-awake_as : (v : Uid) (e : Eject) (start : Edentype × List Datum) (s : Site) → v.node ≡ s.number → eject_in s v ≡ Some e
-    → e.active ≡ None → SoundSite s → StaysSound s (awake_as v e start s)
+-- an Eject starts as one of a ruled type
+pub ruled-start : (types : List Edentype) (s : Site) → Ruling types s → (bytes : List ℕ) (me : Uid) (start : Edentype × List Datum)
+    → start_of s.types bytes me ≡ Some start
+    → IsRuledType types start.0
+ruled-start types s ruled bytes me start is = go (reading bytes) is
+  where
+    third : (t : Edentype) → IsRuledType types t → (o : Option (List Datum)) → with_item o (λ durable. Some (t, durable)) None ≡ Some start
+        → IsRuledType types start.0
+    third t h None is = absurd (cc is)
+    third t h (Some durable) is = subst (λ o. IfSome o (λ (x : Edentype × List Datum). IsRuledType types x.0)) is h
+
+    second : (rep : Rep) (o : Option Edentype) → type_of s.types rep.type_name ≡ o
+        → with_item o (λ t. with_item (durable_from t rep me) (λ durable. Some (t, durable)) None) None ≡ Some start
+        → IsRuledType types start.0
+    second rep None at is = absurd (cc is)
+    second rep (Some t) at is = third t (ruled rep.type_name t at) (durable_from t rep me) is
+
+    go : (o : Option Rep) → with_item o (λ rep. started_from s.types rep me) None ≡ Some start → IsRuledType types start.0
+    go None is = absurd (cc is)
+    go (Some rep) is = second rep (type_of s.types rep.type_name) refl is
+
+stays-awake_as : (types : List Edentype) (v : Uid) (e : Eject) (start : Edentype × List Datum) (s : Site) → v.node ≡ s.number
+    → eject_in s v ≡ Some e
+    → e.active ≡ None → IsRuledType types start.0 → SoundSite s → StaysSound s (awake_as v e start s)
 unfolding on_eject
-stays-awake_as v e start s here is passive h =
+stays-awake_as types v e start s here is passive ruled h =
     let after : Site = on_eject v (λ old. record old {
       active = Some (fresh start.0 (values_from start.0 start.1));
       queued =
@@ -292,7 +317,7 @@ stays-awake_as v e start s here is passive h =
     (omega (arith, times-filter k (fits_at start.0 s.traffic) e.queued, ap (λ (y : Eject). times k y.queued) same)))
     (λ x at p claims w. absurd (subst (λ o. IsSomeAnd o (λ it. Waits it.crew p outside))
     (sym (ap (λ (y : Eject). y.active) (same-eject (sym is ∙ at))) ∙ passive) w))
-    (λ x at l. laid-fresh start.0 (values_from start.0 start.1))) h)
+    (λ x at l. laid-fresh types start.0 (values_from start.0 start.1) ruled)) h)
     (λ later. nothing-stays after (awake_as v e start s) (nothing-on_traffic (filter (λ k. not (fits_at start.0 s.traffic k)) e.queued)
     (misfits_answered start.0 e.queued) after (passes-misfits start.0 e.queued (fits_at start.0 s.traffic) s.traffic (λ k. refl))
     (out-of s after v (filter (λ k. not (fits_at start.0 s.traffic k)) e.queued) e here is h (λ u k on. on) (λ k.
@@ -308,15 +333,16 @@ stays-awake_as v e start s here is passive h =
     same-eject : {x : Eject} → Some e ≡ Some x → e ≡ x
     same-eject same = cc same
 
-stays-activated : (v : Uid) (how : StartEnd) (s : Site) → v.node ≡ s.number → ((e : Eject) → eject_in s v ≡ Some e → e.active ≡ None)
+stays-activated : (types : List Edentype) (v : Uid) (how : StartEnd) (s : Site) → Ruling types s → v.node ≡ s.number
+    → ((e : Eject) → eject_in s v ≡ Some e → e.active ≡ None)
     → SoundSite s → StaysSound s (activated v how s)
-stays-activated v start_end.Ok s here passive h = stays-item s (eject_in s v) _ h (λ e is.
+stays-activated types v start_end.Ok s ruled here passive h = stays-item s (eject_in s v) _ h (λ e is.
     stays-item s e.kept _ h (λ bytes kept. stays-item s (start_of s.types bytes v) _ h (λ start from.
-    stays-awake_as v e start s here is (passive e is) h)))
-stays-activated v start_end.Gone s here passive h = stays-turned_away v status.Gone s here h
-stays-activated v start_end.Fault s here passive h = stays-turned_away v status.StoreFault s here h
-stays-activated v start_end.Damaged s here passive h = stays-turned_away v status.Damaged s here h
-stays-activated v start_end.Stop s here passive h = stays-crashed s h
+    stays-awake_as types v e start s here is (passive e is) (ruled-start types s ruled bytes v start from) h)))
+stays-activated types v start_end.Gone s ruled here passive h = stays-turned_away v status.Gone s here h
+stays-activated types v start_end.Fault s ruled here passive h = stays-turned_away v status.StoreFault s here h
+stays-activated types v start_end.Damaged s ruled here passive h = stays-turned_away v status.Damaged s here h
+stays-activated types v start_end.Stop s ruled here passive h = stays-crashed s h
 
 -- settling leaves active parts as they are
 active-settled : (p : Option Pick) (v : Uid) (s : Site) → active_in (eject_in (settled p s) v) ≡ active_in (eject_in s v)
@@ -342,10 +368,21 @@ active-started p v s = go (to_settle s)
     go true = active-settled p v (unsynced s) ∙ active-unsynced v s
     go false = refl
 
-pub stays-activation : (v : Uid) (how : StartEnd) (p : Option Pick) (s : Site) → v.node ≡ s.number → active_in (eject_in s v) ≡ None
+ruling-settled : (types : List Edentype) (p : Option Pick) (s : Site) → Ruling types s → Ruling types (start_settled p s)
+unfolding on_node
+ruling-settled types p s ruled = go p (to_settle s)
+  where
+    go : (q : Option Pick) (b : Bool) → Ruling types (cond b (settled q (unsynced s)) s)
+    go q false = ruled
+    go None true = ruled
+    go (Some x) true = ruled
+
+pub stays-activation : (types : List Edentype) (v : Uid) (how : StartEnd) (p : Option Pick) (s : Site) → Ruling types s → v.node ≡ s.number
+    → active_in (eject_in s v) ≡ None
     → SoundSite s → StaysSound s (activation_turn v how p s)
-stays-activation v how p s here passive h = let one = stays-started p s h in
-    stays-then s (start_settled p s) _ one (λ later. stays-activated v how (start_settled p s) (here ∙ sym one.number) (λ e is.
+stays-activation types v how p s ruled here passive h = let one = stays-started p s h in
+    stays-then s (start_settled p s) _ one (λ later. stays-activated types v how (start_settled p s) (ruling-settled types p s ruled) (here
+    ∙ sym one.number) (λ e is.
     sym (ap active_in is) ∙ active-started p v s ∙ passive) later)
 
 -- 5. Boots

@@ -1,7 +1,7 @@
 -- Turns of processes, deliveries, starts and crashes keep a site sound.
-use Rattle.std.proofs.Common.{◌≡◌, ◌+◌, ◌≤◌, ℕ, nat_le, zero, suc, Bool, true, false, cond, List, [], ◌∷◌, Option, None, Some, Result, Ok, Err, length, refl, sym, ◌∙◌, ap, subst, arith, inl, inr}
-use Rattle.std.specs.Prelude.{IfSome}
-use Rattle.std.specs.List.{filter_map}
+use Rattle.std.proofs.Common.{◌≡◌, ◌+◌, ◌≤◌, ℕ, nat_le, zero, suc, Bool, true, false, cond, List, [], ◌∷◌, map, Option, None, Some, Result, Ok, Err, length, refl, sym, ◌∙◌, ap, subst, arith, inl, inr}
+use Rattle.std.specs.Prelude.{IfSome, slice_get}
+use Rattle.std.specs.List.{AllByRecursion, filter_map}
 use Rattle.std.specs.Ordering.{nat_cmp, eq_by_cmp}
 use Rattle.std.specs.FinMap.Entries.{find-put}
 use Rattle.capability.specs.declared.Uid.{Uid}
@@ -16,24 +16,25 @@ use Rattle.eden_codec.specs.Spelling.{spelling, values_size}
 use Rattle.eden_model.specs.Map.{with_item, uid_cmp}
 use Rattle.eden_model.proofs.Laws.{eq-same}
 use Rattle.eden_model.proofs.Numbers.{same-true}
-use Rattle.eden_model.specs.Crew.{Crew, Invocation, outside, Waits, Runs, locked, left, waited, signalled, set_waits, running, declared_from, call_of}
+use Rattle.eden_model.specs.Crew.{Crew, Condition, Invocation, fresh_crew, quiet_at, outside, Waits, Runs, locked, left, waited, signalled, set_waits, running, declared_from, call_of}
 use Rattle.eden_model.proofs.Fresh.{fresh-lines}
 use Rattle.eden_model.specs.Traffic.{next_call, replied, with_call}
 use Rattle.eden_model.specs.declared.Asker.TheVariants.{Eject as Asking}
-use Rattle.epl_syntax.specs.declared.effect.Answer.{Answer}
 use Rattle.epl_syntax.specs.declared.effect.Answer.TheVariants.{Code, Reply as Told, Created as Made}
 use Rattle.epl_syntax.specs.declared.effect.Effect.{Effect}
 use Rattle.epl_syntax.specs.declared.effect.Effect.TheVariants as effect
-use Rattle.epl_syntax.specs.declared.types.Edentype.{Edentype}
-use Rattle.epl_syntax.specs.declared.types.Edentype.TheVariants.{Cell}
-use Rattle.epl_syntax.specs.Cell.{sets, gets, saves, saved, sleeps, kills, killed}
-use Rattle.epl_syntax.specs.Meaning.{Rest, cell, turn, setup_of, rep_of, type_of, first_values}
+use Rattle.epl_syntax.specs.declared.tree.CondDecl.{CondDecl}
+use Rattle.epl_syntax.specs.declared.types.Native.{Native}
+use Rattle.epl_syntax.specs.declared.types.Native.TheVariants as code
+use Rattle.epl_syntax.specs.Edentype.{Edentype, native, declared}
+use Rattle.epl_syntax.specs.Meaning.{setup_of, rep_of, type_of, first_values}
 use Rattle.journal.specs.Change.{body, removal}
 use Rattle.journal.specs.World.{Active, Eject, Site, eject_in, on_eject, on_node, on_traffic}
 use Rattle.journal.specs.Ejects.{with_active, on_active, on_crew, tells, deactivated, fresh, next_uid, newborn, born}
 use Rattle.journal.specs.Processes.{serving, without_process, asks_store, answers, refused_at_once, waits_or_told, creates, checkpoints, effected}
 use Rattle.journal.specs.Sites.{active_in, runs_of, IsHeldAt, WaitsIn, IsLaid}
 use Rattle.journal.proofs.Fits.{times, times_in, LaidIn, SoundSite}
+use Rattle.journal.proofs.Tasks.{IsRuledType, Ruling, FitsEffect}
 use Rattle.journal.proofs.Times.{Passes, passes-same, passes-replied}
 use Rattle.journal.proofs.SiteChanges.{Claims, AddsNothing, nothing-sound, StaysSound, stays-same, stays-then, nothing-stays, nothing-on_traffic, nothing-quiet, same-target}
 use Rattle.journal.proofs.SiteCrews.{runs-ended, runs-served, runs-left, laid-ended, laid-left, waits-ended, waits-left}
@@ -124,16 +125,39 @@ runs-declared : (n k : ℕ) → filter_map call_of (declared_from n k) ≡ []
 runs-declared n zero = refl
 runs-declared n (suc k) = runs-declared (n + 1) k
 
-pub laid-fresh : (t : Edentype) (vars : List Datum) → IsLaid (fresh t vars).crew
-laid-fresh Cell vars = record { lines = fresh-lines (setup_of Cell); monitors = λ i it at. absurd (cc at) }
+-- native types have no conditions, and those of a declared type are of its monitors
+no-conditions : (n : Native) (i : ℕ) (it : Condition) → slice_get (fresh_crew (setup_of (native n))).conditions i ≡ Some it → 1 ≤ it.monitor
+no-conditions code.Cell i it at = absurd (cc at)
+no-conditions code.Directory i it at = absurd (cc at)
+no-conditions code.Lines i it at = absurd (cc at)
+no-conditions code.Take i it at = absurd (cc at)
+no-conditions code.Skip i it at = absurd (cc at)
+no-conditions code.Only i it at = absurd (cc at)
+no-conditions code.Number i it at = absurd (cc at)
+no-conditions code.Sink i it at = absurd (cc at)
+
+their-monitors : (n : ℕ) (cs : List CondDecl) → AllByRecursion (λ c. (1 ≤ c.monitor) × (c.monitor ≤ n)) cs → (i : ℕ) (it : Condition)
+    → slice_get (map quiet_at (map (λ c. c.monitor) cs)) i ≡ Some it → 1 ≤ it.monitor
+their-monitors n [] all i it at = absurd (cc at)
+their-monitors n (c ∷ cs) all zero it at = subst (λ o. IfSome o (λ (x : Condition). 1 ≤ x.monitor)) at all.0.0
+their-monitors n (c ∷ cs) all (suc i) it at = their-monitors n cs all.1 i it at
+
+pub laid-fresh : (types : List Edentype) (t : Edentype) (vars : List Datum) → IsRuledType types t → IsLaid (fresh t vars).crew
+laid-fresh types (native n) vars ruled = record { lines = fresh-lines (setup_of (native n)); monitors = no-conditions n }
+laid-fresh types (declared t) vars ruled = record {
+  lines = fresh-lines (setup_of (declared t));
+  monitors = their-monitors (length t.monitors) t.conditions ruled.monitors;
+}
 
 pub runs-fresh : (t : Edentype) (vars : List Datum) → running (fresh t vars).crew ≡ []
 runs-fresh t vars = runs-declared 1 (setup_of t).declared
 
 -- an Eject that was not there is created
-pub nothing-born : (v : Uid) (t : Edentype) (vars : List Datum) (s : Site) → eject_in s v ≡ None → AddsNothing s (born v (fresh t vars) s)
+pub nothing-born : (types : List Edentype) (v : Uid) (t : Edentype) (vars : List Datum) (s : Site) → IsRuledType types t
+    → eject_in s v ≡ None
+    → AddsNothing s (born v (fresh t vars) s)
 unfolding on_node
-nothing-born v t vars s absent = record {
+nothing-born types v t vars s ruled absent = record {
   number = refl;
   held = λ u k is. inl is;
   opens = λ u p k is. is;
@@ -161,10 +185,10 @@ nothing-born v t vars s absent = record {
     wait u p false is w = w
 
     lay : (u : Uid) (b : Bool) → LaidIn (eject_in s u) → LaidIn (cond b (Some grown) (eject_in s u))
-    lay u true l = rw absent (laid-fresh t vars)
+    lay u true l = rw absent (laid-fresh types t vars ruled)
     lay u false l = l
 
-ready-born : (v new : Uid) (t : Edentype) (vars : List Datum) (s : Site) (p : ℕ) → eject_in s new ≡ None → Ready s v p
+pub ready-born : (v new : Uid) (t : Edentype) (vars : List Datum) (s : Site) (p : ℕ) → eject_in s new ≡ None → Ready s v p
     → Ready (born new (fresh t vars) s) v p
 unfolding on_node
 ready-born v new t vars s p absent ready = record {
@@ -185,15 +209,15 @@ ready-born v new t vars s p absent ready = record {
 abbrev pub IsNew : Site → Type 0
 IsNew s = (u : Uid) → next_uid s ≡ Ok u → eject_in s u ≡ None
 
-stays-creates : (v : Uid) (p : ℕ) (t : Option Edentype) (made : Result Uid Status) (s : Site) → next_uid s ≡ made → IsNew s → Ready s v p
-    → SoundSite s → StaysSound s (creates v p t made s)
-stays-creates v p None made s is new ready h = stays-same s h
-stays-creates v p (Some t) (Ok u) s is new ready h = let absent = new u is in
+stays-creates : (types : List Edentype) (v : Uid) (p : ℕ) (t : Option Edentype) (made : Result Uid Status) (s : Site) → next_uid s ≡ made
+    → IsNew s → ((x : Edentype) → t ≡ Some x → IsRuledType types x) → Ready s v p → SoundSite s → StaysSound s (creates v p t made s)
+stays-creates types v p None made s is new ruled ready h = stays-same s h
+stays-creates types v p (Some t) (Ok u) s is new ruled ready h = let absent = new u is in
     stays-then s (born u (fresh t (first_values t)) s) (creates v p (Some t) (Ok u) s)
-    (nothing-stays s (born u (fresh t (first_values t)) s) (nothing-born u t (first_values t) s absent) h)
+    (nothing-stays s (born u (fresh t (first_values t)) s) (nothing-born types u t (first_values t) s (ruled t refl) absent) h)
     (λ later. stays-tells v p (Made status.Ok (Some (full u))) (born u (fresh t (first_values t)) s)
     (ready-born v u t (first_values t) s p absent ready) later)
-stays-creates v p (Some t) (Err why) s is new ready h = stays-tells v p (Made why None) s ready h
+stays-creates types v p (Some t) (Err why) s is new ruled ready h = stays-tells v p (Made why None) s ready h
 
 -- 3. Effects
 
@@ -218,20 +242,6 @@ stays-invokes v p target operation args (Some why) s ready h = let one = stays-t
     (ready.here ∙ sym one.number) (λ none claims. (let bad : Some why ≡ None = none in cc bad)) (λ none.
     absurd (let bad : Some why ≡ None = none in cc bad)) later)
 
--- monitors are counted from 1
-abbrev pub Plain : Effect → Type 0
-Plain (effect.Lock m) = 1 ≤ m
-Plain _ = Unit {0}
-
-pub turn-plain : (t : Edentype) (vars : List Datum) (left : Rest) (answer : Answer) (u : Uid) → Plain (turn t vars left answer u).effect
-turn-plain Cell vars (cell (sets n)) answer u = tt
-turn-plain Cell vars (cell gets) answer u = tt
-turn-plain Cell vars (cell saves) answer u = tt
-turn-plain Cell vars (cell saved) answer u = tt
-turn-plain Cell vars (cell sleeps) answer u = tt
-turn-plain Cell vars (cell kills) answer u = tt
-turn-plain Cell vars (cell killed) answer u = tt
-
 part-laid : (s : Site) (v : Uid) → SoundSite s → v.node ≡ s.number → (it : Active) → HasPart s v it → IsLaid it.crew
 part-laid s v h here it at = subst (λ o. IfSome o (λ x. IsLaid x.crew)) at (h.fits v here).laid
 
@@ -248,34 +258,39 @@ stays-checkpoints v p bytes s ready h = go (nat_le (length bytes) BODY_LIMIT)
     go true = stays-asks v p (body bytes) s ready h
     go false = stays-tells v p (Code status.TooLarge) s ready h
 
-pub stays-effected : (reach : ℕ → Bool) (v : Uid) (p : ℕ) (i : Option Invocation) (t : Edentype) (vars : List Datum) (e : Effect)
-    (s : Site) → Plain e → Ready s v p → IfSome (active_in (eject_in s v)) (λ it. serving it p ≡ i) → IsNew s → SoundSite s
+pub stays-effected : (types : List Edentype) (serves : Bool) (reach : ℕ → Bool) (v : Uid) (p : ℕ) (i : Option Invocation) (t : Edentype)
+    (vars : List Datum) (e : Effect) (s : Site) → FitsEffect types serves e → Ruling types s → Ready s v p
+    → IfSome (active_in (eject_in s v)) (λ it. serving it p ≡ i) → IsNew s → SoundSite s
     → StaysSound s (effected reach v p i t vars e s)
-stays-effected reach v p i t vars (effect.Return results) s plain ready serves new h = stays-answers v p i results s ready serves h
-stays-effected reach v p i t vars effect.End s plain ready serves new h =
+stays-effected types serving reach v p i t vars (effect.Return results) s fits ruled ready serves new h =
+    stays-answers v p i results s ready serves h
+stays-effected types serving reach v p i t vars effect.End s fits ruled ready serves new h =
     nothing-stays s (on_eject v (on_active (without_process p)) s) (nothing-ends v p s ready h) h
-stays-effected reach v p i t vars effect.Checkpoint s plain ready serves new h = stays-checkpoints v p (spelling (rep_of t vars)) s ready h
-stays-effected reach v p i t vars effect.Destroy s plain ready serves new h = stays-asks v p removal s ready h
-stays-effected reach v p i t vars effect.Deactivate s plain ready serves new h = let one = stays-deactivated v s ready.here h in
+stays-effected types serving reach v p i t vars effect.Checkpoint s fits ruled ready serves new h =
+    stays-checkpoints v p (spelling (rep_of t vars)) s ready h
+stays-effected types serving reach v p i t vars effect.Destroy s fits ruled ready serves new h = stays-asks v p removal s ready h
+stays-effected types serving reach v p i t vars effect.Deactivate s fits ruled ready serves new h =
+    let one = stays-deactivated v s ready.here h in
     stays-then s (deactivated v s) _ one (λ later. stays-gone v (deactivated v s) (ready.here ∙ sym one.number) later)
-stays-effected reach v p i t vars (effect.Fault cause) s plain ready serves new h = let one = stays-deactivated v s ready.here h in
+stays-effected types serving reach v p i t vars (effect.Fault cause) s fits ruled ready serves new h =
+    let one = stays-deactivated v s ready.here h in
     stays-then s (deactivated v s) _ one (λ later. stays-turned_away v status.Dropped (deactivated v s) (ready.here ∙ sym one.number) later)
-stays-effected reach v p i t vars (effect.Create type_name) s plain ready serves new h =
-    stays-creates v p (type_of s.types type_name) (next_uid s) s refl new ready h
-stays-effected reach v p i t vars (effect.Invoke target operation args) s plain ready serves new h =
+stays-effected types serving reach v p i t vars (effect.Create type_name) s fits ruled ready serves new h =
+    stays-creates types v p (type_of s.types type_name) (next_uid s) s refl new (λ x is. ruled type_name x is) ready h
+stays-effected types serving reach v p i t vars (effect.Invoke target operation args) s fits ruled ready serves new h =
     stays-invokes v p target operation args (refused_at_once (reach target.uid.node) args) s ready h
-stays-effected reach v p i t vars (effect.Lock m) s plain ready serves new h =
+stays-effected types serving reach v p i t vars (effect.Lock m) s fits ruled ready serves new h =
     stays-crew v (locked p m) s h ready.here (λ crew. runs-locked p m crew)
     (λ it at q w. waits-locked p q m it.crew (ready-runs s v p ready it at) w) (λ it at l.
-    laid-locked p m it.crew (ready-runs s v p ready it at) plain l)
-stays-effected reach v p i t vars (effect.Leave m) s plain ready serves new h =
+    laid-locked p m it.crew (ready-runs s v p ready it at) fits l)
+stays-effected types serving reach v p i t vars (effect.Leave m) s fits ruled ready serves new h =
     stays-crew v (left m) s h ready.here (λ crew. runs-left m crew)
     (λ it at q w. waits-left m q it.crew (part-laid s v h ready.here it at).lines w) (λ it at l. laid-left m it.crew l)
-stays-effected reach v p i t vars (effect.Wait c) s plain ready serves new h =
+stays-effected types serving reach v p i t vars (effect.Wait c) s fits ruled ready serves new h =
     stays-crew v (waited p c) s h ready.here (λ crew. runs-waited p c crew)
     (λ it at q w. waits-waited p q c it.crew (part-laid s v h ready.here it at).lines (ready-runs s v p ready it at) w) (λ it at l.
     laid-waited p c it.crew (ready-runs s v p ready it at) l)
-stays-effected reach v p i t vars (effect.Signal c) s plain ready serves new h =
+stays-effected types serving reach v p i t vars (effect.Signal c) s fits ruled ready serves new h =
     stays-crew v (signalled c) s h ready.here (λ crew. runs-signalled c crew)
     (λ it at q w. waits-signalled q c it.crew (part-laid s v h ready.here it at).lines w) (λ it at l. laid-signalled c it.crew l)
-stays-effected reach v p i t vars effect.Yield s plain ready serves new h = stays-same s h
+stays-effected types serving reach v p i t vars effect.Yield s fits ruled ready serves new h = stays-same s h

@@ -191,7 +191,7 @@ can-after w q r a can jt is = go (eq_by_cmp nat_cmp r.0.node q.0.node) refl (nod
         (can-told (site_of w q.0.node x) r.0 q.0 r.1 q.1 a (can-like (site_of w r.0.node x) (site_of w q.0.node x) r.0 r.1 refl refl
         (can x at)))
 
-all-can-after : (w : World) (q : Uid × ℕ) (a : Answer) (qs : List (Uid × ℕ)) → AllCan w qs
+pub all-can-after : (w : World) (q : Uid × ℕ) (a : Answer) (qs : List (Uid × ℕ)) → AllCan w qs
     → AllCan (at_node q.0.node (tells q.0 q.1 a) w) qs
 all-can-after w q a [] all = tt
 all-can-after w q a (r ∷ qs) all = (can-after w q r a all.0, all-can-after w q a qs all.1)
@@ -260,12 +260,11 @@ can-broken w later u p k c all is opened asker nodes opens shut it at = record {
     free (inl x) = shut (subst (IsOpenOf later.traffic u p) (fit.single p x.0 k (opens p x.0 x.1) open_k) x.1)
     free (inr some) = omega (arith, some, (fit.asks p k open_k).1)
 
-pub sites-crash : (w : World) (n : ℕ) (f : Site → Site) (it : Node) → node_at w n ≡ Some it
-    → StaysSound (site_of w n it) (f (site_of w n it)) → (f (site_of w n it)).traffic ≡ without_node n w.traffic
-    → AllSites w → AllSites (crash_by n f w)
-sites-crash w n f it here done lost all = sites-tells_each (processes_of (broken_by_node n) w.traffic) (at_node n f w)
-    (can-each (at_node n f w) (broken_by_node n) w.traffic can 1 w.traffic.calls (all n it here).numbered (λ j le. refl))
-    (sites-at_node n f w it here done all)
+pub cans-crash : (w : World) (n : ℕ) (f : Site → Site) (it : Node) → node_at w n ≡ Some it
+    → (f (site_of w n it)).traffic ≡ without_node n w.traffic → AllSites w
+    → AllCan (at_node n f w) (processes_of (broken_by_node n) w.traffic)
+cans-crash w n f it here lost all =
+    can-each (at_node n f w) (broken_by_node n) w.traffic can 1 w.traffic.calls (all n it here).numbered (λ j le. refl)
   where
     traffic : (at_node n f w).traffic ≡ without_node n w.traffic
     traffic = traffic-after w n it f here ∙ lost
@@ -291,10 +290,34 @@ sites-crash w n f it here done lost all = sites-tells_each (processes_of (broken
         (λ q j on. open-without_node n w.traffic u q j (subst (λ t. IsOpenOf t u q j) traffic on))
         (λ on. shut-each (crashed_call n) w.traffic u p k c is (off c y.0) (subst (λ t. IsOpenOf t u p k) traffic on))
 
+pub sites-crash : (w : World) (n : ℕ) (f : Site → Site) (it : Node) → node_at w n ≡ Some it
+    → StaysSound (site_of w n it) (f (site_of w n it)) → (f (site_of w n it)).traffic ≡ without_node n w.traffic
+    → AllSites w → AllSites (crash_by n f w)
+sites-crash w n f it here done lost all = sites-tells_each (processes_of (broken_by_node n) w.traffic) (at_node n f w)
+    (cans-crash w n f it here lost all) (sites-at_node n f w it here done all)
+
+pub cans-cut : (w : World) (a b : ℕ) (cuts : List (ℕ × ℕ)) → AllSites w → AreNumbered 1 w.traffic.calls
+    → AllCan (record w { cuts = cuts; traffic = without_link a b w.traffic }) (processes_of (broken_by_link a b) w.traffic)
+cans-cut w a b cuts all numbered =
+    can-each later (broken_by_link a b) w.traffic can 1 w.traffic.calls numbered (λ j le. refl)
+  where
+    later : World
+    later = record w { cuts = cuts; traffic = without_link a b w.traffic }
+
+    passes : Passes [] w.traffic (without_link a b w.traffic)
+    passes = passes-without_link a b w.traffic
+
+    can : (k : ℕ) (c : Call) (u : Uid) (p : ℕ) → call_at w.traffic k ≡ Some c → broken_by_link a b c ≡ true → c.asker ≡ Asking u p
+        → Can later (u, p)
+    can k c u p is hit asker =
+        let x = both-true c.open_ (on_link a b c) hit in
+        can-broken w later u p k c all is x.0 asker (λ jt at. at) (λ q j on. passes.opens u q j on) (λ on.
+        shut-each (cut_call a b) w.traffic u p k c is (rw x.1 refl) on)
+
 pub sites-cut : (w : World) (a b : ℕ) (cuts : List (ℕ × ℕ)) → AllSites w → AreNumbered 1 w.traffic.calls
     → AllSites (tells_broken (broken_by_link a b) w (record w { cuts = cuts; traffic = without_link a b w.traffic }))
-sites-cut w a b cuts all numbered = sites-tells_each (processes_of (broken_by_link a b) w.traffic) later
-    (can-each later (broken_by_link a b) w.traffic can 1 w.traffic.calls numbered (λ j le. refl)) each
+sites-cut w a b cuts all numbered =
+    sites-tells_each (processes_of (broken_by_link a b) w.traffic) later (cans-cut w a b cuts all numbered) each
   where
     later : World
     later = record w { cuts = cuts; traffic = without_link a b w.traffic }
@@ -315,10 +338,3 @@ sites-cut w a b cuts all numbered = sites-tells_each (processes_of (broken_by_li
         laid = fit.laid;
       };
     }
-
-    can : (k : ℕ) (c : Call) (u : Uid) (p : ℕ) → call_at w.traffic k ≡ Some c → broken_by_link a b c ≡ true → c.asker ≡ Asking u p
-        → Can later (u, p)
-    can k c u p is hit asker =
-        let x = both-true c.open_ (on_link a b c) hit in
-        can-broken w later u p k c all is x.0 asker (λ jt at. at) (λ q j on. passes.opens u q j on) (λ on.
-        shut-each (cut_call a b) w.traffic u p k c is (rw x.1 refl) on)

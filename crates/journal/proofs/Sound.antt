@@ -24,7 +24,7 @@ use Rattle.epl_syntax.specs.declared.effect.Answer.{Answer}
 use Rattle.epl_syntax.specs.declared.effect.Answer.TheVariants.{Code, Reply as Told, Created as Made}
 use Rattle.epl_syntax.specs.declared.effect.Effect.{Effect}
 use Rattle.epl_syntax.specs.declared.effect.Effect.TheVariants as effect
-use Rattle.epl_syntax.specs.declared.types.Edentype.{Edentype}
+use Rattle.epl_syntax.specs.Edentype.{Edentype}
 use Rattle.epl_syntax.specs.Meaning.{rep_of, type_of, first_values, values_from}
 use Rattle.passive_store.specs.declared.store.Pick.{Pick}
 use Rattle.passive_store.specs.declared.store.Pick.TheVariants as pick
@@ -423,6 +423,6 @@ kept-sound w e = record {
   turns = λ n it at place allowed h. sound-site_turn (reaches w n) e (site_of w n it) allowed h;
   crashes = λ n s is number h. sound-crashed s h;
   tellings = λ u p a s h. sound-tells u p a s h;
-  births = λ u t s is on h. sound-born u (fresh t (first_values t)) s (ap (λ (x : Uid). x.node) (next-following s u is)) (manned-fresh t (first_values t)) h;
+  births = λ u t s is on known h. sound-born u (fresh t (first_values t)) s (ap (λ (x : Uid). x.node) (next-following s u is)) (manned-fresh t (first_values t)) h;
   clocks = λ n c it h. h;
 }

@@ -15,7 +15,7 @@ use Rattle.eden_model.proofs.Laws.{eq-same}
 use Rattle.eden_model.specs.declared.Asker.TheVariants.{Shell}
 use Rattle.eden_model.specs.Traffic.{processes_of, broken_by_node, broken_by_link, without_link}
 use Rattle.epl_syntax.specs.declared.effect.Answer.TheVariants.{Reply as Told}
-use Rattle.epl_syntax.specs.declared.types.Edentype.{Edentype}
+use Rattle.epl_syntax.specs.Edentype.{Edentype}
 use Rattle.epl_syntax.specs.Meaning.{type_of, first_values}
 use Rattle.journal.specs.declared.command.Command.{Command}
 use Rattle.journal.specs.declared.command.Command.TheVariants as command

@@ -15,7 +15,7 @@ use Rattle.eden_model.specs.Traffic.{processes_of, broken_by_node, broken_by_lin
 use Rattle.capability.proofs.Uids.{uid_cmp-IsAntisymmetric}
 use Rattle.eden_model.proofs.Laws.{eq-same, value-changed}
 use Rattle.epl_syntax.specs.declared.effect.Answer.TheVariants.{Reply as Told}
-use Rattle.epl_syntax.specs.declared.types.Edentype.{Edentype}
+use Rattle.epl_syntax.specs.Edentype.{Edentype}
 use Rattle.epl_syntax.specs.Meaning.{type_of, first_values}
 use Rattle.passive_store.specs.declared.store.Pick.{Pick}
 use Rattle.journal.specs.Change.{Change}

@@ -16,7 +16,7 @@ use Rattle.epl_syntax.specs.declared.effect.Answer.{Answer}
 use Rattle.epl_syntax.specs.declared.effect.Answer.TheVariants.{Code, Reply as Told, Created as Made}
 use Rattle.epl_syntax.specs.declared.effect.Effect.{Effect}
 use Rattle.epl_syntax.specs.declared.effect.Effect.TheVariants as effect
-use Rattle.epl_syntax.specs.declared.types.Edentype.{Edentype}
+use Rattle.epl_syntax.specs.Edentype.{Edentype}
 use Rattle.epl_syntax.specs.Meaning.{rep_of, type_of, first_values}
 use Rattle.passive_store.specs.declared.store.Pick.{Pick}
 use Rattle.passive_store.specs.declared.store.Pick.TheVariants as pick

@@ -96,6 +96,6 @@ kept-fit G w e = record {
   turns = λ n it at place allowed fit. fit-site_turn (reaches w n) e (site_of w n it) allowed fit;
   crashes = λ n s is number fit. fit-crashed s fit;
   tellings = λ u p a s fit. fit-tells u p a s fit;
-  births = λ u t s is on fit. fit-born u (fresh t (first_values t)) s (next-following s u is) fit;
+  births = λ u t s is on known fit. fit-born u (fresh t (first_values t)) s (next-following s u is) fit;
   clocks = λ n c it fit. fit;
 }

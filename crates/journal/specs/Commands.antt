@@ -10,7 +10,7 @@ use Rattle.eden_model.specs.Map.{with_item}
 use Rattle.eden_model.specs.declared.Asker.TheVariants.{Shell}
 use Rattle.eden_model.specs.Traffic.{next_call, with_call, names_of, is_open}
 use Rattle.eden_disk.specs.declared.disk.Arm.TheVariants as arm
-use Rattle.epl_syntax.specs.declared.types.Edentype.{Edentype}
+use Rattle.epl_syntax.specs.Edentype.{Edentype}
 use Rattle.epl_syntax.specs.Meaning.{type_of, first_values}
 use Rattle.journal.specs.declared.command.Command.{Command}
 use Rattle.journal.specs.declared.command.Command.TheVariants as command

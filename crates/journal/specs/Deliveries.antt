@@ -9,7 +9,7 @@ use Rattle.eden_model.specs.declared.Asker.{Asker}
 use Rattle.eden_model.specs.declared.Asker.TheVariants.{Shell, Eject as Process}
 use Rattle.eden_model.specs.Traffic.{Traffic, Call, asked, held, answered, call_at, changed_call, at_place, closed, taken, replied, next_message, shell_name}
 use Rattle.epl_syntax.specs.declared.effect.Answer.TheVariants.{Reply as Told}
-use Rattle.epl_syntax.specs.declared.types.Edentype.{Edentype}
+use Rattle.epl_syntax.specs.Edentype.{Edentype}
 use Rattle.epl_syntax.specs.Kinds.{have_shapes}
 use Rattle.epl_syntax.specs.Meaning.{Operation, operation_of}
 use Rattle.journal.specs.World.{Eject, Site, Meaning, nothing, results, eject_in, on_eject, on_traffic}

@@ -11,7 +11,7 @@ use Rattle.eden_model.specs.Crew.{Crew, nothing, set_waits, fresh_crew, running}
 use Rattle.eden_model.specs.Traffic.{all_replied, orphaned}
 use Rattle.epl_syntax.specs.declared.effect.Answer.{Answer}
 use Rattle.epl_syntax.specs.declared.effect.Answer.TheVariants.{Go}
-use Rattle.epl_syntax.specs.declared.types.Edentype.{Edentype}
+use Rattle.epl_syntax.specs.Edentype.{Edentype}
 use Rattle.epl_syntax.specs.Meaning.{Rest, declared, setup_of}
 use Rattle.journal.specs.World.{Task, Active, Eject, StoreRequest, Node, Site, eject_in, on_eject, on_node, on_traffic}
 

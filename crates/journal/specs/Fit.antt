@@ -12,7 +12,7 @@ use Rattle.eden_value.specs.declared.value.TheConstants.{DEPTH_LIMIT, LIST_LIMIT
 use Rattle.eden_disk.specs.declared.disk.ImageMode.{ImageMode}
 use Rattle.eden_disk.specs.declared.disk.ImageMode.TheVariants as image
 use Rattle.epl_syntax.specs.Form.{is_name_byte}
-use Rattle.epl_syntax.specs.Rules.OfTypes.{names_of}
+use Rattle.epl_syntax.specs.Rules.OfTypes.{names_of, NamesDiffer, KeepRules, HaveMonitors}
 use Rattle.journal.specs.Argument.{Argument, Arguments, plain, named, several, no_arguments, argument_and, arguments_in, arguments_of}
 use Rattle.journal.specs.World.{World}
 use Rattle.journal.specs.References.{value_at_name, args_of}
@@ -170,6 +170,10 @@ pub record IsFit (script : Script) : Type 0 where
   -- from one node to eight
   pub nodes : Within 1 8 script.nodes
   pub few_types : length script.types.declared ≤ DECLARED_LIMIT
+  -- no two types have one name, each keeps the rules behind those before it, and its conditions are of its monitors
+  pub names_differ : NamesDiffer script.types
+  pub keep_rules : KeepRules script.types
+  pub have_monitors : HaveMonitors script.types
   -- each command for itself
   pub commands : All (IsFitCommand (names_of script.types) script.nodes) script.commands
   -- each name is introduced once, and before it is referred to

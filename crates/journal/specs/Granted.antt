@@ -1,8 +1,8 @@
 -- Which capabilities were granted to whom, by deliveries alone, and which ones an entry uses.
-use Rattle.std.specs.Prelude.{◌⊎◌, ℕ, Bool, true, false, cond, ◌&&◌, List, [], ◌∷◌, ◌++◌, Option, None, Some, is_some}
+use Rattle.std.specs.Prelude.{ℕ, Bool, true, false, cond, ◌&&◌, List, [], ◌∷◌, ◌++◌, Option, None, Some, is_some}
 use Rattle.capability.specs.declared.Uid.{Uid}
 use Rattle.capability.specs.declared.Cap.{Cap}
-use Rattle.capability.specs.Capability.{full, IsBelow}
+use Rattle.capability.specs.Capability.{full}
 use Rattle.eden_value.specs.Datum.{Datum}
 use Rattle.eden_value.specs.Caps.{caps_of}
 use Rattle.eden_value.specs.declared.status.Status.{Status}
@@ -14,8 +14,10 @@ use Rattle.eden_model.specs.declared.Asker.TheVariants.{Shell, Eject as Process}
 use Rattle.eden_model.specs.Traffic.{Call, call_at}
 use Rattle.epl_syntax.specs.declared.effect.Effect.{Effect}
 use Rattle.epl_syntax.specs.declared.effect.Effect.TheVariants as effect
-use Rattle.epl_syntax.specs.declared.types.Edentype.{Edentype}
+use Rattle.epl_syntax.specs.Edentype.{Edentype}
 use Rattle.epl_syntax.specs.Meaning.{durable_of}
+-- each capability of a list is below one of another
+pub use Rattle.epl_syntax.specs.Authority.{IsBelowOne, AllBelow}
 use Rattle.passive_store.specs.declared.store.Pick.{Pick}
 use Rattle.journal.specs.declared.event.Event.{Event}
 use Rattle.journal.specs.declared.event.Event.TheVariants as event
@@ -118,15 +120,6 @@ abbrev pub uses : Step → Event → List Grant
 uses s (event.Asked k name at_once) = with_item (call_at s.later.traffic k) (λ c. call_uses c ∷ []) []
 uses s (event.Process u p said) = turn_uses s.world u p
 uses s _ = []
-
--- below one that was granted
-abbrev pub IsBelowOne : Cap → List Cap → Type 0
-IsBelowOne c [] = ⊥
-IsBelowOne c (d ∷ ds) = IsBelow c d ⊎ IsBelowOne c ds
-
-abbrev pub AllBelow : List Cap → List Cap → Type 0
-AllBelow [] ds = Unit {0}
-AllBelow (c ∷ cs) ds = IsBelowOne c ds × AllBelow cs ds
 
 abbrev pub AllGranted : List Grant → List Step → Type 0
 AllGranted [] past = Unit {0}

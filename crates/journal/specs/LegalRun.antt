@@ -15,6 +15,7 @@ use Rattle.journal.specs.declared.event.Entry.{Entry}
 use Rattle.journal.specs.declared.event.Shown.TheVariants as shown
 use Rattle.journal.specs.declared.event.StartEnd.TheVariants as start_end
 use Rattle.journal.specs.declared.event.RequestEnd.TheVariants as request_end
+use Rattle.epl_syntax.specs.Meaning.{types_in}
 use Rattle.journal.specs.World.{World, eject_at}
 use Rattle.journal.specs.Step.{clock_before}
 use Rattle.journal.specs.Run.{Follows, FollowsSoFar, Step, EachStep, beginning, steps, world_after}
@@ -93,9 +94,9 @@ numbered disks = numbered_from 1 disks
 abbrev pub images : List (ℕ × DiskRun) → List (ℕ × List ℕ)
 images disks = map (λ d. (d.0, (contents d.1.before).now)) disks
 
--- the types that have a meaning so far are the native ones
+-- the world begins with the types of the script and the images of the disks
 abbrev pub opening_world : Layout → Script → List DiskRun → World
-opening_world layout script disks = opening script.types.native layout (images (numbered disks))
+opening_world layout script disks = opening (types_in script.types) layout (images (numbered disks))
 
 abbrev pub run_of : World → Script → List Entry → List Step
 run_of world script history = steps (beginning world script.nodes script.commands) history

@@ -3,7 +3,7 @@ use Rattle.std.specs.Prelude.{ℕ, ◌+◌, ◌*◌, ◌==◌, ◌≤◌, ◌≡
 use Rattle.std.specs.List.{filter_map}
 use Rattle.capability.specs.declared.Uid.{Uid}
 use Rattle.eden_model.specs.Map.{with_item, value_at, uid_cmp}
-use Rattle.epl_syntax.specs.declared.types.Edentype.{Edentype}
+use Rattle.epl_syntax.specs.Edentype.{Edentype}
 use Rattle.std.specs.FinMap as finite
 use Rattle.passive_store.specs.Kept.{Layout, Kept}
 use Rattle.journal.specs.World.{World, Eject, Node}

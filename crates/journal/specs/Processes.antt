@@ -17,7 +17,7 @@ use Rattle.eden_model.specs.Crew.{Invocation, Process as Worker, nothing, outsid
 use Rattle.epl_syntax.specs.declared.effect.Answer.TheVariants.{Go, Reply as Told, Code, Created as Made}
 use Rattle.epl_syntax.specs.declared.effect.Effect.{Effect}
 use Rattle.epl_syntax.specs.declared.effect.Effect.TheVariants as effect
-use Rattle.epl_syntax.specs.declared.types.Edentype.{Edentype}
+use Rattle.epl_syntax.specs.Edentype.{Edentype}
 use Rattle.epl_syntax.specs.Meaning.{Turned, turn, begin, operation_of, rep_of, type_of, first_values}
 use Rattle.journal.specs.Change.{Change, body, removal}
 use Rattle.journal.specs.declared.event.Shown.{Shown}

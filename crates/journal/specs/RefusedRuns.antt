@@ -7,7 +7,7 @@ use Rattle.eden_disk.specs.declared.disk.ImageMode.TheVariants.{Lose as lose}
 use Rattle.eden_disk.specs.Told.{Told}
 use Rattle.passive_store.specs.Kept.{Layout}
 use Rattle.passive_store.specs.LogLayout.{log_layout}
-use Rattle.epl_syntax.specs.Rules.OfTypes.{native_only}
+use Rattle.epl_syntax.specs.Rules.OfTypes.{TypeList, native_only}
 use Rattle.journal.specs.Argument.{plain as given}
 use Rattle.journal.specs.declared.command.Command.{Command}
 use Rattle.journal.specs.declared.command.Command.TheVariants as command
@@ -43,8 +43,12 @@ ref_c = record { name = codes "c"; result = 0 }
 abbrev pub int : ℕ → Datum
 int n = number (pos n)
 
+-- a script that declares these types, and one that declares none
+abbrev pub script_with : TypeList → ℕ → List Command → Script
+script_with types n cs = record { types = types; nodes = n; commands = cs }
+
 abbrev pub script_of : ℕ → List Command → Script
-script_of n cs = record { types = native_only; nodes = n; commands = cs }
+script_of n cs = script_with native_only n cs
 
 abbrev pub zeros : ℕ → List ℕ
 zeros size = replicate size 0

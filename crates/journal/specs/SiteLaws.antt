@@ -2,6 +2,7 @@
 use Rattle.std.specs.Prelude.{◌≡◌, ◌==◌, ℕ, Bool, true, false, List, [], Some, is_some}
 use Rattle.passive_store.specs.Kept.{Layout}
 use Rattle.passive_store.specs.Layout.{IsLayout}
+use Rattle.epl_syntax.specs.Rules.OfTypes.{KeepRules, HaveMonitors}
 use Rattle.journal.specs.declared.command.Script.{Script}
 use Rattle.journal.specs.declared.event.Event.{Event}
 use Rattle.journal.specs.declared.event.Entry.{Entry}
@@ -14,6 +15,7 @@ use Rattle.journal.specs.Run.{EachStep}
 use Rattle.journal.specs.Standing.{DiskRun, state}
 use Rattle.journal.specs.LegalRun.{AreHandedIn, opening_world, last_world, run_of}
 use Rattle.journal.specs.Laws.{Begins}
+use Rattle.journal.specs.Monitors.{AreInTheirMonitors}
 use Rattle.journal.specs.Sites.{Everywhere, HasEpochs, SoundWorld, AllSound, IsSoundSite, HoldsItsWork, CallsGoOn, KeepsSite}
 
 -- 1. Every world that is reached
@@ -24,6 +26,12 @@ OfEachReached P = (layout : Layout) (script : Script) (disks : List DiskRun) (hi
     → AreHandedIn layout disks → Begins layout script disks history
     → P (opening_world layout script disks) (last_world (opening_world layout script disks) script history)
 
+-- the same, where the types of the script keep the rules, and each of their conditions is of a monitor
+abbrev pub OfEachRuled : (World → World → Type 0) → Type 0
+OfEachRuled P = (layout : Layout) (script : Script) (disks : List DiskRun) (history : List Entry) → IsLayout layout
+    → AreHandedIn layout disks → KeepRules script.types → HaveMonitors script.types → Begins layout script disks history
+    → P (opening_world layout script disks) (last_world (opening_world layout script disks) script history)
+
 -- The nodes are those of the opening world, in order; of each the Ejects are in order and of it, each process has its task, and only
 -- the first of the store's requests has made device calls and has one left; a call on its way goes to a node that is there.
 abbrev pub WorldsAreSound : Type 0
@@ -31,11 +39,15 @@ WorldsAreSound = OfEachReached (λ opening w. SoundWorld (λ n. is_some (node_at
 
 -- Each call that an Eject runs or has queued is held at it, once; and who asked an open call or has a request at the store waits.
 abbrev pub SitesAreSound : Type 0
-SitesAreSound = OfEachReached (λ opening w. AllSound w)
+SitesAreSound = OfEachRuled (λ opening w. AllSound w)
 
 -- A call that is held at an Eject is one that it runs or has queued.
 abbrev pub HeldCallsAreWork : Type 0
-HeldCallsAreWork = OfEachReached (λ opening w. Everywhere (λ n it. HoldsItsWork (site_of w n it)) w)
+HeldCallsAreWork = OfEachRuled (λ opening w. Everywhere (λ n it. HoldsItsWork (site_of w n it)) w)
+
+-- Each process whose rest is inside of a monitor holds it, waits in its entry queue, or waits on one of its conditions; and no other does.
+abbrev pub MonitorsAreHeld : Type 0
+MonitorsAreHeld = OfEachRuled (λ opening w. AreInTheirMonitors w)
 
 -- The stored epoch of each node, and the one in doubt, are at most 4,294,967,295.
 abbrev pub EpochsAreBounded : Type 0

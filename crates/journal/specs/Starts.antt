@@ -7,7 +7,7 @@ use Rattle.eden_value.specs.declared.status.Status.TheVariants as status
 use Rattle.eden_codec.specs.Reading.{reading}
 use Rattle.eden_model.specs.Map.{with_item, first, same_uid}
 use Rattle.eden_model.specs.Traffic.{Traffic, call_at, replied}
-use Rattle.epl_syntax.specs.declared.types.Edentype.{Edentype}
+use Rattle.epl_syntax.specs.Edentype.{Edentype}
 use Rattle.epl_syntax.specs.Meaning.{started_from, values_from}
 use Rattle.passive_store.specs.declared.store.Pick.{Pick}
 use Rattle.journal.specs.declared.event.StartEnd.{StartEnd}

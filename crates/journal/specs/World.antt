@@ -9,7 +9,7 @@ use Rattle.eden_model.specs.Map.{with_item, changed_at, value_at, put_at, uid_cm
 use Rattle.eden_model.specs.Traffic.{Traffic}
 use Rattle.eden_model.specs.Crew.{Crew}
 use Rattle.epl_syntax.specs.declared.effect.Answer.{Answer}
-use Rattle.epl_syntax.specs.declared.types.Edentype.{Edentype}
+use Rattle.epl_syntax.specs.Edentype.{Edentype}
 use Rattle.epl_syntax.specs.Meaning.{Rest}
 use Rattle.passive_store.specs.Kept.{Layout}
 use Rattle.journal.specs.Change.{Change}

@@ -101,21 +101,21 @@ fn count(entries: &[Entry]) -> Counts
 }
 
 // `calls 5 ok 4 refused 1 open 0 turns 28`
-fn add_counts(alloc: Global, counts: Counts, out: &mut Vec<u8>) -> Result<(), AllocError>
+fn add_counts(counts: Counts, out: &mut Vec<u8>) -> Result<(), AllocError>
     requires { counts.ok + counts.refused < 2 ^ 128 }
     ensures { OnOk result (out.new.items ≡ out.old.items ++ text.counts_text counts.calls counts.ok counts.refused counts.turns) }
 {
     out.extend_from_slice(b"calls")?;
-    add_count(alloc, counts.calls, out)?;
+    add_count(counts.calls, out)?;
     out.extend_from_slice(b" ok")?;
-    add_count(alloc, counts.ok, out)?;
+    add_count(counts.ok, out)?;
     out.extend_from_slice(b" refused")?;
-    add_count(alloc, counts.refused, out)?;
+    add_count(counts.refused, out)?;
     out.extend_from_slice(b" open")?;
     let answered = counts.ok + counts.refused;
-    add_count(alloc, counts.calls.saturating_sub(answered), out)?;
+    add_count(counts.calls.saturating_sub(answered), out)?;
     out.extend_from_slice(b" turns")?;
-    add_count(alloc, counts.turns, out)?;
+    add_count(counts.turns, out)?;
     out.push(b'\n')?;
     Ok(())
 }
@@ -127,6 +127,6 @@ pub fn summary(alloc: Global, history: &History, out: &mut Vec<u8>) -> Result<()
     ensures err { OnErr result (out.new.items ≡ out.old.items) }
 {
     let mut text = Vec::new(alloc);
-    add_counts(alloc, count(&history.entries), &mut text)?;
+    add_counts(count(&history.entries), &mut text)?;
     out.extend_from_slice(&text)
 }

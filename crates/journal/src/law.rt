@@ -44,7 +44,7 @@ pub fn first_part_follows_so_far()
 {}
 
 /// At the end of a history so far, over disks that are handed in as they have to be, each key that is
-/// enabled has its turn: an entry that shows it may come next.
+/// enabled has its turn: an entry that shows it may come next. The types of the script keep the rules.
 pub fn an_enabled_key_has_its_turn()
     ensures { EnabledKeysHaveTurns }
 {}

@@ -16,17 +16,12 @@ use passive_store::Pick;
 use std::alloc::{AllocError, Global};
 
 // `a refused 4 gone`
-fn add_refused(
-    alloc: Global,
-    name: &Txt,
-    status: Status,
-    out: &mut Vec<u8>,
-) -> Result<(), AllocError>
+fn add_refused(name: &Txt, status: Status, out: &mut Vec<u8>) -> Result<(), AllocError>
     ensures { OnOk result (out.new.items ≡ out.old.items ++ text.refused_text name.now status) }
 {
     out.extend_from_slice(&name.bytes)?;
     out.extend_from_slice(b" refused")?;
-    add_num(alloc, u64::from(status.number()), out)?;
+    add_num(u64::from(status.number()), out)?;
     out.push(b' ')?;
     out.extend_from_slice(status.word().as_bytes())?;
     out.push(b'\n')?;
@@ -34,32 +29,32 @@ fn add_refused(
 }
 
 // `+ cut 1 2`
-fn add_link(alloc: Global, a: u8, b: u8, joined: bool, out: &mut Vec<u8>) -> Result<(), AllocError>
+fn add_link(a: u8, b: u8, joined: bool, out: &mut Vec<u8>) -> Result<(), AllocError>
     ensures { OnOk result (out.new.items ≡ out.old.items ++ text.link_text a b joined) }
 {
     out.extend_from_slice(if joined { b"+ join" } else { b"+ cut" })?;
-    add_num(alloc, u64::from(a), out)?;
-    add_num(alloc, u64::from(b), out)?;
+    add_num(u64::from(a), out)?;
+    add_num(u64::from(b), out)?;
     out.push(b'\n')?;
     Ok(())
 }
 
 // `+ fail 1 4`, `+ stop 1 4 lose`
-fn add_armed(alloc: Global, node: u8, what: Arm, out: &mut Vec<u8>) -> Result<(), AllocError>
+fn add_armed(node: u8, what: Arm, out: &mut Vec<u8>) -> Result<(), AllocError>
     ensures { OnOk result (out.new.items ≡ out.old.items ++ text.armed_text node what) }
 {
     match what {
         Arm::Fail { after } => {
             out.extend_from_slice(b"+ fail")?;
-            add_num(alloc, u64::from(node), out)?;
-            add_num(alloc, u64::from(after), out)?;
+            add_num(u64::from(node), out)?;
+            add_num(u64::from(after), out)?;
         }
         Arm::Stop { after, mode } => {
             out.extend_from_slice(b"+ stop")?;
-            add_num(alloc, u64::from(node), out)?;
-            add_num(alloc, u64::from(after), out)?;
+            add_num(u64::from(node), out)?;
+            add_num(u64::from(after), out)?;
             out.push(b' ')?;
-            add_image_word(alloc, mode, out)?;
+            add_image_word(mode, out)?;
         }
     }
     out.push(b'\n')?;
@@ -78,7 +73,6 @@ fn add_bound(name: &Txt, held: bool, out: &mut Vec<u8>) -> Result<(), AllocError
 
 // `+ request 1 0 1 refused 4`
 fn add_request(
-    alloc: Global,
     call: u32,
     from: u8,
     to: u8,
@@ -88,23 +82,23 @@ fn add_request(
     ensures { OnOk result (out.new.items ≡ out.old.items ++ text.request_text call from to refused) }
 {
     out.extend_from_slice(b"+ request")?;
-    add_num(alloc, u64::from(call), out)?;
-    add_num(alloc, u64::from(from), out)?;
-    add_num(alloc, u64::from(to), out)?;
+    add_num(u64::from(call), out)?;
+    add_num(u64::from(from), out)?;
+    add_num(u64::from(to), out)?;
     if let Some(status) = refused {
         out.extend_from_slice(b" refused")?;
-        add_num(alloc, u64::from(status.number()), out)?;
+        add_num(u64::from(status.number()), out)?;
     }
     out.push(b'\n')?;
     Ok(())
 }
 
 // `+ activate 1.1.1 ok`
-fn add_activate(alloc: Global, uid: Uid, end: StartEnd, out: &mut Vec<u8>) -> Result<(), AllocError>
+fn add_activate(uid: Uid, end: StartEnd, out: &mut Vec<u8>) -> Result<(), AllocError>
     ensures { OnOk result (out.new.items ≡ out.old.items ++ text.activate_text uid end) }
 {
     out.extend_from_slice(b"+ activate ")?;
-    add_uid(alloc, uid, out)?;
+    add_uid(uid, out)?;
     out.push(b' ')?;
     out.extend_from_slice(start_word(end).as_bytes())?;
     out.push(b'\n')?;
@@ -112,18 +106,12 @@ fn add_activate(alloc: Global, uid: Uid, end: StartEnd, out: &mut Vec<u8>) -> Re
 }
 
 // `+ store 1.1.1 15 done`
-fn add_store(
-    alloc: Global,
-    uid: Uid,
-    clock: u64,
-    end: RequestEnd,
-    out: &mut Vec<u8>,
-) -> Result<(), AllocError>
+fn add_store(uid: Uid, clock: u64, end: RequestEnd, out: &mut Vec<u8>) -> Result<(), AllocError>
     ensures { OnOk result (out.new.items ≡ out.old.items ++ text.store_text uid clock end) }
 {
     out.extend_from_slice(b"+ store ")?;
-    add_uid(alloc, uid, out)?;
-    add_num(alloc, clock, out)?;
+    add_uid(uid, out)?;
+    add_num(clock, out)?;
     out.push(b' ')?;
     out.extend_from_slice(request_word(end).as_bytes())?;
     out.push(b'\n')?;
@@ -131,64 +119,46 @@ fn add_store(
 }
 
 // The call's number and two stations.
-fn add_three(
-    alloc: Global,
-    call: u32,
-    from: u8,
-    to: u8,
-    out: &mut Vec<u8>,
-) -> Result<(), AllocError>
+fn add_three(call: u32, from: u8, to: u8, out: &mut Vec<u8>) -> Result<(), AllocError>
     ensures { OnOk result (out.new.items ≡ out.old.items ++ (text.num call ++ text.num from ++ text.num to)) }
 {
-    add_num(alloc, u64::from(call), out)?;
-    add_num(alloc, u64::from(from), out)?;
-    add_num(alloc, u64::from(to), out)
+    add_num(u64::from(call), out)?;
+    add_num(u64::from(from), out)?;
+    add_num(u64::from(to), out)
 }
 
 // `+ process 1.1.1 1 return 1`
-fn add_process(
-    alloc: Global,
-    uid: Uid,
-    process: u8,
-    shown: Shown,
-    out: &mut Vec<u8>,
-) -> Result<(), AllocError>
+fn add_process(uid: Uid, process: u8, shown: Shown, out: &mut Vec<u8>) -> Result<(), AllocError>
     ensures { OnOk result (out.new.items ≡ out.old.items ++ text.process_text uid process shown) }
 {
     out.extend_from_slice(b"+ process ")?;
-    add_uid(alloc, uid, out)?;
-    add_num(alloc, u64::from(process), out)?;
+    add_uid(uid, out)?;
+    add_num(u64::from(process), out)?;
     out.push(b' ')?;
-    add_shown_word(alloc, shown, out)?;
+    add_shown_word(shown, out)?;
     out.push(b'\n')?;
     Ok(())
 }
 
 // `+ start 1 1.1.1 1`
-fn add_start(
-    alloc: Global,
-    call: u32,
-    uid: Uid,
-    process: u8,
-    out: &mut Vec<u8>,
-) -> Result<(), AllocError>
+fn add_start(call: u32, uid: Uid, process: u8, out: &mut Vec<u8>) -> Result<(), AllocError>
     ensures { OnOk result (out.new.items ≡ out.old.items ++ text.start_text call uid process) }
 {
     out.extend_from_slice(b"+ start")?;
-    add_num(alloc, u64::from(call), out)?;
+    add_num(u64::from(call), out)?;
     out.push(b' ')?;
-    add_uid(alloc, uid, out)?;
-    add_num(alloc, u64::from(process), out)?;
+    add_uid(uid, out)?;
+    add_num(u64::from(process), out)?;
     out.push(b'\n')?;
     Ok(())
 }
 
 // `+ call 1 a`
-fn add_call(alloc: Global, call: u32, name: &Txt, out: &mut Vec<u8>) -> Result<(), AllocError>
+fn add_call(call: u32, name: &Txt, out: &mut Vec<u8>) -> Result<(), AllocError>
     ensures { OnOk result (out.new.items ≡ out.old.items ++ text.call_text call name.now) }
 {
     out.extend_from_slice(b"+ call")?;
-    add_num(alloc, u64::from(call), out)?;
+    add_num(u64::from(call), out)?;
     out.push(b' ')?;
     out.extend_from_slice(&name.bytes)?;
     out.push(b'\n')?;
@@ -196,49 +166,43 @@ fn add_call(alloc: Global, call: u32, name: &Txt, out: &mut Vec<u8>) -> Result<(
 }
 
 // `+ reply 1 1 0`
-fn add_reply(
-    alloc: Global,
-    call: u32,
-    from: u8,
-    to: u8,
-    out: &mut Vec<u8>,
-) -> Result<(), AllocError>
+fn add_reply(call: u32, from: u8, to: u8, out: &mut Vec<u8>) -> Result<(), AllocError>
     ensures { OnOk result (out.new.items ≡ out.old.items ++ text.delivered_text call from to) }
 {
     out.extend_from_slice(b"+ reply")?;
-    add_three(alloc, call, from, to, out)?;
+    add_three(call, from, to, out)?;
     out.push(b'\n')?;
     Ok(())
 }
 
 // The line that only a trace has.
 #[tactic(auto, unfolding(crate::specs::Lines::trace_text))]
-fn add_trace(alloc: Global, event: &Event, out: &mut Vec<u8>) -> Result<(), AllocError>
+fn add_trace(event: &Event, out: &mut Vec<u8>) -> Result<(), AllocError>
     ensures { OnOk result (out.new.items ≡ out.old.items ++ text.trace_text event.now) }
 {
     match event {
-        Event::Link { a, b, joined } => add_link(alloc, *a, *b, *joined, out),
-        Event::Armed { node, what } => add_armed(alloc, *node, *what, out),
+        Event::Link { a, b, joined } => add_link(*a, *b, *joined, out),
+        Event::Armed { node, what } => add_armed(*node, *what, out),
         Event::Bound { name, held } => add_bound(name, *held, out),
-        Event::Asked { call, name, .. } => add_call(alloc, *call, name, out),
+        Event::Asked { call, name, .. } => add_call(*call, name, out),
         Event::Request {
             call,
             from,
             to,
             refused,
-        } => add_request(alloc, *call, *from, *to, *refused, out),
-        Event::Reply { call, from, to, .. } => add_reply(alloc, *call, *from, *to, out),
+        } => add_request(*call, *from, *to, *refused, out),
+        Event::Reply { call, from, to, .. } => add_reply(*call, *from, *to, out),
         Event::Activate {
             end: StartEnd::Stop,
             ..
         } => Ok(()),
-        Event::Activate { uid, end, .. } => add_activate(alloc, *uid, *end, out),
-        Event::Start { call, uid, process } => add_start(alloc, *call, *uid, *process, out),
+        Event::Activate { uid, end, .. } => add_activate(*uid, *end, out),
+        Event::Start { call, uid, process } => add_start(*call, *uid, *process, out),
         Event::Process {
             uid,
             process,
             shown,
-        } => add_process(alloc, *uid, *process, *shown, out),
+        } => add_process(*uid, *process, *shown, out),
         Event::Store {
             end: RequestEnd::Stop,
             ..
@@ -248,24 +212,24 @@ fn add_trace(alloc: Global, event: &Event, out: &mut Vec<u8>) -> Result<(), Allo
             clock,
             end,
             ..
-        } => add_store(alloc, *uid, *clock, *end, out),
+        } => add_store(*uid, *clock, *end, out),
         _ => Ok(()),
     }
 }
 
 // `node 1`
-fn add_node(alloc: Global, node: u8, out: &mut Vec<u8>) -> Result<(), AllocError>
+fn add_node(node: u8, out: &mut Vec<u8>) -> Result<(), AllocError>
     ensures { OnOk result (out.new.items ≡ out.old.items ++ (codes "node" ++ text.num node)) }
 {
     out.extend_from_slice(b"node")?;
-    add_num(alloc, u64::from(node), out)
+    add_num(u64::from(node), out)
 }
 
 // `node 1 down stop`
-fn add_down(alloc: Global, node: u8, why: &str, out: &mut Vec<u8>) -> Result<(), AllocError>
+fn add_down(node: u8, why: &str, out: &mut Vec<u8>) -> Result<(), AllocError>
     ensures { OnOk result (out.new.items ≡ out.old.items ++ text.down_text node why.now) }
 {
-    add_node(alloc, node, out)?;
+    add_node(node, out)?;
     out.extend_from_slice(b" down ")?;
     out.extend_from_slice(why.as_bytes())?;
     out.push(b'\n')?;
@@ -273,38 +237,31 @@ fn add_down(alloc: Global, node: u8, why: &str, out: &mut Vec<u8>) -> Result<(),
 }
 
 // `node 1 up epoch 1`, `node 1 down damaged 0`
-fn add_boot(
-    alloc: Global,
-    node: u8,
-    epoch: u32,
-    end: BootEnd,
-    out: &mut Vec<u8>,
-) -> Result<(), AllocError>
+fn add_boot(node: u8, epoch: u32, end: BootEnd, out: &mut Vec<u8>) -> Result<(), AllocError>
     ensures { OnOk result (out.new.items ≡ out.old.items ++ text.boot_text node epoch end) }
 {
-    add_node(alloc, node, out)?;
+    add_node(node, out)?;
     if let BootEnd::Up = end {
         out.extend_from_slice(b" up epoch")?;
-        add_num(alloc, u64::from(epoch), out)?;
+        add_num(u64::from(epoch), out)?;
     } else {
         out.extend_from_slice(b" down ")?;
-        add_boot_word(alloc, end, out)?;
+        add_boot_word(end, out)?;
     }
     out.push(b'\n')?;
     Ok(())
 }
 
 // `node 1 is up`
-fn add_still(alloc: Global, node: u8, up: bool, out: &mut Vec<u8>) -> Result<(), AllocError>
+fn add_still(node: u8, up: bool, out: &mut Vec<u8>) -> Result<(), AllocError>
     ensures { OnOk result (out.new.items ≡ out.old.items ++ text.still_text node up) }
 {
-    add_node(alloc, node, out)?;
+    add_node(node, out)?;
     out.extend_from_slice(if up { b" is up\n" } else { b" is down\n" })
 }
 
 // `c is 1.1.1`
 fn add_made(
-    alloc: Global,
     name: &Txt,
     status: Status,
     uid: Option<Uid>,
@@ -313,11 +270,11 @@ fn add_made(
     ensures { OnOk result (out.new.items ≡ out.old.items ++ text.made_text name.now status uid) }
 {
     let Some(uid) = uid else {
-        return add_refused(alloc, name, status, out);
+        return add_refused(name, status, out);
     };
     out.extend_from_slice(&name.bytes)?;
     out.extend_from_slice(b" is ")?;
-    add_uid(alloc, uid, out)?;
+    add_uid(uid, out)?;
     out.push(b'\n')?;
     Ok(())
 }
@@ -360,19 +317,19 @@ fn add_answer(
         add_row(alloc, results, out)?;
         out.extend_from_slice(b")\n")
     } else {
-        add_refused(alloc, name, status, out)
+        add_refused(name, status, out)
     }
 }
 
 // `eject 1.1.1 fault budget`
-fn add_fault(alloc: Global, uid: Uid, shown: Shown, out: &mut Vec<u8>) -> Result<(), AllocError>
+fn add_fault(uid: Uid, shown: Shown, out: &mut Vec<u8>) -> Result<(), AllocError>
     ensures { OnOk result (out.new.items ≡ out.old.items ++ text.fault_text uid shown) }
 {
     let Shown::Fault { cause } = shown else {
         return Ok(());
     };
     out.extend_from_slice(b"eject ")?;
-    add_uid(alloc, uid, out)?;
+    add_uid(uid, out)?;
     out.extend_from_slice(b" fault ")?;
     out.extend_from_slice(fault_word(cause).as_bytes())?;
     out.push(b'\n')?;
@@ -428,16 +385,16 @@ fn add_shown(alloc: Global, event: &Event, out: &mut Vec<u8>) -> Result<(), Allo
             epoch,
             end,
             ..
-        } => add_boot(alloc, *node, *epoch, *end, out),
-        Event::Crash { node } => add_down(alloc, *node, "crash", out),
-        Event::Still { node, up } => add_still(alloc, *node, *up, out),
-        Event::Made { name, status, uid } => add_made(alloc, name, *status, *uid, out),
+        } => add_boot(*node, *epoch, *end, out),
+        Event::Crash { node } => add_down(*node, "crash", out),
+        Event::Still { node, up } => add_still(*node, *up, out),
+        Event::Made { name, status, uid } => add_made(name, *status, *uid, out),
         Event::Void { name } => add_void(name, out),
         Event::Asked {
             name,
             at_once: Some(status),
             ..
-        } => add_refused(alloc, name, *status, out),
+        } => add_refused(name, *status, out),
         Event::Reply {
             name: Some(name),
             status,
@@ -448,13 +405,13 @@ fn add_shown(alloc: Global, event: &Event, out: &mut Vec<u8>) -> Result<(), Allo
             uid,
             end: StartEnd::Stop,
             ..
-        } => add_down(alloc, uid.node, "stop", out),
-        Event::Process { uid, shown, .. } => add_fault(alloc, *uid, *shown, out),
+        } => add_down(uid.node, "stop", out),
+        Event::Process { uid, shown, .. } => add_fault(*uid, *shown, out),
         Event::Store {
             uid,
             end: RequestEnd::Stop,
             ..
-        } => add_down(alloc, uid.node, "stop", out),
+        } => add_down(uid.node, "stop", out),
         Event::Quiet => out.extend_from_slice(b"quiet\n"),
         Event::Spent => out.extend_from_slice(b"spent\n"),
         Event::Left { names } => add_open(&names.names, out),
@@ -485,15 +442,15 @@ fn began_word(event: &Event) -> &'static str
 }
 
 // `+ disk 1 15 - -`
-fn add_disk(alloc: Global, entry: &Entry, out: &mut Vec<u8>) -> Result<(), AllocError>
+fn add_disk(entry: &Entry, out: &mut Vec<u8>) -> Result<(), AllocError>
     ensures { OnOk result (out.new.items ≡ out.old.items ++ text.disk_text entry.now) }
 {
     if entry.node == 0 {
         return Ok(());
     }
     out.extend_from_slice(b"+ disk")?;
-    add_num(alloc, u64::from(entry.node), out)?;
-    add_num(alloc, entry.clock, out)?;
+    add_num(u64::from(entry.node), out)?;
+    add_num(entry.clock, out)?;
     out.push(b' ')?;
     out.extend_from_slice(pick_word(pick_of(&entry.event)).as_bytes())?;
     out.push(b' ')?;
@@ -513,15 +470,15 @@ fn add_entry(alloc: Global, mode: Mode, entry: &Entry, out: &mut Vec<u8>) -> Res
             add_broken(&entry.broken.names, out)
         }
         Mode::Trace => {
-            add_trace(alloc, &entry.event, out)?;
+            add_trace(&entry.event, out)?;
             add_shown(alloc, &entry.event, out)?;
             add_broken(&entry.broken.names, out)
         }
         Mode::Full => {
-            add_trace(alloc, &entry.event, out)?;
+            add_trace(&entry.event, out)?;
             add_shown(alloc, &entry.event, out)?;
             add_broken(&entry.broken.names, out)?;
-            add_disk(alloc, entry, out)
+            add_disk(entry, out)
         }
     }
 }

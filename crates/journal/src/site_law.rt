@@ -1,5 +1,5 @@
 //! What holds of every node of every world that a history reaches, and of every event at a node.
-ghost use Rattle.journal.specs.SiteLaws.{WorldsAreSound, SitesAreSound, HeldCallsAreWork, EpochsAreBounded, StopsAreFalls, FallsAreLast, EventsKeepSites, EventsKeepCalls, StatesStayElsewhere};
+ghost use Rattle.journal.specs.SiteLaws.{WorldsAreSound, SitesAreSound, HeldCallsAreWork, MonitorsAreHeld, EpochsAreBounded, StopsAreFalls, FallsAreLast, EventsKeepSites, EventsKeepCalls, StatesStayElsewhere};
 
 /// Every world at the end of a history so far, over disks that are handed in as they have to be, is sound:
 /// its nodes and their Ejects are in order, each process has a task, only the first of a node's requests
@@ -8,15 +8,22 @@ pub fn every_world_is_sound()
     ensures { WorldsAreSound }
 {}
 
-/// Each of its nodes is sound as well: each call that an Eject runs or has queued is held there, and once,
-/// and a process with an open call or a request at the store waits for that alone.
+/// Each of its nodes is sound as well, where the types of the script keep the rules: each call that an Eject
+/// runs or has queued is held there, and once, and a process with an open call or a request at the store
+/// waits for that alone.
 pub fn every_site_is_sound()
     ensures { SitesAreSound }
 {}
 
-/// And a call that is held at an Eject is one that it runs or has queued.
+/// And a call that is held at an Eject is one that it runs or has queued, with such types.
 pub fn a_held_call_is_run_or_queued()
     ensures { HeldCallsAreWork }
+{}
+
+/// A process whose rest is inside of a monitor holds it, waits in its entry queue, or waits on one of its
+/// conditions, with such types; and no other does.
+pub fn every_monitor_is_held()
+    ensures { MonitorsAreHeld }
 {}
 
 /// The stored epoch of each of its nodes, and the one in doubt, are at most 4,294,967,295.

@@ -8,42 +8,43 @@ use crate::{BootEnd, RequestEnd, Shown, StartEnd};
 use capability::Uid;
 use eden_disk::ImageMode;
 use epl_syntax::FaultCause;
+use itoa::Buffer;
 use passive_store::Pick;
-use std::alloc::{AllocError, Global};
+use std::alloc::AllocError;
 
 // a blank and a number
-pub fn add_num(alloc: Global, n: u64, out: &mut Vec<u8>) -> Result<(), AllocError>
+pub fn add_num(n: u64, out: &mut Vec<u8>) -> Result<(), AllocError>
     ensures { OnOk result (out.new.items ≡ out.old.items ++ text.num n) }
 {
     out.push(b' ')?;
-    let digits = n.to_string(alloc)?;
-    out.extend_from_slice(digits.as_bytes())
+    let mut digits = Buffer::new();
+    out.extend_from_slice(digits.format(n).as_bytes())
 }
 
 // a blank and a number that may be wide
-pub fn add_count(alloc: Global, n: u128, out: &mut Vec<u8>) -> Result<(), AllocError>
+pub fn add_count(n: u128, out: &mut Vec<u8>) -> Result<(), AllocError>
     ensures { OnOk result (out.new.items ≡ out.old.items ++ text.num n) }
 {
     out.push(b' ')?;
-    let digits = n.to_string(alloc)?;
-    out.extend_from_slice(digits.as_bytes())
+    let mut digits = Buffer::new();
+    out.extend_from_slice(digits.format(n).as_bytes())
 }
 
-fn add_decimal(alloc: Global, n: u32, out: &mut Vec<u8>) -> Result<(), AllocError>
+fn add_decimal(n: u32, out: &mut Vec<u8>) -> Result<(), AllocError>
     ensures { OnOk result (out.new.items ≡ out.old.items ++ decimal n) }
 {
-    let digits = n.to_string(alloc)?;
-    out.extend_from_slice(digits.as_bytes())
+    let mut digits = Buffer::new();
+    out.extend_from_slice(digits.format(n).as_bytes())
 }
 
-pub fn add_uid(alloc: Global, uid: Uid, out: &mut Vec<u8>) -> Result<(), AllocError>
+pub fn add_uid(uid: Uid, out: &mut Vec<u8>) -> Result<(), AllocError>
     ensures { OnOk result (out.new.items ≡ out.old.items ++ printed_uid uid) }
 {
-    add_decimal(alloc, u32::from(uid.node), out)?;
+    add_decimal(u32::from(uid.node), out)?;
     out.push(b'.')?;
-    add_decimal(alloc, uid.epoch, out)?;
+    add_decimal(uid.epoch, out)?;
     out.push(b'.')?;
-    add_decimal(alloc, uid.serial, out)
+    add_decimal(uid.serial, out)
 }
 
 pub fn start_word(end: StartEnd) -> &'static str
@@ -97,7 +98,7 @@ pub fn pick_word(pick: Option<Pick>) -> &'static str
     }
 }
 
-pub fn add_boot_word(alloc: Global, end: BootEnd, out: &mut Vec<u8>) -> Result<(), AllocError>
+pub fn add_boot_word(end: BootEnd, out: &mut Vec<u8>) -> Result<(), AllocError>
     ensures { OnOk result (out.new.items ≡ out.old.items ++ text.boot_word end) }
 {
     match end {
@@ -106,14 +107,14 @@ pub fn add_boot_word(alloc: Global, end: BootEnd, out: &mut Vec<u8>) -> Result<(
         BootEnd::Stop => out.extend_from_slice(b"stop"),
         BootEnd::Damaged { place } => {
             out.extend_from_slice(b"damaged")?;
-            add_num(alloc, u64::from(place), out)
+            add_num(u64::from(place), out)
         }
         BootEnd::EpochsSpent => out.extend_from_slice(b"epochs spent"),
         BootEnd::Full => out.extend_from_slice(b"full"),
     }
 }
 
-pub fn add_image_word(alloc: Global, mode: ImageMode, out: &mut Vec<u8>) -> Result<(), AllocError>
+pub fn add_image_word(mode: ImageMode, out: &mut Vec<u8>) -> Result<(), AllocError>
     ensures { OnOk result (out.new.items ≡ out.old.items ++ text.image_word mode) }
 {
     match mode {
@@ -121,33 +122,33 @@ pub fn add_image_word(alloc: Global, mode: ImageMode, out: &mut Vec<u8>) -> Resu
         ImageMode::Lose => out.extend_from_slice(b"lose"),
         ImageMode::Garble { byte } => {
             out.extend_from_slice(b"garble")?;
-            add_num(alloc, u64::from(byte), out)
+            add_num(u64::from(byte), out)
         }
     }
 }
 
-pub fn add_shown_word(alloc: Global, shown: Shown, out: &mut Vec<u8>) -> Result<(), AllocError>
+pub fn add_shown_word(shown: Shown, out: &mut Vec<u8>) -> Result<(), AllocError>
     ensures { OnOk result (out.new.items ≡ out.old.items ++ text.shown_word shown) }
 {
     match shown {
         Shown::Invoke { call } => {
             out.extend_from_slice(b"invoke")?;
-            add_num(alloc, u64::from(call), out)
+            add_num(u64::from(call), out)
         }
         Shown::Return { call } => {
             out.extend_from_slice(b"return")?;
-            add_num(alloc, u64::from(call), out)
+            add_num(u64::from(call), out)
         }
         Shown::Checkpoint => out.extend_from_slice(b"checkpoint"),
         Shown::Deactivate => out.extend_from_slice(b"deactivate"),
         Shown::Destroy => out.extend_from_slice(b"destroy"),
         Shown::Created { uid } => {
             out.extend_from_slice(b"create ")?;
-            add_uid(alloc, uid, out)
+            add_uid(uid, out)
         }
         Shown::Refused { status } => {
             out.extend_from_slice(b"create refused")?;
-            add_num(alloc, u64::from(status.number()), out)
+            add_num(u64::from(status.number()), out)
         }
         Shown::Lock => out.extend_from_slice(b"lock"),
         Shown::Leave => out.extend_from_slice(b"leave"),
