@@ -5,16 +5,16 @@ use Rattle.std.proofs.Common.{arith, ◌≤◌}
 use Rattle.std.proofs.lemmas.Bool.{ltb-false}
 use Rattle.epl_syntax.specs.Rules.First.{before, broken_at, IsOneOf, NoneBefore, IsFirst}
 use Rattle.epl_syntax.specs.Rules.InItems.{broken_program}
-use Rattle.epl_syntax.specs.Tree.{Edentype}
+use Rattle.epl_syntax.specs.Tree.{TypeTree}
 use Rattle.epl_syntax.specs.declared.rule.Broken.{Broken}
 use Rattle.epl_parser.specs.Program.{SpellsType, RefusesType}
 use Rattle.eden_script.specs.Declarations.{Types, type_names, Declares, BreaksRule, RefusedAt}
 
 -- what crate `epl_parser` promises of a text: it spells one type, or is refused at one place
 pub record OneAnswer : Type 0 where
-  pub one_tree : (text : List ℕ) (e f : Edentype) → SpellsType text e → SpellsType text f → e ≡ f
+  pub one_tree : (text : List ℕ) (e f : TypeTree) → SpellsType text e → SpellsType text f → e ≡ f
   pub one_place : (text : List ℕ) (p q : ℕ) → RefusesType text p → RefusesType text q → p ≡ q
-  pub never_both : (text : List ℕ) (e : Edentype) (p : ℕ) → SpellsType text e → RefusesType text p → ⊥
+  pub never_both : (text : List ℕ) (e : TypeTree) (p : ℕ) → SpellsType text e → RefusesType text p → ⊥
 
 -- one of several is not before one that none is before
 not_before : (a b : Broken) (bs : List Broken) → IsOneOf a bs → NoneBefore b bs → before a b ≡ false
@@ -38,13 +38,13 @@ none_broken : (bs : List Broken) (a : Broken) → bs ≡ [] → IsOneOf a bs →
 none_broken bs a e m = subst (IsOneOf a) e m
 
 module _ (laws : OneAnswer) (types : Types) (text : List ℕ) where
-  pub one_type : (t u : Edentype) → Declares types text t → Declares types text u → t ≡ u
+  pub one_type : (t u : TypeTree) → Declares types text t → Declares types text u → t ≡ u
   one_type t u h g = laws.one_tree text t u h.spelled g.spelled
 
   same_rule : (p q : ℕ) → BreaksRule types text p → BreaksRule types text q → p ≡ q
   same_rule p q h g =
       first_place (broken_program (type_names types) g.value) (broken_at h.rule p) (broken_at g.rule q)
-      (subst (λ (t : Edentype). IsFirst (broken_program (type_names types) t) (broken_at h.rule p))
+      (subst (λ (t : TypeTree). IsFirst (broken_program (type_names types) t) (broken_at h.rule p))
       (laws.one_tree text h.value g.value h.spelled g.spelled) h.first)
       g.first
 
@@ -54,7 +54,7 @@ module _ (laws : OneAnswer) (types : Types) (text : List ℕ) where
   one_place p q (inr h) (inl g) = absurd (laws.never_both text h.value q h.spelled g)
   one_place p q (inr h) (inr g) = same_rule p q h g
 
-  pub never_both : (t : Edentype) (p : ℕ) → Declares types text t → RefusedAt types text p → ⊥
+  pub never_both : (t : TypeTree) (p : ℕ) → Declares types text t → RefusedAt types text p → ⊥
   never_both t p h (inl g) = laws.never_both text t p h.spelled g
   never_both t p h (inr g) =
       none_broken (broken_program (type_names types) g.value) (broken_at g.rule p)

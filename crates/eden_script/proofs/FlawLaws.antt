@@ -3,7 +3,7 @@ use Rattle.std.proofs.Common.{◌≡◌, ◌∙◌, ap, sym, refl, subst, ℕ, z
 use Rattle.std.specs.Prelude.{◌||◌, ◌&&◌, nat_lt, nat_le}
 use Rattle.std.specs.List.{list_all}
 use Rattle.std.proofs.lemmas.Bool.{cases_Bool, and_parts, eqb-true, eqb-false, ltb-true, ltb-false, leb-true, leb-false}
-use Rattle.epl_syntax.specs.Tree.{Edentype}
+use Rattle.epl_syntax.specs.Tree.{TypeTree}
 use Rattle.eden_script.specs.Form.{is_printable, is_among}
 use Rattle.eden_script.specs.Parts.{Part, declaration, unclosed, lines_of, line_at, line_of_place}
 use Rattle.eden_script.specs.Declarations.{DECLARED_LIMIT, type_names, declared_name, Declares, RefusedAt}
@@ -415,7 +415,7 @@ module _ (seen : Seen) (text : List ℕ) where
     before = λ c w k. absurd (before_text c w k);
   }
 
-  declares_first : OneAnswer → nat_lt (declared_count seen) DECLARED_LIMIT ≡ true → (t : Edentype) → Declares seen.types text t
+  declares_first : OneAnswer → nat_lt (declared_count seen) DECLARED_LIMIT ≡ true → (t : TypeTree) → Declares seen.types text t
       → First OfText seen (declaration text) None
   declares_first laws room t declared =
       λ i c k. text_passes i c ((λ _. ltb-true _ _ room), (λ q r line. never_both laws seen.types text t q declared r)) k
@@ -483,12 +483,12 @@ module _ (seen : Seen) (text : List ℕ) where
       → First (λ c. OfOuter c ⊎ OfText c) seen (declaration text) (earlier o None)
   declared_by o f g = merge OfOuter OfText seen (declaration text) o None f g
 
-  pub outside : OneAnswer → nat_lt (declared_count seen) DECLARED_LIMIT ≡ true → (t : Edentype) → Declares seen.types text t → (p : Place)
+  pub outside : OneAnswer → nat_lt (declared_count seen) DECLARED_LIMIT ≡ true → (t : TypeTree) → Declares seen.types text t → (p : Place)
       → Some p ≡ outer_flaw seen text → IsCause seen (declaration text) p.0 p.1
   outside laws room t d p e =
       cause_of p (declared_by (Some p) (subst (First OfOuter seen (declaration text)) (sym e) outer_first) (declares_first laws room t d))
 
-  pub said : OneAnswer → nat_lt (declared_count seen) DECLARED_LIMIT ≡ true → (t : Edentype) → Declares seen.types text t
+  pub said : OneAnswer → nat_lt (declared_count seen) DECLARED_LIMIT ≡ true → (t : TypeTree) → Declares seen.types text t
       → None ≡ outer_flaw seen text → IsSaid seen (declaration text) (declares t)
   said laws room t d e =
       let f = declared_by None (subst (First OfOuter seen (declaration text)) (sym e) outer_first) (declares_first laws room t d) in

@@ -7,7 +7,7 @@ use Rattle.std.proofs.lemmas.Slice.Eq.{bytes_eq-Decides}
 use Rattle.eden_model.specs.Map.{same_text}
 use Rattle.epl_syntax.specs.Rules.InItems.{broken_program}
 use Rattle.epl_syntax.specs.Rules.OfTypes.{names_of}
-use Rattle.epl_syntax.specs.Tree.{Edentype, edentype}
+use Rattle.epl_syntax.specs.Tree.{TypeTree, type_tree}
 use Rattle.epl_syntax.specs.declared.token.TokenKind.{TokenKind}
 use Rattle.epl_syntax.specs.declared.tree.Name.{Name}
 use Rattle.epl_parser.specs.Program.{SpellsType, IsNamed}
@@ -31,7 +31,7 @@ abbrev Begins : List Part → Type 0
 Begins (declaration text ∷ ps) = begins_type text ≡ true
 Begins _ = Unit {0}
 
-begins_more : (text more : List ℕ) → begins_type text ≡ true → begins_type (text ++ more) ≡ true
+pub begins_more : (text more : List ℕ) → begins_type text ≡ true → begins_type (text ++ more) ≡ true
 begins_more text more h = ap (λ (l : List ℕ). bytes_eq l (codes "edentype")) (take-append-le 8 text more (begins_long text h)) ∙ h
 
 chosen : (b : Bool) (x y : List Part) → Begins x → Begins y → Begins (cond b x y)
@@ -56,9 +56,9 @@ parts_begin (bytes ∷ lines) = by (begins_type bytes) refl
 
 -- the name of a type stands in its text behind `edentype`
 abbrev pub Named : Type 0
-Named = (text : List ℕ) (e : Edentype) → SpellsType text e → IsNamed text e.name
+Named = (text : List ℕ) (e : TypeTree) → SpellsType text e → IsNamed text e.name
 
-tree_name : (text : List ℕ) (name : Name) → begins_type text ≡ true → IsNamed text name
+pub tree_name : (text : List ℕ) (name : Name) → begins_type text ≡ true → IsNamed text name
     → (place : ℕ) × (declared_name text ≡ Some (place, name.text))
 tree_name text name begins h =
     let first = h.first in
@@ -73,11 +73,11 @@ tree_name text name begins h =
 
 -- ## What a part declares
 
-abbrev type_or : Edentype → Line → Edentype
+abbrev type_or : TypeTree → Line → TypeTree
 type_or t (declares u) = u
 type_or t _ = t
 
-kept : (s : Seen) (p : Part) (t : Edentype) → IsSaid (seen_of s) p (declares t) → broken_program (names_of s.types) t ≡ []
+kept : (s : Seen) (p : Part) (t : TypeTree) → IsSaid (seen_of s) p (declares t) → broken_program (names_of s.types) t ≡ []
 kept s (line bytes) t h = absurd h.tells.0
 kept s (declaration text) t h =
     let same : t ≡ h.tells.0 = ap (type_or t) h.tells.1 in
@@ -86,14 +86,14 @@ kept s (declaration text) t h =
     ∙ h.tells.2.keeps_rules
 kept s (unclosed lines) t h = absurd (cc (h.tells))
 
-is_new : Named → (s : Seen) (p : Part) (ps : List Part) (t : Edentype) → Begins (p ∷ ps) → IsSaid (seen_of s) p (declares t)
+is_new : Named → (s : Seen) (p : Part) (ps : List Part) (t : TypeTree) → Begins (p ∷ ps) → IsSaid (seen_of s) p (declares t)
     → list_any (λ n. same_text n t.name.text) (names_of s.types) ≡ false
 is_new named s (line bytes) ps t begins h = absurd h.tells.0
 is_new named s (declaration text) ps t begins h =
     let same : t ≡ h.tells.0 = ap (type_or t) h.tells.1 in
     let found = tree_name text h.tells.0.name begins (named text h.tells.0 h.tells.2.spelled) in
     let new_ = h.passes (line_of_place text found.0) DoubledName found.0 h.tells.0.name.text found.1 refl in
-    has_name s.types t.name.text ∙ ap (λ (u : Edentype). is_among (type_names (types_in s.types)) u.name.text) same ∙ new_
+    has_name s.types t.name.text ∙ ap (λ (u : TypeTree). is_among (type_names (types_in s.types)) u.name.text) same ∙ new_
 is_new named s (unclosed lines) ps t begins h = absurd (cc (h.tells))
 
 pub keeps_rules : Named → (s : Seen) (lines : List (List ℕ)) (p : Part) (ps : List Part) (l : CodeLine) → parts_of lines ≡ p ∷ ps
@@ -102,5 +102,5 @@ keeps_rules named s lines p ps code.Idle e h = tt
 keeps_rules named s lines p ps (code.Nodes n) e h = tt
 keeps_rules named s lines p ps (code.Does o) e h = tt
 keeps_rules named s lines p ps (code.Declares c) e h =
-    (kept s p (edentype c.program) h, is_new named s p ps (edentype c.program) (subst Begins e (parts_begin lines)) h)
+    (kept s p (type_tree c.program) h, is_new named s p ps (type_tree c.program) (subst Begins e (parts_begin lines)) h)
 keeps_rules named s lines p ps code.Unended e h = tt

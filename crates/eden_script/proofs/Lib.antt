@@ -29,5 +29,6 @@ pub mod PartLaws
 pub mod FitArguments
 pub mod FitCommands
 pub mod FitNames
+pub mod FitTypes
 pub mod FitScripts
 pub mod FitCalls

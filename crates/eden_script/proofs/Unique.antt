@@ -2,7 +2,7 @@
 use Rattle.std.proofs.Common.{◌≡◌, ◌∙◌, ap, sym, refl, subst, ℕ, zero, suc, ◌+◌, ◌≤◌, false, List, [], ◌∷◌, ◌++◌, length, map, codes, inl, inr, arith}
 use Rattle.std.proofs.lemmas.Bool.{cases_order}
 use Rattle.std.proofs.lemmas.Slice.Eq.{bytes_eq-Decides}
-use Rattle.epl_syntax.specs.Tree.{Edentype}
+use Rattle.epl_syntax.specs.Tree.{TypeTree}
 use Rattle.eden_script.specs.Parts.{Part, line, declaration, unclosed, lines_of, parts_of, line_count}
 use Rattle.eden_script.specs.Tree.{WrittenCommand, create, hold, call, restrict, walk, turn, go, crash, restart, cut, join, fail, stop, finish, Line, idle, nodes, does, declares, unended}
 use Rattle.eden_script.specs.Grammar.{Command, Spells}
@@ -66,7 +66,7 @@ one_line seen bytes (does o) (does p) short t u =
 same_said : OneAnswer → (seen : Seen) (part : Part) (l k : Line) → IsSaid seen part l → IsSaid seen part k → l ≡ k
 same_said laws seen (line bytes) l k x y = one_line seen bytes l k (x.passes 0 LongLine) x.tells y.tells
 same_said laws seen (declaration text) l k x y =
-    x.tells.1 ∙ ap (λ (t : Edentype). declares t) (one_type laws seen.types text x.tells.0 y.tells.0 x.tells.2 y.tells.2) ∙ sym y.tells.1
+    x.tells.1 ∙ ap (λ (t : TypeTree). declares t) (one_type laws seen.types text x.tells.0 y.tells.0 x.tells.2 y.tells.2) ∙ sym y.tells.1
 same_said laws seen (unclosed lines) l k x y = x.tells ∙ sym y.tells
 
 no_cause : (seen : Seen) (part : Part) (l : Line) (i : ℕ) (c : ScriptCause) → IsSaid seen part l → IsCause seen part i c → ⊥

@@ -2,7 +2,7 @@
 use Rattle.std.specs.Prelude.{◌≡◌, ◌⊎◌, ◌↔◌, ℕ, ℤ, pos, negsuc, ◌≤◌, ◌<◌, ◌^◌, Bool, true, false, List, [], ◌∷◌, ◌++◌, length, codes}
 use Rattle.std.specs.Prelude.{Option, Some, None}
 use Rattle.std.specs.List.{take_while, list_all, list_any}
-use Rattle.epl_syntax.specs.Tree.{Edentype}
+use Rattle.epl_syntax.specs.Tree.{TypeTree}
 pub use Rattle.journal.specs.Fit.{Within}
 use Rattle.eden_script.specs.Parts.{Part, line, declaration, unclosed, lines_of, line_at, line_of_place}
 use Rattle.eden_script.specs.Declarations.{DECLARED_LIMIT, Types, native_alone, type_names, declared_name, Declares, RefusedAt}
@@ -216,7 +216,7 @@ pub record IsCause (seen : Seen) (part : Part) (i : ℕ) (cause : ScriptCause) :
 -- what a part says
 abbrev pub Tells : Seen → Part → Line → Type 0
 Tells seen (line bytes) l = LineTells seen bytes l
-Tells seen (declaration body) l = (t : Edentype) × (l ≡ declares t) × Declares seen.types body t
+Tells seen (declaration body) l = (t : TypeTree) × (l ≡ declares t) × Declares seen.types body t
 Tells seen (unclosed lines) l = l ≡ unended
 
 -- a part that passes all tests, and what it says

@@ -2,13 +2,13 @@
 use Rattle.std.specs.Prelude.{◌≡◌, ◌⊎◌, ℕ, Bool, ◌+◌, ◌==◌, ◌||◌, ◌&&◌, nat_lt, List, [], ◌∷◌, ◌++◌, length, map, drop, Option, Some, None}
 use Rattle.std.specs.Prelude.{if◌then◌else◌}
 use Rattle.std.specs.List.{take_while}
-use Rattle.epl_syntax.specs.Meaning.{name_of, native_types}
+use Rattle.epl_syntax.specs.Natives.{native_name, native_types}
 use Rattle.epl_syntax.specs.Rules.First.{broken_at, IsFirst}
 use Rattle.epl_syntax.specs.Rules.InItems.{broken_program}
 use Rattle.epl_syntax.specs.Rules.OfTypes.{TypeList}
-use Rattle.epl_syntax.specs.Tree.{Edentype, edentype}
+use Rattle.epl_syntax.specs.Tree.{TypeTree, type_tree}
 use Rattle.epl_syntax.specs.declared.rule.Rule.{Rule}
-use Rattle.epl_syntax.specs.declared.types.Edentype.{Edentype as Native}
+use Rattle.epl_syntax.specs.declared.types.Native.{Native}
 use Rattle.epl_parser.specs.Program.{SpellsType, RefusesType}
 pub use Rattle.journal.specs.Fit.{DECLARED_LIMIT}
 use Rattle.eden_script.specs.Form.{is_name_byte, is_upper}
@@ -18,23 +18,23 @@ use Rattle.eden_script.specs.declared.declared.Refused.TheVariants.{At, Memory}
 -- the types of a script: the native ones, and those that it declares, in order
 pub record Types : Type 0 where
   pub native : List Native
-  pub declared : List Edentype
+  pub declared : List TypeTree
 
 -- the types before the first declaration
 abbrev pub native_alone : Types
 native_alone = record { native = native_types; declared = [] }
 
 -- one more at the end
-abbrev pub with_declared : Types → Edentype → Types
+abbrev pub with_declared : Types → TypeTree → Types
 with_declared types t = record { native = types.native; declared = types.declared ++ t ∷ [] }
 
 -- the types that the code keeps, without where they lie in memory
 abbrev pub types_in : TypeList → Types
-types_in types = record { native = types.native; declared = map edentype types.declared }
+types_in types = record { native = types.native; declared = map type_tree types.declared }
 
 -- the names of all of them
 abbrev pub type_names : Types → List (List ℕ)
-type_names types = map name_of types.native ++ map (λ t. t.name.text) types.declared
+type_names types = map native_name types.native ++ map (λ t. t.name.text) types.declared
 
 -- blanks and line feeds part the tokens of a text
 abbrev pub is_space : ℕ → Bool
@@ -56,13 +56,13 @@ declared_name text =
     else None
 
 -- The text spells this type, which keeps the rules behind these types.
-pub record Declares (types : Types) (text : List ℕ) (t : Edentype) : Type 0 where
+pub record Declares (types : Types) (text : List ℕ) (t : TypeTree) : Type 0 where
   pub spelled : SpellsType text t
   pub keeps_rules : broken_program (type_names types) t ≡ []
 
 -- The text spells a type that breaks a rule behind these types, and the first broken rule is broken here.
 pub record BreaksRule (types : Types) (text : List ℕ) (place : ℕ) : Type 0 where
-  pub value : Edentype
+  pub value : TypeTree
   pub spelled : SpellsType text value
   pub rule : Rule
   pub first : IsFirst (broken_program (type_names types) value) (broken_at rule place)

@@ -2,7 +2,7 @@
 -- and its numbers out of their ranges.
 use Rattle.std.specs.Prelude.{ℕ, suc, max, List, [], ◌∷◌, Option}
 use Rattle.eden_value.specs.Datum.{Datum}
-use Rattle.epl_syntax.specs.Tree.{Edentype}
+use Rattle.epl_syntax.specs.Tree.{TypeTree}
 
 -- a name alone, or a name and the number of a result
 pub record WrittenRef : Type 0 where
@@ -69,5 +69,5 @@ pub data Line : Type 0 where
   idle : Line
   nodes : ℕ → Line
   does : WrittenCommand → Line
-  declares : Edentype → Line
+  declares : TypeTree → Line
   unended : Line

@@ -11,7 +11,7 @@ use Rattle.eden_value.specs.declared.value.Value.{Value}
 use Rattle.eden_model.specs.Map.{same_text}
 use Rattle.journal.specs.ArgumentView.{given}
 use Rattle.journal.specs.declared.command.Arg.{Arg}
-use Rattle.epl_syntax.specs.Tree.{edentype}
+use Rattle.epl_syntax.specs.Tree.{type_tree}
 use Rattle.epl_syntax.specs.Rules.InItems.{broken_program}
 use Rattle.epl_syntax.specs.Rules.OfTypes.{TypeList, names_of}
 use Rattle.eden_script.specs.Declarations.{DECLARED_LIMIT, types_in}
@@ -69,7 +69,7 @@ abbrev pub line_of : CodeLine → Line
 line_of code.Idle = idle
 line_of (code.Nodes n) = nodes n
 line_of (code.Does c) = does (written_command c)
-line_of (code.Declares c) = declares (edentype c.program)
+line_of (code.Declares c) = declares (type_tree c.program)
 line_of code.Unended = unended
 
 -- what the parts so far leave, in the code
@@ -88,7 +88,7 @@ room_after room _ = room
 -- a type that is declared behind these keeps the rules, and none of them has its name
 abbrev pub KeepsRules : TypeList → CodeLine → Type 0
 KeepsRules types (code.Declares c) =
-    (broken_program (names_of types) (edentype c.program) ≡ [])
+    (broken_program (names_of types) (type_tree c.program) ≡ [])
     × (list_any (λ t. same_text t c.program.name.text) (names_of types) ≡ false)
 KeepsRules types _ = Unit {0}
 

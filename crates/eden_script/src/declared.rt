@@ -139,7 +139,7 @@ fn refused_by_grammar(refusal: ParseRefusal) -> Refused
 
 /// Where a type breaks a rule.
 fn refused_by_rule(refusal: CheckRefusal) -> Refused
-    ensures { (types : declarations.Types) (text : List ℕ) (t : tree.Edentype) → SpellsType text t
+    ensures { (types : declarations.Types) (text : List ℕ) (t : tree.TypeTree) → SpellsType text t
         → Refuses (broken_program (type_names types) t) refusal → IsRefused types text result }
 {
     match refusal {
@@ -157,7 +157,7 @@ fn refused_by_rule(refusal: CheckRefusal) -> Refused
 /// text spells a type, by the rules.
 pub fn declared(alloc: Global, types: &Types, text: &[u8]) -> Result<Checked, Refused>
     requires { length text.now < 2 ^ 32 }
-    ensures declares { IfOk result (λ c. Declares (types_in types.now) text.now (tree.edentype c.program)) }
+    ensures declares { IfOk result (λ c. Declares (types_in types.now) text.now (tree.type_tree c.program)) }
     ensures refused { IfErr result (IsRefused (types_in types.now) text.now) }
 {
     let program = match parse_edentype(alloc, text) {

@@ -14,7 +14,7 @@ use crate::flaw::Flaw;
 use crate::line::{Line, Seen, note};
 use crate::names::Names;
 use crate::part::first_part;
-use epl_parser::{refusals_are_one, types_are_named, types_are_one};
+use epl_parser::{conditions_are_in_monitors, refusals_are_one, types_are_named, types_are_one};
 use epl_syntax::Types;
 use journal::{Command, Commands, Script};
 use std::alloc::{AllocError, Global};
@@ -60,6 +60,8 @@ pub fn parse_script(alloc: Global, bytes: &[u8]) -> Result<Script, ScriptRefusal
     ensures bare { IfOk result (λ s. WriteNone s.commands) }
     ensures bad { IfErr result (IsRefusal bytes.now) }
 {
+    types_are_named();
+    conditions_are_in_monitors();
     let mut seen = Seen {
         types: Types::native(alloc)?,
         room: DECLARED_LIMIT,
@@ -81,7 +83,6 @@ pub fn parse_script(alloc: Global, bytes: &[u8]) -> Result<Script, ScriptRefusal
             }
             Err(Flaw::Memory) => return Err(ScriptRefusal::OutOfMemory),
         };
-        types_are_named();
         follow(alloc, &mut seen, &mut commands, said)?;
         rest = behind;
         lines += count;

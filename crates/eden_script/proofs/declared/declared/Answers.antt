@@ -12,15 +12,15 @@ returns-in-Err-clause-refused c = c.refused_by_grammar.ensures (types_in c.args.
 
 pub returns-in-Ok-check-clause-declares : goal.returns-in-Ok-check-clause-declares
 returns-in-Ok-check-clause-declares c =
-    subst (λ (p : Program). Declares (types_in c.args.types.now) c.args.text.now (tree.edentype p)) (sym c.of.ensures) (record {
+    subst (λ (p : Program). Declares (types_in c.args.types.now) c.args.text.now (tree.type_tree p)) (sym c.of.ensures) (record {
       spelled = c.in-Ok.ensures.answers;
       keeps_rules =
-          ap (λ (names : List (List ℕ)). broken_program names (tree.edentype c.in-Ok.program)) (sym (same_names c.args.types.now))
+          ap (λ (names : List (List ℕ)). broken_program names (tree.type_tree c.in-Ok.program)) (sym (same_names c.args.types.now))
           ∙ c.in-Ok-check.ensures.ok;
     })
 
 pub returns-in-Err-check-clause-refused : goal.returns-in-Err-check-clause-refused
 returns-in-Err-check-clause-refused c =
-    c.refused_by_rule.ensures (types_in c.args.types.now) c.args.text.now (tree.edentype c.in-Ok.program) c.in-Ok.ensures.answers
-    (subst (λ (names : List (List ℕ)). Refuses (broken_program names (tree.edentype c.in-Ok.program)) c.in-Err-check.refusal)
+    c.refused_by_rule.ensures (types_in c.args.types.now) c.args.text.now (tree.type_tree c.in-Ok.program) c.in-Ok.ensures.answers
+    (subst (λ (names : List (List ℕ)). Refuses (broken_program names (tree.type_tree c.in-Ok.program)) c.in-Err-check.refusal)
     (same_names c.args.types.now) c.in-Err-check.ensures.refused)

@@ -1,7 +1,7 @@
 use Rattle.std.proofs.Common.{rules}
 use Rattle.std.specs.Option.{option_map}
 use Rattle.eden_script.specs.View.{seen_of, place_of}
-use Rattle.epl_syntax.specs.Tree.{edentype}
+use Rattle.epl_syntax.specs.Tree.{type_tree}
 use Rattle.eden_script.proofs.FlawLaws.{too_many, refused, outside, said}
 use Rattle.eden_script.proofs.part.edentype.Goals as goal
 
@@ -24,11 +24,11 @@ returns-in-Some c =
     let laws = c.refusals_are_one.ensures in
     outside (seen_of c.args.seen.now) c.args.text.now
     (record { one_tree = c.types_are_one.ensures.one_tree; one_place = laws.one_place; never_both = laws.never_both }) (search rules)
-    (edentype c.in-Ok.edentype.program) c.in-Ok.ensures.declares (place_of c.in-Some.at) (search rules)
+    (type_tree c.in-Ok.edentype.program) c.in-Ok.ensures.declares (place_of c.in-Some.at) (search rules)
 
 pub returns-in-None : goal.returns-in-None
 returns-in-None c =
     let laws = c.refusals_are_one.ensures in
     said (seen_of c.args.seen.now) c.args.text.now
     (record { one_tree = c.types_are_one.ensures.one_tree; one_place = laws.one_place; never_both = laws.never_both }) (search rules)
-    (edentype c.in-Ok.edentype.program) c.in-Ok.ensures.declares (search rules)
+    (type_tree c.in-Ok.edentype.program) c.in-Ok.ensures.declares (search rules)
