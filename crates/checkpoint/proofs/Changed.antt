@@ -30,7 +30,8 @@ apart u v h = go (same_uid u v) refl
     go true is = absurd (h (eq-same uid_cmp uid_cmp-IsAntisymmetric u v is))
     go false is = refl
 
-pub bodies-after : (u q : Uid) (new : Option (List ℕ)) (m : FinMap uid_cmp (List ℕ)) → finite.get (bodies_after u new m) q ≡ cond (same_uid q u) new (finite.get m q)
+pub bodies-after : (u q : Uid) (new : Option (List ℕ)) (m : FinMap uid_cmp (List ℕ))
+    → finite.get (bodies_after u new m) q ≡ cond (same_uid q u) new (finite.get m q)
 bodies-after u q None m = finite.get-remove uid_cmp_total m u q
 bodies-after u q (Some bytes) m = finite.get-insert uid_cmp_total m u bytes q
 
@@ -40,14 +41,16 @@ kept-change (Some bytes) = refl
 
 -- 2. A change of the Ejects alone
 
-pub ordered-shift : (n : ℕ) (g : Uid → Facts → Facts) (f : List StoreRequest → List StoreRequest) (s t : Site) → Shift g f s t → IsOrdered n s.node.ejects → IsOrdered n t.node.ejects
+pub ordered-shift : (n : ℕ) (g : Uid → Facts → Facts) (f : List StoreRequest → List StoreRequest) (s t : Site) → Shift g f s t
+    → IsOrdered n s.node.ejects → IsOrdered n t.node.ejects
 ordered-shift n g f s t shift o = record {
   in_order = shift.in_order o.in_order;
   of_node = λ u is. o.of_node u (sym (shift.uids u) ∙ is);
   not_reserved = λ u is. o.not_reserved u (sym (shift.uids u) ∙ is);
 }
 
-pub map-shift : (n : ℕ) (g : Uid → Facts → Facts) (f : List StoreRequest → List StoreRequest) (s t : Site) (kept later : Kept) (c d : Option StoreChange) → Shift g f s t → MapStands n s kept c
+pub map-shift : (n : ℕ) (g : Uid → Facts → Facts) (f : List StoreRequest → List StoreRequest) (s t : Site) (kept later : Kept)
+    (c d : Option StoreChange) → Shift g f s t → MapStands n s kept c
     → ((u : Uid) → u ≢ epoch_uid n → g u (finite.get kept.bodies u, doubt_of c u) ≡ (finite.get later.bodies u, doubt_of d u))
     → finite.get later.bodies (epoch_uid n) ≡ finite.get kept.bodies (epoch_uid n) → doubt_of d (epoch_uid n) ≡ doubt_of c (epoch_uid n)
     → later.ledger ≡ kept.ledger → Wrote s.layout d → MapStands n t later d
@@ -61,18 +64,37 @@ map-shift n g f s t kept later c d shift m each body_of in_doubt same wrote = re
   wrote = subst (λ (l : Layout). Wrote l d) (sym shift.its_layout) wrote;
 }
 
-pub map-same : (n : ℕ) (f : List StoreRequest → List StoreRequest) (s t : Site) (kept : Kept) (c : Option StoreChange) → Shift same_facts f s t → MapStands n s kept c → MapStands n t kept c
+pub map-same : (n : ℕ) (f : List StoreRequest → List StoreRequest) (s t : Site) (kept : Kept) (c : Option StoreChange)
+    → Shift same_facts f s t → MapStands n s kept c → MapStands n t kept c
 map-same n f s t kept c shift m = map-shift n same_facts f s t kept kept c c shift m (λ u h. refl) refl refl refl m.wrote
 
 -- 3. Fields that the map does not know
 
-pub map-synced : (n : ℕ) (b : Bool) (s : Site) (kept : Kept) (c : Option StoreChange) → MapStands n s kept c → MapStands n (on_node (λ it. record it { synced = b }) s) kept c
+pub map-synced : (n : ℕ) (b : Bool) (s : Site) (kept : Kept) (c : Option StoreChange) → MapStands n s kept c
+    → MapStands n (on_node (λ it. record it { synced = b }) s) kept c
 unfolding on_node
-map-synced n b s kept c m = record { undamaged = m.undamaged; ordered = m.ordered; facts = m.facts; epoch = m.epoch; epoch_doubt = m.epoch_doubt; ledger = m.ledger; wrote = m.wrote }
+map-synced n b s kept c m = record {
+  undamaged = m.undamaged;
+  ordered = m.ordered;
+  facts = m.facts;
+  epoch = m.epoch;
+  epoch_doubt = m.epoch_doubt;
+  ledger = m.ledger;
+  wrote = m.wrote;
+}
 
-pub map-clock : (n k : ℕ) (s : Site) (kept : Kept) (c : Option StoreChange) → MapStands n s kept c → MapStands n (on_node (λ it. record it { clock = Some k }) s) kept c
+pub map-clock : (n k : ℕ) (s : Site) (kept : Kept) (c : Option StoreChange) → MapStands n s kept c
+    → MapStands n (on_node (λ it. record it { clock = Some k }) s) kept c
 unfolding on_node
-map-clock n k s kept c m = record { undamaged = m.undamaged; ordered = m.ordered; facts = m.facts; epoch = m.epoch; epoch_doubt = m.epoch_doubt; ledger = m.ledger; wrote = m.wrote }
+map-clock n k s kept c m = record {
+  undamaged = m.undamaged;
+  ordered = m.ordered;
+  facts = m.facts;
+  epoch = m.epoch;
+  epoch_doubt = m.epoch_doubt;
+  ledger = m.ledger;
+  wrote = m.wrote;
+}
 
 map-ledger : (n : ℕ) (f : List ℕ → List ℕ) (s : Site) (kept : Kept) (c : Option StoreChange) → MapStands n s kept c
     → MapStands n (on_node (λ it. record it { ledger = f it.ledger }) s) (record kept { ledger = f kept.ledger }) c
@@ -97,7 +119,8 @@ other-doubt : (c : StoreChange) (d : Option StoreChange) (u : Uid) → AtMost c 
 other-doubt c d u (inl none) is = ap (λ x. doubt_of x u) none
 other-doubt c d u (inr this) is = ap (λ x. doubt_of x u) this ∙ ap (λ b. cond b (Some (change_of c.body)) None) is
 
-pub map-doubted : (n : ℕ) (r : StoreRequest) (c : StoreChange) (s : Site) (kept : Kept) (d : Option StoreChange) → r.uid ≡ c.uid → r.change ≡ change_of c.body → AtMost c d
+pub map-doubted : (n : ℕ) (r : StoreRequest) (c : StoreChange) (s : Site) (kept : Kept) (d : Option StoreChange) → r.uid ≡ c.uid
+    → r.change ≡ change_of c.body → AtMost c d
     → Wrote s.layout (Some c) → is_some (eject_in s r.uid) ≡ true → MapStands n s kept d → MapStands n (doubted r s) kept (Some c)
 map-doubted n r c s kept d uid_is change_is most wrote held m =
     map-shift n (facts_at r.uid (λ f. (f.0, Some r.change))) same_requests s (doubted r s) kept kept d (Some c)
@@ -107,16 +130,22 @@ map-doubted n r c s kept d uid_is change_is most wrote held m =
     other : same_uid (epoch_uid n) c.uid ≡ false
     other = apart (epoch_uid n) c.uid (λ e. m.ordered.not_reserved r.uid held (uid_is ∙ sym e))
 
-    go : (u : Uid) (b : Bool) → same_uid u c.uid ≡ b → ◌≡◌ {A = Facts} (cond b (finite.get kept.bodies u, Some r.change) (finite.get kept.bodies u, doubt_of d u)) (finite.get kept.bodies u, cond b (Some (change_of c.body)) None)
+    go : (u : Uid) (b : Bool) → same_uid u c.uid ≡ b
+        → ◌≡◌ {A = Facts} (cond b (finite.get kept.bodies u, Some r.change) (finite.get kept.bodies u, doubt_of d u))
+        (finite.get kept.bodies u, cond b (Some (change_of c.body)) None)
     go u true is = ap (λ x. (finite.get kept.bodies u, Some x)) change_is
     go u false is = ap (λ x. (finite.get kept.bodies u, x)) (other-doubt c d u most is)
 
-    each : (u : Uid) → u ≢ epoch_uid n → facts_at r.uid (λ f. (f.0, Some r.change)) u (finite.get kept.bodies u, doubt_of d u) ≡ (finite.get kept.bodies u, doubt_of (Some c) u)
-    each u h = ap (λ v. facts_at v (λ f. (f.0, Some r.change)) u (finite.get kept.bodies u, doubt_of d u)) uid_is ∙ go u (same_uid u c.uid) refl
+    each : (u : Uid) → u ≢ epoch_uid n
+        → facts_at r.uid (λ f. (f.0, Some r.change)) u (finite.get kept.bodies u, doubt_of d u) ≡
+        (finite.get kept.bodies u, doubt_of (Some c) u)
+    each u h = ap (λ v. facts_at v (λ f. (f.0, Some r.change)) u (finite.get kept.bodies u, doubt_of d u)) uid_is
+        ∙ go u (same_uid u c.uid) refl
 
 -- 5. It is made, and nothing is in doubt
 
-pub map-stored : (n : ℕ) (r : StoreRequest) (c : StoreChange) (s : Site) (kept : Kept) (d : Option StoreChange) → r.uid ≡ c.uid → r.change ≡ change_of c.body → AtMost c d
+pub map-stored : (n : ℕ) (r : StoreRequest) (c : StoreChange) (s : Site) (kept : Kept) (d : Option StoreChange) → r.uid ≡ c.uid
+    → r.change ≡ change_of c.body → AtMost c d
     → Wrote s.layout (Some c) → is_some (eject_in s r.uid) ≡ true → MapStands n s kept d → MapStands n (stored r s) (kept_after c kept) None
 map-stored n r c s kept d uid_is change_is most wrote held m =
     subst (λ w. MapStands n (stored r s) (record (kept_after c kept) { ledger = kept.ledger ++ w }) None) grown
@@ -138,12 +167,17 @@ map-stored n r c s kept d uid_is change_is most wrote held m =
     other : same_uid (epoch_uid n) c.uid ≡ false
     other = apart (epoch_uid n) c.uid (λ e. m.ordered.not_reserved r.uid held (uid_is ∙ sym e))
 
-    go : (u : Uid) (b : Bool) → same_uid u c.uid ≡ b → ◌≡◌ {A = Facts} (cond b (kept_of r.change, None) (finite.get kept.bodies u, doubt_of d u)) (cond b c.body (finite.get kept.bodies u), None)
+    go : (u : Uid) (b : Bool) → same_uid u c.uid ≡ b
+        → ◌≡◌ {A = Facts} (cond b (kept_of r.change, None) (finite.get kept.bodies u, doubt_of d u))
+        (cond b c.body (finite.get kept.bodies u), None)
     go u true is = ap (λ x. (x, None)) (ap kept_of change_is ∙ kept-change c.body)
     go u false is = ap (λ x. (finite.get kept.bodies u, x)) (other-doubt c d u most is)
 
-    each : (u : Uid) → u ≢ epoch_uid n → facts_at r.uid (λ f. (kept_of r.change, None)) u (finite.get kept.bodies u, doubt_of d u) ≡ (finite.get (kept_after c kept).bodies u, doubt_of None u)
-    each u h = ap (λ v. facts_at v (λ f. (kept_of r.change, None)) u (finite.get kept.bodies u, doubt_of d u)) uid_is ∙ go u (same_uid u c.uid) refl
+    each : (u : Uid) → u ≢ epoch_uid n
+        → facts_at r.uid (λ f. (kept_of r.change, None)) u (finite.get kept.bodies u, doubt_of d u) ≡
+        (finite.get (kept_after c kept).bodies u, doubt_of None u)
+    each u h = ap (λ v. facts_at v (λ f. (kept_of r.change, None)) u (finite.get kept.bodies u, doubt_of d u)) uid_is
+        ∙ go u (same_uid u c.uid) refl
         ∙ ap (λ x. (x, None)) (sym (bodies-after c.uid u c.body kept.bodies))
 
 -- 6. A pick settles what is in doubt, the epoch's change too
@@ -176,18 +210,22 @@ map-settled n p c s kept number m = record {
   wrote = tt;
 }
   where
-    shift : Shift (λ u x. picked_facts p x) same_requests s (on_node (λ it. record it { ejects = each_value (settled_eject p) it.ejects }) s)
+    shift : Shift (λ u x. picked_facts p x) same_requests s
+        (on_node (λ it. record it { ejects = each_value (settled_eject p) it.ejects }) s)
     shift = shift-each (settled_eject p) (picked_facts p) s (facts-settled p)
 
     new : (u : Uid) (b : Bool) (old : Option (List ℕ)) → with_item (cond b (Some (change_of c.body)) None) kept_of old ≡ cond b c.body old
     new u true old = kept-change c.body
     new u false old = refl
 
-    each : (p : Pick) (u : Uid) → picked_facts p (finite.get kept.bodies u, doubt_of (Some c) u) ≡ (finite.get (picked_kept p c kept).bodies u, None)
+    each : (p : Pick) (u : Uid) → picked_facts p (finite.get kept.bodies u, doubt_of (Some c) u) ≡
+        (finite.get (picked_kept p c kept).bodies u, None)
     each pick.Old u = refl
-    each pick.New u = ap (λ x. (x, None)) (new u (same_uid u c.uid) (finite.get kept.bodies u) ∙ sym (bodies-after c.uid u c.body kept.bodies))
+    each pick.New u = ap (λ x. (x, None)) (new u (same_uid u c.uid) (finite.get kept.bodies u)
+        ∙ sym (bodies-after c.uid u c.body kept.bodies))
 
-    doubted-epoch : (o : Option ℕ) (b : Bool) → cond b (Some (change_of c.body)) None ≡ change_of_epoch o → cond b c.body (bytes_of_epoch s.node.epoch) ≡ bytes_of_epoch (with_item o (λ e. Some e) s.node.epoch)
+    doubted-epoch : (o : Option ℕ) (b : Bool) → cond b (Some (change_of c.body)) None ≡ change_of_epoch o
+        → cond b c.body (bytes_of_epoch s.node.epoch) ≡ bytes_of_epoch (with_item o (λ e. Some e) s.node.epoch)
     doubted-epoch None true is = absurd (cc is)
     doubted-epoch None false is = refl
     doubted-epoch (Some e) false is = absurd (cc is)

@@ -24,11 +24,13 @@ use Rattle.checkpoint.proofs.Frames.{all-there}
 
 -- 1. A worker's queue
 
-left-map : (u : Uid) (qs : List Request) → map (request_of 0) (filter_map (left_of u) qs) ≡ filter_map (dropped_of u) (map (request_of 0) qs)
+left-map : (u : Uid) (qs : List Request)
+    → map (request_of 0) (filter_map (left_of u) qs) ≡ filter_map (dropped_of u) (map (request_of 0) qs)
 left-map u [] = refl
 left-map u (q ∷ qs) = go (same_uid q.uid u) refl (left-map u qs)
   where
-    go : (b : Bool) → same_uid q.uid u ≡ b → map (request_of 0) (filter_map (left_of u) qs) ≡ filter_map (dropped_of u) (map (request_of 0) qs)
+    go : (b : Bool) → same_uid q.uid u ≡ b
+        → map (request_of 0) (filter_map (left_of u) qs) ≡ filter_map (dropped_of u) (map (request_of 0) qs)
         → map (request_of 0) (filter_map (left_of u) (q ∷ qs)) ≡ filter_map (dropped_of u) (map (request_of 0) (q ∷ qs))
     go true is more = rw is more
     go false is more = rw is (ap (λ l. request_of 0 q ∷ l) more)
@@ -43,11 +45,13 @@ left-waiting u [] = refl
 left-waiting u (q ∷ qs) = idle-map (filter_map (left_of u) (q ∷ qs)) ∙ left-map u (q ∷ qs)
 
 -- the job of the first has made calls
-pub left-begun : (u : Uid) (c : StoreChange) (made : ℕ) (left : List DiskCall) (qs : List Request) → (made == 0) ≡ false → requests_of (Busy c made left) (left_in true u qs) ≡ filter_map (dropped_of u) (requests_of (Busy c made left) qs)
+pub left-begun : (u : Uid) (c : StoreChange) (made : ℕ) (left : List DiskCall) (qs : List Request) → (made == 0) ≡ false
+    → requests_of (Busy c made left) (left_in true u qs) ≡ filter_map (dropped_of u) (requests_of (Busy c made left) qs)
 left-begun u c made left [] some = refl
 left-begun u c made left (q ∷ qs) some = go (same_uid q.uid u) refl
   where
-    go : (b : Bool) → same_uid q.uid u ≡ b → requests_of (Busy c made left) (left_in true u (q ∷ qs)) ≡ filter_map (dropped_of u) (requests_of (Busy c made left) (q ∷ qs))
+    go : (b : Bool) → same_uid q.uid u ≡ b
+        → requests_of (Busy c made left) (left_in true u (q ∷ qs)) ≡ filter_map (dropped_of u) (requests_of (Busy c made left) (q ∷ qs))
     go true is = rw (is, some) (ap (λ l. request_of made (record q { process = None }) ∷ l) (left-map u qs))
     go false is = rw is (ap (λ l. request_of made q ∷ l) (left-map u qs))
 
@@ -65,20 +69,24 @@ there-left : (u : Uid) (rs : List StoreRequest) (es : List (Uid × Eject)) → A
 there-left u [] es h = h
 there-left u (r ∷ rs) es h = go (same_uid r.uid u) refl (r.made == 0) refl (there-left u rs es h.1)
   where
-    go : (b : Bool) → same_uid r.uid u ≡ b → (d : Bool) → (r.made == 0) ≡ d → AllThere (filter_map (dropped_of u) rs) es → AllThere (filter_map (dropped_of u) (r ∷ rs)) es
+    go : (b : Bool) → same_uid r.uid u ≡ b → (d : Bool) → (r.made == 0) ≡ d → AllThere (filter_map (dropped_of u) rs) es
+        → AllThere (filter_map (dropped_of u) (r ∷ rs)) es
     go true is true none more = rw (is, none) more
     go true is false some more = rw (is, some) (h.0, more)
     go false is d which more = rw is (h.0, more)
 
-under-way-left : (u : Uid) (c : StoreChange) (made : ℕ) (left : List DiskCall) (size : ℕ) (rs : List StoreRequest) → IsUnderWay c made left size rs → IsUnderWay c made left size (filter_map (dropped_of u) rs)
+under-way-left : (u : Uid) (c : StoreChange) (made : ℕ) (left : List DiskCall) (size : ℕ) (rs : List StoreRequest)
+    → IsUnderWay c made left size rs → IsUnderWay c made left size (filter_map (dropped_of u) rs)
 under-way-left u c made left size [] h = absurd (let bad : None ≡ Some h.request = h.is_first in cc bad)
 under-way-left u c made left size (r ∷ rs) h = go (same_uid r.uid u) refl (r.made == 0) refl
   where
     same : r ≡ h.request
     same = let e : Some r ≡ Some h.request = h.is_first in cc e
 
-    go : (b : Bool) → same_uid r.uid u ≡ b → (d : Bool) → (r.made == 0) ≡ d → IsUnderWay c made left size (filter_map (dropped_of u) (r ∷ rs))
-    go b is true none = absurd (let calls : r.made ≡ made = ap (λ (q : StoreRequest). q.made) same ∙ h.calls in let zero : r.made ≡ 0 = eqb-true r.made 0 none in omega (arith, calls, zero, h.some_made))
+    go : (b : Bool) → same_uid r.uid u ≡ b → (d : Bool) → (r.made == 0) ≡ d
+        → IsUnderWay c made left size (filter_map (dropped_of u) (r ∷ rs))
+    go b is true none = absurd (let calls : r.made ≡ made = ap (λ (q : StoreRequest). q.made) same
+        ∙ h.calls in let zero : r.made ≡ 0 = eqb-true r.made 0 none in omega (arith, calls, zero, h.some_made))
     go true is false some = rw (is, some) (record {
       request = record r { process = None };
       is_first = refl;
@@ -102,15 +110,18 @@ under-way-left u c made left size (r ∷ rs) h = go (same_uid r.uid u) refl (r.m
       others = unmade-left u rs h.others;
     })
 
-stand-left : (u : Uid) (w : Work) (size : ℕ) (rs : List StoreRequest) → RequestsStand w size rs → RequestsStand w size (filter_map (dropped_of u) rs)
+stand-left : (u : Uid) (w : Work) (size : ℕ) (rs : List StoreRequest) → RequestsStand w size rs
+    → RequestsStand w size (filter_map (dropped_of u) rs)
 stand-left u Idle size rs h = unmade-left u rs h
 stand-left u (Busy c made left) size rs h = under-way-left u c made left size rs h
 stand-left u (Unsettled c synced) size rs h = unmade-left u rs h
 
 -- 3. The store goes on standing where an active part goes
 
-pub stands-shift : (layout : Layout) (n : ℕ) (f : List StoreRequest → List StoreRequest) (s t : Site) (requests : List StoreRequest) (x : Seen) → Shift same_facts f s t
-    → RequestsStand x.work x.disk.counts.size (f requests) → AllThere (f requests) s.node.ejects → StandsNow layout n s requests x → StandsNow layout n t (f requests) x
+pub stands-shift : (layout : Layout) (n : ℕ) (f : List StoreRequest → List StoreRequest) (s t : Site) (requests : List StoreRequest)
+    (x : Seen) → Shift same_facts f s t
+    → RequestsStand x.work x.disk.counts.size (f requests) → AllThere (f requests) s.node.ejects → StandsNow layout n s requests x
+    → StandsNow layout n t (f requests) x
 stands-shift layout n f s t requests x shift stand there h = record {
   number = shift.number ∙ h.number;
   its_layout = shift.its_layout ∙ h.its_layout;
@@ -130,16 +141,20 @@ stands-shift layout n f s t requests x shift stand there h = record {
 }
 
 -- an event that touches no disk
-pub stands-same : (layout : Layout) (n : ℕ) (s t : Site) (requests : List StoreRequest) (x : Seen) → Shift same_facts same_requests s t → StandsNow layout n s requests x → StandsNow layout n t requests x
+pub stands-same : (layout : Layout) (n : ℕ) (s t : Site) (requests : List StoreRequest) (x : Seen) → Shift same_facts same_requests s t
+    → StandsNow layout n s requests x → StandsNow layout n t requests x
 stands-same layout n s t requests x shift h = stands-shift layout n same_requests s t requests x shift h.stand h.there h
 
-pub stands-dropped : (layout : Layout) (n : ℕ) (b : Bool) (u : Uid) (s t : Site) (requests : List StoreRequest) (x : Seen) → Shift same_facts (dropped_if b u) s t → StandsNow layout n s requests x → StandsNow layout n t (dropped_if b u requests) x
+pub stands-dropped : (layout : Layout) (n : ℕ) (b : Bool) (u : Uid) (s t : Site) (requests : List StoreRequest) (x : Seen)
+    → Shift same_facts (dropped_if b u) s t → StandsNow layout n s requests x → StandsNow layout n t (dropped_if b u requests) x
 stands-dropped layout n false u s t requests x shift h = stands-shift layout n (dropped_if false u) s t requests x shift h.stand h.there h
-stands-dropped layout n true u s t requests x shift h = stands-shift layout n (dropped_if true u) s t requests x shift (stand-left u x.work x.disk.counts.size requests h.stand) (there-left u requests s.node.ejects h.there) h
+stands-dropped layout n true u s t requests x shift h = stands-shift layout n (dropped_if true u) s t requests x shift
+    (stand-left u x.work x.disk.counts.size requests h.stand) (there-left u requests s.node.ejects h.there) h
 
 -- 4. A removal that is done
 
-shift-clock : (g : List StoreRequest → List StoreRequest) (k : ℕ) (s t : Site) → Shift same_facts g s t → Shift same_facts g (with_clock k s) (with_clock k t)
+shift-clock : (g : List StoreRequest → List StoreRequest) (k : ℕ) (s t : Site) → Shift same_facts g s t
+    → Shift same_facts g (with_clock k s) (with_clock k t)
 unfolding on_node
 shift-clock g k s t shift = record {
   number = shift.number;
@@ -151,10 +166,14 @@ shift-clock g k s t shift = record {
   in_order = shift.in_order;
 }
 
-pub stands-removed : (layout : Layout) (n k : ℕ) (c : Change) (u : Uid) (next : Site) (requests : List StoreRequest) (x : Seen) → StandsNow layout n (with_clock k next) requests x
+pub stands-removed : (layout : Layout) (n k : ℕ) (c : Change) (u : Uid) (next : Site) (requests : List StoreRequest) (x : Seen)
+    → StandsNow layout n (with_clock k next) requests x
     → StandsNow layout n (with_clock k (removed c u next)) (removed_requests c (is_active_in next u) u requests) x
-stands-removed layout n k (body bytes) u next requests x h = stands-same layout n (with_clock k next) (with_clock k (removed (body bytes) u next)) requests x (shift-clock same_requests k next (removed (body bytes) u next) (shift-removed (body bytes) u next)) h
-stands-removed layout n k removal u next requests x h = stands-dropped layout n (is_active_in next u) u (with_clock k next) (with_clock k (removed removal u next)) requests x
+stands-removed layout n k (body bytes) u next requests x h = stands-same layout n (with_clock k next)
+    (with_clock k (removed (body bytes) u next)) requests x
+    (shift-clock same_requests k next (removed (body bytes) u next) (shift-removed (body bytes) u next)) h
+stands-removed layout n k removal u next requests x h = stands-dropped layout n (is_active_in next u) u (with_clock k next)
+    (with_clock k (removed removal u next)) requests x
     (shift-clock (dropped_if (is_active_in next u) u) k next (removed removal u next) (shift-removed removal u next)) h
 
 -- 5. A request more
@@ -163,11 +182,13 @@ unmade-more : (r : StoreRequest) (rs : List StoreRequest) → r.made ≡ 0 → A
 unmade-more r [] none h = (none, tt)
 unmade-more r (q ∷ rs) none h = (h.0, unmade-more r rs none h.1)
 
-there-more : (r : StoreRequest) (rs : List StoreRequest) (es : List (Uid × Eject)) → is_some (value_at uid_cmp r.uid es) ≡ true → AllThere rs es → AllThere (rs ++ r ∷ []) es
+there-more : (r : StoreRequest) (rs : List StoreRequest) (es : List (Uid × Eject)) → is_some (value_at uid_cmp r.uid es) ≡ true
+    → AllThere rs es → AllThere (rs ++ r ∷ []) es
 there-more r [] es held h = (held, tt)
 there-more r (q ∷ rs) es held h = (h.0, there-more r rs es held h.1)
 
-under-way-more : (r : StoreRequest) (c : StoreChange) (made : ℕ) (left : List DiskCall) (size : ℕ) (rs : List StoreRequest) → r.made ≡ 0 → IsUnderWay c made left size rs → IsUnderWay c made left size (rs ++ r ∷ [])
+under-way-more : (r : StoreRequest) (c : StoreChange) (made : ℕ) (left : List DiskCall) (size : ℕ) (rs : List StoreRequest) → r.made ≡ 0
+    → IsUnderWay c made left size rs → IsUnderWay c made left size (rs ++ r ∷ [])
 under-way-more r c made left size [] none h = absurd (let bad : None ≡ Some h.request = h.is_first in cc bad)
 under-way-more r c made left size (q ∷ rs) none h = record {
   request = h.request;
@@ -181,7 +202,8 @@ under-way-more r c made left size (q ∷ rs) none h = record {
   others = unmade-more r rs none h.others;
 }
 
-stand-more : (r : StoreRequest) (w : Work) (size : ℕ) (rs : List StoreRequest) → r.made ≡ 0 → RequestsStand w size rs → RequestsStand w size (rs ++ r ∷ [])
+stand-more : (r : StoreRequest) (w : Work) (size : ℕ) (rs : List StoreRequest) → r.made ≡ 0 → RequestsStand w size rs
+    → RequestsStand w size (rs ++ r ∷ [])
 stand-more r Idle size rs none h = unmade-more r rs none h
 stand-more r (Busy c made left) size rs none h = under-way-more r c made left size rs none h
 stand-more r (Unsettled c synced) size rs none h = unmade-more r rs none h
@@ -191,16 +213,19 @@ map-more q [] = refl
 map-more q (p ∷ qs) = ap (λ l. request_of 0 p ∷ l) (map-more q qs)
 
 -- a worker's queue with a request more is that of the node
-pub requests-more : (w : Work) (size : ℕ) (q : Request) (qs : List Request) → RequestsStand w size (requests_of w qs) → requests_of w (qs ++ q ∷ []) ≡ requests_of w qs ++ request_of 0 q ∷ []
+pub requests-more : (w : Work) (size : ℕ) (q : Request) (qs : List Request) → RequestsStand w size (requests_of w qs)
+    → requests_of w (qs ++ q ∷ []) ≡ requests_of w qs ++ request_of 0 q ∷ []
 requests-more Idle size q [] h = refl
 requests-more (Busy c made left) size q [] h = absurd (let bad : None ≡ Some h.request = h.is_first in cc bad)
 requests-more (Unsettled c synced) size q [] h = refl
 requests-more w size q (p ∷ qs) h = ap (λ l. request_of (made_in w) p ∷ l) (map-more q qs)
 
 -- an event that asks the store for something
-pub stands-asked : (layout : Layout) (n : ℕ) (s t : Site) (r : StoreRequest) (requests : List StoreRequest) (x : Seen) → r.made ≡ 0 → is_some (value_at uid_cmp r.uid s.node.ejects) ≡ true
+pub stands-asked : (layout : Layout) (n : ℕ) (s t : Site) (r : StoreRequest) (requests : List StoreRequest) (x : Seen) → r.made ≡ 0
+    → is_some (value_at uid_cmp r.uid s.node.ejects) ≡ true
     → Shift same_facts (λ rs. rs ++ r ∷ []) s t → StandsNow layout n s requests x → StandsNow layout n t (requests ++ r ∷ []) x
-stands-asked layout n s t r requests x none held shift h = stands-shift layout n (λ rs. rs ++ r ∷ []) s t requests x shift (stand-more r x.work x.disk.counts.size requests none h.stand) (there-more r requests s.node.ejects held h.there) h
+stands-asked layout n s t r requests x none held shift h = stands-shift layout n (λ rs. rs ++ r ∷ []) s t requests x shift
+    (stand-more r x.work x.disk.counts.size requests none h.stand) (there-more r requests s.node.ejects held h.there) h
 
 -- 6. The requests stay those of the node
 

@@ -44,7 +44,8 @@ kept-idle None s = refl
 kept-idle (Some pick.Old) s = refl
 kept-idle (Some pick.New) s = refl
 
-pub reads-on : (layout : Layout) (n more : ℕ) (s : Site) (old : Told) (before : ℕ) (p : Option Pick) (x y : Seen) → OpensTo layout n more s old before p x → ReadsOnce layout n x y → OpensTo layout n more s old before p y
+pub reads-on : (layout : Layout) (n more : ℕ) (s : Site) (old : Told) (before : ℕ) (p : Option Pick) (x y : Seen)
+    → OpensTo layout n more s old before p x → ReadsOnce layout n x y → OpensTo layout n more s old before p y
 reads-on layout n more s old before p x y o r = record {
   picked = o.picked;
   idle = idle;
@@ -52,8 +53,10 @@ reads-on layout n more s old before p x y o r = record {
   its_size = o.its_size ∙ sym r.size;
   told = subst (λ k. more ≤ k) (sym r.more) o.told;
   stands = stands;
-  disk = λ put. stretch-join (Stands layout n (state_of n s.node)) (Stands layout n (with_changes put (state_of n s.node))) Q Q Q (Stands layout n (with_changes put (state_of n s.node))) old x.disk.told y.disk.told before x.disk.counts.clock y.disk.counts.clock
-      (o.disk put) reading (λ image is. is) (λ image is. o.back put image (stands-more layout n put (state_of n (settled p s).node) image is));
+  disk = λ put. stretch-join (Stands layout n (state_of n s.node)) (Stands layout n (with_changes put (state_of n s.node))) Q Q Q
+      (Stands layout n (with_changes put (state_of n s.node))) old x.disk.told y.disk.told before x.disk.counts.clock y.disk.counts.clock
+      (o.disk put) reading (λ image is. is) (λ image is. o.back put image
+      (stands-more layout n put (state_of n (settled p s).node) image is));
   back = o.back;
 }
   where
@@ -72,24 +75,33 @@ reads-on layout n more s old before p x y o r = record {
     here : state_of n (settled p s).node ≡ standing_of x.kept []
     here = state-is n (settled p s) x.kept None o.keeps
 
-    reading : Stretch (Stands layout n (state_of n (settled p s).node)) (Stands layout n (state_of n (settled p s).node)) (Stands layout n (state_of n (settled p s).node)) x.disk.told x.disk.counts.clock y.disk.told y.disk.counts.clock
+    reading : Stretch (Stands layout n (state_of n (settled p s).node)) (Stands layout n (state_of n (settled p s).node))
+        (Stands layout n (state_of n (settled p s).node)) x.disk.told x.disk.counts.clock y.disk.told y.disk.counts.clock
     reading = some-calls _ _ _ r.calls x.disk.told y.disk.told x.disk.counts.clock y.disk.counts.clock r.ended r.timed r.told
-        (subst (λ z. EachMoment (Stands layout n z) x.disk.told y.disk.told) (sym here) (kept-moments layout n x.more x.kept [] x.disk.told y.disk.told (subst (λ w. StandsThrough layout n x.more x.kept (changes_in (doubt_in w)) x.disk.told y.disk.told) o.idle r.moments)))
-        (λ image left. subst (λ z. Stands layout n z image) (sym here) (kept-left layout n y.more x.kept [] y.disk.told (subst (λ (z : Kept). LeavesKept layout n y.more z Idle y.disk.told) same stands) image left))
+        (subst (λ z. EachMoment (Stands layout n z) x.disk.told y.disk.told) (sym here)
+        (kept-moments layout n x.more x.kept [] x.disk.told y.disk.told
+        (subst (λ w. StandsThrough layout n x.more x.kept (changes_in (doubt_in w)) x.disk.told y.disk.told) o.idle r.moments)))
+        (λ image left. subst (λ z. Stands layout n z image) (sym here)
+        (kept-left layout n y.more x.kept [] y.disk.told
+        (subst (λ (z : Kept). LeavesKept layout n y.more z Idle y.disk.told) same stands) image left))
         (λ stop image is. is) (λ level image is. is)
 
 -- 2. The number in its bytes
 
 -- what is kept under the reserved uid is the epoch
-pub stored-is : (layout : Layout) (n more : ℕ) (s : Site) (old : Told) (before : ℕ) (p : Option Pick) (x : Seen) (e : ℕ) → OpensTo layout n more s old before p x → IfSome (settled p s).node.epoch (λ k. k ≤ 4294967295)
-    → ((k : ℕ) → k ≤ 4294967295 → body_at x.kept (epoch_uid n) ≡ Some (epoch_bytes k) → e ≡ k) → (body_at x.kept (epoch_uid n) ≡ None → e ≡ 0) → e ≡ stored_epoch (settled p s).node
+pub stored-is : (layout : Layout) (n more : ℕ) (s : Site) (old : Told) (before : ℕ) (p : Option Pick) (x : Seen) (e : ℕ)
+    → OpensTo layout n more s old before p x → IfSome (settled p s).node.epoch (λ k. k ≤ 4294967295)
+    → ((k : ℕ) → k ≤ 4294967295 → body_at x.kept (epoch_uid n) ≡ Some (epoch_bytes k) → e ≡ k)
+    → (body_at x.kept (epoch_uid n) ≡ None → e ≡ 0) → e ≡ stored_epoch (settled p s).node
 stored-is layout n more s old before p x e o fits some none = go (settled p s).node.epoch fits o.keeps.epoch
   where
-    go : (k : Option ℕ) → IfSome k (λ j. j ≤ 4294967295) → finite.get x.kept.bodies (epoch_uid n) ≡ bytes_of_epoch k → e ≡ with_item k (λ j. j) 0
+    go : (k : Option ℕ) → IfSome k (λ j. j ≤ 4294967295) → finite.get x.kept.bodies (epoch_uid n) ≡ bytes_of_epoch k
+        → e ≡ with_item k (λ j. j) 0
     go None f is = none is
     go (Some k) f is = some k f is
 
-pub is-stored : (layout : Layout) (n more : ℕ) (s : Site) (old : Told) (before : ℕ) (p : Option Pick) (x : Seen) → OpensTo layout n more s old before p x → is_some (body_at x.kept (epoch_uid n)) ≡ true → IsTrue (is_some (settled p s).node.epoch)
+pub is-stored : (layout : Layout) (n more : ℕ) (s : Site) (old : Told) (before : ℕ) (p : Option Pick) (x : Seen)
+    → OpensTo layout n more s old before p x → is_some (body_at x.kept (epoch_uid n)) ≡ true → IsTrue (is_some (settled p s).node.epoch)
 is-stored layout n more s old before p x o held = go (settled p s).node.epoch o.keeps.epoch
   where
     go : (k : Option ℕ) → finite.get x.kept.bodies (epoch_uid n) ≡ bytes_of_epoch k → IsTrue (is_some k)
@@ -100,7 +112,13 @@ is-stored layout n more s old before p x o held = go (settled p s).node.epoch o.
 
 -- the change that puts an epoch
 abbrev pub epoch_change : Layout → ℕ → ℕ → ℕ → StoreChange
-epoch_change layout n e mark = record { uid = epoch_uid n; body = Some (epoch_bytes e); mark = mark; wrote = layout.grows (Some (epoch_bytes e)) }
+epoch_change layout n e mark = record {
+  uid = epoch_uid n;
+  body = Some (epoch_bytes e);
+  mark = mark;
+  wrote = layout.grows
+      (Some (epoch_bytes e));
+}
 
 -- what stays of the site in a settling
 pub settled-number : (p : Option Pick) (s : Site) → (settled p s).number ≡ s.number
@@ -127,8 +145,11 @@ unfolding on_node
 map-up n s p e mark kept m = record {
   undamaged = m.undamaged;
   ordered = m.ordered;
-  facts = λ u h. m.facts u h ∙ ap (λ b. (b, None)) (sym (bodies-after (epoch_uid n) u (Some (epoch_bytes e)) kept.bodies ∙ ap (λ t. cond t (Some (epoch_bytes e)) (finite.get kept.bodies u)) (apart u (epoch_uid n) h)));
-  epoch = bodies-after (epoch_uid n) (epoch_uid n) (Some (epoch_bytes e)) kept.bodies ∙ ap (λ t. cond t (Some (epoch_bytes e)) (finite.get kept.bodies (epoch_uid n))) (same-reserved n);
+  facts = λ u h. m.facts u h ∙ ap (λ b. (b, None))
+      (sym (bodies-after (epoch_uid n) u (Some (epoch_bytes e)) kept.bodies
+      ∙ ap (λ t. cond t (Some (epoch_bytes e)) (finite.get kept.bodies u)) (apart u (epoch_uid n) h)));
+  epoch = bodies-after (epoch_uid n) (epoch_uid n) (Some (epoch_bytes e)) kept.bodies
+      ∙ ap (λ t. cond t (Some (epoch_bytes e)) (finite.get kept.bodies (epoch_uid n))) (same-reserved n);
   epoch_doubt = m.epoch_doubt;
   ledger = ap (λ l. l ++ s.layout.grows (Some (epoch_bytes e))) m.ledger;
   wrote = tt;
@@ -140,7 +161,8 @@ unfolding on_node
 map-in-doubt n s p e mark kept m = record {
   undamaged = m.undamaged;
   ordered = m.ordered;
-  facts = λ u h. m.facts u h ∙ ap (λ t. (finite.get kept.bodies u, cond t (Some (body (epoch_bytes e))) None)) (sym (apart u (epoch_uid n) h));
+  facts = λ u h. m.facts u h ∙ ap (λ t. (finite.get kept.bodies u, cond t (Some (body (epoch_bytes e))) None))
+      (sym (apart u (epoch_uid n) h));
   epoch = m.epoch;
   epoch_doubt = ap (λ t. cond t (Some (body (epoch_bytes e))) None) (same-reserved n);
   ledger = m.ledger;
@@ -168,7 +190,8 @@ pub record PutsOnce (S : Type 0) (layout : Layout) (n e : ℕ) (x y : Seen) (res
   pub moments : StandsThrough layout n mid x.kept (change ∷ []) x.disk.told y.disk.told
 
 -- a put whose calls were all made raised the clock
-rise-of : {S : Type 0} (calls : ℕ) (r : Result S StoreRefusal) (x y : Counts) → 2 ≤ calls → IfErr r IsDiskRefusal → Ran 0 calls r x y → end_of_store r ≡ Fine
+rise-of : {S : Type 0} (calls : ℕ) (r : Result S StoreRefusal) (x y : Counts) → 2 ≤ calls → IfErr r IsDiskRefusal → Ran 0 calls r x y
+    → end_of_store r ≡ Fine
     → y.clock ≡ x.clock → ⊥
 rise-of calls (Ok done) x y some only ran fine level = omega (arith, some, ran.number, ran.counts.clock, ran.counts.counted, level)
 rise-of calls (Err refusal.Failed) x y some only ran fine level = let bad : AtFault ≡ Fine = fine in cc bad
@@ -178,14 +201,18 @@ rise-of calls (Err (refusal.Damaged place)) x y some only ran fine level = elim 
 rise-of calls (Err refusal.OutOfMemory) x y some only ran fine level = elim only [ inl bad ↦ cc bad | inr bad ↦ cc bad ]
 
 -- the whole boot up to there is one stretch: the opening, and the put
-put-stretch : {S : Type 0} (layout : Layout) (n more e : ℕ) (s next : Site) (old : Told) (before : ℕ) (p : Option Pick) (x y : Seen) (r : Result S StoreRefusal) (d : Option StoreChange) → OpensTo layout n more s old before p x → (f : PutsOnce S layout n e x y r)
+put-stretch : {S : Type 0} (layout : Layout) (n more e : ℕ) (s next : Site) (old : Told) (before : ℕ) (p : Option Pick) (x y : Seen)
+    (r : Result S StoreRefusal) (d : Option StoreChange) → OpensTo layout n more s old before p x → (f : PutsOnce S layout n e x y r)
     → MapStands n next y.kept d → LeavesOnly (StandsKept layout n y.more y.kept (changes_in d)) (contents y.disk.told)
     → ((end_of_store r ≡ Fine → ⊥) → (y.kept ≡ x.kept) × (d ≡ Some f.change))
     → NodeOnDisk layout n s.node (epoch_entry n e ∷ []) next.node old before y.disk.told y.disk.counts.clock
 put-stretch layout n more e s next old before p x y r d o f k stands stopped =
-    stretch-join (Stands layout n (state_of n s.node)) (Stands layout n (with_changes (epoch_entry n e ∷ []) (state_of n s.node))) (Stands layout n (state_of n (settled p s).node))
-    (Stands layout n (with_changes (epoch_entry n e ∷ []) (state_of n (settled p s).node))) (Stands layout n (state_of n next.node)) (Stands layout n (with_changes (epoch_entry n e ∷ []) (state_of n s.node)))
-    old x.disk.told y.disk.told before x.disk.counts.clock y.disk.counts.clock (o.disk (epoch_entry n e ∷ [])) putting (λ image is. is) (o.back (epoch_entry n e ∷ []))
+    stretch-join (Stands layout n (state_of n s.node)) (Stands layout n (with_changes (epoch_entry n e ∷ []) (state_of n s.node)))
+    (Stands layout n (state_of n (settled p s).node))
+    (Stands layout n (with_changes (epoch_entry n e ∷ []) (state_of n (settled p s).node))) (Stands layout n (state_of n next.node))
+    (Stands layout n (with_changes (epoch_entry n e ∷ []) (state_of n s.node)))
+    old x.disk.told y.disk.told before x.disk.counts.clock y.disk.counts.clock (o.disk (epoch_entry n e ∷ [])) putting (λ image is. is)
+    (o.back (epoch_entry n e ∷ []))
   where
     here : state_of n (settled p s).node ≡ standing_of x.kept []
     here = state-is n (settled p s) x.kept None o.keeps
@@ -199,34 +226,48 @@ put-stretch layout n more e s next old before p x y r d o f k stands stopped =
     with_it : with_changes (epoch_entry n e ∷ []) (state_of n (settled p s).node) ≡ standing_of x.kept (f.change ∷ [])
     with_it = ap (with_changes (epoch_entry n e ∷ [])) here ∙ sym (ap (λ c. with_changes (c ∷ []) (standing_of x.kept [])) entry_is)
 
-    putting : Stretch (Stands layout n (state_of n (settled p s).node)) (Stands layout n (with_changes (epoch_entry n e ∷ []) (state_of n (settled p s).node))) (Stands layout n (state_of n next.node)) x.disk.told x.disk.counts.clock y.disk.told y.disk.counts.clock
+    putting : Stretch (Stands layout n (state_of n (settled p s).node))
+        (Stands layout n (with_changes (epoch_entry n e ∷ []) (state_of n (settled p s).node)))
+        (Stands layout n (state_of n next.node)) x.disk.told x.disk.counts.clock y.disk.told y.disk.counts.clock
     putting = some-calls _ _ _ f.job x.disk.told y.disk.told x.disk.counts.clock y.disk.counts.clock (end_of_store r) f.timed f.order
-        (subst (λ z. EachMoment (Stands layout n z) x.disk.told y.disk.told) (sym with_it) (kept-moments layout n f.mid x.kept (f.change ∷ []) x.disk.told y.disk.told f.moments))
-        (λ image left. subst (λ z. Stands layout n z image) (sym there) (kept-left layout n y.more y.kept (changes_in d) y.disk.told stands image left))
+        (subst (λ z. EachMoment (Stands layout n z) x.disk.told y.disk.told) (sym with_it)
+        (kept-moments layout n f.mid x.kept (f.change ∷ []) x.disk.told y.disk.told f.moments))
+        (λ image left. subst (λ z. Stands layout n z image) (sym there)
+        (kept-left layout n y.more y.kept (changes_in d) y.disk.told stands image left))
         (λ stop image is. behind (stopped (λ fine. let bad : AtStop ≡ Fine = sym stop ∙ fine in cc bad)) image is)
         (λ level image is. behind (stopped (not-fine level)) image
         (stands-more layout n (epoch_entry n e ∷ []) (state_of n (settled p s).node) image is))
       where
-        behind : (y.kept ≡ x.kept) × (d ≡ Some f.change) → (image : List ℕ) → Stands layout n (with_changes (epoch_entry n e ∷ []) (state_of n (settled p s).node)) image
+        behind : (y.kept ≡ x.kept) × (d ≡ Some f.change) → (image : List ℕ)
+            → Stands layout n (with_changes (epoch_entry n e ∷ []) (state_of n (settled p s).node)) image
             → Stands layout n (state_of n next.node) image
         behind z image is = subst (λ w. Stands layout n w image) (sym there)
             (subst (λ (c : Option StoreChange). Stands layout n (standing_of y.kept (changes_in c)) image) (sym z.1)
-            (subst (λ (c : Kept). Stands layout n (standing_of c (f.change ∷ [])) image) (sym z.0) (subst (λ w. Stands layout n w image) with_it is)))
+            (subst (λ (c : Kept). Stands layout n (standing_of c (f.change ∷ [])) image) (sym z.0)
+            (subst (λ w. Stands layout n w image) with_it is)))
 
         not-fine : y.disk.counts.clock ≡ x.disk.counts.clock → end_of_store r ≡ Fine → ⊥
         not-fine level fine = rise-of (length f.job) r x.disk.counts y.disk.counts f.some f.only f.ran fine level
 
-has-room : {S : Type 0} (layout : Layout) (n more e : ℕ) (s : Site) (old : Told) (before : ℕ) (p : Option Pick) (x y : Seen) (r : Result S StoreRefusal) → (settled p s).number ≡ n → (settled p s).layout ≡ layout → (settled p s).node.size ≡ x.disk.counts.size
-    → OpensTo layout n more s old before p x → PutsOnce S layout n e x y r → IsTrue (finds_room (epoch_uid n) (body (epoch_bytes e)) (settled p s))
+has-room : {S : Type 0} (layout : Layout) (n more e : ℕ) (s : Site) (old : Told) (before : ℕ) (p : Option Pick) (x y : Seen)
+    (r : Result S StoreRefusal) → (settled p s).number ≡ n → (settled p s).layout ≡ layout → (settled p s).node.size ≡ x.disk.counts.size
+    → OpensTo layout n more s old before p x → PutsOnce S layout n e x y r
+    → IsTrue (finds_room (epoch_uid n) (body (epoch_bytes e)) (settled p s))
 has-room layout n more e s old before p x y r number its_layout its_size o f =
-    room-is layout n x.disk.counts.size (settled p s) x.kept None (epoch_uid n) (body (epoch_bytes e)) number its_layout its_size o.keeps ∙ f.room
+    room-is layout n x.disk.counts.size (settled p s) x.kept None (epoch_uid n) (body (epoch_bytes e)) number its_layout its_size o.keeps
+    ∙ f.room
 
-pub no-room : (layout : Layout) (n more e : ℕ) (s : Site) (old : Told) (before : ℕ) (p : Option Pick) (x : Seen) → (settled p s).number ≡ n → (settled p s).layout ≡ layout → (settled p s).node.size ≡ x.disk.counts.size
-    → OpensTo layout n more s old before p x → finds_shown_room layout x.disk.counts.size x.kept (epoch_uid n) (Some (epoch_bytes e)) ≡ false → finds_room (epoch_uid n) (body (epoch_bytes e)) (settled p s) ≡ false
+pub no-room : (layout : Layout) (n more e : ℕ) (s : Site) (old : Told) (before : ℕ) (p : Option Pick) (x : Seen) → (settled p s).number ≡ n
+    → (settled p s).layout ≡ layout → (settled p s).node.size ≡ x.disk.counts.size
+    → OpensTo layout n more s old before p x
+    → finds_shown_room layout x.disk.counts.size x.kept (epoch_uid n) (Some (epoch_bytes e)) ≡ false
+    → finds_room (epoch_uid n) (body (epoch_bytes e)) (settled p s) ≡ false
 no-room layout n more e s old before p x number its_layout its_size o none =
-    room-is layout n x.disk.counts.size (settled p s) x.kept None (epoch_uid n) (body (epoch_bytes e)) number its_layout its_size o.keeps ∙ none
+    room-is layout n x.disk.counts.size (settled p s) x.kept None (epoch_uid n) (body (epoch_bytes e)) number its_layout its_size o.keeps
+    ∙ none
 
-pub is-put : {S : Type 0} (layout : Layout) (n more e : ℕ) (s : Site) (old : Told) (before : ℕ) (p : Option Pick) (x y : Seen) (done : S) → s.layout ≡ layout → (settled p s).number ≡ n → (settled p s).layout ≡ layout → (settled p s).node.size ≡ x.disk.counts.size
+pub is-put : {S : Type 0} (layout : Layout) (n more e : ℕ) (s : Site) (old : Told) (before : ℕ) (p : Option Pick) (x y : Seen) (done : S)
+    → s.layout ≡ layout → (settled p s).number ≡ n → (settled p s).layout ≡ layout → (settled p s).node.size ≡ x.disk.counts.size
     → OpensTo layout n more s old before p x → PutsOnce S layout n e x y (Ok done) → IsPut layout n more s old before p e y
 is-put layout n more e s old before p x y done at_s number its_layout its_size o f = record {
   idle = f.work;
@@ -235,7 +276,8 @@ is-put layout n more e s old before p x y done at_s number its_layout its_size o
   its_size = o.its_size ∙ sym f.ran.counts.size;
   told = omega (arith, f.told, o.told);
   stands = stands;
-  disk = put-stretch layout n more e s (boot_turn e end.Up p true s) old before p x y (Ok done) None o f keeps stands (λ not. absurd (not refl));
+  disk = put-stretch layout n more e s (boot_turn e end.Up p true s) old before p x y (Ok done) None o f keeps stands
+      (λ not. absurd (not refl));
 }
   where
     made : y.kept ≡ kept_after (epoch_change layout n e f.change.mark) x.kept
@@ -249,7 +291,9 @@ is-put layout n more e s old before p x y done at_s number its_layout its_size o
     stands : LeavesKept layout n y.more y.kept Idle y.disk.told
     stands = subst (λ w. LeavesKept layout n y.more y.kept w y.disk.told) f.work f.stands
 
-pub is-in-doubt : {S : Type 0} (layout : Layout) (n more e : ℕ) (s : Site) (old : Told) (before : ℕ) (p : Option Pick) (x y : Seen) (why : StoreRefusal) → s.layout ≡ layout → (settled p s).number ≡ n → (settled p s).layout ≡ layout → (settled p s).node.size ≡ x.disk.counts.size
+pub is-in-doubt : {S : Type 0} (layout : Layout) (n more e : ℕ) (s : Site) (old : Told) (before : ℕ) (p : Option Pick) (x y : Seen)
+    (why : StoreRefusal) → s.layout ≡ layout → (settled p s).number ≡ n → (settled p s).layout ≡ layout
+    → (settled p s).node.size ≡ x.disk.counts.size
     → OpensTo layout n more s old before p x → PutsOnce S layout n e x y (Err why) → IsPutInDoubt layout n more s old before p e y
 is-in-doubt layout n more e s old before p x y why at_s number its_layout its_size o f = record {
   change = f.change;
@@ -260,7 +304,8 @@ is-in-doubt layout n more e s old before p x y why at_s number its_layout its_si
   fresh = subst (λ (z : Kept). IsFresh f.change z) (sym f.kept) f.fresh;
   told = omega (arith, f.told, o.told);
   stands = stands;
-  disk = put-stretch layout n more e s (boot_turn e end.DiskFault p true s) old before p x y (Err why) (Some f.change) o f keeps stands (λ not. (f.kept, refl));
+  disk = put-stretch layout n more e s (boot_turn e end.DiskFault p true s) old before p x y (Err why) (Some f.change) o f keeps stands
+      (λ not. (f.kept, refl));
 }
   where
     keeps : MapStands n (boot_turn e end.DiskFault p true s) y.kept (Some f.change)
@@ -274,7 +319,8 @@ is-in-doubt layout n more e s old before p x y why at_s number its_layout its_si
 
 -- 5. All ends of a put
 
-pub puts-to : (layout : Layout) (n more e : ℕ) (s : Site) (old : Told) (before : ℕ) (p : Option Pick) (x y : Seen) (r : Result (Unit {0}) StoreRefusal) → s.number ≡ n → s.layout ≡ layout
+pub puts-to : (layout : Layout) (n more e : ℕ) (s : Site) (old : Told) (before : ℕ) (p : Option Pick) (x y : Seen)
+    (r : Result (Unit {0}) StoreRefusal) → s.number ≡ n → s.layout ≡ layout
     → OpensTo layout n more s old before p x → PutsOnce (Unit {0}) layout n e x y r → PutsTo layout n more s old before p e x r y
 puts-to layout n more e s old before p x y r number its_layout o f = go r f
   where
@@ -297,7 +343,8 @@ puts-to layout n more e s old before p x y r number its_layout o f = go r f
 
 -- 6. A put that was begun, and the rest of its job
 
-pub puts-from : (tells obeys : Bool) (layout : Layout) (n e : ℕ) (x m y : Seen) (done : Unit {0}) (r : Result (Unit {0}) StoreRefusal) → IsTrue tells → x.node ≡ n
+pub puts-from : (tells obeys : Bool) (layout : Layout) (n e : ℕ) (x m y : Seen) (done : Unit {0}) (r : Result (Unit {0}) StoreRefusal)
+    → IsTrue tells → x.node ≡ n
     → x.work ≡ Idle → 1 ≤ x.more → Begins tells layout (record { uid = epoch_uid n; body = Some (epoch_bytes e) }) (Ok done) x m
     → Finishes tells obeys layout r m y → PutsOnce (Unit {0}) layout n e x y r
 puts-from tells obeys layout n e x m y done r so node idle told b f = record {
@@ -309,7 +356,8 @@ puts-from tells obeys layout n e x m y done r so node idle told b f = record {
   fresh = subst (λ (z : Kept). IsFresh c z) kept (subst (λ w. IfSome (change_in w) (λ d. IsFresh d m.kept)) b.work (b.fresh so));
   told = omega (arith, f.more, b.one (inl (ap reserved_uid (sym node))));
   mid = m.more;
-  ran = subst (λ (d : DiskSeen). Ran 0 (length b.calls) r d.counts y.disk.counts) b.disk (subst (λ w. Ran 0 (calls_left w) r m.disk.counts y.disk.counts) b.work f.ran);
+  ran = subst (λ (d : DiskSeen). Ran 0 (length b.calls) r d.counts y.disk.counts) b.disk
+      (subst (λ w. Ran 0 (calls_left w) r m.disk.counts y.disk.counts) b.work f.ran);
   timed = subst (λ (d : DiskSeen). Timed d.counts.clock d.told y.disk.counts.clock y.disk.told) b.disk (f.goes.timed so);
   only = f.only;
   order = subst (λ (d : DiskSeen). CallsTold b.calls d.told y.disk.told (end_of_store r)) b.disk

@@ -44,7 +44,8 @@ framed-shift g f s t x = record {
   uids = λ u is. x.uids u ∙ is;
 }
 
-pub synced-shift : (g : Uid → Facts → Facts) (f : List StoreRequest → List StoreRequest) (s t : Site) → Shift g f s t → t.node.synced ≡ s.node.synced
+pub synced-shift : (g : Uid → Facts → Facts) (f : List StoreRequest → List StoreRequest) (s t : Site) → Shift g f s t
+    → t.node.synced ≡ s.node.synced
 synced-shift g f s t x = ap (λ (it : Node). it.synced) x.rest_of
 
 pub framed-then : (s t v : Site) → Framed s t → Framed t v → Framed s v
@@ -60,21 +61,58 @@ framed-then s t v a b = record {
 }
 
 pub framed-same : (s : Site) → Framed s s
-framed-same s = record { number = refl; its_layout = refl; up = refl; epoch = refl; epoch_doubt = refl; size = refl; overfull = refl; uids = λ u is. is }
+framed-same s = record {
+  number = refl;
+  its_layout = refl;
+  up = refl;
+  epoch = refl;
+  epoch_doubt = refl;
+  size = refl;
+  overfull = refl;
+  uids = λ u is. is;
+}
 
 pub framed-synced : (b : Bool) (s : Site) → Framed s (on_node (λ it. record it { synced = b }) s)
 unfolding on_node
-framed-synced b s = record { number = refl; its_layout = refl; up = refl; epoch = refl; epoch_doubt = refl; size = refl; overfull = refl; uids = λ u is. is }
+framed-synced b s = record {
+  number = refl;
+  its_layout = refl;
+  up = refl;
+  epoch = refl;
+  epoch_doubt = refl;
+  size = refl;
+  overfull = refl;
+  uids = λ u is. is;
+}
 
 pub framed-clock : (c : ℕ) (s : Site) → Framed s (on_node (λ it. record it { clock = Some c }) s)
 unfolding on_node
-framed-clock c s = record { number = refl; its_layout = refl; up = refl; epoch = refl; epoch_doubt = refl; size = refl; overfull = refl; uids = λ u is. is }
+framed-clock c s = record {
+  number = refl;
+  its_layout = refl;
+  up = refl;
+  epoch = refl;
+  epoch_doubt = refl;
+  size = refl;
+  overfull = refl;
+  uids = λ u is. is;
+}
 
 pub framed-ledger : (f : List ℕ → List ℕ) (s : Site) → Framed s (on_node (λ it. record it { ledger = f it.ledger }) s)
 unfolding on_node
-framed-ledger f s = record { number = refl; its_layout = refl; up = refl; epoch = refl; epoch_doubt = refl; size = refl; overfull = refl; uids = λ u is. is }
+framed-ledger f s = record {
+  number = refl;
+  its_layout = refl;
+  up = refl;
+  epoch = refl;
+  epoch_doubt = refl;
+  size = refl;
+  overfull = refl;
+  uids = λ u is. is;
+}
 
-pub all-there : (rs : List StoreRequest) (es fs : List (Uid × Eject)) → ((u : Uid) → is_some (value_at uid_cmp u es) ≡ true → is_some (value_at uid_cmp u fs) ≡ true) → AllThere rs es → AllThere rs fs
+pub all-there : (rs : List StoreRequest) (es fs : List (Uid × Eject))
+    → ((u : Uid) → is_some (value_at uid_cmp u es) ≡ true → is_some (value_at uid_cmp u fs) ≡ true) → AllThere rs es → AllThere rs fs
 all-there [] es fs more all = tt
 all-there (r ∷ rs) es fs more all = (more r.uid all.0, all-there rs es fs more all.1)
 
@@ -83,14 +121,16 @@ all-there (r ∷ rs) es fs more all = (more r.uid all.0, all-there rs es fs more
 pub unmade : (made : ℕ) → made ≡ 0 → (made == 0) ≡ true
 unmade made e = eq-eqb made 0 e
 
-pub doubted-is : (layout : Layout) (n : ℕ) (s : Site) (kept : Kept) (d : Option StoreChange) → s.number ≡ n → MapStands n s kept d → in_doubt s.number s.node ≡ is_some d
+pub doubted-is : (layout : Layout) (n : ℕ) (s : Site) (kept : Kept) (d : Option StoreChange) → s.number ≡ n → MapStands n s kept d
+    → in_doubt s.number s.node ≡ is_some d
 doubted-is layout n s kept d number m = ap (λ k. in_doubt k s.node) number ∙ ap (λ l. is_some (first l)) (doubts-are n s kept d m) ∙ one d
   where
     one : (d : Option StoreChange) → is_some (first (all_of (changes_in d))) ≡ is_some d
     one None = refl
     one (Some c) = refl
 
-pub work-settles : (s : Site) (r : StoreRequest) (synced : Bool) → r.made ≡ 0 → in_doubt s.number s.node ≡ true → s.node.synced ≡ synced → work_of s r ≡ cond synced reads syncs
+pub work-settles : (s : Site) (r : StoreRequest) (synced : Bool) → r.made ≡ 0 → in_doubt s.number s.node ≡ true → s.node.synced ≡ synced
+    → work_of s r ≡ cond synced reads syncs
 work-settles s r synced made doubt is =
     ap (λ b. cond b (cond (in_doubt s.number s.node) (cond s.node.synced reads syncs) (first_work s r)) calls) (unmade r.made made)
     ∙ ap (λ b. cond b (cond s.node.synced reads syncs) (first_work s r)) doubt
@@ -104,7 +144,8 @@ work-first s r made doubt =
 pub work-goes-on : (s : Site) (r : StoreRequest) → 1 ≤ r.made → work_of s r ≡ calls
 work-goes-on s r some = go (r.made == 0) refl
   where
-    go : (b : Bool) → (r.made == 0) ≡ b → cond b (cond (in_doubt s.number s.node) (cond s.node.synced reads syncs) (first_work s r)) calls ≡ calls
+    go : (b : Bool) → (r.made == 0) ≡ b
+        → cond b (cond (in_doubt s.number s.node) (cond s.node.synced reads syncs) (first_work s r)) calls ≡ calls
     go true is = absurd (omega (arith, some, eqb-true r.made 0 is))
     go false is = refl
 
@@ -114,10 +155,12 @@ from-entries : (m : FinMap uid_cmp (List ℕ)) → finite.from_entries (finite.e
 from-entries m = finite.same_map uid_cmp_total uid_cmp-IsAntisymmetric (finite.from_entries (finite.entries m)) m
     (λ q. finite.get-from_entries uid_cmp_total (finite.entries m) q ∙ sym (finite.get-entries m q))
 
-pub room-is : (layout : Layout) (n size : ℕ) (s : Site) (shown : Kept) (d : Option StoreChange) (u : Uid) (c : Change) → s.number ≡ n → s.layout ≡ layout → s.node.size ≡ size → MapStands n s shown d
+pub room-is : (layout : Layout) (n size : ℕ) (s : Site) (shown : Kept) (d : Option StoreChange) (u : Uid) (c : Change) → s.number ≡ n
+    → s.layout ≡ layout → s.node.size ≡ size → MapStands n s shown d
     → finds_room u c s ≡ finds_shown_room layout size shown u (kept_of c)
 room-is layout n size s shown d u c number its_layout its_size m =
-    ap (λ (l : Layout). l.has_room (l.room_of s.node.size (finite.from_entries (kept_map s.number s.node)) s.node.ledger) u (kept_of c)) its_layout
+    ap (λ (l : Layout). l.has_room (l.room_of s.node.size (finite.from_entries (kept_map s.number s.node)) s.node.ledger) u (kept_of c))
+    its_layout
     ∙ ap (λ k. layout.has_room (layout.room_of k (finite.from_entries (kept_map s.number s.node)) s.node.ledger) u (kept_of c)) its_size
     ∙ ap (λ k. layout.has_room (layout.room_of size (finite.from_entries (kept_map k s.node)) s.node.ledger) u (kept_of c)) number
     ∙ ap (λ l. layout.has_room (layout.room_of size (finite.from_entries l) s.node.ledger) u (kept_of c)) (kept-is n s shown d m)
@@ -125,7 +168,8 @@ room-is layout n size s shown d u c number its_layout its_size m =
     ∙ ap (λ l. layout.has_room (layout.room_of size shown.bodies l) u (kept_of c)) m.ledger
 
 -- whether something is kept of an Eject
-pub kept-in-is : (n : ℕ) (s : Site) (shown : Kept) (d : Option StoreChange) (u : Uid) → u ≢ epoch_uid n → MapStands n s shown d → is_kept_in s u ≡ is_some (body_at shown u)
+pub kept-in-is : (n : ℕ) (s : Site) (shown : Kept) (d : Option StoreChange) (u : Uid) → u ≢ epoch_uid n → MapStands n s shown d
+    → is_kept_in s u ≡ is_some (body_at shown u)
 kept-in-is n s shown d u h m = go (eject_in s u) ∙ ap (λ (f : Facts). is_some f.0) (m.facts u h)
   where
     go : (o : Option Eject) → with_item o (λ e. is_some e.kept) false ≡ is_some (facts_of o).0
@@ -133,10 +177,13 @@ kept-in-is n s shown d u h m = go (eject_in s u) ∙ ap (λ (f : Facts). is_some
     go (Some e) = refl
 
 pub first-calls : (s : Site) (r : StoreRequest) → needs_calls s r ≡ true → finds_room r.uid r.change s ≡ true → first_work s r ≡ calls
-first-calls s r needs room = ap (λ b. cond b (cond (finds_room r.uid r.change s) calls without_room) unkept) needs ∙ ap (λ b. cond b calls without_room) room
+first-calls s r needs room = ap (λ b. cond b (cond (finds_room r.uid r.change s) calls without_room) unkept) needs
+    ∙ ap (λ b. cond b calls without_room) room
 
-pub first-full : (s : Site) (r : StoreRequest) → needs_calls s r ≡ true → finds_room r.uid r.change s ≡ false → first_work s r ≡ without_room
-first-full s r needs room = ap (λ b. cond b (cond (finds_room r.uid r.change s) calls without_room) unkept) needs ∙ ap (λ b. cond b calls without_room) room
+pub first-full : (s : Site) (r : StoreRequest) → needs_calls s r ≡ true → finds_room r.uid r.change s ≡ false
+    → first_work s r ≡ without_room
+first-full s r needs room = ap (λ b. cond b (cond (finds_room r.uid r.change s) calls without_room) unkept) needs
+    ∙ ap (λ b. cond b calls without_room) room
 
 pub first-unkept : (s : Site) (r : StoreRequest) → needs_calls s r ≡ false → first_work s r ≡ unkept
 first-unkept s r needs = ap (λ b. cond b (cond (finds_room r.uid r.change s) calls without_room) unkept) needs

@@ -1,6 +1,7 @@
 pub mod StoreCalls
 pub mod Throughout
 pub mod Queues
+pub mod OfNode
 pub mod Picks
 pub mod Found
 pub mod Stretches
@@ -15,9 +16,12 @@ pub mod Dropped
 pub mod CallStretches
 pub mod Crashing
 pub mod Starting
+pub mod Activations
 pub mod OneCalls
+pub mod SomeCalls
 pub mod Openings
 pub mod Epochs
 pub mod WholeBoots
+pub mod BarredBoots
 pub mod FirstSites
 pub mod WorldTurns

@@ -1,12 +1,12 @@
 -- The device call of a step.
-use Rattle.std.proofs.Common.{◌≡◌, ℕ, List, Err, refl, sym, ap, subst, ◌∙◌, inl, inr, arith}
+use Rattle.std.proofs.Common.{◌≡◌, ℕ, false, List, None, Err, refl, sym, ap, subst, ◌∙◌, inl, inr, arith}
 use Rattle.eden_disk.specs.Calls.{Counts, DeviceCalls, Fine}
 use Rattle.eden_disk.proofs.Held.{calls_none}
 use Rattle.std.specs.Prelude.{IsTrue}
 use Rattle.passive_store.specs.declared.store.Progress.{Progress}
 use Rattle.passive_store.specs.declared.store.StoreRefusal.{StoreRefusal}
 use Rattle.passive_store.specs.declared.store.StoreRefusal.TheVariants as refusal
-use Rattle.passive_store.specs.Kept.{IsDiskRefusal, end_of_store}
+use Rattle.passive_store.specs.Kept.{Work, Idle, Busy, Unsettled, IsDiskRefusal, end_of_store, is_busy, worked_on}
 use Rattle.checkpoint.specs.declared.worker.Request.{Request}
 use Rattle.checkpoint.specs.declared.worker.StoreEnd.{StoreEnd}
 use Rattle.checkpoint.specs.declared.worker.StepEnd.{StepEnd}
@@ -26,7 +26,8 @@ refused-end (refusal.Damaged place) only = absurd (elim only [ inl bad ↦ cc ba
 refused-end refusal.OutOfMemory only = absurd (elim only [ inl bad ↦ cc bad | inr bad ↦ cc bad ])
 
 -- a call that was refused
-pub one-refused : (old new : List Request) (e : StoreRefusal) (how : StoreEnd) (result : StepEnd) (before after : Counts) → how ≡ end_of_refusal e → IsDiskRefusal e
+pub one-refused : (old new : List Request) (e : StoreRefusal) (how : StoreEnd) (result : StepEnd) (before after : Counts)
+    → how ≡ end_of_refusal e → IsDiskRefusal e
     → EndsFirst old new how result → DeviceCalls 1 before after (end_of_store {T = Progress} (Err e)) → OneCall before after result
 one-refused old new e how result before after is only ends d = record {
   made = 1;
@@ -35,7 +36,8 @@ one-refused old new e how result before after is only ends d = record {
 }
 
 -- one that was not, or none
-pub one-fine : (old new : List Request) (how : StoreEnd) (result : StepEnd) (before after : Counts) (made : ℕ) → call_end how ≡ Fine → made ≡ 1
+pub one-fine : (old new : List Request) (how : StoreEnd) (result : StepEnd) (before after : Counts) (made : ℕ) → call_end how ≡ Fine
+    → made ≡ 1
     → EndsFirst old new how result → DeviceCalls made before after Fine → OneCall before after result
 one-fine old new how result before after made fine one ends d = record {
   made = made;
@@ -43,7 +45,8 @@ one-fine old new how result before after made fine one ends d = record {
   counts = subst (λ k. DeviceCalls made before after k) (sym (ended-call old new how result ends ∙ fine)) d;
 }
 
-pub no-calls : (old new : List Request) (how : StoreEnd) (result : StepEnd) (before after : Counts) → call_end how ≡ Fine → after ≡ before → IsTrue before.power
+pub no-calls : (old new : List Request) (how : StoreEnd) (result : StepEnd) (before after : Counts) → call_end how ≡ Fine → after ≡ before
+    → IsTrue before.power
     → EndsFirst old new how result → OneCall before after result
 no-calls old new how result before after fine same power ends = record {
   made = 0;
@@ -52,8 +55,20 @@ no-calls old new how result before after fine same power ends = record {
       (subst (λ k. DeviceCalls 0 before k Fine) (sym same) (calls_none before power));
 }
 
-pub one-going : (before after : Counts) (result : StepEnd) → end_of_step result ≡ Fine → DeviceCalls 1 before after Fine → OneCall before after result
-one-going before after result fine d = record { made = 1; most = omega arith; counts = subst (λ k. DeviceCalls 1 before after k) (sym fine) d }
+pub one-going : (before after : Counts) (result : StepEnd) → end_of_step result ≡ Fine → DeviceCalls 1 before after Fine
+    → OneCall before after result
+one-going before after result fine d = record {
+  made = 1;
+  most = omega arith;
+  counts = subst (λ k. DeviceCalls 1 before after k)
+      (sym fine) d;
+}
 
 pub one-from : (before mid after : Counts) (result : StepEnd) → mid ≡ before → OneCall mid after result → OneCall before after result
 one-from before mid after result same c = subst (λ k. OneCall k after result) same c
+
+-- no change is worked on where no job goes on
+pub none_worked : (w : Work) → is_busy w ≡ false → worked_on w ≡ None
+none_worked Idle is = refl
+none_worked (Busy c made left) is = cc
+none_worked (Unsettled c synced) is = refl

@@ -62,7 +62,8 @@ pub now-left : (u : Uid) (first now : Request) (b : Bool) → uid_eq first.uid u
 now-left u first now b is same = same ∙ ap (λ t. cond t (record first { process = None }) first) (sym (same-eq first.uid u ∙ is))
 
 pub begun-left : (u : Uid) (begun : Bool) (first now : Request) (qs rest left all : List Request) → begun ≡ true → qs ≡ first ∷ rest
-    → left ≡ filter (λ q. not (uid_eq q.uid u)) rest → all ≡ now ∷ left → now ≡ cond (same_uid first.uid u) (record first { process = None }) first
+    → left ≡ filter (λ q. not (uid_eq q.uid u)) rest → all ≡ now ∷ left
+    → now ≡ cond (same_uid first.uid u) (record first { process = None }) first
     → all ≡ left_in begun u qs
 begun-left u begun first now qs rest left all is queue filtered front changed =
     front ∙ ap (λ l. now ∷ l) (filtered ∙ filter-left u rest) ∙ ap (λ q. q ∷ filter_map (left_of u) rest) changed

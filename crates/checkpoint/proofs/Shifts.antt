@@ -46,9 +46,18 @@ abbrev pub same_requests : List StoreRequest → List StoreRequest
 same_requests rs = rs
 
 pub shift-same : (s : Site) → Shift same_facts same_requests s s
-shift-same s = record { number = refl; its_layout = refl; rest_of = refl; requests = refl; facts = λ u. refl; uids = λ u. refl; in_order = λ h. h }
+shift-same s = record {
+  number = refl;
+  its_layout = refl;
+  rest_of = refl;
+  requests = refl;
+  facts = λ u. refl;
+  uids = λ u. refl;
+  in_order = λ h. h;
+}
 
-pub shift-then : (g h : Uid → Facts → Facts) (f k : List StoreRequest → List StoreRequest) (s t v : Site) → Shift g f s t → Shift h k t v → Shift (λ u x. h u (g u x)) (λ rs. k (f rs)) s v
+pub shift-then : (g h : Uid → Facts → Facts) (f k : List StoreRequest → List StoreRequest) (s t v : Site) → Shift g f s t → Shift h k t v
+    → Shift (λ u x. h u (g u x)) (λ rs. k (f rs)) s v
 shift-then g h f k s t v a b = record {
   number = b.number ∙ a.number;
   its_layout = b.its_layout ∙ a.its_layout;
@@ -61,7 +70,15 @@ shift-then g h f k s t v a b = record {
 
 pub shift-on_traffic : (f : Traffic → Traffic) (s : Site) → Shift same_facts same_requests s (on_traffic f s)
 unfolding on_traffic
-shift-on_traffic f s = record { number = refl; its_layout = refl; rest_of = refl; requests = refl; facts = λ u. refl; uids = λ u. refl; in_order = λ h. h }
+shift-on_traffic f s = record {
+  number = refl;
+  its_layout = refl;
+  rest_of = refl;
+  requests = refl;
+  facts = λ u. refl;
+  uids = λ u. refl;
+  in_order = λ h. h;
+}
 
 -- 2. A change of one Eject
 
@@ -70,12 +87,14 @@ some-changed true f None = refl
 some-changed true f (Some e) = refl
 some-changed false f o = refl
 
-facts-changed : (b : Bool) (f : Eject → Eject) (o : Option Eject) → ((e : Eject) → facts_of (Some (f e)) ≡ facts_of (Some e)) → facts_of (cond b (option_map f o) o) ≡ facts_of o
+facts-changed : (b : Bool) (f : Eject → Eject) (o : Option Eject) → ((e : Eject) → facts_of (Some (f e)) ≡ facts_of (Some e))
+    → facts_of (cond b (option_map f o) o) ≡ facts_of o
 facts-changed true f None same = refl
 facts-changed true f (Some e) same = same e
 facts-changed false f o same = refl
 
-pub shift-on_eject : (v : Uid) (f : Eject → Eject) (s : Site) → ((e : Eject) → facts_of (Some (f e)) ≡ facts_of (Some e)) → Shift same_facts same_requests s (on_eject v f s)
+pub shift-on_eject : (v : Uid) (f : Eject → Eject) (s : Site) → ((e : Eject) → facts_of (Some (f e)) ≡ facts_of (Some e))
+    → Shift same_facts same_requests s (on_eject v f s)
 unfolding on_eject
 shift-on_eject v f s same = record {
   number = refl;
@@ -91,7 +110,8 @@ shift-on_eject v f s same = record {
 abbrev pub facts_at : Uid → (Facts → Facts) → Uid → Facts → Facts
 facts_at v g u f = cond (same_uid u v) (g f) f
 
-pub shift-at : (v : Uid) (f : Eject → Eject) (g : Facts → Facts) (s : Site) → ((e : Eject) → facts_of (Some (f e)) ≡ g (facts_of (Some e))) → is_some (eject_in s v) ≡ true
+pub shift-at : (v : Uid) (f : Eject → Eject) (g : Facts → Facts) (s : Site) → ((e : Eject) → facts_of (Some (f e)) ≡ g (facts_of (Some e)))
+    → is_some (eject_in s v) ≡ true
     → Shift (facts_at v g) same_requests s (on_eject v f s)
 unfolding on_eject
 shift-at v f g s same held = record {
@@ -104,14 +124,16 @@ shift-at v f g s same held = record {
   in_order = order-changed v f s.node.ejects;
 }
   where
-    go : (u : Uid) (b : Bool) → same_uid u v ≡ b → (o : Option Eject) → eject_in s u ≡ o → facts_of (cond b (option_map f o) o) ≡ cond b (g (facts_of o)) (facts_of o)
+    go : (u : Uid) (b : Bool) → same_uid u v ≡ b → (o : Option Eject) → eject_in s u ≡ o
+        → facts_of (cond b (option_map f o) o) ≡ cond b (g (facts_of o)) (facts_of o)
     go u true is None at = absurd (let e : u ≡ v = eq-same uid_cmp uid_cmp-IsAntisymmetric u v is in
         let bad : false ≡ true = subst (λ o. is_some o ≡ true) (ap (eject_in s) (sym e) ∙ at) held in cc bad)
     go u true is (Some e) at = same e
     go u false is o at = refl
 
 -- each Eject changed, and its requests
-pub shift-each : (f : Eject → Eject) (g : Facts → Facts) (s : Site) → ((o : Option Eject) → facts_of (option_map f o) ≡ g (facts_of o)) → Shift (λ u x. g x) same_requests s (on_node (λ it. record it { ejects = each_value f it.ejects }) s)
+pub shift-each : (f : Eject → Eject) (g : Facts → Facts) (s : Site) → ((o : Option Eject) → facts_of (option_map f o) ≡ g (facts_of o))
+    → Shift (λ u x. g x) same_requests s (on_node (λ it. record it { ejects = each_value f it.ejects }) s)
 unfolding on_node
 shift-each f g s same = record {
   number = refl;
@@ -139,29 +161,43 @@ shift-tells v p a s = shift-on_eject v (on_active (told p a)) s (facts-active (t
 
 -- 3. The end of a request
 
-pub shift-requests : (f : List StoreRequest → List StoreRequest) (s : Site) → Shift same_facts f s (on_node (λ it. record it { requests = f it.requests }) s)
+pub shift-requests : (f : List StoreRequest → List StoreRequest) (s : Site)
+    → Shift same_facts f s (on_node (λ it. record it { requests = f it.requests }) s)
 unfolding on_node
-shift-requests f s = record { number = refl; its_layout = refl; rest_of = refl; requests = refl; facts = λ u. refl; uids = λ u. refl; in_order = λ h. h }
+shift-requests f s = record {
+  number = refl;
+  its_layout = refl;
+  rest_of = refl;
+  requests = refl;
+  facts = λ u. refl;
+  uids = λ u. refl;
+  in_order = λ h. h;
+}
 
 shift-code : (v : Uid) (p : Option ℕ) (why : Status) (s : Site) → Shift same_facts same_requests s (tells_code v p why s)
 shift-code v None why s = shift-same s
 shift-code v (Some p) why s = shift-tells v p (Code why) s
 
 pub shift-ended : (r : StoreRequest) (why : Status) (s : Site) → Shift same_facts rest s (request_ended r why s)
-shift-ended r why s = shift-then same_facts same_facts rest same_requests s (on_node (λ it. record it { requests = rest it.requests }) s) (request_ended r why s)
+shift-ended r why s = shift-then same_facts same_facts rest same_requests s (on_node (λ it. record it { requests = rest it.requests }) s)
+    (request_ended r why s)
     (shift-requests rest s) (shift-code r.uid r.process why (on_node (λ it. record it { requests = rest it.requests }) s))
 
 -- 4. A removal that is done: the active part goes, with the requests that made no call
 
-pub shift-item : {X : Type 0} (f : List StoreRequest → List StoreRequest) (s : Site) (o : Option X) (k : X → Site) → ((x : X) → o ≡ Some x → Shift same_facts same_requests s (k x)) → Shift same_facts same_requests s (with_item o k s)
+pub shift-item : {X : Type 0} (f : List StoreRequest → List StoreRequest) (s : Site) (o : Option X) (k : X → Site)
+    → ((x : X) → o ≡ Some x → Shift same_facts same_requests s (k x)) → Shift same_facts same_requests s (with_item o k s)
 shift-item f s None k each = shift-same s
 shift-item f s (Some x) k each = each x refl
 
-pub shift-both : (v : Uid) (f : Eject → Eject) (g : Traffic → Traffic) (s : Site) → ((e : Eject) → facts_of (Some (f e)) ≡ facts_of (Some e)) → Shift same_facts same_requests s (on_traffic g (on_eject v f s))
-shift-both v f g s same = shift-then same_facts same_facts same_requests same_requests s (on_eject v f s) (on_traffic g (on_eject v f s)) (shift-on_eject v f s same) (shift-on_traffic g (on_eject v f s))
+pub shift-both : (v : Uid) (f : Eject → Eject) (g : Traffic → Traffic) (s : Site)
+    → ((e : Eject) → facts_of (Some (f e)) ≡ facts_of (Some e)) → Shift same_facts same_requests s (on_traffic g (on_eject v f s))
+shift-both v f g s same = shift-then same_facts same_facts same_requests same_requests s (on_eject v f s) (on_traffic g (on_eject v f s))
+    (shift-on_eject v f s same) (shift-on_traffic g (on_eject v f s))
 
 pub shift-turned_away : (v : Uid) (why : Status) (s : Site) → Shift same_facts same_requests s (turned_away v why s)
-shift-turned_away v why s = shift-item same_requests s (eject_in s v) _ (λ e is. shift-both v (with_queued []) (all_replied why e.queued) s (λ e. refl))
+shift-turned_away v why s = shift-item same_requests s (eject_in s v) _
+    (λ e is. shift-both v (with_queued []) (all_replied why e.queued) s (λ e. refl))
 
 -- which requests are left once the active part of this Eject is gone, if it has one
 abbrev pub dropped_if : Bool → Uid → List StoreRequest → List StoreRequest
@@ -174,12 +210,18 @@ is_active_in s v = with_item (eject_in s v) (λ e. is_some e.active) false
 pub shift-deactivated : (v : Uid) (s : Site) → Shift same_facts (dropped_if (is_active_in s v) v) s (deactivated v s)
 shift-deactivated v s = go (eject_in s v)
   where
-    one : (a : Option Active) → Shift same_facts (dropped_if (is_some a) v) s (with_item a (λ it. on_traffic (λ t. all_replied status.Dropped (running it.crew) (orphaned v t)) (on_eject v (with_active None) (on_node (without_requests v) s))) s)
+    one : (a : Option Active) → Shift same_facts (dropped_if (is_some a) v) s
+        (with_item a (λ it. on_traffic (λ t. all_replied status.Dropped (running it.crew) (orphaned v t))
+        (on_eject v (with_active None) (on_node (without_requests v) s))) s)
     one None = shift-same s
-    one (Some it) = shift-then same_facts same_facts (filter_map (dropped_of v)) same_requests s (on_node (without_requests v) s) _ (shift-requests (filter_map (dropped_of v)) s)
-        (shift-both v (with_active None) (λ t. all_replied status.Dropped (running it.crew) (orphaned v t)) (on_node (without_requests v) s) (λ e. refl))
+    one (Some it) = shift-then same_facts same_facts (filter_map (dropped_of v)) same_requests s (on_node (without_requests v) s) _
+        (shift-requests (filter_map (dropped_of v)) s)
+        (shift-both v (with_active None) (λ t. all_replied status.Dropped (running it.crew) (orphaned v t)) (on_node (without_requests v) s)
+        (λ e. refl))
 
-    go : (o : Option Eject) → Shift same_facts (dropped_if (with_item o (λ e. is_some e.active) false) v) s (with_item o (λ e. with_item e.active (λ it. on_traffic (λ t. all_replied status.Dropped (running it.crew) (orphaned v t)) (on_eject v (with_active None) (on_node (without_requests v) s))) s) s)
+    go : (o : Option Eject) → Shift same_facts (dropped_if (with_item o (λ e. is_some e.active) false) v) s
+        (with_item o (λ e. with_item e.active (λ it. on_traffic (λ t. all_replied status.Dropped (running it.crew) (orphaned v t))
+        (on_eject v (with_active None) (on_node (without_requests v) s))) s) s)
     go None = shift-same s
     go (Some e) = one e.active
 
@@ -189,4 +231,5 @@ removed_requests removal active v rs = dropped_if active v rs
 
 pub shift-removed : (c : Change) (v : Uid) (s : Site) → Shift same_facts (removed_requests c (is_active_in s v) v) s (removed c v s)
 shift-removed (body bytes) v s = shift-same s
-shift-removed removal v s = shift-then same_facts same_facts (dropped_if (is_active_in s v) v) same_requests s (deactivated v s) (removed removal v s) (shift-deactivated v s) (shift-turned_away v status.Gone (deactivated v s))
+shift-removed removal v s = shift-then same_facts same_facts (dropped_if (is_active_in s v) v) same_requests s (deactivated v s)
+    (removed removal v s) (shift-deactivated v s) (shift-turned_away v status.Gone (deactivated v s))

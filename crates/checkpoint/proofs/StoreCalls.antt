@@ -40,7 +40,8 @@ pub record AdvancesOnce (layout : Layout) (n : ℕ) (x y : Seen) (result : Resul
   pub stands : LeavesKept layout n y.more y.kept y.work y.disk.told
   pub moments : StandsThrough layout n x.more x.kept (changes_in (doubt_in x.work)) x.disk.told y.disk.told
 
-pub settles-once : (tells obeys : Bool) (layout : Layout) (result : Result Progress StoreRefusal) (x y : Seen) → IsTrue tells → IsTrue (is_unsettled x.work)
+pub settles-once : (tells obeys : Bool) (layout : Layout) (result : Result Progress StoreRefusal) (x y : Seen) → IsTrue tells
+    → IsTrue (is_unsettled x.work)
     → SettlesOneCall tells obeys layout result x y → SettlesOnce layout x.node x y result y.picked
 settles-once tells obeys layout result x y so unsettled f = record {
   unsettled = unsettled;
@@ -57,7 +58,8 @@ settles-once tells obeys layout result x y so unsettled f = record {
   moments = f.moments so;
 }
 
-pub advances-once : (tells obeys : Bool) (layout : Layout) (result : Result Progress StoreRefusal) (x y : Seen) → IsTrue tells → IsTrue (is_busy x.work)
+pub advances-once : (tells obeys : Bool) (layout : Layout) (result : Result Progress StoreRefusal) (x y : Seen) → IsTrue tells
+    → IsTrue (is_busy x.work)
     → Advances tells obeys layout result x y → AdvancesOnce layout x.node x y result
 advances-once tells obeys layout result x y so busy f = record {
   busy = busy;
@@ -74,7 +76,8 @@ advances-once tells obeys layout result x y so busy f = record {
 }
 
 -- a whole settling
-pub record SettlesWhole {T : Type 0} (layout : Layout) (n : ℕ) (x y : Seen) (result : Result T StoreRefusal) (pick : Option Pick) : Type 0 where
+pub record SettlesWhole {T : Type 0} (layout : Layout) (n : ℕ) (x y : Seen) (result : Result T StoreRefusal)
+    (pick : Option Pick) : Type 0 where
   pub ran : Ran (settling_calls x.work) 0 result x.disk.counts y.disk.counts
   pub order : CallsTold (settling_of x.work) x.disk.told y.disk.told (end_of_store result)
   pub timed : Timed x.disk.counts.clock x.disk.told y.disk.counts.clock y.disk.told
@@ -117,7 +120,8 @@ pub record ReadsOnce (layout : Layout) (n : ℕ) (x y : Seen) : Type 0 where
   pub stands : LeavesKept layout n y.more y.kept y.work y.disk.told
   pub moments : StandsThrough layout n x.more x.kept (changes_in (doubt_in x.work)) x.disk.told y.disk.told
 
-pub reads-once : (tells obeys : Bool) (layout : Layout) (uid : Uid) (result : Result (Option (List ℕ)) StoreRefusal) (x y : Seen) → IsTrue tells
+pub reads-once : (tells obeys : Bool) (layout : Layout) (uid : Uid) (result : Result (Option (List ℕ)) StoreRefusal) (x y : Seen)
+    → IsTrue tells
     → Gets tells obeys layout uid result x y → ReadsOnce layout x.node x y
 reads-once tells obeys layout uid result x y so f = record {
   calls = reads_due x.work f.calls result;

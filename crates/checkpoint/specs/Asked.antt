@@ -1,5 +1,5 @@
 -- The requests of a worker as those of a node, and what a step of it leaves.
-use Rattle.std.specs.Prelude.{◌≡◌, ℕ, ◌+◌, ◌≤◌, IsTrue, List, [], ◌∷◌, map, length, Option, None, Some, IfSome}
+use Rattle.std.specs.Prelude.{◌≡◌, ℕ, ◌+◌, ◌≤◌, Bool, false, IsTrue, List, [], ◌∷◌, map, length, Option, None, Some, IfSome}
 use Rattle.std.specs.FinMap as finite
 use Rattle.eden_model.specs.Map.{first}
 use Rattle.eden_disk.specs.Calls.{Counts, DeviceCalls, End, Fine, AtFault, AtStop}
@@ -132,6 +132,11 @@ PowerBehind store_end.Stopped counts = Unit {0}
 abbrev pub KeepsPower : Counts → StepEnd → Type 0
 KeepsPower counts (Going p) = IsTrue counts.power
 KeepsPower counts (Ended q e) = PowerBehind e counts
+
+-- behind the end of the first request no job goes on
+abbrev pub EndsJob : Bool → StepEnd → Type 0
+EndsJob busy (Going p) = Unit {0}
+EndsJob busy (Ended q e) = busy ≡ false
 
 -- 5. Its device call
 

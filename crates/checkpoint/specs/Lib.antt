@@ -1,4 +1,5 @@
 pub mod Asked
+pub mod Calls
 pub mod Changes
 pub mod Found
 pub mod Queues
@@ -11,3 +12,4 @@ pub mod Starting
 pub mod Booting
 pub mod Boots
 pub mod HandedIn
+pub mod BarredBoots

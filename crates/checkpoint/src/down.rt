@@ -48,6 +48,8 @@ pub fn arm<St: Store>(store: &mut St, what: Arm)
     requires { 1 ≤ calls_until what }
     ensures node { (St.seen store.new).node ≡ (St.seen store.old).node }
     ensures more { (St.seen store.new).more ≡ (St.seen store.old).more }
+    ensures work { (St.seen store.new).work ≡ (St.seen store.old).work }
+    ensures counts { (St.seen store.new).disk.counts ≡ (St.seen store.old).disk.counts }
     ensures stands { IsTrue St.Device.tells → (s : Site) (requests : List StoreRequest)
         → StandsNow St.layout (St.seen store.old).node s requests (St.seen store.old)
         → StandsNow St.layout (St.seen store.new).node s requests (St.seen store.new) }

@@ -4,11 +4,13 @@
 mod down;
 mod law;
 mod start;
+#[cfg(test)]
+mod tests;
 mod up;
 mod worker;
 
 pub use down::{arm, crash, noted};
 pub use law::runs_stand;
-pub use start::{Start, start_from};
+pub use start::{Start, Starter, start_from};
 pub use up::{BootFall, BootNote, boot};
 pub use worker::{Request, StepEnd, StoreEnd, Wish, Worker};

@@ -1,19 +1,22 @@
 //! A node boots: its store is opened, the doubt is settled, and the next epoch is put.
-ghost use Rattle.std.specs.Prelude.{◌≡◌, ◌⊎◌, ◌≤◌, ℕ, [], List, Bool, Option, IsTrue, IfOk, IfErr, IfSome, OnOk, OnErr, is_some};
+ghost use Rattle.std.specs.Prelude.{◌≡◌, ◌⊎◌, ◌≤◌, ℕ, [], List, Bool, Option, IsTrue, IfOk, IfErr, IfSome, OnOk, OnErr, MatchResult, is_some};
 ghost use Rattle.eden_disk.specs.Told.{Told};
+ghost use Rattle.eden_disk.specs.Calls.{Fine};
 ghost use Rattle.passive_store.specs.declared.store.Pick.{Pick};
 ghost use Rattle.passive_store.specs.declared.store.StoreRefusal.TheVariants.{OutOfMemory};
 ghost use Rattle.journal.specs.Ejects.{stored_epoch as epoch_stored};
 ghost use Rattle.journal.specs.Settling.{settled, epoch_bytes as bytes_of};
-ghost use Rattle.passive_store.specs.Kept.{Idle, IsDiskRefusal, doubt_in};
+ghost use Rattle.passive_store.specs.Kept.{Idle, IsDiskRefusal, IsEarlyRefusal, doubt_in, end_of_store};
 ghost use Rattle.passive_store.specs.Layout.{IsLayout};
 ghost use Rattle.passive_store.specs.Seen.{disk_seen};
 ghost use Rattle.journal.specs.Sites.{HasEpochs};
 ghost use Rattle.journal.specs.World.{Site};
 ghost use Rattle.checkpoint.specs.Turns.{RestStands};
 ghost use Rattle.checkpoint.specs.Asked.{noted_in};
+ghost use Rattle.checkpoint.specs.Calls.{MakesCalls, powered, call_of_refusal, call_of_fall};
 ghost use Rattle.checkpoint.specs.Booting.{PicksBy, OpensTo, RefusedTo, PutsTo};
 ghost use Rattle.checkpoint.specs.Boots.{end_of_boot, BootsUp, FallsTo, IsDownSite};
+ghost use Rattle.checkpoint.specs.BarredBoots.{Bar, BarStands, nothing_begun, FallsBarred};
 
 use crate::down::noted;
 use capability::Uid;
@@ -69,6 +72,8 @@ fn open_store<St: Store>(
     ensures node { IfOk result (λ p. (St.seen p.0).node ≡ node) }
     ensures idle { IfOk result (λ p. (St.seen p.0).work ≡ Idle) }
     ensures power { IfOk result (λ p. IsTrue (St.seen p.0).disk.counts.power) }
+    ensures calls { MatchResult result (λ p. MakesCalls (St.Device.counts disk) (St.seen p.0).disk.counts Fine)
+        (λ r. MakesCalls (St.Device.counts disk) (St.Device.counts r.0) (call_of_refusal r.1)) }
     ensures opened { IsTrue St.Device.tells → IfOk result (λ p. (s : Site)
         → IsLayout St.layout → (more : ℕ)
         → RestStands St.layout node more s noted (St.Device.counts disk).size (St.Device.counts disk).clock (St.Device.told disk)
@@ -78,6 +83,10 @@ fn open_store<St: Store>(
         → RestStands St.layout node more s noted (St.Device.counts disk).size (St.Device.counts disk).clock (St.Device.told disk)
         → RefusedTo St.layout node more s noted (St.Device.told disk) (St.Device.counts disk).clock r.1 (St.Device.told r.0)
         (St.Device.counts r.0)) }
+    ensures barred { IsTrue St.Device.tells → (s : Site) → IsLayout St.layout → (bar : Bar)
+        → BarStands St.layout node s bar (St.Device.counts disk).size (St.Device.counts disk).clock (St.Device.told disk)
+        → MatchResult result (λ _. ⊥) (λ r. FallsBarred St.layout node s bar (St.Device.told disk) (St.Device.counts disk).clock
+        (end_of_boot r.1) nothing_begun (St.Device.told r.0) (St.Device.counts r.0)) }
 {
     let _size = disk.size();
     match St::open_disk(alloc, disk, node) {
@@ -123,6 +132,7 @@ fn read_epoch<St: Store>(alloc: Global, store: &mut St, node: u8) -> Result<u32,
     ensures idle { (St.seen store.new).work ≡ Idle }
     ensures only { IfErr result (λ e. IsDiskRefusal e ⊎ (e ≡ OutOfMemory)) }
     ensures power { OnOk result (IsTrue (St.seen store.new).disk.counts.power) }
+    ensures calls { MakesCalls (St.seen store.old).disk.counts (St.seen store.new).disk.counts (end_of_store result) }
     ensures reads { IsTrue St.Device.tells → (more : ℕ) (s : Site) (told : Told) (clock : ℕ) (p : Option Pick)
         → OpensTo St.layout node more s told clock p (St.seen store.old) → OpensTo St.layout node more s told clock p (St.seen store.new) }
     ensures epoch { IsTrue St.Device.tells → IfOk result (λ e. (more : ℕ) (s : Site) (told : Told) (clock : ℕ) (p : Option Pick)
@@ -157,6 +167,10 @@ fn put_epoch<St: Store>(
     requires idle { (St.seen store.old).work ≡ Idle }
     requires node { (St.seen store.old).node ≡ node }
     ensures node { (St.seen store.new).node ≡ node }
+    ensures idle { OnOk result ((St.seen store.new).work ≡ Idle) }
+    ensures power { OnOk result (IsTrue (St.seen store.new).disk.counts.power) }
+    ensures only { IfErr result (λ e. IsDiskRefusal e ⊎ IsEarlyRefusal e) }
+    ensures calls { MakesCalls (St.seen store.old).disk.counts (St.seen store.new).disk.counts (end_of_store result) }
     ensures puts { IsTrue St.Device.tells → (more : ℕ) (s : Site) (told : Told) (clock : ℕ) (p : Option Pick) → 1 ≤ more
         → s.number ≡ node → s.layout ≡ St.layout → OpensTo St.layout node more s told clock p (St.seen store.old)
         → PutsTo St.layout node more s told clock p epoch (St.seen store.old) result (St.seen store.new) }
@@ -169,7 +183,8 @@ fn put_epoch<St: Store>(
     match store.begin_put(alloc, uid, &epoch_bytes(epoch)) {
         Ok(()) => finish(store),
         Err(StoreRefusal::Full) => Err(StoreRefusal::Full),
-        Err(_) => Err(StoreRefusal::OutOfMemory),
+        Err(StoreRefusal::OutOfMemory) => Err(StoreRefusal::OutOfMemory),
+        Err(_) => unreachable!(),
     }
 }
 
@@ -206,6 +221,11 @@ fn boot_opened<St: Store>(
     requires power { IsTrue (St.seen store).disk.counts.power }
     requires idle { (St.seen store).work ≡ Idle }
     requires node { (St.seen store).node ≡ node }
+    ensures node { IfOk result (λ r. (St.seen r.0).node ≡ node) }
+    ensures idle { IfOk result (λ r. (St.seen r.0).work ≡ Idle) }
+    ensures power { IfOk result (λ r. IsTrue (St.seen r.0).disk.counts.power) }
+    ensures calls { MatchResult result (λ r. MakesCalls (St.seen store).disk.counts (St.seen r.0).disk.counts Fine)
+        (λ r. MakesCalls (St.seen store).disk.counts (St.Device.counts r.0) (call_of_fall r.1.end)) }
     ensures up { IsTrue St.Device.tells → IfOk result (λ r. (more : ℕ) (s : Site) (told : Told) (clock : ℕ) → 1 ≤ more
         → IsDownSite St.layout node s → OpensTo St.layout node more s told clock pick (St.seen store)
         → BootsUp St.layout node more s told clock r.1 (St.seen r.0)) }
@@ -235,7 +255,7 @@ fn boot_opened<St: Store>(
                 Err(StoreRefusal::OutOfMemory) => Err(fall(store, nothing, None)),
                 Err(StoreRefusal::Failed) => Err(fall(store, begun, Some(BootEnd::DiskFault))),
                 Err(StoreRefusal::Stopped) => Err(fall(store, begun, Some(BootEnd::Stop))),
-                Err(StoreRefusal::Damaged { place: _ }) => Err(fall(store, nothing, None)),
+                Err(StoreRefusal::Damaged { place: _ }) => unreachable!(),
             }
         }
     }
@@ -249,6 +269,11 @@ pub fn boot<St: Store>(
     noted: Option<Doubt>,
 ) -> Result<(St, BootNote), (St::Device, BootFall)>
     requires node { (1 ≤ node) × (node ≤ 8) }
+    ensures node { IfOk result (λ r. (St.seen r.0).node ≡ node) }
+    ensures idle { IfOk result (λ r. (St.seen r.0).work ≡ Idle) }
+    ensures power { IfOk result (λ r. IsTrue (St.seen r.0).disk.counts.power) }
+    ensures calls { MatchResult result (λ r. MakesCalls (powered (St.Device.counts disk)) (St.seen r.0).disk.counts Fine)
+        (λ r. MakesCalls (powered (St.Device.counts disk)) (St.Device.counts r.0) (call_of_fall r.1.end)) }
     ensures up { IsTrue St.Device.tells → IfOk result (λ r. (s : Site)
         → IsLayout St.layout → HasEpochs s.node → (more : ℕ) → 1 ≤ more
         → RestStands St.layout node more s noted (St.Device.counts disk).size (St.Device.counts disk).clock (St.Device.told disk)
@@ -258,6 +283,13 @@ pub fn boot<St: Store>(
         → RestStands St.layout node more s noted (St.Device.counts disk).size (St.Device.counts disk).clock (St.Device.told disk)
         → FallsTo St.layout node more s (St.Device.told disk) (St.Device.counts disk).clock r.1.end r.1.note r.1.doubt
         (St.Device.told r.0) (St.Device.counts r.0)) }
+
+    // One whose disk cannot be opened does not come up.
+    ensures barred { IsTrue St.Device.tells → (s : Site) → IsLayout St.layout → (bar : Bar)
+        → BarStands St.layout node s bar (St.Device.counts disk).size (St.Device.counts disk).clock (St.Device.told disk)
+        → MatchResult result (λ _. ⊥) (λ r. (r.1.doubt ≡ noted)
+        × FallsBarred St.layout node s bar (St.Device.told disk) (St.Device.counts disk).clock r.1.end r.1.note (St.Device.told r.0)
+        (St.Device.counts r.0)) }
 {
     disk.restart();
     match open_store::<St>(alloc, disk, node, noted) {

@@ -1,10 +1,10 @@
 //! The requests of a node that wait for its store, and the steps by which they are carried out.
 ghost use Rattle.std.specs.Prelude.{◌≡◌, ◌≤◌, ◌↔◌, ◌++◌, ◌∷◌, [], ℕ, Bool, IsTrue, IfOk, IfErr, OnErr, MatchResult, length, is_some, ◌||◌};
-ghost use Rattle.passive_store.specs.Kept.{is_busy, is_unsettled, body_at, Idle};
+ghost use Rattle.passive_store.specs.Kept.{is_busy, is_unsettled, body_at, Idle, IsDiskRefusal};
 ghost use Rattle.passive_store.specs.Seen.{Begins};
 ghost use Rattle.checkpoint.specs.Queues.{put_of, removal_of, left_in};
 ghost use Rattle.checkpoint.specs.StoreCalls.{end_of_refusal, Stays};
-ghost use Rattle.checkpoint.specs.Asked.{ask_of, body_asked, IsOfNode, AllOfNode, TakesStep, MakesCall, EndsFirst, QueueGoes, KeepsPower, OneCall};
+ghost use Rattle.checkpoint.specs.Asked.{ask_of, body_asked, IsOfNode, AllOfNode, TakesStep, MakesCall, EndsFirst, EndsJob, QueueGoes, KeepsPower, OneCall};
 
 use capability::{Body, Uid};
 use eden_disk::Disk;
@@ -87,6 +87,8 @@ impl Worker {
         ensures requests { MatchResult result (λ _. self.new.requests.items ≡ self.old.requests.items ++ put_of uid process body ∷ [])
             (λ _. self.new.requests.items ≡ self.old.requests.items) }
         ensures begun { self.new.begun ≡ self.old.begun }
+        ensures of_node { (n : ℕ) → IsOfNode n (put_of uid process body) → AllOfNode n self.old.requests.items
+            → AllOfNode n self.new.requests.items }
     {
         self.ask(Request {
             uid,
@@ -100,6 +102,8 @@ impl Worker {
         ensures requests { MatchResult result (λ _. self.new.requests.items ≡ self.old.requests.items ++ removal_of uid process ∷ [])
             (λ _. self.new.requests.items ≡ self.old.requests.items) }
         ensures begun { self.new.begun ≡ self.old.begun }
+        ensures of_node { (n : ℕ) → IsOfNode n (removal_of uid process) → AllOfNode n self.old.requests.items
+            → AllOfNode n self.new.requests.items }
     {
         self.ask(Request {
             uid,
@@ -112,6 +116,7 @@ impl Worker {
     pub fn drop_requests(&mut self, uid: Uid)
         ensures requests { self.new.requests.items ≡ left_in self.old.begun uid self.old.requests.items }
         ensures begun { self.new.begun ≡ self.old.begun }
+        ensures of_node { (n : ℕ) → AllOfNode n self.old.requests.items → AllOfNode n self.new.requests.items }
     {
         if !self.begun {
             self.requests.retain(|request| request.uid != uid);
@@ -150,7 +155,7 @@ impl Worker {
         self.begun = false;
         match self.requests.pop_front() {
             Some(request) => StepEnd::Ended { request, end },
-            None => StepEnd::Going { pick: None },
+            None => unreachable!(),
         }
     }
 
@@ -165,6 +170,7 @@ impl Worker {
         ensures steps { IsTrue St.Device.tells
             → TakesStep St.layout self.old.requests.items (St.seen store.old) self.new.requests.items (St.seen store.new) result }
         ensures queue { QueueGoes self.old.requests.items self.new.requests.items result }
+        ensures ended { EndsJob (is_busy (St.seen store.new).work) result }
         ensures power { KeepsPower (St.seen store.new).disk.counts result }
         ensures calls { OneCall (St.seen store.old).disk.counts (St.seen store.new).disk.counts result }
     {
@@ -188,6 +194,7 @@ impl Worker {
         ensures steps { IsTrue St.Device.tells
             → MakesCall St.layout self.old.requests.items (St.seen store.old) self.new.requests.items (St.seen store.new) result }
         ensures queue { QueueGoes self.old.requests.items self.new.requests.items result }
+        ensures ended { EndsJob (is_busy (St.seen store.new).work) result }
         ensures power { KeepsPower (St.seen store.new).disk.counts result }
         ensures calls { OneCall (St.seen store.old).disk.counts (St.seen store.new).disk.counts result }
     {
@@ -213,13 +220,14 @@ impl Worker {
         ensures steps { IsTrue St.Device.tells → IfOk result (λ e.
             TakesStep St.layout self.old.requests.items (St.seen store.old) self.new.requests.items (St.seen store.new) e) }
         ensures queue { IfOk result (λ e. QueueGoes self.old.requests.items self.new.requests.items e) }
+        ensures ended { IfOk result (λ e. EndsJob (is_busy (St.seen store.new).work) e) }
         ensures power { IfOk result (λ e. KeepsPower (St.seen store.new).disk.counts e) }
         ensures calls { IfOk result (λ e. OneCall (St.seen store.old).disk.counts (St.seen store.new).disk.counts e) }
         ensures unchanged { OnErr result ((self.new.requests.items ≡ self.old.requests.items)
             × Stays St.Device.tells (St.seen store.old) (St.seen store.new)) }
     {
         match self.requests.front() {
-            None => Err(AllocError),
+            None => unreachable!(),
             Some(request) => {
                 if !needs_calls(store, request) {
                     return Ok(self.end(StoreEnd::Done));
@@ -227,7 +235,8 @@ impl Worker {
                 match begin_job(alloc, store, request) {
                     Ok(()) => Ok(self.advance(store)),
                     Err(StoreRefusal::Full) => Ok(self.end(StoreEnd::Full)),
-                    Err(_) => Err(AllocError),
+                    Err(StoreRefusal::OutOfMemory) => Err(AllocError),
+                    Err(_) => unreachable!(),
                 }
             }
         }
@@ -243,11 +252,13 @@ impl Worker {
         requires of_node { AllOfNode (St.seen store.old).node self.old.requests.items }
         ensures node { (St.seen store.new).node ≡ (St.seen store.old).node }
         ensures begun { self.new.begun ≡ is_busy (St.seen store.new).work }
+        ensures of_node { AllOfNode (St.seen store.new).node self.new.requests.items }
 
         // It is the turn of the node's store.
         ensures steps { IsTrue St.Device.tells → IfOk result (λ e.
             TakesStep St.layout self.old.requests.items (St.seen store.old) self.new.requests.items (St.seen store.new) e) }
         ensures queue { IfOk result (λ e. QueueGoes self.old.requests.items self.new.requests.items e) }
+        ensures ended { IfOk result (λ e. EndsJob (is_busy (St.seen store.new).work) e) }
         ensures power { IfOk result (λ e. KeepsPower (St.seen store.new).disk.counts e) }
         ensures calls { IfOk result (λ e. OneCall (St.seen store.old).disk.counts (St.seen store.new).disk.counts e) }
         ensures unchanged { OnErr result ((self.new.requests.items ≡ self.old.requests.items)
@@ -294,13 +305,12 @@ fn begin_job<St: Store>(
 
 // How a refusal of the disk ends a request.
 fn end_of(refusal: StoreRefusal) -> StoreEnd
+    requires { IsDiskRefusal refusal }
     ensures { result ≡ end_of_refusal refusal }
 {
     match refusal {
         StoreRefusal::Stopped => StoreEnd::Stopped,
         StoreRefusal::Failed => StoreEnd::Fault,
-        StoreRefusal::Full => StoreEnd::Fault,
-        StoreRefusal::Damaged { place: _ } => StoreEnd::Fault,
-        StoreRefusal::OutOfMemory => StoreEnd::Fault,
+        _ => unreachable!(),
     }
 }

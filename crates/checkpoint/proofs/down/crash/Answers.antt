@@ -14,9 +14,11 @@ returns-clause-rests g c = λ so s requests h.
     let cut : CutFrom x (g.St.Device.Disk.counts c.cut_power.new.self) (g.St.Device.Disk.told c.cut_power.new.self) = record {
       clock = ap (λ (k : Counts). k.clock) c.cut_power.ensures.counts ∙ ap (λ (d : DiskSeen). d.counts.clock) closed;
       size = ap (λ (k : Counts). k.size) c.cut_power.ensures.counts ∙ ap (λ (d : DiskSeen). d.counts.size) closed;
-      cut = subst (λ (d : DiskSeen). IsCut d.counts.clock d.told (g.St.Device.Disk.told c.cut_power.new.self)) closed (c.cut_power.ensures.told so);
+      cut = subst (λ (d : DiskSeen). IsCut d.counts.clock d.told (g.St.Device.Disk.told c.cut_power.new.self)) closed
+          (c.cut_power.ensures.told so);
     } in
-    crash-rests-so g.St.Store.layout x.node s requests x (g.St.Device.Disk.counts c.cut_power.new.self) (g.St.Device.Disk.told c.cut_power.new.self)
+    crash-rests-so g.St.Store.layout x.node s requests x (g.St.Device.Disk.counts c.cut_power.new.self)
+    (g.St.Device.Disk.told c.cut_power.new.self)
     c.noted-doubt.result h cut (c.noted-doubt.ensures so)
 
 pub returns-clause-disk : goal.returns-clause-disk
@@ -26,6 +28,8 @@ returns-clause-disk g c = λ so s requests h.
     let cut : CutFrom x (g.St.Device.Disk.counts c.cut_power.new.self) (g.St.Device.Disk.told c.cut_power.new.self) = record {
       clock = ap (λ (k : Counts). k.clock) c.cut_power.ensures.counts ∙ ap (λ (d : DiskSeen). d.counts.clock) closed;
       size = ap (λ (k : Counts). k.size) c.cut_power.ensures.counts ∙ ap (λ (d : DiskSeen). d.counts.size) closed;
-      cut = subst (λ (d : DiskSeen). IsCut d.counts.clock d.told (g.St.Device.Disk.told c.cut_power.new.self)) closed (c.cut_power.ensures.told so);
+      cut = subst (λ (d : DiskSeen). IsCut d.counts.clock d.told (g.St.Device.Disk.told c.cut_power.new.self)) closed
+          (c.cut_power.ensures.told so);
     } in
-    crash-on-disk-so g.St.Store.layout x.node s requests x (g.St.Device.Disk.counts c.cut_power.new.self) (g.St.Device.Disk.told c.cut_power.new.self) h cut
+    crash-on-disk-so g.St.Store.layout x.node s requests x (g.St.Device.Disk.counts c.cut_power.new.self)
+    (g.St.Device.Disk.told c.cut_power.new.self) h cut

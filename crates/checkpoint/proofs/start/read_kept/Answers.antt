@@ -1,6 +1,8 @@
-use Rattle.std.proofs.Common.{sym}
+use Rattle.std.proofs.Common.{sym, ap, ◌∙◌}
+use Rattle.passive_store.specs.Kept.{Kept, body_at}
+use Rattle.checkpoint.proofs.Activations.{found-short}
 use Rattle.checkpoint.proofs.StoreCalls.{reads-once}
-use Rattle.checkpoint.proofs.Starting.{reads-found, reads-not, reads-none}
+use Rattle.checkpoint.proofs.Starting.{reads-found, reads-not, reads-none, same-sight}
 use Rattle.checkpoint.proofs.start.read_kept.Goals as goal
 
 pub returns-then-not-holds-clause-reads : goal.returns-then-not-holds-clause-reads
@@ -9,12 +11,22 @@ returns-then-not-holds-clause-reads g c = λ so other t requests h.
 
 pub returns-in-Ok-clause-reads : goal.returns-in-Ok-clause-reads
 returns-in-Ok-clause-reads g c = λ so other t requests h.
-    let r = reads-once _ _ g.St.Store.layout c.args.uid _ (g.St.Store.seen c.args.store.now) (g.St.Store.seen c.get.new.self) so c.in-Ok.ensures in
-    reads-found g.St.Store.layout _ t requests (g.St.Store.seen c.args.store.now) (g.St.Store.seen c.get.new.self) c.args.uid c.in-Ok.found h other
+    let r = reads-once _ _ g.St.Store.layout c.args.uid _ (g.St.Store.seen c.args.store.now)
+    (g.St.Store.seen c.get.new.self) so c.in-Ok.ensures in
+    reads-found g.St.Store.layout _ t requests (g.St.Store.seen c.args.store.now)
+    (g.St.Store.seen c.get.new.self) c.args.uid c.in-Ok.found h other
     c.requires.settled r (c.in-Ok.ensures.body so)
 
 pub returns-in-Err-clause-reads : goal.returns-in-Err-clause-reads
 returns-in-Err-clause-reads g c = λ so other t requests h.
-    let r = reads-once _ _ g.St.Store.layout c.args.uid _ (g.St.Store.seen c.args.store.now) (g.St.Store.seen c.get.new.self) so c.in-Err.ensures in
-    reads-not g.St.Store.layout _ t requests (g.St.Store.seen c.args.store.now) (g.St.Store.seen c.get.new.self) c.args.uid c.in-Err.refusal h other
+    let r = reads-once _ _ g.St.Store.layout c.args.uid _ (g.St.Store.seen c.args.store.now)
+    (g.St.Store.seen c.get.new.self) so c.in-Err.ensures in
+    reads-not g.St.Store.layout _ t requests (g.St.Store.seen c.args.store.now)
+    (g.St.Store.seen c.get.new.self) c.args.uid c.in-Err.refusal h other
     c.requires.settled r c.in-Err.ensures.only (sym (c.if-not-holds.ensures so))
+
+pub returns-in-Ok-clause-short : goal.returns-in-Ok-clause-short
+returns-in-Ok-clause-short g c = λ so law t requests h.
+    found-short g.St.Store.layout _ t requests
+    (g.St.Store.seen c.args.store.now) c.args.uid c.in-Ok.found law h c.requires.settled c.requires.other
+    (c.in-Ok.ensures.body so ∙ ap (λ (k : Kept). body_at k c.args.uid) (c.in-Ok.ensures.kept so ∙ same-sight _ _ _ c.requires.settled))

@@ -11,8 +11,10 @@ returns-in-Ok-clause-puts g c = λ so more s told clock p some number its_layout
     let m : Seen = g.St.Store.seen c.begin_put.new.self in
     let y : Seen = g.St.Store.seen c.finish.new.store in
     puts-to g.St.Store.layout c.args.node more c.args.epoch s told clock p x y c.finish.result number its_layout o
-    (puts-from g.St.Device.Disk.tells g.St.Device.Disk.obeys g.St.Store.layout c.args.node c.args.epoch x m y tt c.finish.result so c.requires.node c.requires.idle (omega (arith, some, o.told))
-    (subst (λ (l : List ℕ). Begins g.St.Device.Disk.tells g.St.Store.layout (record { uid = epoch_uid c.args.node; body = Some l }) (Ok tt) x m)
+    (puts-from g.St.Device.Disk.tells g.St.Device.Disk.obeys g.St.Store.layout c.args.node c.args.epoch x m y tt c.finish.result so
+    c.requires.node c.requires.idle (omega (arith, some, o.told))
+    (subst (λ (l : List ℕ). Begins g.St.Device.Disk.tells g.St.Store.layout (record { uid = epoch_uid c.args.node; body = Some l })
+    (Ok tt) x m)
     c.epoch_bytes.ensures c.in-Ok.ensures) c.finish.ensures)
 
 pub returns-in-Err-Full-clause-puts : goal.returns-in-Err-Full-clause-puts
@@ -25,8 +27,10 @@ returns-in-Err-Full-clause-puts g c = λ so more s told clock p some number its_
         counts = ap (λ (d : DiskSeen). d.counts) b.disk;
         told = ap (λ (d : DiskSeen). d.told) b.disk;
       },
-      no-room g.St.Store.layout c.args.node more c.args.epoch s told clock p x (settled-number p s ∙ number) (settled-layout p s ∙ its_layout)
+      no-room g.St.Store.layout c.args.node more c.args.epoch s told clock p x (settled-number p s ∙ number)
+          (settled-layout p s ∙ its_layout)
           (settled-size p s ∙ o.its_size) o
-          (subst (λ (l : List ℕ). finds_room g.St.Store.layout x.disk.counts.size x.kept (epoch_uid c.args.node) (Some l) ≡ false) c.epoch_bytes.ensures
+          (subst (λ (l : List ℕ). finds_room g.St.Store.layout x.disk.counts.size x.kept (epoch_uid c.args.node) (Some l) ≡ false)
+          c.epoch_bytes.ensures
           (b.full so (omega (arith, some, o.told)) c.in-Err-Full.field-0-is)),
     )

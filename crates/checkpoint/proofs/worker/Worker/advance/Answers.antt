@@ -17,7 +17,8 @@ returns-in-Ok-Done-clause-steps g c = λ so s w more before.
 
 pub returns-in-Err-clause-steps : goal.returns-in-Err-clause-steps
 returns-in-Err-clause-steps g c = λ so s w more before. advance-refused _ _ s _ _ _ _ w more c.in-Err.refusal _
-    (subst (λ k. EndsFirst c.args.self.now.requests.items c.end-in-Err.new.self.requests.items k c.end-in-Err.result) c.end_of.ensures c.end-in-Err.ensures.ended) before
+    (subst (λ k. EndsFirst c.args.self.now.requests.items c.end-in-Err.new.self.requests.items k c.end-in-Err.result) c.end_of.ensures
+    c.end-in-Err.ensures.ended) before
     (advances-once _ _ _ _ _ _ so c.requires.busy c.in-Err.ensures)
 
 pub returns-in-Ok-Going-clause-begun : goal.returns-in-Ok-Going-clause-begun
@@ -36,4 +37,5 @@ pub returns-in-Ok-Done-clause-calls : goal.returns-in-Ok-Done-clause-calls
 returns-in-Ok-Done-clause-calls g c = one-fine _ _ _ _ _ _ 1 refl refl c.end.ensures.ended c.in-Ok-Done.ensures.counts
 
 pub returns-in-Err-clause-calls : goal.returns-in-Err-clause-calls
-returns-in-Err-clause-calls g c = one-refused _ _ c.in-Err.refusal _ _ _ _ c.end_of.ensures c.in-Err.ensures.only c.end-in-Err.ensures.ended c.in-Err.ensures.counts
+returns-in-Err-clause-calls g c = one-refused _ _ c.in-Err.refusal _ _ _ _ c.end_of.ensures c.in-Err.ensures.only c.end-in-Err.ensures.ended
+    c.in-Err.ensures.counts

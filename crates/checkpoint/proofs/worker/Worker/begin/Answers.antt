@@ -10,7 +10,8 @@ pub returns-then-not-needs_calls-clause-steps : goal.returns-then-not-needs_call
 returns-then-not-needs_calls-clause-steps g c = λ so s told h.
     let x : Seen = g.St.Store.seen c.args.store.now in (
       quiet-done _ _ s c.args.self.now.requests.items c.end.new.self.requests.items x _ c.end.ensures.ended c.requires.idle h
-          (head-needs c.args.self.now.requests.items x.kept _ c.in-Some.request.now c.in-Some.ensures.lookup (c.if-not-needs_calls.ensures so) c.end.new.self.requests.items),
+          (head-needs c.args.self.now.requests.items x.kept _ c.in-Some.request.now c.in-Some.ensures.lookup
+          (c.if-not-needs_calls.ensures so) c.end.new.self.requests.items),
       omega arith,
     )
 
@@ -19,10 +20,13 @@ returns-in-Err-Full-clause-steps g c = λ so s told h.
     let x : Seen = g.St.Store.seen c.args.store.now in
     let y : Seen = g.St.Store.seen c.begin_job.new.store in
     let b = c.in-Err-Full.ensures in (
-      quiet-full _ _ s c.args.self.now.requests.items c.end-in-Err-Full.new.self.requests.items x y _ c.end-in-Err-Full.ensures.ended c.requires.idle
+      quiet-full _ _ s c.args.self.now.requests.items c.end-in-Err-Full.new.self.requests.items x y _ c.end-in-Err-Full.ensures.ended
+          c.requires.idle
           (b.work ∙ c.requires.idle) h (b.kept so) (ap (λ (d : DiskSeen). d.counts) b.disk) (ap (λ (d : DiskSeen). d.told) b.disk) b.same
-          (head-needs c.args.self.now.requests.items x.kept _ c.in-Some.request.now c.in-Some.ensures.lookup (c.if-not-needs_calls.ensures so) c.end-in-Err-Full.new.self.requests.items)
-          (head-room g.St.Store.layout x.disk.counts.size c.args.self.now.requests.items x.kept c.in-Some.request.now c.in-Some.ensures.lookup (b.full so told c.in-Err-Full.field-0-is) c.end-in-Err-Full.new.self.requests.items),
+          (head-needs c.args.self.now.requests.items x.kept _ c.in-Some.request.now c.in-Some.ensures.lookup
+          (c.if-not-needs_calls.ensures so) c.end-in-Err-Full.new.self.requests.items)
+          (head-room g.St.Store.layout x.disk.counts.size c.args.self.now.requests.items x.kept c.in-Some.request.now
+          c.in-Some.ensures.lookup (b.full so told c.in-Err-Full.field-0-is) c.end-in-Err-Full.new.self.requests.items),
       omega (arith, b.same),
     )
 
@@ -33,14 +37,17 @@ returns-in-Ok-clause-steps g c = λ so s told h.
     let z : Seen = g.St.Store.seen c.advance.new.store in
     let b = c.in-Ok.ensures in
     let before : IsUnderJob g.St.Store.layout x.node s c.args.self.now.requests.items y Idle x.more =
-    head-begun _ g.St.Store.layout x.node s c.args.self.now.requests.items c.in-Some.request.now _ x y so c.requires.some c.in-Some.ensures.lookup c.requires.idle h told b
+    head-begun _ g.St.Store.layout x.node s c.args.self.now.requests.items c.in-Some.request.now _ x y so c.requires.some
+    c.in-Some.ensures.lookup c.requires.idle h told b
     (sym (c.if-not-needs_calls.ensures so)) in
     let there : IsUnderJob g.St.Store.layout y.node s c.args.self.now.requests.items y Idle x.more =
     subst (λ k. IsUnderJob g.St.Store.layout k s c.args.self.now.requests.items y Idle x.more) (sym b.node) before in
     let one : x.more ≤ y.more + 1 = b.one (tells-behind _ _ s _ x c.in-Some.request.now.uid (body_asked c.in-Some.request.now.wish) h) in (
       steps-from g.St.Store.layout x.node s c.args.self.now.requests.items c.advance.new.self.requests.items x y z c.advance.result
-          (made-none _ g.St.Store.layout _ _ x y c.requires.idle b) (ap (λ (d : DiskSeen). d.told) b.disk) (ap (λ (d : DiskSeen). d.counts) b.disk)
-          (subst (λ k. StepsTo g.St.Store.layout k s c.args.self.now.requests.items y c.advance.new.self.requests.items z c.advance.result) b.node
+          (made-none _ g.St.Store.layout _ _ x y c.requires.idle b) (ap (λ (d : DiskSeen). d.told) b.disk)
+          (ap (λ (d : DiskSeen). d.counts) b.disk)
+          (subst (λ k. StepsTo g.St.Store.layout k s c.args.self.now.requests.items y c.advance.new.self.requests.items z c.advance.result)
+          b.node
           (c.advance.ensures.steps so s Idle x.more there)),
       omega (arith, c.advance.ensures.more, one),
     )
@@ -49,7 +56,8 @@ pub returns-then-not-needs_calls-clause-calls : goal.returns-then-not-needs_call
 returns-then-not-needs_calls-clause-calls g c = no-calls _ _ _ _ _ _ refl refl c.requires.power c.end.ensures.ended
 
 pub returns-in-Err-Full-clause-calls : goal.returns-in-Err-Full-clause-calls
-returns-in-Err-Full-clause-calls g c = no-calls _ _ _ _ _ _ refl (ap (λ (d : DiskSeen). d.counts) c.in-Err-Full.ensures.disk) c.requires.power c.end-in-Err-Full.ensures.ended
+returns-in-Err-Full-clause-calls g c = no-calls _ _ _ _ _ _ refl
+    (ap (λ (d : DiskSeen). d.counts) c.in-Err-Full.ensures.disk) c.requires.power c.end-in-Err-Full.ensures.ended
 
 pub returns-in-Ok-clause-calls : goal.returns-in-Ok-clause-calls
 returns-in-Ok-clause-calls g c = one-from _ _ _ _ (ap (λ (d : DiskSeen). d.counts) c.in-Ok.ensures.disk) c.advance.ensures.calls

@@ -22,7 +22,8 @@ returns-in-Ok-Done-clause-steps g c = λ so s told h. (
 pub returns-in-Err-clause-steps : goal.returns-in-Err-clause-steps
 returns-in-Err-clause-steps g c = λ so s told h. (
   settle-refused _ _ s _ _ _ _ _ c.in-Err.refusal _
-      (subst (λ k. EndsFirst c.args.self.now.requests.items c.end.new.self.requests.items k c.end.result) c.end_of.ensures c.end.ensures.ended) h
+      (subst (λ k. EndsFirst c.args.self.now.requests.items c.end.new.self.requests.items k c.end.result) c.end_of.ensures
+      c.end.ensures.ended) h
       (settles-once _ _ _ _ _ _ so c.requires.unsettled c.in-Err.ensures),
   omega (arith, c.in-Err.ensures.more),
 )
@@ -34,4 +35,5 @@ pub returns-in-Ok-Done-clause-calls : goal.returns-in-Ok-Done-clause-calls
 returns-in-Ok-Done-clause-calls g c = one-going _ _ _ refl c.in-Ok-Done.ensures.counts
 
 pub returns-in-Err-clause-calls : goal.returns-in-Err-clause-calls
-returns-in-Err-clause-calls g c = one-refused _ _ c.in-Err.refusal _ _ _ _ c.end_of.ensures c.in-Err.ensures.only c.end.ensures.ended c.in-Err.ensures.counts
+returns-in-Err-clause-calls g c = one-refused _ _ c.in-Err.refusal _ _ _ _ c.end_of.ensures c.in-Err.ensures.only c.end.ensures.ended
+    c.in-Err.ensures.counts
