@@ -9,7 +9,8 @@ use Rattle.capability.specs.declared.Uid.{Uid}
 use Rattle.capability.specs.Uids.{uid_cmp}
 
 pub uid_cmp_total : IsTotalOrder uid_cmp
-uid_cmp_total = then_total (on_total (λ (u : Uid). u.node) nat_cmp_total) (then_total (on_total (λ (u : Uid). u.epoch) nat_cmp_total) (on_total (λ (u : Uid). u.serial) nat_cmp_total))
+uid_cmp_total = then_total (on_total (λ (u : Uid). u.node) nat_cmp_total)
+    (then_total (on_total (λ (u : Uid). u.epoch) nat_cmp_total) (on_total (λ (u : Uid). u.serial) nat_cmp_total))
 
 both_equal : (a b : Ordering) → ordering_then a b ≡ Equal → (a ≡ Equal) × (b ≡ Equal)
 both_equal Less b e = absurd (let bad : Less ≡ Equal = e in cc)
@@ -21,4 +22,8 @@ pub uid_cmp-IsAntisymmetric : IsAntisymmetric uid_cmp
 uid_cmp-IsAntisymmetric u v e =
     let p = both_equal (nat_cmp u.node v.node) (ordering_then (nat_cmp u.epoch v.epoch) (nat_cmp u.serial v.serial)) e in
     let q = both_equal (nat_cmp u.epoch v.epoch) (nat_cmp u.serial v.serial) p.1 in
-    λ i. record { node = nat_cmp-IsAntisymmetric u.node v.node p.0 i; epoch = nat_cmp-IsAntisymmetric u.epoch v.epoch q.0 i; serial = nat_cmp-IsAntisymmetric u.serial v.serial q.1 i }
+    λ i. record {
+      node = nat_cmp-IsAntisymmetric u.node v.node p.0 i;
+      epoch = nat_cmp-IsAntisymmetric u.epoch v.epoch q.0 i;
+      serial = nat_cmp-IsAntisymmetric u.serial v.serial q.1 i;
+    }

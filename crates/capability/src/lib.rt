@@ -9,7 +9,7 @@ ghost use Rattle.std.specs.Prelude.{◌≡◌, ℕ, ◌<◌, ◌↔◌, IsTrue};
 ghost use Rattle.capability.specs.Rights.{Has, IsWithin, is_within};
 ghost use Rattle.capability.specs.Capability.{full, restricted, IsBelow};
 
-pub use lists::{Body, CallNumbers};
+pub use lists::{Body, CallNumbers, Seq};
 
 /// The greatest length of a representation, in bytes.
 pub const BODY_LIMIT: u32 = 262_144;

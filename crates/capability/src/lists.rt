@@ -1,30 +1,33 @@
-//! Small types over vectors that contracts see as lists.
+//! A list as contracts see it.
+ghost use Rattle.std.specs.Prelude.{◌≡◌};
+
 use std::marker::Model;
 
-/// The bytes of a representation, as they are kept of an Eject.
+/// A list, seen as its items in order.
 #[derive(Drop)]
-pub struct Body {
-    pub bytes: Vec<u8>,
+pub struct Seq<T> {
+    pub items: Vec<T>,
 }
 
-impl Model for Body {
-    ghost use Rattle.std.specs.Prelude.{ℕ, List};
+impl<T> Model for Seq<T> {
+    ghost use Rattle.std.specs.Prelude.{List};
 
-    ghost Value = { List ℕ };
+    ghost Value = { List T };
 
-    ghost view = { λ b. b.bytes.items };
+    ghost view = { λ s. s.items.items };
 }
+
+/// The bytes of a representation, as they are kept of an Eject.
+pub type Body = Seq<u8>;
 
 /// Numbers of calls in a row. Calls are numbered from 1 over a whole script.
-#[derive(Drop)]
-pub struct CallNumbers {
-    pub numbers: Vec<u32>,
-}
+pub type CallNumbers = Seq<u32>;
 
-impl Model for CallNumbers {
-    ghost use Rattle.std.specs.Prelude.{ℕ, List};
-
-    ghost Value = { List ℕ };
-
-    ghost view = { λ c. c.numbers.items };
+impl<T> Seq<T> {
+    /// The items in order.
+    pub fn as_slice(&self) -> &[T]
+        ensures { result.now ≡ self.now }
+    {
+        &self.items
+    }
 }

@@ -22,13 +22,13 @@ fn rights_never_grow(rt: HostRuntime) {
 
 #[test]
 fn lists_keep_what_they_are_given(rt: HostRuntime) -> Result<(), AllocError> {
-    let body = Body {
-        bytes: vec![in rt.alloc(); 1, 2]?,
+    let body: Body = Seq {
+        items: vec![in rt.alloc(); 1, 2]?,
     };
-    assert_eq!(rt; body.bytes.len(), 2);
-    let calls = CallNumbers {
-        numbers: vec![in rt.alloc(); 7]?,
+    assert_eq!(rt; body.as_slice().len(), 2);
+    let calls: CallNumbers = Seq {
+        items: vec![in rt.alloc(); 7]?,
     };
-    assert_eq!(rt; calls.numbers.len(), 1);
+    assert_eq!(rt; calls.as_slice().len(), 1);
     Ok(())
 }

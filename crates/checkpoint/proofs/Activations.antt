@@ -1,5 +1,6 @@
 -- An activation, in the words of a history.
-use Rattle.std.proofs.Common.{◌≡◌, inl, inr, ℕ, zero, suc, Bool, true, false, cond, ◌&&◌, List, Option, None, Some, Result, Ok, Err, is_some, refl, sym, ap, subst, ◌∙◌, nat_lt}
+use Rattle.std.proofs.Common.{◌≡◌, inl, inr, ℕ, zero, suc, Bool, true, false, cond, ◌&&◌, List, Option, None, Some, Result, Ok, Err}
+use Rattle.std.proofs.Common.{is_some, refl, sym, ap, subst, ◌∙◌, nat_lt}
 use Rattle.std.specs.Prelude.{IsTrue, IsSomeAnd, IfSome, IfErr}
 use Rattle.std.specs.Option.{option_map}
 use Rattle.std.specs.FinMap as finite
@@ -14,7 +15,8 @@ use Rattle.epl_syntax.specs.Edentype.{Edentype}
 use Rattle.epl_syntax.specs.Meaning.{started_from}
 use Rattle.eden_disk.specs.Told.{contents, Left}
 use Rattle.passive_store.specs.declared.store.Pick.{Pick}
-use Rattle.passive_store.specs.Kept.{Layout, Kept, Work, Idle, Busy, Unsettled, LeavesKept, IsAnyOf, is_unsettled, worked_on, doubt_in, changes_in, body_at, kept_after}
+use Rattle.passive_store.specs.Kept.{Layout, Kept, Work, Idle, Busy, Unsettled, LeavesKept, IsAnyOf, is_unsettled, worked_on, doubt_in}
+use Rattle.passive_store.specs.Kept.{changes_in, body_at, kept_after}
 use Rattle.passive_store.specs.Kept.{Change as StoreChange}
 use Rattle.passive_store.specs.Layout.{IsLayout}
 use Rattle.passive_store.specs.Seen.{Seen}

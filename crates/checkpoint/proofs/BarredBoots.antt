@@ -1,5 +1,6 @@
 -- A boot of a node whose disk cannot be opened.
-use Rattle.std.proofs.Common.{◌≡◌, inl, ℕ, true, false, cond, List, [], Option, None, Some, Result, Ok, Err, is_some, refl, sym, ap, subst, ◌∙◌}
+use Rattle.std.proofs.Common.{◌≡◌, inl, ℕ, true, false, cond, List, [], Option, None, Some, Result, Ok, Err, is_some, refl, sym, ap}
+use Rattle.std.proofs.Common.{subst, ◌∙◌}
 use Rattle.std.proofs.lemmas.List.{append-nil}
 use Rattle.std.specs.Prelude.{IsTrue}
 use Rattle.capability.specs.declared.Uid.{Uid}

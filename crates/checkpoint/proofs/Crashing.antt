@@ -6,7 +6,8 @@ use Rattle.eden_disk.specs.Calls.{Counts, IsCut}
 use Rattle.eden_disk.proofs.Held.{only_now}
 use Rattle.eden_disk.proofs.Timed.{timed_cut}
 use Rattle.passive_store.specs.declared.store.Doubt.{Doubt}
-use Rattle.passive_store.specs.Kept.{Layout, Kept, Work, Idle, Busy, Unsettled, doubt_in, change_in, changes_in, unsure_in, uid_of_change, IsFresh}
+use Rattle.passive_store.specs.Kept.{Layout, Kept, Work, Idle, Busy, Unsettled, doubt_in, change_in, changes_in, unsure_in}
+use Rattle.passive_store.specs.Kept.{uid_of_change, IsFresh}
 use Rattle.passive_store.specs.Kept.{Change as StoreChange, Stands as StandsKept}
 use Rattle.std.specs.FinMap as finite
 use Rattle.journal.specs.World.{Site, StoreRequest}

@@ -1,5 +1,6 @@
 -- The epoch of a node: read at a boot, and the next one put.
-use Rattle.std.proofs.Common.{◌≡◌, inl, inr, ℕ, ◌+◌, ◌≤◌, Bool, true, false, cond, List, [], ◌∷◌, ◌++◌, length, Option, None, Some, Result, Ok, Err, is_some, refl, sym, ap, subst, ◌∙◌, arith}
+use Rattle.std.proofs.Common.{◌≡◌, inl, inr, ℕ, ◌+◌, ◌≤◌, Bool, true, false, cond, List, [], ◌∷◌, ◌++◌, length, Option, None, Some}
+use Rattle.std.proofs.Common.{Result, Ok, Err, is_some, refl, sym, ap, subst, ◌∙◌, arith}
 use Rattle.std.specs.Prelude.{IsTrue, IfSome, IfErr}
 use Rattle.std.specs.FinMap as finite
 use Rattle.std.specs.Ordering.{is_eq}
@@ -14,7 +15,10 @@ use Rattle.passive_store.specs.declared.store.Pick.{Pick}
 use Rattle.passive_store.specs.declared.store.Pick.TheVariants as pick
 use Rattle.passive_store.specs.declared.store.StoreRefusal.{StoreRefusal}
 use Rattle.passive_store.specs.declared.store.StoreRefusal.TheVariants as refusal
-use Rattle.passive_store.specs.Kept.{Layout, Kept, Idle, Busy, Unsettled, kept_after, body_at, doubt_in, change_in, changes_in, job_left, settled as settled_kept, work_settled, IsFresh, IsDiskRefusal, LeavesKept, StandsThrough, Ran, end_of_store, reserved_uid, work_finished, kept_finished, calls_left, finds_room as finds_shown_room}
+use Rattle.passive_store.specs.Kept.{Layout, Kept, Idle, Busy, Unsettled, kept_after, body_at, doubt_in, change_in, changes_in, job_left}
+use Rattle.passive_store.specs.Kept.{settled as settled_kept, work_settled, IsFresh, IsDiskRefusal, LeavesKept, StandsThrough, Ran}
+use Rattle.passive_store.specs.Kept.{end_of_store, reserved_uid, work_finished, kept_finished, calls_left}
+use Rattle.passive_store.specs.Kept.{finds_room as finds_shown_room}
 use Rattle.passive_store.specs.Kept.{Change as StoreChange, Stands as StandsKept}
 use Rattle.journal.specs.Change.{body}
 use Rattle.journal.specs.declared.event.BootEnd.TheVariants as end

@@ -1,5 +1,6 @@
 -- The node of a disk that is handed in stands for its image.
-use Rattle.std.proofs.Common.{◌≡◌, ◌≢◌, inl, inr, ◌⊎◌, ◌==◌, ℕ, ◌/◌, ◌%◌, ◌≤◌, ◌<◌, Bool, true, false, cond, T, List, [], ◌∷◌, length, Option, None, Some, Ok, Err, is_some, refl, sym, ap, subst, ◌∙◌, arith}
+use Rattle.std.proofs.Common.{◌≡◌, ◌≢◌, inl, inr, ◌⊎◌, ◌==◌, ℕ, ◌/◌, ◌%◌, ◌≤◌, ◌<◌, Bool, true, false, cond, T, List, [], ◌∷◌, length}
+use Rattle.std.proofs.Common.{Option, None, Some, Ok, Err, is_some, refl, sym, ap, subst, ◌∙◌, arith}
 use Rattle.std.specs.Prelude.{IfSome}
 use Rattle.std.specs.List.{filter_map}
 use Rattle.std.specs.FinMap as finite

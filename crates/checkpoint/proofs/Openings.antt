@@ -1,5 +1,6 @@
 -- The opening of a store at a boot: which state is there, and what the opening did to the disk.
-use Rattle.std.proofs.Common.{◌≡◌, inl, inr, ℕ, ◌<◌, ◌≤◌, Bool, true, false, List, [], ◌∷◌, length, Option, None, Some, Result, Ok, Err, is_some, refl, sym, ap, subst, ◌∙◌, arith}
+use Rattle.std.proofs.Common.{◌≡◌, inl, inr, ℕ, ◌<◌, ◌≤◌, Bool, true, false, List, [], ◌∷◌, length, Option, None, Some, Result, Ok, Err}
+use Rattle.std.proofs.Common.{is_some, refl, sym, ap, subst, ◌∙◌, arith}
 use Rattle.std.specs.Prelude.{IsTrue}
 use Rattle.std.specs.FinMap as finite
 use Rattle.capability.specs.declared.Uid.{Uid}
@@ -14,7 +15,8 @@ use Rattle.passive_store.specs.declared.store.Pick.TheVariants as pick
 use Rattle.passive_store.specs.declared.store.Doubt.{Doubt}
 use Rattle.passive_store.specs.declared.store.StoreRefusal.{StoreRefusal}
 use Rattle.passive_store.specs.declared.store.StoreRefusal.TheVariants as refusal
-use Rattle.passive_store.specs.Kept.{Layout, Kept, Idle, kept_after, changes_in, LeavesKept, OpeningTold, IsOverfullBy, IsOverfull, IsDamagedFrom}
+use Rattle.passive_store.specs.Kept.{Layout, Kept, Idle, kept_after, changes_in, LeavesKept, OpeningTold, IsOverfullBy, IsOverfull}
+use Rattle.passive_store.specs.Kept.{IsDamagedFrom}
 use Rattle.passive_store.specs.Layout.{IsLayout}
 use Rattle.passive_store.specs.Seen.{Seen, DiskSeen, Opens, opened}
 use Rattle.passive_store.specs.Kept.{Change as StoreChange, Stands as StandsKept, IsAnyOf as IsAnyKept}

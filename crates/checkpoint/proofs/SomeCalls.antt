@@ -12,7 +12,8 @@ use Rattle.checkpoint.specs.Boots.{end_of_boot}
 use Rattle.checkpoint.specs.Calls.{MakesCalls, call_of_refusal, call_of_fall}
 
 -- a refusal of a call that would have answered something else
-pub calls-refused : (T : Type 0) (e why : StoreRefusal) (before after : Counts) → e ≡ why → MakesCalls before after (end_of_store {T = T} (Err e))
+pub calls-refused : (T : Type 0) (e why : StoreRefusal) (before after : Counts) → e ≡ why
+    → MakesCalls before after (end_of_store {T = T} (Err e))
     → MakesCalls before after (call_of_refusal why)
 calls-refused T e why before after is made =
     subst (λ k. MakesCalls before after (call_of_refusal k)) is (subst (MakesCalls before after) (end_alike T (Unit {0}) e) made)

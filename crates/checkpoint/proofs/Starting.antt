@@ -1,5 +1,6 @@
 -- The settling before an activation.
-use Rattle.std.proofs.Common.{◌≡◌, ◌≢◌, ◌⊎◌, inl, inr, ℕ, ◌<◌, ◌≤◌, nat_lt, Bool, true, false, cond, not, ◌&&◌, List, [], ◌∷◌, Option, None, Some, Result, Ok, Err, is_some, refl, sym, ap, subst, ◌∙◌, arith}
+use Rattle.std.proofs.Common.{◌≡◌, ◌≢◌, ◌⊎◌, inl, inr, ℕ, ◌<◌, ◌≤◌, nat_lt, Bool, true, false, cond, not, ◌&&◌, List, [], ◌∷◌, Option}
+use Rattle.std.proofs.Common.{None, Some, Result, Ok, Err, is_some, refl, sym, ap, subst, ◌∙◌, arith}
 use Rattle.std.specs.Prelude.{IfSome}
 use Rattle.std.proofs.lemmas.Bool.Decides.{nat_tests}
 use Rattle.eden_model.specs.Map.{with_item, first}
@@ -12,7 +13,9 @@ use Rattle.passive_store.specs.declared.store.Pick.{Pick}
 use Rattle.passive_store.specs.declared.store.Pick.TheVariants as pick
 use Rattle.passive_store.specs.declared.store.StoreRefusal.{StoreRefusal}
 use Rattle.passive_store.specs.declared.store.StoreRefusal.TheVariants as refusal
-use Rattle.passive_store.specs.Kept.{Layout, Kept, Work, Idle, Busy, Unsettled, LeavesKept, StandsThrough, doubt_in, change_in, changes_in, is_unsettled, is_synced, IsDiskRefusal, body_at, settled as settled_kept, work_settled, settling_of, settling_calls, Ran, IsFresh}
+use Rattle.passive_store.specs.Kept.{Layout, Kept, Work, Idle, Busy, Unsettled, LeavesKept, StandsThrough, doubt_in, change_in}
+use Rattle.passive_store.specs.Kept.{changes_in, is_unsettled, is_synced, IsDiskRefusal, body_at, settled as settled_kept, work_settled}
+use Rattle.passive_store.specs.Kept.{settling_of, settling_calls, Ran, IsFresh}
 use Rattle.passive_store.specs.Kept.{Change as StoreChange}
 use Rattle.capability.specs.declared.Uid.{Uid}
 use Rattle.journal.specs.World.{Site, StoreRequest, on_node, on_traffic}

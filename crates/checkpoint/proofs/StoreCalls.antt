@@ -8,7 +8,9 @@ use Rattle.passive_store.specs.Acts.{DiskCall, CallTold, CallsTold, settling_cal
 use Rattle.passive_store.specs.declared.store.Pick.{Pick}
 use Rattle.passive_store.specs.declared.store.Progress.{Progress}
 use Rattle.passive_store.specs.declared.store.StoreRefusal.{StoreRefusal}
-use Rattle.passive_store.specs.Kept.{Layout, LeavesKept, StandsThrough, NextTold, IsDiskRefusal, doubt_in, changes_in, is_synced, is_unsettled, is_busy, calls_left, progress_at, end_of_store, settled, work_stepped, work_advanced, kept_advanced, Ran, settling_calls, settling_of, work_settled, reads_due}
+use Rattle.passive_store.specs.Kept.{Layout, LeavesKept, StandsThrough, NextTold, IsDiskRefusal, doubt_in, changes_in, is_synced}
+use Rattle.passive_store.specs.Kept.{is_unsettled, is_busy, calls_left, progress_at, end_of_store, settled, work_stepped, work_advanced}
+use Rattle.passive_store.specs.Kept.{kept_advanced, Ran, settling_calls, settling_of, work_settled, reads_due}
 use Rattle.passive_store.specs.Seen.{Seen, SettlesOneCall, Settled, Advances, Gets}
 
 -- a call of a settling; `pick` is what it found

@@ -1,5 +1,6 @@
 -- The turns of a store: what each of its calls does to the site, by how it ended.
-use Rattle.std.proofs.Common.{◌≡◌, ◌⊎◌, inl, inr, ℕ, zero, suc, ◌+◌, ◌*◌, ◌/◌, ◌<◌, ◌≤◌, Bool, true, false, cond, List, [], ◌∷◌, length, drop, Option, None, Some, is_some, refl, sym, ap, subst, ◌∙◌, arith, length-drop, add-one}
+use Rattle.std.proofs.Common.{◌≡◌, ◌⊎◌, inl, inr, ℕ, zero, suc, ◌+◌, ◌*◌, ◌/◌, ◌<◌, ◌≤◌, Bool, true, false, cond, List, [], ◌∷◌, length}
+use Rattle.std.proofs.Common.{drop, Option, None, Some, is_some, refl, sym, ap, subst, ◌∙◌, arith, length-drop, add-one}
 use Rattle.std.specs.Prelude.{IsTrue, IfSome}
 use Rattle.capability.specs.declared.Uid.{Uid}
 use Rattle.eden_value.specs.declared.status.Status.TheVariants as status
@@ -13,7 +14,8 @@ use Rattle.passive_store.specs.Acts.{DiskCall, CallTold, settling_call}
 use Rattle.passive_store.specs.declared.store.Pick.{Pick}
 use Rattle.passive_store.specs.declared.store.Pick.TheVariants as pick
 use Rattle.passive_store.specs.declared.store.Doubt.{Doubt}
-use Rattle.passive_store.specs.Kept.{Layout, Kept, Work, Idle, Busy, Unsettled, doubt_in, change_in, changes_in, is_synced, IsFresh, LeavesKept, StandsThrough, settled as settled_kept, kept_after}
+use Rattle.passive_store.specs.Kept.{Layout, Kept, Work, Idle, Busy, Unsettled, doubt_in, change_in, changes_in, is_synced, IsFresh}
+use Rattle.passive_store.specs.Kept.{LeavesKept, StandsThrough, settled as settled_kept, kept_after}
 use Rattle.passive_store.specs.Kept.{Change as StoreChange, Stands as StandsKept}
 use Rattle.journal.specs.Change.{kept_of}
 use Rattle.journal.specs.declared.event.RequestEnd.{RequestEnd}
@@ -21,7 +23,8 @@ use Rattle.journal.specs.declared.event.RequestEnd.TheVariants as end
 use Rattle.journal.specs.World.{Site, Eject, StoreRequest, eject_in, on_eject, on_node, on_traffic}
 use Rattle.journal.specs.Crashes.{fallen, crashed}
 use Rattle.journal.specs.Settling.{first_request, settled, settled_eject, settled_epoch, unsynced, written_with}
-use Rattle.journal.specs.Stores.{syncs, reads, unkept, without_room, calls, work_of, EndsSo, makes_own_call, HasCallLeft, calls_needed, AllowsStore, doubted, stored, request_ended, more_made, worked, store_turn}
+use Rattle.journal.specs.Stores.{syncs, reads, unkept, without_room, calls, work_of, EndsSo, makes_own_call, HasCallLeft, calls_needed}
+use Rattle.journal.specs.Stores.{AllowsStore, doubted, stored, request_ended, more_made, worked, store_turn}
 use Rattle.journal.specs.Stores.{Work as TurnWork}
 use Rattle.journal.specs.Standing.{Stands, with_changes}
 use Rattle.journal.specs.Sites.{AllThere}
@@ -36,7 +39,8 @@ use Rattle.journal.proofs.KeptTurns.{value-each}
 use Rattle.checkpoint.proofs.Shifts.{Shift, same_facts, same_requests, facts_at, shift-ended, shift-at, shift-each, shift-requests}
 use Rattle.checkpoint.proofs.MapStands.{state-is}
 use Rattle.checkpoint.proofs.Changed.{AtMost, ordered-shift, map-same, map-synced, map-clock, map-doubted, map-stored, map-settled}
-use Rattle.checkpoint.proofs.Frames.{Framed, framed-shift, framed-then, framed-synced, framed-ledger, synced-shift, all-there, doubted-is, work-settles}
+use Rattle.checkpoint.proofs.Frames.{Framed, framed-shift, framed-then, framed-synced, framed-ledger, synced-shift, all-there}
+use Rattle.checkpoint.proofs.Frames.{doubted-is, work-settles}
 
 -- 1. One device call, seen from the node
 

@@ -1,5 +1,6 @@
 -- A disk stands for a run throughout, once each of its entries does what it may to the disk.
-use Rattle.std.proofs.Common.{◌≡◌, ℕ, ◌-◌, ◌<◌, ◌≤◌, ◌==◌, nat_lt, Bool, true, false, cond, ◌&&◌, List, [], ◌∷◌, ◌++◌, Option, None, Some, refl, sym, ap, subst, inl, inr, arith}
+use Rattle.std.proofs.Common.{◌≡◌, ℕ, ◌-◌, ◌<◌, ◌≤◌, ◌==◌, nat_lt, Bool, true, false, cond, ◌&&◌, List, [], ◌∷◌, ◌++◌, Option, None}
+use Rattle.std.proofs.Common.{Some, refl, sym, ap, subst, inl, inr, arith}
 use Rattle.std.specs.Prelude.{Result, Ok}
 use Rattle.std.specs.List.{AllByRecursion}
 use Rattle.std.proofs.lemmas.List.Elements.{All-from_recursion}
@@ -17,7 +18,8 @@ use Rattle.journal.specs.declared.event.Entry.{Entry}
 use Rattle.journal.specs.World.{World}
 use Rattle.journal.specs.Opening.{found_in}
 use Rattle.journal.specs.Run.{Position, Step, steps, end_of, lead}
-use Rattle.journal.specs.Standing.{Standing, ShowsItsClock, Stands, StandsFor, IsAnyOf, changed_map, Added, state, at, from_past, is_past, state_before, epoch_put, with_changes}
+use Rattle.journal.specs.Standing.{Standing, ShowsItsClock, Stands, StandsFor, IsAnyOf, changed_map, Added, state, at, from_past}
+use Rattle.journal.specs.Standing.{is_past, state_before, epoch_put, with_changes}
 use Rattle.checkpoint.specs.Throughout.{state_in, StepOnDisk, RunOnDisk, EndsOnDisk, RunsStand}
 
 -- 1. What stands goes on standing where more changes may have been made

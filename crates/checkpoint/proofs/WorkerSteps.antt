@@ -1,5 +1,6 @@
 -- The steps of a worker: what the store says of its call leads to the next site.
-use Rattle.std.proofs.Common.{◌≡◌, ◌≢◌, inl, inr, ℕ, zero, suc, ◌+◌, ◌*◌, ◌/◌, ◌<◌, ◌≤◌, nat_le, Bool, true, false, cond, ◌&&◌, ◌||◌, List, [], ◌∷◌, length, map, drop, Option, None, Some, Ok, Err, is_some, refl, sym, ap, subst, ◌∙◌, arith}
+use Rattle.std.proofs.Common.{◌≡◌, ◌≢◌, inl, inr, ℕ, zero, suc, ◌+◌, ◌*◌, ◌/◌, ◌<◌, ◌≤◌, nat_le, Bool, true, false, cond, ◌&&◌, ◌||◌}
+use Rattle.std.proofs.Common.{List, [], ◌∷◌, length, map, drop, Option, None, Some, Ok, Err, is_some, refl, sym, ap, subst, ◌∙◌, arith}
 use Rattle.std.specs.Prelude.{IsTrue, IfSome, slice_index_or}
 use Rattle.std.proofs.lemmas.Bool.Decides.{nat_tests}
 use Rattle.capability.specs.declared.Uid.{Uid}
@@ -11,7 +12,10 @@ use Rattle.passive_store.specs.declared.store.Progress.{Progress}
 use Rattle.passive_store.specs.declared.store.Progress.TheVariants as progress
 use Rattle.passive_store.specs.declared.store.StoreRefusal.{StoreRefusal}
 use Rattle.passive_store.specs.declared.store.StoreRefusal.TheVariants as refusal
-use Rattle.passive_store.specs.Kept.{Layout, Kept, Work, Idle, Busy, Unsettled, LeavesKept, StandsThrough, doubt_in, changes_in, is_synced, is_unsettled, is_busy, progress_at, settled, work_stepped, work_advanced, kept_advanced, kept_after, NextTold, calls_left, change_in, unsure_in, body_at, IsFresh, IsJobOf, KeepsTelling, finds_room as finds_shown_room}
+use Rattle.passive_store.specs.Kept.{Layout, Kept, Work, Idle, Busy, Unsettled, LeavesKept, StandsThrough, doubt_in, changes_in}
+use Rattle.passive_store.specs.Kept.{is_synced, is_unsettled, is_busy, progress_at, settled, work_stepped, work_advanced, kept_advanced}
+use Rattle.passive_store.specs.Kept.{kept_after, NextTold, calls_left, change_in, unsure_in, body_at, IsFresh, IsJobOf, KeepsTelling}
+use Rattle.passive_store.specs.Kept.{finds_room as finds_shown_room}
 use Rattle.passive_store.specs.Kept.{Change as StoreChange}
 use Rattle.journal.specs.declared.event.RequestEnd.{RequestEnd}
 use Rattle.journal.specs.declared.event.RequestEnd.TheVariants as end
@@ -29,10 +33,12 @@ use Rattle.checkpoint.specs.declared.worker.StepEnd.TheVariants.{Going, Ended}
 use Rattle.checkpoint.specs.StoreStands.{StoreStands, Wrote, IsUnderWay, bytes_of_epoch}
 use Rattle.checkpoint.specs.Turns.{TurnsStore, TurnsDown, IsNextCall}
 use Rattle.passive_store.specs.Seen.{Seen, DiskSeen, Asked, Begins, TellsBehind}
-use Rattle.checkpoint.specs.Asked.{StandsNow, StepsTo, IsNextOf, IsUnderJob, EndsFirst, body_asked, request_of, made_in, requests_of, noted_in}
+use Rattle.checkpoint.specs.Asked.{StandsNow, StepsTo, IsNextOf, IsUnderJob, EndsFirst, body_asked, request_of, made_in, requests_of}
+use Rattle.checkpoint.specs.Asked.{noted_in}
 use Rattle.checkpoint.specs.StoreCalls.{end_of_refusal}
 use Rattle.checkpoint.proofs.StoreCalls.{SettlesOnce, AdvancesOnce}
-use Rattle.checkpoint.proofs.StoreTurns.{turn-synced, turn-settled, turn-unsettled, turn-settling-stopped, turn-advanced, turn-done, turn-failed, turn-stopped, turn-unkept, turn-full}
+use Rattle.checkpoint.proofs.StoreTurns.{turn-synced, turn-settled, turn-unsettled, turn-settling-stopped, turn-advanced, turn-done}
+use Rattle.checkpoint.proofs.StoreTurns.{turn-failed, turn-stopped, turn-unkept, turn-full}
 use Rattle.checkpoint.proofs.Frames.{doubted-is, work-first, work-goes-on, room-is, kept-in-is, first-calls, first-full, first-unkept}
 use Rattle.checkpoint.proofs.Changed.{kept-change}
 

@@ -1,5 +1,6 @@
 -- From a turn at a site to an entry of the world.
-use Rattle.std.proofs.Common.{◌≡◌, ◌⊎◌, inl, inr, ℕ, ◌==◌, Bool, true, false, cond, List, [], ◌∷◌, Option, None, Some, refl, sym, ap, subst, ◌∙◌}
+use Rattle.std.proofs.Common.{◌≡◌, ◌⊎◌, inl, inr, ℕ, ◌==◌, Bool, true, false, cond, List, [], ◌∷◌, Option, None, Some, refl, sym, ap}
+use Rattle.std.proofs.Common.{subst, ◌∙◌}
 use Rattle.std.proofs.lemmas.List.{append-nil}
 use Rattle.std.proofs.lemmas.Bool.{eq-eqb, eqb-true}
 use Rattle.std.specs.Option.{option_map}
@@ -48,7 +49,8 @@ use Rattle.checkpoint.specs.Boots.{put_after, BootsNot}
 use Rattle.checkpoint.specs.Throughout.{StepOnDisk, EndsOnDisk}
 use Rattle.journal.proofs.SiteFrames.{keeps-site}
 use Rattle.journal.proofs.Frame.{after_at, node-at_same, node-at_other, other-node}
-use Rattle.checkpoint.proofs.Shifts.{Shift, same_facts, same_requests, shift-tells, shift-removed, shift-item, shift-both, shift-turned_away}
+use Rattle.checkpoint.proofs.Shifts.{Shift, same_facts, same_requests, shift-tells, shift-removed, shift-item, shift-both}
+use Rattle.checkpoint.proofs.Shifts.{shift-turned_away}
 use Rattle.passive_store.specs.Seen.{Seen}
 use Rattle.checkpoint.specs.Asked.{noted_in}
 use Rattle.checkpoint.specs.Starting.{StartsOn, StartsDown, StartsTo, StartsNot}
@@ -373,8 +375,10 @@ lift-start-down layout n w e u p it old before y some of_node is its_event place
     (ap (epoch_put n w) its_event) t.rests t.disk
 
 -- by how it ended
-pub lift-activation : (layout : Layout) (n : ℕ) (w : World) (e : Entry) (u : Uid) (how : StartEnd) (start : Option (Edentype × List Datum)) (p : Option Pick)
-    (it : Node) (requests : List StoreRequest) (x y : Seen) → (n == 0) ≡ false → u.node ≡ n → node_at w n ≡ Some it → e.event ≡ event.Activate u how p
+pub lift-activation : (layout : Layout) (n : ℕ) (w : World) (e : Entry) (u : Uid) (how : StartEnd)
+    (start : Option (Edentype × List Datum)) (p : Option Pick)
+    (it : Node) (requests : List StoreRequest) (x y : Seen) → (n == 0) ≡ false → u.node ≡ n → node_at w n ≡ Some it
+    → e.event ≡ event.Activate u how p
     → Placed e n x.disk.counts.clock y.disk.counts.clock → StartsTo layout n (site_of w n it) requests u x how start p y
     → StepOnDisk layout n (step_of w None e) x.disk.told x.disk.counts.clock y.disk.told y.disk.counts.clock
 lift-activation layout n w e u start_end.Stop start p it requests x y some of_node is its_event placed t =

@@ -1,5 +1,6 @@
 -- How a store and the queue of its worker stand for a node of the world.
-use Rattle.std.specs.Prelude.{◌≡◌, ◌≢◌, ℕ, ◌+◌, ◌*◌, ◌/◌, ◌≤◌, true, false, cond, T, List, length, Option, None, Some, is_some, IsTrue, IfSome}
+use Rattle.std.specs.Prelude.{◌≡◌, ◌≢◌, ℕ, ◌+◌, ◌*◌, ◌/◌, ◌≤◌, true, false, cond, T, List, length, Option, None, Some, is_some, IsTrue}
+use Rattle.std.specs.Prelude.{IfSome}
 use Rattle.std.specs.FinMap as finite
 use Rattle.std.specs.FinMap.Entries.{is_sorted}
 use Rattle.capability.specs.declared.Uid.{Uid}

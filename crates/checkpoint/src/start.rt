@@ -13,7 +13,8 @@ ghost use Rattle.journal.specs.Settling.{epoch_uid};
 ghost use Rattle.journal.specs.Starts.{start_of};
 ghost use Rattle.checkpoint.specs.Asked.{StandsNow};
 ghost use Rattle.checkpoint.specs.Calls.{MakesCalls};
-ghost use Rattle.checkpoint.specs.Starting.{SettlesTo, ReadsTo, FindsTo, IsShort, FindsShort, call_of_finding, StartsTo, StartsNot, end_of_start, values_of, call_of_starting};
+ghost use Rattle.checkpoint.specs.Starting.{SettlesTo, ReadsTo, FindsTo, IsShort, FindsShort, call_of_finding, StartsTo, StartsNot};
+ghost use Rattle.checkpoint.specs.Starting.{end_of_start, values_of, call_of_starting};
 
 use capability::{Body, Uid};
 use eden_codec::{DecodeRefusal, Rep, decode_rep};
@@ -159,7 +160,7 @@ fn start_kept<T: Starter>(
 ) -> Result<Option<T::Started>, AllocError>
     ensures { IsShort body → IfOk result (λ found. option_map T.started found ≡ start_of (T.types types.now) body me) }
 {
-    match decode_rep(alloc, body.bytes.as_slice()) {
+    match decode_rep(alloc, body.as_slice()) {
         Ok(rep) => types.start(alloc, rep, me),
         Err(DecodeRefusal::TooLarge) => Ok(None),
         Err(DecodeRefusal::NotRep { place: _ }) => Ok(None),

@@ -11,7 +11,7 @@ use crate::{
     BootFall, BootNote, Start, Starter, StepEnd, StoreEnd, Worker, arm, boot, crash, runs_stand,
     start_from,
 };
-use capability::{Body, Uid};
+use capability::{Body, Seq, Uid};
 use eden_codec::Rep;
 use eden_disk::{Arm, Disk, ImageMode, SimDisk};
 use eden_value::{Items, Kind, Txt, Value, has_kind};
@@ -108,7 +108,7 @@ fn cell(alloc: Global, number: u8) -> Result<Body, AllocError>
     let bytes = vec![in alloc;
         1, 4, b'C', b'e', b'l', b'l', 0, 1, 1, 1, 0, 0, 0, 0, 0, 0, 0, number,
     ]?;
-    Ok(Body { bytes })
+    Ok(Seq { items: bytes })
 }
 
 /// How far some steps came: how many they were, what a settling found, and the end of the first request with the
@@ -508,7 +508,7 @@ fn put_zeros<St: Store>(
     ensures power { IfOk result (λ _. PowerBehind end (St.seen store.new).disk.counts) }
 {
     let bytes = vec![in alloc; 0u8; length as usize]?;
-    worker.ask_put(FIRST, 1, Body { bytes })?;
+    worker.ask_put(FIRST, 1, Seq { items: bytes })?;
     let clock = store.disk().clock();
     let made = refuse(alloc, worker, store, end)?;
     Ok((made.made, store.disk().clock().saturating_sub(clock)))
@@ -574,8 +574,8 @@ fn kept_came(alloc: Global, bytes: &[u8]) -> Result<(Came, Option<Pick>), Amiss>
     worker.ask_put(
         FIRST,
         1,
-        Body {
-            bytes: bytes.to_vec(alloc)?,
+        Seq {
+            items: bytes.to_vec(alloc)?,
         },
     )?;
     make(alloc, &mut worker, &mut store)?;

@@ -1,5 +1,6 @@
 //! A node boots: its store is opened, the doubt is settled, and the next epoch is put.
-ghost use Rattle.std.specs.Prelude.{◌≡◌, ◌⊎◌, ◌≤◌, ℕ, [], List, Bool, Option, IsTrue, IfOk, IfErr, IfSome, OnOk, OnErr, MatchResult, is_some};
+ghost use Rattle.std.specs.Prelude.{◌≡◌, ◌⊎◌, ◌≤◌, ℕ, [], List, Bool, Option, IsTrue, IfOk, IfErr, IfSome, OnOk, OnErr, MatchResult};
+ghost use Rattle.std.specs.Prelude.{is_some};
 ghost use Rattle.eden_disk.specs.Told.{Told};
 ghost use Rattle.eden_disk.specs.Calls.{Fine};
 ghost use Rattle.passive_store.specs.declared.store.Pick.{Pick};
@@ -150,7 +151,7 @@ fn read_epoch<St: Store>(alloc: Global, store: &mut St, node: u8) -> Result<u32,
         return Ok(0);
     }
     match store.get(alloc, uid) {
-        Ok(Some(body)) => Ok(epoch_of(body.bytes.as_slice())),
+        Ok(Some(body)) => Ok(epoch_of(body.as_slice())),
         Ok(None) => Ok(0),
         Err(refusal) => Err(refusal),
     }

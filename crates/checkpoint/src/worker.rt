@@ -4,7 +4,8 @@ ghost use Rattle.passive_store.specs.Kept.{is_busy, is_unsettled, body_at, Idle,
 ghost use Rattle.passive_store.specs.Seen.{Begins};
 ghost use Rattle.checkpoint.specs.Queues.{put_of, removal_of, left_in};
 ghost use Rattle.checkpoint.specs.StoreCalls.{end_of_refusal, Stays};
-ghost use Rattle.checkpoint.specs.Asked.{ask_of, body_asked, IsOfNode, AllOfNode, TakesStep, MakesCall, EndsFirst, EndsJob, QueueGoes, KeepsPower, OneCall};
+ghost use Rattle.checkpoint.specs.Asked.{ask_of, body_asked, IsOfNode, AllOfNode, TakesStep, MakesCall, EndsFirst, EndsJob, QueueGoes};
+ghost use Rattle.checkpoint.specs.Asked.{KeepsPower, OneCall};
 
 use capability::{Body, Uid};
 use eden_disk::Disk;
@@ -298,7 +299,7 @@ fn begin_job<St: Store>(
     ensures { Begins St.Device.tells St.layout (ask_of request.now) result (St.seen store.old) (St.seen store.new) }
 {
     match &request.wish {
-        Wish::Put { body } => store.begin_put(alloc, request.uid, body.bytes.as_slice()),
+        Wish::Put { body } => store.begin_put(alloc, request.uid, body.as_slice()),
         Wish::Delete => store.begin_delete(alloc, request.uid),
     }
 }

@@ -33,9 +33,9 @@ use crate::slots::{
     call_of, declared_slots, insert_slot, is_outside, is_running, least_free, next_past,
     next_to_start, remove_slot, served_pairs, set_slots,
 };
-use capability::CallNumbers;
+use capability::Seq;
 pub use monitors::{Condition, Monitor};
-pub use parts::{CondMonitors, Limits, OfferRefusal, Pairs, Parts, Setup, Started};
+pub use parts::{OfferRefusal, Pairs, Parts, Setup, Started};
 pub use process_queue::ProcessQueue;
 pub use slots::{Serving, Slot, Waits};
 use std::alloc::{AllocError, Global};
@@ -44,7 +44,7 @@ use std::marker::Model;
 /// The processes of one active Eject, and the invocations that are queued for it.
 #[derive(Drop)]
 pub struct Coordinator {
-    limits: Limits,
+    limits: Seq<u8>,
     slots: Vec<Slot>,
     monitors: Vec<Monitor>,
     conditions: Vec<Condition>,
@@ -118,6 +118,13 @@ impl Coordinator {
             Some(next) => Some(next.call),
             None => None,
         }
+    }
+
+    /// The number of the process in which `start` would run an invocation: the least that is free.
+    pub fn next_number(&self) -> u8
+        ensures { result ≡ least_free self.now.crew }
+    {
+        least_free(&self.slots)
     }
 
     /// The startable invocation leaves the queue and runs, in a process of the least free number.
@@ -296,7 +303,7 @@ impl Coordinator {
         let numbers = self.queued.into_numbers();
         Parts {
             running: Pairs { pairs },
-            queued: CallNumbers { numbers },
+            queued: Seq { items: numbers },
         }
     }
 }

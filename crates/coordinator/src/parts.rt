@@ -2,56 +2,10 @@
 ghost use Rattle.std.specs.Prelude.{◌≡◌};
 
 use arrayvec::ArrayVec;
-use capability::CallNumbers;
+use capability::{CallNumbers, Seq};
 use std::alloc::AllocError;
 use std::marker::Model;
 use thiserror::Error;
-
-/// The limits of the classes: how many invocations of each class may run at once, 1 to 16.
-#[derive(Drop)]
-pub struct Limits {
-    pub limits: Vec<u8>,
-}
-
-impl Model for Limits {
-    ghost use Rattle.std.specs.Prelude.{ℕ, List};
-
-    ghost Value = { List ℕ };
-
-    ghost view = { λ l. l.limits.items };
-}
-
-impl Limits {
-    /// The limits, by class.
-    pub fn as_slice(&self) -> &[u8]
-        ensures { result.now ≡ self.now }
-    {
-        &self.limits
-    }
-}
-
-/// The monitors of the conditions, counted from 1.
-#[derive(Drop)]
-pub struct CondMonitors {
-    pub monitors: Vec<u8>,
-}
-
-impl Model for CondMonitors {
-    ghost use Rattle.std.specs.Prelude.{ℕ, List};
-
-    ghost Value = { List ℕ };
-
-    ghost view = { λ c. c.monitors.items };
-}
-
-impl CondMonitors {
-    /// The monitors, by condition.
-    pub fn as_slice(&self) -> &[u8]
-        ensures { result.now ≡ self.now }
-    {
-        &self.monitors
-    }
-}
 
 /// Numbers of processes, each with the number of the call that it serves.
 #[derive(Drop)]
@@ -72,12 +26,14 @@ impl Model for Pairs {
 /// Classes and conditions are counted from 0, monitors and processes from 1.
 #[derive(Drop)]
 pub struct Setup {
-    pub limits: Limits,
+    /// The limits of the classes: how many invocations of each class may run at once, 1 to 16.
+    pub limits: Seq<u8>,
     /// How many processes the type declares. They run from the start.
     pub declared: u8,
     /// How many monitors there are.
     pub monitors: u8,
-    pub conditions: CondMonitors,
+    /// The monitors of the conditions, counted from 1.
+    pub conditions: Seq<u8>,
 }
 
 /// A call that was started, and the process that serves it.
@@ -102,6 +58,7 @@ pub enum OfferRefusal {
     /// 64 invocations are queued.
     #[error("64 invocations are queued")]
     Busy,
+    /// There is no memory for one more queued invocation.
     #[error("there is no memory for the invocation")]
     OutOfMemory,
 }

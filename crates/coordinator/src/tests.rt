@@ -4,11 +4,11 @@ use std::mem::size_of;
 
 /// A coordinator of one class with this limit, and of no process, monitor or condition.
 fn idle(alloc: Global, limit: u8) -> Result<Coordinator, AllocError> {
-    let limits = Limits {
-        limits: vec![in alloc; limit]?,
+    let limits = Seq {
+        items: vec![in alloc; limit]?,
     };
-    let conditions = CondMonitors {
-        monitors: Vec::new(alloc),
+    let conditions = Seq {
+        items: Vec::new(alloc),
     };
     Coordinator::new(
         alloc,
@@ -45,8 +45,8 @@ fn one_of_a_class_with_limit_one(rt: HostRuntime) -> Result<(), AllocError> {
     assert!(rt; c.start()?.is_none());
     let parts = c.into_parts();
     assert_eq!(rt; parts.running.pairs.len(), 1);
-    assert_eq!(rt; parts.queued.numbers.len(), 63);
-    assert_eq!(rt; parts.queued.numbers.first().copied(), Some(101));
+    assert_eq!(rt; parts.queued.as_slice().len(), 63);
+    assert_eq!(rt; parts.queued.as_slice().first().copied(), Some(101));
     Ok(())
 }
 
@@ -57,7 +57,7 @@ fn an_idle_one_takes_145_bytes(rt: HostRuntime) -> Result<(), AllocError> {
     assert_eq!(rt; size_of::<Slot>(), 16);
     assert_eq!(rt; size_of::<Monitor>(), 32);
     assert_eq!(rt; size_of::<Condition>(), 32);
-    assert_eq!(rt; c.limits.limits.capacity(), 1);
+    assert_eq!(rt; c.limits.items.capacity(), 1);
     assert_eq!(rt; c.slots.capacity(), 0);
     assert_eq!(rt; c.monitors.capacity(), 0);
     assert_eq!(rt; c.conditions.capacity(), 0);
@@ -84,17 +84,17 @@ fn room_grows_to_sixteen_processes(rt: HostRuntime) -> Result<(), AllocError> {
     assert_eq!(rt; c.next_ready(15), Some(16));
     let parts = c.into_parts();
     assert_eq!(rt; parts.running.pairs.len(), 16);
-    assert_eq!(rt; parts.queued.numbers.len(), 1);
+    assert_eq!(rt; parts.queued.as_slice().len(), 1);
     Ok(())
 }
 
 #[test]
 fn a_monitor_passes_in_order(rt: HostRuntime) -> Result<(), AllocError> {
-    let limits = Limits {
-        limits: Vec::new(rt.alloc()),
+    let limits = Seq {
+        items: Vec::new(rt.alloc()),
     };
-    let conditions = CondMonitors {
-        monitors: vec![in rt.alloc(); 1]?,
+    let conditions = Seq {
+        items: vec![in rt.alloc(); 1]?,
     };
     let mut c = Coordinator::new(
         rt.alloc(),

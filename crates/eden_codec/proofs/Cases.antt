@@ -29,11 +29,13 @@ module _ (v : Value) (items : List Datum) (vs ws : List Value) (is : v ≡ Liste
   pub list_spelling : value_spelling (datum v) ≡ 6 ∷ (bytes_high_first 2 (length ws) ++ values_spelling (datums ws))
   list_spelling =
       ap value_spelling datum_is
-      ∙ ap (λ n. 6 ∷ (bytes_high_first 2 n ++ data_spelling (data_of (datums ws)))) (ap length (items_of-data_of (datums ws)) ∙ length_of ws)
+      ∙ ap (λ n. 6 ∷ (bytes_high_first 2 n ++ data_spelling (data_of (datums ws))))
+      (ap length (items_of-data_of (datums ws)) ∙ length_of ws)
       ∙ ap (λ l. 6 ∷ (bytes_high_first 2 (length ws) ++ l)) (data_are (datums ws))
 
   pub list_size : length (value_spelling (datum v)) ≡ 3 + length (values_spelling (datums ws))
-  list_size = ap length list_spelling ∙ (let e : length (values_spelling (datums ws)) ≡ length (values_spelling (datums ws)) = refl in omega arith)
+  list_size = ap length list_spelling ∙ (let e : length (values_spelling (datums ws)) ≡ length (values_spelling (datums ws)) = refl in
+      omega arith)
 
 pub five : (o a b c d : List ℕ) → (((o ++ a) ++ b) ++ c) ++ d ≡ o ++ (a ++ (b ++ (c ++ d)))
 five o a b c d = append_assoc ((o ++ a) ++ b) c d ∙ append_assoc (o ++ a) b (c ++ d) ∙ append_assoc o a (b ++ (c ++ d))

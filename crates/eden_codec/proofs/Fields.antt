@@ -14,12 +14,14 @@ use Rattle.grammar.proofs.Repetition.{counted_exact}
 use Rattle.grammar.specs.Numbers.{Number, number_at}
 use Rattle.grammar.proofs.Numbers.{number_exact, begins_number}
 use Rattle.eden_codec.specs.declared.value.Plain.{Plain}
-use Rattle.eden_codec.specs.declared.value.Plain.TheVariants.{Integer as is_int, Truth as is_truth, Text as is_text, Absent as is_none, Capability as is_cap}
+use Rattle.eden_codec.specs.declared.value.Plain.TheVariants.{Integer as is_int, Truth as is_truth, Text as is_text, Absent as is_none}
+use Rattle.eden_codec.specs.declared.value.Plain.TheVariants.{Capability as is_cap}
 use Rattle.eden_codec.specs.Spells.{SpellsInt, SpellsTruth, SpellsText, SpellsCap}
 use Rattle.eden_codec.specs.Reading.{int_at, truth_of, truth_at, text_at, cap_at, plain_at}
 
 pub int_exact : Exact SpellsInt int_at
-int_exact = mapped_exact (to_z w64) (Number 8 0 18446744073709551615) (number_at 8 0 18446744073709551615) (number_exact 0 18446744073709551615 (omega arith) 8 (omega arith))
+int_exact = mapped_exact (to_z w64) (Number 8 0 18446744073709551615) (number_at 8 0 18446744073709551615)
+    (number_exact 0 18446744073709551615 (omega arith) 8 (omega arith))
 
 to_truth : (bytes : List ℕ) (t : Bool) → One truth_of bytes t → SpellsTruth bytes t
 to_truth [] t s = absurd s
@@ -68,10 +70,12 @@ abbrev epoch_from : ℕ → Reader ℕ Cap
 epoch_from node bytes = read_then (number_at 4 1 4294967295 bytes) (serial_from node)
 
 rights_exact : (node epoch serial : ℕ) → Exact (CapRights node epoch serial) (rights_from node epoch serial)
-rights_exact node epoch serial = mapped_exact (made node epoch serial) (Number 2 0 65535) (number_at 2 0 65535) (number_exact 0 65535 (omega arith) 2 (omega arith))
+rights_exact node epoch serial = mapped_exact (made node epoch serial) (Number 2 0 65535) (number_at 2 0 65535)
+    (number_exact 0 65535 (omega arith) 2 (omega arith))
 
 rights_begins : (node epoch serial : ℕ) → Begins (CapRights node epoch serial) []
-rights_begins node epoch serial = begins_mapped (made node epoch serial) (Number 2 0 65535) (begins_number 0 65535 (omega arith) 2 (omega arith))
+rights_begins node epoch serial = begins_mapped (made node epoch serial) (Number 2 0 65535)
+    (begins_number 0 65535 (omega arith) 2 (omega arith))
 
 long_exact : Exact (Number 4 1 4294967295) (number_at 4 1 4294967295)
 long_exact = number_exact 1 4294967295 (omega arith) 4 (omega arith)
@@ -80,13 +84,15 @@ long_begins : Begins (Number 4 1 4294967295) []
 long_begins = begins_number 1 4294967295 (omega arith) 4 (omega arith)
 
 serial_exact : (node epoch : ℕ) → Exact (CapSerial node epoch) (serial_from node epoch)
-serial_exact node epoch = then_exact (Number 4 1 4294967295) (CapRights node epoch) (number_at 4 1 4294967295) (rights_from node epoch) long_exact (rights_exact node epoch) (rights_begins node epoch)
+serial_exact node epoch = then_exact (Number 4 1 4294967295) (CapRights node epoch) (number_at 4 1 4294967295)
+    (rights_from node epoch) long_exact (rights_exact node epoch) (rights_begins node epoch)
 
 serial_begins : (node epoch : ℕ) → Begins (CapSerial node epoch) []
 serial_begins node epoch = begins_then (Number 4 1 4294967295) (CapRights node epoch) long_begins (rights_begins node epoch)
 
 epoch_exact : (node : ℕ) → Exact (CapEpoch node) (epoch_from node)
-epoch_exact node = then_exact (Number 4 1 4294967295) (CapSerial node) (number_at 4 1 4294967295) (serial_from node) long_exact (serial_exact node) (serial_begins node)
+epoch_exact node = then_exact (Number 4 1 4294967295) (CapSerial node) (number_at 4 1 4294967295) (serial_from node) long_exact
+    (serial_exact node) (serial_begins node)
 
 epoch_begins : (node : ℕ) → Begins (CapEpoch node) []
 epoch_begins node = begins_then (Number 4 1 4294967295) (CapSerial node) long_begins (serial_begins node)
@@ -122,18 +128,27 @@ from_cap bytes c s = record {
     first = c.uid.epoch;
     whole = refl;
     begins = s.epoch_is;
-    goes_on = record { front = s.serial; back = s.rights; first = c.uid.serial; whole = refl; begins = s.serial_is; goes_on = (c.rights.bits, s.rights_is, refl) };
+    goes_on = record {
+      front = s.serial;
+      back = s.rights;
+      first = c.uid.serial;
+      whole = refl;
+      begins = s.serial_is;
+      goes_on = (c.rights.bits, s.rights_is, refl);
+    };
   };
 }
 
 pub cap_exact : Exact SpellsCap cap_at
 cap_exact =
     same_exact CapNode SpellsCap cap_at
-    (then_exact (Number 1 1 8) CapEpoch (number_at 1 1 8) epoch_from (number_exact 1 8 (omega arith) 1 (omega arith)) epoch_exact epoch_begins)
+    (then_exact (Number 1 1 8) CapEpoch (number_at 1 1 8) epoch_from
+    (number_exact 1 8 (omega arith) 1 (omega arith)) epoch_exact epoch_begins)
     to_cap from_cap
 
 cap_begins : Begins SpellsCap []
-cap_begins = begins_same CapNode SpellsCap to_cap [] (begins_then (Number 1 1 8) CapEpoch (begins_number 1 8 (omega arith) 1 (omega arith)) epoch_begins)
+cap_begins = begins_same CapNode SpellsCap to_cap []
+    (begins_then (Number 1 1 8) CapEpoch (begins_number 1 8 (omega arith) 1 (omega arith)) epoch_begins)
 
 -- ---- a value
 abbrev pub PlainSpelling : Plain → Grammar ℕ Datum
@@ -154,7 +169,11 @@ int_begins : Begins SpellsInt []
 int_begins = begins_mapped (to_z w64) (Number 8 0 18446744073709551615) (begins_number 0 18446744073709551615 (omega arith) 8 (omega arith))
 
 text_begins : Begins SpellsText []
-text_begins = record { more = 0 ∷ 0 ∷ []; value = []; spelled = (0 ∷ 0 ∷ [], [], refl, ((omega arith, (omega arith, refl)), omega arith, omega arith), refl) }
+text_begins = record {
+  more = 0 ∷ 0 ∷ [];
+  value = [];
+  spelled = (0 ∷ 0 ∷ [], [], refl, ((omega arith, (omega arith, refl)), omega arith, omega arith), refl);
+}
 
 pub plain_begins : (p : Plain) → Begins (PlainSpelling p) []
 plain_begins is_int = begins_mapped number SpellsInt int_begins

@@ -1,5 +1,6 @@
 -- What has a spelling has the one that the function gives, and each representation has it.
-use Rattle.std.specs.Prelude.{◌≡◌, ℕ, zero, suc, ◌<◌, ◌^◌, ℤ, Bool, true, false, ◌&&◌, List, [], ◌∷◌, ◌++◌, length, Some, None, FitsSigned, refl}
+use Rattle.std.specs.Prelude.{◌≡◌, ℕ, zero, suc, ◌<◌, ◌^◌, ℤ, Bool, true, false, ◌&&◌, List, [], ◌∷◌, ◌++◌, length, Some, None}
+use Rattle.std.specs.Prelude.{FitsSigned, refl}
 use Rattle.std.proofs.Common.{ap, sym, ◌∙◌, arith, subst}
 use Rattle.std.specs.Int.{w64, bytes_high_first}
 use Rattle.std.specs.List.{list_all}
@@ -37,7 +38,8 @@ int_is bytes z s =
     number_is 8 0 18446744073709551615 bytes s.0 s.1 ∙ ap (λ n. bytes_high_first 8 n) (sym (ap (λ x. of_z w64 x) s.2 ∙ of_z-to_z w64 s.0 h))
 
 text_is : (bytes t : List ℕ) → SpellsText bytes t → bytes ≡ text_spelling t
-text_is bytes t s = s.2 ∙ ap (λ l. l ++ s.1) (number_is 2 0 1024 s.0 (length t) s.3) ∙ ap (λ l. bytes_high_first 2 (length t) ++ l) (bytes_are is_printable (length t) s.1 t s.4)
+text_is bytes t s = s.2 ∙ ap (λ l. l ++ s.1) (number_is 2 0 1024 s.0 (length t) s.3) ∙ ap (λ l. bytes_high_first 2 (length t) ++ l)
+    (bytes_are is_printable (length t) s.1 t s.4)
 
 cap_is : (bytes : List ℕ) (c : Cap) → SpellsCap bytes c → bytes ≡ cap_spelling c
 cap_is bytes c s =
@@ -115,7 +117,13 @@ bytes_spelled is (b ∷ t) a =
     (b ∷ [], t, refl, (refl, all.0), bytes_spelled is t all.1)
 
 text_spelled : (t : List ℕ) → IsText t → SpellsText (text_spelling t) t
-text_spelled t f = (bytes_high_first 2 (length t), t, refl, number_spelled 2 0 1024 (length t) (omega (arith, f.short)) (omega arith) f.short, bytes_spelled is_printable t f.printable)
+text_spelled t f = (
+  bytes_high_first 2 (length t),
+  t,
+  refl,
+  number_spelled 2 0 1024 (length t) (omega (arith, f.short)) (omega arith) f.short,
+  bytes_spelled is_printable t f.printable,
+)
 
 cap_spelled : (c : Cap) → IsEject c.uid → CapInRange c → SpellsCap (cap_spelling c) c
 cap_spelled c e r = record {
@@ -131,7 +139,12 @@ cap_spelled c e r = record {
 }
 
 int_spelled : (z : ℤ) → FitsSigned w64 z → SpellsInt (bytes_high_first 8 (of_z w64 z)) z
-int_spelled z f = (of_z w64 z, number_spelled 8 0 18446744073709551615 (of_z w64 z) (omega (arith, Fits-of_z {w = w64} {z = z} f)) (omega arith) (omega (arith, Fits-of_z {w = w64} {z = z} f)), sym (to_z-of_z w64 z f))
+int_spelled z f = (
+  of_z w64 z,
+  number_spelled 8 0 18446744073709551615 (of_z w64 z) (omega (arith, Fits-of_z {w = w64} {z = z} f))
+      (omega arith) (omega (arith, Fits-of_z {w = w64} {z = z} f)),
+  sym (to_z-of_z w64 z f),
+)
 
 mutual
   pub value_spelled : (depth : ℕ) (d : Datum) → IsValue depth d → InRange d → SpellsValue depth (value_spelling d) d
@@ -142,20 +155,49 @@ mutual
   value_spelled depth (cap None) f r = (refl, refl)
   value_spelled depth (cap (Some c)) f r = (refl, cap_spelled c f r)
   value_spelled zero (list ds) f r = absurd f
-  value_spelled (suc depth) (list ds) f r =
-      (refl, (bytes_high_first 2 (length (items_of ds)), data_spelling ds, refl, number_spelled 2 0 256 (length (items_of ds)) (omega (arith, f.0)) (omega arith) f.0, data_spelled depth ds f.1 r))
+  value_spelled (suc depth) (list ds) f r = (
+    refl,
+    (
+      bytes_high_first 2 (length (items_of ds)),
+      data_spelling ds,
+      refl,
+      number_spelled 2 0 256 (length (items_of ds)) (omega (arith, f.0)) (omega arith) f.0,
+      data_spelled depth ds f.1 r,
+    ),
+  )
 
-  data_spelled : (depth : ℕ) (ds : Data) → DataAreValues depth ds → DataInRange ds → Times (length (items_of ds)) (SpellsValue depth) (data_spelling ds) (items_of ds)
+  data_spelled : (depth : ℕ) (ds : Data) → DataAreValues depth ds → DataInRange ds
+      → Times (length (items_of ds)) (SpellsValue depth) (data_spelling ds) (items_of ds)
   data_spelled depth no_data f r = refl
-  data_spelled depth (data_and d ds) f r = (value_spelling d, data_spelling ds, refl, value_spelled depth d f.0 r.0, data_spelled depth ds f.1 r.1)
+  data_spelled depth (data_and d ds) f r = (
+    value_spelling d,
+    data_spelling ds,
+    refl,
+    value_spelled depth d f.0 r.0,
+    data_spelled depth ds f.1 r.1,
+  )
 
-items_spelled : (depth : ℕ) (ds : List Datum) → AreValues depth ds → AllInRange ds → Times (length ds) (SpellsValue depth) (values_spelling ds) ds
+items_spelled : (depth : ℕ) (ds : List Datum) → AreValues depth ds → AllInRange ds
+    → Times (length ds) (SpellsValue depth) (values_spelling ds) ds
 items_spelled depth [] f r = refl
-items_spelled depth (d ∷ ds) f r = (value_spelling d, values_spelling ds, refl, value_spelled depth d f.0 r.0, items_spelled depth ds f.1 r.1)
+items_spelled depth (d ∷ ds) f r = (
+  value_spelling d,
+  values_spelling ds,
+  refl,
+  value_spelled depth d f.0 r.0,
+  items_spelled depth ds f.1 r.1,
+)
 
 name_spelled : (name : List ℕ) → IsName name → SpellsName (bytes_high_first 1 (length name) ++ name) name
 name_spelled [] n = absurd n
-name_spelled (a ∷ more) n = (bytes_high_first 1 (suc (length more)), more, refl, number_spelled 1 1 32 (suc (length more)) (omega (arith, n.1)) (omega arith) (omega (arith, n.1)), n.0, bytes_spelled is_name_byte more n.2)
+name_spelled (a ∷ more) n = (
+  bytes_high_first 1 (suc (length more)),
+  more,
+  refl,
+  number_spelled 1 1 32 (suc (length more)) (omega (arith, n.1)) (omega arith) (omega (arith, n.1)),
+  n.0,
+  bytes_spelled is_name_byte more n.2,
+)
 
 pub spelled : (r : Rep) → IsRep r → RepInRange r → Spells (spelling r) r
 spelled r i a = record {
@@ -165,7 +207,13 @@ spelled r i a = record {
   whole = refl;
   name_is = name_spelled r.type_name i.name;
   version_is = number_spelled 2 1 65535 r.version (omega (arith, a.version)) i.version (omega (arith, a.version));
-  values_are = (bytes_high_first 1 (length r.values), values_spelling r.values, refl, number_spelled 1 0 64 (length r.values) (omega (arith, i.count)) (omega arith) i.count, items_spelled 4 r.values i.values a.values);
+  values_are = (
+    bytes_high_first 1 (length r.values),
+    values_spelling r.values,
+    refl,
+    number_spelled 1 0 64 (length r.values) (omega (arith, i.count)) (omega arith) i.count,
+    items_spelled 4 r.values i.values a.values,
+  );
 }
 
 -- ---- only what may be has a spelling
@@ -187,10 +235,15 @@ cap_has_form : (bytes : List ℕ) (c : Cap) → SpellsCap bytes c → IsEject c.
 cap_has_form bytes c s = record { node_least = s.node_is.1; node_most = s.node_is.2; epoch = s.epoch_is.1; serial = s.serial_is.1 }
 
 cap_in_range : (bytes : List ℕ) (c : Cap) → SpellsCap bytes c → CapInRange c
-cap_in_range bytes c s = record { epoch = omega (arith, s.epoch_is.2); serial = omega (arith, s.serial_is.2); rights = omega (arith, s.rights_is.2) }
+cap_in_range bytes c s = record {
+  epoch = omega (arith, s.epoch_is.2);
+  serial = omega (arith, s.serial_is.2);
+  rights = omega (arith, s.rights_is.2);
+}
 
 int_in_range : (bytes : List ℕ) (z : ℤ) → SpellsInt bytes z → FitsSigned w64 z
-int_in_range bytes z s = let h : s.0 < 2 ^ 64 = omega (arith, s.1.2) in subst (λ x. FitsSigned w64 x) (sym s.2) (sfits_to_z {w = w64} {n = s.0} (Fits-of_lt {w = w64} {n = s.0} h))
+int_in_range bytes z s = let h : s.0 < 2 ^ 64 = omega (arith, s.1.2) in
+    subst (λ x. FitsSigned w64 x) (sym s.2) (sfits_to_z {w = w64} {n = s.0} (Fits-of_lt {w = w64} {n = s.0} h))
 
 mutual
   value_has_form : (depth : ℕ) (bytes : List ℕ) (d : Datum) → SpellsValue depth bytes d → IsValue depth d × InRange d
@@ -205,7 +258,8 @@ mutual
       let inner = data_has_form depth (length (items_of ds)) s.1.1 ds s.1.4 in
       ((s.1.3.2, inner.0), inner.1)
 
-  data_has_form : (depth n : ℕ) (bytes : List ℕ) (ds : Data) → Times n (SpellsValue depth) bytes (items_of ds) → DataAreValues depth ds × DataInRange ds
+  data_has_form : (depth n : ℕ) (bytes : List ℕ) (ds : Data) → Times n (SpellsValue depth) bytes (items_of ds) → DataAreValues depth ds
+      × DataInRange ds
   data_has_form depth n bytes no_data s = (tt, tt)
   data_has_form depth zero bytes (data_and d ds) s = absurd s
   data_has_form depth (suc n) bytes (data_and d ds) s =

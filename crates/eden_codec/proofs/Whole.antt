@@ -43,18 +43,21 @@ first_begins : (n a : ℕ) → Begins (AfterFirst n a) []
 first_begins n a = begins_mapped (λ more. a ∷ more) (NameBytes (n - 1)) (begins_times (OneOf is_name_byte) letter_begins (n - 1))
 
 first_exact : (n a : ℕ) → Exact (AfterFirst n a) (after_first n a)
-first_exact n a = mapped_exact (λ more. a ∷ more) (NameBytes (n - 1)) (times (n - 1) (one_of is_name_byte)) (times_exact (OneOf is_name_byte) (one_of is_name_byte) letter_exact letter_begins (n - 1))
+first_exact n a = mapped_exact (λ more. a ∷ more) (NameBytes (n - 1)) (times (n - 1) (one_of is_name_byte))
+    (times_exact (OneOf is_name_byte) (one_of is_name_byte) letter_exact letter_begins (n - 1))
 
 length_begins : (n : ℕ) → Begins (AfterLength n) []
 length_begins n = begins_then (OneOf is_ascii_uppercase) (AfterFirst n) (begins_one_of is_ascii_uppercase 65 refl) (first_begins n)
 
 length_exact : (n : ℕ) → Exact (AfterLength n) (after_length n)
-length_exact n = then_exact (OneOf is_ascii_uppercase) (AfterFirst n) (one_of is_ascii_uppercase) (after_first n) (one_of_exact is_ascii_uppercase 65 refl) (first_exact n) (first_begins n)
+length_exact n = then_exact (OneOf is_ascii_uppercase) (AfterFirst n) (one_of is_ascii_uppercase) (after_first n)
+    (one_of_exact is_ascii_uppercase 65 refl) (first_exact n) (first_begins n)
 
 abbrev NameParts : Grammar ℕ (List ℕ)
 NameParts = Then (Number 1 1 32) AfterLength
 
-name_from : (bytes size : List ℕ) (n : ℕ) → Number 1 1 32 size n → (first : List ℕ) (a : ℕ) → OneOf is_ascii_uppercase first a → (rest more : List ℕ) → bytes ≡ size ++ (first ++ rest) → NameBytes (n - 1) rest more → SpellsName bytes (a ∷ more)
+name_from : (bytes size : List ℕ) (n : ℕ) → Number 1 1 32 size n → (first : List ℕ) (a : ℕ) → OneOf is_ascii_uppercase first a
+    → (rest more : List ℕ) → bytes ≡ size ++ (first ++ rest) → NameBytes (n - 1) rest more → SpellsName bytes (a ∷ more)
 name_from bytes size n s [] a f rest more whole letters = absurd f
 name_from bytes size n s (c ∷ []) a f rest more whole letters =
     let l : length more ≡ n - 1 = length-times (OneOf is_name_byte) (n - 1) rest more letters in
@@ -72,7 +75,8 @@ to_name : (bytes name : List ℕ) → NameParts bytes name → SpellsName bytes 
 to_name bytes name t =
     let u = t.goes_on in
     subst (λ x. SpellsName bytes x) (sym u.goes_on.2)
-    (name_from bytes t.front t.first t.begins u.front u.first u.begins u.back u.goes_on.0 (t.whole ∙ ap (λ l. t.front ++ l) u.whole) u.goes_on.1)
+    (name_from bytes t.front t.first t.begins u.front u.first u.begins u.back u.goes_on.0
+    (t.whole ∙ ap (λ l. t.front ++ l) u.whole) u.goes_on.1)
 
 from_name : (bytes name : List ℕ) → SpellsName bytes name → NameParts bytes name
 from_name bytes [] s = absurd s
@@ -84,11 +88,20 @@ from_name bytes (a ∷ more) s =
       first = suc (length more);
       whole = s.2;
       begins = s.3;
-      goes_on = record { front = a ∷ []; back = s.1; first = a; whole = refl; begins = (refl, s.4); goes_on = (more, subst (λ m. NameBytes m s.1 more) e s.5, refl) };
+      goes_on = record {
+        front = a ∷ [];
+        back = s.1;
+        first = a;
+        whole = refl;
+        begins = (refl, s.4);
+        goes_on = (more, subst (λ m. NameBytes m s.1 more) e s.5, refl);
+      };
     }
 
 name_exact : Exact SpellsName name_at
-name_exact = same_exact NameParts SpellsName name_at (then_exact (Number 1 1 32) AfterLength (number_at 1 1 32) after_length (number_exact 1 32 (omega arith) 1 (omega arith)) length_exact length_begins) to_name from_name
+name_exact = same_exact NameParts SpellsName name_at
+    (then_exact (Number 1 1 32) AfterLength (number_at 1 1 32) after_length
+    (number_exact 1 32 (omega arith) 1 (omega arith)) length_exact length_begins) to_name from_name
 
 -- ---- the representation
 abbrev rep_of : List ℕ → ℕ → List Datum → Rep
@@ -123,19 +136,23 @@ values_begins name version = begins_mapped (rep_of name version) (SpellsRow (Spe
 
 row_exact : Exact (SpellsRow (SpellsValue 4)) (row_at (value_at 4))
 row_exact =
-    counted_exact (Number 1 0 64) (number_at 1 0 64) (number_exact 0 64 (omega arith) 1 (omega arith)) (SpellsValue 4) (value_at 4) (value_exact 4) (value_begins 4)
+    counted_exact (Number 1 0 64) (number_at 1 0 64) (number_exact 0 64 (omega arith) 1 (omega arith)) (SpellsValue 4) (value_at 4)
+    (value_exact 4) (value_begins 4)
 
 values_exact : (name : List ℕ) (version : ℕ) → Exact (RepValues name version) (values_from name version)
 values_exact name version = mapped_exact (rep_of name version) (SpellsRow (SpellsValue 4)) (row_at (value_at 4)) (row_exact)
 
 version_begins : (name : List ℕ) → Begins (RepVersion name) []
-version_begins name = begins_then (Number 2 1 65535) (RepValues name) (begins_number 1 65535 (omega arith) 2 (omega arith)) (values_begins name)
+version_begins name = begins_then (Number 2 1 65535) (RepValues name) (begins_number 1 65535 (omega arith) 2 (omega arith))
+    (values_begins name)
 
 version_exact : (name : List ℕ) → Exact (RepVersion name) (version_from name)
-version_exact name = then_exact (Number 2 1 65535) (RepValues name) (number_at 2 1 65535) (values_from name) (number_exact 1 65535 (omega arith) 2 (omega arith)) (values_exact name) (values_begins name)
+version_exact name = then_exact (Number 2 1 65535) (RepValues name) (number_at 2 1 65535) (values_from name)
+    (number_exact 1 65535 (omega arith) 2 (omega arith)) (values_exact name) (values_begins name)
 
 name_begins : Begins SpellsName []
-name_begins = begins_same NameParts SpellsName to_name [] (begins_then (Number 1 1 32) AfterLength (begins_number 1 32 (omega arith) 1 (omega arith)) length_begins)
+name_begins = begins_same NameParts SpellsName to_name []
+    (begins_then (Number 1 1 32) AfterLength (begins_number 1 32 (omega arith) 1 (omega arith)) length_begins)
 
 rep_name_begins : (mark : ℕ) → Begins (RepName mark) []
 rep_name_begins mark = begins_then SpellsName RepVersion name_begins version_begins
@@ -157,7 +174,8 @@ to_rep bytes r t =
       name = u.front;
       version = v.front;
       values = v.back;
-      whole = t.whole ∙ ap (λ l. l ++ t.back) (mark_is t.front t.first t.begins) ∙ ap (λ l. 1 ∷ l) (u.whole ∙ ap (λ l. u.front ++ l) v.whole);
+      whole = t.whole ∙ ap (λ l. l ++ t.back) (mark_is t.front t.first t.begins) ∙ ap (λ l. 1 ∷ l)
+          (u.whole ∙ ap (λ l. u.front ++ l) v.whole);
       name_is = u.begins;
       version_is = v.begins;
       values_are = w.1;
@@ -176,12 +194,21 @@ from_rep bytes r s = record {
     first = r.type_name;
     whole = refl;
     begins = s.name_is;
-    goes_on = record { front = s.version; back = s.values; first = r.version; whole = refl; begins = s.version_is; goes_on = (r.values, s.values_are, refl) };
+    goes_on = record {
+      front = s.version;
+      back = s.values;
+      first = r.version;
+      whole = refl;
+      begins = s.version_is;
+      goes_on = (r.values, s.values_are, refl);
+    };
   };
 }
 
 pub rep_exact : Exact Spells rep_at
-rep_exact = same_exact RepParts Spells rep_at (then_exact (Number 1 1 1) RepName (number_at 1 1 1) name_then (number_exact 1 1 (omega arith) 1 (omega arith)) rep_name_exact rep_name_begins) to_rep from_rep
+rep_exact = same_exact RepParts Spells rep_at
+    (then_exact (Number 1 1 1) RepName (number_at 1 1 1) name_then
+    (number_exact 1 1 (omega arith) 1 (omega arith)) rep_name_exact rep_name_begins) to_rep from_rep
 
 -- ---- reading all of the bytes
 some_rep : (a b : Rep) → Some a ≡ Some b → a ≡ b

@@ -9,7 +9,8 @@ use Rattle.grammar.specs.Reading.{Reading, Reader, read_then, nothing, mapped, o
 use Rattle.grammar.specs.Numbers.{number_at}
 use Rattle.eden_codec.specs.declared.rep.Rep.{Rep}
 use Rattle.eden_codec.specs.declared.value.Plain.{Plain}
-use Rattle.eden_codec.specs.declared.value.Plain.TheVariants.{Integer as is_int, Truth as is_truth, Text as is_text, Absent as is_none, Capability as is_cap}
+use Rattle.eden_codec.specs.declared.value.Plain.TheVariants.{Integer as is_int, Truth as is_truth, Text as is_text, Absent as is_none}
+use Rattle.eden_codec.specs.declared.value.Plain.TheVariants.{Capability as is_cap}
 use Rattle.std.specs.Char.{is_ascii_uppercase}
 use Rattle.eden_value.specs.Bytes.{is_name_byte}
 

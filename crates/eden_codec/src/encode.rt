@@ -13,7 +13,7 @@ ghost use Rattle.eden_codec.specs.Spelling as spelled;
 use crate::rep::Rep;
 use crate::size::values_size;
 use crate::tag;
-use capability::{BODY_LIMIT, Body, Cap};
+use capability::{BODY_LIMIT, Body, Cap, Seq};
 use eden_value::Value;
 use std::alloc::{AllocError, Global};
 
@@ -176,5 +176,5 @@ pub fn encode_rep(alloc: Global, rep: &Rep) -> Result<Body, EncodeRefusal>
     }
     let mut bytes = Vec::with_capacity(alloc, size as usize)?;
     add_rep(rep, &mut bytes)?;
-    Ok(Body { bytes })
+    Ok(Seq { items: bytes })
 }

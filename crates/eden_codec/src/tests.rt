@@ -18,7 +18,7 @@ fn bad_place(alloc: Global, bytes: &[u8]) -> Option<u32> {
 fn written_again(alloc: Global, bytes: &[u8]) -> Option<Vec<u8>> {
     match decode_rep(alloc, bytes) {
         Ok(rep) => match encode_rep(alloc, &rep) {
-            Ok(body) => Some(body.bytes),
+            Ok(body) => Some(body.items),
             Err(_) => None,
         },
         Err(_) => None,

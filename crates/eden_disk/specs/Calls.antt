@@ -1,5 +1,6 @@
 -- What a call of a disk leaves of its counts and its contents.
-use Rattle.std.specs.Prelude.{◌≡◌, ◌⊎◌, ℕ, ◌+◌, ◌≤◌, ◌<◌, ◌^◌, ◌-◌, ◌==◌, min, Bool, true, false, List, [], length, Result, Ok, Err, Option, None, Some, if◌then◌else◌}
+use Rattle.std.specs.Prelude.{◌≡◌, ◌⊎◌, ℕ, ◌+◌, ◌≤◌, ◌<◌, ◌^◌, ◌-◌, ◌==◌, min, Bool, true, false, List, [], length, Result, Ok, Err}
+use Rattle.std.specs.Prelude.{Option, None, Some, if◌then◌else◌}
 use Rattle.eden_disk.specs.declared.disk.DiskRefusal.{DiskRefusal}
 use Rattle.eden_disk.specs.declared.disk.DiskRefusal.TheVariants.{Failed, Stopped}
 use Rattle.eden_disk.specs.declared.disk.Arm.{Arm}

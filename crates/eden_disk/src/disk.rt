@@ -1,7 +1,8 @@
 // A disk by what it shows: its counts, what it tells of its contents, and when an armed fault falls due.
 ghost use Rattle.std.specs.Prelude.{◌≡◌, ◌+◌, ◌≤◌, ◌<◌, ◌-◌, ◌^◌, ℕ, Bool, IsTrue, List, length, OnOk, slice_range};
 ghost use Rattle.eden_disk.specs.Told.{Told, contents, Left};
-ghost use Rattle.eden_disk.specs.Calls.{Counts, Due, DeviceCall, Obeys, armed, calls_until, end_of, IsSpent, ReadTold, SyncTold, WriteTold, IsCut};
+ghost use Rattle.eden_disk.specs.Calls.{Counts, Due, DeviceCall, Obeys, armed, calls_until, end_of, IsSpent, ReadTold, SyncTold};
+ghost use Rattle.eden_disk.specs.Calls.{WriteTold, IsCut};
 
 /// How a device call is refused.
 #[derive(Clone, Copy, Debug, PartialEq, Eq)]

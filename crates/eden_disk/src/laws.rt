@@ -17,7 +17,8 @@ pub fn left_in_a_call()
         → LeftIn old before new after image ↔ Left (contents old) image }
     ensures write { (before after at : ℕ) (bytes : List ℕ) (old new : Told) (end : End) (image : List ℕ) → before < after
         → WriteTold after at bytes old new end →
-        ((new ≡ old) × (end ≡ AtFault) × (LeftIn old before new after image ↔ Left (contents old) image)) ⊎ (LeftIn old before new after image ↔ Left (unsynced_too at (length bytes) (contents old)) image) }
+        ((new ≡ old) × (end ≡ AtFault) × (LeftIn old before new after image ↔ Left (contents old) image))
+        ⊎ (LeftIn old before new after image ↔ Left (unsynced_too at (length bytes) (contents old)) image) }
 {}
 
 /// What a crash behind one device call that was not stopped may leave is what it may leave of the contents then.

@@ -1,5 +1,6 @@
 //! What a disk in memory holds.
-ghost use Rattle.std.specs.Prelude.{◌≡◌, ◌+◌, ◌≤◌, ◌<◌, ◌^◌, ℕ, length, List, [], ◌∷◌, ◌++◌, IfOk, OnOk, OnErr, slice_range, replicate, map, reverse, vec_len, vec_capacity};
+ghost use Rattle.std.specs.Prelude.{◌≡◌, ◌+◌, ◌≤◌, ◌<◌, ◌^◌, ℕ, length, List, [], ◌∷◌, ◌++◌, IfOk, OnOk, OnErr, slice_range, replicate};
+ghost use Rattle.std.specs.Prelude.{map, reverse, vec_len, vec_capacity};
 ghost use Rattle.eden_disk.specs.Told.{overlay, is_unsynced};
 ghost use Rattle.eden_disk.specs.Images.{garbled, image_left, half_written, after_cut};
 ghost use Rattle.eden_disk.specs.Telling.{told_with};

@@ -1,8 +1,10 @@
 // A disk in memory that tells all that it holds, and fails and stops exactly as it is armed.
-ghost use Rattle.std.specs.Prelude.{◌≡◌, ◌+◌, ◌≤◌, ◌<◌, ◌-◌, ◌^◌, ℕ, Bool, true, IsTrue, length, replicate, slice_range, IfOk, OnOk, OnErr, Err, Some, None};
+ghost use Rattle.std.specs.Prelude.{◌≡◌, ◌+◌, ◌≤◌, ◌<◌, ◌-◌, ◌^◌, ℕ, Bool, true, IsTrue, length, replicate, slice_range, IfOk, OnOk};
+ghost use Rattle.std.specs.Prelude.{OnErr, Err, Some, None};
 ghost use Rattle.eden_disk.specs.Told.{contents, Left};
 ghost use Rattle.eden_disk.specs.Calls.{end_of, calls_until, one_more, DeviceCall, Obeys, IsSpent, ReadTold, SyncTold, WriteTold, IsCut};
-ghost use Rattle.eden_disk.specs.SimDisk.{begun_with, blank_of, due_of, next_end, mode_of, counted, failed, stopped, without_memory, after_read, after_sync, after_write, after_power_cut, armed_with, IsCall};
+ghost use Rattle.eden_disk.specs.SimDisk.{begun_with, blank_of, due_of, next_end, mode_of, counted, failed, stopped, without_memory};
+ghost use Rattle.eden_disk.specs.SimDisk.{after_read, after_sync, after_write, after_power_cut, armed_with, IsCall};
 
 use crate::disk::{Arm, Disk, DiskRefusal, ImageMode};
 use crate::medium::Medium;

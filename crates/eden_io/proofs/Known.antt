@@ -1,5 +1,6 @@
 -- Known bytes that are taken or added in two parts.
-use Rattle.std.proofs.Common.{ℕ, ◌+◌, ◌<◌, ◌≤◌, List, [], ◌++◌, length, take, drop, refl, sym, ap, ◌∙◌, append_assoc, arith, Option, Some, None, ◌-◌, take-add, length-drop, length-append, length-take}
+use Rattle.std.proofs.Common.{ℕ, ◌+◌, ◌<◌, ◌≤◌, List, [], ◌++◌, length, take, drop, refl, sym, ap, ◌∙◌, append_assoc, arith, Option}
+use Rattle.std.proofs.Common.{Some, None, ◌-◌, take-add, length-drop, length-append, length-take}
 use Rattle.std.proofs.lemmas.List.{take_rest}
 use Rattle.std.specs.Io.KnownBytes.{Consumes, Appends, Keeps}
 
@@ -32,10 +33,12 @@ Consumes-none None = tt
 Consumes-none (Some a) = refl
 
 -- a write of n bytes of what stands from `at` on
-pub Appends-rest : (a b c : Option (List ℕ)) (bytes : List ℕ) (at n : ℕ) → Appends a b (take at bytes) → Appends b c (take n (take (length bytes - at) (drop at bytes))) → Appends a c (take (at + n) bytes)
+pub Appends-rest : (a b c : Option (List ℕ)) (bytes : List ℕ) (at n : ℕ) → Appends a b (take at bytes)
+    → Appends b c (take n (take (length bytes - at) (drop at bytes))) → Appends a c (take (at + n) bytes)
 Appends-rest a b c bytes at n p q = rw take-add (Appends-append a b c (take at bytes) (take n (drop at bytes)) p (rw take_rest at q))
 
-pub within_rest : (bytes : List ℕ) (at n : ℕ) → at ≤ length bytes → n ≤ length (take (length bytes - at) (drop at bytes)) → at + n ≤ length bytes
+pub within_rest : (bytes : List ℕ) (at n : ℕ) → at ≤ length bytes → n ≤ length (take (length bytes - at) (drop at bytes))
+    → at + n ≤ length bytes
 within_rest bytes at n h k = let j = rw take_rest at k in omega (arith, length-drop at bytes, j)
 
 pub taken_more : (xs out : List ℕ) (n limit : ℕ) → n ≤ length out → limit < length xs + n → limit < length (xs ++ take n out)

@@ -1,5 +1,6 @@
 //! A source and a sink in memory, which fail at the calls that are named to them.
-ghost use Rattle.std.specs.Prelude.{◌≡◌, ◌≤◌, if◌then◌else◌, ◌<◌, ◌^◌, ◌==◌, ◌||◌, ◌++◌, [], false, true, length, take, drop, min, is_err, IfOk, OnOk, OnErr, Some, nat_lt, ◌&&◌, ◌-◌};
+ghost use Rattle.std.specs.Prelude.{◌≡◌, ◌≤◌, if◌then◌else◌, ◌<◌, ◌^◌, ◌==◌, ◌||◌, ◌++◌, [], false, true, length, take, drop, min};
+ghost use Rattle.std.specs.Prelude.{is_err, IfOk, OnOk, OnErr, Some, nat_lt, ◌&&◌, ◌-◌};
 ghost use Rattle.std.specs.Io.{ReadsAtMost, WritesAtMost};
 ghost use Rattle.std.specs.Io.KnownBytes.{ReadConsumes, WriteAppends};
 ghost use Rattle.eden_io.specs.Causes.{HasCause};

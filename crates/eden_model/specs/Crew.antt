@@ -1,6 +1,7 @@
 -- The processes of an active Eject, as lists: who waits for what, who holds which monitor, and which invocation may start.
 -- Classes and conditions are counted from 0, monitors and processes from 1.
-use Rattle.std.specs.Prelude.{◌≡◌, ◌≤◌, ℕ, zero, suc, ◌+◌, ◌-◌, ◌==◌, nat_lt, Bool, true, false, cond, not, List, [], ◌∷◌, ◌++◌, map, length, Option, None, Some, slice_get, slice_set, slice_index, replicate}
+use Rattle.std.specs.Prelude.{◌≡◌, ◌≤◌, ℕ, zero, suc, ◌+◌, ◌-◌, ◌==◌, nat_lt, Bool, true, false, cond, not, List, [], ◌∷◌, ◌++◌, map}
+use Rattle.std.specs.Prelude.{length, Option, None, Some, slice_get, slice_set, slice_index, replicate}
 use Rattle.std.specs.Ordering.{nat_cmp}
 use Rattle.eden_model.specs.Map.{with_item, is_none, first, rest, put_at, where_key, value_at}
 use Rattle.std.specs.List.{count_by, find, filter, filter_map, list_any}
@@ -194,7 +195,8 @@ abbrev pub declared_from : ℕ → ℕ → List (ℕ × Process)
 declared_from n zero = []
 declared_from n (suc more) = (n, record { serves = None; waits = nothing }) ∷ declared_from (n + 1) more
 
--- how an active part is laid out: the limits of the classes, the numbers of declared processes and of monitors, and the monitors of the conditions
+-- how an active part is laid out: the limits of the classes, the numbers of declared processes and of monitors, and the monitors of the
+-- conditions
 pub record Setup : Type 0 where
   pub limits : List ℕ
   pub declared : ℕ

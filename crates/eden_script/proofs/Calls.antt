@@ -1,14 +1,20 @@
 -- The laws of calls.
-use Rattle.std.proofs.Common.{◌≡◌, ◌∙◌, ap, sym, refl, subst, ℕ, zero, suc, ◌≤◌, ◌==◌, Bool, true, false, cond, List, [], ◌∷◌, ◌++◌, length, drop, codes, Option, Some, None, Ok, Err, inl, inr, arith}
+use Rattle.std.proofs.Common.{◌≡◌, ◌∙◌, ap, sym, refl, subst, ℕ, zero, suc, ◌≤◌, ◌==◌, Bool, true, false, cond, List, [], ◌∷◌, ◌++◌}
+use Rattle.std.proofs.Common.{length, drop, codes, Option, Some, None, Ok, Err, inl, inr, arith}
 use Rattle.std.specs.Prelude.{nat_le, ◌||◌}
 use Rattle.std.proofs.lemmas.Bool.{leb-true, lt-leb, and_parts, and_right}
 use Rattle.eden_script.specs.Form.{is_lower, is_upper, is_digit, is_name_byte, number_of}
 use Rattle.eden_script.specs.Tree.{WrittenRef, WrittenArg, Row, row_of, size, row_depth, WrittenCommand, call}
 use Rattle.eden_script.specs.Grammar.{Command}
 use Rattle.eden_script.specs.Causes.{ResultFits, RowFits}
-use Rattle.eden_script.specs.Reading.{Judged, Reading, Maybe, ◌>>=◌, form_of, behind, read_word, read_lower, read_lower_and_blank, read_upper, read_digits, read_end, read_text, short_text, text_body, has_result, read_ref, is_value_word, allowed, read_flat, added, read_close, more_by, more_values, closed_by, read_values, list_by, read_value, within, reference, result_within, in_range, read_call, read_command}
+use Rattle.eden_script.specs.Reading.{Judged, Reading, Maybe, ◌>>=◌, form_of, behind, read_word, read_lower, read_lower_and_blank}
+use Rattle.eden_script.specs.Reading.{read_upper, read_digits, read_end, read_text, short_text, text_body, has_result, read_ref}
+use Rattle.eden_script.specs.Reading.{is_value_word, allowed, read_flat, added, read_close, more_by, more_values, closed_by, read_values}
+use Rattle.eden_script.specs.Reading.{list_by, read_value, within, reference, result_within, in_range, read_call, read_command}
 use Rattle.eden_script.specs.declared.cause.ScriptCause.TheVariants.{BadForm, BadNumber}
-use Rattle.eden_script.proofs.Rules.{Judges, OnlyForm, only_bind, only_form_of, only_cond, only_word, only_end, only_while, only_digits, form_then, range_then, only_lower_and_blank, lower_and_blank_takes, lower_and_blank_again, within_yes, within_no, within_cases}
+use Rattle.eden_script.proofs.Rules.{Judges, OnlyForm, only_bind, only_form_of, only_cond, only_word, only_end, only_while, only_digits}
+use Rattle.eden_script.proofs.Rules.{form_then, range_then, only_lower_and_blank, lower_and_blank_takes, lower_and_blank_again}
+use Rattle.eden_script.proofs.Rules.{within_yes, within_no, within_cases}
 use Rattle.eden_script.proofs.Pieces.{upper_takes, upper_again, end_takes, word_takes}
 use Rattle.eden_script.proofs.Values.{AllFit, reference_of, ref_sound, values_sound, value_sound}
 use Rattle.eden_script.proofs.Wholes.{RefAgain, ref_again}
@@ -132,8 +138,46 @@ call_sound most bytes =
     let V = values_sound true 4 (read_value true 4) (value_sound true 4) (codes ")") 4096 q vs.0 vs.1 e6 in
     let close : q ≡ V.front ++ codes ")" = V.whole ∙ ap (λ (l : List ℕ). V.front ++ (codes ")" ++ l)) (end_takes vs.1 u e7) in
     let o : WrittenCommand = call n.0 (reference_of r.0) op.0 (row_of V.items_in) in
-    let s : Spelled line o =
-    ((codes "call ", bytes, refl, (n.0, 32 ∷ n.1, (refl, N.1), (codes " ", n.1, refl, (R.front, r.1, R.spelled, (codes ".", p, refl, (op.0, op.1, (refl, T.1), (codes "(", q, refl, (V.front, codes ")", V.spelled, refl, close), word_takes (codes "(") op.1 q e5), T.0), word_takes (codes ".") r.1 p e3), R.whole), refl), N.0), refl), V.shallow) in
+    let s : Spelled line o = (
+      (
+        codes "call ",
+        bytes,
+        refl,
+        (
+          n.0,
+          32 ∷ n.1,
+          (refl, N.1),
+          (
+            codes " ",
+            n.1,
+            refl,
+            (
+              R.front,
+              r.1,
+              R.spelled,
+              (
+                codes ".",
+                p,
+                refl,
+                (
+                  op.0,
+                  op.1,
+                  (refl, T.1),
+                  (codes "(", q, refl, (V.front, codes ")", V.spelled, refl, close), word_takes (codes "(") op.1 q e5),
+                  T.0,
+                ),
+                word_takes (codes ".") r.1 p e3,
+              ),
+              R.whole,
+            ),
+            refl,
+          ),
+          N.0,
+        ),
+        refl,
+      ),
+      V.shallow,
+    ) in
     reference_then G S r.0 _ (o, s) (λ fits.
     range_then G S vs.0 _ (o, s) (λ args e8.
     let A : AllFit (Some args) V.items_in = subst (λ o. AllFit o V.items_in) e8 V.fit in

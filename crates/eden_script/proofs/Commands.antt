@@ -4,9 +4,12 @@ use Rattle.eden_script.specs.Form.{is_number, is_lower, is_upper, is_name_byte, 
 use Rattle.eden_script.specs.Tree.{WrittenCommand, turn, create}
 use Rattle.eden_script.specs.Grammar.{Number, Command, Holds}
 use Rattle.eden_script.specs.Causes.{Fits, Within}
-use Rattle.eden_script.specs.Reading.{Judged, Reading, ◌>>=◌, read_lower_and_blank, read_digits_and, read_upper, read_end, read_create, read_last_digits, within, read_turn, read_command}
+use Rattle.eden_script.specs.Reading.{Judged, Reading, ◌>>=◌, read_lower_and_blank, read_digits_and, read_upper, read_end, read_create}
+use Rattle.eden_script.specs.Reading.{read_last_digits, within, read_turn, read_command}
 use Rattle.eden_script.specs.declared.cause.ScriptCause.TheVariants.{BadForm, BadNumber}
-use Rattle.eden_script.proofs.Rules.{Judges, form_then, number_then, only_last_digits, last_takes, last_again, within_yes, within_cases, within_no, only_lower_and_blank, only_digits_and, only_while, only_end, lower_and_blank_takes, lower_and_blank_again, digits_and_takes, digits_and_again}
+use Rattle.eden_script.proofs.Rules.{Judges, form_then, number_then, only_last_digits, last_takes, last_again, within_yes, within_cases}
+use Rattle.eden_script.proofs.Rules.{within_no, only_lower_and_blank, only_digits_and, only_while, only_end, lower_and_blank_takes}
+use Rattle.eden_script.proofs.Rules.{lower_and_blank_again, digits_and_takes, digits_and_again}
 use Rattle.eden_script.proofs.Pieces.{upper_takes, upper_again, end_takes}
 
 abbrev pub Spelled : List ℕ → WrittenCommand → Type 0
@@ -76,8 +79,22 @@ create_sound most bytes =
     let D = digits_and_takes (codes " ") n.1 d.0 d.1 f in
     let T = upper_takes d.1 t.0 t.1 g in
     let last : d.1 ≡ t.0 = T.0 ∙ ap (λ (l : List ℕ). t.0 ++ l) (end_takes t.1 u h) ∙ append-nil t.0 in
-    let s : Spelled line (create n.0 (number_of d.0) t.0) =
-    ((codes "create ", bytes, refl, (n.0, 32 ∷ n.1, (refl, N.1), (codes " ", n.1, refl, (d.0, 32 ∷ d.1, (D.1, refl), (codes " ", d.1, refl, (last, T.1), refl), D.0), refl), N.0), refl), tt)
+    let s : Spelled line (create n.0 (number_of d.0) t.0) = (
+      (
+        codes "create ",
+        bytes,
+        refl,
+        (
+          n.0,
+          32 ∷ n.1,
+          (refl, N.1),
+          (codes " ", n.1, refl, (d.0, 32 ∷ d.1, (D.1, refl), (codes " ", d.1, refl, (last, T.1), refl), D.0), refl),
+          N.0,
+        ),
+        refl,
+      ),
+      tt,
+    )
     in
     number_then G S 1 most d.0 _ (create n.0 (number_of d.0) t.0, s) (λ w. (s, w))))))
 

@@ -1,5 +1,7 @@
 -- How the bytes of a script are cut.
-use Rattle.std.proofs.Common.{◌≡◌, ◌∙◌, ap, sym, refl, ℕ, suc, ◌+◌, ◌-◌, ◌<◌, ◌≤◌, Bool, true, false, cond, not, ◌==◌, ◌⊎◌, List, [], ◌∷◌, ◌++◌, length, take, drop, codes, inl, inr, arith, add-one, append_assoc, append-nil, length-append, drop_of_length-le}
+use Rattle.std.proofs.Common.{◌≡◌, ◌∙◌, ap, sym, refl, ℕ, suc, ◌+◌, ◌-◌, ◌<◌, ◌≤◌, Bool, true, false, cond, not, ◌==◌, ◌⊎◌, List, []}
+use Rattle.std.proofs.Common.{◌∷◌, ◌++◌, length, take, drop, codes, inl, inr, arith, add-one, append_assoc, append-nil, length-append}
+use Rattle.std.proofs.Common.{drop_of_length-le}
 use Rattle.std.specs.List.{list_all}
 use Rattle.std.proofs.lemmas.Bool.{cases_Bool, and_parts, and_from, eqb-true}
 use Rattle.std.proofs.lemmas.List.{take_all, take-append-le, length-take}
@@ -34,7 +36,12 @@ pub first_taken : (bytes : List ℕ) (n : ℕ) → n ≡ length (front bytes) �
     → IsFirstLine bytes (take n bytes) (take (length bytes - (n + 1)) (drop (n + 1) bytes))
 first_taken bytes n e h =
     rw (e, front_taken bytes, rest_whole (length (front bytes) + 1) bytes)
-    (record { clean = no_feeds bytes; split = inl (front_split bytes (omega (arith, e, h)) ∙ ap (λ (k : ℕ). front bytes ++ 10 ∷ drop k bytes) (sym (add-one (length (front bytes))))) })
+    (record {
+      clean = no_feeds bytes;
+      split = inl
+          (front_split bytes (omega (arith, e, h)) ∙ ap (λ (k : ℕ). front bytes ++ 10 ∷ drop k bytes)
+          (sym (add-one (length (front bytes)))));
+    })
 
 pub first_last : (bytes : List ℕ) (n : ℕ) → n ≡ length (front bytes) → length bytes ≤ n
     → IsFirstLine bytes bytes (take (length bytes - n) (drop n bytes))

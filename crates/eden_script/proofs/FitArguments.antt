@@ -1,5 +1,6 @@
 -- The arguments of a script are fit, and no capability is written in them.
-use Rattle.std.proofs.Common.{◌≡◌, ◌∙◌, ap, refl, subst, ℕ, zero, suc, ◌≤◌, ℤ, pos, negsuc, List, [], ◌∷◌, ◌++◌, map, length, Some, None, arith}
+use Rattle.std.proofs.Common.{◌≡◌, ◌∙◌, ap, refl, subst, ℕ, zero, suc, ◌≤◌, ℤ, pos, negsuc, List, [], ◌∷◌, ◌++◌, map, length, Some, None}
+use Rattle.std.proofs.Common.{arith}
 use Rattle.std.specs.Prelude.{FitsSigned}
 use Rattle.std.specs.Int.{w64}
 use Rattle.capability.specs.declared.Cap.{Cap}
@@ -46,7 +47,8 @@ mutual
   argument_fits (suc deep) (several gs) bytes h f shallow =
       (omega (arith, h.1, sizes gs), row_fits deep gs h.0.3.0 h.0.3.2 f (omega (arith, shallow)))
 
-  row_fits : (deep : ℕ) (gs : Arguments) (bytes : List ℕ) → Values (row_from gs) bytes → RowFits (row_from gs) → row_depth (row_from gs) ≤ deep
+  row_fits : (deep : ℕ) (gs : Arguments) (bytes : List ℕ) → Values (row_from gs) bytes → RowFits (row_from gs)
+      → row_depth (row_from gs) ≤ deep
       → AreArguments deep gs
   row_fits deep no_arguments bytes h f shallow = tt
   row_fits deep (argument_and g gs) bytes h f shallow =
@@ -62,7 +64,8 @@ pub same_row : (gs : List Argument) → row_of (map written_arg gs) ≡ row_from
 same_row [] = refl
 same_row (g ∷ gs) = ap (λ (r : Row). Rattle.eden_script.specs.Tree.and_more (written_arg g) r) (same_row gs)
 
-pub arguments_fit : (gs : List Argument) (bytes : List ℕ) → Values (row_of (map written_arg gs)) bytes → RowFits (row_of (map written_arg gs))
+pub arguments_fit : (gs : List Argument) (bytes : List ℕ) → Values (row_of (map written_arg gs)) bytes
+    → RowFits (row_of (map written_arg gs))
     → row_depth (row_of (map written_arg gs)) ≤ 4 → AreArguments 4 (arguments_of gs)
 arguments_fit gs bytes h f shallow =
     let e = same_row gs in

@@ -1,5 +1,6 @@
 -- The commands of a script ask for at most as many calls as its text has bytes.
-use Rattle.std.proofs.Common.{◌≡◌, ◌∙◌, ap, sym, subst, ℕ, suc, ◌+◌, ◌≤◌, ◌==◌, Bool, true, false, cond, List, [], ◌∷◌, ◌++◌, map, length, codes, arith, length-append}
+use Rattle.std.proofs.Common.{◌≡◌, ◌∙◌, ap, sym, subst, ℕ, suc, ◌+◌, ◌≤◌, ◌==◌, Bool, true, false, cond, List, [], ◌∷◌, ◌++◌, map}
+use Rattle.std.proofs.Common.{length, codes, arith, length-append}
 use Rattle.std.specs.Prelude.{◌||◌}
 use Rattle.std.specs.List.{sum_by}
 use Rattle.std.proofs.lemmas.List.Sums.{sum_by-cons}
@@ -144,8 +145,12 @@ does_few ps end seen n few o rest room more [] e = absurd (none_here o rest e)
 does_few ps end seen n few o rest room more (c ∷ cs) e =
     let this : o ≡ written_command c = sym (ap (head_or o) e) in
     let those : rest ≡ map written_command cs = sym (ap tail_of e) in
-    omega
-    (arith, sum_by-cons calls_of c cs, room c this, few (after seen (does o)) cs (subst (λ (os : List WrittenCommand). Says (after seen (does o)) ps os end) those more))
+    omega (
+      arith,
+      sum_by-cons calls_of c cs,
+      room c this,
+      few (after seen (does o)) cs (subst (λ (os : List WrittenCommand). Says (after seen (does o)) ps os end) those more),
+    )
 
 line_few : (ps : List Part) (end seen : Seen) (n : ℕ) → FewTo ps end → (l : Line)
     → ((c : Command) → l ≡ does (written_command c) → calls_of c ≤ n)

@@ -11,7 +11,8 @@ use Rattle.journal.specs.Argument.{arguments_of}
 use Rattle.journal.specs.Laws.{WritesNone}
 use Rattle.journal.specs.declared.command.Command.{Command}
 use Rattle.journal.specs.declared.command.Command.TheVariants as command
-use Rattle.journal.specs.Fit.{IsWord, ModeFits, introduced, referred, operation_named, type_named, NumbersFit, StationsDiffer, PathFits, ArgumentsFit, IsFitCommand}
+use Rattle.journal.specs.Fit.{IsWord, ModeFits, introduced, referred, operation_named, type_named, NumbersFit, StationsDiffer, PathFits}
+use Rattle.journal.specs.Fit.{ArgumentsFit, IsFitCommand}
 use Rattle.eden_script.specs.Form.{is_name_byte, starts_with, is_named}
 use Rattle.eden_script.specs.Tree.{does}
 use Rattle.eden_script.specs.Grammar as grammar

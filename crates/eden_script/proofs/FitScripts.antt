@@ -1,5 +1,6 @@
 -- What a text spells as a script is fit for a world.
-use Rattle.std.proofs.Common.{◌≡◌, ◌≢◌, ◌∙◌, ap, sym, refl, subst, ℕ, ◌≤◌, ◌<◌, ◌⊎◌, Bool, true, false, cond, List, [], ◌∷◌, ◌++◌, map, length, codes, inl, inr, arith, length-append}
+use Rattle.std.proofs.Common.{◌≡◌, ◌≢◌, ◌∙◌, ap, sym, refl, subst, ℕ, ◌≤◌, ◌<◌, ◌⊎◌, Bool, true, false, cond, List, [], ◌∷◌, ◌++◌, map}
+use Rattle.std.proofs.Common.{length, codes, inl, inr, arith, length-append}
 use Rattle.std.specs.List.{All, Contains, list_all, list_any}
 use Rattle.std.proofs.lemmas.List.{length-map}
 use Rattle.std.proofs.lemmas.List.Elements.{All-nil, All-cons, All-head, All-tail}
@@ -21,7 +22,8 @@ use Rattle.eden_script.specs.Meaning.{written_command}
 use Rattle.eden_script.specs.Names.{with_names}
 use Rattle.eden_script.specs.Script.{is_finish, after, commands_of, Says, IsScript}
 use Rattle.eden_script.specs.Reading.{is_idle}
-use Rattle.eden_script.specs.declared.cause.ScriptCause.TheVariants.{LongLine, AfterEnd, Misplaced, UnknownName, UnknownType, DoubledName, BadEdentype}
+use Rattle.eden_script.specs.declared.cause.ScriptCause.TheVariants.{LongLine, AfterEnd, Misplaced, UnknownName, UnknownType}
+use Rattle.eden_script.specs.declared.cause.ScriptCause.TheVariants.{DoubledName, BadEdentype}
 use Rattle.eden_script.proofs.TypeNames.{same_names}
 use Rattle.eden_script.proofs.Verdicts.{both, idle_false, begins_with, first_is_word, no_nodes, word_of}
 use Rattle.eden_script.proofs.Unique.{no_idle, one_line}
@@ -78,8 +80,10 @@ order_told seen bytes o h =
 
 nodes_told : (seen : Seen) (bytes : List ℕ) (n : ℕ) → IsSaid seen (line bytes) (nodes n) → Told seen (nodes n)
 nodes_told seen bytes n h =
-    let begins = begins_with _ _ bytes h.tells.0 in
-    (elim (h.passes 0 Misplaced) [ inl i ↦ absurd (idle_false bytes (ap is_idle begins) i) | inr x ↦ x.0 (ap first_word begins) ], h.tells.1)
+    let begins = begins_with _ _ bytes h.tells.0 in (
+      elim (h.passes 0 Misplaced) [ inl i ↦ absurd (idle_false bytes (ap is_idle begins) i) | inr x ↦ x.0 (ap first_word begins) ],
+      h.tells.1,
+    )
 
 line_told : (seen : Seen) (bytes : List ℕ) (l : Line) → IsSaid seen (line bytes) l → Told seen l
 line_told seen bytes idle h = tt

@@ -11,7 +11,8 @@ use Rattle.epl_syntax.specs.Rules.OfTypes.{broken_types, NamesDiffer, KeepRules,
 use Rattle.epl_syntax.proofs.KeptTypes.{all_push, distinct_push, native_kept}
 use Rattle.epl_parser.specs.Program.{SpellsType, AreInMonitors}
 use Rattle.journal.specs.declared.command.Script.{Script}
-use Rattle.eden_script.specs.Parts.{Part, line, declaration, unclosed, begins_type, ends_type, lines_of, parts_of, parts_behind, line_of_place}
+use Rattle.eden_script.specs.Parts.{Part, line, declaration, unclosed, begins_type, ends_type, lines_of, parts_of, parts_behind}
+use Rattle.eden_script.specs.Parts.{line_of_place}
 use Rattle.eden_script.specs.Tree.{WrittenCommand, Line, idle, nodes, does, declares, unended}
 use Rattle.eden_script.specs.Declarations.{Types, native_alone, with_declared, type_names}
 use Rattle.eden_script.specs.Causes.{Seen, at_first, IsSaid}

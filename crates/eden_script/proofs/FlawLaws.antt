@@ -1,5 +1,6 @@
 -- The first line of a part that fails a test, and that line's first test.
-use Rattle.std.proofs.Common.{◌≡◌, ◌∙◌, ap, sym, refl, subst, ℕ, zero, suc, ◌+◌, ◌<◌, ◌≤◌, ◌==◌, Bool, true, false, cond, not, ◌⊎◌, List, [], ◌∷◌, length, Option, Some, None, inl, inr, arith}
+use Rattle.std.proofs.Common.{◌≡◌, ◌∙◌, ap, sym, refl, subst, ℕ, zero, suc, ◌+◌, ◌<◌, ◌≤◌, ◌==◌, Bool, true, false, cond, not, ◌⊎◌, List}
+use Rattle.std.proofs.Common.{[], ◌∷◌, length, Option, Some, None, inl, inr, arith}
 use Rattle.std.specs.Prelude.{◌||◌, ◌&&◌, nat_lt, nat_le}
 use Rattle.std.specs.List.{list_all}
 use Rattle.std.proofs.lemmas.Bool.{cases_Bool, and_parts, eqb-true, eqb-false, ltb-true, ltb-false, leb-true, leb-false}
@@ -11,7 +12,9 @@ use Rattle.eden_script.specs.Tree.{declares, unended}
 use Rattle.eden_script.specs.Causes.{Seen, declared_count, Passes, rank, IsCause, IsSaid}
 use Rattle.eden_script.specs.Flaws.{Place, line_flaw, place_flaw, name_flaw', name_flaw, is_earlier, earlier, outer_flaw, with_text}
 use Rattle.eden_script.specs.declared.cause.ScriptCause.{ScriptCause}
-use Rattle.eden_script.specs.declared.cause.ScriptCause.TheVariants.{BadByte, LongLine, AfterEnd, NoCommand, Misplaced, BadForm, BadNumber, UnknownName, UnknownType, DoubledName, BadEdentype, NoEnd}
+use Rattle.eden_script.specs.declared.cause.ScriptCause.TheVariants.{BadByte, LongLine, AfterEnd, NoCommand, Misplaced, BadForm}
+use Rattle.eden_script.specs.declared.cause.ScriptCause.TheVariants.{BadNumber, UnknownName, UnknownType, DoubledName, BadEdentype}
+use Rattle.eden_script.specs.declared.cause.ScriptCause.TheVariants.{NoEnd}
 use Rattle.eden_script.proofs.DeclarationLaws.{OneAnswer, one_place, never_both}
 
 both : true ≡ false → ⊥
@@ -360,7 +363,8 @@ module _ (seen : Seen) (text : List ℕ) where
           later place name same j line w =
               let e : found.0 ≡ place = ap (λ (p : ℕ × List ℕ). p.0) same in omega (arith, w, line, ap (line_of_place text) e)
       known false f =
-          λ i c k. named i c (λ place name h line. ap (λ (p : ℕ × List ℕ). is_among (type_names seen.types) p.1) (sym (same_found found (place, name) (sym e ∙ h))) ∙ f) k
+          λ i c k. named i c (λ place name h line. ap (λ (p : ℕ × List ℕ). is_among (type_names seen.types) p.1)
+          (sym (same_found found (place, name) (sym e ∙ h))) ∙ f) k
 
   pub name_first : First OfName seen (declaration text) (name_flaw seen.types text)
   name_first = name_by (declared_name text) refl

@@ -1,15 +1,19 @@
 -- The laws of a line's command.
-use Rattle.std.proofs.Common.{◌≡◌, ◌∙◌, ap, sym, refl, subst, ℕ, suc, ◌+◌, ◌≤◌, Bool, true, false, cond, List, ◌++◌, length, codes, Option, Some, None, Ok, Err, arith, length-append}
+use Rattle.std.proofs.Common.{◌≡◌, ◌∙◌, ap, sym, refl, subst, ℕ, suc, ◌+◌, ◌≤◌, Bool, true, false, cond, List, ◌++◌, length, codes}
+use Rattle.std.proofs.Common.{Option, Some, None, Ok, Err, arith, length-append}
 use Rattle.std.specs.Str.{bytes_eq}
 use Rattle.std.proofs.lemmas.Slice.Eq.{bytes_eq-Decides}
-use Rattle.eden_script.specs.Tree.{Row, no_more, and_more, size, WrittenCommand, create, hold, call, restrict, walk, turn, go, crash, restart, cut, join, fail, stop, finish}
+use Rattle.eden_script.specs.Tree.{Row, no_more, and_more, size, WrittenCommand, create, hold, call, restrict, walk, turn, go, crash}
+use Rattle.eden_script.specs.Tree.{restart, cut, join, fail, stop, finish}
 use Rattle.eden_script.specs.Grammar.{◌⋅◌, Values, Behind}
 use Rattle.eden_script.specs.Reading.{Judged, behind, when, read_command}
 use Rattle.eden_script.specs.declared.cause.ScriptCause.TheVariants.{BadForm}
 use Rattle.eden_script.proofs.Pieces.{behind_takes}
 use Rattle.eden_script.proofs.Commands.{Spelled, Sound, Whole, turn_sound, turn_whole, create_sound, create_whole}
 use Rattle.eden_script.proofs.Calls.{call_sound, call_whole}
-use Rattle.eden_script.proofs.Others.{go_sound, go_whole, restart_sound, restart_whole, fail_sound, fail_whole, cut_sound, cut_whole, join_sound, join_whole, hold_sound, hold_whole, restrict_sound, restrict_whole, walk_sound, walk_whole, crash_sound, crash_whole, stop_sound, stop_whole, end_whole}
+use Rattle.eden_script.proofs.Others.{go_sound, go_whole, restart_sound, restart_whole, fail_sound, fail_whole, cut_sound, cut_whole}
+use Rattle.eden_script.proofs.Others.{join_sound, join_whole, hold_sound, hold_whole, restrict_sound, restrict_whole, walk_sound}
+use Rattle.eden_script.proofs.Others.{walk_whole, crash_sound, crash_whole, stop_sound, stop_whole, end_whole}
 
 -- ## Every command
 

@@ -10,7 +10,9 @@ use Rattle.eden_script.specs.Alone.{as_written, row_written, Spells, Fits, IsRea
 use Rattle.eden_script.specs.Reading.{Judged, ◌>>=◌, read_value, read_end, in_range, read_alone, Maybe}
 use Rattle.eden_script.specs.View.{value_in, data_in}
 use Rattle.eden_script.specs.declared.cause.ScriptCause.{ScriptCause}
-use Rattle.eden_script.specs.declared.cause.ScriptCause.TheVariants.{BadByte, LongLine, AfterEnd, NoCommand, Misplaced, BadForm, BadNumber, UnknownName, UnknownType, DoubledName, BadEdentype, NoEnd}
+use Rattle.eden_script.specs.declared.cause.ScriptCause.TheVariants.{BadByte, LongLine, AfterEnd, NoCommand, Misplaced, BadForm}
+use Rattle.eden_script.specs.declared.cause.ScriptCause.TheVariants.{BadNumber, UnknownName, UnknownType, DoubledName, BadEdentype}
+use Rattle.eden_script.specs.declared.cause.ScriptCause.TheVariants.{NoEnd}
 use Rattle.eden_script.proofs.Values.{Fitting, Reads, value_sound}
 use Rattle.eden_script.proofs.Rows2.{none_left, none_right, some_name, value_again}
 use Rattle.eden_script.proofs.Rules.{OnlyForm}
@@ -120,8 +122,10 @@ spelled_by bytes found r =
 
 found_by : (bytes : List ℕ) (found : Maybe) (g : WrittenArg) → Fitting found g → as_written (value_in g) ≡ g → Spells bytes (value_in g)
     → read_alone bytes ≡ in_range found → Says bytes (in_range found)
-found_by bytes (Some v) g f back s e =
-    (subst (λ (h : WrittenArg). Spells bytes (value_in h)) (sym f.0) s, subst (λ (h : WrittenArg). Fits (value_in h)) (sym f.0) (subst WrittenFits (sym back) f.1))
+found_by bytes (Some v) g f back s e = (
+  subst (λ (h : WrittenArg). Spells bytes (value_in h)) (sym f.0) s,
+  subst (λ (h : WrittenArg). Fits (value_in h)) (sym f.0) (subst WrittenFits (sym back) f.1),
+)
 found_by bytes None g f back s e = ((value_in g, s), unfit bytes e)
 
 whole_by : (bytes : List ℕ) (m : Maybe) (rest : List ℕ) → read_value false 4 bytes ≡ Ok (m, rest)

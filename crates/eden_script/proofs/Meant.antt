@@ -7,7 +7,9 @@ use Rattle.journal.specs.Argument.{Argument, Arguments}
 use Rattle.journal.specs.declared.command.Ref.{Ref}
 use Rattle.journal.specs.declared.command.Command.{Command}
 use Rattle.journal.specs.declared.command.Command.TheVariants as command
-use Rattle.eden_script.specs.Tree.{WrittenRef, WrittenMode, keep, lose, garble, WrittenArg, plain, named, several, Row, no_more, and_more, row_of, WrittenCommand, create, hold, call, restrict, walk, turn, go, crash, restart, cut, join, fail, stop, finish}
+use Rattle.eden_script.specs.Tree.{WrittenRef, WrittenMode, keep, lose, garble, WrittenArg, plain, named, several, Row, no_more}
+use Rattle.eden_script.specs.Tree.{and_more, row_of, WrittenCommand, create, hold, call, restrict, walk, turn, go, crash, restart, cut}
+use Rattle.eden_script.specs.Tree.{join, fail, stop, finish}
 use Rattle.eden_script.specs.Meaning.{result_of, reference_of, written_arg, row_from, written_mode, written_command}
 
 abbrev result_back : Option ℕ → ℕ

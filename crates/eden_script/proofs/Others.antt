@@ -1,16 +1,24 @@
 -- The laws of the other commands.
-use Rattle.std.proofs.Common.{◌≡◌, ◌≢◌, ◌∙◌, ap, sym, refl, subst, ℕ, ◌==◌, Bool, true, false, cond, List, [], ◌∷◌, ◌++◌, length, codes, Option, Some, None, Ok, Err, inl, inr, arith, append-nil, append_assoc}
+use Rattle.std.proofs.Common.{◌≡◌, ◌≢◌, ◌∙◌, ap, sym, refl, subst, ℕ, ◌==◌, Bool, true, false, cond, List, [], ◌∷◌, ◌++◌, length, codes}
+use Rattle.std.proofs.Common.{Option, Some, None, Ok, Err, inl, inr, arith, append-nil, append_assoc}
 use Rattle.std.specs.Prelude.{nat_le}
 use Rattle.std.specs.Str.{bytes_eq}
 use Rattle.std.proofs.lemmas.Bool.{eqb-false, ne_eqb, cases_Bool, leb-true, leb-false}
 use Rattle.std.proofs.lemmas.Slice.Eq.{bytes_eq-Decides}
 use Rattle.eden_script.specs.Form.{starts_with, is_number, is_lower, is_digit, number_of, IsText, quoted}
-use Rattle.eden_script.specs.Tree.{WrittenRef, WrittenMode, keep, lose, garble, WrittenCommand, hold, restrict, walk, go, crash, restart, cut, join, fail, stop, finish}
+use Rattle.eden_script.specs.Tree.{WrittenRef, WrittenMode, keep, lose, garble, WrittenCommand, hold, restrict, walk, go, crash, restart}
+use Rattle.eden_script.specs.Tree.{cut, join, fail, stop, finish}
 use Rattle.eden_script.specs.Grammar.{◌⋅◌, Is, Number, Quoted, Mode, CrashMode, Command}
 use Rattle.eden_script.specs.Causes.{Fits, Within, ResultFits, HowFits}
-use Rattle.eden_script.specs.Reading.{Judged, Reading, ◌>>=◌, form_of, read_word, read_lower_and_blank, read_digits, read_digits_and, read_last_digits, read_two_digits, read_end, read_text, short_text, text_body, read_quoted, read_ref, within, up_to, reference, in_range, garbled, read_mode, read_crash_mode, two_stations, read_stations, read_hold, read_restrict, read_walk, read_go, read_crash, read_restart, read_cut, read_join, read_fail, read_stop, read_command}
+use Rattle.eden_script.specs.Reading.{Judged, Reading, ◌>>=◌, form_of, read_word, read_lower_and_blank, read_digits, read_digits_and}
+use Rattle.eden_script.specs.Reading.{read_last_digits, read_two_digits, read_end, read_text, short_text, text_body, read_quoted}
+use Rattle.eden_script.specs.Reading.{read_ref, within, up_to, reference, in_range, garbled, read_mode, read_crash_mode, two_stations}
+use Rattle.eden_script.specs.Reading.{read_stations, read_hold, read_restrict, read_walk, read_go, read_crash, read_restart, read_cut}
+use Rattle.eden_script.specs.Reading.{read_join, read_fail, read_stop, read_command}
 use Rattle.eden_script.specs.declared.cause.ScriptCause.TheVariants.{BadForm}
-use Rattle.eden_script.proofs.Rules.{OnlyForm, only_bind, only_word, only_end, only_digits, only_digits_and, only_last_digits, form_then, number_then, range_then, only_lower_and_blank, lower_and_blank_takes, lower_and_blank_again, digits_and_takes, digits_and_again, last_takes, last_again, within_yes, within_no, within_cases}
+use Rattle.eden_script.proofs.Rules.{OnlyForm, only_bind, only_word, only_end, only_digits, only_digits_and, only_last_digits, form_then}
+use Rattle.eden_script.proofs.Rules.{number_then, range_then, only_lower_and_blank, lower_and_blank_takes, lower_and_blank_again}
+use Rattle.eden_script.proofs.Rules.{digits_and_takes, digits_and_again, last_takes, last_again, within_yes, within_no, within_cases}
 use Rattle.eden_script.proofs.Pieces.{bind_ok, same_ok, if_ok, digits_take, digits_again, end_takes, word_takes}
 use Rattle.eden_script.proofs.Texts.{text_takes}
 use Rattle.eden_script.proofs.Values.{reference_of, ref_sound, form_ok}
@@ -89,8 +97,11 @@ two_take bytes a b h =
     let first : x.0.0 ≡ a = ap (λ (p : List ℕ × List ℕ). p.0) s in
     let second : y.0 ≡ b = ap (λ (p : List ℕ × List ℕ). p.1) s in
     let D = digits_and_takes (codes " ") bytes x.0.0 x.0.1 x.1 in
-    let L = last_takes x.0.1 y.0 y.1 in
-    (D.0 ∙ ap (λ (l : List ℕ). x.0.0 ++ 32 ∷ l) (L.0 ∙ second) ∙ ap (λ (l : List ℕ). l ++ 32 ∷ b) first, ap is_number (sym first) ∙ D.1, ap is_number (sym second) ∙ L.1)
+    let L = last_takes x.0.1 y.0 y.1 in (
+      D.0 ∙ ap (λ (l : List ℕ). x.0.0 ++ 32 ∷ l) (L.0 ∙ second) ∙ ap (λ (l : List ℕ). l ++ 32 ∷ b) first,
+      ap is_number (sym first) ∙ D.1,
+      ap is_number (sym second) ∙ L.1,
+    )
 
 pub two_again : (a b : List ℕ) → is_number a ≡ true → is_number b ≡ true → read_two_digits (a ++ 32 ∷ b) ≡ Ok (a, b)
 two_again a b g h =
@@ -250,8 +261,34 @@ hold_sound most bytes =
     let D = digits_and_takes (codes ".") n.1 d.0 d.1 e2 in
     let E = digits_and_takes (codes ".") d.1 p.0 p.1 e3 in
     let o : WrittenCommand = hold n.0 (number_of d.0) (number_of p.0) (number_of z) in
-    let s : Spelled line o =
-    ((codes "hold ", bytes, refl, (n.0, 32 ∷ n.1, (refl, N.1), (codes " ", n.1, refl, (d.0, 46 ∷ d.1, (D.1, refl), (codes ".", d.1, refl, (p.0, 46 ∷ p.1, (E.1, refl), (codes ".", p.1, refl, number_is p.1 z e4, refl), E.0), refl), D.0), refl), N.0), refl), tt)
+    let s : Spelled line o = (
+      (
+        codes "hold ",
+        bytes,
+        refl,
+        (
+          n.0,
+          32 ∷ n.1,
+          (refl, N.1),
+          (
+            codes " ",
+            n.1,
+            refl,
+            (
+              d.0,
+              46 ∷ d.1,
+              (D.1, refl),
+              (codes ".", d.1, refl, (p.0, 46 ∷ p.1, (E.1, refl), (codes ".", p.1, refl, number_is p.1 z e4, refl), E.0), refl),
+              D.0,
+            ),
+            refl,
+          ),
+          N.0,
+        ),
+        refl,
+      ),
+      tt,
+    )
     in
     number_then G S 1 most d.0 _ (o, s)
     (λ w. number_then G S 1 4294967295 p.0 _ (o, s) (λ x. number_then G S 1 4294967295 z _ (o, s) (λ y. (s, (w, x, y)))))))))
@@ -312,8 +349,34 @@ restrict_sound most bytes =
     let N = lower_and_blank_takes bytes n.0 n.1 e1 in
     let R = ref_sound n.1 r.0 r.1 e2 in
     let o : WrittenCommand = restrict n.0 (reference_of r.0) (number_of d) in
-    let s : Spelled line o =
-    ((codes "restrict ", bytes, refl, (n.0, 32 ∷ n.1, (refl, N.1), (codes " ", n.1, refl, (R.front, r.1, R.spelled, (codes " ", p, refl, number_is p d e4, word_takes (codes " ") r.1 p e3), R.whole), refl), N.0), refl), tt)
+    let s : Spelled line o = (
+      (
+        codes "restrict ",
+        bytes,
+        refl,
+        (
+          n.0,
+          32 ∷ n.1,
+          (refl, N.1),
+          (
+            codes " ",
+            n.1,
+            refl,
+            (
+              R.front,
+              r.1,
+              R.spelled,
+              (codes " ", p, refl, number_is p d e4, word_takes (codes " ") r.1 p e3),
+              R.whole,
+            ),
+            refl,
+          ),
+          N.0,
+        ),
+        refl,
+      ),
+      tt,
+    )
     in
     reference_then G S r.0 _ (o, s) (λ f. number_then G S 0 65535 d _ (o, s) (λ w. (s, (f, w))))))))
 
@@ -398,8 +461,34 @@ walk_sound most bytes =
     let T = quoted_takes p t.0 t.1 e4 in
     let whole : T.0 ≡ p = sym (T.2 ∙ ap (λ (l : List ℕ). T.0 ++ l) (end_takes t.1 u e5) ∙ append-nil T.0) in
     let o : WrittenCommand = walk n.0 (reference_of r.0) t.0 in
-    let s : Spelled line o =
-    ((codes "walk ", bytes, refl, (n.0, 32 ∷ n.1, (refl, N.1), (codes " ", n.1, refl, (R.front, r.1, R.spelled, (codes " ", p, refl, subst (Quoted t.0) whole T.1, word_takes (codes " ") r.1 p e3), R.whole), refl), N.0), refl), tt)
+    let s : Spelled line o = (
+      (
+        codes "walk ",
+        bytes,
+        refl,
+        (
+          n.0,
+          32 ∷ n.1,
+          (refl, N.1),
+          (
+            codes " ",
+            n.1,
+            refl,
+            (
+              R.front,
+              r.1,
+              R.spelled,
+              (codes " ", p, refl, subst (Quoted t.0) whole T.1, word_takes (codes " ") r.1 p e3),
+              R.whole,
+            ),
+            refl,
+          ),
+          N.0,
+        ),
+        refl,
+      ),
+      tt,
+    )
     in
     reference_then G S r.0 _ (o, s) (λ f. (s, f)))))))
 
@@ -459,8 +548,11 @@ garble_read : (bytes : List ℕ) (m : Option WrittenMode)
     → ModeIs Mode bytes m
 garble_read bytes m h =
     let a = bind_ok (read_word (codes " garble ") bytes) (λ rest. read_last_digits rest >>= λ d. Ok (garbled (up_to 255 d))) m h in
-    let b = bind_ok (read_last_digits a.0) (λ d. Ok (garbled (up_to 255 d))) m a.2 in
-    (garble (number_of b.0), (codes " garble ", a.0, refl, number_is a.0 b.0 b.1, word_takes (codes " garble ") bytes a.0 a.1), subst (λ m. FitsHow m (garble (number_of b.0))) (same_ok _ m b.2) (garble_fits b.0))
+    let b = bind_ok (read_last_digits a.0) (λ d. Ok (garbled (up_to 255 d))) m a.2 in (
+      garble (number_of b.0),
+      (codes " garble ", a.0, refl, number_is a.0 b.0 b.1, word_takes (codes " garble ") bytes a.0 a.1),
+      subst (λ m. FitsHow m (garble (number_of b.0))) (same_ok _ m b.2) (garble_fits b.0),
+    )
 
 mode_by : (bytes : List ℕ) (m : Option WrittenMode) (x y : Bool) → bytes_eq bytes (codes " keep") ≡ x → bytes_eq bytes (codes " lose") ≡ y
     → cond x (Ok (Some keep))
@@ -506,8 +598,12 @@ mode_again : (how : WrittenMode) (bytes : List ℕ) → Mode how bytes → ModeA
 mode_again keep bytes h = (Some keep, ap read_mode h, (refl, tt))
 mode_again lose bytes h = (Some lose, ap read_mode h, (refl, tt))
 mode_again (garble b) bytes h =
-    let line : bytes ≡ codes " garble " ++ h.1 = h.4 ∙ ap (λ (l : List ℕ). l ++ h.1) h.2 in
-    (garbled (up_to 255 h.1), ap read_mode line ∙ ap (λ (r : Judged (List ℕ)). r >>= λ d. Ok (garbled (up_to 255 d))) (last_again h.1 h.3.0), subst (λ n. FitsHow (garbled (up_to 255 h.1)) (garble n)) h.3.1 (garble_fits h.1))
+    let line : bytes ≡ codes " garble " ++ h.1 = h.4 ∙ ap (λ (l : List ℕ). l ++ h.1) h.2 in (
+      garbled (up_to 255 h.1),
+      ap read_mode line ∙ ap (λ (r : Judged (List ℕ)). r >>= λ d. Ok (garbled (up_to 255 d)))
+          (last_again h.1 h.3.0),
+      subst (λ n. FitsHow (garbled (up_to 255 h.1)) (garble n)) h.3.1 (garble_fits h.1),
+    )
 
 -- a mode begins with a blank
 mode_stops : (how : WrittenMode) (bytes : List ℕ) → Mode how bytes → starts_with is_digit bytes ≡ false
@@ -589,8 +685,16 @@ stop_sound most bytes =
     let K = digits_take d.1 k.0 k.1 e2 in
     let M = mode_takes k.1 m e3 in
     let o : WrittenCommand = stop (number_of d.0) (number_of k.0) M.0 in
-    let s : Spelled line o =
-    ((codes "stop ", bytes, refl, (d.0, 32 ∷ d.1, (D.1, refl), (codes " ", d.1, refl, (k.0, k.1, (K.1, refl), M.1, K.0), refl), D.0), refl), tt)
+    let s : Spelled line o = (
+      (
+        codes "stop ",
+        bytes,
+        refl,
+        (d.0, 32 ∷ d.1, (D.1, refl), (codes " ", d.1, refl, (k.0, k.1, (K.1, refl), M.1, K.0), refl), D.0),
+        refl,
+      ),
+      tt,
+    )
     in
     number_then G S 1 most d.0 _ (o, s) (λ w. number_then G S 1 1000000 k.0 _ (o, s) (λ x. range_then G S m _ (o, s) (λ how e4.
     let F : FitsHow (Some how) M.0 = subst (λ m. FitsHow m M.0) e4 M.2 in

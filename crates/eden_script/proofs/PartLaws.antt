@@ -1,5 +1,6 @@
 -- What the first part of some bytes says, or its first cause.
-use Rattle.std.proofs.Common.{◌≡◌, ◌∙◌, ap, refl, subst, ℕ, zero, suc, ◌<◌, ◌≤◌, Bool, true, false, cond, ◌==◌, List, [], ◌∷◌, length, take, Ok, Err, inl, inr, arith}
+use Rattle.std.proofs.Common.{◌≡◌, ◌∙◌, ap, refl, subst, ℕ, zero, suc, ◌<◌, ◌≤◌, Bool, true, false, cond, ◌==◌, List, [], ◌∷◌, length}
+use Rattle.std.proofs.Common.{take, Ok, Err, inl, inr, arith}
 use Rattle.std.specs.Prelude.{nat_lt}
 use Rattle.std.specs.List.{list_all, filter}
 use Rattle.std.proofs.lemmas.Bool.{cases_Bool, ltb-true, ltb-false}
@@ -14,7 +15,9 @@ use Rattle.eden_script.specs.View.{FailsBy}
 use Rattle.eden_script.specs.declared.flaw.Flaw.{Flaw}
 use Rattle.eden_script.specs.declared.flaw.Flaw.TheVariants as flaw
 use Rattle.eden_script.specs.declared.cause.ScriptCause.{ScriptCause}
-use Rattle.eden_script.specs.declared.cause.ScriptCause.TheVariants.{BadByte, LongLine, AfterEnd, NoCommand, Misplaced, BadForm, BadNumber, UnknownName, UnknownType, DoubledName, BadEdentype, NoEnd}
+use Rattle.eden_script.specs.declared.cause.ScriptCause.TheVariants.{BadByte, LongLine, AfterEnd, NoCommand, Misplaced, BadForm}
+use Rattle.eden_script.specs.declared.cause.ScriptCause.TheVariants.{BadNumber, UnknownName, UnknownType, DoubledName, BadEdentype}
+use Rattle.eden_script.specs.declared.cause.ScriptCause.TheVariants.{NoEnd}
 use Rattle.eden_script.proofs.Cutting.{part_line}
 use Rattle.eden_script.proofs.Verdicts.{Verdict, IsLine, IsLineCause, judged}
 

@@ -1,5 +1,6 @@
 -- What the parts of a line are read from, and that they are read again.
-use Rattle.std.proofs.Common.{◌≡◌, ◌∙◌, ap, sym, refl, ℕ, Bool, true, false, cond, List, [], ◌∷◌, ◌++◌, length, take, drop, Option, Some, None, Ok, Err, take-append-drop}
+use Rattle.std.proofs.Common.{◌≡◌, ◌∙◌, ap, sym, refl, ℕ, Bool, true, false, cond, List, [], ◌∷◌, ◌++◌, length, take, drop, Option, Some}
+use Rattle.std.proofs.Common.{None, Ok, Err, take-append-drop}
 use Rattle.std.proofs.Math.Seq.{take-append_seam, drop-append_seam}
 use Rattle.std.specs.List.{take_while, prefix_len, list_all}
 use Rattle.std.specs.Str.{bytes_eq}
@@ -66,8 +67,10 @@ module _ (p : ℕ → Bool) where
     while_takes bytes x rest h =
         let q = if_ok (whole (take_while p bytes)) (take_while p bytes, drop (length (take_while p bytes)) bytes) (x, rest) h in
         let e : take_while p bytes ≡ x = ap (λ (t : List ℕ × List ℕ). t.0) q.1 in
-        let r : drop (length (take_while p bytes)) bytes ≡ rest = ap (λ (t : List ℕ × List ℕ). t.1) q.1 in
-        (sym (front_rest bytes) ∙ ap (λ (l : List ℕ). l ++ drop (length (take_while p bytes)) bytes) e ∙ ap (λ (l : List ℕ). x ++ l) r, ap whole (sym e) ∙ q.0)
+        let r : drop (length (take_while p bytes)) bytes ≡ rest = ap (λ (t : List ℕ × List ℕ). t.1) q.1 in (
+          sym (front_rest bytes) ∙ ap (λ (l : List ℕ). l ++ drop (length (take_while p bytes)) bytes) e ∙ ap (λ (l : List ℕ). x ++ l) r,
+          ap whole (sym e) ∙ q.0,
+        )
 
     pub while_again : (x rest : List ℕ) → list_all p x ≡ true → whole x ≡ true → starts_with p rest ≡ false
         → read_while p whole (x ++ rest) ≡ Ok (x, rest)

@@ -1,15 +1,18 @@
 -- What is spelled as a value, or as values in a row, is read.
-use Rattle.std.proofs.Common.{◌≡◌, ◌∙◌, ap, sym, refl, subst, ℕ, zero, suc, ℤ, pos, ◌≤◌, Bool, true, false, ◌==◌, ◌||◌, List, [], ◌∷◌, ◌++◌, codes, Option, Some, None, Ok, inl, inr, arith, append_assoc, append-nil}
+use Rattle.std.proofs.Common.{◌≡◌, ◌∙◌, ap, sym, refl, subst, ℕ, zero, suc, ℤ, pos, ◌≤◌, Bool, true, false, ◌==◌, ◌||◌, List, [], ◌∷◌}
+use Rattle.std.proofs.Common.{◌++◌, codes, Option, Some, None, Ok, inl, inr, arith, append_assoc, append-nil}
 use Rattle.std.proofs.lemmas.Bool.{and_parts, or_left, ne_eqb}
 use Rattle.eden_script.specs.Form.{starts_with, is_number, is_lower, number_of, quoted}
 use Rattle.eden_script.specs.Tree.{WrittenArg, plain, named, several, Row, no_more, and_more, row_of, size, depth, row_depth}
 use Rattle.eden_value.specs.Datum.{number, truth, text, cap, list}
 use Rattle.eden_script.specs.Grammar.{Refers, minus, Signed, truth_word, Value, Values, Behind}
 use Rattle.eden_script.specs.Causes.{names_in, names_of}
-use Rattle.eden_script.specs.Reading.{Judged, Reading, Maybe, ◌>>=◌, behind, read_flat, added, read_close, more_by, more_values, closed_by, read_values, listed, list_by, read_value}
+use Rattle.eden_script.specs.Reading.{Judged, Reading, Maybe, ◌>>=◌, behind, read_flat, added, read_close, more_by, more_values}
+use Rattle.eden_script.specs.Reading.{closed_by, read_values, listed, list_by, read_value}
 use Rattle.eden_script.proofs.Pieces.{word_again, behind_again}
 use Rattle.eden_script.proofs.Values.{Fitting, AllFit, added_fit, listed_fits}
-use Rattle.eden_script.proofs.Wholes.{Stops, Again, begins_flat, differ, no_mark, lower_begins, digit_begins, positive_again, negative_again, text_value_again, named_again, word_value_again}
+use Rattle.eden_script.proofs.Wholes.{Stops, Again, begins_flat, differ, no_mark, lower_begins, digit_begins, positive_again}
+use Rattle.eden_script.proofs.Wholes.{negative_again, text_value_again, named_again, word_value_again}
 
 abbrev pub begins : ℕ → Bool
 begins b = begins_flat b || b == 91
@@ -230,13 +233,21 @@ mutual
       → size gs ≤ suc left → row_depth gs ≤ n → Closes c → AllAgain names n left c gs (y ++ (c ∷ rest)) rest
   values_again names no_more n left c y rest h may few shallow closes =
       subst (λ (l : List ℕ). AllAgain names n left c no_more (l ++ (c ∷ rest)) rest) (sym h)
-      (record { found = Some []; read = ap (λ o. closed_by o (read_value names n (c ∷ rest) >>= λ x. more_values (read_value names n) (c ∷ []) left (added (Some []) x.0) x.1)) (behind_again (c ∷ []) rest); fit = (refl, tt) })
+      (record {
+        found = Some [];
+        read = ap (λ o. closed_by o
+            (read_value names n (c ∷ rest) >>= λ x. more_values (read_value names n) (c ∷ []) left (added (Some []) x.0) x.1))
+            (behind_again (c ∷ []) rest);
+        fit = (refl, tt);
+      })
   values_again names (and_more g gs) n left c y rest h may few shallow closes =
       subst (λ (l : List ℕ). AllAgain names n left c (and_more g gs) l rest)
       (sym (append_assoc h.0 h.1 (c ∷ rest)) ∙ ap (λ (l : List ℕ). l ++ (c ∷ rest)) (sym h.4))
       (first_more names n left c g gs h.0 h.1 rest closes (value_begins g h.0 h.2)
-      (value_again names g n h.0 (h.1 ++ (c ∷ rest)) h.2 (λ bare. none_left (names_in g) (names_of gs) (may bare)) (omega (arith, shallow)) (behind_stops c closes gs h.1 rest h.3))
-      (λ s b f. row_again names gs n left c s b h.1 rest h.3 (λ bare. none_right (names_in g) (names_of gs) (may bare)) (omega (arith, few)) (omega (arith, shallow)) closes f))
+      (value_again names g n h.0 (h.1 ++ (c ∷ rest)) h.2 (λ bare. none_left (names_in g) (names_of gs) (may bare))
+      (omega (arith, shallow)) (behind_stops c closes gs h.1 rest h.3))
+      (λ s b f. row_again names gs n left c s b h.1 rest h.3 (λ bare. none_right (names_in g) (names_of gs) (may bare))
+      (omega (arith, few)) (omega (arith, shallow)) closes f))
 
   pub row_again : (names : Bool) (gs : Row) (n left c : ℕ) (so_far : Option (List WrittenArg)) (before : List WrittenArg) (y rest : List ℕ)
       → Behind gs y → (names ≡ false → names_of gs ≡ []) → size gs ≤ left → row_depth gs ≤ n → Closes c → AllFit so_far before
@@ -256,5 +267,7 @@ mutual
       subst (λ (l : List ℕ). RowAgain names n (suc left) c so_far before (and_more g gs) l rest)
       (ap (λ (l : List ℕ). codes ", " ++ l) (sym (append_assoc p.0 p.1 (c ∷ rest))) ∙ ap (λ (l : List ℕ). l ++ (c ∷ rest)) (sym e))
       (one_more names n left c so_far before g gs p.0 p.1 rest fit
-      (value_again names g n p.0 (p.1 ++ (c ∷ rest)) p.2 (λ bare. none_left (names_in g) (names_of gs) (may bare)) (omega (arith, shallow)) (behind_stops c closes gs p.1 rest p.3))
-      (λ s b f. row_again names gs n left c s b p.1 rest p.3 (λ bare. none_right (names_in g) (names_of gs) (may bare)) (omega (arith, few)) (omega (arith, shallow)) closes f))
+      (value_again names g n p.0 (p.1 ++ (c ∷ rest)) p.2 (λ bare. none_left (names_in g) (names_of gs) (may bare))
+      (omega (arith, shallow)) (behind_stops c closes gs p.1 rest p.3))
+      (λ s b f. row_again names gs n left c s b p.1 rest p.3 (λ bare. none_right (names_in g) (names_of gs) (may bare))
+      (omega (arith, few)) (omega (arith, shallow)) closes f))

@@ -1,12 +1,17 @@
 -- How laws of the parts of a line go together.
-use Rattle.std.proofs.Common.{◌≡◌, ◌∙◌, ap, sym, refl, subst, ℕ, Bool, true, false, cond, List, [], ◌∷◌, ◌++◌, codes, Option, Some, None, Ok, Err, inl, inr, ◌⊎◌, arith, append-nil}
+use Rattle.std.proofs.Common.{◌≡◌, ◌∙◌, ap, sym, refl, subst, ℕ, Bool, true, false, cond, List, [], ◌∷◌, ◌++◌, codes, Option, Some, None}
+use Rattle.std.proofs.Common.{Ok, Err, inl, inr, ◌⊎◌, arith, append-nil}
 use Rattle.std.specs.Prelude.{nat_le}
 use Rattle.std.proofs.lemmas.Bool.{cases_Bool, leb-true, leb-false, le-leb}
 use Rattle.eden_script.specs.Form.{starts_with, is_name_byte, is_digit, is_lower, is_number, number_of}
 use Rattle.eden_script.specs.Causes.{Within}
-use Rattle.eden_script.specs.Reading.{Judged, Reading, ◌>>=◌, behind, form_of, read_word, read_end, read_while, read_digits, read_last_digits, read_digits_and, read_lower, read_lower_and_blank, at_least, within, in_range}
-use Rattle.eden_script.specs.declared.cause.ScriptCause.TheVariants.{BadByte, LongLine, AfterEnd, NoCommand, Misplaced, BadForm, BadNumber, UnknownName, UnknownType, DoubledName, BadEdentype, NoEnd}
-use Rattle.eden_script.proofs.Pieces.{bind_ok, same_ok, digits_take, digits_again, end_takes, word_takes, word_again, lower_takes, lower_again}
+use Rattle.eden_script.specs.Reading.{Judged, Reading, ◌>>=◌, behind, form_of, read_word, read_end, read_while, read_digits}
+use Rattle.eden_script.specs.Reading.{read_last_digits, read_digits_and, read_lower, read_lower_and_blank, at_least, within, in_range}
+use Rattle.eden_script.specs.declared.cause.ScriptCause.TheVariants.{BadByte, LongLine, AfterEnd, NoCommand, Misplaced, BadForm}
+use Rattle.eden_script.specs.declared.cause.ScriptCause.TheVariants.{BadNumber, UnknownName, UnknownType, DoubledName, BadEdentype}
+use Rattle.eden_script.specs.declared.cause.ScriptCause.TheVariants.{NoEnd}
+use Rattle.eden_script.proofs.Pieces.{bind_ok, same_ok, digits_take, digits_again, end_takes, word_takes, word_again, lower_takes}
+use Rattle.eden_script.proofs.Pieces.{lower_again}
 
 -- An answer is P, or its form is bad, or N holds and a number is bad.
 abbrev pub Judges : {B : Type 0} → (B → Type 0) → Type 0 → Judged B → Type 0
@@ -150,8 +155,11 @@ lower_and_blank_takes bytes n rest h =
     let t = lower_takes bytes a.0.0 a.0.1 a.1 in
     let s = same_ok (a.0.0, b.0) (n, rest) b.2 in
     let same : a.0.0 ≡ n = ap (λ (p : List ℕ × List ℕ). p.0) s in
-    let last : b.0 ≡ rest = ap (λ (p : List ℕ × List ℕ). p.1) s in
-    (t.0 ∙ ap (λ (l : List ℕ). a.0.0 ++ l) (word_takes (codes " ") a.0.1 b.0 b.1) ∙ ap (λ (l : List ℕ). l ++ 32 ∷ b.0) same ∙ ap (λ (l : List ℕ). n ++ 32 ∷ l) last, ap is_lower (sym same) ∙ t.1)
+    let last : b.0 ≡ rest = ap (λ (p : List ℕ × List ℕ). p.1) s in (
+      t.0 ∙ ap (λ (l : List ℕ). a.0.0 ++ l) (word_takes (codes " ") a.0.1 b.0 b.1) ∙ ap (λ (l : List ℕ). l ++ 32 ∷ b.0) same ∙ ap
+          (λ (l : List ℕ). n ++ 32 ∷ l) last,
+      ap is_lower (sym same) ∙ t.1,
+    )
 
 pub lower_and_blank_again : (n rest : List ℕ) → is_lower n ≡ true → read_lower_and_blank (n ++ 32 ∷ rest) ≡ Ok (n, rest)
 lower_and_blank_again n rest good =
@@ -165,8 +173,11 @@ digits_and_takes mark bytes d rest h =
     let t = digits_take bytes a.0.0 a.0.1 a.1 in
     let s = same_ok (a.0.0, b.0) (d, rest) b.2 in
     let same : a.0.0 ≡ d = ap (λ (p : List ℕ × List ℕ). p.0) s in
-    let last : b.0 ≡ rest = ap (λ (p : List ℕ × List ℕ). p.1) s in
-    (t.0 ∙ ap (λ (l : List ℕ). a.0.0 ++ l) (word_takes mark a.0.1 b.0 b.1) ∙ ap (λ (l : List ℕ). l ++ (mark ++ b.0)) same ∙ ap (λ (l : List ℕ). d ++ (mark ++ l)) last, ap is_number (sym same) ∙ t.1)
+    let last : b.0 ≡ rest = ap (λ (p : List ℕ × List ℕ). p.1) s in (
+      t.0 ∙ ap (λ (l : List ℕ). a.0.0 ++ l) (word_takes mark a.0.1 b.0 b.1) ∙ ap (λ (l : List ℕ). l ++ (mark ++ b.0)) same ∙ ap
+          (λ (l : List ℕ). d ++ (mark ++ l)) last,
+      ap is_number (sym same) ∙ t.1,
+    )
 
 pub digits_and_again : (mark d rest : List ℕ) → is_number d ≡ true → starts_with is_digit (mark ++ rest) ≡ false
     → read_digits_and mark (d ++ (mark ++ rest)) ≡ Ok (d, rest)

@@ -1,5 +1,6 @@
 -- How a script is read part by part.
-use Rattle.std.proofs.Common.{◌≡◌, ◌∙◌, ap, sym, refl, subst, ℕ, ◌+◌, true, false, List, [], ◌∷◌, ◌++◌, length, map, inl, inr, arith, append_assoc, append-nil}
+use Rattle.std.proofs.Common.{◌≡◌, ◌∙◌, ap, sym, refl, subst, ℕ, ◌+◌, true, false, List, [], ◌∷◌, ◌++◌, length, map, inl, inr, arith}
+use Rattle.std.proofs.Common.{append_assoc, append-nil}
 use Rattle.journal.specs.declared.command.Script.{Script}
 use Rattle.eden_script.specs.Parts.{Part, lines_of, parts_of, lines_in}
 use Rattle.eden_script.specs.Tree.{WrittenCommand, Line}
@@ -46,7 +47,8 @@ run_step bytes rest behind orders seen lines count l now next run first same the
       says =
           λ more end h. subst (λ (os : List WrittenCommand). Says at_first (parts_of (lines_of bytes)) os end)
           (sym (append_assoc orders (commands_of l) more))
-          (run.says (commands_of l ++ more) end (subst (λ (ps : List Part). Says seen ps (commands_of l ++ more) end) (sym first.1) (l, more, first.2, refl, h)));
+          (run.says (commands_of l ++ more) end (subst (λ (ps : List Part). Says seen ps (commands_of l ++ more) end) (sym first.1)
+          (l, more, first.2, refl, h)));
       bad = λ line cause h. subst (λ (n : ℕ). IsBadLine bytes n cause) (omega (arith, first.3))
           (run.bad (length (lines_in first.0) + line) cause (subst
           (λ (ps : List Part). IsBadIn seen ps (length (lines_in first.0) + line) cause) (sym first.1)
@@ -57,14 +59,26 @@ pub run_bad : (bytes rest : List ℕ) (orders : List WrittenCommand) (seen : See
     → Run bytes rest orders seen lines → FirstFails seen rest i cause → IsBadLine bytes (lines + i + 1) cause
 run_bad bytes rest orders seen lines i cause run first =
     subst (λ (n : ℕ). IsBadLine bytes n cause) (omega arith)
-    (run.bad (i + 1) cause (record { before = []; orders = []; end = seen; says = (refl, refl); bad = inl (first.0, first.1, i, first.2, omega arith, first.3) }))
+    (run.bad (i + 1) cause (record {
+      before = [];
+      orders = [];
+      end = seen;
+      says = (refl, refl);
+      bad = inl (first.0, first.1, i, first.2, omega arith, first.3);
+    }))
 
 pub run_no_end : (bytes rest : List ℕ) (orders : List WrittenCommand) (seen : Seen) (lines : ℕ) → Run bytes rest orders seen lines
     → rest ≡ []
     → seen.ended ≡ false → IsBadLine bytes (lines + 1) NoEnd
 run_no_end bytes rest orders seen lines run e open_ =
     run.bad 1 NoEnd
-    (record { before = []; orders = []; end = seen; says = (refl, refl); bad = inr (ap (λ (l : List ℕ). parts_of (lines_of l)) e, omega arith, open_, refl) })
+    (record {
+      before = [];
+      orders = [];
+      end = seen;
+      says = (refl, refl);
+      bad = inr (ap (λ (l : List ℕ). parts_of (lines_of l)) e, omega arith, open_, refl);
+    })
 
 pub run_end : (bytes rest : List ℕ) (orders : List WrittenCommand) (seen : Seen) (lines : ℕ) (s : Script) → Run bytes rest orders seen lines
     → rest ≡ [] → seen.ended ≡ true → orders ≡ map written_command s.commands → seen.types ≡ types_in s.types → seen.nodes ≡ s.nodes

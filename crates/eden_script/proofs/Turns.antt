@@ -1,7 +1,8 @@
 -- One turn of the loop over values.
 use Rattle.std.proofs.Common.{◌≡◌, ◌∙◌, ap, sym, Bool, ℕ, zero, suc, ◌-◌, ◌<◌, List, codes, Option, Some, None, Ok, Err, arith}
 use Rattle.eden_script.specs.Tree.{WrittenArg}
-use Rattle.eden_script.specs.Reading.{Reading, Maybe, ◌>>=◌, behind, more_by, more_values, added, read_close, read_values, read_value, read_flat, list_by, listed}
+use Rattle.eden_script.specs.Reading.{Reading, Maybe, ◌>>=◌, behind, more_by, more_values, added, read_close, read_values, read_value}
+use Rattle.eden_script.specs.Reading.{read_flat, list_by, listed}
 use Rattle.eden_script.specs.View.{Fails}
 use Rattle.eden_script.specs.declared.reader.Fault.{Fault}
 use Rattle.eden_script.specs.declared.reader.Fault.TheVariants.{Bad, Memory}
@@ -50,7 +51,8 @@ value_list names zero bytes rest r some e h = absurd (omega arith)
 value_list names (suc n) bytes rest r some e h =
     let one : suc n - 1 ≡ n = omega arith in
     ap
-    (λ o. list_by o (read_flat names bytes) (λ rest. read_values (read_value names n) (codes "]") 255 rest >>= λ x. Ok (listed x.0, x.1))) (sym
+    (λ o. list_by o (read_flat names bytes) (λ rest. read_values (read_value names n) (codes "]") 255 rest >>= λ x. Ok (listed x.0, x.1)))
+    (sym
     e)
     ∙ ap (λ (r : Reading (Option (List WrittenArg))). r >>= λ x. Ok (listed x.0, x.1))
     (ap (λ m. read_values (read_value names m) (codes "]") 255 rest) (sym one)

@@ -1,5 +1,6 @@
 -- What is read as a value is spelled so.
-use Rattle.std.proofs.Common.{◌≡◌, ◌∙◌, ap, sym, refl, subst, ℕ, zero, suc, pos, ◌<◌, ◌≤◌, Bool, true, false, cond, ◌==◌, List, [], ◌∷◌, ◌++◌, length, drop, codes, Option, Some, None, Ok, inl, inr, arith, append_assoc, append-nil}
+use Rattle.std.proofs.Common.{◌≡◌, ◌∙◌, ap, sym, refl, subst, ℕ, zero, suc, pos, ◌<◌, ◌≤◌, Bool, true, false, cond, ◌==◌, List, [], ◌∷◌}
+use Rattle.std.proofs.Common.{◌++◌, length, drop, codes, Option, Some, None, Ok, inl, inr, arith, append_assoc, append-nil}
 use Rattle.std.specs.Prelude.{nat_le}
 use Rattle.std.specs.Str.{bytes_eq}
 use Rattle.std.proofs.lemmas.Bool.{cases_Bool, leb-true, leb-false, eqb-true, eqb-false, and_parts, or_from}
@@ -9,7 +10,11 @@ use Rattle.eden_script.specs.Tree.{WrittenRef, WrittenArg, plain, named, several
 use Rattle.eden_value.specs.Datum.{number, truth, text, cap}
 use Rattle.eden_script.specs.Grammar.{Refers, minus, Value, Values, Behind}
 use Rattle.eden_script.specs.Causes.{IntFits, WrittenFits, RowFits, names_in, names_of}
-use Rattle.eden_script.specs.Reading.{Reading, Maybe, ◌>>=◌, form_of, behind, read_word, read_lower, read_digits, up_to, positive, negative, read_positive, read_negative, read_text, read_text_value, short_text, text_body, has_result, read_result, read_ref, result_value', name_value, name_value', named_value, is_value_word, allowed, read_named, read_flat, added, read_close, more_by, more_values, closed_by, read_values, listed, list_by, read_value}
+use Rattle.eden_script.specs.Reading.{Reading, Maybe, ◌>>=◌, form_of, behind, read_word, read_lower, read_digits, up_to, positive}
+use Rattle.eden_script.specs.Reading.{negative, read_positive, read_negative, read_text, read_text_value, short_text, text_body}
+use Rattle.eden_script.specs.Reading.{has_result, read_result, read_ref, result_value', name_value, name_value', named_value}
+use Rattle.eden_script.specs.Reading.{is_value_word, allowed, read_named, read_flat, added, read_close, more_by, more_values, closed_by}
+use Rattle.eden_script.specs.Reading.{read_values, listed, list_by, read_value}
 use Rattle.eden_script.proofs.Pieces.{bind_ok, same_ok, if_ok, behind_takes, word_takes, digits_take, lower_takes}
 use Rattle.eden_script.proofs.Texts.{text_takes}
 
@@ -150,8 +155,11 @@ result_sound name r w rest false e good h =
     same_ok ((name, None), r) (w, rest)
     (sym (ap (λ (z : Bool). cond z (read_digits (drop 1 r) >>= λ k. Ok ((name, Some k.0), k.1)) (Ok ((name, None), r))) e) ∙ h) in
     let same : (name, None) ≡ w = first_is s in
-    record
-    { front = name; spelled = subst (λ w. Refers (reference_of w) name) same (refl, good); whole = ap (λ (l : List ℕ). name ++ l) (second_is s) }
+    record {
+      front = name;
+      spelled = subst (λ w. Refers (reference_of w) name) same (refl, good);
+      whole = ap (λ (l : List ℕ). name ++ l) (second_is s);
+    }
 result_sound name r w rest true e good h =
     let g = sym (ap (λ (z : Bool). cond z (read_digits (drop 1 r) >>= λ k. Ok ((name, Some k.0), k.1)) (Ok ((name, None), r))) e) ∙ h in
     let a = bind_ok (read_digits (drop 1 r)) (λ k. Ok ((name, Some k.0), k.1)) (w, rest) g in
@@ -213,16 +221,26 @@ name_means name false true c good x y z =
     (plain (truth false), (bytes_eq-Decides name (codes "false")).0 y, omega arith, (refl, tt), λ _. refl)
 name_means name false false true good x y z =
     ((plain (cap None)), (bytes_eq-Decides name (codes "none")).0 z, omega arith, (refl, tt), λ _. refl)
-name_means name false false false good x y z =
-    (named (record { name = name; result = None }), ((refl, good), or_from _ _ x (or_from _ _ y z)), omega arith, (refl, tt), λ p. absurd (both (sym p ∙ or_from _ _ x (or_from _ _ y z))))
+name_means name false false false good x y z = (
+  named (record { name = name; result = None }),
+  ((refl, good), or_from _ _ x (or_from _ _ y z)),
+  omega arith,
+  (refl, tt),
+  λ p. absurd (both (sym p ∙ or_from _ _ x (or_from _ _ y z))),
+)
 
 named_means : (w : List ℕ × Option (List ℕ)) (front : List ℕ) → Refers (reference_of w) front
     → Means front (is_value_word w) (named_value w)
 named_means (name, None) front h =
     subst (λ (x : List ℕ). Means x (is_constant name) (name_value name)) (sym h.0)
     (name_means name (bytes_eq name (codes "true")) (bytes_eq name (codes "false")) (bytes_eq name (codes "none")) h.1 refl refl refl)
-named_means (name, Some d) front h =
-    (named (record { name = name; result = Some (number_of d) }), (h, tt), omega arith, result_fits name d (nat_le (number_of d) 8) refl, λ p. absurd (both (sym p)))
+named_means (name, Some d) front h = (
+  named (record { name = name; result = Some (number_of d) }),
+  (h, tt),
+  omega arith,
+  result_fits name d (nat_le (number_of d) 8) refl,
+  λ p. absurd (both (sym p)),
+)
 
 allowed_word : (names : Bool) (w : List ℕ × Option (List ℕ)) (u : Unit {0}) → allowed names w ≡ Ok u → names ≡ false
     → is_value_word w ≡ true
@@ -319,7 +337,8 @@ module _ (names : Bool) (most : ℕ) (V : List ℕ → Reading Maybe) (sound : S
   step_sound : (n : ℕ) (so_far : Option (List WrittenArg)) (before : List WrittenArg) (bytes : List ℕ) (all : Option (List WrittenArg))
       (rest : List ℕ)
       →
-      ((so_far : Option (List WrittenArg)) (before : List WrittenArg) (bytes : List ℕ) → AllFit so_far before → more_values V close n so_far bytes ≡ Ok (all, rest) → ReadsMore names most n close before bytes all rest)
+      ((so_far : Option (List WrittenArg)) (before : List WrittenArg) (bytes : List ℕ) → AllFit so_far before
+      → more_values V close n so_far bytes ≡ Ok (all, rest) → ReadsMore names most n close before bytes all rest)
       → AllFit so_far before → (o : Option (List ℕ)) → behind (codes ", ") bytes ≡ o → more_by o (read_close close so_far bytes)
       (λ rest. V rest >>= λ x. more_values V close n (added so_far x.0) x.1) ≡ Ok (all, rest) → ReadsMore names most (suc n) close before
       bytes all rest

@@ -1,18 +1,23 @@
 -- The laws of a line.
-use Rattle.std.proofs.Common.{◌≡◌, ◌∙◌, ap, sym, refl, subst, ℕ, ◌<◌, ◌==◌, Bool, true, false, cond, not, List, [], ◌∷◌, ◌++◌, length, codes, Ok, Err, inl, inr, arith}
+use Rattle.std.proofs.Common.{◌≡◌, ◌∙◌, ap, sym, refl, subst, ℕ, ◌<◌, ◌==◌, Bool, true, false, cond, not, List, [], ◌∷◌, ◌++◌, length}
+use Rattle.std.proofs.Common.{codes, Ok, Err, inl, inr, arith}
 use Rattle.std.specs.Prelude.{nat_lt}
 use Rattle.std.specs.List.{list_all, list_any}
 use Rattle.std.specs.Str.{bytes_eq}
 use Rattle.std.proofs.lemmas.Bool.{eqb-true, eqb-false, ltb-false, ltb-true, or_left, or_right, or_from, false_from_ne_true}
 use Rattle.std.proofs.lemmas.Slice.Eq.{bytes_eq-Decides}
 use Rattle.eden_script.specs.Form.{is_number, is_printable, is_among, number_of}
-use Rattle.eden_script.specs.Tree.{WrittenCommand, create, hold, call, restrict, walk, turn, go, crash, restart, cut, join, fail, stop, finish, Line, idle, nodes, does, declares, unended}
+use Rattle.eden_script.specs.Tree.{WrittenCommand, create, hold, call, restrict, walk, turn, go, crash, restart, cut, join, fail, stop}
+use Rattle.eden_script.specs.Tree.{finish, Line, idle, nodes, does, declares, unended}
 use Rattle.eden_script.specs.Grammar.{◌⋅◌, Is, Number, Command, Idle, Spells}
 use Rattle.eden_script.specs.Declarations.{type_names}
 use Rattle.eden_script.specs.Causes.{Seen, LineFits, first_word, command_words, uses, types, brings, LineTells, LinePasses, rank}
-use Rattle.eden_script.specs.Reading.{Judged, ◌>>=◌, read_word, read_last_digits, within, read_nodes, read_command, is_idle, named_in, judge_command, judge_word, judge}
+use Rattle.eden_script.specs.Reading.{Judged, ◌>>=◌, read_word, read_last_digits, within, read_nodes, read_command, is_idle, named_in}
+use Rattle.eden_script.specs.Reading.{judge_command, judge_word, judge}
 use Rattle.eden_script.specs.declared.cause.ScriptCause.{ScriptCause}
-use Rattle.eden_script.specs.declared.cause.ScriptCause.TheVariants.{BadByte, LongLine, AfterEnd, NoCommand, Misplaced, BadForm, BadNumber, UnknownName, UnknownType, DoubledName, BadEdentype, NoEnd}
+use Rattle.eden_script.specs.declared.cause.ScriptCause.TheVariants.{BadByte, LongLine, AfterEnd, NoCommand, Misplaced, BadForm}
+use Rattle.eden_script.specs.declared.cause.ScriptCause.TheVariants.{BadNumber, UnknownName, UnknownType, DoubledName, BadEdentype}
+use Rattle.eden_script.specs.declared.cause.ScriptCause.TheVariants.{NoEnd}
 use Rattle.eden_script.proofs.Pieces.{same_ok, word_takes}
 use Rattle.eden_script.proofs.Rules.{Judges, form_then, number_then, only_word, only_last_digits, last_again, last_takes}
 use Rattle.eden_script.proofs.Commands.{Sound, Whole}
@@ -224,7 +229,8 @@ module _ (seen : Seen) (bytes : List ℕ) (p : Placed seen bytes) where
   }
   named_by l tells one true true false e f g = record {
     passes =
-        λ c. table seen bytes 12 (λ _. p.printable) (λ _. p.short) (λ _. p.open_) (λ _. p.known) (λ _. p.placed) (λ _. (l, tells.0)) (λ _. (l, tells)) (λ _. (l, tells, e)) (λ _. (l, tells, f)) (λ _. (l, tells, g)) c (rank_small c);
+        λ c. table seen bytes 12 (λ _. p.printable) (λ _. p.short) (λ _. p.open_) (λ _. p.known) (λ _. p.placed) (λ _. (l, tells.0))
+        (λ _. (l, tells)) (λ _. (l, tells, e)) (λ _. (l, tells, f)) (λ _. (l, tells, g)) c (rank_small c);
     tells = tells;
   }
 
@@ -355,8 +361,13 @@ module _ (seen : Seen) (bytes : List ℕ) (printable : LinePasses BadByte seen b
   word_by false false true e f g =
       let apart : first_word bytes ≡ codes "nodes" → ⊥ = λ w. both (sym ((bytes_eq-Decides (first_word bytes) (codes "nodes")).1 w) ∙ e) in
       let p : Placed seen bytes =
-      record
-      { printable = printable; short = short; open_ = inr open_; known = inr (or_right _ _ g); placed = inr ((λ w. absurd (apart w)), (λ y. absurd (eqb-false seen.nodes 0 f y))) }
+      record {
+        printable = printable;
+        short = short;
+        open_ = inr open_;
+        known = inr (or_right _ _ g);
+        placed = inr ((λ w. absurd (apart w)), (λ y. absurd (eqb-false seen.nodes 0 f y)));
+      }
       in
       subst (Verdict seen bytes) (orders_named seen (read_command seen.nodes bytes))
       (read_by seen bytes p (as_line (read_command seen.nodes bytes))
@@ -366,7 +377,8 @@ idle_verdict : (seen : Seen) (bytes : List ℕ) → LinePasses BadByte seen byte
     → Verdict seen bytes (Ok idle)
 idle_verdict seen bytes printable short i = record {
   passes =
-      λ c. table seen bytes 12 (λ _. printable) (λ _. short) (λ _. inl i) (λ _. inl i) (λ _. inl i) (λ _. (idle, i)) (λ _. (idle, (i, tt))) (λ _. (idle, (i, tt), refl)) (λ _. (idle, (i, tt), refl)) (λ _. (idle, (i, tt), refl)) c (rank_small c);
+      λ c. table seen bytes 12 (λ _. printable) (λ _. short) (λ _. inl i) (λ _. inl i) (λ _. inl i) (λ _. (idle, i))
+      (λ _. (idle, (i, tt))) (λ _. (idle, (i, tt), refl)) (λ _. (idle, (i, tt), refl)) (λ _. (idle, (i, tt), refl)) c (rank_small c);
   tells = (i, tt);
 }
 

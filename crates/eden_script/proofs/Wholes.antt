@@ -1,5 +1,6 @@
 -- What is spelled as a value is read.
-use Rattle.std.proofs.Common.{◌≡◌, ◌∙◌, ap, sym, refl, subst, ℕ, pos, ◌≤◌, Bool, true, false, cond, ◌==◌, ◌&&◌, ◌||◌, List, [], ◌∷◌, ◌++◌, length, drop, codes, Option, Some, None, Ok, Err, arith, append_assoc, append-nil}
+use Rattle.std.proofs.Common.{◌≡◌, ◌∙◌, ap, sym, refl, subst, ℕ, pos, ◌≤◌, Bool, true, false, cond, ◌==◌, ◌&&◌, ◌||◌, List, [], ◌∷◌}
+use Rattle.std.proofs.Common.{◌++◌, length, drop, codes, Option, Some, None, Ok, Err, arith, append_assoc, append-nil}
 use Rattle.std.specs.Prelude.{nat_le}
 use Rattle.std.specs.Char.{is_ascii_lowercase}
 use Rattle.std.specs.Str.{bytes_eq}
@@ -9,7 +10,9 @@ use Rattle.eden_script.specs.Tree.{WrittenRef, WrittenArg, plain, named}
 use Rattle.eden_value.specs.Datum.{number, truth, text, cap}
 use Rattle.eden_script.specs.Grammar.{Refers, minus, Apart, Named}
 use Rattle.eden_script.specs.Causes.{WrittenFits}
-use Rattle.eden_script.specs.Reading.{Judged, Reading, Maybe, ◌>>=◌, form_of, behind, read_digits, up_to, positive, negative, read_positive, read_negative, read_text, read_text_value, short_text, has_result, read_result, read_ref, constant, name_value, name_value', named_value, allowed, read_named, read_flat}
+use Rattle.eden_script.specs.Reading.{Judged, Reading, Maybe, ◌>>=◌, form_of, behind, read_digits, up_to, positive, negative}
+use Rattle.eden_script.specs.Reading.{read_positive, read_negative, read_text, read_text_value, short_text, has_result, read_result}
+use Rattle.eden_script.specs.Reading.{read_ref, constant, name_value, name_value', named_value, allowed, read_named, read_flat}
 use Rattle.eden_script.specs.declared.cause.ScriptCause.TheVariants.{BadForm}
 use Rattle.eden_script.proofs.Pieces.{digits_again, lower_again}
 use Rattle.eden_script.proofs.Texts.{text_again}

@@ -7,7 +7,8 @@ pub use Rattle.journal.specs.Fit.{Within}
 use Rattle.eden_script.specs.Parts.{Part, line, declaration, unclosed, lines_of, line_at, line_of_place}
 use Rattle.eden_script.specs.Declarations.{DECLARED_LIMIT, Types, native_alone, type_names, declared_name, Declares, RefusedAt}
 use Rattle.eden_script.specs.Form.{is_printable, is_no_blank, is_among}
-use Rattle.eden_script.specs.Tree.{WrittenMode, keep, lose, garble, WrittenArg, plain, named, several, Row, no_more, and_more, WrittenCommand, create, hold}
+use Rattle.eden_script.specs.Tree.{WrittenMode, keep, lose, garble, WrittenArg, plain, named, several, Row, no_more, and_more}
+use Rattle.eden_script.specs.Tree.{WrittenCommand, create, hold}
 use Rattle.eden_script.specs.Tree.{call, restrict, walk, turn, go, crash, restart, cut, join, fail, stop, finish, Line, idle, nodes, does}
 use Rattle.eden_script.specs.Tree.{declares, unended}
 use Rattle.eden_value.specs.Datum.{Datum, number, truth, text, cap, list}

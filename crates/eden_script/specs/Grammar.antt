@@ -3,8 +3,10 @@ use Rattle.std.specs.Prelude.{◌≡◌, ◌≢◌, ◌⊎◌, ℕ, zero, suc, �
 use Rattle.std.specs.Prelude.{None}
 use Rattle.eden_script.specs.Form.{is_lower, is_upper, is_number, number_of, quoted, IsText, is_constant}
 use Rattle.eden_value.specs.Datum.{Datum, number, truth, text, cap, list}
-use Rattle.eden_script.specs.Tree.{WrittenRef, WrittenMode, keep, lose, garble, WrittenArg, plain, named, several, Row, no_more, and_more, size}
-use Rattle.eden_script.specs.Tree.{row_depth, WrittenCommand, create, hold, call, restrict, walk, turn, go, crash, restart, cut, join, fail, stop}
+use Rattle.eden_script.specs.Tree.{WrittenRef, WrittenMode, keep, lose, garble, WrittenArg, plain, named, several, Row, no_more}
+use Rattle.eden_script.specs.Tree.{and_more, size}
+use Rattle.eden_script.specs.Tree.{row_depth, WrittenCommand, create, hold, call, restrict, walk, turn, go, crash, restart, cut, join}
+use Rattle.eden_script.specs.Tree.{fail, stop}
 use Rattle.eden_script.specs.Tree.{finish, Line, idle, nodes, does, declares, unended}
 
 -- one form right behind another

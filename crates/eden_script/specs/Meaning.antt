@@ -7,8 +7,10 @@ use Rattle.journal.specs.Argument.{Argument, Arguments}
 use Rattle.journal.specs.declared.command.Ref.{Ref}
 use Rattle.journal.specs.declared.command.Command.{Command}
 use Rattle.journal.specs.declared.command.Command.TheVariants as command
-use Rattle.eden_script.specs.Tree.{WrittenRef, WrittenMode, keep, lose, garble, WrittenArg, plain, named, several, Row, no_more, and_more, row_of}
-use Rattle.eden_script.specs.Tree.{WrittenCommand, create, hold, call, restrict, walk, turn, go, crash, restart, cut, join, fail, stop, finish}
+use Rattle.eden_script.specs.Tree.{WrittenRef, WrittenMode, keep, lose, garble, WrittenArg, plain, named, several, Row, no_more}
+use Rattle.eden_script.specs.Tree.{and_more, row_of}
+use Rattle.eden_script.specs.Tree.{WrittenCommand, create, hold, call, restrict, walk, turn, go, crash, restart, cut, join, fail, stop}
+use Rattle.eden_script.specs.Tree.{finish}
 
 -- the result of a call, counted from 1, or a name alone
 abbrev pub result_of : ℕ → Option ℕ

@@ -4,7 +4,8 @@ use Rattle.std.specs.Prelude.{take, drop, codes, Option, Some, None, Result, Ok,
 use Rattle.std.specs.List.{take_while, list_all, list_any}
 use Rattle.std.specs.Str.{bytes_eq}
 use Rattle.eden_script.specs.Form.{is_printable, is_digit, is_name_byte, is_lower, is_upper, is_number, number_of, is_constant, is_among}
-use Rattle.eden_script.specs.Tree.{WrittenRef, WrittenMode, keep, lose, garble, WrittenArg, plain, named, several, row_of, WrittenCommand, create, hold, call}
+use Rattle.eden_script.specs.Tree.{WrittenRef, WrittenMode, keep, lose, garble, WrittenArg, plain, named, several, row_of}
+use Rattle.eden_script.specs.Tree.{WrittenCommand, create, hold, call}
 use Rattle.eden_script.specs.Tree.{restrict, walk, turn, go, crash, restart, cut, join, fail, stop, finish, Line, idle, nodes, does}
 use Rattle.eden_value.specs.Datum.{number, truth, text, cap}
 use Rattle.eden_script.specs.Grammar.{minus}

@@ -1,5 +1,6 @@
 -- A list cut at the elements that pass a test.
-use Rattle.std.proofs.Common.{◌≡◌, ℕ, suc, ◌+◌, ◌<◌, ◌≤◌, ◌-◌, ◌∙◌, Bool, true, false, nat_lt, position, Some, None, List, [], ◌∷◌, length, take, drop, refl, ap, arith, add-one}
+use Rattle.std.proofs.Common.{◌≡◌, ℕ, suc, ◌+◌, ◌<◌, ◌≤◌, ◌-◌, ◌∙◌, Bool, true, false, nat_lt, position, Some, None, List, [], ◌∷◌}
+use Rattle.std.proofs.Common.{length, take, drop, refl, ap, arith, add-one}
 use Rattle.std.proofs.lemmas.List.{take_rest}
 use Rattle.std.proofs.lemmas.Bool.{ltb-true}
 use Rattle.std.proofs.lemmas.Bool.Decides.{nat_tests}
@@ -13,7 +14,8 @@ pub split_within : {X : Type 0} (p : X → Bool) (xs : List X) → position_or_l
 split_within p [] h = absurd (omega arith)
 split_within {X = X} p (x ∷ xs) h = go (p x) refl (split_within p xs)
   where
-    go : (b : Bool) → p x ≡ b → (position_or_len p xs < length xs → CutAt p xs (position_or_len p xs)) → CutAt p (x ∷ xs) (position_or_len p (x ∷ xs))
+    go : (b : Bool) → p x ≡ b → (position_or_len p xs < length xs → CutAt p xs (position_or_len p xs))
+        → CutAt p (x ∷ xs) (position_or_len p (x ∷ xs))
     go true is more = rw is refl
     go false is more =
         let longer : position_or_len p (x ∷ xs) ≡ 1 + position_or_len p xs = rw is refl in
@@ -32,10 +34,12 @@ split_past {X = X} p (x ∷ xs) h = go (p x) refl (split_past p xs)
         let rest = more (omega arith) in
         rw is (ap (onto_first x) rest)
 
-pub split_some : {X : Type 0} (p : X → Bool) (xs : List X) (n : ℕ) → Some n ≡ position p xs → slice_split p xs ≡ take n xs ∷ slice_split p (take (length xs - (n + 1)) (drop (n + 1) xs))
+pub split_some : {X : Type 0} (p : X → Bool) (xs : List X) (n : ℕ) → Some n ≡ position p xs
+    → slice_split p xs ≡ take n xs ∷ slice_split p (take (length xs - (n + 1)) (drop (n + 1) xs))
 split_some p xs n is = go (nat_lt (position_or_len p xs) (length xs)) refl
   where
-    go : (b : Bool) → nat_lt (position_or_len p xs) (length xs) ≡ b → slice_split p xs ≡ take n xs ∷ slice_split p (take (length xs - (n + 1)) (drop (n + 1) xs))
+    go : (b : Bool) → nat_lt (position_or_len p xs) (length xs) ≡ b
+        → slice_split p xs ≡ take n xs ∷ slice_split p (take (length xs - (n + 1)) (drop (n + 1) xs))
     go true less =
         let same : Some n ≡ Some (position_or_len p xs) = is ∙ rw less refl in
         let at : n ≡ position_or_len p xs = cc in

@@ -1,5 +1,6 @@
 -- Commands in form fit a world of one node, and their names are found there.
-use Rattle.std.proofs.Common.{◌≡◌, ◌==◌, ◌&&◌, ◌||◌, ◌<◌, ◌≤◌, ◌+◌, not, ℕ, ℤ, Bool, true, false, List, [], ◌∷◌, ◌++◌, length, map, codes, Option, Some, None, refl, sym, ap, ◌∙◌, subst, arith, find, cond, nat_lt, nat_le}
+use Rattle.std.proofs.Common.{◌≡◌, ◌==◌, ◌&&◌, ◌||◌, ◌<◌, ◌≤◌, ◌+◌, not, ℕ, ℤ, Bool, true, false, List, [], ◌∷◌, ◌++◌, length, map}
+use Rattle.std.proofs.Common.{codes, Option, Some, None, refl, sym, ap, ◌∙◌, subst, arith, find, cond, nat_lt, nat_le}
 use Rattle.std.proofs.lemmas.Bool.{false≢true}
 use Rattle.std.proofs.lemmas.Bool.Decides.{nat_tests}
 use Rattle.std.proofs.lemmas.Option.{cond_some}
@@ -12,7 +13,9 @@ use Rattle.eden_shell.specs.declared.script.Command.TheVariants.{Create, Call, G
 use Rattle.eden_shell.specs.declared.script.Script.{Script}
 use Rattle.eden_shell.specs.declared.world.Binding.{Binding}
 use Rattle.eden_shell.specs.World.{named}
-use Rattle.eden_shell.specs.Form.{command_of, line_command, words_of, end_of, go_of, turns_of, call_of, invocation_of, operation_of, argument_of, applied_of, get_of, set_of, asked_of, create_of, integer_of, number_up_to, is_one, is_name, is_among, are_in_order, Spells, HaveForm}
+use Rattle.eden_shell.specs.Form.{command_of, line_command, words_of, end_of, go_of, turns_of, call_of, invocation_of, operation_of}
+use Rattle.eden_shell.specs.Form.{argument_of, applied_of, get_of, set_of, asked_of, create_of, integer_of, number_up_to, is_one}
+use Rattle.eden_shell.specs.Form.{is_name, is_among, are_in_order, Spells, HaveForm}
 use Rattle.eden_shell.specs.Steps.{Fits, names_after, AllFit, IsForBench, names_of}
 
 -- what a line's command says of its numbers
@@ -51,14 +54,17 @@ asked_counts name target operation argument c is = by (bytes_eq operation (codes
         value None is = none_counts c is
         value (Some v) is = from_some (asked_of name target operation (v ∷ [])) true c tt is
 
-    by : (b : Bool) → cond b (get_of name target operation argument) (cond (bytes_eq operation (codes "Set")) (set_of name target operation (integer_of argument)) None) ≡ Some c → Counts c
+    by : (b : Bool) → cond b (get_of name target operation argument)
+        (cond (bytes_eq operation (codes "Set")) (set_of name target operation (integer_of argument)) None) ≡ Some c → Counts c
     by true is = from_some (asked_of name target operation []) (length argument == 0) c tt is
     by false is = setting (bytes_eq operation (codes "Set")) is
 
-argument_counts : (name target operation : List ℕ) (pieces : List (List ℕ)) (c : Command) → argument_of name target operation pieces ≡ Some c → Counts c
+argument_counts : (name target operation : List ℕ) (pieces : List (List ℕ)) (c : Command)
+    → argument_of name target operation pieces ≡ Some c → Counts c
 argument_counts name target operation [] c is = none_counts c is
 argument_counts name target operation (argument ∷ []) c is = none_counts c is
-argument_counts name target operation (argument ∷ rest ∷ []) c is = from_cond (length rest == 0) (applied_of name target operation argument) c (asked_counts name target operation argument c) is
+argument_counts name target operation (argument ∷ rest ∷ []) c is = from_cond (length rest == 0)
+    (applied_of name target operation argument) c (asked_counts name target operation argument c) is
 argument_counts name target operation (argument ∷ rest ∷ more ∷ pieces) c is = none_counts c is
 
 operation_counts : (name target : List ℕ) (pieces : List (List ℕ)) (c : Command) → operation_of name target pieces ≡ Some c → Counts c
@@ -77,9 +83,11 @@ command_counts : (words : List (List ℕ)) (c : Command) → command_of words �
 unfolding command_of
 command_counts [] c is = none_counts c is
 command_counts (verb ∷ []) c is = from_some End (bytes_eq verb (codes "end")) c tt is
-command_counts (verb ∷ number ∷ []) c is = from_cond (bytes_eq verb (codes "go")) (turns_of (number_up_to 1000000 number)) c (go_counts (number_up_to 1000000 number) c) is
+command_counts (verb ∷ number ∷ []) c is = from_cond (bytes_eq verb (codes "go")) (turns_of (number_up_to 1000000 number)) c
+    (go_counts (number_up_to 1000000 number) c) is
 command_counts (verb ∷ name ∷ invoked ∷ []) c is =
-    from_cond (bytes_eq verb (codes "call") && is_name name) (invocation_of name (slice_split (λ b. b == 46) invoked)) c (invocation_counts name (slice_split (λ b. b == 46) invoked) c) is
+    from_cond (bytes_eq verb (codes "call") && is_name name) (invocation_of name (slice_split (λ b. b == 46) invoked)) c
+    (invocation_counts name (slice_split (λ b. b == 46) invoked) c) is
 command_counts (verb ∷ name ∷ node ∷ type_name ∷ []) c is = from_some (Create name 1 type_name) _ c refl is
 command_counts (verb ∷ name ∷ node ∷ type_name ∷ more ∷ words) c is = none_counts c is
 
@@ -91,13 +99,16 @@ both true b h = (refl, h)
 both false b h = absurd (false≢true h)
 
 -- commands in order fit behind those before them
-fit_in_order : (lines names ejects : List (List ℕ)) (commands : List Command) → map line_command lines ≡ map (λ c. Some c) commands → are_in_order names ejects commands ≡ true → AllFit ejects commands
+fit_in_order : (lines names ejects : List (List ℕ)) (commands : List Command) → map line_command lines ≡ map (λ c. Some c) commands
+    → are_in_order names ejects commands ≡ true → AllFit ejects commands
 fit_in_order lines names ejects [] said order = tt
 fit_in_order [] names ejects (c ∷ rest) said order = cc
 fit_in_order (line ∷ lines) names ejects (Create name node type_name ∷ rest) said order =
     let head : line_command line ≡ Some (Create name node type_name) = cc in
-    let tail : map line_command lines ≡ map (λ (c : Command). Some c) rest = cc in
-    (line_counts line (Create name node type_name) head, fit_in_order lines (names ++ name ∷ []) (ejects ++ name ∷ []) rest tail (both _ _ order).1)
+    let tail : map line_command lines ≡ map (λ (c : Command). Some c) rest = cc in (
+      line_counts line (Create name node type_name) head,
+      fit_in_order lines (names ++ name ∷ []) (ejects ++ name ∷ []) rest tail (both _ _ order).1,
+    )
 fit_in_order (line ∷ lines) names ejects (Call name target operation args ∷ rest) said order =
     let tail : map line_command lines ≡ map (λ (c : Command). Some c) rest = cc in
     let known = both _ _ (both _ _ order).1 in (known.0, fit_in_order lines (names ++ name ∷ []) ejects rest tail known.1)
@@ -106,10 +117,12 @@ fit_in_order (line ∷ lines) names ejects (Go n ∷ rest) said order =
     let tail : map line_command lines ≡ map (λ (c : Command). Some c) rest = cc in
     (line_counts line (Go n) head, fit_in_order lines names ejects rest tail order)
 fit_in_order (line ∷ lines) names ejects (End ∷ []) said order = (tt, tt)
-fit_in_order (line ∷ lines) names ejects (End ∷ c ∷ rest) said order = absurd (let long : (length (c ∷ rest) == 0) ≡ false = grind (arith, nat_tests) in false≢true (sym long ∙ order))
+fit_in_order (line ∷ lines) names ejects (End ∷ c ∷ rest) said order = absurd
+    (let long : (length (c ∷ rest) == 0) ≡ false = grind (arith, nat_tests) in false≢true (sym long ∙ order))
 
 pub bench_from_form : (bytes : List ℕ) (script : Script) → Spells bytes script → length script.commands ≤ 1048577 → IsForBench script
-bench_from_form bytes script spells few = record { one = spells.one; fit = fit_in_order spells.others [] [] script.commands spells.commands spells.form.order; few = few }
+bench_from_form bytes script spells few =
+    record { one = spells.one; fit = fit_in_order spells.others [] [] script.commands spells.commands spells.form.order; few = few }
 
 -- a name that was introduced is found
 pub named_there : (bindings : List Binding) (name : List ℕ) → is_among (names_of bindings) name ≡ true → None ≡ named name bindings → ⊥

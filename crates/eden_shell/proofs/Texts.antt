@@ -1,5 +1,6 @@
 -- Texts of the front of a history.
-use Rattle.std.proofs.Common.{◌≡◌, ◌≤◌, ℕ, List, [], ◌∷◌, ◌++◌, length, take, drop, get_or, map, refl, sym, ap, ◌∙◌, arith, Option, Result, Ok, Err, OnOk, OnErr, IsTrue, ◌↔◌, Bool, true, false, length-append}
+use Rattle.std.proofs.Common.{◌≡◌, ◌≤◌, ℕ, List, [], ◌∷◌, ◌++◌, length, take, drop, get_or, map, refl, sym, ap, ◌∙◌, arith, Option}
+use Rattle.std.proofs.Common.{Result, Ok, Err, OnOk, OnErr, IsTrue, ◌↔◌, Bool, true, false, length-append}
 use Rattle.std.proofs.lemmas.List.{take-append-drop, take-append-le}
 use Rattle.std.proofs.lemmas.List.Concat.{flat_map-append}
 use Rattle.std.proofs.Math.Seq.{take-append_seam}

@@ -1,5 +1,6 @@
 -- Lines that say no commands.
-use Rattle.std.proofs.Common.{◌≡◌, ◌<◌, ◌+◌, ◌≤◌, ℕ, zero, suc, List, [], ◌∷◌, Option, Some, None, length, get_or, map, sym, ◌∙◌, arith, refl, ap, subst, Bool, true, false}
+use Rattle.std.proofs.Common.{◌≡◌, ◌<◌, ◌+◌, ◌≤◌, ℕ, zero, suc, List, [], ◌∷◌, Option, Some, None, length, get_or, map, sym, ◌∙◌, arith}
+use Rattle.std.proofs.Common.{refl, ap, subst, Bool, true, false}
 use Rattle.std.proofs.lemmas.List.{length-map}
 use Rattle.std.specs.List.{slice_split, onto_first}
 use Rattle.eden_shell.specs.declared.script.Command.{Command}
@@ -10,7 +11,8 @@ pub unsaid : {X Y Z : Type 0} (f : Y → Option Z) (v : X → Y) (xs : List X) (
     → (cs : List Z) → map f (map v xs) ≡ map (λ c. Some c) cs → ⊥
 unsaid f v [] i d within none cs same = absurd (omega arith)
 unsaid {Z = Z} f v (x ∷ xs) i d within none [] same = cc
-unsaid {Z = Z} f v (x ∷ xs) zero d within none (c ∷ cs) same = let head : f (v x) ≡ Some c = cc in let bad : Some c ≡ None = sym head ∙ none in cc
+unsaid {Z = Z} f v (x ∷ xs) zero d within none (c ∷ cs) same = let head : f (v x) ≡ Some c = cc in
+    let bad : Some c ≡ None = sym head ∙ none in cc
 unsaid {Z = Z} f v (x ∷ xs) (suc i) d within none (c ∷ cs) same =
     let tail : map f (map v xs) ≡ map (λ (c : Z). Some c) cs = cc in unsaid f v xs i d (omega arith) none cs tail
 
@@ -27,7 +29,8 @@ few_pieces {X = X} p (x ∷ xs) = go (few_pieces p xs) (p x) refl
     go more true is = rw is (omega arith)
     go more false is = rw is (onto_first-few x (slice_split p xs) (length (x ∷ xs) + 1) (omega arith) (omega arith))
 
-pub few_in : {X Y : Type 0} (p : Y → Bool) (v : X → List Y) (xs : List X) (ys : List Y) → map v xs ≡ slice_split p ys → length xs ≤ length ys + 1
+pub few_in : {X Y : Type 0} (p : Y → Bool) (v : X → List Y) (xs : List X) (ys : List Y) → map v xs ≡ slice_split p ys
+    → length xs ≤ length ys + 1
 few_in p v xs ys is = omega (arith, few_pieces p ys, ap length is, length-map xs v)
 
 same_some : {Z : Type 0} (cs ds : List Z) → map (λ c. Some c) cs ≡ map (λ c. Some c) ds → cs ≡ ds
@@ -41,7 +44,8 @@ same_some {Z = Z} (c ∷ cs) (d ∷ ds) same =
     rw (one, same_some cs ds tail) refl
 
 -- the lines say these commands, which have not the form
-pub formless : (bytes first : List ℕ) (others : List (List ℕ)) (commands : List Command) → lines_of bytes ≡ first ∷ others → map line_command others ≡ map (λ c. Some c) commands
+pub formless : (bytes first : List ℕ) (others : List (List ℕ)) (commands : List Command) → lines_of bytes ≡ first ∷ others
+    → map line_command others ≡ map (λ c. Some c) commands
     → (HaveForm commands → ⊥) → HasNoForm bytes
 formless bytes first others commands is said none script spells =
     let both : spells.first ∷ spells.others ≡ first ∷ others = sym spells.lines ∙ is in

@@ -1,9 +1,13 @@
 //! A world of one node without disks, kept as plain lists.
-ghost use Rattle.std.specs.Prelude.{◌≡◌, ◌≤◌, ◌<◌, ◌+◌, ◌-◌, ◌++◌, ◌∷◌, ◌^◌, [], List, ℕ, Some, None, option_to_list, option_copied, length, vec_len, position, slice_get, slice_set, codes, fold, take, IfOk, OnOk, OnErr, not, ◌==◌, filter, map, find};
+ghost use Rattle.std.specs.Prelude.{◌≡◌, ◌≤◌, ◌<◌, ◌+◌, ◌-◌, ◌++◌, ◌∷◌, ◌^◌, [], List, ℕ, Some, None, option_to_list, option_copied};
+ghost use Rattle.std.specs.Prelude.{length, vec_len, position, slice_get, slice_set, codes, fold, take, IfOk, OnOk, OnErr, not, ◌==◌};
+ghost use Rattle.std.specs.Prelude.{filter, map, find};
 ghost use Rattle.std.specs.List.{flat_map};
 ghost use Rattle.std.specs.Option.{option_map, option_and_then};
 ghost use Rattle.std.specs.Ordering.{is_lt};
-ghost use Rattle.eden_shell.specs.World.{call_keys, eject_keys, insert_key, enabled, key_after, key_cmp, next_key, first_message, earlier, placed_at, with_place, turn, eject_turn, delivery, start, returned, process_turn, queued_at, place_of, cell_turn, call_at, route_of, is_between};
+ghost use Rattle.eden_shell.specs.World.{call_keys, eject_keys, insert_key, enabled, key_after, key_cmp, next_key, first_message};
+ghost use Rattle.eden_shell.specs.World.{earlier, placed_at, with_place, turn, eject_turn, delivery, start, returned, process_turn};
+ghost use Rattle.eden_shell.specs.World.{queued_at, place_of, cell_turn, call_at, route_of, is_between};
 ghost use Rattle.eden_shell.specs.Worlds.{world_of};
 ghost use Rattle.eden_shell.specs.World.{named};
 ghost use Rattle.eden_shell.specs.Steps.{names_of};
@@ -13,11 +17,11 @@ ghost use Rattle.eden_shell.specs.declared.world.Eject.{Eject};
 ghost use Rattle.eden_shell.specs.declared.world.Call.{Call};
 
 use crate::keys::{choose, enabled_keys, route};
+use crate::list::{copy_numbers, remove_first};
 use crate::{
-    Binding, BootEnd, Call, Eject, Event, Key, Names, NodeState, Numbers, Place, Process, Seq,
-    Shown,
+    Binding, BootEnd, Call, Eject, Event, Key, Names, NodeState, Numbers, Place, Process, Shown,
 };
-use capability::Uid;
+use capability::{Seq, Uid};
 use eden_value::{Status, Txt};
 use std::alloc::{AllocError, Global};
 
@@ -92,7 +96,7 @@ fn queue_call(ejects: &mut [Eject], target: Uid, number: u32) -> Result<(), Allo
     if let Some(place) = find_eject(ejects, target) {
         if place < ejects.len() {
             let eject = &mut ejects[place];
-            eject.queued.push(number)?;
+            eject.queued.items.push(number)?;
         }
     }
     Ok(())
@@ -119,10 +123,11 @@ fn run_operation(
     ensures { IfOk result (λ results. (values.new, results) ≡ cell_turn operation.now args.now values.old) }
 {
     if operation == b"Set".as_slice() {
-        *values = args.copy_numbers(alloc)?;
-        return Ok(Seq::of(Vec::new(alloc)));
+        *values = copy_numbers(alloc, args)?;
+        let none = Vec::new(alloc);
+        return Ok(Seq { items: none });
     }
-    values.copy_numbers(alloc)
+    copy_numbers(alloc, values)
 }
 
 // Takes away the processes of a number.
@@ -134,7 +139,7 @@ fn without(alloc: Global, processes: &[Process], number: u8) -> Result<Seq<Proce
         .copied()
         .filter(|process| process.number != number)
         .collect(alloc)?;
-    Ok(Seq::of(left))
+    Ok(Seq { items: left })
 }
 
 // The call that a process of a number serves.
@@ -177,7 +182,7 @@ impl Bench {
             }
             Place::Answering { results } => {
                 let name = copy_text(alloc, &call.name)?;
-                let results = results.copy_numbers(alloc)?;
+                let results = copy_numbers(alloc, results)?;
                 set_place(&mut self.calls, number, Place::Done);
                 Ok(Some(Event::Reply {
                     call: number,
@@ -214,8 +219,8 @@ impl Bench {
         }
         let call = &mut self.calls[index];
         call.place = Place::Running;
-        eject.queued.remove_first();
-        eject.processes.push(Process {
+        remove_first(&mut eject.queued);
+        eject.processes.items.push(Process {
             number: 1,
             call: number,
         })?;
@@ -384,9 +389,15 @@ impl Bench {
         };
         self.ejects.push(Eject {
             uid,
-            values: Seq::of(vec![in alloc; 0i64]?),
-            processes: Seq::of(Vec::new(alloc)),
-            queued: Seq::of(Vec::new(alloc)),
+            values: Seq {
+                items: vec![in alloc; 0i64]?,
+            },
+            processes: Seq {
+                items: Vec::new(alloc),
+            },
+            queued: Seq {
+                items: Vec::new(alloc),
+            },
         })?;
         self.names.push(Binding {
             name: copy_text(alloc, name)?,
@@ -423,7 +434,7 @@ impl Bench {
             name: copy_text(alloc, name)?,
             target,
             operation: copy_text(alloc, operation)?,
-            args: args.copy_numbers(alloc)?,
+            args: copy_numbers(alloc, args)?,
             place: Place::Asking,
             sent: self.sends,
         })?;
@@ -463,7 +474,7 @@ fn names_of_open(alloc: Global, calls: &[Call]) -> Result<Names, AllocError>
             names.push(copy_text(alloc, &call.name)?)?;
         }
     }
-    Ok(Seq::of(names))
+    Ok(Seq { items: names })
 }
 
 // The Eject that a name stands for.

@@ -1,6 +1,6 @@
 //! What happened, entry by entry.
-use crate::{Names, Numbers, Seq};
-use capability::Uid;
+use crate::{Names, Numbers};
+use capability::{Seq, Uid};
 use eden_value::{Status, Txt};
 
 /// How a boot ended.

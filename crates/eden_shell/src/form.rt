@@ -1,11 +1,16 @@
 //! The one form of script that is taken.
-ghost use Rattle.std.specs.Prelude.{◌≡◌, ◌≤◌, ◌<◌, ◌==◌, ◌++◌, ◌∷◌, ◌↔◌, [], List, ℕ, true, false, Some, None, IfOk, IfSome, IfNone, OnOk, length, map, codes, sum_by, count_by};
+ghost use Rattle.std.specs.Prelude.{◌≡◌, ◌≤◌, ◌<◌, ◌==◌, ◌++◌, ◌∷◌, ◌↔◌, [], List, ℕ, true, false, Some, None, IfOk, IfSome, IfNone};
+ghost use Rattle.std.specs.Prelude.{OnOk, length, map, codes, sum_by, count_by};
 ghost use Rattle.std.specs.List.{slice_split};
 ghost use Rattle.eden_shell.specs.declared.script.Command.{Command};
-ghost use Rattle.eden_shell.specs.Form.{Spells, HasNoForm, command_of, end_of, go_of, call_of, create_of, invocation_of, operation_of, argument_of, applied_of, get_of, set_of, line_command, says_nodes, are_nodes, words_of, is_one, number_up_to, is_among, are_in_order, is_create, turns_in, lines_of, asked_of, integer_of, HaveForm};
+ghost use Rattle.eden_shell.specs.Form.{Spells, HasNoForm, command_of, end_of, go_of, call_of, create_of, invocation_of, operation_of};
+ghost use Rattle.eden_shell.specs.Form.{argument_of, applied_of, get_of, set_of, line_command, says_nodes, are_nodes, words_of, is_one};
+ghost use Rattle.eden_shell.specs.Form.{number_up_to, is_among, are_in_order, is_create, turns_in, lines_of, asked_of, integer_of};
+ghost use Rattle.eden_shell.specs.Form.{HaveForm};
 
 use crate::words::{integer, is_new_name, lines, number, pieces};
-use crate::{Command, Numbers, Ref, Script, Seq};
+use crate::{Command, Numbers, Ref, Script};
+use capability::Seq;
 use eden_value::Txt;
 use std::alloc::{AllocError, Global};
 
@@ -96,7 +101,9 @@ fn get_command(
     if argument.len() > 0 {
         return Ok(None);
     }
-    let args = Seq::of(Vec::new(alloc));
+    let args = Seq {
+        items: Vec::new(alloc),
+    };
     Ok(Some(invoke(alloc, name, target, operation, args)?))
 }
 
@@ -113,7 +120,9 @@ fn set_command(
     let Some(value) = integer(argument) else {
         return Ok(None);
     };
-    let args = Seq::of(vec![in alloc; value]?);
+    let args = Seq {
+        items: vec![in alloc; value]?,
+    };
     Ok(Some(invoke(alloc, name, target, operation, args)?))
 }
 
@@ -407,6 +416,6 @@ pub fn parse(alloc: Global, bytes: &[u8]) -> Result<Option<Script>, AllocError>
     }
     Ok(Some(Script {
         nodes: 1,
-        commands: Seq::of(commands),
+        commands: Seq { items: commands },
     }))
 }

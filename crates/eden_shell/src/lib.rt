@@ -23,7 +23,7 @@ mod world;
 pub use event::{BootEnd, Entry, Event, History, Shown};
 pub use law::one_world;
 pub use lines::{Mode, line};
-pub use list::{Names, Numbers, Seq};
+pub use list::{Names, Numbers};
 pub use report::{Outcome, Report, ScriptCause, status};
 pub use script::{Command, Commands, Ref, Script};
 pub use shell::eden;

@@ -2,7 +2,8 @@
 ghost use Rattle.std.specs.Prelude.{◌≡◌, ◌++◌, OnOk, OnErr, IfOk, codes};
 ghost use Rattle.std.specs.List.{flat_map};
 ghost use Rattle.std.specs.Fmt.{decimal, signed_decimal};
-ghost use Rattle.eden_shell.specs.Lines.{entry_text, event_text, values_text, names_text, refused_text, results_text, answer_text, uid_text};
+ghost use Rattle.eden_shell.specs.Lines.{entry_text, event_text, values_text, names_text, refused_text, results_text, answer_text};
+ghost use Rattle.eden_shell.specs.Lines.{uid_text};
 
 use crate::{Entry, Event};
 use capability::Uid;

@@ -9,7 +9,8 @@ ghost use Rattle.eden_shell.specs.Steps.{Advances, Reaches, Completes, Fits, All
 ghost use Rattle.eden_shell.specs.Worlds.{world_of, IsReady};
 
 use crate::bench::{Bench, lookup};
-use crate::{Command, Entry, Event, History, Key, Numbers, Ref, Script, Seq};
+use crate::{Command, Entry, Event, History, Key, Numbers, Ref, Script};
+use capability::Seq;
 use eden_value::Txt;
 use std::alloc::{AllocError, Global};
 
@@ -21,7 +22,9 @@ fn entry_of(alloc: Global, event: Event) -> Entry
         event,
         node: 0,
         clock: 0,
-        broken: Seq::of(Vec::new(alloc)),
+        broken: Seq {
+            items: Vec::new(alloc),
+        },
     }
 }
 
@@ -235,7 +238,7 @@ pub fn run(alloc: Global, script: &Script) -> Carried
     let mut history = Vec::new(alloc);
     let whole = carry_all(alloc, script.commands.as_slice(), &mut history).is_ok();
     Carried {
-        history: Seq::of(history),
+        history: Seq { items: history },
         whole,
     }
 }

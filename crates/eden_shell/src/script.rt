@@ -1,5 +1,6 @@
 //! The commands of a script.
-use crate::{Numbers, Seq};
+use crate::Numbers;
+use capability::Seq;
 use eden_value::Txt;
 
 /// A name, or a result of the call of that name.

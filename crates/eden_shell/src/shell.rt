@@ -10,7 +10,8 @@ ghost use Rattle.eden_shell.specs.Reports.{AreRun, IsDueFor, IsBegunFor, IsDue, 
 use crate::form::parse;
 use crate::report::{Outcome, Report, ScriptCause};
 use crate::run::run;
-use crate::{Entry, History, Mode, Seq, line};
+use crate::{Entry, History, Mode, line};
+use capability::Seq;
 use eden_io::{ReadRefusal, Sink, Source, read_all, write_all};
 use std::alloc::Global;
 
@@ -56,7 +57,12 @@ fn text_of(alloc: Global, history: &[Entry]) -> Text
 // Writes the text of an outcome that is due. Where a write fails, that is the outcome.
 fn deliver<K: Sink>(sink: &mut K, due: Outcome, bytes: &[u8]) -> Outcome
     ensures { IsDelivered
-        (record { written = K.written sink.old; written_after = K.written sink.new; faults = K.faults sink.old; faults_after = K.faults sink.new })
+        (record {
+          written = K.written sink.old;
+          written_after = K.written sink.new;
+          faults = K.faults sink.old;
+          faults_after = K.faults sink.new;
+        })
         due bytes.now result }
 {
     match write_all(sink, bytes) {
@@ -69,12 +75,19 @@ fn deliver<K: Sink>(sink: &mut K, due: Outcome, bytes: &[u8]) -> Outcome
 fn refuse<K: Sink>(alloc: Global, sink: &mut K, due: Outcome, bytes: &[u8]) -> Report
     ensures history { result.history ≡ [] }
     ensures delivered { IsDelivered
-        (record { written = K.written sink.old; written_after = K.written sink.new; faults = K.faults sink.old; faults_after = K.faults sink.new })
+        (record {
+          written = K.written sink.old;
+          written_after = K.written sink.new;
+          faults = K.faults sink.old;
+          faults_after = K.faults sink.new;
+        })
         due bytes.now result.outcome }
 {
     Report {
         outcome: deliver(sink, due, bytes),
-        history: Seq::of(Vec::new(alloc)),
+        history: Seq {
+            items: Vec::new(alloc),
+        },
     }
 }
 
@@ -85,7 +98,9 @@ fn no_history(alloc: Global) -> Report
 {
     Report {
         outcome: Outcome::OutOfMemory,
-        history: Seq::of(Vec::new(alloc)),
+        history: Seq {
+            items: Vec::new(alloc),
+        },
     }
 }
 
@@ -107,7 +122,12 @@ fn stop_short<K: Sink>(sink: &mut K, history: History, transcript: &Text) -> Rep
 fn run_bytes<K: Sink>(alloc: Global, bytes: &[u8], sink: &mut K) -> Report
     requires { length bytes.now ≤ 1048576 }
     ensures { Answers (IsDueFor bytes.now) (IsBegunFor bytes.now)
-        (record { written = K.written sink.old; written_after = K.written sink.new; faults = K.faults sink.old; faults_after = K.faults sink.new })
+        (record {
+          written = K.written sink.old;
+          written_after = K.written sink.new;
+          faults = K.faults sink.old;
+          faults_after = K.faults sink.new;
+        })
         result.outcome result.history }
 {
     let script = match parse(alloc, bytes) {
@@ -142,10 +162,27 @@ fn answer<S: Source, K: Sink>(
 ) -> Report
     ensures { Answers
         (IsDue (map string_bytes words.now.items)
-        (record { left = S.left source.old; left_after = S.left source.new; ended_after = S.ended source.new; faults = S.faults source.old; faults_after = S.faults source.new }))
+        (record {
+          left = S.left source.old;
+          left_after = S.left source.new;
+          ended_after = S.ended source.new;
+          faults = S.faults source.old;
+          faults_after = S.faults source.new;
+        }))
         (IsBegun (map string_bytes words.now.items)
-        (record { left = S.left source.old; left_after = S.left source.new; ended_after = S.ended source.new; faults = S.faults source.old; faults_after = S.faults source.new }))
-        (record { written = K.written sink.old; written_after = K.written sink.new; faults = K.faults sink.old; faults_after = K.faults sink.new })
+        (record {
+          left = S.left source.old;
+          left_after = S.left source.new;
+          ended_after = S.ended source.new;
+          faults = S.faults source.old;
+          faults_after = S.faults source.new;
+        }))
+        (record {
+          written = K.written sink.old;
+          written_after = K.written sink.new;
+          faults = K.faults sink.old;
+          faults_after = K.faults sink.new;
+        })
         result.outcome result.history }
 {
     if !are_run(words) {
@@ -172,10 +209,27 @@ pub fn eden<S: Source, K: Sink>(
     // Each outcome has its cause, its history, and what was written.
     ensures answers { Answers
         (IsDue (map string_bytes words.now.items)
-        (record { left = S.left source.old; left_after = S.left source.new; ended_after = S.ended source.new; faults = S.faults source.old; faults_after = S.faults source.new }))
+        (record {
+          left = S.left source.old;
+          left_after = S.left source.new;
+          ended_after = S.ended source.new;
+          faults = S.faults source.old;
+          faults_after = S.faults source.new;
+        }))
         (IsBegun (map string_bytes words.now.items)
-        (record { left = S.left source.old; left_after = S.left source.new; ended_after = S.ended source.new; faults = S.faults source.old; faults_after = S.faults source.new }))
-        (record { written = K.written sink.old; written_after = K.written sink.new; faults = K.faults sink.old; faults_after = K.faults sink.new })
+        (record {
+          left = S.left source.old;
+          left_after = S.left source.new;
+          ended_after = S.ended source.new;
+          faults = S.faults source.old;
+          faults_after = S.faults source.new;
+        }))
+        (record {
+          written = K.written sink.old;
+          written_after = K.written sink.new;
+          faults = K.faults sink.old;
+          faults_after = K.faults sink.new;
+        })
         result.outcome result.history }
     // A script of the form runs, where nothing fails and there is memory.
     ensures complete { (bytes : List ℕ) (script : Script) → AreRun (map string_bytes words.now.items)

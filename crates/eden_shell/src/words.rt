@@ -1,8 +1,10 @@
 //! Lines, words and numbers of a text.
-ghost use Rattle.std.specs.Prelude.{true, ◌≡◌, ◌==◌, ◌≤◌, ◌+◌, ◌<◌, ◌^◌, ◌∷◌, [], ℤ, pos, length, IfOk, IfSome, map, position, Some, None, option_map};
+ghost use Rattle.std.specs.Prelude.{true, ◌≡◌, ◌==◌, ◌≤◌, ◌+◌, ◌<◌, ◌^◌, ◌∷◌, [], ℤ, pos, length, IfOk, IfSome, map, position, Some};
+ghost use Rattle.std.specs.Prelude.{None, option_map};
 ghost use Rattle.std.specs.List.{slice_split, list_all};
 ghost use Rattle.std.specs.Option.{option_map_or};
-ghost use Rattle.eden_shell.specs.Form.{is_name, is_name_byte, is_digit, is_number, number_up_to, decimal_from, minus, integer_of, lines_of, without_last_feed};
+ghost use Rattle.eden_shell.specs.Form.{is_name, is_name_byte, is_digit, is_number, number_up_to, decimal_from, minus, integer_of};
+ghost use Rattle.eden_shell.specs.Form.{lines_of, without_last_feed};
 
 use std::alloc::{AllocError, Global};
 

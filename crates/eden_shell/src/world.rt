@@ -1,6 +1,6 @@
 //! The parts of a world, as plain data.
-use crate::{Numbers, Seq};
-use capability::Uid;
+use crate::Numbers;
+use capability::{Seq, Uid};
 use eden_value::Txt;
 
 /// What a turn does: an activity and where. Parts that do not apply are 0.

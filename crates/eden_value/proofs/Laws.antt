@@ -112,18 +112,25 @@ mutual
 
   pub data_at_depth : (most other : ℕ) (ds : Data) → DataAreValues most ds → depths ds ≤ other → DataAreValues other ds
   data_at_depth most other no_data h e = h
-  data_at_depth most other (data_and d ds) h e =
-      (value_at_depth most other d h.0 (max_le-left (depth d) (depths ds) other e), data_at_depth most other ds h.1 (max_le-right (depth d) (depths ds) other e))
+  data_at_depth most other (data_and d ds) h e = (
+    value_at_depth most other d h.0 (max_le-left (depth d) (depths ds) other e),
+    data_at_depth most other ds h.1 (max_le-right (depth d) (depths ds) other e),
+  )
 
 pub values_at_depth : (most other : ℕ) (ds : List Datum) → AreValues most ds → depth_of ds ≤ other → AreValues other ds
 values_at_depth most other [] h e = h
-values_at_depth most other (d ∷ ds) h e =
-    (value_at_depth most other d h.0 (max_le-left (depth d) (depth_of ds) other e), values_at_depth most other ds h.1 (max_le-right (depth d) (depth_of ds) other e))
+values_at_depth most other (d ∷ ds) h e = (
+  value_at_depth most other d h.0 (max_le-left (depth d) (depth_of ds) other e),
+  values_at_depth most other ds h.1 (max_le-right (depth d) (depth_of ds) other e),
+)
 
 -- a list of values is a value, where its length and its depth are within the limits
-pub list_is_value : (most other : ℕ) (ds : List Datum) → AreValues most ds → length ds ≤ LIST_LIMIT → depth_of ds ≤ other → IsValue (suc other) (list (data_of ds))
-list_is_value most other ds h short shallow =
-    (subst (λ l. length l ≤ LIST_LIMIT) (sym (items_of-data_of ds)) short, values_in_list other ds (values_at_depth most other ds h shallow))
+pub list_is_value : (most other : ℕ) (ds : List Datum) → AreValues most ds → length ds ≤ LIST_LIMIT → depth_of ds ≤ other
+    → IsValue (suc other) (list (data_of ds))
+list_is_value most other ds h short shallow = (
+  subst (λ l. length l ≤ LIST_LIMIT) (sym (items_of-data_of ds)) short,
+  values_in_list other ds (values_at_depth most other ds h shallow),
+)
 
 pub values-append : (most : ℕ) (ds es : List Datum) → AreValues most ds → AreValues most es → AreValues most (ds ++ es)
 values-append most [] es h k = k

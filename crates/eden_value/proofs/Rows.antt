@@ -1,5 +1,6 @@
 -- The definitions at a value of the code that is a list.
-use Rattle.std.proofs.Common.{◌≡◌, ◌↔◌, Bool as Truth, true, false, ℕ, suc, ◌-◌, ◌<◌, ◌++◌, nat_lt, List, [], ◌∷◌, refl, ap, sym, ◌∙◌, arith}
+use Rattle.std.proofs.Common.{◌≡◌, ◌↔◌, Bool as Truth, true, false, ℕ, suc, ◌-◌, ◌<◌, ◌++◌, nat_lt, List, [], ◌∷◌, refl, ap, sym, ◌∙◌}
+use Rattle.std.proofs.Common.{arith}
 use Rattle.std.proofs.lemmas.Bool.Decides.{nat_tests}
 use Rattle.eden_value.specs.Datum.{Datum, list, data_of}
 use Rattle.eden_value.specs.View.{datum, datums}
@@ -12,7 +13,8 @@ use Rattle.eden_value.specs.declared.value.Value.{Value}
 use Rattle.eden_value.specs.declared.value.Value.TheVariants.{List as Listed}
 
 -- the list is within the limit where its items are within one less
-list_within : (ds : List Datum) (most : ℕ) → 0 < most → nat_lt (depth_of ds) (suc (most - 1)) ≡ nat_lt (depth (list (data_of ds))) (suc most)
+list_within : (ds : List Datum) (most : ℕ) → 0 < most
+    → nat_lt (depth_of ds) (suc (most - 1)) ≡ nat_lt (depth (list (data_of ds))) (suc most)
 list_within ds most h = within (depth_of ds) (depths (data_of ds)) most (depths-data_of ds) h
   where
     within : (a b m : ℕ) → b ≡ a → 0 < m → nat_lt a (suc (m - 1)) ≡ nat_lt (suc b) (suc m)
@@ -26,7 +28,8 @@ module _ (v : Value) (items : List Datum) (vs ws : List Value) (is : v ≡ Liste
   datum_is : datum v ≡ list (data_of (datums ws))
   datum_is = ap datum is ∙ ap (λ ds. list (data_of ds)) (sym items_are)
 
-  pub value_within : (most : ℕ) → 0 < most → (r : Truth) → r ≡ nat_lt (depth_of (datums ws)) (suc (most - 1)) → r ≡ nat_lt (depth (datum v)) (suc most)
+  pub value_within : (most : ℕ) → 0 < most → (r : Truth) → r ≡ nat_lt (depth_of (datums ws)) (suc (most - 1))
+      → r ≡ nat_lt (depth (datum v)) (suc most)
   value_within most h r e = e ∙ list_within (datums ws) most h ∙ ap (λ d. nat_lt (depth d) (suc most)) (sym datum_is)
 
   pub value_caps : caps (datum v) ≡ caps_of (datums ws)
@@ -47,7 +50,8 @@ module _ (v : Value) (items : List Datum) (vs ws : List Value) (is : v ≡ Liste
       row (d ∷ ds) = ap (λ l. printed d ++ l) (behind ds)
 
 -- two lists are one value where their items are the same
-pub same_lists : (a b : Value) (x y : List Datum) (vs us ws zs : List Value) → a ≡ Listed x → datums vs ≡ x → ws ≡ vs → b ≡ Listed y → datums us ≡ y → zs ≡ us → (ws ≡ zs) ↔ (a ≡ b)
+pub same_lists : (a b : Value) (x y : List Datum) (vs us ws zs : List Value) → a ≡ Listed x → datums vs ≡ x → ws ≡ vs → b ≡ Listed y
+    → datums us ≡ y → zs ≡ us → (ws ≡ zs) ↔ (a ≡ b)
 same_lists a b x y vs us ws zs p q r s t u = (
   λ e. p ∙ ap Listed (sym (ap datums r ∙ q) ∙ ap datums e ∙ ap datums u ∙ t) ∙ sym s,
   λ e. let f : x ≡ y = cc (p, s, e) in same_values ws zs (ap datums r ∙ q ∙ f ∙ sym (ap datums u ∙ t)),

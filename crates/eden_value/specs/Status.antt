@@ -1,7 +1,9 @@
 -- The numbers and the words of the statuses.
 use Rattle.std.specs.Prelude.{ℕ, List, codes}
 use Rattle.eden_value.specs.declared.status.Status.{Status}
-use Rattle.eden_value.specs.declared.status.Status.TheVariants.{Ok, NoRight, NoOperation, BadArguments, Gone, Unreachable, Broken, StoreFault, Damaged, Dropped, Busy, TooLarge, Full, TooMany, SerialsSpent}
+use Rattle.eden_value.specs.declared.status.Status.TheVariants.{Ok, NoRight, NoOperation, BadArguments, Gone, Unreachable, Broken}
+use Rattle.eden_value.specs.declared.status.Status.TheVariants.{StoreFault, Damaged, Dropped, Busy, TooLarge, Full, TooMany}
+use Rattle.eden_value.specs.declared.status.Status.TheVariants.{SerialsSpent}
 
 -- the number of each, as a program reads it
 abbrev pub status_number : Status → ℕ

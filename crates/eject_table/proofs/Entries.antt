@@ -1,5 +1,6 @@
 -- Look-ups in the map that a slab and its places stand for.
-use Rattle.std.proofs.Common.{◌≡◌, ◌≢◌, ℕ, zero, suc, ◌<◌, length, get_or, arith, Bool, true, false, cond, T, ◌&&◌, List, [], ◌∷◌, Option, None, Some, IsSome, refl, sym, ◌∙◌, ap, map}
+use Rattle.std.proofs.Common.{◌≡◌, ◌≢◌, ℕ, zero, suc, ◌<◌, length, get_or, arith, Bool, true, false, cond, T, ◌&&◌, List, [], ◌∷◌}
+use Rattle.std.proofs.Common.{Option, None, Some, IsSome, refl, sym, ◌∙◌, ap, map}
 use Rattle.std.specs.declared.cmp.Ordering.{Ordering}
 use Rattle.std.specs.declared.cmp.Ordering.TheVariants.{Less}
 use Rattle.std.specs.Ordering.{eq_by_cmp, is_lt}
@@ -8,7 +9,8 @@ use Rattle.std.specs.List.Sorted.{IsStrictlySortedBy}
 use Rattle.std.proofs.lemmas.Cmp.{tied_itself}
 use Rattle.std.proofs.lemmas.List.{length-map, get_or-set_same, get_or-set_other}
 use Rattle.std.specs.List.{AllByRecursion}
-use Rattle.std.specs.FinMap.{FinMap, entries, len, len-entries, entries-from_sorted, get, insert, remove, empty, get-from_sorted, get-insert, get-remove, get-empty, same_map}
+use Rattle.std.specs.FinMap.{FinMap, entries, len, len-entries, entries-from_sorted, get, insert, remove, empty, get-from_sorted}
+use Rattle.std.specs.FinMap.{get-insert, get-remove, get-empty, same_map}
 use Rattle.std.specs.FinMap.Entries.{is_sorted, below_all}
 use Rattle.slab.specs.Slab.{Slab, get as get_slab, Updates, with_value}
 use Rattle.capability.specs.declared.Uid.{Uid}
@@ -19,11 +21,15 @@ use Rattle.eden_model.proofs.Laws.{eq-same}
 use Rattle.eject_table.specs.Table.{item_of, map_of, IsWhole, active_in, dropped, dropped_in, place_standing, standing_of}
 use Rattle.eject_table.specs.declared.Standing.TheVariants.{Active}
 
-pub value-each : {K X Y : Type 0} (R : K → K → Ordering) (f : X → Y) (q : K) (es : List (K × X)) → value_at R q (each_value f es) ≡ option_map f (value_at R q es)
+pub value-each : {K X Y : Type 0} (R : K → K → Ordering) (f : X → Y) (q : K) (es : List (K × X))
+    → value_at R q (each_value f es) ≡ option_map f (value_at R q es)
 value-each R f q [] = refl
-value-each R f q (e ∷ es) = elim (eq_by_cmp R q e.0) as (λ b. cond b (Some (f e.1)) (value_at R q (each_value f es)) ≡ option_map f (cond b (Some e.1) (value_at R q es))) [ true ↦ refl | false ↦ value-each R f q es ]
+value-each R f q (e ∷ es) = elim (eq_by_cmp R q e.0) as
+    (λ b. cond b (Some (f e.1)) (value_at R q (each_value f es)) ≡ option_map f (cond b (Some e.1) (value_at R q es)))
+    [ true ↦ refl | false ↦ value-each R f q es ]
 
-below-each : {K X Y : Type 0} (R : K → K → Ordering) (f : X → Y) (x : K) (es : List (K × X)) → below_all R x (each_value f es) ≡ below_all R x es
+below-each : {K X Y : Type 0} (R : K → K → Ordering) (f : X → Y) (x : K) (es : List (K × X))
+    → below_all R x (each_value f es) ≡ below_all R x es
 below-each R f x [] = refl
 below-each R f x (e ∷ es) = ap (λ b. is_lt (R x e.0) && b) (below-each R f x es)
 
@@ -32,20 +38,25 @@ sorted-each R f [] = refl
 sorted-each R f (e ∷ es) = rw (below-each R f e.0 es, sorted-each R f es) refl
 
 -- what the map has at a uid
-pub get-map : {A : Type 0} (slab : Slab A) (places : List (Uid × Option ℕ)) (q : Uid) → T (is_sorted uid_cmp places) → get (map_of slab places) q ≡ option_map (item_of slab) (value_at uid_cmp q places)
-get-map slab places q sorted = get-from_sorted uid_cmp (each_value (item_of slab) places) q (rw (sorted-each uid_cmp (item_of slab) places) sorted) ∙ value-each uid_cmp (item_of slab) q places
+pub get-map : {A : Type 0} (slab : Slab A) (places : List (Uid × Option ℕ)) (q : Uid) → T (is_sorted uid_cmp places)
+    → get (map_of slab places) q ≡ option_map (item_of slab) (value_at uid_cmp q places)
+get-map slab places q sorted = get-from_sorted uid_cmp (each_value (item_of slab) places) q
+    (rw (sorted-each uid_cmp (item_of slab) places) sorted) ∙ value-each uid_cmp (item_of slab) q places
 
 pub map-empty : {A : Type 0} (slab : Slab A) → map_of slab [] ≡ empty
-map-empty slab = same_map uid_cmp_total uid_cmp-IsAntisymmetric (map_of slab []) empty (λ q. get-map slab [] q tt ∙ sym (get-empty uid_cmp q))
+map-empty slab = same_map uid_cmp_total uid_cmp-IsAntisymmetric (map_of slab []) empty
+    (λ q. get-map slab [] q tt ∙ sym (get-empty uid_cmp q))
 
 -- two such maps with the same look-ups
 pub same-maps : {A : Type 0} (slab : Slab A) (places : List (Uid × Option ℕ)) (m : FinMap uid_cmp (Option A)) → T (is_sorted uid_cmp places)
     → ((q : Uid) → option_map (item_of slab) (value_at uid_cmp q places) ≡ get m q) → map_of slab places ≡ m
-same-maps slab places m sorted same = same_map uid_cmp_total uid_cmp-IsAntisymmetric (map_of slab places) m (λ q. get-map slab places q sorted ∙ same q)
+same-maps slab places m sorted same = same_map uid_cmp_total uid_cmp-IsAntisymmetric (map_of slab places) m
+    (λ q. get-map slab places q sorted ∙ same q)
 
 -- 1. The order of std's map
 
-below-from : {K X : Type 0} (R : K → K → Ordering) (x : K) (es : List (K × X)) → AllByRecursion (λ y. R x y ≡ Less) (map (λ e. e.0) es) → T (below_all R x es)
+below-from : {K X : Type 0} (R : K → K → Ordering) (x : K) (es : List (K × X)) → AllByRecursion (λ y. R x y ≡ Less) (map (λ e. e.0) es)
+    → T (below_all R x es)
 below-from R x [] h = tt
 below-from R x (e ∷ es) h = rw h.0 (below-from R x es h.1)
 
@@ -67,21 +78,26 @@ eq-comm u v = go (eq_by_cmp uid_cmp u v) refl (eq_by_cmp uid_cmp v u) refl
     go : (a : Bool) → eq_by_cmp uid_cmp u v ≡ a → (b : Bool) → eq_by_cmp uid_cmp v u ≡ b → a ≡ b
     go true p true q = refl
     go false p false q = refl
-    go true p false q = let e : u ≡ v = eq-same uid_cmp uid_cmp-IsAntisymmetric u v p in let bad : true ≡ false = sym (self v) ∙ ap (λ x. eq_by_cmp uid_cmp v x) (sym e) ∙ q in cc
-    go false p true q = let e : v ≡ u = eq-same uid_cmp uid_cmp-IsAntisymmetric v u q in let bad : true ≡ false = sym (self u) ∙ ap (λ x. eq_by_cmp uid_cmp u x) (sym e) ∙ p in cc
+    go true p false q = let e : u ≡ v = eq-same uid_cmp uid_cmp-IsAntisymmetric u v p in
+        let bad : true ≡ false = sym (self v) ∙ ap (λ x. eq_by_cmp uid_cmp v x) (sym e) ∙ q in cc
+    go false p true q = let e : v ≡ u = eq-same uid_cmp uid_cmp-IsAntisymmetric v u q in
+        let bad : true ≡ false = sym (self u) ∙ ap (λ x. eq_by_cmp uid_cmp u x) (sym e) ∙ p in cc
 
 -- 2. A change at one uid
 
-pub record IsChanged {A : Type 0} (slab : Slab A) (places : List (Uid × Option ℕ)) (new : Slab A) (now : List (Uid × Option ℕ)) (u : Uid) (p : Option (Option ℕ)) : Type 0 where
+pub record IsChanged {A : Type 0} (slab : Slab A) (places : List (Uid × Option ℕ)) (new : Slab A) (now : List (Uid × Option ℕ)) (u : Uid)
+    (p : Option (Option ℕ)) : Type 0 where
   pub sorted : T (is_sorted uid_cmp now)
   pub at : (q : Uid) → value_at uid_cmp q now ≡ cond (eq_by_cmp uid_cmp u q) p (value_at uid_cmp q places)
   -- the parts of others stay
-  pub others : (q : Uid) (k : ℕ) → eq_by_cmp uid_cmp u q ≡ false → value_at uid_cmp q places ≡ Some (Some k) → get_slab new k ≡ get_slab slab k
+  pub others : (q : Uid) (k : ℕ) → eq_by_cmp uid_cmp u q ≡ false → value_at uid_cmp q places ≡ Some (Some k)
+      → get_slab new k ≡ get_slab slab k
   -- the uid's place holds a part, and is no other's
   pub occupied : (k : ℕ) → p ≡ Some (Some k) → IsSome (get_slab new k)
   pub alone : (q : Uid) (k : ℕ) → p ≡ Some (Some k) → eq_by_cmp uid_cmp u q ≡ false → value_at uid_cmp q places ≡ Some (Some k) → ⊥
 
-module _ {A : Type 0} (slab : Slab A) (places : List (Uid × Option ℕ)) (w : IsWhole slab places) (new : Slab A) (now : List (Uid × Option ℕ)) (u : Uid) (p : Option (Option ℕ)) (h : IsChanged slab places new now u p) where
+module _ {A : Type 0} (slab : Slab A) (places : List (Uid × Option ℕ)) (w : IsWhole slab places) (new : Slab A)
+    (now : List (Uid × Option ℕ)) (u : Uid) (p : Option (Option ℕ)) (h : IsChanged slab places new now u p) where
   is-self : (q : Uid) → eq_by_cmp uid_cmp u q ≡ true → value_at uid_cmp q now ≡ p
   is-self q e = h.at q ∙ rw e refl
 
@@ -96,7 +112,8 @@ module _ {A : Type 0} (slab : Slab A) (places : List (Uid × Option ℕ)) (w : I
         where
           go : (b : Bool) → eq_by_cmp uid_cmp u v ≡ b → IsSome (get_slab new k)
           go true e = h.occupied k (sym (is-self v e) ∙ is)
-          go false e = let was : value_at uid_cmp v places ≡ Some (Some k) = sym (is-other v e) ∙ is in rw (h.others v k e was) (w.occupied v k was)
+          go false e = let was : value_at uid_cmp v places ≡ Some (Some k) = sym (is-other v e) ∙ is in
+              rw (h.others v k e was) (w.occupied v k was)
 
       apart : (v z : Uid) (k : ℕ) → value_at uid_cmp v now ≡ Some (Some k) → value_at uid_cmp z now ≡ Some (Some k) → v ≡ z
       apart v z k i j = go (eq_by_cmp uid_cmp u v) refl (eq_by_cmp uid_cmp u z) refl
@@ -107,11 +124,13 @@ module _ {A : Type 0} (slab : Slab A) (places : List (Uid × Option ℕ)) (w : I
           go false e true f = absurd (h.alone v k (sym (is-self z f) ∙ j) e (sym (is-other v e) ∙ i))
           go false e false f = w.apart v z k (sym (is-other v e) ∙ i) (sym (is-other z f) ∙ j)
 
-  lookups : (q : Uid) → option_map (item_of new) (value_at uid_cmp q now) ≡ cond (eq_by_cmp uid_cmp u q) (option_map (item_of new) p) (get (map_of slab places) q)
+  lookups : (q : Uid) → option_map (item_of new) (value_at uid_cmp q now) ≡ cond (eq_by_cmp uid_cmp u q) (option_map (item_of new) p)
+      (get (map_of slab places) q)
   lookups q = go (eq_by_cmp uid_cmp u q) refl (value_at uid_cmp q places) refl
     where
       go : (b : Bool) → eq_by_cmp uid_cmp u q ≡ b → (o : Option (Option ℕ)) → value_at uid_cmp q places ≡ o
-          → option_map (item_of new) (value_at uid_cmp q now) ≡ cond (eq_by_cmp uid_cmp u q) (option_map (item_of new) p) (get (map_of slab places) q)
+          → option_map (item_of new) (value_at uid_cmp q now) ≡ cond (eq_by_cmp uid_cmp u q) (option_map (item_of new) p)
+          (get (map_of slab places) q)
       go true e o is = rw (is-self q e, e) refl
       go false e None is = rw (is-other q e, e, get-map slab places q w.sorted, is) refl
       go false e (Some None) is = rw (is-other q e, e, get-map slab places q w.sorted, is) refl
@@ -126,7 +145,8 @@ module _ {A : Type 0} (slab : Slab A) (places : List (Uid × Option ℕ)) (w : I
       (λ q. lookups q ∙ rw (is, eq-comm u q) (sym (get-remove uid_cmp_total (map_of slab places) u q)))
 
 -- the same parts at the same keys
-pub kept-slab : {A : Type 0} (slab : Slab A) (places : List (Uid × Option ℕ)) → IsWhole slab places → (other : Slab A) → ((k : ℕ) → get_slab other k ≡ get_slab slab k) → IsWhole other places × (map_of other places ≡ map_of slab places)
+pub kept-slab : {A : Type 0} (slab : Slab A) (places : List (Uid × Option ℕ)) → IsWhole slab places → (other : Slab A)
+    → ((k : ℕ) → get_slab other k ≡ get_slab slab k) → IsWhole other places × (map_of other places ≡ map_of slab places)
 kept-slab slab places w other same = (
   record { sorted = w.sorted; occupied = λ u k h. rw (same k) (w.occupied u k h); apart = w.apart },
   same-maps other places (map_of slab places) w.sorted (λ q. go (value_at uid_cmp q places) ∙ sym (get-map slab places q w.sorted)),
@@ -143,8 +163,10 @@ module _ {A : Type 0} (slab : Slab A) (places : List (Uid × Option ℕ)) (w : I
   self-eq : (u : Uid) → eq_by_cmp uid_cmp u u ≡ true
   self-eq u = rw (tied_itself uid_cmp_total u) refl
 
-  pub added : (mid new : Slab A) (now : List (Uid × Option ℕ)) (u : Uid) (key : ℕ) (a : A) → ((k : ℕ) → get_slab mid k ≡ get_slab slab k) → get_slab mid key ≡ None → Updates mid new key (Some a)
-      → T (is_sorted uid_cmp now) → ((q : Uid) → value_at uid_cmp q now ≡ cond (eq_by_cmp uid_cmp u q) (Some (Some key)) (value_at uid_cmp q places)) → IsChanged slab places new now u (Some (Some key))
+  pub added : (mid new : Slab A) (now : List (Uid × Option ℕ)) (u : Uid) (key : ℕ) (a : A) → ((k : ℕ) → get_slab mid k ≡ get_slab slab k)
+      → get_slab mid key ≡ None → Updates mid new key (Some a)
+      → T (is_sorted uid_cmp now) → ((q : Uid) → value_at uid_cmp q now ≡ cond (eq_by_cmp uid_cmp u q) (Some (Some key))
+      (value_at uid_cmp q places)) → IsChanged slab places new now u (Some (Some key))
   added mid new now u key a same vacant up sorted at = record {
     sorted = sorted;
     at = at;
@@ -160,18 +182,22 @@ module _ {A : Type 0} (slab : Slab A) (places : List (Uid × Option ℕ)) (w : I
       none : (k : ℕ) → k ≡ key → IsSome (get_slab slab k) → ⊥
       none k n some = no-some (get_slab slab k) (sym (same k) ∙ ap (get_slab mid) n ∙ vacant) some
 
-  pub removed : (new : Slab A) (now : List (Uid × Option ℕ)) (u : Uid) (key : ℕ) (p : Option (Option ℕ)) → value_at uid_cmp u places ≡ Some (Some key) → Updates slab new key None → ((k : ℕ) → p ≡ Some (Some k) → ⊥)
-      → T (is_sorted uid_cmp now) → ((q : Uid) → value_at uid_cmp q now ≡ cond (eq_by_cmp uid_cmp u q) p (value_at uid_cmp q places)) → IsChanged slab places new now u p
+  pub removed : (new : Slab A) (now : List (Uid × Option ℕ)) (u : Uid) (key : ℕ) (p : Option (Option ℕ))
+      → value_at uid_cmp u places ≡ Some (Some key) → Updates slab new key None → ((k : ℕ) → p ≡ Some (Some k) → ⊥)
+      → T (is_sorted uid_cmp now) → ((q : Uid) → value_at uid_cmp q now ≡ cond (eq_by_cmp uid_cmp u q) p (value_at uid_cmp q places))
+      → IsChanged slab places new now u p
   removed new now u key p was up no_place sorted at = record {
     sorted = sorted;
     at = at;
-    others = λ q k e is. up.others k (λ n. let same : u ≡ q = w.apart u q k (was ∙ ap (λ j. Some (Some j)) (sym n)) is in let bad : true ≡ false = sym (self-eq u) ∙ ap (λ x. eq_by_cmp uid_cmp u x) same ∙ e in cc);
+    others = λ q k e is. up.others k (λ n. let same : u ≡ q = w.apart u q k (was ∙ ap (λ j. Some (Some j)) (sym n)) is in
+        let bad : true ≡ false = sym (self-eq u) ∙ ap (λ x. eq_by_cmp uid_cmp u x) same ∙ e in cc);
     occupied = λ k is. absurd (no_place k is);
     alone = λ q k is e j. no_place k is;
   }
 
   pub unplaced : (now : List (Uid × Option ℕ)) (u : Uid) (p : Option (Option ℕ)) → ((k : ℕ) → p ≡ Some (Some k) → ⊥)
-      → T (is_sorted uid_cmp now) → ((q : Uid) → value_at uid_cmp q now ≡ cond (eq_by_cmp uid_cmp u q) p (value_at uid_cmp q places)) → IsChanged slab places slab now u p
+      → T (is_sorted uid_cmp now) → ((q : Uid) → value_at uid_cmp q now ≡ cond (eq_by_cmp uid_cmp u q) p (value_at uid_cmp q places))
+      → IsChanged slab places slab now u p
   unplaced now u p no_place sorted at = record {
     sorted = sorted;
     at = at;
@@ -181,10 +207,12 @@ module _ {A : Type 0} (slab : Slab A) (places : List (Uid × Option ℕ)) (w : I
   }
 
   -- what is active
-  pub place-active : (u : Uid) (key : ℕ) → Some key ≡ with_item (value_at uid_cmp u places) (λ k. k) None → (get_slab slab key ≡ active_in (get (map_of slab places) u)) × (value_at uid_cmp u places ≡ Some (Some key))
+  pub place-active : (u : Uid) (key : ℕ) → Some key ≡ with_item (value_at uid_cmp u places) (λ k. k) None
+      → (get_slab slab key ≡ active_in (get (map_of slab places) u)) × (value_at uid_cmp u places ≡ Some (Some key))
   place-active u key is = go (value_at uid_cmp u places) refl is
     where
-      go : (o : Option (Option ℕ)) → value_at uid_cmp u places ≡ o → Some key ≡ with_item o (λ k. k) None → (get_slab slab key ≡ active_in (get (map_of slab places) u)) × (value_at uid_cmp u places ≡ Some (Some key))
+      go : (o : Option (Option ℕ)) → value_at uid_cmp u places ≡ o → Some key ≡ with_item o (λ k. k) None
+          → (get_slab slab key ≡ active_in (get (map_of slab places) u)) × (value_at uid_cmp u places ≡ Some (Some key))
       go None e n = cc
       go (Some None) e n = cc
       go (Some (Some k)) e n = let m : k ≡ key = cc in (rw (get-map slab places u w.sorted, e, m) refl, rw (e, m) refl)
@@ -192,7 +220,8 @@ module _ {A : Type 0} (slab : Slab A) (places : List (Uid × Option ℕ)) (w : I
   pub place-none : (u : Uid) → None ≡ with_item (value_at uid_cmp u places) (λ k. k) None → None ≡ active_in (get (map_of slab places) u)
   place-none u is = go (value_at uid_cmp u places) refl is
     where
-      go : (o : Option (Option ℕ)) → value_at uid_cmp u places ≡ o → None ≡ with_item o (λ k. k) None → None ≡ active_in (get (map_of slab places) u)
+      go : (o : Option (Option ℕ)) → value_at uid_cmp u places ≡ o → None ≡ with_item o (λ k. k) None
+          → None ≡ active_in (get (map_of slab places) u)
       go None e n = rw (get-map slab places u w.sorted, e) refl
       go (Some None) e n = rw (get-map slab places u w.sorted, e) refl
       go (Some (Some k)) e n = cc
@@ -210,8 +239,10 @@ module _ {A : Type 0} (slab : Slab A) (places : List (Uid × Option ℕ)) (w : I
       go (Some (Some k)) e = rw (get-map slab places u w.sorted, e) (known k (get_slab slab k) refl (w.occupied u k e))
 
   -- the part at the key leaves
-  pub drop-part : (new : Slab A) (now : List (Uid × Option ℕ)) (u : Uid) (key : ℕ) (stays : Bool) → Some key ≡ with_item (value_at uid_cmp u places) (λ k. k) None → Updates slab new key None
-      → T (is_sorted uid_cmp now) → ((q : Uid) → value_at uid_cmp q now ≡ cond (eq_by_cmp uid_cmp u q) (cond stays (Some None) None) (value_at uid_cmp q places))
+  pub drop-part : (new : Slab A) (now : List (Uid × Option ℕ)) (u : Uid) (key : ℕ) (stays : Bool)
+      → Some key ≡ with_item (value_at uid_cmp u places) (λ k. k) None → Updates slab new key None
+      → T (is_sorted uid_cmp now) → ((q : Uid) → value_at uid_cmp q now ≡ cond (eq_by_cmp uid_cmp u q) (cond stays (Some None) None)
+      (value_at uid_cmp q places))
       → IsWhole new now × (map_of new now ≡ dropped (map_of slab places) u stays)
   drop-part new now u key stays is up sorted at = (changed-whole slab places w new now u (cond stays (Some None) None) h, last stays refl)
     where
@@ -222,7 +253,8 @@ module _ {A : Type 0} (slab : Slab A) (places : List (Uid × Option ℕ)) (w : I
       h : IsChanged slab places new now u (cond stays (Some None) None)
       h = removed new now u key (cond stays (Some None) None) (place-active u key is).1 up (no-place stays) sorted at
 
-      some : (o : Option A) → IsSome o → (b : Bool) → dropped_in o (map_of slab places) u b ≡ cond b (insert (map_of slab places) u None) (remove (map_of slab places) u)
+      some : (o : Option A) → IsSome o → (b : Bool)
+          → dropped_in o (map_of slab places) u b ≡ cond b (insert (map_of slab places) u None) (remove (map_of slab places) u)
       some None i b = absurd (let bad = i in cc)
       some (Some x) i b = refl
 
@@ -230,13 +262,16 @@ module _ {A : Type 0} (slab : Slab A) (places : List (Uid × Option ℕ)) (w : I
       there = rw (← (place-active u key is).0) (w.occupied u key (place-active u key is).1)
 
       last : (b : Bool) → stays ≡ b → map_of new now ≡ dropped (map_of slab places) u stays
-      last true e = rw (some (active_in (get (map_of slab places) u)) there stays, e) (changed-put slab places w new now u (cond stays (Some None) None) h None (rw e refl))
-      last false e = rw (some (active_in (get (map_of slab places) u)) there stays, e) (changed-gone slab places w new now u (cond stays (Some None) None) h (rw e refl))
+      last true e = rw (some (active_in (get (map_of slab places) u)) there stays, e)
+          (changed-put slab places w new now u (cond stays (Some None) None) h None (rw e refl))
+      last false e = rw (some (active_in (get (map_of slab places) u)) there stays, e)
+          (changed-gone slab places w new now u (cond stays (Some None) None) h (rw e refl))
 
   pub some-place : (u : Uid) (key : ℕ) → Some key ≡ with_item (value_at uid_cmp u places) (λ k. k) None → IsSome (value_at uid_cmp u places)
   some-place u key is = rw (place-active u key is).1 refl
 
-  pub no-drop : (u : Uid) (stays : Bool) → None ≡ with_item (value_at uid_cmp u places) (λ k. k) None → map_of slab places ≡ dropped (map_of slab places) u stays
+  pub no-drop : (u : Uid) (stays : Bool) → None ≡ with_item (value_at uid_cmp u places) (λ k. k) None
+      → map_of slab places ≡ dropped (map_of slab places) u stays
   no-drop u stays is = rw (← place-none u is) refl
 
   -- how many, and which
@@ -249,7 +284,8 @@ module _ {A : Type 0} (slab : Slab A) (places : List (Uid × Option ℕ)) (w : I
   pub map-keys : map (λ (e : Uid × Option A). e.0) (entries (map_of slab places)) ≡ map (λ (e : Uid × Option ℕ). e.0) places
   map-keys = ap (map (λ (e : Uid × Option A). e.0)) map-entries ∙ each-keys places
     where
-      each-keys : (es : List (Uid × Option ℕ)) → map (λ (e : Uid × Option A). e.0) (each_value (item_of slab) es) ≡ map (λ (e : Uid × Option ℕ). e.0) es
+      each-keys : (es : List (Uid × Option ℕ)) → map (λ (e : Uid × Option A). e.0) (each_value (item_of slab) es) ≡ map
+          (λ (e : Uid × Option ℕ). e.0) es
       each-keys [] = refl
       each-keys (e ∷ es) = ap (λ xs. e.0 ∷ xs) (each-keys es)
 
@@ -278,7 +314,8 @@ module _ {A : Type 0} (slab : Slab A) (places : List (Uid × Option ℕ)) (w : I
       at-other : (k : ℕ) → k ≢ key → get_slab (with_value slab key a) k ≡ get_slab slab k
       at-other k n = get_or-set_other slab.slots key k (Some a) None n
 
-      here : (q : Uid) (b : Bool) → eq_by_cmp uid_cmp u q ≡ b → value_at uid_cmp q places ≡ cond b (Some (Some key)) (value_at uid_cmp q places)
+      here : (q : Uid) (b : Bool) → eq_by_cmp uid_cmp u q ≡ b
+          → value_at uid_cmp q places ≡ cond b (Some (Some key)) (value_at uid_cmp q places)
       here q true e = ap (λ x. value_at uid_cmp x places) (sym (eq-same uid_cmp uid_cmp-IsAntisymmetric u q e)) ∙ was
       here q false e = refl
 
@@ -286,7 +323,9 @@ module _ {A : Type 0} (slab : Slab A) (places : List (Uid × Option ℕ)) (w : I
       h = record {
         sorted = w.sorted;
         at = λ q. here q (eq_by_cmp uid_cmp u q) refl;
-        others = λ q k e i. at-other k (λ n. let same : u ≡ q = w.apart u q k (was ∙ ap (λ j. Some (Some j)) (sym n)) i in let bad : true ≡ false = sym (self-eq u) ∙ ap (λ x. eq_by_cmp uid_cmp u x) same ∙ e in cc);
+        others = λ q k e i. at-other k (λ n. let same : u ≡ q = w.apart u q k (was ∙ ap (λ j. Some (Some j)) (sym n)) i in
+            let bad : true ≡ false = sym (self-eq u) ∙ ap (λ x. eq_by_cmp uid_cmp u x) same ∙ e in cc);
         occupied = λ k i. let n : k ≡ key = cc in rw (n, at-key) refl;
-        alone = λ q k i e j. let n : key ≡ k = cc in let same : u ≡ q = w.apart u q k (was ∙ ap (λ m. Some (Some m)) n) j in let bad : true ≡ false = sym (self-eq u) ∙ ap (λ x. eq_by_cmp uid_cmp u x) same ∙ e in cc;
+        alone = λ q k i e j. let n : key ≡ k = cc in let same : u ≡ q = w.apart u q k (was ∙ ap (λ m. Some (Some m)) n) j in
+            let bad : true ≡ false = sym (self-eq u) ∙ ap (λ x. eq_by_cmp uid_cmp u x) same ∙ e in cc;
       }

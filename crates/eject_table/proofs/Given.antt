@@ -10,18 +10,23 @@ use Rattle.eject_table.specs.Changes.{Change, created, noted, woken, written, dr
 abbrev IsBehind : ℕ → ℕ → Uid → Type 0
 IsBehind epoch last u = (u.epoch ≤ epoch) × (u.epoch ≡ epoch → u.serial ≤ last)
 
-gives-from : {A : Type 0} (cs : List (Change A)) (t : Table A) (before : List Uid) → All (IsBehind t.epoch t.last_serial) before → Runs t cs → GivesOnce before cs
+gives-from : {A : Type 0} (cs : List (Change A)) (t : Table A) (before : List Uid) → All (IsBehind t.epoch t.last_serial) before
+    → Runs t cs → GivesOnce before cs
 gives-from [] t before behind run = tt
 gives-from (created u a ∷ cs) t before behind run =
     let epoch : u.epoch ≡ t.epoch = ap (λ (v : Uid). v.epoch) run.0 in
     let serial : u.serial ≡ t.last_serial + 1 = ap (λ (v : Uid). v.serial) run.0 in (
-      All-weaker (IsBehind t.epoch t.last_serial) (λ v. v ≢ u) (λ v b e. let le : v.serial ≤ t.last_serial = b.1 (ap (λ (w : Uid). w.epoch) e ∙ epoch) in omega (arith, le, serial, ap (λ (w : Uid). w.serial) e)) before behind,
+      All-weaker (IsBehind t.epoch t.last_serial) (λ v. v ≢ u)
+          (λ v b e. let le : v.serial ≤ t.last_serial = b.1 (ap (λ (w : Uid). w.epoch) e ∙ epoch) in
+          omega (arith, le, serial, ap (λ (w : Uid). w.serial) e)) before behind,
       gives-from cs (changed (created u a) t) (u ∷ before)
           (All-cons (IsBehind t.epoch (t.last_serial + 1)) u before (omega (arith, epoch), λ e. omega (arith, serial))
-          (All-weaker (IsBehind t.epoch t.last_serial) (IsBehind t.epoch (t.last_serial + 1)) (λ v b. (b.0, λ e. let le : v.serial ≤ t.last_serial = b.1 e in omega (arith, le))) before behind)) run.1,
+          (All-weaker (IsBehind t.epoch t.last_serial) (IsBehind t.epoch (t.last_serial + 1))
+          (λ v b. (b.0, λ e. let le : v.serial ≤ t.last_serial = b.1 e in omega (arith, le))) before behind)) run.1,
     )
 gives-from (noted u ∷ cs) t before behind run =
-    gives-from cs (changed (noted u) t) (u ∷ before) (All-cons (IsBehind t.epoch t.last_serial) u before (omega (arith, run.0), λ e. absurd (omega (arith, run.0, e))) behind) run.1
+    gives-from cs (changed (noted u) t) (u ∷ before)
+    (All-cons (IsBehind t.epoch t.last_serial) u before (omega (arith, run.0), λ e. absurd (omega (arith, run.0, e))) behind) run.1
 gives-from (woken u a ∷ cs) t before behind run = gives-from cs (changed (woken u a) t) before behind run.1
 gives-from (written u a ∷ cs) t before behind run = gives-from cs (changed (written u a) t) before behind run.1
 gives-from (dropped_out u stays ∷ cs) t before behind run = gives-from cs (changed (dropped_out u stays) t) before behind run.1

@@ -4,10 +4,12 @@ use Rattle.std.specs.List.{filter, find}
 use Rattle.capability.specs.declared.Uid.{Uid}
 use Rattle.eden_model.specs.Map.{first}
 
-pub first-kept : (q : Uid → Bool) (p : Uid × Option ℕ → Bool) → ((e : Uid × Option ℕ) → p e ≡ q e.0) → (es : List (Uid × Option ℕ)) → first (map (λ e. e.0) (filter p es)) ≡ find q (map (λ e. e.0) es)
+pub first-kept : (q : Uid → Bool) (p : Uid × Option ℕ → Bool) → ((e : Uid × Option ℕ) → p e ≡ q e.0) → (es : List (Uid × Option ℕ))
+    → first (map (λ e. e.0) (filter p es)) ≡ find q (map (λ e. e.0) es)
 first-kept q p same [] = refl
 first-kept q p same (e ∷ es) = rw (same e) (go (q e.0) (first-kept q p same es))
   where
-    go : (b : Bool) → first (map (λ e. e.0) (filter p es)) ≡ find q (map (λ e. e.0) es) → first (map (λ e. e.0) (cond b (e ∷ filter p es) (filter p es))) ≡ cond b (Some e.0) (find q (map (λ e. e.0) es))
+    go : (b : Bool) → first (map (λ e. e.0) (filter p es)) ≡ find q (map (λ e. e.0) es)
+        → first (map (λ e. e.0) (cond b (e ∷ filter p es) (filter p es))) ≡ cond b (Some e.0) (find q (map (λ e. e.0) es))
     go true ih = refl
     go false ih = ih

@@ -145,6 +145,13 @@ impl<A> EjectTable<A> {
         }
     }
 
+    /// The number of the node.
+    pub fn node(&self) -> u8
+        ensures { result ≡ self.now.node }
+    {
+        self.node
+    }
+
     /// How the Eject stands.
     pub fn find(&self, uid: Uid) -> Standing
         ensures { result ≡ standing_at self.now uid }

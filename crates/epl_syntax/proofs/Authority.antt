@@ -22,7 +22,8 @@ use Rattle.epl_syntax.specs.Meaning.{Edentype, of_native, of_declared, values_fr
 use Rattle.epl_syntax.specs.Edentype.{native, declared, outline_of, slots_of}
 use Rattle.epl_syntax.specs.declared.types.Native.TheVariants as code
 use Rattle.epl_syntax.specs.Outline.{Slot, starts, only_kept, with_kept}
-use Rattle.epl_syntax.specs.Authority.{AllBelow, rest_caps, TurnKeepsCaps, BeginKeepsCaps, DeclaredHaveNone, FirstHaveNone, DurableKeepCaps, StartKeepsCaps, IsBelowOne}
+use Rattle.epl_syntax.specs.Authority.{AllBelow, rest_caps, TurnKeepsCaps, BeginKeepsCaps, DeclaredHaveNone, FirstHaveNone}
+use Rattle.epl_syntax.specs.Authority.{DurableKeepCaps, StartKeepsCaps, IsBelowOne}
 use Rattle.epl_syntax.proofs.Owned.{Owned, AllOwned, owned_caps, caps_owned, either, found_through}
 use Rattle.epl_syntax.proofs.Steps.{process_owned, operation_owned}
 use Rattle.epl_syntax.proofs.Evaluated.{MemoryOwned, constant_owned, value_owned, set_owned, variables_owned, arguments_owned, values_owned}

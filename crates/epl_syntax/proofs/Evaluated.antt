@@ -8,9 +8,11 @@ use Rattle.eden_value.specs.Datum.{Datum}
 use Rattle.eden_model.specs.Map.{with_item}
 use Rattle.epl_syntax.specs.declared.effect.FaultCause.{FaultCause}
 use Rattle.epl_syntax.specs.declared.effect.FaultCause.TheVariants.{BadKind}
-use Rattle.epl_syntax.specs.Tree.{Constant, integer, text, truth, absent, empty_list, Expression, Const_, Name_, Me, Unary, Binary, Index, ListOf, Apply, Expressions, no_expressions, expression_and, Variable, Local, Parameter}
+use Rattle.epl_syntax.specs.Tree.{Constant, integer, text, truth, absent, empty_list, Expression, Const_, Name_, Me, Unary, Binary}
+use Rattle.epl_syntax.specs.Tree.{Index, ListOf, Apply, Expressions, no_expressions, expression_and, Variable, Local, Parameter}
 use Rattle.epl_syntax.specs.Operators.{found, before_operand, between, item_at, list_of, applied}
-use Rattle.epl_syntax.specs.Memory.{value_of_constant, Held, Memory, is_called, held_as, value_as, put_into, set, set_each, variables, arguments, locals}
+use Rattle.epl_syntax.specs.Memory.{value_of_constant, Held, Memory, is_called, held_as, value_as, put_into, set, set_each, variables}
+use Rattle.epl_syntax.specs.Memory.{arguments, locals}
 use Rattle.epl_syntax.specs.Expressions.{value_of, values_of}
 use Rattle.epl_syntax.specs.Turns.{values_in}
 use Rattle.epl_syntax.specs.Authority.{IsBelowOne}

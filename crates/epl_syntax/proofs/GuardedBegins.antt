@@ -9,7 +9,10 @@ use Rattle.epl_syntax.specs.declared.tree.Name.{Name}
 use Rattle.epl_syntax.specs.Tree.{TypeTree, Operation, Process, Statement, block_of}
 use Rattle.epl_syntax.specs.Rules.Scopes.{Scope, doubled, as_variables}
 use Rattle.epl_syntax.specs.Rules.InStatements.{broken_block}
-use Rattle.epl_syntax.specs.Rules.InItems.{names_of_vars, names_of_classes, names_of_params, names_of_locals, places_of, too_many, broken_names, scope_in, broken_version, broken_counts, broken_small_names, broken_great_names, broken_numbers, broken_var, broken_class, broken_head, broken_declared, broken_local, broken_operation, broken_process, broken_upgrade, broken_program}
+use Rattle.epl_syntax.specs.Rules.InItems.{names_of_vars, names_of_classes, names_of_params, names_of_locals, places_of, too_many}
+use Rattle.epl_syntax.specs.Rules.InItems.{broken_names, scope_in, broken_version, broken_counts, broken_small_names, broken_great_names}
+use Rattle.epl_syntax.specs.Rules.InItems.{broken_numbers, broken_var, broken_class, broken_head, broken_declared, broken_local}
+use Rattle.epl_syntax.specs.Rules.InItems.{broken_operation, broken_process, broken_upgrade, broken_program}
 use Rattle.epl_syntax.specs.Statements.{does, steps}
 use Rattle.epl_syntax.specs.Turns.{left_of, nothing_left, process_left}
 use Rattle.epl_syntax.specs.Monitors.{IsGuardedOf, OperationsBeginGuarded, ProcessesBeginGuarded}

@@ -7,7 +7,8 @@ use Rattle.eden_model.specs.Map.{with_item, same_text}
 use Rattle.epl_syntax.specs.declared.rule.Rule.TheVariants.{Doubled}
 use Rattle.epl_syntax.specs.declared.tree.Name.{Name}
 use Rattle.epl_syntax.specs.Tree.{TypeTree, Variable, Parameter, Local}
-use Rattle.epl_syntax.specs.Rules.Scopes.{Scope, Seen, or_else, local_named, param_named, var_named, variable_named, is_among, as_variable, as_variables}
+use Rattle.epl_syntax.specs.Rules.Scopes.{Scope, Seen, or_else, local_named, param_named, var_named, variable_named, is_among}
+use Rattle.epl_syntax.specs.Rules.Scopes.{as_variable, as_variables}
 use Rattle.epl_syntax.specs.Rules.InExpressions.{is_guarded}
 use Rattle.epl_syntax.specs.Rules.InItems.{names_of_vars, names_of_params, names_of_locals}
 use Rattle.epl_syntax.specs.Turns.{Left}

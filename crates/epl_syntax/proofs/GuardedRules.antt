@@ -1,5 +1,6 @@
 -- What the rules say of a name, a monitor and a condition, where none is broken.
-use Rattle.std.proofs.Common.{◌≡◌, ℕ, zero, suc, ◌+◌, ◌<◌, ◌≤◌, Bool, true, false, cond, not, nat_lt, List, [], ◌∷◌, ◌++◌, map, length, slice_get, Option, None, Some, option_map, refl, ap, sym, ◌∙◌, subst, arith, ltb-true, ltb-false, eqb-true}
+use Rattle.std.proofs.Common.{◌≡◌, ℕ, zero, suc, ◌+◌, ◌<◌, ◌≤◌, Bool, true, false, cond, not, nat_lt, List, [], ◌∷◌, ◌++◌, map, length}
+use Rattle.std.proofs.Common.{slice_get, Option, None, Some, option_map, refl, ap, sym, ◌∙◌, subst, arith, ltb-true, ltb-false, eqb-true}
 use Rattle.std.specs.Prelude.{IfSome, find, position}
 use Rattle.std.specs.List.{list_all, list_any, position_from, position_or_len}
 use Rattle.std.proofs.lemmas.Bool.{not-false, and_from, cond_both}
@@ -10,9 +11,11 @@ use Rattle.epl_syntax.specs.declared.rule.Rule.{Rule}
 use Rattle.epl_syntax.specs.declared.tree.Name.{Name}
 use Rattle.epl_syntax.specs.declared.tree.CondDecl.{CondDecl}
 use Rattle.epl_syntax.specs.Rules.First.{broken_if}
-use Rattle.epl_syntax.specs.Rules.Scopes.{Scope, Seen, variable_named, number_in, monitor_named, monitor_of_condition, condition_named, is_type}
+use Rattle.epl_syntax.specs.Rules.Scopes.{Scope, Seen, variable_named, number_in, monitor_named, monitor_of_condition, condition_named}
+use Rattle.epl_syntax.specs.Rules.Scopes.{is_type}
 use Rattle.epl_syntax.specs.Rules.InExpressions.{stands_in, is_guarded, broken_use_of, broken_use}
-use Rattle.epl_syntax.specs.Rules.InStatements.{broken_uses, broken_type, broken_condition_of, broken_condition, unknown_if_none, number_or_none}
+use Rattle.epl_syntax.specs.Rules.InStatements.{broken_uses, broken_type, broken_condition_of, broken_condition, unknown_if_none}
+use Rattle.epl_syntax.specs.Rules.InStatements.{number_or_none}
 use Rattle.epl_syntax.specs.Tree.{TypeTree}
 use Rattle.epl_syntax.specs.Statements.{monitor_number, condition_number}
 use Rattle.epl_syntax.specs.Monitors.{may_set, monitor_of}

@@ -1,5 +1,6 @@
 -- A turn of a process of a declared type leaves a guarded rest guarded, and its effect is one that may be and moves the process as told.
-use Rattle.std.proofs.Common.{◌≡◌, ℕ, zero, suc, Bool, true, false, cond, List, [], ◌∷◌, ◌++◌, map, length, Option, None, Some, is_some, Result, Ok, Err, refl, sym, ◌∙◌, subst}
+use Rattle.std.proofs.Common.{◌≡◌, ℕ, zero, suc, Bool, true, false, cond, List, [], ◌∷◌, ◌++◌, map, length, Option, None, Some, is_some}
+use Rattle.std.proofs.Common.{Result, Ok, Err, refl, sym, ◌∙◌, subst}
 use Rattle.std.specs.Prelude.{IfSome}
 use Rattle.std.specs.List.{list_all, list_any}
 use Rattle.std.proofs.lemmas.Bool.{and_from, cond_both}
@@ -17,15 +18,21 @@ use Rattle.epl_syntax.specs.Rules.KindsOf.{kind_named}
 use Rattle.epl_syntax.specs.Rules.InExpressions.{misfit, broken_use}
 use Rattle.epl_syntax.specs.Rules.First.{broken_if}
 use Rattle.epl_syntax.specs.declared.rule.Rule.TheVariants.{Nested}
-use Rattle.epl_syntax.specs.Rules.InStatements.{broken_as, broken_variable, broken_target, broken_expressions, broken_uses, broken_type, broken_with, unknown_if_none, held_in, misreturned, broken_values, wanted_of, broken_statement, broken_block}
-use Rattle.epl_syntax.specs.Tree.{TypeTree, PlacedShape, Statement, Assign, If, While, With, Wait, Signal, Yield, Deactivate, Checkpoint, Destroy, Create, Invoke, Return, Statements, no_statements, statement_and, in_order}
+use Rattle.epl_syntax.specs.Rules.InStatements.{broken_as, broken_variable, broken_target, broken_expressions, broken_uses, broken_type}
+use Rattle.epl_syntax.specs.Rules.InStatements.{broken_with, unknown_if_none, held_in, misreturned, broken_values, wanted_of}
+use Rattle.epl_syntax.specs.Rules.InStatements.{broken_statement, broken_block}
+use Rattle.epl_syntax.specs.Tree.{TypeTree, PlacedShape, Statement, Assign, If, While, With, Wait, Signal, Yield, Deactivate, Checkpoint}
+use Rattle.epl_syntax.specs.Tree.{Destroy, Create, Invoke, Return, Statements, no_statements, statement_and, in_order}
 use Rattle.epl_syntax.specs.Memory.{Held, Memory, set}
 use Rattle.epl_syntax.specs.Expressions.{value_of, values_of}
-use Rattle.epl_syntax.specs.Statements.{Step, does, leaves, steps, Awaited, no_answer, a_reply, Came, goes_on, ends, ends_in, faults, with_found, tested, target_of, monitor_number, condition_number, came_of}
+use Rattle.epl_syntax.specs.Statements.{Step, does, leaves, steps, Awaited, no_answer, a_reply, Came, goes_on, ends, ends_in, faults}
+use Rattle.epl_syntax.specs.Statements.{with_found, tested, target_of, monitor_number, condition_number, came_of}
 use Rattle.epl_syntax.specs.Turns.{Left, told, onward, run, budget, seen_by, came_to, as_turn}
-use Rattle.epl_syntax.specs.Monitors.{IsNumberIn, monitor_of, inside, broken_steps, LeavesOnce, awaited_names, may_set, IsGuarded, IsScopeOf, Moves, IsAllowed, StaysGuarded, TurnStaysGuarded}
+use Rattle.epl_syntax.specs.Monitors.{IsNumberIn, monitor_of, inside, broken_steps, LeavesOnce, awaited_names, may_set, IsGuarded}
+use Rattle.epl_syntax.specs.Monitors.{IsScopeOf, Moves, IsAllowed, StaysGuarded, TurnStaysGuarded}
 use Rattle.epl_syntax.proofs.Owned.{either}
-use Rattle.epl_syntax.proofs.GuardedRules.{front_empty, back_empty, both_empty, not_broken, use_guarded, uses_guarded, NamesMonitor, names_monitor, NamesCondition, names_condition, names_type}
+use Rattle.epl_syntax.proofs.GuardedRules.{front_empty, back_empty, both_empty, not_broken, use_guarded, uses_guarded, NamesMonitor}
+use Rattle.epl_syntax.proofs.GuardedRules.{names_monitor, NamesCondition, names_condition, names_type}
 
 -- ---- the statements of a block before other steps
 pub inside_block : (ss : Statements) (rest : List Step) → inside (steps ss ++ rest) ≡ inside rest

@@ -1,5 +1,6 @@
 -- A turn of a process of a declared type neither changes a variable of a monitor that it is not inside of nor depends on one.
-use Rattle.std.proofs.Common.{◌≡◌, ℕ, zero, suc, Bool, true, false, cond, List, [], ◌∷◌, ◌++◌, map, length, Option, Result, Ok, Err, refl, ap, sym, ◌∙◌, subst}
+use Rattle.std.proofs.Common.{◌≡◌, ℕ, zero, suc, Bool, true, false, cond, List, [], ◌∷◌, ◌++◌, map, length, Option, Result, Ok, Err}
+use Rattle.std.proofs.Common.{refl, ap, sym, ◌∙◌, subst}
 use Rattle.std.specs.Prelude.{IfOk}
 use Rattle.std.specs.List.{list_all}
 use Rattle.std.proofs.lemmas.Bool.{and_parts}
@@ -19,19 +20,26 @@ use Rattle.epl_syntax.specs.Kinds.{have_shapes}
 use Rattle.epl_syntax.specs.Rules.Scopes.{Scope, var_named}
 use Rattle.epl_syntax.specs.Rules.KindsOf.{kind_named, kind_of}
 use Rattle.epl_syntax.specs.Rules.InExpressions.{place_of, misfit, misfit_known, broken_use, broken_expression}
-use Rattle.epl_syntax.specs.Rules.InStatements.{broken_as, broken_variable, broken_target, broken_expressions, broken_uses, misreturned, wanted_of, broken_values, broken_statement, broken_block}
-use Rattle.epl_syntax.specs.Tree.{TypeTree, Variable, Expression, Statement, Assign, If, While, With, Wait, Signal, Yield, Deactivate, Checkpoint, Destroy, Create, Invoke, Return, in_order}
+use Rattle.epl_syntax.specs.Rules.InStatements.{broken_as, broken_variable, broken_target, broken_expressions, broken_uses, misreturned}
+use Rattle.epl_syntax.specs.Rules.InStatements.{wanted_of, broken_values, broken_statement, broken_block}
+use Rattle.epl_syntax.specs.Tree.{TypeTree, Variable, Expression, Statement, Assign, If, While, With, Wait, Signal, Yield, Deactivate}
+use Rattle.epl_syntax.specs.Tree.{Checkpoint, Destroy, Create, Invoke, Return, in_order}
 use Rattle.epl_syntax.specs.Operators.{found}
 use Rattle.epl_syntax.specs.Memory.{Held, Memory, set, set_each, variables}
 use Rattle.epl_syntax.specs.Expressions.{value_of, values_of}
-use Rattle.epl_syntax.specs.Statements.{Step, does, leaves, steps, Awaited, a_code, a_creation, a_reply, Came, goes_on, ends, ends_in, faults, with_found, tested, present, target_of, came_of}
-use Rattle.epl_syntax.specs.Turns.{Left, code, kinds_as, taken, told, onward, run, budget, seen_by, values_in, came_to, as_turn, process_turn}
-use Rattle.epl_syntax.specs.Monitors.{inside, broken_steps, awaited_names, may_set, IsGuarded, IsScopeOf, is_open, is_shut, SameWhere, DoTheSame, TurnKeepsMonitors}
+use Rattle.epl_syntax.specs.Statements.{Step, does, leaves, steps, Awaited, a_code, a_creation, a_reply, Came, goes_on, ends, ends_in}
+use Rattle.epl_syntax.specs.Statements.{faults, with_found, tested, present, target_of, came_of}
+use Rattle.epl_syntax.specs.Turns.{Left, code, kinds_as, taken, told, onward, run, budget, seen_by, values_in, came_to, as_turn}
+use Rattle.epl_syntax.specs.Turns.{process_turn}
+use Rattle.epl_syntax.specs.Monitors.{inside, broken_steps, awaited_names, may_set, IsGuarded, IsScopeOf, is_open, is_shut, SameWhere}
+use Rattle.epl_syntax.specs.Monitors.{DoTheSame, TurnKeepsMonitors}
 use Rattle.epl_syntax.proofs.Owned.{either}
 use Rattle.epl_syntax.proofs.GuardedRules.{front_empty, back_empty, use_guarded}
 use Rattle.epl_syntax.proofs.GuardedSteps.{AreKept, at_itself, CameKept, came_kept}
 use Rattle.epl_syntax.proofs.GuardedNames.{IsOpenSeen, Opens, opens}
-use Rattle.epl_syntax.proofs.GuardedValues.{AreLike, like_at_first, same_at_last, same_everywhere, values_back, with_shared, Agrees, set_agrees, set_agrees_too, set_each_agrees, set_keeps_shut, kinds_same, row_keeps, values_keep, value_as_same, value_same, row_same}
+use Rattle.epl_syntax.proofs.GuardedValues.{AreLike, like_at_first, same_at_last, same_everywhere, values_back, with_shared, Agrees}
+use Rattle.epl_syntax.proofs.GuardedValues.{set_agrees, set_agrees_too, set_each_agrees, set_keeps_shut, kinds_same, row_keeps}
+use Rattle.epl_syntax.proofs.GuardedValues.{values_keep, value_as_same, value_same, row_same}
 
 -- ---- steps from memories that agree
 -- the other goes on so, too

@@ -1,5 +1,6 @@
 -- Memories that agree on some variables of the type: what is looked up and set in both, and the values of expressions.
-use Rattle.std.proofs.Common.{◌≡◌, ℕ, Bool, true, false, cond, not, ◌==◌, List, [], ◌∷◌, ◌++◌, length, Option, None, Some, Ok, Err, option_map, refl, ap, sym, ◌∙◌, subst}
+use Rattle.std.proofs.Common.{◌≡◌, ℕ, Bool, true, false, cond, not, ◌==◌, List, [], ◌∷◌, ◌++◌, length, Option, None, Some, Ok, Err}
+use Rattle.std.proofs.Common.{option_map, refl, ap, sym, ◌∙◌, subst}
 use Rattle.std.specs.Prelude.{find}
 use Rattle.std.specs.List.{list_any, cons_option}
 use Rattle.eden_value.specs.Datum.{Datum}
@@ -10,9 +11,11 @@ use Rattle.epl_syntax.specs.declared.rule.Rule.TheVariants.{KindDiffers}
 use Rattle.epl_syntax.specs.Rules.First.{broken_if}
 use Rattle.epl_syntax.specs.Rules.Scopes.{Scope, var_named}
 use Rattle.epl_syntax.specs.Rules.KindsOf.{is_list, kind_of_prefix, kind_of, kind_of_first, argument_tests}
-use Rattle.epl_syntax.specs.Rules.InExpressions.{count, place_of, failing, misfit, misfit_known, misfit_operands, is_guarded, broken_expression, broken_items, broken_arguments}
+use Rattle.epl_syntax.specs.Rules.InExpressions.{count, place_of, failing, misfit, misfit_known, misfit_operands, is_guarded}
+use Rattle.epl_syntax.specs.Rules.InExpressions.{broken_expression, broken_items, broken_arguments}
 use Rattle.epl_syntax.specs.Rules.InStatements.{broken_as, broken_expressions, broken_values}
-use Rattle.epl_syntax.specs.Tree.{PlacedShape, TypeTree, Variable, Expression, Const_, Name_, Me, Unary, Binary, Index, ListOf, Apply, Expressions, no_expressions, expression_and, in_order}
+use Rattle.epl_syntax.specs.Tree.{PlacedShape, TypeTree, Variable, Expression, Const_, Name_, Me, Unary, Binary, Index, ListOf, Apply}
+use Rattle.epl_syntax.specs.Tree.{Expressions, no_expressions, expression_and, in_order}
 use Rattle.epl_syntax.specs.Operators.{found, before_operand, between, item_at, list_of, applied}
 use Rattle.epl_syntax.specs.Memory.{Held, Memory, is_called, held_as, value_as, put_into, set, set_each, variables}
 use Rattle.epl_syntax.specs.Expressions.{value_of, values_of}

@@ -1,5 +1,6 @@
 -- How tokens follow one another.
-use Rattle.std.proofs.Common.{◌≡◌, ℕ, zero, suc, ◌+◌, ◌-◌, ◌*◌, ◌<◌, ◌≤◌, Bool, true, false, cond, List, [], ◌∷◌, ◌++◌, length, take, drop, Option, Some, None, refl, sym, ap, ◌∙◌, subst, arith, get_or, drop-cons}
+use Rattle.std.proofs.Common.{◌≡◌, ℕ, zero, suc, ◌+◌, ◌-◌, ◌*◌, ◌<◌, ◌≤◌, Bool, true, false, cond, List, [], ◌∷◌, ◌++◌, length, take}
+use Rattle.std.proofs.Common.{drop, Option, Some, None, refl, sym, ap, ◌∙◌, subst, arith, get_or, drop-cons}
 use Rattle.std.specs.Prelude.{option_and_then, IfSome, nat_le, ◌==◌, ◌||◌, ◌&&◌}
 use Rattle.std.specs.List.{take_while, prefix_len}
 use Rattle.std.specs.Char.{is_ascii_uppercase, is_ascii_lowercase}
@@ -25,15 +26,18 @@ within_none = record { small = λ f e. absurd cc }
 within_some : {A : Type 0} {m : ℕ} (a : A) (n : ℕ) → (0 < n) × (n ≤ m) → Within m (Some (a, n))
 within_some {A} {m} a n h = record { small = λ f e. let s : n ≡ f.1 = cc in subst (λ x. (0 < x) × (x ≤ m)) s h }
 
-within_cond : {A : Type 0} {m : ℕ} {x y : Option (A × ℕ)} (b : Bool) → (b ≡ true → Within m x) → (b ≡ false → Within m y) → Within m (cond b x y)
+within_cond : {A : Type 0} {m : ℕ} {x y : Option (A × ℕ)} (b : Bool) → (b ≡ true → Within m x) → (b ≡ false → Within m y)
+    → Within m (cond b x y)
 within_cond true h k = h refl
 within_cond false h k = k refl
 
-within_and : {B : Type 0} {m : ℕ} (o : Option B) (f : B → Option (TokenKind × ℕ)) → ((b : B) → o ≡ Some b → Within m (f b)) → Within m (option_and_then f o)
+within_and : {B : Type 0} {m : ℕ} (o : Option B) (f : B → Option (TokenKind × ℕ)) → ((b : B) → o ≡ Some b → Within m (f b))
+    → Within m (option_and_then f o)
 within_and None f h = within_none
 within_and (Some b) f h = h b refl
 
-within_all : (p : ℕ → Bool) (b : ℕ) (bs : List ℕ) → p b ≡ true → (0 < length (take_while p (b ∷ bs))) × (length (take_while p (b ∷ bs)) ≤ length (b ∷ bs))
+within_all : (p : ℕ → Bool) (b : ℕ) (bs : List ℕ) → p b ≡ true → (0 < length (take_while p (b ∷ bs)))
+    × (length (take_while p (b ∷ bs)) ≤ length (b ∷ bs))
 within_all p b bs h =
     let e : length (take_while p (b ∷ bs)) ≡ prefix_len p (b ∷ bs) = length-prefix_len p (b ∷ bs) in
     let s : prefix_len p (b ∷ bs) ≡ 1 + prefix_len p bs = ap (λ (t : Bool). cond t (1 + prefix_len p bs) 0) h in
@@ -53,7 +57,8 @@ name_within : (b : ℕ) (bs : List ℕ) (upper : Bool) → is_name_byte b ≡ tr
 name_within b bs upper h =
     let w = within_all is_name_byte b bs h in
     let n = name_length (b ∷ bs) in
-    within_cond (nat_le n 32) (λ _. within_cond upper (λ _. within_some _ n w) (λ _. named_within n (word_of (take n (b ∷ bs))) w)) (λ _. within_none)
+    within_cond (nat_le n 32) (λ _. within_cond upper (λ _. within_some _ n w) (λ _. named_within n (word_of (take n (b ∷ bs))) w))
+    (λ _. within_none)
 
 number_within : (b : ℕ) (bs : List ℕ) → is_digit b ≡ true → Within (length (b ∷ bs)) (number_token (b ∷ bs))
 number_within b bs h = within_and (number_of (take (digit_count (b ∷ bs)) (b ∷ bs))) _ (λ n _. within_some _ _ (within_all is_digit b bs h))
@@ -80,7 +85,8 @@ body_within escaped [] = body_none
 body_within true (b ∷ bs) = body_cond (b == 34 || b == 92) (body_byte 1 _ (body_within false bs)) body_none
 body_within false (b ∷ bs) =
     let last : BodyWithin (suc (length bs)) (Some (1, 0)) = record { fits = λ f e. let s : 1 ≡ f.0 = cc in omega arith } in
-    body_cond (b == 34) last (body_cond (b == 92) (body_byte 0 _ (body_within true bs)) (body_cond (nat_le 32 b && nat_le b 126) (body_byte 1 _ (body_within false bs)) body_none))
+    body_cond (b == 34) last (body_cond (b == 92) (body_byte 0 _ (body_within true bs))
+    (body_cond (nat_le 32 b && nat_le b 126) (body_byte 1 _ (body_within false bs)) body_none))
 
 text_within : (b : ℕ) (bs : List ℕ) → Within (length (b ∷ bs)) (text_token bs)
 text_within b bs = within_and (text_body false bs) _ (λ f e.
@@ -148,24 +154,34 @@ decimal_grows [] value = omega arith
 decimal_grows (d ∷ ds) value = omega (arith, decimal_grows ds (value * 10 + (d - 48)))
 
 -- a front of the digits is past the greatest number, and so are all
-pub number_past : (ds : List ℕ) (i value : ℕ) → i < length ds → decimal_from value (drop i ds) ≡ decimal_from 0 ds → 9223372036854775807 < value * 10 + (get_or ds i 0 - 48) → None ≡ number_of ds
+pub number_past : (ds : List ℕ) (i value : ℕ) → i < length ds → decimal_from value (drop i ds) ≡ decimal_from 0 ds
+    → 9223372036854775807 < value * 10 + (get_or ds i 0 - 48) → None ≡ number_of ds
 number_past ds i value within so_far past =
     let e : drop i ds ≡ get_or ds i 0 ∷ drop (suc i) ds = drop-cons ds i 0 within in
     let g = decimal_grows (drop (suc i) ds) (value * 10 + (get_or ds i 0 - 48)) in
-    let s : decimal_from (value * 10 + (get_or ds i 0 - 48)) (drop (suc i) ds) ≡ decimal_from 0 ds = ap (decimal_from value) (sym e) ∙ so_far in
+    let s : decimal_from (value * 10 + (get_or ds i 0 - 48)) (drop (suc i) ds) ≡ decimal_from 0 ds = ap (decimal_from value) (sym e)
+    ∙ so_far in
     let far : 9223372036854775807 < decimal_from 0 ds = omega arith in
     let no : nat_le (decimal_from 0 ds) 9223372036854775807 ≡ false = grind arith in
     ap (λ (b : Bool). cond b (Some (decimal_from 0 ds)) None) (sym no)
 
 -- one more token behind others
-pub leads_more : (text : List ℕ) (from : ℕ) (ts : List Token) (at to : ℕ) (t : Token) → Leads text from ts at → at < length text → t.start ≡ at → token_at (drop at text) ≡ Some (t.kind, t.end - t.start) → t.start ≤ t.end → AreBlanks text t.end to → Leads text from (ts ++ t ∷ []) to
-leads_more text from [] at to t leads within start here forward blanks =
-    (subst (AreBlanks text from) (sym start) leads, subst (λ x. x < length text) (sym start) within, subst (λ x. token_at (drop x text) ≡ Some (t.kind, t.end - t.start)) (sym start) here, forward, blanks)
+pub leads_more : (text : List ℕ) (from : ℕ) (ts : List Token) (at to : ℕ) (t : Token) → Leads text from ts at → at < length text
+    → t.start ≡ at → token_at (drop at text) ≡ Some (t.kind, t.end - t.start) → t.start ≤ t.end → AreBlanks text t.end to
+    → Leads text from (ts ++ t ∷ []) to
+leads_more text from [] at to t leads within start here forward blanks = (
+  subst (AreBlanks text from) (sym start) leads,
+  subst (λ x. x < length text) (sym start) within,
+  subst (λ x. token_at (drop x text) ≡ Some (t.kind, t.end - t.start)) (sym start) here,
+  forward,
+  blanks,
+)
 leads_more text from (u ∷ us) at to t leads within start here forward blanks =
     (leads.0, leads.1, leads.2, leads.3, leads_more text u.end us at to t leads.4 within start here forward blanks)
 
 -- what begins in the rest of a text begins and ends within the text
-pub ends_inside : (text : List ℕ) (at n : ℕ) → at ≤ length text → (0 < n) × (n ≤ length (take (length text - at) (drop at text))) → (at < length text) × (at + n ≤ length text)
+pub ends_inside : (text : List ℕ) (at n : ℕ) → at ≤ length text → (0 < n) × (n ≤ length (take (length text - at) (drop at text)))
+    → (at < length text) × (at + n ≤ length text)
 ends_inside text at n h k =
     let size : length (take (length text - at) (drop at text)) ≤ length text - at = length_take_le (length text - at) (drop at text) in
     let some : 0 < n = k.0 in
@@ -178,7 +194,8 @@ ends_inside text at n h k =
     length_take_le (suc m) (b ∷ bs) = omega (arith, length_take_le m bs)
 
 -- what begins in the rest of a text, as the rest is a slice of it
-pub token_here : (text : List ℕ) (at : ℕ) (k : TokenKind) (n : ℕ) → Some (k, n) ≡ token_at (take (length text - at) (drop at text)) → token_at (drop at text) ≡ Some (k, (at + n) - at)
+pub token_here : (text : List ℕ) (at : ℕ) (k : TokenKind) (n : ℕ) → Some (k, n) ≡ token_at (take (length text - at) (drop at text))
+    → token_at (drop at text) ≡ Some (k, (at + n) - at)
 token_here text at k n h =
     let all : take (length text - at) (drop at text) ≡ drop at text = grind (arith, common_steps) in
     let e : (at + n) - at ≡ n = omega arith in

@@ -1,5 +1,6 @@
 -- A turn of a native type makes no capabilities.
-use Rattle.std.proofs.Common.{ℕ, ◌+◌, ◌==◌, ℤ, pos, negsuc, true, false, not, cond, ◌&&◌, ◌||◌, List, [], ◌∷◌, ◌++◌, take, drop, length, slice_get, Option, None, Some, is_some, codes}
+use Rattle.std.proofs.Common.{ℕ, ◌+◌, ◌==◌, ℤ, pos, negsuc, true, false, not, cond, ◌&&◌, ◌||◌, List, [], ◌∷◌, ◌++◌, take, drop, length}
+use Rattle.std.proofs.Common.{slice_get, Option, None, Some, is_some, codes}
 use Rattle.std.specs.Prelude.{IfSome, int_le, ◌+ℤ◌, ◌-ℤ◌}
 use Rattle.std.specs.Ordering.{int_eq}
 use Rattle.capability.specs.declared.Cap.{Cap}
@@ -12,7 +13,8 @@ use Rattle.epl_syntax.specs.declared.effect.Answer.TheVariants.{Code}
 use Rattle.epl_syntax.specs.declared.effect.Effect.{Effect}
 use Rattle.epl_syntax.specs.Operators.{greatest}
 use Rattle.epl_syntax.specs.Simple.{argument, number_in, cap_in, items_in, returns_code, is_fine}
-use Rattle.epl_syntax.specs.Streams.{item_code, end_code, out_of_reach, trouble, returns_item, returns_none, asks_for, an_item, the_end, nothing, came}
+use Rattle.epl_syntax.specs.Streams.{item_code, end_code, out_of_reach, trouble, returns_item, returns_none, asks_for, an_item, the_end}
+use Rattle.epl_syntax.specs.Streams.{nothing, came}
 use Rattle.epl_syntax.specs.Streams as streams
 use Rattle.epl_syntax.specs.Cell as cell
 use Rattle.epl_syntax.specs.Directory as directory
@@ -24,7 +26,8 @@ use Rattle.epl_syntax.specs.declared.types.Native.{Native}
 use Rattle.epl_syntax.specs.declared.types.Native.TheVariants as code
 use Rattle.epl_syntax.specs.Meaning.{of_native, turned_as}
 use Rattle.epl_syntax.specs.Authority.{AllBelow, effect_caps, stage_caps, directory_caps, lines_caps, filter_caps, sink_caps, AreLeft}
-use Rattle.epl_syntax.proofs.Owned.{Owned, AllOwned, owned_caps, caps_owned, list_owned, items_owned, append_owned, take_owned, drop_owned, item_owned, either, both_below, first_below, second_below}
+use Rattle.epl_syntax.proofs.Owned.{Owned, AllOwned, owned_caps, caps_owned, list_owned, items_owned, append_owned, take_owned}
+use Rattle.epl_syntax.proofs.Owned.{drop_owned, item_owned, either, both_below, first_below, second_below}
 
 -- what a turn came to, where a stage has these capabilities
 abbrev pub MovedOwned : {S : Type 0} → List Cap → (S → List Cap) → List Datum × S × Effect → Type 0

@@ -32,7 +32,8 @@ make k a b = record { kind = k; start = a; end = b }
 made_same : (k k' : TokenKind) (a a' b b' : ℕ) → k ≡ k' → a ≡ a' → b ≡ b' → make k a b ≡ make k' a' b'
 made_same k k' a a' b b' p q r = cc
 
-same_token : (text : List ℕ) (t u : Token) → t.start ≡ u.start → token_at (drop t.start text) ≡ Some (t.kind, t.end - t.start) → token_at (drop u.start text) ≡ Some (u.kind, u.end - u.start) → t.start ≤ t.end → u.start ≤ u.end → t ≡ u
+same_token : (text : List ℕ) (t u : Token) → t.start ≡ u.start → token_at (drop t.start text) ≡ Some (t.kind, t.end - t.start)
+    → token_at (drop u.start text) ≡ Some (u.kind, u.end - u.start) → t.start ≤ t.end → u.start ≤ u.end → t ≡ u
 same_token text t u e h k ht hu =
     let same : token_at (drop t.start text) ≡ token_at (drop u.start text) = ap (λ x. token_at (drop x text)) e in
     let pairs : (t.kind, t.end - t.start) ≡ (u.kind, u.end - u.start) = cc in
@@ -44,7 +45,8 @@ same_token text t u e h k ht hu =
 joined : (t u : Token) (ts us : List Token) → t ≡ u → ts ≡ us → t ∷ ts ≡ u ∷ us
 joined t u ts us h k = cc
 
-pub leads_one : (text : List ℕ) (from : ℕ) (ts us : List Token) (a b : ℕ) → Leads text from ts a → token_at (drop a text) ≡ None → Leads text from us b → token_at (drop b text) ≡ None → (ts ≡ us) × (a ≡ b)
+pub leads_one : (text : List ℕ) (from : ℕ) (ts us : List Token) (a b : ℕ) → Leads text from ts a → token_at (drop a text) ≡ None
+    → Leads text from us b → token_at (drop b text) ≡ None → (ts ≡ us) × (a ≡ b)
 leads_one text from [] [] a b h p k q = (refl, blanks_one text from a b h k)
 leads_one text from [] (u ∷ us) a b h p k q = absurd (clash text a u.start _ (blanks_one text from a u.start h k.0) p k.2)
 leads_one text from (t ∷ ts) [] a b h p k q = absurd (clash text b t.start _ (blanks_one text from b t.start k h.0) q h.2)

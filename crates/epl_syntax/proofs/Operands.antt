@@ -1,5 +1,6 @@
 -- Operators and built-in functions make no capabilities.
-use Rattle.std.proofs.Common.{inl, inr, ℕ, ◌+◌, ℤ, pos, negsuc, nat_le, nat_lt, Bool, true, false, if◌then◌else◌, List, [], ◌∷◌, ◌++◌, take, drop, length, slice_get, slice_set, Option, None, Some, Result, Ok, Err}
+use Rattle.std.proofs.Common.{inl, inr, ℕ, ◌+◌, ℤ, pos, negsuc, nat_le, nat_lt, Bool, true, false, if◌then◌else◌, List, [], ◌∷◌, ◌++◌}
+use Rattle.std.proofs.Common.{take, drop, length, slice_get, slice_set, Option, None, Some, Result, Ok, Err}
 use Rattle.std.specs.Prelude.{IfOk, IfSome, int_le, int_div, int_rem, ◌&&◌, ◌+ℤ◌, ◌-ℤ◌, ◌*ℤ◌, neg_ℤ}
 use Rattle.std.specs.Ordering.{int_eq}
 use Rattle.capability.specs.declared.Cap.{Cap}
@@ -11,16 +12,19 @@ use Rattle.epl_syntax.specs.declared.effect.FaultCause.{FaultCause}
 use Rattle.epl_syntax.specs.declared.tree.Prefix.{Prefix}
 use Rattle.epl_syntax.specs.declared.tree.Prefix.TheVariants.{Not, Negate}
 use Rattle.epl_syntax.specs.declared.tree.Operator.{Operator}
-use Rattle.epl_syntax.specs.declared.tree.Operator.TheVariants.{Or, And, Equal, Different, Less, LessEqual, Greater, GreaterEqual, Add, Subtract, Join, Multiply, Divide, Modulo}
+use Rattle.epl_syntax.specs.declared.tree.Operator.TheVariants.{Or, And, Equal, Different, Less, LessEqual, Greater, GreaterEqual, Add}
+use Rattle.epl_syntax.specs.declared.tree.Operator.TheVariants.{Subtract, Join, Multiply, Divide, Modulo}
 use Rattle.epl_syntax.specs.declared.tree.Builtin.{Builtin}
 use Rattle.epl_syntax.specs.declared.tree.Builtin.TheVariants.{Size, Str, Put, Cut, Part, Restrict}
 use Rattle.eden_model.specs.Map.{with_item}
 use Rattle.eden_value.specs.Limits.{depth_of}
 use Rattle.eden_value.specs.declared.value.TheConstants.{TEXT_LIMIT, LIST_LIMIT, DEPTH_LIMIT}
 use Rattle.epl_syntax.specs.declared.effect.FaultCause.TheVariants as fault
-use Rattle.epl_syntax.specs.Operators.{least, greatest, Found, in_64_bits, divided, of_numbers, numbers, list_of, joined, place_in, at_place, item_at, before_operand, of_both, between, size_of, part_of, masked, applied}
+use Rattle.epl_syntax.specs.Operators.{least, greatest, Found, in_64_bits, divided, of_numbers, numbers, list_of, joined, place_in}
+use Rattle.epl_syntax.specs.Operators.{at_place, item_at, before_operand, of_both, between, size_of, part_of, masked, applied}
 use Rattle.epl_syntax.specs.Authority.{IsBelowOne}
-use Rattle.epl_syntax.proofs.Owned.{Owned, AllOwned, list_owned, items_owned, append_owned, take_owned, drop_owned, item_owned, set_owned, found_through}
+use Rattle.epl_syntax.proofs.Owned.{Owned, AllOwned, list_owned, items_owned, append_owned, take_owned, drop_owned, item_owned}
+use Rattle.epl_syntax.proofs.Owned.{set_owned, found_through}
 
 -- what comes of an expression has only capabilities that are held
 abbrev pub FoundOwned : List Cap → Found → Type 0

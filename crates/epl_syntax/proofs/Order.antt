@@ -6,7 +6,8 @@ use Rattle.epl_syntax.specs.declared.effect.FaultCause.TheVariants.{Overflow, Ze
 use Rattle.epl_syntax.specs.declared.tree.Operator.TheVariants.{Or, And, Divide, Modulo, Add, Equal}
 use Rattle.epl_syntax.specs.declared.tree.Builtin.TheVariants.{Part, Restrict}
 use Rattle.epl_syntax.specs.declared.tree.Target.TheVariants as target
-use Rattle.epl_syntax.specs.Tree.{Expression, Const_, truth as truth_constant, text as text_constant, Apply, Index, ListOf, Invoke, in_order}
+use Rattle.epl_syntax.specs.Tree.{Expression, Const_, truth as truth_constant, text as text_constant, Apply, Index, ListOf, Invoke}
+use Rattle.epl_syntax.specs.Tree.{in_order}
 use Rattle.epl_syntax.specs.Memory.{Memory}
 use Rattle.epl_syntax.specs.Expressions.{value_of}
 use Rattle.epl_syntax.specs.Statements.{does, faults, came_of}

@@ -1,5 +1,6 @@
 -- The filters of a stream make what their functions make of its list.
-use Rattle.std.proofs.Common.{◌≡◌, ℕ, zero, suc, ◌+◌, ◌-◌, ◌<◌, ◌≤◌, ℤ, pos, negsuc, Bool, true, false, cond, List, [], ◌∷◌, ◌++◌, take, drop, length, refl, ap, sym, ◌∙◌, arith, length-append, length-take}
+use Rattle.std.proofs.Common.{◌≡◌, ℕ, zero, suc, ◌+◌, ◌-◌, ◌<◌, ◌≤◌, ℤ, pos, negsuc, Bool, true, false, cond, List, [], ◌∷◌, ◌++◌, take}
+use Rattle.std.proofs.Common.{drop, length, refl, ap, sym, ◌∙◌, arith, length-append, length-take}
 use Rattle.std.specs.Prelude.{nat_le, int_le, ◌+ℤ◌}
 use Rattle.std.specs.List.{filter}
 use Rattle.std.proofs.lemmas.Bool.Decides.{nat_tests}
@@ -7,7 +8,8 @@ use Rattle.std.proofs.lemmas.List.{take-append-le, drop-append-le}
 use Rattle.std.proofs.lemmas.List.Elements.{filter-append}
 use Rattle.epl_syntax.specs.Simple.{argument, number_in, text_in}
 use Rattle.epl_syntax.specs.Filters.{Filter, begins_with, numbered, handed_on, passed_over}
-use Rattle.epl_syntax.specs.Pipelines.{Sieve, takes, skips, keeps, numbers, sifted, so_many, numbered_from, rule_of, hands_on, takes_in, HasTaken, IsFront, FiltersMakeTheirFunctions, FiltersEndAsTheirFunctions, PipelinesKeepFronts}
+use Rattle.epl_syntax.specs.Pipelines.{Sieve, takes, skips, keeps, numbers, sifted, so_many, numbered_from, rule_of, hands_on, takes_in}
+use Rattle.epl_syntax.specs.Pipelines.{HasTaken, IsFront, FiltersMakeTheirFunctions, FiltersEndAsTheirFunctions, PipelinesKeepFronts}
 
 append_nothing : {A : Type 0} (xs : List A) → xs ++ [] ≡ xs
 append_nothing [] = refl

@@ -10,7 +10,8 @@ use Rattle.epl_syntax.specs.declared.effect.Effect.{Effect}
 use Rattle.epl_syntax.specs.declared.effect.Effect.TheVariants as effect
 use Rattle.epl_syntax.specs.declared.effect.FaultCause.TheVariants.{BadKind, NoReturn}
 use Rattle.epl_syntax.specs.declared.tree.Target.TheVariants as target
-use Rattle.epl_syntax.specs.Tree.{TypeTree, Local, Statement, absent, Checkpoint, Create, Invoke, Return, Wait, Signal, With, Yield, block_of}
+use Rattle.epl_syntax.specs.Tree.{TypeTree, Local, Statement, absent, Checkpoint, Create, Invoke, Return, Wait, Signal, With, Yield}
+use Rattle.epl_syntax.specs.Tree.{block_of}
 use Rattle.epl_syntax.specs.Turns.{run}
 use Rattle.epl_syntax.specs.Edentype.{declared}
 use Rattle.epl_syntax.specs.Meaning.{begin}

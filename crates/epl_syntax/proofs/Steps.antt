@@ -18,15 +18,19 @@ use Rattle.epl_syntax.specs.declared.effect.FaultCause.TheVariants.{BadKind, NoR
 use Rattle.epl_syntax.specs.declared.tree.Target.{Target}
 use Rattle.epl_syntax.specs.declared.tree.Target.TheVariants as target
 use Rattle.epl_syntax.specs.Kinds.{have_shapes}
-use Rattle.epl_syntax.specs.Tree.{TypeTree, Operation, Assign, If, While, With, Wait, Signal, Yield, Deactivate, Checkpoint, Destroy, Create, Invoke, Return, in_order}
+use Rattle.epl_syntax.specs.Tree.{TypeTree, Operation, Assign, If, While, With, Wait, Signal, Yield, Deactivate, Checkpoint, Destroy}
+use Rattle.epl_syntax.specs.Tree.{Create, Invoke, Return, in_order}
 use Rattle.epl_syntax.specs.Memory.{Held, Memory, value_as, set, set_each, arguments, locals}
 use Rattle.epl_syntax.specs.Expressions.{value_of, values_of}
-use Rattle.epl_syntax.specs.Statements.{Step, does, leaves, steps, Awaited, a_code, a_creation, a_reply, Came, goes_on, ends, ends_in, faults, with_found, tested, present, target_of, came_of}
-use Rattle.epl_syntax.specs.Turns.{Left, code, kinds_as, taken, told, onward, run, budget, seen_by, values_in, came_to, as_turn, process_turn, left_of, nothing_left, operation_left}
+use Rattle.epl_syntax.specs.Statements.{Step, does, leaves, steps, Awaited, a_code, a_creation, a_reply, Came, goes_on, ends, ends_in}
+use Rattle.epl_syntax.specs.Statements.{faults, with_found, tested, present, target_of, came_of}
+use Rattle.epl_syntax.specs.Turns.{Left, code, kinds_as, taken, told, onward, run, budget, seen_by, values_in, came_to, as_turn}
+use Rattle.epl_syntax.specs.Turns.{process_turn, left_of, nothing_left, operation_left}
 use Rattle.epl_syntax.specs.Meaning.{of_declared, turned_as}
 use Rattle.epl_syntax.specs.Authority.{IsBelowOne, AllBelow, effect_caps, reply_caps, answer_caps, AreLeft}
 use Rattle.epl_syntax.proofs.Owned.{Owned, AllOwned, owned_caps, caps_owned, either, found_through}
-use Rattle.epl_syntax.proofs.Evaluated.{VarsOwned, MemoryOwned, value_owned, row_owned, value_as_owned, set_owned, set_each_owned, variables_owned, arguments_owned, locals_owned, body_owned, values_owned}
+use Rattle.epl_syntax.proofs.Evaluated.{VarsOwned, MemoryOwned, value_owned, row_owned, value_as_owned, set_owned, set_each_owned}
+use Rattle.epl_syntax.proofs.Evaluated.{variables_owned, arguments_owned, locals_owned, body_owned, values_owned}
 
 abbrev CameOwned : List Cap → Came → Type 0
 CameOwned held (goes_on m rest) = MemoryOwned held m

@@ -1,6 +1,7 @@
 -- The rows of a tree, seen as lists.
 use Rattle.std.proofs.Common.{◌≡◌, ap, refl, List, [], ◌∷◌, ◌++◌, map}
-use Rattle.epl_syntax.specs.Tree.{expression_and, expression, expression_row, expressions, statement_and, statement, statement_row, statements}
+use Rattle.epl_syntax.specs.Tree.{expression_and, expression, expression_row, expressions, statement_and, statement, statement_row}
+use Rattle.epl_syntax.specs.Tree.{statements}
 use Rattle.epl_syntax.specs.declared.tree.Expr.{Expr, items-the_row-Expr}
 use Rattle.epl_syntax.specs.declared.tree.Expr as expr
 use Rattle.epl_syntax.specs.declared.tree.Stmt.{Stmt, items-the_row-Stmt}

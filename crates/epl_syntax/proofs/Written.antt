@@ -8,7 +8,8 @@ use Rattle.epl_syntax.specs.declared.effect.Effect.{Effect}
 use Rattle.epl_syntax.specs.declared.tree.Name.{Name}
 use Rattle.epl_syntax.specs.declared.tree.Number.{Number}
 use Rattle.epl_syntax.specs.declared.tree.Operator.{Operator}
-use Rattle.epl_syntax.specs.Tree.{TypeTree, Variable, Parameter, Local, Operation, Upgrade, Statement, Expression, Const_, integer, Name_, Binary}
+use Rattle.epl_syntax.specs.Tree.{TypeTree, Variable, Parameter, Local, Operation, Upgrade, Statement, Expression, Const_, integer}
+use Rattle.epl_syntax.specs.Tree.{Name_, Binary}
 use Rattle.epl_syntax.specs.Edentype.{Edentype}
 use Rattle.epl_syntax.specs.Meaning.{Rest, turn}
 

@@ -19,7 +19,8 @@ use Rattle.epl_syntax.specs.Filters as filters
 use Rattle.epl_syntax.specs.Sink as sink
 use Rattle.epl_syntax.specs.Natives.{Stage, in_cell, in_directory, in_lines, in_filter, in_sink}
 use Rattle.epl_syntax.specs.Turns.{values_in}
-use Rattle.epl_syntax.specs.Meaning.{Edentype, Rest, of_native, of_declared, Turned, turn, begin, declared, first_values, values_from, durable_of, durable_from}
+use Rattle.epl_syntax.specs.Meaning.{Edentype, Rest, of_native, of_declared, Turned, turn, begin, declared, first_values, values_from}
+use Rattle.epl_syntax.specs.Meaning.{durable_of, durable_from}
 
 -- below one of these
 abbrev pub IsBelowOne : Cap → List Cap → Type 0

@@ -3,7 +3,8 @@ use Rattle.std.specs.Prelude.{List, [], ◌∷◌, Some, Result, Ok}
 use Rattle.capability.specs.Capability.{full}
 use Rattle.eden_value.specs.Datum.{Datum, cap}
 use Rattle.epl_syntax.specs.declared.effect.FaultCause.{FaultCause}
-use Rattle.epl_syntax.specs.Tree.{Expression, Const_, Name_, Me, Unary, Binary, Index, ListOf, Apply, Expressions, no_expressions, expression_and}
+use Rattle.epl_syntax.specs.Tree.{Expression, Const_, Name_, Me, Unary, Binary, Index, ListOf, Apply, Expressions, no_expressions}
+use Rattle.epl_syntax.specs.Tree.{expression_and}
 use Rattle.epl_syntax.specs.Operators.{Found, found, before_operand, between, item_at, list_of, applied}
 use Rattle.epl_syntax.specs.Memory.{Memory, value_of_constant, value_as}
 

@@ -7,7 +7,8 @@
 --
 -- Take hands on as many items as its argument, Skip all but so many, Only those that begin with its argument, and Number all, each with its
 -- number before it.
-use Rattle.std.specs.Prelude.{ℕ, ◌+◌, ℤ, pos, ◌+ℤ◌, ◌-ℤ◌, int_le, Bool, true, false, not, cond, ◌&&◌, ◌||◌, List, [], ◌∷◌, ◌++◌, map, length, take, drop, Option, None, is_some, codes}
+use Rattle.std.specs.Prelude.{ℕ, ◌+◌, ℤ, pos, ◌+ℤ◌, ◌-ℤ◌, int_le, Bool, true, false, not, cond, ◌&&◌, ◌||◌, List, [], ◌∷◌, ◌++◌, map}
+use Rattle.std.specs.Prelude.{length, take, drop, Option, None, is_some, codes}
 use Rattle.std.specs.Ordering.{int_eq}
 use Rattle.std.specs.Fmt.{signed_decimal}
 use Rattle.capability.specs.declared.Cap.{Cap}
@@ -21,7 +22,8 @@ use Rattle.epl_syntax.specs.declared.effect.Effect.TheVariants.{Checkpoint}
 use Rattle.epl_syntax.specs.Operators.{greatest}
 use Rattle.epl_syntax.specs.Outline.{Slot, Outline, kept}
 use Rattle.epl_syntax.specs.Simple.{of_one_class, outline, argument, number_in, truth_in, text_in, cap_in, returns_code, is_fine}
-use Rattle.epl_syntax.specs.Streams.{saved_slot, end_code, out_of_reach, trouble, returns_item, returns_none, asks_for, Came, an_item, the_end, nothing, came}
+use Rattle.epl_syntax.specs.Streams.{saved_slot, end_code, out_of_reach, trouble, returns_item, returns_none, asks_for, Came, an_item}
+use Rattle.epl_syntax.specs.Streams.{the_end, nothing, came}
 
 -- what a filter holds: the stage before, its argument, how many items it took in and handed on, and the last of these
 pub record Filter : Type 0 where

@@ -6,7 +6,8 @@ use Rattle.eden_value.specs.Datum.{Datum, number, truth, text, cap, list, no_dat
 use Rattle.eden_value.specs.Shape.{Shape}
 use Rattle.eden_model.specs.Map.{with_item, same_text}
 use Rattle.epl_syntax.specs.declared.effect.FaultCause.TheVariants.{BadKind}
-use Rattle.epl_syntax.specs.Tree.{Constant, integer, text as text_constant, truth as truth_constant, absent, empty_list, Variable, Local, Parameter}
+use Rattle.epl_syntax.specs.Tree.{Constant, integer, text as text_constant, truth as truth_constant, absent, empty_list, Variable, Local}
+use Rattle.epl_syntax.specs.Tree.{Parameter}
 use Rattle.epl_syntax.specs.Operators.{Found}
 
 -- the value of a constant

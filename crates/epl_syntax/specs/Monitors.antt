@@ -1,6 +1,7 @@
 -- Monitors: a process touches a variable of a monitor only in its `with`, from the effect that locks the monitor to the effect that leaves
 -- it.
-use Rattle.std.specs.Prelude.{◌≡◌, ℕ, ◌<◌, ◌≤◌, Bool, true, false, not, List, [], ◌∷◌, ◌++◌, length, slice_get, Option, None, Some, is_some, IfSome}
+use Rattle.std.specs.Prelude.{◌≡◌, ℕ, ◌<◌, ◌≤◌, Bool, true, false, not, List, [], ◌∷◌, ◌++◌, length, slice_get, Option, None, Some}
+use Rattle.std.specs.Prelude.{is_some, IfSome}
 use Rattle.std.specs.List.{AllByRecursion, list_all, list_any}
 use Rattle.capability.specs.declared.Uid.{Uid}
 use Rattle.eden_value.specs.Datum.{Datum}

@@ -1,6 +1,8 @@
 -- What operators and built-in functions give of values, and why they fault. In a type that keeps the rules all operands are of the
 -- kinds that they take; elsewhere most of them fault by BadKind, so that each has one meaning.
-use Rattle.std.specs.Prelude.{ℕ, ◌+◌, nat_lt, nat_le, ℤ, pos, negsuc, neg_ℤ, ◌+ℤ◌, ◌-ℤ◌, ◌*ℤ◌, int_lt, int_le, int_div, int_rem, true, false, not, ◌&&◌, if◌then◌else◌, List, [], ◌∷◌, ◌++◌, length, take, drop, slice_get, slice_set, Option, Result, Ok, Err}
+use Rattle.std.specs.Prelude.{ℕ, ◌+◌, nat_lt, nat_le, ℤ, pos, negsuc, neg_ℤ, ◌+ℤ◌, ◌-ℤ◌, ◌*ℤ◌, int_lt, int_le, int_div, int_rem, true}
+use Rattle.std.specs.Prelude.{false, not, ◌&&◌, if◌then◌else◌, List, [], ◌∷◌, ◌++◌, length, take, drop, slice_get, slice_set, Option}
+use Rattle.std.specs.Prelude.{Result, Ok, Err}
 use Rattle.std.specs.Ordering.{int_eq}
 use Rattle.std.specs.Option.{option_map}
 use Rattle.std.specs.Fmt.{signed_decimal}
@@ -15,7 +17,8 @@ use Rattle.epl_syntax.specs.declared.effect.FaultCause.TheVariants as fault
 use Rattle.epl_syntax.specs.declared.tree.Prefix.{Prefix}
 use Rattle.epl_syntax.specs.declared.tree.Prefix.TheVariants.{Not, Negate}
 use Rattle.epl_syntax.specs.declared.tree.Operator.{Operator}
-use Rattle.epl_syntax.specs.declared.tree.Operator.TheVariants.{Or, And, Equal, Different, Less, LessEqual, Greater, GreaterEqual, Add, Subtract, Join, Multiply, Divide, Modulo}
+use Rattle.epl_syntax.specs.declared.tree.Operator.TheVariants.{Or, And, Equal, Different, Less, LessEqual, Greater, GreaterEqual, Add}
+use Rattle.epl_syntax.specs.declared.tree.Operator.TheVariants.{Subtract, Join, Multiply, Divide, Modulo}
 use Rattle.epl_syntax.specs.declared.tree.Builtin.{Builtin}
 use Rattle.epl_syntax.specs.declared.tree.Builtin.TheVariants.{Size, Str, Put, Cut, Part, Restrict}
 use Rattle.epl_syntax.specs.Same.{same}

@@ -3,7 +3,8 @@
 use Rattle.std.specs.Prelude.{◌≡◌, ℕ, ◌+◌, ℤ, pos, negsuc, true, false, cond, List, [], ◌∷◌, ◌++◌, take, drop, length}
 use Rattle.std.specs.List.{filter}
 use Rattle.eden_value.specs.Datum.{Datum, number, text}
-use Rattle.epl_syntax.specs.Filters.{Filter, Rule, take_rule, skip_rule, only_rule, number_rule, begins_with, numbered, handed_on, passed_over}
+use Rattle.epl_syntax.specs.Filters.{Filter, Rule, take_rule, skip_rule, only_rule, number_rule, begins_with, numbered, handed_on}
+use Rattle.epl_syntax.specs.Filters.{passed_over}
 
 -- how many items a number stands for: none where it is negative
 abbrev pub so_many : ℤ → ℕ

@@ -5,7 +5,8 @@
 --   Pump  needs 2, takes a number of items to take, returns a code and how many are held: 0 where so many were taken, 1 at the end of the
 --         stream, 2 where 256 are held, 3 where there is trouble or it is not open
 --   Read  needs 4, returns the items
-use Rattle.std.specs.Prelude.{ℕ, ◌+◌, ◌==◌, ℤ, pos, int_le, Bool, true, false, not, cond, ◌||◌, List, [], ◌∷◌, ◌++◌, length, Option, None, is_some, codes}
+use Rattle.std.specs.Prelude.{ℕ, ◌+◌, ◌==◌, ℤ, pos, int_le, Bool, true, false, not, cond, ◌||◌, List, [], ◌∷◌, ◌++◌, length, Option}
+use Rattle.std.specs.Prelude.{None, is_some, codes}
 use Rattle.capability.specs.declared.Cap.{Cap}
 use Rattle.eden_value.specs.Datum.{Datum, number, truth, text, cap, list, no_data, data_of}
 use Rattle.eden_value.specs.Shape.{ints, texts, caps, lists}
@@ -16,7 +17,8 @@ use Rattle.epl_syntax.specs.declared.effect.Effect.{Effect}
 use Rattle.epl_syntax.specs.declared.effect.Effect.TheVariants.{Return, Checkpoint}
 use Rattle.epl_syntax.specs.Outline.{Outline, kept}
 use Rattle.epl_syntax.specs.Simple.{of_one_class, outline, argument, items_in, number_in, truth_in, cap_in, returns_code, is_fine}
-use Rattle.epl_syntax.specs.Streams.{saved_slot, item_code, end_code, out_of_reach, trouble, asks_for, Came, an_item, the_end, nothing, came}
+use Rattle.epl_syntax.specs.Streams.{saved_slot, item_code, end_code, out_of_reach, trouble, asks_for, Came, an_item, the_end, nothing}
+use Rattle.epl_syntax.specs.Streams.{came}
 
 -- its variables and operations
 abbrev pub sink : Outline

@@ -11,7 +11,8 @@ use Rattle.epl_syntax.specs.declared.effect.FaultCause.{FaultCause}
 use Rattle.epl_syntax.specs.declared.effect.FaultCause.TheVariants.{BadKind, NoCapability}
 use Rattle.epl_syntax.specs.declared.tree.Target.{Target}
 use Rattle.epl_syntax.specs.declared.tree.Target.TheVariants as target
-use Rattle.epl_syntax.specs.Tree.{TypeTree, Statement, Assign, If, While, With, Wait, Signal, Yield, Deactivate, Checkpoint, Destroy, Create, Invoke, Return, Statements, no_statements, statement_and, in_order}
+use Rattle.epl_syntax.specs.Tree.{TypeTree, Statement, Assign, If, While, With, Wait, Signal, Yield, Deactivate, Checkpoint, Destroy}
+use Rattle.epl_syntax.specs.Tree.{Create, Invoke, Return, Statements, no_statements, statement_and, in_order}
 use Rattle.epl_syntax.specs.Operators.{found}
 use Rattle.epl_syntax.specs.Memory.{Memory, value_as, set}
 use Rattle.epl_syntax.specs.Expressions.{value_of, values_of}

@@ -18,7 +18,8 @@ use Rattle.epl_syntax.specs.declared.effect.FaultCause.TheVariants.{BadKind, NoR
 use Rattle.epl_syntax.specs.Kinds.{have_shapes}
 use Rattle.epl_syntax.specs.Tree.{TypeTree, Operation, Process}
 use Rattle.epl_syntax.specs.Memory.{Held, Memory, held_as, set, set_each, variables, arguments, locals}
-use Rattle.epl_syntax.specs.Statements.{Step, does, Awaited, no_answer, a_code, a_creation, a_reply, Came, goes_on, ends, ends_in, faults, came_of}
+use Rattle.epl_syntax.specs.Statements.{Step, does, Awaited, no_answer, a_code, a_creation, a_reply, Came, goes_on, ends, ends_in}
+use Rattle.epl_syntax.specs.Statements.{faults, came_of}
 
 -- what is left to do of a process, with its own variables
 pub record Left : Type 0 where

@@ -1,6 +1,7 @@
 -- A reader is exact for a grammar: what it reads is spelled so, what is spelled so is read, and where it
 -- stops the symbols before begin a spelling, and those with the symbol there begin none.
-use Rattle.std.specs.Prelude.{◌≡◌, ℕ, suc, Bool, true, false, List, [], ◌∷◌, ◌++◌, length, Option, Some, None, Result, Ok, Err, refl, if◌then◌else◌}
+use Rattle.std.specs.Prelude.{◌≡◌, ℕ, suc, Bool, true, false, List, [], ◌∷◌, ◌++◌, length, Option, Some, None, Result, Ok, Err, refl}
+use Rattle.std.specs.Prelude.{if◌then◌else◌}
 use Rattle.std.proofs.Common.{ap, sym, ◌∙◌, subst, append_assoc, append-nil}
 use Rattle.grammar.specs.Reading.{Reading, Reader, read_then, nothing, mapped, found_one, one, if_passing, one_of, choose}
 use Rattle.grammar.specs.Grammar.{Grammar, Nothing, OneOf, Then, Mapped, Begins}
@@ -42,8 +43,10 @@ pub record Exact {S A : Type 0} (G : Grammar S A) (R : Reader S A) : Type 0 wher
   pub stops : (symbols : List S) (left : ℕ) → R symbols ≡ Err left → Stopped G R symbols left
 
 -- one behind another, where each grammar that may be chosen has a spelling
-module _ {S A B : Type 0} (G : Grammar S A) (H : A → Grammar S B) (R : Reader S A) (T : A → Reader S B) (g : Exact G R) (h : (a : A) → Exact (H a) (T a)) (some : (a : A) → Begins (H a) []) where
-  then_takes_at : (symbols : List S) (r : Reading S A) → R symbols ≡ r → (b : B) (rest : List S) → read_then r T ≡ Ok (b, rest) → Taken (Then G H) symbols b rest
+module _ {S A B : Type 0} (G : Grammar S A) (H : A → Grammar S B) (R : Reader S A) (T : A → Reader S B) (g : Exact G R)
+    (h : (a : A) → Exact (H a) (T a)) (some : (a : A) → Begins (H a) []) where
+  then_takes_at : (symbols : List S) (r : Reading S A) → R symbols ≡ r → (b : B) (rest : List S) → read_then r T ≡ Ok (b, rest)
+      → Taken (Then G H) symbols b rest
   then_takes_at symbols (Err left) e b rest f = absurd (cc)
   then_takes_at symbols (Ok x) e b rest f =
       let t : Taken G symbols x.0 x.1 = g.takes symbols x.0 x.1 e in
@@ -66,14 +69,22 @@ module _ {S A B : Type 0} (G : Grammar S A) (H : A → Grammar S B) (R : Reader 
       record {
         more = t.more ++ u.more;
         value = u.value;
-        spelled = record { front = front ++ t.more; back = u.more; first = t.value; whole = sym (append_assoc front t.more u.more); begins = t.spelled; goes_on = u.spelled };
+        spelled = record {
+          front = front ++ t.more;
+          back = u.more;
+          first = t.value;
+          whole = sym (append_assoc front t.more u.more);
+          begins = t.spelled;
+          goes_on = u.spelled;
+        };
       }
 
   then_stays : (front rest : List S) → Stays R front rest → Stays (λ l. read_then (R l) T) front rest
   then_stays front [] stays = tt
   then_stays front (b ∷ rest) stays = λ more. ap (λ r. read_then r T) (stays more)
 
-  later_stays : (first : List S) (a : A) → G first a → (front rest : List S) → Stays (T a) front rest → Stays (λ l. read_then (R l) T) (first ++ front) rest
+  later_stays : (first : List S) (a : A) → G first a → (front rest : List S) → Stays (T a) front rest
+      → Stays (λ l. read_then (R l) T) (first ++ front) rest
   later_stays first a spelled front [] stays = tt
   later_stays first a spelled front (b ∷ rest) stays =
       λ more.
@@ -81,10 +92,18 @@ module _ {S A B : Type 0} (G : Grammar S A) (H : A → Grammar S B) (R : Reader 
       ∙ ap (λ r. read_then r T) (g.again first a (front ++ b ∷ more) spelled)
       ∙ stays more
 
-  then_stops_at : (symbols : List S) (r : Reading S A) → R symbols ≡ r → (left : ℕ) → read_then r T ≡ Err left → Stopped (Then G H) (λ l. read_then (R l) T) symbols left
+  then_stops_at : (symbols : List S) (r : Reading S A) → R symbols ≡ r → (left : ℕ) → read_then r T ≡ Err left
+      → Stopped (Then G H) (λ l. read_then (R l) T) symbols left
   then_stops_at symbols (Err left') e left f =
       let t : Stopped G R symbols left = g.stops symbols left (e ∙ ap (λ n. Err n) (err_same {S = S} {A = B} left' left f)) in
-      record { front = t.front; rest = t.rest; whole = t.whole; left_is = t.left_is; begins = then_begins t.front t.begins; stays = then_stays t.front t.rest t.stays }
+      record {
+        front = t.front;
+        rest = t.rest;
+        whole = t.whole;
+        left_is = t.left_is;
+        begins = then_begins t.front t.begins;
+        stays = then_stays t.front t.rest t.stays;
+      }
   then_stops_at symbols (Ok x) e left f =
       let t : Taken G symbols x.0 x.1 = g.takes symbols x.0 x.1 e in
       let u : Stopped (H x.0) (T x.0) x.1 left = (h x.0).stops x.1 left f in
@@ -96,7 +115,14 @@ module _ {S A B : Type 0} (G : Grammar S A) (H : A → Grammar S B) (R : Reader 
         begins = record {
           more = u.begins.more;
           value = u.begins.value;
-          spelled = record { front = t.front; back = u.front ++ u.begins.more; first = x.0; whole = append_assoc t.front u.front u.begins.more; begins = t.spelled; goes_on = u.begins.spelled };
+          spelled = record {
+            front = t.front;
+            back = u.front ++ u.begins.more;
+            first = x.0;
+            whole = append_assoc t.front u.front u.begins.more;
+            begins = t.spelled;
+            goes_on = u.begins.spelled;
+          };
         };
         stays = later_stays t.front x.0 t.spelled u.front u.rest u.stays;
       }
@@ -109,9 +135,11 @@ module _ {S A B : Type 0} (G : Grammar S A) (H : A → Grammar S B) (R : Reader 
   }
 
 -- a reader is exact for each grammar that says the same
-pub same_exact : {S A : Type 0} (G H : Grammar S A) (R : Reader S A) → Exact G R → ((symbols : List S) (a : A) → G symbols a → H symbols a) → ((symbols : List S) (a : A) → H symbols a → G symbols a) → Exact H R
+pub same_exact : {S A : Type 0} (G H : Grammar S A) (R : Reader S A) → Exact G R
+    → ((symbols : List S) (a : A) → G symbols a → H symbols a) → ((symbols : List S) (a : A) → H symbols a → G symbols a) → Exact H R
 same_exact G H R g to from = record {
-  takes = λ symbols a rest e. let t : Taken G symbols a rest = g.takes symbols a rest e in record { front = t.front; whole = t.whole; spelled = to t.front a t.spelled };
+  takes = λ symbols a rest e. let t : Taken G symbols a rest = g.takes symbols a rest e in
+      record { front = t.front; whole = t.whole; spelled = to t.front a t.spelled };
   again = λ front a rest s. g.again front a rest (from front a s);
   stops = λ symbols left e. let t : Stopped G R symbols left = g.stops symbols left e in record {
     front = t.front;
@@ -119,11 +147,16 @@ same_exact G H R g to from = record {
     whole = t.whole;
     left_is = t.left_is;
     stays = t.stays;
-    begins = record { more = t.begins.more; value = t.begins.value; spelled = to (t.front ++ t.begins.more) t.begins.value t.begins.spelled };
+    begins = record {
+      more = t.begins.more;
+      value = t.begins.value;
+      spelled = to (t.front ++ t.begins.more) t.begins.value t.begins.spelled;
+    };
   };
 }
 
-nothing_takes : {S A : Type 0} (a : A) (symbols : List S) (b : A) (rest : List S) → nothing a symbols ≡ Ok (b, rest) → Taken (Nothing a) symbols b rest
+nothing_takes : {S A : Type 0} (a : A) (symbols : List S) (b : A) (rest : List S) → nothing a symbols ≡ Ok (b, rest)
+    → Taken (Nothing a) symbols b rest
 nothing_takes a symbols b rest e = record { front = []; whole = ok_rest _ _ _ _ e; spelled = (refl, sym (ok_first _ _ _ _ e)) }
 
 pub nothing_exact : {S A : Type 0} (a : A) → Exact {S = S} (Nothing a) (nothing a)
@@ -135,9 +168,11 @@ nothing_exact {S} a = record {
 
 -- one symbol, if there is one that is read
 module _ {S A : Type 0} (f : S → Option A) where
-  found_takes : (b : S) (symbols : List S) (o : Option A) → f b ≡ o → (a : A) (rest : List S) → found_one o symbols ≡ Ok (a, rest) → Taken (One f) (b ∷ symbols) a rest
+  found_takes : (b : S) (symbols : List S) (o : Option A) → f b ≡ o → (a : A) (rest : List S) → found_one o symbols ≡ Ok (a, rest)
+      → Taken (One f) (b ∷ symbols) a rest
   found_takes b symbols None e a rest h = absurd (cc)
-  found_takes b symbols (Some x) e a rest h = record { front = b ∷ []; whole = ap (λ l. b ∷ l) (ok_rest _ _ _ _ h); spelled = e ∙ ap (λ y. Some y) (ok_first _ _ _ _ h) }
+  found_takes b symbols (Some x) e a rest h =
+      record { front = b ∷ []; whole = ap (λ l. b ∷ l) (ok_rest _ _ _ _ h); spelled = e ∙ ap (λ y. Some y) (ok_first _ _ _ _ h) }
 
   one_takes : (symbols : List S) (a : A) (rest : List S) → one f symbols ≡ Ok (a, rest) → Taken (One f) symbols a rest
   one_takes [] a rest e = absurd (cc)
@@ -148,8 +183,10 @@ module _ {S A : Type 0} (f : S → Option A) where
   one_again (b ∷ []) a rest s = ap (λ o. found_one o rest) s
   one_again (b ∷ c ∷ symbols) a rest s = absurd s
 
-  found_stops : (begins : Begins (One f) []) (b : S) (symbols : List S) (o : Option A) → f b ≡ o → (left : ℕ) → found_one o symbols ≡ Err left → Stopped (One f) (one f) (b ∷ symbols) left
-  found_stops begins b symbols None e left h = record { front = []; rest = b ∷ symbols; whole = refl; left_is = cc; begins = begins; stays = λ more. ap (λ o. found_one o more) e }
+  found_stops : (begins : Begins (One f) []) (b : S) (symbols : List S) (o : Option A) → f b ≡ o → (left : ℕ)
+      → found_one o symbols ≡ Err left → Stopped (One f) (one f) (b ∷ symbols) left
+  found_stops begins b symbols None e left h =
+      record { front = []; rest = b ∷ symbols; whole = refl; left_is = cc; begins = begins; stays = λ more. ap (λ o. found_one o more) e }
   found_stops begins b symbols (Some x) e left h = absurd (cc)
 
   one_stops : (begins : Begins (One f) []) (symbols : List S) (left : ℕ) → one f symbols ≡ Err left → Stopped (One f) (one f) symbols left
@@ -166,23 +203,38 @@ module _ {S A : Type 0} (f : S → Option A) where
 -- a value made of the one that is read
 module _ {S A B : Type 0} (f : A → B) (G : Grammar S A) (R : Reader S A) (g : Exact G R) where
   to_mapped : (symbols : List S) (b : B) → Then G (λ a. Nothing (f a)) symbols b → Mapped f G symbols b
-  to_mapped symbols b t = (t.first, subst (λ l. G l t.first) (sym (t.whole ∙ ap (λ l. t.front ++ l) t.goes_on.0 ∙ append-nil t.front)) t.begins, t.goes_on.1)
+  to_mapped symbols b t = (
+    t.first,
+    subst (λ l. G l t.first)
+        (sym (t.whole ∙ ap (λ l. t.front ++ l) t.goes_on.0 ∙ append-nil t.front)) t.begins,
+    t.goes_on.1,
+  )
 
   from_mapped : (symbols : List S) (b : B) → Mapped f G symbols b → Then G (λ a. Nothing (f a)) symbols b
-  from_mapped symbols b m = record { front = symbols; back = []; first = m.0; whole = sym (append-nil symbols); begins = m.1; goes_on = (refl, m.2) }
+  from_mapped symbols b m = record {
+    front = symbols;
+    back = [];
+    first = m.0;
+    whole = sym (append-nil symbols);
+    begins = m.1;
+    goes_on = (refl, m.2);
+  }
 
   pub mapped_exact : Exact (Mapped f G) (mapped f R)
   mapped_exact =
       same_exact (Then G (λ a. Nothing (f a))) (Mapped f G) _
-      (then_exact G (λ a. Nothing (f a)) R (λ a. nothing (f a)) g (λ a. nothing_exact (f a)) (λ a. record { more = []; value = f a; spelled = (refl, refl) }))
+      (then_exact G (λ a. Nothing (f a)) R (λ a. nothing (f a)) g (λ a. nothing_exact (f a))
+      (λ a. record { more = []; value = f a; spelled = (refl, refl) }))
       to_mapped from_mapped
 
 -- one symbol, which chooses what stands behind it
-pub choice_exact : {S A B : Type 0} (f : S → Option A) (H : A → Grammar S B) (T : A → Reader S B) (s : S) (a : A) → f s ≡ Some a → ((a : A) → Exact (H a) (T a)) → ((a : A) → Begins (H a) []) → Exact (Choice f H) (choose f T)
+pub choice_exact : {S A B : Type 0} (f : S → Option A) (H : A → Grammar S B) (T : A → Reader S B) (s : S) (a : A) → f s ≡ Some a
+    → ((a : A) → Exact (H a) (T a)) → ((a : A) → Begins (H a) []) → Exact (Choice f H) (choose f T)
 choice_exact f H T s a e h some = then_exact (One f) H (one f) T (one_exact f s a e) h some
 
 -- one symbol that passes a test
-passing-means : {S : Type 0} (is : S → Bool) (t s : S) (b : Bool) → is t ≡ b → (if b then Some t else None) ≡ Some s → (t ≡ s) × (is t ≡ true)
+passing-means : {S : Type 0} (is : S → Bool) (t s : S) (b : Bool) → is t ≡ b → (if b then Some t else None) ≡ Some s → (t ≡ s)
+    × (is t ≡ true)
 passing-means is t s true e f = (cc, e)
 passing-means is t s false e f = absurd (cc)
 
@@ -197,4 +249,5 @@ from_one_of is (t ∷ []) s h = ap (λ b. if b then Some t else None) h.1 ∙ ap
 from_one_of is (t ∷ u ∷ symbols) s h = absurd h
 
 pub one_of_exact : {S : Type 0} (is : S → Bool) (s : S) → is s ≡ true → Exact (OneOf is) (one_of is)
-one_of_exact is s e = same_exact (One (if_passing is)) (OneOf is) _ (one_exact (if_passing is) s s (ap (λ b. if b then Some s else None) e)) (to_one_of is) (from_one_of is)
+one_of_exact is s e = same_exact (One (if_passing is)) (OneOf is) _
+    (one_exact (if_passing is) s s (ap (λ b. if b then Some s else None) e)) (to_one_of is) (from_one_of is)

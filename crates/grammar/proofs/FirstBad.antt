@@ -51,7 +51,9 @@ module _ {S A : Type 0} (G : Grammar S A) (R : Reader S A) (g : Exact G R) where
   place_of front rest left e = omega (arith, length-append front rest)
 
   -- the bad place is at the end of the front
-  bad_at : (symbols front rest : List S) → symbols ≡ front ++ rest → Begins G front → ((b : S) (more : List S) → rest ≡ b ∷ more → Begins G (front ++ b ∷ []) → ⊥) → ((a : A) → G symbols a → ⊥) → FirstBad G symbols (length front)
+  bad_at : (symbols front rest : List S) → symbols ≡ front ++ rest → Begins G front
+      → ((b : S) (more : List S) → rest ≡ b ∷ more → Begins G (front ++ b ∷ []) → ⊥) → ((a : A) → G symbols a → ⊥)
+      → FirstBad G symbols (length front)
   bad_at symbols front [] e begins next none = record {
     within = omega (arith, ap length e, length-append front []);
     before = subst (λ l. Begins G l) (sym (ap (λ l. take (length front) l) e ∙ take_front front [])) begins;
@@ -70,10 +72,12 @@ module _ {S A : Type 0} (G : Grammar S A) (R : Reader S A) (g : Exact G R) where
 
   after_next : (front : List S) (a : A) → G front a → (b : S) → Begins G (front ++ b ∷ []) → ⊥
   after_next front a s b u =
-      let e : b ∷ u.more ≡ [] = no_prefix front (b ∷ u.more) a u.value s (subst (λ l. G l u.value) (append_assoc front (b ∷ []) u.more) u.spelled) in
+      let e : b ∷ u.more ≡ [] = no_prefix front (b ∷ u.more) a u.value s
+      (subst (λ l. G l u.value) (append_assoc front (b ∷ []) u.more) u.spelled) in
       absurd (cc)
 
-  bad_reading : (symbols : List S) (r : Reading S A) → R symbols ≡ r → (left : ℕ) → whole r ≡ Err left → ((a : A) → G symbols a → ⊥) → (left ≤ length symbols) × FirstBad G symbols (length symbols - left)
+  bad_reading : (symbols : List S) (r : Reading S A) → R symbols ≡ r → (left : ℕ) → whole r ≡ Err left → ((a : A) → G symbols a → ⊥)
+      → (left ≤ length symbols) × FirstBad G symbols (length symbols - left)
   bad_reading symbols (Err n) e left f none =
       let h : n ≡ left = cc in
       let t : Stopped G R symbols n = g.stops symbols n e in
@@ -88,11 +92,15 @@ module _ {S A : Type 0} (G : Grammar S A) (R : Reader S A) (g : Exact G R) where
       let t : Taken G symbols a (b ∷ rest) = g.takes symbols a (b ∷ rest) e in (
         omega (arith, h, ap length t.whole, length-append t.front (b ∷ rest)),
         subst (λ p. FirstBad G symbols p) (sym (ap (λ x. length x - left) t.whole ∙ place_of t.front (b ∷ rest) left h))
-            (bad_at symbols t.front (b ∷ rest) t.whole (record { more = []; value = a; spelled = subst (λ l. G l a) (sym (append-nil t.front)) t.spelled }) (λ c more _ u. after_next t.front a t.spelled c u) none),
+            (bad_at symbols t.front (b ∷ rest) t.whole
+            (record { more = []; value = a; spelled = subst (λ l. G l a) (sym (append-nil t.front)) t.spelled })
+            (λ c more _ u. after_next t.front a t.spelled c u) none),
       )
 
-  pub bad_whole : (symbols : List S) (left : ℕ) → whole (R symbols) ≡ Err left → (left ≤ length symbols) × FirstBad G symbols (length symbols - left)
-  bad_whole symbols left e = bad_reading symbols (R symbols) refl left e (λ a s. let f : whole (R symbols) ≡ Ok a = whole_spelled symbols a s in absurd (cc))
+  pub bad_whole : (symbols : List S) (left : ℕ) → whole (R symbols) ≡ Err left → (left ≤ length symbols)
+      × FirstBad G symbols (length symbols - left)
+  bad_whole symbols left e = bad_reading symbols (R symbols) refl left e
+      (λ a s. let f : whole (R symbols) ≡ Ok a = whole_spelled symbols a s in absurd (cc))
 
 -- ---- there is one such place
 -- what is taken later goes on with what is taken before
@@ -104,7 +112,8 @@ take_further (suc p) (suc q) (s ∷ symbols) h =
     let further = take_further p q symbols (omega arith) in
     (further.0, ap (λ l. s ∷ l) further.1)
 
-begins_before : {S A : Type 0} (G : Grammar S A) (p q : ℕ) (symbols : List S) → p ≤ q → Begins G (take q symbols) → Begins G (take p symbols)
+begins_before : {S A : Type 0} (G : Grammar S A) (p q : ℕ) (symbols : List S) → p ≤ q → Begins G (take q symbols)
+    → Begins G (take p symbols)
 begins_before G p q symbols h b =
     let further = take_further p q symbols h in
     record {

@@ -2,7 +2,8 @@
 use Rattle.std.specs.Prelude.{◌≡◌, ℕ, suc, ◌<◌, List, [], ◌∷◌, ◌++◌, length, Ok, Err, refl}
 use Rattle.std.proofs.Common.{ap, sym, ◌∙◌, subst, arith, append_assoc, append-nil, length-append}
 use Rattle.grammar.specs.Grammar.{Grammar, Nothing, Then}
-use Rattle.grammar.specs.Depths.{Placed, bare, Shallow, Fault, bad, deep, spent, Look, Looker, look_then, SameHead, Took, FaultAt, StaysAt, Stuck, PastBy, Passes, Reads}
+use Rattle.grammar.specs.Depths.{Placed, bare, Shallow, Fault, bad, deep, spent, Look, Looker, look_then, SameHead, Took, FaultAt}
+use Rattle.grammar.specs.Depths.{StaysAt, Stuck, PastBy, Passes, Reads}
 use Rattle.grammar.proofs.Lookers.{bare-append, length-bare, past_not_shallow, then_reads}
 use Rattle.grammar.proofs.Choices.{same_reads}
 use Rattle.grammar.specs.FirstFault.{Breaks, Deepens, NoneGoesOn, NoneWithin, Spells, look_end, look_whole}
@@ -31,7 +32,13 @@ module _ {S A : Type 0} (limit fuel : ℕ) (a : A) where
       let p : ◌≡◌ {A = A × List S} (a, []) (b, rest) = cc in
       let h : a ≡ b = ap (λ x. x.0) p in
       let k : [] ≡ rest = ap (λ x. x.1) p in
-      record { front = []; split = k; shallow = tt; member = (refl, sym h); local = λ v same. local v (subst (λ l. SameHead l v) (sym k) same) ∙ ap (λ x. Ok (x, v)) h }
+      record {
+        front = [];
+        split = k;
+        shallow = tt;
+        member = (refl, sym h);
+        local = λ v same. local v (subst (λ l. SameHead l v) (sym k) same) ∙ ap (λ x. Ok (x, v)) h;
+      }
     where
       local : (v : List S) → SameHead [] v → look_end a v ≡ Ok (a, v)
       local [] same = refl
@@ -41,7 +48,17 @@ module _ {S A : Type 0} (limit fuel : ℕ) (a : A) where
   end_stops [] f e = absurd (cc)
   end_stops (s ∷ w) f e =
       subst (λ y. Stuck limit (Nothing {S = S × ℕ} a) (look_end a) (s ∷ w) y) (let same : bad (suc (length w)) ≡ f = cc in same)
-      (record { front = []; rest = s ∷ w; split = refl; shallow = tt; more = []; value = a; goes_on = (refl, refl); fault = refl; stays = λ more. refl })
+      (record {
+        front = [];
+        rest = s ∷ w;
+        split = refl;
+        shallow = tt;
+        more = [];
+        value = a;
+        goes_on = (refl, refl);
+        fault = refl;
+        stays = λ more. refl;
+      })
 
   end_again : (ps : List (S × ℕ)) (b : A) → Nothing a ps b → (v : List S) → v ≡ [] → Passes limit fuel ps (look_end a (bare ps ++ v)) b v
   end_again (q ∷ ps) b p v e = absurd (cc (p.0))
@@ -56,9 +73,11 @@ module _ {S A : Type 0} (limit fuel : ℕ) (a : A) where
     stops = λ w f few e. end_stops w f e;
   }
 
-module _ {S A : Type 0} (limit fuel : ℕ) (G : List (S × ℕ) → A → Type 0) (n : List S → Type 0) (R : Looker S A) (g : Reads limit fuel G n R) (last : n []) where
+module _ {S A : Type 0} (limit fuel : ℕ) (G : List (S × ℕ) → A → Type 0) (n : List S → Type 0) (R : Looker S A)
+    (g : Reads limit fuel G n R) (last : n []) where
   to_whole : (ps : List (S × ℕ)) (b : A) → Then G (λ a. Nothing a) ps b → G ps b
-  to_whole ps b t = subst (λ x. G ps x) (sym t.goes_on.1) (subst (λ l. G l t.first) (sym (t.whole ∙ ap (λ l. t.front ++ l) t.goes_on.0 ∙ append-nil t.front)) t.begins)
+  to_whole ps b t = subst (λ x. G ps x) (sym t.goes_on.1)
+      (subst (λ l. G l t.first) (sym (t.whole ∙ ap (λ l. t.front ++ l) t.goes_on.0 ∙ append-nil t.front)) t.begins)
 
   from_whole : (ps : List (S × ℕ)) (b : A) → G ps b → Then G (λ a. Nothing a) ps b
   from_whole ps b p = record { front = ps; back = []; first = b; whole = sym (append-nil ps); begins = p; goes_on = (refl, refl) }
@@ -66,7 +85,8 @@ module _ {S A : Type 0} (limit fuel : ℕ) (G : List (S × ℕ) → A → Type 0
   whole_reads : Reads limit fuel G (λ v. v ≡ []) (look_whole R)
   whole_reads =
       same_reads limit fuel (Then G (λ a. Nothing a)) G (λ v. v ≡ []) (look_whole R) to_whole from_whole
-      (then_reads limit fuel fuel 0 G (λ a. Nothing a) n (λ v. v ≡ []) R look_end g (λ ps a p. end_reads limit fuel a) (λ ps a p. omega arith) (omega arith)
+      (then_reads limit fuel fuel 0 G (λ a. Nothing a) n (λ v. v ≡ []) R look_end g (λ ps a p. end_reads limit fuel a)
+      (λ ps a p. omega arith) (omega arith)
       (λ ps a p qs b q v e. subst (λ l. n (bare l ++ v)) (sym q.0) (subst n (sym e) last)))
 
   ended : (r : Look S A) (a : A) (rest : List S) → look_then r look_end ≡ Ok (a, rest) → rest ≡ []
@@ -82,22 +102,28 @@ module _ {S A : Type 0} (limit fuel : ℕ) (G : List (S × ℕ) → A → Type 0
       let k : Passes limit fuel ps (look_whole R (bare ps ++ [])) a [] = whole_reads.again ps a p [] refl in
       subst (λ r. Passes limit fuel ps r a []) (ap (look_whole R) (append-nil (bare ps)) ∙ e) k
 
-  none_goes_on : (front rest : List S) (left : ℕ) → look_whole R (front ++ rest) ≡ Err (bad left) → StaysAt (bad left) (look_whole R) front rest → NoneGoesOn G front rest
+  none_goes_on : (front rest : List S) (left : ℕ) → look_whole R (front ++ rest) ≡ Err (bad left)
+      → StaysAt (bad left) (look_whole R) front rest → NoneGoesOn G front rest
   none_goes_on front [] left e stays = λ ps a p same. not_bad ps a left p (ap (look_whole R) (same ∙ sym (append-nil front)) ∙ e)
   none_goes_on front (s ∷ rest) left e stays = λ ps a p more same. not_bad ps a (suc (length more)) p (ap (look_whole R) same ∙ stays more)
 
   past_by : (qs : List (Placed S)) (a : A) (left : ℕ) → G qs a → look_whole R (bare qs) ≡ Err (deep left) → PastBy limit qs left 0
-  past_by qs a left p e = subst (λ r. Passes limit fuel qs r a []) (ap (look_whole R) (append-nil (bare qs)) ∙ e) (whole_reads.again qs a p [] refl)
+  past_by qs a left p e = subst (λ r. Passes limit fuel qs r a []) (ap (look_whole R) (append-nil (bare qs)) ∙ e)
+      (whole_reads.again qs a p [] refl)
 
-  none_within : (front : List S) (s : S) → ((more : List S) → look_whole R (front ++ s ∷ more) ≡ Err (deep (suc (length more)))) → NoneWithin limit G (front ++ s ∷ [])
+  none_within : (front : List S) (s : S) → ((more : List S) → look_whole R (front ++ s ∷ more) ≡ Err (deep (suc (length more))))
+      → NoneWithin limit G (front ++ s ∷ [])
   none_within front s stays ps more a p same shallow =
-      let read : bare (ps ++ more) ≡ front ++ s ∷ bare more = bare-append ps more ∙ ap (λ l. l ++ bare more) same ∙ append_assoc front (s ∷ []) (bare more) in
+      let read : bare (ps ++ more) ≡ front ++ s ∷ bare more = bare-append ps more ∙ ap (λ l. l ++ bare more) same ∙ append_assoc front
+      (s ∷ []) (bare more) in
       let past = past_by (ps ++ more) a (suc (length (bare more))) p (ap (look_whole R) read ∙ stays (bare more)) in
       let size : length more ≡ length past.more = omega (arith, past.place, length-bare more) in
-      let these : ps ≡ past.front ++ past.symbol ∷ [] = same_front ps (past.front ++ past.symbol ∷ []) more past.more (past.split ∙ sym (append_assoc past.front (past.symbol ∷ []) past.more)) size in
+      let these : ps ≡ past.front ++ past.symbol ∷ [] = same_front ps (past.front ++ past.symbol ∷ []) more past.more
+      (past.split ∙ sym (append_assoc past.front (past.symbol ∷ []) past.more)) size in
       past.past (subst (λ l. Shallow limit l) these shallow)
 
-  deepens : (w : List S) (left : ℕ) (s : Stuck limit G (look_whole R) w (deep left)) (rest : List S) (more : List (S × ℕ)) → w ≡ bare s.front ++ rest → G (s.front ++ more) s.value → FaultAt limit (deep left) rest more
+  deepens : (w : List S) (left : ℕ) (s : Stuck limit G (look_whole R) w (deep left)) (rest : List S) (more : List (S × ℕ))
+      → w ≡ bare s.front ++ rest → G (s.front ++ more) s.value → FaultAt limit (deep left) rest more
       → StaysAt (deep left) (look_whole R) (bare s.front) rest → Deepens limit G w left
   deepens w left s [] more split p f stays = absurd f
   deepens w left s (t ∷ rest) [] split p f stays = absurd f
@@ -120,7 +146,12 @@ module _ {S A : Type 0} (limit fuel : ℕ) (G : List (S × ℕ) → A → Type 0
   answered w (Ok x) e few =
       let t : Took limit G (look_whole R) w x.0 x.1 = whole_reads.takes w x.0 x.1 few e in
       let none : x.1 ≡ [] = ended (R w) x.0 x.1 e in
-      record { placed = t.front; whole = t.split ∙ ap (λ l. bare t.front ++ l) none ∙ append-nil (bare t.front); shallow = t.shallow; member = t.member }
+      record {
+        placed = t.front;
+        whole = t.split ∙ ap (λ l. bare t.front ++ l) none ∙ append-nil (bare t.front);
+        shallow = t.shallow;
+        member = t.member;
+      }
   answered w (Err (bad left)) e few =
       let s : Stuck limit G (look_whole R) w (bad left) = whole_reads.stops w (bad left) few e in
       record {
@@ -143,14 +174,17 @@ module _ {S A : Type 0} (limit fuel : ℕ) (G : List (S × ℕ) → A → Type 0
   pub whole_answers : (w : List S) → length w < fuel → Answered limit G w (look_whole R w)
   whole_answers w few = answered w (look_whole R w) refl few
 
-  spelled_passes : (w : List S) (a : A) (s : Spells limit G w a) → length w < fuel → (r : Look S A) → look_whole R w ≡ r → Passes limit fuel s.placed r a [] → r ≡ Ok (a, [])
+  spelled_passes : (w : List S) (a : A) (s : Spells limit G w a) → length w < fuel → (r : Look S A) → look_whole R w ≡ r
+      → Passes limit fuel s.placed r a [] → r ≡ Ok (a, [])
   spelled_passes w a s few (Ok x) e k = ap (λ y. Ok y) k
   spelled_passes w a s few (Err (bad left)) e k = absurd k
   spelled_passes w a s few (Err (deep left)) e k = absurd (past_not_shallow limit s.placed left 0 k s.shallow)
-  spelled_passes w a s few (Err spent) e k = absurd (let size : length w ≡ length s.placed = ap length s.whole ∙ length-bare s.placed in omega arith)
+  spelled_passes w a s few (Err spent) e k = absurd (let size : length w ≡ length s.placed = ap length s.whole ∙ length-bare s.placed in
+      omega arith)
 
   -- and what is spelled is answered
   pub whole_only : (w : List S) (a : A) → Spells limit G w a → length w < fuel → look_whole R w ≡ Ok (a, [])
   whole_only w a s few =
       spelled_passes w a s few (look_whole R w) refl
-      (subst (λ l. Passes limit fuel s.placed (look_whole R l) a []) (append-nil (bare s.placed) ∙ sym s.whole) (whole_reads.again s.placed a s.member [] refl))
+      (subst (λ l. Passes limit fuel s.placed (look_whole R l) a []) (append-nil (bare s.placed) ∙ sym s.whole)
+      (whole_reads.again s.placed a s.member [] refl))

@@ -14,10 +14,15 @@ abbrev pub Choice : {S A B : Type 0} → (S → Option A) → (A → Grammar S B
 Choice f H = Then (One f) H
 
 -- ---- how a spelling begins
-pub begins_then : {S A B : Type 0} (G : Grammar S A) (H : A → Grammar S B) → Begins G [] → ((a : A) → Begins (H a) []) → Begins (Then G H) []
+pub begins_then : {S A B : Type 0} (G : Grammar S A) (H : A → Grammar S B) → Begins G [] → ((a : A) → Begins (H a) [])
+    → Begins (Then G H) []
 begins_then G H g h =
     let u : Begins (H g.value) [] = h g.value in
-    record { more = g.more ++ u.more; value = u.value; spelled = record { front = g.more; back = u.more; first = g.value; whole = refl; begins = g.spelled; goes_on = u.spelled } }
+    record {
+      more = g.more ++ u.more;
+      value = u.value;
+      spelled = record { front = g.more; back = u.more; first = g.value; whole = refl; begins = g.spelled; goes_on = u.spelled };
+    }
 
 pub begins_mapped : {S A B : Type 0} (f : A → B) (G : Grammar S A) → Begins G [] → Begins (Mapped f G) []
 begins_mapped f G g = record { more = g.more; value = f g.value; spelled = (g.value, g.spelled, refl) }
@@ -32,7 +37,8 @@ begins_times G some (suc n) =
     record { more = some.more ++ u.more; value = some.value ∷ u.value; spelled = (some.more, u.more, refl, some.spelled, u.spelled) }
 
 -- where every spelling by one grammar is one by the other
-pub begins_same : {S A : Type 0} (G H : Grammar S A) → ((symbols : List S) (a : A) → G symbols a → H symbols a) → (front : List S) → Begins G front → Begins H front
+pub begins_same : {S A : Type 0} (G H : Grammar S A) → ((symbols : List S) (a : A) → G symbols a → H symbols a) → (front : List S)
+    → Begins G front → Begins H front
 begins_same G H to front g = record { more = g.more; value = g.value; spelled = to (front ++ g.more) g.value g.spelled }
 
 -- a row is as long as its number says

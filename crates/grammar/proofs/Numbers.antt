@@ -1,5 +1,6 @@
 -- Laws of the definitions of specs/Numbers.
-use Rattle.std.specs.Prelude.{◌≡◌, ℕ, zero, suc, ◌+◌, ◌*◌, ◌/◌, ◌%◌, ◌^◌, ◌<◌, ◌≤◌, ◌&&◌, Bool, true, false, List, [], ◌∷◌, ◌++◌, length, Ok, Err, nat_lt, max, refl, if◌then◌else◌}
+use Rattle.std.specs.Prelude.{◌≡◌, ℕ, zero, suc, ◌+◌, ◌*◌, ◌/◌, ◌%◌, ◌^◌, ◌<◌, ◌≤◌, ◌&&◌, Bool, true, false, List, [], ◌∷◌, ◌++◌, length}
+use Rattle.std.specs.Prelude.{Ok, Err, nat_lt, max, refl, if◌then◌else◌}
 use Rattle.std.proofs.Common.{ap, sym, ◌∙◌, arith, subst}
 use Rattle.std.proofs.lemmas.Bool.Decides.{nat_tests}
 use Rattle.std.proofs.Math.Nat.{pow-succ', pow-suc, div-div-eq-div-mul, div-eq_of_lt-le, mul-le-mul_right}
@@ -21,7 +22,8 @@ Digits-bounds zero v [] n d = (omega arith, omega arith)
 Digits-bounds zero v (b ∷ bytes) n d = absurd d
 Digits-bounds (suc k) v [] n d = absurd d
 Digits-bounds (suc k) v (b ∷ bytes) n d =
-    let s : (v * (256 * 256 ^ k) ≤ (v * 256 + b) * 256 ^ k) × ((v * 256 + b + 1) * 256 ^ k ≤ (v + 1) * (256 * 256 ^ k)) = bounds_step (256 ^ k) v b d.0 in
+    let s : (v * (256 * 256 ^ k) ≤ (v * 256 + b) * 256 ^ k)
+    × ((v * 256 + b + 1) * 256 ^ k ≤ (v + 1) * (256 * 256 ^ k)) = bounds_step (256 ^ k) v b d.0 in
     let r : ((v * 256 + b) * 256 ^ k ≤ n) × (n < (v * 256 + b + 1) * 256 ^ k) = Digits-bounds k (v * 256 + b) bytes n d.1 in
     rw (pow-succ' 256 k) (omega arith, omega arith)
 
@@ -100,10 +102,13 @@ most_of a b c p q = omega arith
 before_next : (a b c : ℕ) → a < c → b < c → max a b < c
 before_next a b c p q = omega arith
 
-pub test_true : (least most k v b : ℕ) → b < 256 → Reaches least most k (v * 256 + b) → (nat_lt b 256 && reaches least most k (v * 256 + b)) ≡ true
-test_true least most k v b h r = let t : nat_lt b 256 ≡ true = grind (arith, nat_tests) in true_both _ _ t (reaches_holds least most k (v * 256 + b) r)
+pub test_true : (least most k v b : ℕ) → b < 256 → Reaches least most k (v * 256 + b)
+    → (nat_lt b 256 && reaches least most k (v * 256 + b)) ≡ true
+test_true least most k v b h r = let t : nat_lt b 256 ≡ true = grind (arith, nat_tests) in
+    true_both _ _ t (reaches_holds least most k (v * 256 + b) r)
 
-pub test_false : (least most k v b : ℕ) → (Reaches least most k (v * 256 + b) → ⊥) → (nat_lt b 256 && reaches least most k (v * 256 + b)) ≡ false
+pub test_false : (least most k v b : ℕ) → (Reaches least most k (v * 256 + b) → ⊥)
+    → (nat_lt b 256 && reaches least most k (v * 256 + b)) ≡ false
 test_false least most k v b fails = not_true _ (λ e. fails (reaches_means least most k (v * 256 + b) (both_true _ _ e).1))
   where
     not_true : (c : Bool) → (c ≡ true → ⊥) → c ≡ false
@@ -117,7 +122,12 @@ module _ (least most : ℕ) (sound : least ≤ most) where
       record {
         more = bytes_high_first k n;
         value = n;
-        spelled = (has_digits_from k v n (omega arith) (before_next least (v * 256 ^ k) ((v + 1) * 256 ^ k) r.1 (next_above v (256 ^ k) (pow_above k))), omega arith, most_of least (v * 256 ^ k) most sound r.0);
+        spelled = (
+          has_digits_from k v n (omega arith)
+              (before_next least (v * 256 ^ k) ((v + 1) * 256 ^ k) r.1 (next_above v (256 ^ k) (pow_above k))),
+          omega arith,
+          most_of least (v * 256 ^ k) most sound r.0,
+        );
       }
 
   -- the condition under which the next byte is read
@@ -140,22 +150,31 @@ module _ (least most : ℕ) (sound : least ≤ most) where
   read_test k v b bytes c = if c then number_from least most k (v * 256 + b) bytes else Err (suc (length bytes))
 
   abbrev Takes : (k v : ℕ) → List ℕ → Type 0
-  Takes k v bytes = (n : ℕ) (rest : List ℕ) → number_from least most k v bytes ≡ Ok (n, rest) → Taken (NumberFrom least most k v) bytes n rest
+  Takes k v bytes = (n : ℕ) (rest : List ℕ) → number_from least most k v bytes ≡ Ok (n, rest)
+      → Taken (NumberFrom least most k v) bytes n rest
 
-  test_takes : (k v b : ℕ) (bytes : List ℕ) → (Reaches least most k (v * 256 + b) → Takes k (v * 256 + b) bytes) → (n : ℕ) (rest : List ℕ) (c : Bool) → test k v b ≡ c → read_test k v b bytes c ≡ Ok (n, rest) → Taken (NumberFrom least most (suc k) v) (b ∷ bytes) n rest
+  test_takes : (k v b : ℕ) (bytes : List ℕ) → (Reaches least most k (v * 256 + b) → Takes k (v * 256 + b) bytes)
+      → (n : ℕ) (rest : List ℕ) (c : Bool) → test k v b ≡ c → read_test k v b bytes c ≡ Ok (n, rest)
+      → Taken (NumberFrom least most (suc k) v) (b ∷ bytes) n rest
   test_takes k v b bytes ih n rest false t e = absurd (cc)
   test_takes k v b bytes ih n rest true t e =
       let u : Taken (NumberFrom least most k (v * 256 + b)) bytes n rest = ih (test_reaches k v b t) n rest e in
-      record { front = b ∷ u.front; whole = ap (λ l. b ∷ l) u.whole; spelled = ((test_byte k v b t, u.spelled.0), u.spelled.1, u.spelled.2) }
+      record {
+        front = b ∷ u.front;
+        whole = ap (λ l. b ∷ l) u.whole;
+        spelled = ((test_byte k v b t, u.spelled.0), u.spelled.1, u.spelled.2);
+      }
 
   number_takes : (k v : ℕ) → Reaches least most k v → (bytes : List ℕ) → Takes k v bytes
   number_takes zero v r bytes n rest e =
       let f : n ≡ v = sym (ok_first _ _ _ _ e) in
       record { front = []; whole = ok_rest _ _ _ _ e; spelled = (f, omega (arith, r.1), omega (arith, r.0)) }
   number_takes (suc k) v r [] n rest e = absurd (cc)
-  number_takes (suc k) v r (b ∷ bytes) n rest e = test_takes k v b bytes (λ s. number_takes k (v * 256 + b) s bytes) n rest (test k v b) refl e
+  number_takes (suc k) v r (b ∷ bytes) n rest e = test_takes k v b bytes (λ s. number_takes k (v * 256 + b) s bytes) n rest
+      (test k v b) refl e
 
-  number_again : (k v : ℕ) (front : List ℕ) (n : ℕ) (rest : List ℕ) → NumberFrom least most k v front n → number_from least most k v (front ++ rest) ≡ Ok (n, rest)
+  number_again : (k v : ℕ) (front : List ℕ) (n : ℕ) (rest : List ℕ) → NumberFrom least most k v front n
+      → number_from least most k v (front ++ rest) ≡ Ok (n, rest)
   number_again zero v [] n rest s = ap (λ m. Ok (m, rest)) (sym s.0)
   number_again zero v (b ∷ front) n rest s = absurd s.0
   number_again (suc k) v [] n rest s = absurd s.0
@@ -163,30 +182,55 @@ module _ (least most : ℕ) (sound : least ≤ most) where
       ap (λ c. read_test k v b (front ++ rest) c) (test_holds k v b front n s.0.0 (s.0.1, s.1, s.2))
       ∙ number_again k (v * 256 + b) front n rest (s.0.1, s.1, s.2)
 
-  later_stays : (k v b : ℕ) → test k v b ≡ true → (front rest : List ℕ) → Stays (number_from least most k (v * 256 + b)) front rest → Stays (number_from least most (suc k) v) (b ∷ front) rest
+  later_stays : (k v b : ℕ) → test k v b ≡ true → (front rest : List ℕ) → Stays (number_from least most k (v * 256 + b)) front rest
+      → Stays (number_from least most (suc k) v) (b ∷ front) rest
   later_stays k v b t front [] stays = tt
   later_stays k v b t front (a ∷ rest) stays = λ more. ap (λ c. read_test k v b (front ++ a ∷ more) c) t ∙ stays more
 
   abbrev Stops : (k v : ℕ) → List ℕ → Type 0
-  Stops k v bytes = (left : ℕ) → number_from least most k v bytes ≡ Err left → Stopped (NumberFrom least most k v) (number_from least most k v) bytes left
+  Stops k v bytes = (left : ℕ) → number_from least most k v bytes ≡ Err left
+      → Stopped (NumberFrom least most k v) (number_from least most k v) bytes left
 
-  test_stops : (k v b : ℕ) → Reaches least most (suc k) v → (bytes : List ℕ) → (Reaches least most k (v * 256 + b) → Stops k (v * 256 + b) bytes) → (left : ℕ) (c : Bool) → test k v b ≡ c → read_test k v b bytes c ≡ Err left → Stopped (NumberFrom least most (suc k) v) (number_from least most (suc k) v) (b ∷ bytes) left
-  test_stops k v b r bytes ih left false t e = record { front = []; rest = b ∷ bytes; whole = refl; left_is = cc; begins = number_begins (suc k) v r; stays = λ more. ap (λ c. read_test k v b more c) t }
+  test_stops : (k v b : ℕ) → Reaches least most (suc k) v → (bytes : List ℕ)
+      → (Reaches least most k (v * 256 + b) → Stops k (v * 256 + b) bytes) → (left : ℕ) (c : Bool) → test k v b ≡ c
+      → read_test k v b bytes c ≡ Err left → Stopped (NumberFrom least most (suc k) v) (number_from least most (suc k) v) (b ∷ bytes) left
+  test_stops k v b r bytes ih left false t e =
+      record {
+        front = [];
+        rest = b ∷ bytes;
+        whole = refl;
+        left_is = cc;
+        begins = number_begins (suc k) v r;
+        stays = λ more. ap (λ c. read_test k v b more c) t;
+      }
   test_stops k v b r bytes ih left true t e =
-      let u : Stopped (NumberFrom least most k (v * 256 + b)) (number_from least most k (v * 256 + b)) bytes left = ih (test_reaches k v b t) left e in
+      let u : Stopped (NumberFrom least most k (v * 256 + b)) (number_from least most k (v * 256 + b)) bytes left = ih
+      (test_reaches k v b t) left e in
       record {
         front = b ∷ u.front;
         rest = u.rest;
         whole = ap (λ l. b ∷ l) u.whole;
         left_is = u.left_is;
-        begins = record { more = u.begins.more; value = u.begins.value; spelled = ((test_byte k v b t, u.begins.spelled.0), u.begins.spelled.1, u.begins.spelled.2) };
+        begins = record {
+          more = u.begins.more;
+          value = u.begins.value;
+          spelled = ((test_byte k v b t, u.begins.spelled.0), u.begins.spelled.1, u.begins.spelled.2);
+        };
         stays = later_stays k v b t u.front u.rest u.stays;
       }
 
   number_stops : (k v : ℕ) → Reaches least most k v → (bytes : List ℕ) → Stops k v bytes
   number_stops zero v r bytes left e = absurd (cc)
-  number_stops (suc k) v r [] left e = record { front = []; rest = []; whole = refl; left_is = cc; begins = number_begins (suc k) v r; stays = tt }
-  number_stops (suc k) v r (b ∷ bytes) left e = test_stops k v b r bytes (λ s. number_stops k (v * 256 + b) s bytes) left (test k v b) refl e
+  number_stops (suc k) v r [] left e = record {
+    front = [];
+    rest = [];
+    whole = refl;
+    left_is = cc;
+    begins = number_begins (suc k) v r;
+    stays = tt;
+  }
+  number_stops (suc k) v r (b ∷ bytes) left e = test_stops k v b r bytes (λ s. number_stops k (v * 256 + b) s bytes) left
+      (test k v b) refl e
 
   pub number_exact : (k : ℕ) → least < 256 ^ k → Exact (Number k least most) (number_at k least most)
   number_exact k h =

@@ -31,8 +31,18 @@ two_splits (s ∷ front) rest (t ∷ other) back e =
   where
     with_head : s ≡ t → Splits front rest other back → Splits (s ∷ front) rest (t ∷ other) back
     with_head h (same e f) = same (ap (λ u. u ∷ front) h ∙ ap (λ l. t ∷ l) e) f
-    with_head h (further k) = further (record { symbol = k.symbol; between = k.between; longer = ap (λ l. t ∷ l) k.longer ∙ ap (λ u. u ∷ (front ++ k.symbol ∷ k.between)) (sym h); shorter = k.shorter })
-    with_head h (nearer k) = nearer (record { symbol = k.symbol; between = k.between; longer = ap (λ l. s ∷ l) k.longer ∙ ap (λ u. u ∷ (other ++ k.symbol ∷ k.between)) h; shorter = k.shorter })
+    with_head h (further k) = further (record {
+      symbol = k.symbol;
+      between = k.between;
+      longer = ap (λ l. t ∷ l) k.longer ∙ ap (λ u. u ∷ (front ++ k.symbol ∷ k.between)) (sym h);
+      shorter = k.shorter;
+    })
+    with_head h (nearer k) = nearer (record {
+      symbol = k.symbol;
+      between = k.between;
+      longer = ap (λ l. s ∷ l) k.longer ∙ ap (λ u. u ∷ (other ++ k.symbol ∷ k.between)) h;
+      shorter = k.shorter;
+    })
 
 -- symbols with depths, cut where these end
 pub record Cut {S : Type 0} (ps : List (S × ℕ)) (front rest : List S) : Type 0 where
@@ -49,11 +59,18 @@ cut (p ∷ ps) (s ∷ front) rest e =
     let head : p.0 ≡ s = cc in
     let tail : bare ps ≡ front ++ rest = cc in
     let c = cut ps front rest tail in
-    record { these = p ∷ c.these; others = c.others; whole = ap (λ l. p ∷ l) c.whole; are = ap (λ l. p.0 ∷ l) c.are ∙ ap (λ u. u ∷ front) head; behind = c.behind }
+    record {
+      these = p ∷ c.these;
+      others = c.others;
+      whole = ap (λ l. p ∷ l) c.whole;
+      are = ap (λ l. p.0 ∷ l) c.are ∙ ap (λ u. u ∷ front) head;
+      behind = c.behind;
+    }
 
 module _ {S A : Type 0} (limit : ℕ) (G : List (S × ℕ) → A → Type 0) where
   -- symbols that a spelling begins with, this one too, are not all within the limit in it
-  pub not_within : (front : List S) (symbol : S) → NoneWithin limit G (front ++ symbol ∷ []) → (ps more : List (Placed S)) (a : A) → G (ps ++ more) a → (rest : List S) → bare ps ≡ front ++ symbol ∷ rest → Shallow limit ps → ⊥
+  pub not_within : (front : List S) (symbol : S) → NoneWithin limit G (front ++ symbol ∷ []) → (ps more : List (Placed S)) (a : A)
+      → G (ps ++ more) a → (rest : List S) → bare ps ≡ front ++ symbol ∷ rest → Shallow limit ps → ⊥
   not_within front symbol none ps more a p rest e shallow =
       let c = cut ps (front ++ symbol ∷ []) rest (e ∙ sym (append_assoc front (symbol ∷ []) rest)) in
       none c.these (c.others ++ more) a
@@ -71,35 +88,44 @@ module _ {S A : Type 0} (limit : ℕ) (G : List (S × ℕ) → A → Type 0) whe
 
   pub spelled_within : (w : List S) (a : A) (left : ℕ) → Spells limit G w a → Deepens limit G w left → ⊥
   spelled_within w a left s d =
-      not_within (bare d.front) d.symbol d.none s.placed [] a (subst (λ l. G l a) (sym (append-nil s.placed)) s.member) d.rest (sym s.whole ∙ d.split) s.shallow
+      not_within (bare d.front) d.symbol d.none s.placed [] a (subst (λ l. G l a) (sym (append-nil s.placed)) s.member) d.rest
+      (sym s.whole ∙ d.split) s.shallow
 
   -- where nothing goes on, no spelling begins with what is further on
-  passed_by : (front rest other back : List S) → NoneGoesOn G front rest → Further front rest other back → (ps : List (Placed S)) (a : A) → G ps a → (more : List S) → bare ps ≡ other ++ more → ⊥
+  passed_by : (front rest other back : List S) → NoneGoesOn G front rest → Further front rest other back → (ps : List (Placed S)) (a : A)
+      → G ps a → (more : List S) → bare ps ≡ other ++ more → ⊥
   passed_by front rest other back none f ps a p more e =
       let there : NoneGoesOn G front (f.symbol ∷ (f.between ++ back)) = subst (λ l. NoneGoesOn G front l) f.shorter none in
       there ps a p (f.between ++ more) (e ∙ ap (λ l. l ++ more) f.longer ∙ append_assoc front (f.symbol ∷ f.between) more)
 
   -- nor with one past the limit before it, all within the limit
-  deep_before : (w : List S) (left : ℕ) (d : Deepens limit G w left) (back other : List S) → Further (bare d.front) (d.symbol ∷ d.rest) other back → (ps more : List (Placed S)) (a : A) → G (ps ++ more) a → bare ps ≡ other → Shallow limit ps → ⊥
+  deep_before : (w : List S) (left : ℕ) (d : Deepens limit G w left) (back other : List S)
+      → Further (bare d.front) (d.symbol ∷ d.rest) other back → (ps more : List (Placed S)) (a : A) → G (ps ++ more) a → bare ps ≡ other
+      → Shallow limit ps → ⊥
   deep_before w left d back other f ps more a p e shallow =
       let head : d.symbol ≡ f.symbol = let h = f.shorter in cc in
-      not_within (bare d.front) d.symbol d.none ps more a p f.between (e ∙ f.longer ∙ ap (λ u. bare d.front ++ u ∷ f.between) (sym head)) shallow
+      not_within (bare d.front) d.symbol d.none ps more a p f.between
+      (e ∙ f.longer ∙ ap (λ u. bare d.front ++ u ∷ f.between) (sym head)) shallow
 
   pub one_break : (w : List S) (m n : ℕ) → Breaks limit G w m → Breaks limit G w n → m ≡ n
   one_break w m n b c = by_splits (two_splits (bare b.front) b.rest (bare c.front) c.rest (sym b.split ∙ c.split))
     where
       by_splits : Splits (bare b.front) b.rest (bare c.front) c.rest → m ≡ n
       by_splits (same e f) = b.place ∙ ap length f ∙ sym c.place
-      by_splits (further f) = absurd (passed_by (bare b.front) b.rest (bare c.front) c.rest b.none f (c.front ++ c.more) c.value c.goes_on (bare c.more) (bare-append c.front c.more))
-      by_splits (nearer f) = absurd (passed_by (bare c.front) c.rest (bare b.front) b.rest c.none f (b.front ++ b.more) b.value b.goes_on (bare b.more) (bare-append b.front b.more))
+      by_splits (further f) = absurd (passed_by (bare b.front) b.rest (bare c.front) c.rest b.none f (c.front ++ c.more) c.value c.goes_on
+          (bare c.more) (bare-append c.front c.more))
+      by_splits (nearer f) = absurd (passed_by (bare c.front) c.rest (bare b.front) b.rest c.none f (b.front ++ b.more) b.value b.goes_on
+          (bare b.more) (bare-append b.front b.more))
 
   pub one_depth : (w : List S) (m n : ℕ) → Deepens limit G w m → Deepens limit G w n → m ≡ n
   one_depth w m n d c = by_splits (two_splits (bare d.front) (d.symbol ∷ d.rest) (bare c.front) (c.symbol ∷ c.rest) (sym d.split ∙ c.split))
     where
       by_splits : Splits (bare d.front) (d.symbol ∷ d.rest) (bare c.front) (c.symbol ∷ c.rest) → m ≡ n
       by_splits (same e f) = d.place ∙ ap length f ∙ sym c.place
-      by_splits (further f) = absurd (deep_before w m d (c.symbol ∷ c.rest) (bare c.front) f c.front ((c.symbol, c.depth) ∷ c.more) c.value c.goes_on refl c.shallow)
-      by_splits (nearer f) = absurd (deep_before w n c (d.symbol ∷ d.rest) (bare d.front) f d.front ((d.symbol, d.depth) ∷ d.more) d.value d.goes_on refl d.shallow)
+      by_splits (further f) = absurd (deep_before w m d (c.symbol ∷ c.rest) (bare c.front) f c.front
+          ((c.symbol, c.depth) ∷ c.more) c.value c.goes_on refl c.shallow)
+      by_splits (nearer f) = absurd (deep_before w n c (d.symbol ∷ d.rest) (bare d.front) f d.front
+          ((d.symbol, d.depth) ∷ d.more) d.value d.goes_on refl d.shallow)
 
   pub broken_within : (w : List S) (m n : ℕ) → Breaks limit G w m → Deepens limit G w n → ⊥
   broken_within w m n b d = by_splits (two_splits (bare b.front) b.rest (bare d.front) (d.symbol ∷ d.rest) (sym b.split ∙ d.split))
@@ -109,7 +135,9 @@ module _ {S A : Type 0} (limit : ℕ) (G : List (S × ℕ) → A → Type 0) whe
 
       by_splits : Splits (bare b.front) b.rest (bare d.front) (d.symbol ∷ d.rest) → ⊥
       by_splits (same e f) =
-          let there : NoneGoesOn G (bare d.front) (d.symbol ∷ d.rest) = subst (λ l. NoneGoesOn G (bare d.front) l) f (subst (λ l. NoneGoesOn G l b.rest) e b.none) in
+          let there : NoneGoesOn G (bare d.front) (d.symbol ∷ d.rest) = subst (λ l. NoneGoesOn G (bare d.front) l) f
+          (subst (λ l. NoneGoesOn G l b.rest) e b.none) in
           there (d.front ++ (d.symbol, d.depth) ∷ d.more) d.value d.goes_on (bare d.more) reached
-      by_splits (further f) = passed_by (bare b.front) b.rest (bare d.front) (d.symbol ∷ d.rest) b.none f (d.front ++ (d.symbol, d.depth) ∷ d.more) d.value d.goes_on (d.symbol ∷ bare d.more) reached
+      by_splits (further f) = passed_by (bare b.front) b.rest (bare d.front) (d.symbol ∷ d.rest) b.none f
+          (d.front ++ (d.symbol, d.depth) ∷ d.more) d.value d.goes_on (d.symbol ∷ bare d.more) reached
       by_splits (nearer f) = deep_before w n d b.rest (bare b.front) f b.front b.more b.value b.goes_on refl b.shallow

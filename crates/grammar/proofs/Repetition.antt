@@ -31,7 +31,8 @@ module _ {S A : Type 0} (G : Grammar S A) (R : Reader S A) (g : Exact G R) (some
   from_suc n symbols (a ∷ xs) s = record { front = s.0; back = s.1; first = a; whole = s.2; begins = s.3; goes_on = (xs, s.4, refl) }
 
   row_begins : (n : ℕ) (a : A) → Begins (Mapped (λ more. a ∷ more) (Times n G)) []
-  row_begins n a = let u : Begins (Times n G) [] = begins_times G some n in record { more = u.more; value = a ∷ u.value; spelled = (u.value, u.spelled, refl) }
+  row_begins n a = let u : Begins (Times n G) [] = begins_times G some n in
+      record { more = u.more; value = a ∷ u.value; spelled = (u.value, u.spelled, refl) }
 
   pub times_exact : (n : ℕ) → Exact (Times n G) (times n R)
   times_exact zero = same_exact (Nothing []) (Times zero G) _ (nothing_exact []) to_zero from_zero
@@ -42,7 +43,8 @@ module _ {S A : Type 0} (G : Grammar S A) (R : Reader S A) (g : Exact G R) (some
       (to_suc n) (from_suc n)
 
 -- the number of values, and the values
-module _ {S A : Type 0} (N : Grammar S ℕ) (C : Reader S ℕ) (c : Exact N C) (G : Grammar S A) (R : Reader S A) (g : Exact G R) (some : Begins G []) where
+module _ {S A : Type 0} (N : Grammar S ℕ) (C : Reader S ℕ) (c : Exact N C) (G : Grammar S A) (R : Reader S A) (g : Exact G R)
+    (some : Begins G []) where
   to_counted : (symbols : List S) (xs : List A) → Then N (λ n. Times n G) symbols xs → Counted N G symbols xs
   to_counted symbols xs t =
       let e : t.first ≡ length xs = sym (length-times G t.first t.back xs t.goes_on) in

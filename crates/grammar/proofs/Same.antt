@@ -18,5 +18,6 @@ more_digits zero v w (b ∷ front) more m n d e = absurd d
 more_digits (suc k) v w [] more m n d e = absurd d
 more_digits (suc k) v w (b ∷ front) more m n d e = more_digits k (v * 256 + b) (w * 256 + b) front more m n d.1 e.1
 
-pub no_longer : (k least most m n : ℕ) (front more : List ℕ) → Number k least most front m → Number k least most (front ++ more) n → more ≡ []
+pub no_longer : (k least most m n : ℕ) (front more : List ℕ) → Number k least most front m → Number k least most (front ++ more) n
+    → more ≡ []
 no_longer k least most m n front more s t = more_digits k 0 0 front more m n s.0 t.0

@@ -1,5 +1,6 @@
 -- Reading a number a byte at a time.
-use Rattle.std.proofs.Common.{◌≡◌, ◌≢◌, ℕ, suc, ◌+◌, ◌-◌, ◌*◌, ◌/◌, ◌^◌, ◌<◌, ◌≤◌, List, [], ◌∷◌, length, get_or, take, drop, if◌then◌else◌, Err, zero-le, refl, ap, sym, ◌∙◌, arith, subst}
+use Rattle.std.proofs.Common.{◌≡◌, ◌≢◌, ℕ, suc, ◌+◌, ◌-◌, ◌*◌, ◌/◌, ◌^◌, ◌<◌, ◌≤◌, List, [], ◌∷◌, length, get_or, take, drop}
+use Rattle.std.proofs.Common.{if◌then◌else◌, Err, zero-le, refl, ap, sym, ◌∙◌, arith, subst}
 use Rattle.std.proofs.Math.Nat.{pow-suc, mul-le-mul_left, mul-le-mul_right, pow-le-pow_right, div-lt_iff_lt-mul, le-div_iff_mul-le}
 use Rattle.grammar.specs.Numbers.{number_from}
 use Rattle.grammar.proofs.Numbers.{pow_above, test_true, test_false}
@@ -39,13 +40,16 @@ le_div : (a p b : ℕ) → 0 < p → b * p ≤ a → b ≤ a / p
 le_div a p b q h = (le-div_iff_mul-le {k = p} q).1 h
 
 module _ (least most k v b : ℕ) (rest : List ℕ) where
-  goes_on : b < 256 → v * 256 + b ≤ most / 256 ^ k → least / 256 ^ k ≤ v * 256 + b → number_from least most (suc k) v (b ∷ rest) ≡ number_from least most k (v * 256 + b) rest
+  goes_on : b < 256 → v * 256 + b ≤ most / 256 ^ k → least / 256 ^ k ≤ v * 256 + b
+      → number_from least most (suc k) v (b ∷ rest) ≡ number_from least most k (v * 256 + b) rest
   goes_on q high low =
       let p : 0 < 256 ^ k = pow_above k in
       let l : least < (v * 256 + b + 1) * 256 ^ k = (div-lt_iff_lt-mul {x = least} {y = v * 256 + b + 1} p).0 (omega arith) in
-      ap (λ c. if c then number_from least most k (v * 256 + b) rest else Err (suc (length rest))) (test_true least most k v b q (div_le most (256 ^ k) (v * 256 + b) p high, l))
+      ap (λ c. if c then number_from least most k (v * 256 + b) rest else Err (suc (length rest)))
+      (test_true least most k v b q (div_le most (256 ^ k) (v * 256 + b) p high, l))
 
-  stops : (v * 256 + b ≤ most / 256 ^ k → least / 256 ^ k ≤ v * 256 + b → ⊥) → number_from least most (suc k) v (b ∷ rest) ≡ Err (suc (length rest))
+  stops : (v * 256 + b ≤ most / 256 ^ k → least / 256 ^ k ≤ v * 256 + b → ⊥)
+      → number_from least most (suc k) v (b ∷ rest) ≡ Err (suc (length rest))
   stops fails =
       let p : 0 < 256 ^ k = pow_above k in
       ap (λ c. if c then number_from least most k (v * 256 + b) rest else Err (suc (length rest)))
@@ -60,18 +64,21 @@ rest_is : (l : List ℕ) → take (suc (length l) - 1) l ≡ l
 rest_is l = let e : suc (length l) - 1 ≡ length l = omega arith in ap (λ n. take n l) e ∙ take_whole l
 
 module _ (least most w v b s : ℕ) (h : w ≢ 0) (e : s ≡ 256 ^ (w - 1)) where
-  pub goes_on_at : (bytes : List ℕ) → 1 ≤ length bytes → b ≡ get_or bytes 0 0 → b < 256 → v * 256 + b ≤ most / s → least / s ≤ v * 256 + b → number_from least most w v bytes ≡ number_from least most (w - 1) (v * 256 + b) (take (length bytes - 1) (drop 1 bytes))
+  pub goes_on_at : (bytes : List ℕ) → 1 ≤ length bytes → b ≡ get_or bytes 0 0 → b < 256 → v * 256 + b ≤ most / s → least / s ≤ v * 256 + b
+      → number_from least most w v bytes ≡ number_from least most (w - 1) (v * 256 + b) (take (length bytes - 1) (drop 1 bytes))
   goes_on_at [] l f q high low = absurd (omega arith)
   goes_on_at (a ∷ rest) l f q high low =
       ap (λ n. number_from least most n v (a ∷ rest)) (suc_of w h) ∙ ap (λ x. number_from least most (suc (w - 1)) v (x ∷ rest)) (sym f)
       ∙ goes_on least most (w - 1) v b rest q (subst (λ p. v * 256 + b ≤ most / p) e high) (subst (λ p. least / p ≤ v * 256 + b) e low)
       ∙ ap (λ l. number_from least most (w - 1) (v * 256 + b) l) (sym (rest_is rest))
 
-  pub stops_at : (bytes : List ℕ) → 1 ≤ length bytes → b ≡ get_or bytes 0 0 → (v * 256 + b ≤ most / s → least / s ≤ v * 256 + b → ⊥) → number_from least most w v bytes ≡ Err (length bytes)
+  pub stops_at : (bytes : List ℕ) → 1 ≤ length bytes → b ≡ get_or bytes 0 0 → (v * 256 + b ≤ most / s → least / s ≤ v * 256 + b → ⊥)
+      → number_from least most w v bytes ≡ Err (length bytes)
   stops_at [] l f fails = absurd (omega arith)
   stops_at (a ∷ rest) l f fails =
       ap (λ n. number_from least most n v (a ∷ rest)) (suc_of w h) ∙ ap (λ x. number_from least most (suc (w - 1)) v (x ∷ rest)) (sym f)
-      ∙ stops least most (w - 1) v b rest (λ high low. fails (subst (λ p. v * 256 + b ≤ most / p) (sym e) high) (subst (λ p. least / p ≤ v * 256 + b) (sym e) low))
+      ∙ stops least most (w - 1) v b rest (λ high low. fails (subst (λ p. v * 256 + b ≤ most / p) (sym e) high)
+      (subst (λ p. least / p ≤ v * 256 + b) (sym e) low))
 
 pub eight_bytes : (w : ℕ) → w ≤ 8 → (0 + 1) * 256 ^ w ≤ 2 ^ 64
 eight_bytes w h =

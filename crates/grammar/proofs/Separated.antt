@@ -19,23 +19,32 @@ abbrev pub NextOf : {S A K : Type 0} → ℕ → (S → Option K) → Grammar (P
 NextOf place f G before = Then (At (λ k. place) f) (λ k. Mapped (λ a. before ++ a ∷ []) G)
 
 -- ---- what is read
-module _ {S A K : Type 0} (limit fuel place : ℕ) (f : S → Option K) (G : List (S × ℕ) → A → Type 0) (n : List S → Type 0) (R : Looker S A) (g : Reads limit fuel G n R)
+module _ {S A K : Type 0} (limit fuel place : ℕ) (f : S → Option K) (G : List (S × ℕ) → A → Type 0) (n : List S → Type 0) (R : Looker S A)
+    (g : Reads limit fuel G n R)
     (goes : (s : S) (w : List S) (k : K) → f s ≡ Some k → n (s ∷ w)) (t : S) (x : K) (i : f t ≡ Some x) where
-  closes : (ps : List (S × ℕ)) (a : A) → G ps a → (qs : List (S × ℕ)) (b : A) → Mapped (λ k. a) (At (λ k. place) f) qs b → (v : List S) → Anything v → n (bare qs ++ v)
+  closes : (ps : List (S × ℕ)) (a : A) → G ps a → (qs : List (S × ℕ)) (b : A) → Mapped (λ k. a) (At (λ k. place) f) qs b → (v : List S)
+      → Anything v → n (bare qs ++ v)
   closes ps a p qs b q v m =
       let o = at_one (λ k. place) f qs q.0 q.1 in
       subst (λ l. n (bare l ++ v)) (sym o.2) (goes o.0 v q.0 o.1)
 
   pub closed_reads : Reads limit fuel (Closed place f G) Anything (look_closed limit place f R)
   closed_reads =
-      then_reads limit fuel fuel 0 G (λ a. Mapped (λ k. a) (At (λ k. place) f)) n Anything R (λ a. look_mapped (λ k. a) (look_at limit (λ k. place) f)) g
-      (λ ps a p. mapped_reads limit fuel (λ k. a) (At (λ k. place) f) Anything (look_at limit (λ k. place) f) (at_reads limit fuel (λ k. place) f t x i))
+      then_reads limit fuel fuel 0 G (λ a. Mapped (λ k. a) (At (λ k. place) f)) n Anything R
+      (λ a. look_mapped (λ k. a) (look_at limit (λ k. place) f)) g
+      (λ ps a p. mapped_reads limit fuel (λ k. a) (At (λ k. place) f) Anything (look_at limit (λ k. place) f)
+      (at_reads limit fuel (λ k. place) f t x i))
       (λ ps a p. omega arith) (omega arith) closes
 
 module _ {S A K : Type 0} (place : ℕ) (f : S → Option K) (G : List (S × ℕ) → A → Type 0) where
-  to_more : (before : List A) (qs : List (S × ℕ)) (all : List A) → Steps (NextOf place f G) before qs all → (ps : List (S × ℕ)) (a : A) → G ps a
+  to_more : (before : List A) (qs : List (S × ℕ)) (all : List A) → Steps (NextOf place f G) before qs all → (ps : List (S × ℕ)) (a : A)
+      → G ps a
       → (more : List A) × (all ≡ before ++ more) × Separated place f G (ps ++ qs) (a ∷ more)
-  to_more before qs all no_step ps a g = ([], sym (append-nil before), subst (λ l. Separated place f G l (a ∷ [])) (sym (append-nil ps)) (alone g))
+  to_more before qs all no_step ps a g = (
+    [],
+    sym (append-nil before),
+    subst (λ l. Separated place f G l (a ∷ [])) (sym (append-nil ps)) (alone g),
+  )
   to_more before qs all (step_on {b = so_far} {front = front} {back = back} q steps) ps a g =
       let o = at_one (λ k. place) f q.front q.first q.begins in
       let b : A = q.goes_on.0 in
@@ -47,7 +56,8 @@ module _ {S A K : Type 0} (place : ℕ) (f : S → Option K) (G : List (S × ℕ
         subst (λ l. Separated place f G l (a ∷ b ∷ u.0)) (sym whole) (apart o.0 q.first g o.1 u.2),
       )
 
-  pub to_separated : (ps : List (S × ℕ)) (all : List A) → Then G (λ a. Steps (NextOf place f G) (a ∷ [])) ps all → Separated place f G ps all
+  pub to_separated : (ps : List (S × ℕ)) (all : List A) → Then G (λ a. Steps (NextOf place f G) (a ∷ [])) ps all
+      → Separated place f G ps all
   to_separated ps all t =
       let u = to_more (t.first ∷ []) t.back all t.goes_on t.front t.first t.begins in
       subst (λ l. Separated place f G l all) (sym t.whole) (subst (λ l. Separated place f G (t.front ++ t.back) l) (sym u.1) u.2)
@@ -61,7 +71,14 @@ module _ {S A K : Type 0} (place : ℕ) (f : S → Option K) (G : List (S × ℕ
     steps : (before : List A) → Steps (NextOf place f G) (before ++ first ∷ []) back (before ++ all)
 
   split : (ps : List (S × ℕ)) (all : List A) → Separated place f G ps all → Split ps all
-  split ps all (alone {a = a} g) = record { front = ps; back = []; first = a; whole = sym (append-nil ps); begins = g; steps = λ before. no_step }
+  split ps all (alone {a = a} g) = record {
+    front = ps;
+    back = [];
+    first = a;
+    whole = sym (append-nil ps);
+    begins = g;
+    steps = λ before. no_step;
+  }
   split ps all (apart {ps = front} {qs = qs} {a = a} {more = more} s k g e rest) =
       let u = split qs more rest in
       record {
@@ -73,24 +90,35 @@ module _ {S A K : Type 0} (place : ℕ) (f : S → Option K) (G : List (S × ℕ
         steps = λ before.
             subst (λ l. Steps (NextOf place f G) (before ++ a ∷ []) ((s, place) ∷ l) (before ++ a ∷ more)) (sym u.whole)
             (step_on {front = (s, place) ∷ u.front}
-            (record { front = (s, place) ∷ []; back = u.front; first = k; whole = refl; begins = (refl, e); goes_on = (u.first, u.begins, refl) })
-            (subst (λ l. Steps (NextOf place f G) ((before ++ a ∷ []) ++ u.first ∷ []) u.back l) (append_assoc before (a ∷ []) more) (u.steps (before ++ a ∷ []))));
+            (record {
+              front = (s, place) ∷ [];
+              back = u.front;
+              first = k;
+              whole = refl;
+              begins = (refl, e);
+              goes_on = (u.first, u.begins, refl);
+            })
+            (subst (λ l. Steps (NextOf place f G) ((before ++ a ∷ []) ++ u.first ∷ []) u.back l) (append_assoc before (a ∷ []) more)
+            (u.steps (before ++ a ∷ []))));
       }
 
-  pub from_separated : (ps : List (S × ℕ)) (all : List A) → Separated place f G ps all → Then G (λ a. Steps (NextOf place f G) (a ∷ [])) ps all
+  pub from_separated : (ps : List (S × ℕ)) (all : List A) → Separated place f G ps all
+      → Then G (λ a. Steps (NextOf place f G) (a ∷ [])) ps all
   from_separated ps all s =
       let u = split ps all s in
       record { front = u.front; back = u.back; first = u.first; whole = u.whole; begins = u.begins; goes_on = u.steps [] }
 
 -- What may follow an item is the symbol or what may follow all.
-module _ {S A K : Type 0} (limit fuel place : ℕ) (f : S → Option K) (G : List (S × ℕ) → A → Type 0) (n m : List S → Type 0) (R : Looker S A) (g : Reads limit fuel G n R)
+module _ {S A K : Type 0} (limit fuel place : ℕ) (f : S → Option K) (G : List (S × ℕ) → A → Type 0) (n m : List S → Type 0)
+    (R : Looker S A) (g : Reads limit fuel G n R)
     (ends : (v : List S) → m v → EndsBefore f v)
     (last : (v : List S) → m v → n v)
     (goes : (s : S) (w : List S) (k : K) → f s ≡ Some k → n (s ∷ w))
     (t : S) (x : K) (i : f t ≡ Some x) where
   next_reads : (before : List A) → Reads limit fuel (NextOf place f G before) n (look_next limit place f R before)
   next_reads before =
-      then_reads limit fuel fuel 0 (At (λ k. place) f) (λ k. Mapped (λ a. before ++ a ∷ []) G) Anything n (look_at limit (λ k. place) f) (λ k. look_mapped (λ a. before ++ a ∷ []) R)
+      then_reads limit fuel fuel 0 (At (λ k. place) f) (λ k. Mapped (λ a. before ++ a ∷ []) G) Anything n (look_at limit (λ k. place) f)
+      (λ k. look_mapped (λ a. before ++ a ∷ []) R)
       (at_reads limit fuel (λ k. place) f t x i)
       (λ ps k p. mapped_reads limit fuel (λ a. before ++ a ∷ []) G n R g)
       (λ ps k p. omega arith) (omega arith) (λ ps k p qs b q v j. tt)
@@ -100,12 +128,14 @@ module _ {S A K : Type 0} (limit fuel place : ℕ) (f : S → Option K) (G : Lis
       let o = at_one (λ k. place) f q.front q.first q.begins in
       subst (λ l. BeginsBy f l) (sym (q.whole ∙ ap (λ l. l ++ q.back) o.2)) (q.first, o.1)
 
-  more_reads : (before : List A) → Reads limit fuel (Steps (NextOf place f G) before) m (look_many f (look_next limit place f R) fuel before)
+  more_reads : (before : List A) → Reads limit fuel (Steps (NextOf place f G) before) m
+      (look_many f (look_next limit place f R) fuel before)
   more_reads before =
       many_reads limit fuel f (λ l. Unit {0}) (NextOf place f G) n m (look_next limit place f R)
       (λ l u. next_reads l) (λ l u ps b q. tt) (λ l u. next_begins l) ends last goes fuel (omega arith) before tt
 
-  begin_next : (ps : List (S × ℕ)) (a : A) → G ps a → (qs : List (S × ℕ)) (all : List A) → Steps (NextOf place f G) (a ∷ []) qs all → (v : List S) → m v → n (bare qs ++ v)
+  begin_next : (ps : List (S × ℕ)) (a : A) → G ps a → (qs : List (S × ℕ)) (all : List A) → Steps (NextOf place f G) (a ∷ []) qs all
+      → (v : List S) → m v → n (bare qs ++ v)
   begin_next ps a p qs all no_step v k = last v k
   begin_next ps a p qs all (step_on {b = b} {front = front} {back = back} q steps) v k =
       let o = at_one (λ k. place) f q.front q.first q.begins in
@@ -113,6 +143,8 @@ module _ {S A K : Type 0} (limit fuel place : ℕ) (f : S → Option K) (G : Lis
 
   pub separated_reads : Reads limit fuel (Separated place f G) m (look_separated limit place f fuel R)
   separated_reads =
-      same_reads limit fuel (Then G (λ a. Steps (NextOf place f G) (a ∷ []))) (Separated place f G) m (look_separated limit place f fuel R) (to_separated place f G) (from_separated place f G)
-      (then_reads limit fuel fuel 0 G (λ a. Steps (NextOf place f G) (a ∷ [])) n m R (λ a. look_many f (look_next limit place f R) fuel (a ∷ []))
+      same_reads limit fuel (Then G (λ a. Steps (NextOf place f G) (a ∷ []))) (Separated place f G) m
+      (look_separated limit place f fuel R) (to_separated place f G) (from_separated place f G)
+      (then_reads limit fuel fuel 0 G (λ a. Steps (NextOf place f G) (a ∷ [])) n m R
+      (λ a. look_many f (look_next limit place f R) fuel (a ∷ []))
       g (λ ps a p. more_reads (a ∷ [])) (λ ps a p. omega arith) (omega arith) begin_next)

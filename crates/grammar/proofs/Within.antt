@@ -7,7 +7,8 @@ use Rattle.grammar.proofs.Exact.{Taken}
 use Rattle.grammar.specs.Numbers.{Number}
 use Rattle.grammar.proofs.Numbers.{number_exact}
 
-pub within_bounds : (least most : ℕ) → least ≤ most → (k : ℕ) → least < 256 ^ k → (bytes : List ℕ) → {X : Type 0} → (first : X → ℕ) (rest : X → List ℕ) (r : Result X Stop)
+pub within_bounds : (least most : ℕ) → least ≤ most → (k : ℕ) → least < 256 ^ k → (bytes : List ℕ) → {X : Type 0}
+    → (first : X → ℕ) (rest : X → List ℕ) (r : Result X Stop)
     → Gives (λ x. (first x, rest x)) r (number_at k least most bytes) → IfOk r (λ x. (least ≤ first x) × (first x ≤ most))
 within_bounds least most sound k h bytes {X} first rest (Ok x) g =
     let t : Taken (Number k least most) bytes (first x) (rest x) = (number_exact least most sound k h).takes bytes (first x) (rest x) g in

@@ -1,5 +1,6 @@
 -- Reading with one symbol of lookahead, where each symbol has a depth, and none may be past a limit.
-use Rattle.std.specs.Prelude.{◌≡◌, ℕ, zero, suc, ◌+◌, ◌≤◌, ◌<◌, Bool, true, false, nat_le, List, [], ◌∷◌, ◌++◌, length, Option, Some, None, Result, Ok, Err, ◌⊎◌}
+use Rattle.std.specs.Prelude.{◌≡◌, ℕ, zero, suc, ◌+◌, ◌≤◌, ◌<◌, Bool, true, false, nat_le, List, [], ◌∷◌, ◌++◌, length, Option, Some}
+use Rattle.std.specs.Prelude.{None, Result, Ok, Err, ◌⊎◌}
 use Rattle.grammar.specs.Grammar.{Grammar}
 
 -- a symbol and its depth
@@ -100,7 +101,8 @@ SameHead (s ∷ symbols) (t ∷ more) = s ≡ t
 SameHead [] (t ∷ more) = ⊥
 SameHead (s ∷ symbols) [] = ⊥
 
--- A spelling of the value stands in front of the rest, no symbol of it past the limit; and it is read so before all that begins like the rest.
+-- A spelling of the value stands in front of the rest, no symbol of it past the limit; and it is read so before all that begins like the
+-- rest.
 pub record Took {S A : Type 0} (limit : ℕ) (G : List (S × ℕ) → A → Type 0) (R : List S → Result (A × List S) Fault) (symbols : List S)
     (a : A) (rest : List S) : Type 0 where
   pub front : List (S × ℕ)

@@ -31,7 +31,7 @@ use crate::queues::{
     clear_at, clear_between, empty_queues, let_go_between, let_go_from, pair, send, send_where,
 };
 pub use call::{Asked, Call, Delivery, Message};
-use capability::{CallNumbers, Cap, MESSAGE_LIMIT, Uid};
+use capability::{CallNumbers, Cap, MESSAGE_LIMIT, Seq, Uid};
 pub use closing::Cause;
 use eden_codec::values_size;
 pub use eden_model::Asker;
@@ -217,7 +217,7 @@ impl Calls {
         close_all(self.alloc, &mut self.calls, &mut self.index, cause);
         let_go_between(self.alloc, &self.queues, &mut self.calls, a, b);
         clear_between(&mut self.queues, a, b);
-        Ok(CallNumbers { numbers })
+        Ok(Seq { items: numbers })
     }
 
     /// The node has crashed: the calls to it and from it are closed, the messages to it and from it
@@ -235,7 +235,7 @@ impl Calls {
         close_all(self.alloc, &mut self.calls, &mut self.index, cause);
         let_go_from(self.alloc, &self.queues, &mut self.calls, node);
         clear_at(&mut self.queues, node);
-        Ok(CallNumbers { numbers })
+        Ok(Seq { items: numbers })
     }
 
     /// The first message from one station to the other arrives. A reply closes its call, and is told

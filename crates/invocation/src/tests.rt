@@ -154,8 +154,8 @@ fn a_crash_breaks_the_calls_to_its_node(rt: HostRuntime) -> Result<(), AllocErro
     assert!(rt; three.at_once.is_none());
     assert!(rt; calls.waiting(0, 1));
     let broken = calls.break_node(rt.alloc(), 1)?;
-    assert_eq!(rt; broken.numbers.len(), 1);
-    assert_eq!(rt; broken.numbers.first().copied(), Some(2));
+    assert_eq!(rt; broken.as_slice().len(), 1);
+    assert_eq!(rt; broken.as_slice().first().copied(), Some(2));
     assert!(rt; !calls.waiting(0, 1));
     assert!(rt; !answer(&mut calls, rt.alloc(), 2)?);
     assert_eq!(rt; calls.next(0, 2), Some(3));
@@ -210,12 +210,12 @@ fn a_cut_and_an_orphan(rt: HostRuntime) -> Result<(), AllocError> {
     assert!(rt; has_arguments(&calls, 1));
     let broken = calls.break_link(rt.alloc(), 1, 0)?;
     assert!(rt; !has_arguments(&calls, 1), "lost with the request");
-    assert_eq!(rt; broken.numbers.len(), 1);
-    assert_eq!(rt; broken.numbers.first().copied(), Some(1));
+    assert_eq!(rt; broken.as_slice().len(), 1);
+    assert_eq!(rt; broken.as_slice().first().copied(), Some(1));
     assert!(rt; !is_closed(&calls, 2), "another link");
     assert!(rt; !is_closed(&calls, 3), "no link");
     let none = calls.break_link(rt.alloc(), 1, 1)?;
-    assert!(rt; none.numbers.is_empty());
+    assert!(rt; none.as_slice().is_empty());
     assert!(rt; calls.waiting(1, 1));
     calls.orphan(uid_at(1));
     assert!(rt; is_closed(&calls, 3));

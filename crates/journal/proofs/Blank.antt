@@ -1,5 +1,6 @@
 -- Blank disks open as the world of blank nodes, so that a history which follows its script from there follows it over them.
-use Rattle.std.proofs.Common.{◌≡◌, ℕ, zero, suc, ◌+◌, ◌≤◌, ◌<◌, false, List, [], ◌∷◌, length, map, is_some, Ok, refl, sym, ◌∙◌, ap, subst, arith}
+use Rattle.std.proofs.Common.{◌≡◌, ℕ, zero, suc, ◌+◌, ◌≤◌, ◌<◌, false, List, [], ◌∷◌, length, map, is_some, Ok, refl, sym, ◌∙◌, ap}
+use Rattle.std.proofs.Common.{subst, arith}
 use Rattle.std.specs.Prelude.{nat_lt, slice_index_or, IsTrue}
 use Rattle.std.specs.List.{All}
 use Rattle.std.proofs.lemmas.List.{length-replicate, get_or-replicate}
@@ -51,7 +52,8 @@ opens-node n size fits = rw (blank-map n size fits, length-replicate {A = ℕ} s
 
 small-bytes : (size : ℕ) → All (λ byte. byte < 256) (zeros size)
 small-bytes size k d there =
-    let zero_there : slice_index_or (zeros size) k d ≡ 0 = get_or-replicate {A = ℕ} size k 0 d (omega (arith, there, length-replicate {A = ℕ} size 0)) in
+    let zero_there : slice_index_or (zeros size) k d ≡ 0 = get_or-replicate {A = ℕ} size k 0 d
+    (omega (arith, there, length-replicate {A = ℕ} size 0)) in
     omega (arith, zero_there)
 
 fit-blank : (n size : ℕ) → 17 ≤ size → IsFitImage log_layout n (zeros size)
@@ -64,7 +66,8 @@ fit-blank n size fits = record {
     nothing-there kept u none there = absurd (cc (ap (λ es. is_some (value_at uid_cmp u es)) none ∙ there))
 
 pub blank-disks-may-be-handed-in : BlankDisksMayBeHandedIn
-blank-disks-may-be-handed-in n size d fits before = subst (λ (told : Told). IsHandedIn log_layout n (record d { before = told })) (sym before)
+blank-disks-may-be-handed-in n size d fits before = subst (λ (told : Told). IsHandedIn log_layout n (record d { before = told }))
+    (sym before)
     (record { nothing_unsynced = refl; same = refl; bytes = small-bytes size; fit = fit-blank n size fits })
 
 -- 3. The opening world of a script over blank disks

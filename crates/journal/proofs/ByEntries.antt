@@ -38,6 +38,9 @@ doubtful = refl
 
 -- the disk after device call 20, in the boot that began after call 18: the doubt, and behind it the next epoch
 in_boot : at (end_of (beginning one_node 1 stop.commands) stop.history).world (steps (beginning one_node 1 stop.commands) stop.history) 1 20
-    ≡ record { kept = Some ((epoch_uid 1, 0 ∷ 0 ∷ 0 ∷ 1 ∷ []) ∷ (c_uid, cell_bytes 5) ∷ []); changes = (c_uid, body (cell_bytes 9)) ∷ (epoch_uid 1, body (0 ∷ 0 ∷ 0 ∷ 2 ∷ [])) ∷ [] }
+    ≡ record {
+      kept = Some ((epoch_uid 1, 0 ∷ 0 ∷ 0 ∷ 1 ∷ []) ∷ (c_uid, cell_bytes 5) ∷ []);
+      changes = (c_uid, body (cell_bytes 9)) ∷ (epoch_uid 1, body (0 ∷ 0 ∷ 0 ∷ 2 ∷ [])) ∷ [];
+    }
 unfolding stop.commands stop.history at_node on_eject on_node on_traffic least_number
 in_boot = refl

@@ -40,6 +40,7 @@ pub follows : FollowsOverBlank 1 commands history
 unfolding commands history at_node on_eject on_node on_traffic least_number
 follows = follows-over-blank 1 commands history refl
 
-plain_text : text_of mode.Plain history ≡ codes "node 1 up epoch 1\nc is 1.1.1\nnode 1 down crash\na refused 6 broken\nb refused 5 unreachable\nnode 1 up epoch 2\nnode 1 is up\n"
+plain_text : text_of mode.Plain history ≡ codes
+    "node 1 up epoch 1\nc is 1.1.1\nnode 1 down crash\na refused 6 broken\nb refused 5 unreachable\nnode 1 up epoch 2\nnode 1 is up\n"
 unfolding history entry_text trace_text shown_text
 plain_text = rw (d1, d2, d5) refl

@@ -8,7 +8,8 @@ use Rattle.eden_value.specs.declared.status.Status.{Status}
 use Rattle.eden_value.specs.declared.status.Status.TheVariants as status
 use Rattle.eden_model.specs.Map.{with_item}
 use Rattle.eden_model.specs.declared.Asker.TheVariants.{Shell}
-use Rattle.eden_model.specs.Traffic.{Traffic, Call, call_at, next_call, new_call, with_call, processes_of, broken_by_node, broken_by_link, without_link}
+use Rattle.eden_model.specs.Traffic.{Traffic, Call, call_at, next_call, new_call, with_call, processes_of, broken_by_node}
+use Rattle.eden_model.specs.Traffic.{broken_by_link, without_link}
 use Rattle.epl_syntax.specs.declared.effect.Answer.TheVariants.{Reply as Told}
 use Rattle.epl_syntax.specs.Edentype.{Edentype}
 use Rattle.epl_syntax.specs.Meaning.{type_of, first_values}
@@ -25,8 +26,10 @@ use Rattle.journal.specs.Ejects.{tells, fresh, born}
 use Rattle.journal.specs.Deliveries.{received}
 use Rattle.journal.specs.Crashes.{tells_each, linked}
 use Rattle.journal.specs.References.{cap_at}
-use Rattle.journal.specs.Commands.{AllowsCommand, AllowsAsked, asked as asks, asked_by, ready_call, born_as, made, type_name_of, held_by, restricted_by}
-use Rattle.journal.specs.Step.{AllowsAt, AllowsInTurn, AllowsEvent, Allows, next, after_turn, after_command, happened, at_site, stopped_at, site_turn, clocked, counted, key_of}
+use Rattle.journal.specs.Commands.{AllowsCommand, AllowsAsked, asked as asks, asked_by, ready_call, born_as, made, type_name_of, held_by}
+use Rattle.journal.specs.Commands.{restricted_by}
+use Rattle.journal.specs.Step.{AllowsAt, AllowsInTurn, AllowsEvent, Allows, next, after_turn, after_command, happened, at_site}
+use Rattle.journal.specs.Step.{stopped_at, site_turn, clocked, counted, key_of}
 use Rattle.journal.specs.Run.{AllowsLookUp, looked_up}
 use Rattle.journal.specs.Sites.{Everywhere, Sound, AreNumbered, GoesOn}
 use Rattle.journal.proofs.EveryNode.{at-its-site}

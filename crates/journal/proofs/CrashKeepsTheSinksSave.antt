@@ -23,7 +23,8 @@ use Rattle.journal.specs.World.{World, at_node, on_eject, on_node, on_traffic}
 use Rattle.journal.specs.declared.event.Mode.TheVariants as mode
 use Rattle.journal.specs.Lines.{text_of, entry_text, trace_text, shown_text}
 use Rattle.journal.proofs.Blank.{FollowsOverBlank, follows-over-blank}
-use Rattle.journal.proofs.Scenes.{on_disk, int, breaking, blank_world, eject, ref, word, boots, made, asks, comes, starts, turn, answers, replies, part, saves, quiet, left, printed, words}
+use Rattle.journal.proofs.Scenes.{on_disk, int, breaking, blank_world, eject, ref, word, boots, made, asks, comes, starts, turn, answers}
+use Rattle.journal.proofs.Scenes.{replies, part, saves, quiet, left, printed, words}
 use Rattle.journal.proofs.Wrong.{NotFollowed, not-followed}
 
 abbrev l : Uid

@@ -1,5 +1,6 @@
 -- While a node is down, nobody waits for a call to it or from it, and nothing of them is on its way.
-use Rattle.std.proofs.Common.{◌≡◌, ◌==◌, ◌+◌, ◌<◌, ℕ, Bool, true, false, cond, ◌&&◌, ◌||◌, List, [], ◌∷◌, map, Option, None, Some, is_some, refl, sym, ◌∙◌, ap, subst, arith, inl, inr}
+use Rattle.std.proofs.Common.{◌≡◌, ◌==◌, ◌+◌, ◌<◌, ℕ, Bool, true, false, cond, ◌&&◌, ◌||◌, List, [], ◌∷◌, map, Option, None, Some}
+use Rattle.std.proofs.Common.{is_some, refl, sym, ◌∙◌, ap, subst, arith, inl, inr}
 use Rattle.std.specs.Prelude.{IsSomeAnd, ◌⊎◌}
 use Rattle.std.specs.List.{filter}
 use Rattle.std.specs.Option.{option_map}
@@ -14,7 +15,9 @@ use Rattle.eden_model.specs.Map.{with_item, value_at}
 use Rattle.eden_model.proofs.Numbers.{same-true}
 use Rattle.eden_model.specs.declared.Asker.{Asker}
 use Rattle.eden_model.specs.declared.Asker.TheVariants.{Shell, Eject as Process}
-use Rattle.eden_model.specs.Traffic.{Place, asked, held, answered, done as over, Traffic, Call, call_at, asking_station, target_station, goes_by, goes, in_transit, touches, crashed_call, next_call, new_call, with_call, without_node, processes_of, broken_by_node, broken_by_link, without_link}
+use Rattle.eden_model.specs.Traffic.{Place, asked, held, answered, done as over, Traffic, Call, call_at, asking_station, target_station}
+use Rattle.eden_model.specs.Traffic.{goes_by, goes, in_transit, touches, crashed_call, next_call, new_call, with_call, without_node}
+use Rattle.eden_model.specs.Traffic.{processes_of, broken_by_node, broken_by_link, without_link}
 use Rattle.epl_syntax.specs.declared.effect.Answer.TheVariants.{Reply as Told}
 use Rattle.epl_syntax.specs.Edentype.{Edentype}
 use Rattle.epl_syntax.specs.Meaning.{type_of, first_values}
@@ -34,10 +37,12 @@ use Rattle.journal.specs.Ejects.{tells, fresh, born}
 use Rattle.journal.specs.Deliveries.{received}
 use Rattle.journal.specs.Crashes.{crashed, tells_each, linked}
 use Rattle.journal.specs.References.{cap_at}
-use Rattle.journal.specs.Commands.{AllowsCommand, AllowsAsked, asked as asks, asked_by, ready_call, born_as, made, type_name_of, held_by, restricted_by}
+use Rattle.journal.specs.Commands.{AllowsCommand, AllowsAsked, asked as asks, asked_by, ready_call, born_as, made, type_name_of, held_by}
+use Rattle.journal.specs.Commands.{restricted_by}
 use Rattle.journal.specs.Kept.{crashes}
 use Rattle.journal.specs.Opening.{node_of}
-use Rattle.journal.specs.Step.{AllowsAt, AllowsInTurn, AllowsEvent, Allows, next, after_turn, after_command, happened, at_site, stopped_at, site_turn, clocked, counted, key_of}
+use Rattle.journal.specs.Step.{AllowsAt, AllowsInTurn, AllowsEvent, Allows, next, after_turn, after_command, happened, at_site}
+use Rattle.journal.specs.Step.{stopped_at, site_turn, clocked, counted, key_of}
 use Rattle.journal.specs.Falls.{before_fall}
 use Rattle.journal.specs.Run.{AllowsLookUp, looked_up, beginning}
 use Rattle.journal.specs.Standing.{DiskRun}

@@ -17,7 +17,8 @@ use Rattle.journal.specs.World.{World, at_node, on_eject, on_node, on_traffic}
 use Rattle.journal.specs.declared.event.Mode.TheVariants as mode
 use Rattle.journal.specs.Lines.{text_of, entry_text, trace_text, shown_text}
 use Rattle.journal.proofs.Blank.{FollowsOverBlank, follows-over-blank}
-use Rattle.journal.proofs.Scenes.{plain, on_disk, int, blank_world, eject, result_of, ref, word, right_on, boots, made, asks, comes, starts, turn, answers, saves, quiet, left, printed}
+use Rattle.journal.proofs.Scenes.{plain, on_disk, int, blank_world, eject, result_of, ref, word, right_on, boots, made, asks, comes}
+use Rattle.journal.proofs.Scenes.{starts, turn, answers, saves, quiet, left, printed}
 use Rattle.journal.proofs.Wrong.{NotFollowed, not-followed, answered_rights}
 
 abbrev d : Uid

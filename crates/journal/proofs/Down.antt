@@ -1,5 +1,6 @@
 -- A node that is down is at rest: it has no active part, no queued call and no request; and no call on its way goes to it.
-use Rattle.std.proofs.Common.{◌≡◌, ◌⊎◌, inl, inr, ℕ, Bool, true, false, cond, List, [], Option, None, Some, is_some, refl, sym, ◌∙◌, ap, subst}
+use Rattle.std.proofs.Common.{◌≡◌, ◌⊎◌, inl, inr, ℕ, Bool, true, false, cond, List, [], Option, None, Some, is_some, refl, sym, ◌∙◌, ap}
+use Rattle.std.proofs.Common.{subst}
 use Rattle.std.specs.Prelude.{IsSomeAnd, IfSome}
 use Rattle.std.specs.Option.{option_map}
 use Rattle.std.specs.Ordering.{eq_by_cmp}
@@ -54,14 +55,20 @@ Rests it = AtRest it.requests it.ejects
 abbrev pub Calm : Node → Type 0
 Calm it = (it.up ≡ true) ⊎ Rests it
 
-idle-changed : (f : Eject → Eject) → ((e : Eject) → IsIdle e → IsIdle (f e)) → (b : Bool) (o : Option Eject) → ((e : Eject) → o ≡ Some e → IsIdle e) → (e : Eject) → cond b (option_map f o) o ≡ Some e → IsIdle e
+idle-changed : (f : Eject → Eject) → ((e : Eject) → IsIdle e → IsIdle (f e)) → (b : Bool) (o : Option Eject)
+    → ((e : Eject) → o ≡ Some e → IsIdle e) → (e : Eject) → cond b (option_map f o) o ≡ Some e → IsIdle e
 idle-changed f keep true None each e is = absurd (cc is)
 idle-changed f keep true (Some x) each e is = let same : f x ≡ e = cc is in subst IsIdle same (keep x (each x refl))
 idle-changed f keep false o each e is = each e is
 
-rest-on_eject : (v : Uid) (f : Eject → Eject) (s : Site) → ((e : Eject) → IsIdle e → IsIdle (f e)) → Rests s.node → Rests (on_eject v f s).node
+rest-on_eject : (v : Uid) (f : Eject → Eject) (s : Site) → ((e : Eject) → IsIdle e → IsIdle (f e)) → Rests s.node
+    → Rests (on_eject v f s).node
 unfolding on_eject
-rest-on_eject v f s keep h = record { no_request = h.no_request; idle = λ u e is. idle-changed f keep (eq_by_cmp uid_cmp u v) (eject_in s u) (λ x at. h.idle u x at) e (sym (eject-on_eject v u f s) ∙ is) }
+rest-on_eject v f s keep h = record {
+  no_request = h.no_request;
+  idle = λ u e is. idle-changed f keep (eq_by_cmp uid_cmp u v) (eject_in s u) (λ x at. h.idle u x at) e
+      (sym (eject-on_eject v u f s) ∙ is);
+}
 
 rest-on_traffic : (f : Traffic → Traffic) (s : Site) → Rests s.node → Rests (on_traffic f s).node
 unfolding on_traffic
@@ -71,12 +78,14 @@ rest-on_node : (f : Node → Node) (s : Site) → Rests (f s.node) → Rests (on
 unfolding on_node
 rest-on_node f s h = h
 
-idle-each : (f : Eject → Eject) (es : List (Uid × Eject)) → ((u : Uid) (e : Eject) → value_at uid_cmp u es ≡ Some e → IsIdle (f e)) → (u : Uid) (e : Eject) → value_at uid_cmp u (each_value f es) ≡ Some e → IsIdle e
+idle-each : (f : Eject → Eject) (es : List (Uid × Eject)) → ((u : Uid) (e : Eject) → value_at uid_cmp u es ≡ Some e → IsIdle (f e))
+    → (u : Uid) (e : Eject) → value_at uid_cmp u (each_value f es) ≡ Some e → IsIdle e
 idle-each f es keep u e is = go (value_at uid_cmp u es) refl (sym (value-each u f es) ∙ is)
   where
     go : (o : Option Eject) → value_at uid_cmp u es ≡ o → option_map f (value_at uid_cmp u es) ≡ Some e → IsIdle e
     go None at same = absurd (let bad : None ≡ Some e = subst (λ o. option_map f o ≡ Some e) at same in cc bad)
-    go (Some x) at same = let here : Some (f x) ≡ Some e = subst (λ o. option_map f o ≡ Some e) at same in subst (λ o. IfSome o IsIdle) here (keep u x at)
+    go (Some x) at same = let here : Some (f x) ≡ Some e = subst (λ o. option_map f o ≡ Some e) at same in
+        subst (λ o. IfSome o IsIdle) here (keep u x at)
 
 -- a crash leaves a node at rest
 pub rest-crashed : (s : Site) → Rests (crashed s).node
@@ -100,15 +109,24 @@ rest-heard k why values s h = go (call_at s.traffic k)
     one true a = asker a
     one false a = rest-on_traffic (received k) s h
 
-    go : (o : Option Call) → Rests (with_item o (λ c. cond c.open_ (tells_asker c.asker why values (on_traffic (received k) s)) (on_traffic (received k) s)) s).node
+    go : (o : Option Call) → Rests (with_item o
+        (λ c. cond c.open_ (tells_asker c.asker why values (on_traffic (received k) s)) (on_traffic (received k) s)) s).node
     go None = h
     go (Some c) = one c.open_ c.asker
 
 rest-settled : (p : Option Pick) (s : Site) → Rests s.node → Rests (settled p s).node
 unfolding on_node
 rest-settled None s h = h
-rest-settled (Some pick.Old) s h = record { no_request = h.no_request; idle = idle-each (settled_eject pick.Old) s.node.ejects (λ u e is. record { no_active = (h.idle u e is).no_active; no_queued = (h.idle u e is).no_queued }) }
-rest-settled (Some pick.New) s h = record { no_request = h.no_request; idle = idle-each (settled_eject pick.New) s.node.ejects (λ u e is. record { no_active = (h.idle u e is).no_active; no_queued = (h.idle u e is).no_queued }) }
+rest-settled (Some pick.Old) s h = record {
+  no_request = h.no_request;
+  idle = idle-each (settled_eject pick.Old) s.node.ejects
+      (λ u e is. record { no_active = (h.idle u e is).no_active; no_queued = (h.idle u e is).no_queued });
+}
+rest-settled (Some pick.New) s h = record {
+  no_request = h.no_request;
+  idle = idle-each (settled_eject pick.New) s.node.ejects
+      (λ u e is. record { no_active = (h.idle u e is).no_active; no_queued = (h.idle u e is).no_queued });
+}
 
 calm-booted : (s : Site) (e : ℕ) (how : BootEnd) (began : Bool) (it : Node) → Rests it → Calm (booted_node s e how began it)
 calm-booted s e boot_end.Up began it h = inl refl
@@ -162,7 +180,8 @@ not-active s u P h a = go (eject_in s u) refl a
     go None at x = x
     go (Some e) at x = by_active e e.active refl (h.idle u e at) x
 
-not-queued : (s : Site) (u : Uid) (how : StartEnd) (p : Option Pick) → Rests s.node → IsSomeAnd (eject_in s u) (λ e. AllowsActivate s u how p e) → ⊥
+not-queued : (s : Site) (u : Uid) (how : StartEnd) (p : Option Pick) → Rests s.node
+    → IsSomeAnd (eject_in s u) (λ e. AllowsActivate s u how p e) → ⊥
 not-queued s u how p h a = go (eject_in s u) refl a
   where
     go : (o : Option Eject) → eject_in s u ≡ o → IsSomeAnd o (λ e. AllowsActivate s u how p e) → ⊥
@@ -170,7 +189,8 @@ not-queued s u how p h a = go (eject_in s u) refl a
     go (Some e) at x = let none : is_some (first e.queued) ≡ false = ap (λ ks. is_some (first ks)) (h.idle u e at).no_queued in
         let bad : false ≡ true = sym none ∙ x.has_queued in cc bad
 
-not-asked : (s : Site) (u : Uid) (how : RequestEnd) (p : Option Pick) → Rests s.node → IsSomeAnd (first_request s.node) (λ r. AllowsStore s u how p r) → ⊥
+not-asked : (s : Site) (u : Uid) (how : RequestEnd) (p : Option Pick) → Rests s.node
+    → IsSomeAnd (first_request s.node) (λ r. AllowsStore s u how p r) → ⊥
 not-asked s u how p h a = subst (λ rs. IsSomeAnd (first rs) (λ r. AllowsStore s u how p r)) h.no_request a
 
 -- a request comes to a node that is up
@@ -194,7 +214,8 @@ calm-site_turn reach (event.Process v p said) s comes allowed (inr rest) = absur
 calm-site_turn reach (event.Store v c how p) s comes allowed (inl up) = calm-store how p s up
 calm-site_turn reach (event.Store v c how p) s comes allowed (inr rest) = absurd (not-asked s v how p rest allowed)
 calm-site_turn reach (event.Boot n e how p began) s comes allowed (inl up) = up-down s.node.up up allowed.is_down
-calm-site_turn reach (event.Boot n e how p began) s comes allowed (inr rest) = calm-on_node (booted_node s e how began) (settled p s) (calm-booted s e how began (settled p s).node (rest-settled p s rest))
+calm-site_turn reach (event.Boot n e how p began) s comes allowed (inr rest) = calm-on_node (booted_node s e how began) (settled p s)
+    (calm-booted s e how began (settled p s).node (rest-settled p s rest))
 calm-site_turn reach (event.Crash n) s comes allowed h = inr (rest-crashed s)
 calm-site_turn reach (event.Still n up) s comes allowed h = absurd allowed
 calm-site_turn reach (event.Link a b joined) s comes allowed h = absurd allowed

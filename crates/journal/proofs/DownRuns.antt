@@ -1,5 +1,6 @@
 -- In every world of a history each node is up or at rest, and calls that are asked go to nodes that are up.
-use Rattle.std.proofs.Common.{◌≡◌, inl, inr, ◌==◌, ℕ, Bool, true, false, cond, not, ◌&&◌, ◌||◌, List, [], ◌∷◌, map, Option, None, Some, Result, Ok, Err, is_some, refl, sym, ◌∙◌, ap, subst}
+use Rattle.std.proofs.Common.{◌≡◌, inl, inr, ◌==◌, ℕ, Bool, true, false, cond, not, ◌&&◌, ◌||◌, List, [], ◌∷◌, map, Option, None, Some}
+use Rattle.std.proofs.Common.{Result, Ok, Err, is_some, refl, sym, ◌∙◌, ap, subst}
 use Rattle.std.specs.Prelude.{IsSomeAnd, IfSome}
 use Rattle.std.specs.List.{filter_map, cons_option}
 use Rattle.std.specs.Option.{option_map}
@@ -8,7 +9,8 @@ use Rattle.std.proofs.lemmas.Bool.{eq-eqb}
 use Rattle.capability.specs.declared.Uid.{Uid}
 use Rattle.capability.specs.declared.Cap.{Cap}
 use Rattle.eden_model.specs.Map.{with_item, uid_cmp, value_at}
-use Rattle.eden_model.specs.Traffic.{asked, done as over, Traffic, Call, call_at, asking_station, target_station, goes_by, goes, in_transit, touches, crashed_call, without_node, processes_of, broken_by_node}
+use Rattle.eden_model.specs.Traffic.{asked, done as over, Traffic, Call, call_at, asking_station, target_station, goes_by, goes}
+use Rattle.eden_model.specs.Traffic.{in_transit, touches, crashed_call, without_node, processes_of, broken_by_node}
 use Rattle.passive_store.specs.declared.store.Pick.{Pick}
 use Rattle.passive_store.specs.Kept.{Layout}
 use Rattle.passive_store.specs.Layout.{IsLayout}
@@ -22,7 +24,8 @@ use Rattle.journal.specs.declared.event.RequestEnd.TheVariants as end
 use Rattle.journal.specs.declared.event.Event.{Event}
 use Rattle.journal.specs.declared.event.Event.TheVariants as event
 use Rattle.journal.specs.declared.event.Entry.{Entry}
-use Rattle.journal.specs.World.{World, Site, Node, Eject, StoreRequest, node_at, site_of, on_eject, on_node, on_traffic, is_up, is_cut, reaches}
+use Rattle.journal.specs.World.{World, Site, Node, Eject, StoreRequest, node_at, site_of, on_eject, on_node, on_traffic, is_up, is_cut}
+use Rattle.journal.specs.World.{reaches}
 use Rattle.journal.specs.Deliveries.{refusal_at}
 use Rattle.epl_syntax.specs.declared.effect.Answer.{Answer}
 use Rattle.journal.specs.Ejects.{tells}
@@ -34,7 +37,8 @@ use Rattle.journal.specs.Boots.{booted_node}
 use Rattle.journal.specs.Commands.{AllowsCommand}
 use Rattle.journal.specs.Kept.{crashes}
 use Rattle.journal.specs.Opening.{node_of, node_from, found_in, passive, passive_entry}
-use Rattle.journal.specs.Step.{AllowsAt, AllowsInTurn, AllowsEvent, Allows, next, after_turn, after_command, happened, at_site, stopped_at, site_turn, clocked, key_of}
+use Rattle.journal.specs.Step.{AllowsAt, AllowsInTurn, AllowsEvent, Allows, next, after_turn, after_command, happened, at_site}
+use Rattle.journal.specs.Step.{stopped_at, site_turn, clocked, key_of}
 use Rattle.journal.specs.Run.{AllowsLookUp, looked_up, beginning}
 use Rattle.journal.specs.Standing.{DiskRun}
 use Rattle.journal.specs.LegalRun.{AreHandedIn, numbered, images, opening_world, last_world}
@@ -48,7 +52,8 @@ use Rattle.journal.proofs.Messages.{value-calls}
 use Rattle.journal.proofs.SoundWorld.{ask-tells_each, ask-counted, ask-happened, ask-looked_up, sound-next, sound-looked_up}
 use Rattle.journal.proofs.EntryLists.{first-passes}
 use Rattle.journal.proofs.EnabledRuns.{sound-opening-world}
-use Rattle.journal.proofs.StaysUp.{IsUp, up-on_node, up-settled, up-requested, up-heard, up-start, up-process_turn, up-store_turn, up-activation, up-tells, up-born}
+use Rattle.journal.proofs.StaysUp.{IsUp, up-on_node, up-settled, up-requested, up-heard, up-start, up-process_turn, up-store_turn}
+use Rattle.journal.proofs.StaysUp.{up-activation, up-tells, up-born}
 use Rattle.journal.proofs.Down.{IsIdle, Rests, Calm, rest-crashed, rest-tells, ComesUp, calm-site_turn}
 
 pub false-true : {A : Type 0} → false ≡ true → A
@@ -75,7 +80,8 @@ up-booted s e boot_end.Full began it up = up
 pub crashing : (n m : ℕ) → n ≡ m → (n == m) ≡ false → {A : Type 0} → A
 crashing n m same off = absurd (let bad : true ≡ false = sym (eq-eqb n m same) ∙ off in cc bad)
 
-up-turn : (w : World) (e : Event) (n : ℕ) (s : Site) → IsAt e n → AllowsAt s e → crashes n e ≡ false → IsUp s → IsUp (site_turn (reaches w n) e s)
+up-turn : (w : World) (e : Event) (n : ℕ) (s : Site) → IsAt e n → AllowsAt s e → crashes n e ≡ false → IsUp s
+    → IsUp (site_turn (reaches w n) e s)
 up-turn w (event.Request k a b refused) n s place allowed calm up = up-requested k refused s up
 up-turn w (event.Reply k a b name why values) n s place allowed calm up = up-heard k why values s up
 up-turn w (event.Activate v start_end.Stop p) n s place allowed calm up = crashing v.node n place calm
@@ -90,7 +96,8 @@ up-turn w (event.Store v c end.Part p) n s place allowed calm up = up-store_turn
 up-turn w (event.Store v c end.Done p) n s place allowed calm up = up-store_turn end.Done p s refl up
 up-turn w (event.Store v c end.Fault p) n s place allowed calm up = up-store_turn end.Fault p s refl up
 up-turn w (event.Store v c end.Full p) n s place allowed calm up = up-store_turn end.Full p s refl up
-up-turn w (event.Boot m e how p began) n s place allowed calm up = up-on_node (booted_node s e how began) (settled p s) (up-booted s e how began (settled p s).node (up-settled p s up))
+up-turn w (event.Boot m e how p began) n s place allowed calm up = up-on_node (booted_node s e how began) (settled p s)
+    (up-booted s e how began (settled p s).node (up-settled p s up))
 up-turn w (event.Crash m) n s place allowed calm up = crashing m n place calm
 up-turn w (event.Still m on) n s place allowed calm up = absurd allowed
 up-turn w (event.Link a b joined) n s place allowed calm up = absurd allowed
@@ -115,8 +122,10 @@ kept-up w e = record {
 pub node-up : (w : World) (n : ℕ) (it : Node) → node_at w n ≡ Some it → is_up w n ≡ true → it.up ≡ true
 node-up w n it at up = sym (ap (λ o. with_item o (λ (x : Node). x.up) false) at) ∙ up
 
-pub up-next : (H : ℕ → Bool) (w : World) (c : Option Command) (e : Entry) → Allows w c e → SoundWorld H w → (m : ℕ) → crashes m e.event ≡ false → is_up w m ≡ true → is_up (next w c e) m ≡ true
-up-next H w c e allowed h m calm up = go (node_at (next w c e) m) refl ((sound-next H w c e allowed h).place.present m ∙ (sym (h.place.present m) ∙ present (node_at w m) refl))
+pub up-next : (H : ℕ → Bool) (w : World) (c : Option Command) (e : Entry) → Allows w c e → SoundWorld H w → (m : ℕ)
+    → crashes m e.event ≡ false → is_up w m ≡ true → is_up (next w c e) m ≡ true
+up-next H w c e allowed h m calm up = go (node_at (next w c e) m) refl
+    ((sound-next H w c e allowed h).place.present m ∙ (sym (h.place.present m) ∙ present (node_at w m) refl))
   where
     present : (o : Option Node) → node_at w m ≡ o → is_some (node_at w m) ≡ true
     present None at = false-true (sym (ap (λ o. with_item o (λ (x : Node). x.up) false) at) ∙ up)
@@ -145,8 +154,10 @@ off-call n c place = go (touches n c) refl place
     apart true b e = absurd (cc e)
     apart false b e = refl
 
-    go : (t : Bool) → touches n c ≡ t → (cond t (record c { open_ = false; place = cond ((target_station c == n) || in_transit c.place) over c.place }) c).place ≡ asked
-        → (target_station (cond t (record c { open_ = false; place = cond ((target_station c == n) || in_transit c.place) over c.place }) c) == n) ≡ false
+    go : (t : Bool) → touches n c ≡ t → (cond t
+        (record c { open_ = false; place = cond ((target_station c == n) || in_transit c.place) over c.place }) c).place ≡ asked
+        → (target_station (cond t (record c { open_ = false; place = cond ((target_station c == n) || in_transit c.place) over c.place })
+        c) == n) ≡ false
     go true at e = lost (target_station c == n) (in_transit c.place) refl e
     go false at e = apart (target_station c == n) (asking_station c.asker == n) at
 
@@ -178,7 +189,9 @@ number-doubted : (r : StoreRequest) (s : Site) → (doubted r s).number ≡ s.nu
 unfolding on_eject
 number-doubted r s = refl
 
-off-store : (n : ℕ) (s : Site) (v : Uid) (p : Option Pick) → s.number ≡ n → IsSomeAnd (first_request s.node) (λ r. AllowsStore s v end.Stop p r) → AskedAll (λ m. (m == n) ≡ false) (store_turn end.Stop p s).traffic
+off-store : (n : ℕ) (s : Site) (v : Uid) (p : Option Pick) → s.number ≡ n
+    → IsSomeAnd (first_request s.node) (λ r. AllowsStore s v end.Stop p r)
+    → AskedAll (λ m. (m == n) ≡ false) (store_turn end.Stop p s).traffic
 off-store n s v p number allowed = go (first_request s.node) allowed
   where
     by_work : (w : Work) (r : StoreRequest) → EndsSo w end.Stop p → AskedAll (λ m. (m == n) ≡ false) (worked w r end.Stop p s).traffic
@@ -188,31 +201,39 @@ off-store n s v p number allowed = go (first_request s.node) allowed
     by_work without_room r e = absurd e
     by_work calls r e = off-crashed n (doubted r s) (number-doubted r s ∙ number)
 
-    go : (o : Option StoreRequest) → IsSomeAnd o (λ r. AllowsStore s v end.Stop p r) → AskedAll (λ m. (m == n) ≡ false) (with_item o (λ r. worked (work_of s r) r end.Stop p s) s).traffic
+    go : (o : Option StoreRequest) → IsSomeAnd o (λ r. AllowsStore s v end.Stop p r)
+        → AskedAll (λ m. (m == n) ≡ false) (with_item o (λ r. worked (work_of s r) r end.Stop p s) s).traffic
     go None a = absurd a
     go (Some r) a = by_work (work_of s r) r a.ends
 
-off-stopped : (Q : ℕ → Type 0) (w : World) (n : ℕ) (e : Event) (it : Node) → node_at w n ≡ Some it → AskedAll Q (site_turn (reaches w n) e (site_of w n it)).traffic → AskedAll Q (stopped_at w n e).traffic
+off-stopped : (Q : ℕ → Type 0) (w : World) (n : ℕ) (e : Event) (it : Node) → node_at w n ≡ Some it
+    → AskedAll Q (site_turn (reaches w n) e (site_of w n it)).traffic → AskedAll Q (stopped_at w n e).traffic
 off-stopped Q w n e it at all = ask-tells_each (processes_of (broken_by_node n) w.traffic) (at_site w n e)
     (subst (AskedAll Q) (sym (traffic-after w n it (site_turn (reaches w n) e) at)) all)
 
-off-turn : (w : World) (e : Event) (n : ℕ) → crashes n e ≡ true → AllowsInTurn w e → AskedAll (λ m. (m == n) ≡ false) (after_turn w e).traffic
+off-turn : (w : World) (e : Event) (n : ℕ) → crashes n e ≡ true → AllowsInTurn w e
+    → AskedAll (λ m. (m == n) ≡ false) (after_turn w e).traffic
 off-turn w (event.Activate v start_end.Stop p) n is allowed = go (node_at w v.node) refl allowed
   where
-    go : (o : Option Node) → node_at w v.node ≡ o → IsSomeAnd (with_item o (λ it. Some (site_of w v.node it)) None) (λ s. AllowsAt s (event.Activate v start_end.Stop p))
+    go : (o : Option Node) → node_at w v.node ≡ o
+        → IsSomeAnd (with_item o (λ it. Some (site_of w v.node it)) None) (λ s. AllowsAt s (event.Activate v start_end.Stop p))
         → AskedAll (λ m. (m == n) ≡ false) (stopped_at w v.node (event.Activate v start_end.Stop p)).traffic
     go None at a = absurd a
-    go (Some it) at a = off-stopped (λ x. (x == n) ≡ false) w v.node (event.Activate v start_end.Stop p) it at (off-crashed n (start_settled p (site_of w v.node it)) (number-started p (site_of w v.node it) ∙ same-number v.node n is))
+    go (Some it) at a = off-stopped (λ x. (x == n) ≡ false) w v.node (event.Activate v start_end.Stop p) it at
+        (off-crashed n (start_settled p (site_of w v.node it)) (number-started p (site_of w v.node it) ∙ same-number v.node n is))
 off-turn w (event.Store v c end.Stop p) n is allowed = go (node_at w v.node) refl allowed
   where
-    go : (o : Option Node) → node_at w v.node ≡ o → IsSomeAnd (with_item o (λ it. Some (site_of w v.node it)) None) (λ s. AllowsAt s (event.Store v c end.Stop p))
+    go : (o : Option Node) → node_at w v.node ≡ o
+        → IsSomeAnd (with_item o (λ it. Some (site_of w v.node it)) None) (λ s. AllowsAt s (event.Store v c end.Stop p))
         → AskedAll (λ m. (m == n) ≡ false) (stopped_at w v.node (event.Store v c end.Stop p)).traffic
     go None at a = absurd a
-    go (Some it) at a = off-stopped (λ x. (x == n) ≡ false) w v.node (event.Store v c end.Stop p) it at (off-store n (site_of w v.node it) v p (same-number v.node n is) a)
+    go (Some it) at a = off-stopped (λ x. (x == n) ≡ false) w v.node (event.Store v c end.Stop p) it at
+        (off-store n (site_of w v.node it) v p (same-number v.node n is) a)
 off-turn w (event.Crash m) n is allowed = absurd allowed
 off-turn w _ n is allowed = false-true is
 
-off-command : (w : World) (c : Command) (e : Event) (n : ℕ) → crashes n e ≡ true → AllowsCommand w c e → AskedAll (λ m. (m == n) ≡ false) (after_command w c e).traffic
+off-command : (w : World) (c : Command) (e : Event) (n : ℕ) → crashes n e ≡ true → AllowsCommand w c e
+    → AskedAll (λ m. (m == n) ≡ false) (after_command w c e).traffic
 off-command w (command.Crash k mode) (event.Crash m) n is allowed = go (node_at w m) refl (ap (is_up w) allowed.0 ∙ allowed.1)
   where
     go : (o : Option Node) → node_at w m ≡ o → is_up w m ≡ true → AskedAll (λ x. (x == n) ≡ false) (stopped_at w m (event.Crash m)).traffic
@@ -223,7 +244,8 @@ off-command w c (event.Activate v how p) n is allowed = absurd (no-turn w c (eve
 off-command w c (event.Store v k how p) n is allowed = absurd (no-turn w c (event.Store v k how p) refl allowed)
 off-command w c _ n is allowed = false-true is
 
-off-happened : (w : World) (c : Option Command) (e : Event) (n : ℕ) → crashes n e ≡ true → AllowsEvent w c e → AskedAll (λ m. (m == n) ≡ false) (happened w c e).traffic
+off-happened : (w : World) (c : Option Command) (e : Event) (n : ℕ) → crashes n e ≡ true → AllowsEvent w c e
+    → AskedAll (λ m. (m == n) ≡ false) (happened w c e).traffic
 off-happened w None e n is allowed = off-turn w e n is allowed
 off-happened w (Some c) e n is allowed = off-command w c e n is allowed
 
@@ -236,15 +258,20 @@ reached-up : (w : World) (a n : ℕ) → reaches w a n ≡ true → is_up w n �
 reached-up w a n is = (both-true (is_up w n) ((a == n) || not (is_cut w a n)) is).0
 
 asked-next : (H : ℕ → Bool) (w : World) (c : Option Command) (e : Entry) → Allows w c e → SoundWorld H w → AskedUp w → AskedUp (next w c e)
-asked-next H w c e allowed h all = record { at = λ k d is place. go (target_station d) (crashes (target_station d) e.event) refl (was.at k d is place) (λ on. (off (target_station d) on).at k d is place) }
+asked-next H w c e allowed h all = record {
+  at = λ k d is place. go (target_station d) (crashes (target_station d) e.event) refl (was.at k d is place)
+      (λ on. (off (target_station d) on).at k d is place);
+}
   where
     was : AskedAll (λ n. is_up w n ≡ true) (next w c e).traffic
-    was = ask-counted (key_of e.event) (clocked e.node e.clock (happened w c e.event)) (ask-happened w (reached-up w) c e.event allowed.event all)
+    was = ask-counted (key_of e.event) (clocked e.node e.clock (happened w c e.event))
+        (ask-happened w (reached-up w) c e.event allowed.event all)
 
     off : (n : ℕ) → crashes n e.event ≡ true → AskedAll (λ m. (m == n) ≡ false) (next w c e).traffic
     off n is = ask-counted (key_of e.event) (clocked e.node e.clock (happened w c e.event)) (off-happened w c e.event n is allowed.event)
 
-    go : (m : ℕ) (b : Bool) → crashes m e.event ≡ b → is_up w m ≡ true → (crashes m e.event ≡ true → (m == m) ≡ false) → is_up (next w c e) m ≡ true
+    go : (m : ℕ) (b : Bool) → crashes m e.event ≡ b → is_up w m ≡ true → (crashes m e.event ≡ true → (m == m) ≡ false)
+        → is_up (next w c e) m ≡ true
     go m true at up apart = crashing m m refl (apart at)
     go m false at up apart = up-next H w c e allowed h m at up
 
@@ -253,16 +280,22 @@ asked-next H w c e allowed h all = record { at = λ k d is place. go (target_sta
 abbrev pub AllCalm : World → Type 0
 AllCalm w = (n : ℕ) (it : Node) → node_at w n ≡ Some it → Calm it
 
-comes-up : (w : World) → AskedUp w → (e : Event) (n : ℕ) (it : Node) → node_at w n ≡ Some it → IsAt e n → AllowsAt (site_of w n it) e → ComesUp (site_of w n it) e
-comes-up w all (event.Request k a b refused) n it at place allowed = go (call_at w.traffic k) refl allowed.delivered (first-passes (goes w.traffic a b) w.traffic.transit k allowed.first_in_queue)
+comes-up : (w : World) → AskedUp w → (e : Event) (n : ℕ) (it : Node) → node_at w n ≡ Some it → IsAt e n → AllowsAt (site_of w n it) e
+    → ComesUp (site_of w n it) e
+comes-up w all (event.Request k a b refused) n it at place allowed = go (call_at w.traffic k) refl allowed.delivered
+    (first-passes (goes w.traffic a b) w.traffic.transit k allowed.first_in_queue)
   where
-    by_place : (c : Call) → call_at w.traffic k ≡ Some c → c.place ≡ asked → goes_by c.place (asking_station c.asker) (target_station c) a b ≡ true → it.up ≡ true
+    by_place : (c : Call) → call_at w.traffic k ≡ Some c → c.place ≡ asked
+        → goes_by c.place (asking_station c.asker) (target_station c) a b ≡ true → it.up ≡ true
     by_place c found place_is g =
-        let goes_on : ((asking_station c.asker == a) && (target_station c == b)) ≡ true = sym (ap (λ p. goes_by p (asking_station c.asker) (target_station c) a b) place_is) ∙ g in
-        let target : target_station c ≡ n = same-number (target_station c) b (both-true (asking_station c.asker == a) (target_station c == b) goes_on).1 ∙ place in
+        let goes_on : ((asking_station c.asker == a) && (target_station c == b)) ≡ true = sym
+        (ap (λ p. goes_by p (asking_station c.asker) (target_station c) a b) place_is) ∙ g in
+        let target : target_station c ≡ n = same-number (target_station c) b
+        (both-true (asking_station c.asker == a) (target_station c == b) goes_on).1 ∙ place in
         node-up w n it at (ap (is_up w) (sym target) ∙ all.at k c found place_is)
 
-    go : (o : Option Call) → call_at w.traffic k ≡ o → IsSomeAnd o (λ c. (c.place ≡ asked) × (refused ≡ refusal_at (site_of w n it) c)) → with_item o (λ c. goes_by c.place (asking_station c.asker) (target_station c) a b) false ≡ true → it.up ≡ true
+    go : (o : Option Call) → call_at w.traffic k ≡ o → IsSomeAnd o (λ c. (c.place ≡ asked) × (refused ≡ refusal_at (site_of w n it) c))
+        → with_item o (λ c. goes_by c.place (asking_station c.asker) (target_station c) a b) false ≡ true → it.up ≡ true
     go None found d g = absurd d
     go (Some c) found d g = by_place c found d.0 g
 comes-up w all _ n it at place allowed = tt
@@ -294,10 +327,12 @@ down-next H w c e allowed h = record {
   calm = all-next (λ n it. Calm it) w c e (kept-calm w e.event h.asked_up) allowed h.calm;
 }
 
-pub down-looked_up : (H : ℕ → Bool) (w : World) (name : List ℕ) (target : Option Cap) (path : List (List ℕ)) (e : Event) → AllowsLookUp w name target path e → DownWorld H w → DownWorld H (looked_up w name target path e)
+pub down-looked_up : (H : ℕ → Bool) (w : World) (name : List ℕ) (target : Option Cap) (path : List (List ℕ)) (e : Event)
+    → AllowsLookUp w name target path e → DownWorld H w → DownWorld H (looked_up w name target path e)
 down-looked_up H w name target path e allowed h = record {
   sound = sound-looked_up H w name target path e allowed h.sound;
-  asked_up = asked-mono (looked_up w name target path e).traffic (λ n up. ap (λ ns. with_item (value_at nat_cmp n ns) (λ (it : Node). it.up) false) (nodes-looked_up w name target path e) ∙ up)
+  asked_up = asked-mono (looked_up w name target path e).traffic
+      (λ n up. ap (λ ns. with_item (value_at nat_cmp n ns) (λ (it : Node). it.up) false) (nodes-looked_up w name target path e) ∙ up)
       (ask-looked_up w (reached-up w) name target path e allowed h.asked_up);
   calm = all-same_nodes (λ n it. Calm it) w (looked_up w name target path e) (nodes-looked_up w name target path e) h.calm;
 }
@@ -306,7 +341,8 @@ idle-passive : (u : Uid) (e : Eject) (kept : List (Uid × List ℕ)) → value_a
 idle-passive u e [] is = absurd (cc is)
 idle-passive u e (x ∷ xs) is = go (x.0.serial == 0) (idle-passive u e xs) is
   where
-    found : (b : Bool) → (value_at uid_cmp u (filter_map passive_entry xs) ≡ Some e → IsIdle e) → cond b (Some (passive x.1)) (value_at uid_cmp u (filter_map passive_entry xs)) ≡ Some e → IsIdle e
+    found : (b : Bool) → (value_at uid_cmp u (filter_map passive_entry xs) ≡ Some e → IsIdle e)
+        → cond b (Some (passive x.1)) (value_at uid_cmp u (filter_map passive_entry xs)) ≡ Some e → IsIdle e
     found true later is = subst (λ o. IfSome o IsIdle) is (record { no_active = refl; no_queued = refl })
     found false later is = later is
 
@@ -315,14 +351,17 @@ idle-passive u e (x ∷ xs) is = go (x.0.serial == 0) (idle-passive u e xs) is
     go true later is = later is
     go false later is = found (eq_by_cmp uid_cmp u x.0) later is
 
-pub rest-node : (n size : ℕ) (found : Result (List (Uid × List ℕ)) ℕ) (overfull : Bool) (ledger : List ℕ) → Rests (node_from n size found overfull ledger)
+pub rest-node : (n size : ℕ) (found : Result (List (Uid × List ℕ)) ℕ) (overfull : Bool) (ledger : List ℕ)
+    → Rests (node_from n size found overfull ledger)
 rest-node n size (Ok kept) overfull ledger = record { no_request = refl; idle = λ u e is. idle-passive u e kept is }
 rest-node n size (Err place) overfull ledger = record { no_request = refl; idle = λ u e is. absurd (cc is) }
 
-pub calm-opening : (layout : Layout) (images : List (ℕ × List ℕ)) (n : ℕ) (it : Node) → value_at nat_cmp n (map (λ d. (d.0, node_of layout d)) images) ≡ Some it → Calm it
+pub calm-opening : (layout : Layout) (images : List (ℕ × List ℕ)) (n : ℕ) (it : Node)
+    → value_at nat_cmp n (map (λ d. (d.0, node_of layout d)) images) ≡ Some it → Calm it
 calm-opening layout [] n it is = absurd (cc is)
 calm-opening layout (d ∷ ds) n it is = go (eq_by_cmp nat_cmp n d.0) (calm-opening layout ds n it) is
   where
-    go : (b : Bool) → (value_at nat_cmp n (map (λ d. (d.0, node_of layout d)) ds) ≡ Some it → Calm it) → cond b (Some (node_of layout d)) (value_at nat_cmp n (map (λ d. (d.0, node_of layout d)) ds)) ≡ Some it → Calm it
+    go : (b : Bool) → (value_at nat_cmp n (map (λ d. (d.0, node_of layout d)) ds) ≡ Some it → Calm it)
+        → cond b (Some (node_of layout d)) (value_at nat_cmp n (map (λ d. (d.0, node_of layout d)) ds)) ≡ Some it → Calm it
     go true later e = subst (λ o. IfSome o Calm) e (inr (rest-node d.0 _ (found_in layout d.0 d.1) _ _))
     go false later e = later e

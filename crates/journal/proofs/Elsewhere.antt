@@ -1,5 +1,6 @@
 -- An entry that touches another disk, or none, leaves what is kept on a node, and what is in doubt there.
-use Rattle.std.proofs.Common.{◌≡◌, ◌==◌, ℕ, Bool, true, false, cond, ◌&&◌, T, List, [], ◌∷◌, ◌++◌, Option, None, Some, Ok, is_some, refl, sym, ◌∙◌, ap, subst}
+use Rattle.std.proofs.Common.{◌≡◌, ◌==◌, ℕ, Bool, true, false, cond, ◌&&◌, T, List, [], ◌∷◌, ◌++◌, Option, None, Some, Ok, is_some, refl}
+use Rattle.std.proofs.Common.{sym, ◌∙◌, ap, subst}
 use Rattle.std.specs.Prelude.{IsSomeAnd}
 use Rattle.std.specs.List.{filter_map, cons_option}
 use Rattle.std.specs.Option.{option_map}
@@ -28,11 +29,14 @@ use Rattle.journal.specs.declared.event.RequestEnd.{RequestEnd}
 use Rattle.journal.specs.declared.event.Event.{Event}
 use Rattle.journal.specs.declared.event.Event.TheVariants as event
 use Rattle.journal.specs.declared.event.Entry.{Entry}
-use Rattle.journal.specs.World.{World, Site, Node, Active, Eject, StoreRequest, node_at, site_of, site_at, eject_in, on_eject, on_node, reaches}
+use Rattle.journal.specs.World.{World, Site, Node, Active, Eject, StoreRequest, node_at, site_of, site_at, eject_in, on_eject, on_node}
+use Rattle.journal.specs.World.{reaches}
 use Rattle.journal.specs.Ejects.{with_active, on_active, told, tells, fresh, newborn, next_uid, born}
-use Rattle.journal.specs.Settling.{first_request, doubts, kept_map, to_settle, epoch_entries, epoch_doubts, kept_entry, doubt_entry, settled, unsynced}
+use Rattle.journal.specs.Settling.{first_request, doubts, kept_map, to_settle, epoch_entries, epoch_doubts, kept_entry, doubt_entry}
+use Rattle.journal.specs.Settling.{settled, unsynced}
 use Rattle.journal.specs.Crashes.{crashed}
-use Rattle.journal.specs.Stores.{Work, syncs, reads, unkept, without_room, calls, work_of, makes_call, done, request_ended, worked, store_turn, AllowsStore}
+use Rattle.journal.specs.Stores.{Work, syncs, reads, unkept, without_room, calls, work_of, makes_call, done, request_ended, worked}
+use Rattle.journal.specs.Stores.{store_turn, AllowsStore}
 use Rattle.journal.specs.Starts.{StartsFrom, StartsSo, AllowsActivate, activated, start_settled, activation_turn}
 use Rattle.journal.specs.Step.{AllowsAt, Allows, next, touched, touches_start, touches_store, node_if, site_turn}
 use Rattle.journal.specs.Run.{Step, EachStep, AllowsLookUp, looked_up, beginning, IsPlain}
@@ -418,8 +422,10 @@ states-stay-elsewhere layout script disks history lays fits begins =
     each-step Any (λ past w. SoundWorld here w) (λ past s. (n : ℕ) → (s.entry.node == n) ≡ false
     → state s.later n ≡ state s.world n) (record {
       entries = λ past w c e any allowed i. ((λ n off. same-state here w c e allowed i n off), sound-next here w c e allowed i);
-      look_ups = λ past w name target path e any allowed plain i.
-          ((λ n off. ap (state-in n) (nodes-looked_up w name target path e.event)), sound-looked_up here w name target path e.event allowed i);
+      look_ups = λ past w name target path e any allowed plain i. (
+        (λ n off. ap (state-in n) (nodes-looked_up w name target path e.event)),
+        sound-looked_up here w name target path e.event allowed i,
+      );
     }) (beginning w script.nodes script.commands) [] history (of-any 1 script.nodes w script.commands)
     (subst (SoundWorld here) (sym (world-booting 1 script.nodes w script.commands)) (sound-opening-world layout script disks lays fits))
     begins

@@ -1,5 +1,6 @@
 -- The opening world, over disks that are handed in fit, is sound.
-use Rattle.std.proofs.Common.{◌≡◌, ◌==◌, ◌+◌, ◌<◌, ℕ, Bool, true, false, cond, ◌&&◌, T, List, [], ◌∷◌, map, Option, None, Some, Result, Ok, Err, is_some, refl, subst, arith}
+use Rattle.std.proofs.Common.{◌≡◌, ◌==◌, ◌+◌, ◌<◌, ℕ, Bool, true, false, cond, ◌&&◌, T, List, [], ◌∷◌, map, Option, None, Some, Result}
+use Rattle.std.proofs.Common.{Ok, Err, is_some, refl, subst, arith}
 use Rattle.std.specs.Prelude.{IsSomeAnd, IfSome}
 use Rattle.std.specs.List.{filter_map, cons_option}
 use Rattle.std.specs.Ordering.{nat_cmp, eq_by_cmp, is_lt}
@@ -21,20 +22,24 @@ use Rattle.journal.proofs.Ordered.{order-passive}
 use Rattle.journal.proofs.HandedIn.{IsOwnMap, own-map}
 use Rattle.journal.proofs.NoUidTwice.{kept-there, in-order, disk-node}
 
-manned-passive : (u : Uid) (e : Eject) (kept : List (Uid × List ℕ)) → value_at uid_cmp u (filter_map passive_entry kept) ≡ Some e → MannedEject e
+manned-passive : (u : Uid) (e : Eject) (kept : List (Uid × List ℕ)) → value_at uid_cmp u (filter_map passive_entry kept) ≡ Some e
+    → MannedEject e
 manned-passive u e [] is = absurd (cc is)
 manned-passive u e (x ∷ xs) is = go (x.0.serial == 0) (manned-passive u e xs) is
   where
-    found : (b : Bool) → (value_at uid_cmp u (filter_map passive_entry xs) ≡ Some e → MannedEject e) → cond b (Some (passive x.1)) (value_at uid_cmp u (filter_map passive_entry xs)) ≡ Some e → MannedEject e
+    found : (b : Bool) → (value_at uid_cmp u (filter_map passive_entry xs) ≡ Some e → MannedEject e)
+        → cond b (Some (passive x.1)) (value_at uid_cmp u (filter_map passive_entry xs)) ≡ Some e → MannedEject e
     found true later is = subst (λ o. IfSome o MannedEject) is tt
     found false later is = later is
 
     go : (skipped : Bool) → (value_at uid_cmp u (filter_map passive_entry xs) ≡ Some e → MannedEject e)
-        → value_at uid_cmp u (cons_option (cond skipped None (Some (x.0, passive x.1))) (filter_map passive_entry xs)) ≡ Some e → MannedEject e
+        → value_at uid_cmp u (cons_option (cond skipped None (Some (x.0, passive x.1))) (filter_map passive_entry xs)) ≡ Some e
+        → MannedEject e
     go true later is = later is
     go false later is = found (eq_by_cmp uid_cmp u x.0) later is
 
-sound-node : (n size : ℕ) (found : Result (List (Uid × List ℕ)) ℕ) (overfull : Bool) (ledger : List ℕ) → ((kept : List (Uid × List ℕ)) → found ≡ Ok kept → IsOwnMap n kept × T (is_sorted uid_cmp kept))
+sound-node : (n size : ℕ) (found : Result (List (Uid × List ℕ)) ℕ) (overfull : Bool) (ledger : List ℕ)
+    → ((kept : List (Uid × List ℕ)) → found ≡ Ok kept → IsOwnMap n kept × T (is_sorted uid_cmp kept))
     → Sound n (node_from n size found overfull ledger)
 sound-node n size (Ok kept) overfull ledger fits = let x = fits kept refl in record {
   in_order = order-passive kept x.1;
@@ -44,13 +49,23 @@ sound-node n size (Ok kept) overfull ledger fits = let x = fits kept refl in rec
   unmade = tt;
   call_left = tt;
 }
-sound-node n size (Err place) overfull ledger fits = record { in_order = tt; of_node = λ u there. absurd (cc there); manned = λ u e is. absurd (cc is); there = tt; unmade = tt; call_left = tt }
+sound-node n size (Err place) overfull ledger fits =
+    record {
+      in_order = tt;
+      of_node = λ u there. absurd (cc there);
+      manned = λ u e is. absurd (cc is);
+      there = tt;
+      unmade = tt;
+      call_left = tt;
+    }
 
-sound-opening : (layout : Layout) (disks : List (ℕ × DiskRun)) → IsLayout layout → ((n : ℕ) (d : DiskRun) → value_at nat_cmp n disks ≡ Some d → IsHandedIn layout n d)
+sound-opening : (layout : Layout) (disks : List (ℕ × DiskRun)) → IsLayout layout
+    → ((n : ℕ) (d : DiskRun) → value_at nat_cmp n disks ≡ Some d → IsHandedIn layout n d)
     → (n : ℕ) (it : Node) → value_at nat_cmp n (map (λ d. (d.0, node_of layout d)) (images disks)) ≡ Some it → Sound n it
 sound-opening layout disks lays fits n it is = go (value_at nat_cmp n disks) refl (disk-node layout n it disks is)
   where
-    go : (o : Option DiskRun) → value_at nat_cmp n disks ≡ o → IsSomeAnd o (λ d. node_of layout (n, (contents d.before).now) ≡ it) → Sound n it
+    go : (o : Option DiskRun) → value_at nat_cmp n disks ≡ o → IsSomeAnd o (λ d. node_of layout (n, (contents d.before).now) ≡ it)
+        → Sound n it
     go None at x = absurd x
     go (Some d) at x = subst (Sound n) x (sound-node n _ (found_in layout n (contents d.before).now) _ _
         (λ kept found. (own-map layout n d lays (fits n d at) kept found, in-order layout n (contents d.before).now kept found)))
@@ -65,11 +80,14 @@ both false b x y = absurd x
 
 below-from : (layout : Layout) (k n : ℕ) (disks : List DiskRun) → k < n → T (below_all nat_cmp k (nodes_from layout n disks))
 below-from layout k n [] lt = tt
-below-from layout k n (d ∷ disks) lt = both (is_lt (nat_cmp k n)) (below_all nat_cmp k (nodes_from layout (n + 1) disks)) (subst (λ o. T (is_lt o)) (nat_cmp_is k n Less lt) tt) (below-from layout k (n + 1) disks (omega (arith, lt)))
+below-from layout k n (d ∷ disks) lt = both (is_lt (nat_cmp k n)) (below_all nat_cmp k (nodes_from layout (n + 1) disks))
+    (subst (λ o. T (is_lt o)) (nat_cmp_is k n Less lt) tt) (below-from layout k (n + 1) disks (omega (arith, lt)))
 
 ordered-from : (layout : Layout) (n : ℕ) (disks : List DiskRun) → T (is_sorted nat_cmp (nodes_from layout n disks))
 ordered-from layout n [] = tt
-ordered-from layout n (d ∷ disks) = both (below_all nat_cmp n (nodes_from layout (n + 1) disks)) (is_sorted nat_cmp (nodes_from layout (n + 1) disks)) (below-from layout n (n + 1) disks (omega arith)) (ordered-from layout (n + 1) disks)
+ordered-from layout n (d ∷ disks) = both (below_all nat_cmp n (nodes_from layout (n + 1) disks))
+    (is_sorted nat_cmp (nodes_from layout (n + 1) disks)) (below-from layout n (n + 1) disks (omega arith))
+    (ordered-from layout (n + 1) disks)
 
 pub sound-opening-world : (layout : Layout) (script : Script) (disks : List DiskRun) → IsLayout layout → AreHandedIn layout disks
     → SoundWorld (λ n. is_some (node_at (opening_world layout script disks) n)) (opening_world layout script disks)

@@ -17,7 +17,8 @@ pub all-one : {X : Type 0} (P : X → Type 0) (x : X) → P x → All P (x ∷ [
 all-one P x p = All-cons P x [] p (all-none P)
 
 -- those that pass a test
-pub all-where : {X : Type 0} (P Q : X → Type 0) (p : X → Bool) → ((x : X) → P x → p x ≡ true → Q x) → (xs : List X) → All P xs → All Q (filter p xs)
+pub all-where : {X : Type 0} (P Q : X → Type 0) (p : X → Bool) → ((x : X) → P x → p x ≡ true → Q x) → (xs : List X) → All P xs
+    → All Q (filter p xs)
 all-where P Q p each [] all = all-none Q
 all-where {X = X} P Q p each (x ∷ xs) all = go (p x) refl (all-where P Q p each xs (All-tail P x xs all)) (All-head P x xs all)
   where
@@ -26,15 +27,19 @@ all-where {X = X} P Q p each (x ∷ xs) all = go (p x) refl (all-where P Q p eac
     go false is later here = later
 
 -- the lists of all elements behind each other
-pub all-flat : {X A : Type 0} (P : X → Type 0) (Q : A → Type 0) (f : X → List A) → ((x : X) → P x → All Q (f x)) → (xs : List X) → All P xs → All Q (flat_map f xs)
+pub all-flat : {X A : Type 0} (P : X → Type 0) (Q : A → Type 0) (f : X → List A) → ((x : X) → P x → All Q (f x)) → (xs : List X)
+    → All P xs → All Q (flat_map f xs)
 all-flat P Q f each [] all = all-none Q
-all-flat P Q f each (x ∷ xs) all = All-append Q (f x) (flat_map f xs) (each x (All-head P x xs all)) (all-flat P Q f each xs (All-tail P x xs all))
+all-flat P Q f each (x ∷ xs) all = All-append Q (f x) (flat_map f xs) (each x (All-head P x xs all))
+    (all-flat P Q f each xs (All-tail P x xs all))
 
 -- an entry of a list in ascending order is what a look-up of its key finds
-pub all-found : {K X : Type 0} (R : K → K → Ordering) → IsTotalOrder R → (es : List (K × X)) → T (is_sorted R es) → All (λ e. value_at R e.0 es ≡ Some e.1) es
+pub all-found : {K X : Type 0} (R : K → K → Ordering) → IsTotalOrder R → (es : List (K × X)) → T (is_sorted R es)
+    → All (λ e. value_at R e.0 es ≡ Some e.1) es
 all-found R o [] h = all-none (λ e. value_at R e.0 [] ≡ Some e.1)
 all-found {K = K} {X = X} R o (e ∷ es) h = All-cons (λ f. value_at R f.0 (e ∷ es) ≡ Some f.1) e es (rw (tied_itself o e.0) refl)
-    (λ k d lt. later (slice_index_or es k d) (below es (first-part (below_all R e.0 es) h) k d lt) (all-found R o es (second-part (below_all R e.0 es) h) k d lt))
+    (λ k d lt. later (slice_index_or es k d) (below es (first-part (below_all R e.0 es) h) k d lt)
+    (all-found R o es (second-part (below_all R e.0 es) h) k d lt))
   where
     first-part : (b : Bool) → T (b && is_sorted R es) → T b
     first-part true h = tt
@@ -50,7 +55,8 @@ all-found {K = K} {X = X} R o (e ∷ es) h = All-cons (λ f. value_at R f.0 (e �
 
     below : (fs : List (K × X)) → T (below_all R e.0 fs) → All (λ f. T (is_lt (R e.0 f.0))) fs
     below [] h = all-none (λ f. T (is_lt (R e.0 f.0)))
-    below (f ∷ fs) h = let x = split (is_lt (R e.0 f.0)) (below_all R e.0 fs) h in All-cons (λ f. T (is_lt (R e.0 f.0))) f fs x.0 (below fs x.1)
+    below (f ∷ fs) h = let x = split (is_lt (R e.0 f.0)) (below_all R e.0 fs) h in
+        All-cons (λ f. T (is_lt (R e.0 f.0))) f fs x.0 (below fs x.1)
 
     apart : (x y : Ordering) → T (is_lt x) → y ≡ ordering_reverse x → is_eq y ≡ false
     apart Less y lt is = ap is_eq is
@@ -65,7 +71,8 @@ pub first-passes : (p : ℕ → Bool) (ks : List ℕ) (k : ℕ) → first (filte
 first-passes p [] k is = absurd (cc is)
 first-passes p (j ∷ ks) k is = go (p j) refl (first-passes p ks k) is
   where
-    go : (b : Bool) → p j ≡ b → (first (filter p ks) ≡ Some k → p k ≡ true) → first (cond b (j ∷ filter p ks) (filter p ks)) ≡ Some k → p k ≡ true
+    go : (b : Bool) → p j ≡ b → (first (filter p ks) ≡ Some k → p k ≡ true) → first (cond b (j ∷ filter p ks) (filter p ks)) ≡ Some k
+        → p k ≡ true
     go true at later e = let same : j ≡ k = cc e in ap p (sym same) ∙ at
     go false at later e = later e
 
@@ -74,6 +81,7 @@ pub found-mapped : {X Y : Type 0} (f : X → Y) (p : Y → Bool) (xs : List X) (
 found-mapped f p [] y is = absurd (cc is)
 found-mapped {X = X} {Y = Y} f p (x ∷ xs) y is = go (p (f x)) (found-mapped f p xs y) is
   where
-    go : (b : Bool) → (find p (map f xs) ≡ Some y → (x : X) × (f x ≡ y)) → cond b (Some (f x)) (find p (map f xs)) ≡ Some y → (x : X) × (f x ≡ y)
+    go : (b : Bool) → (find p (map f xs) ≡ Some y → (x : X) × (f x ≡ y)) → cond b (Some (f x)) (find p (map f xs)) ≡ Some y → (x : X)
+        × (f x ≡ y)
     go true later e = (x, cc e)
     go false later e = later e

@@ -1,5 +1,6 @@
 -- The stored epoch of a node, and the one in doubt, are at most 4,294,967,295 in every world of a history.
-use Rattle.std.proofs.Common.{◌≡◌, ◌==◌, ◌+◌, ◌*◌, ◌≤◌, ◌<◌, ℕ, Bool, true, false, cond, List, [], ◌∷◌, map, Option, None, Some, Result, Ok, Err, length, refl, sym, ◌∙◌, ap, subst, arith, inl, inr}
+use Rattle.std.proofs.Common.{◌≡◌, ◌==◌, ◌+◌, ◌*◌, ◌≤◌, ◌<◌, ℕ, Bool, true, false, cond, List, [], ◌∷◌, map, Option, None, Some, Result}
+use Rattle.std.proofs.Common.{Ok, Err, length, refl, sym, ◌∙◌, ap, subst, arith, inl, inr}
 use Rattle.std.specs.Prelude.{IsSomeAnd, IfSome, ◌⊎◌, ◌^◌}
 use Rattle.std.specs.List.{All}
 use Rattle.std.proofs.lemmas.List.Elements.{All-head, All-tail}
@@ -29,7 +30,8 @@ use Rattle.journal.specs.World.{World, Site, Node, StoreRequest, site_of, on_eje
 use Rattle.journal.specs.Ejects.{tells, stored_epoch}
 use Rattle.journal.specs.Settling.{epoch_uid, first_request, settled, unsynced, to_settle, written_with}
 use Rattle.journal.specs.Crashes.{crashed}
-use Rattle.journal.specs.Stores.{Work, syncs, reads, unkept, without_room, calls, work_of, more_made, doubted, request_ended, stored, done, worked, store_turn}
+use Rattle.journal.specs.Stores.{Work, syncs, reads, unkept, without_room, calls, work_of, more_made, doubted, request_ended, stored}
+use Rattle.journal.specs.Stores.{done, worked, store_turn}
 use Rattle.journal.specs.Starts.{activated, start_settled, activation_turn}
 use Rattle.journal.specs.Boots.{last_epoch, BootsSo, BeganNext, booted_node, boot_turn}
 use Rattle.journal.specs.Opening.{number_from, epoch_in, entries_of, found_in, node_of, node_from}
@@ -42,7 +44,8 @@ use Rattle.journal.specs.Sites.{Everywhere, HasEpochs}
 use Rattle.journal.proofs.NoUidTwice.{disk-node}
 use Rattle.journal.proofs.EveryNode.{IsKeptAt, all-next, all-same_nodes}
 use Rattle.journal.proofs.Runs.{Any, of-any, end-keeps, world-booting, nodes-looked_up}
-use Rattle.journal.proofs.SiteFrames.{Leaves, keeps-site, leaves-crashed, leaves-tells, leaves-born, leaves-turned_away, leaves-awake, leaves-done, leaves-ended, leaves-doubted, leaves-on_eject}
+use Rattle.journal.proofs.SiteFrames.{Leaves, keeps-site, leaves-crashed, leaves-tells, leaves-born, leaves-turned_away, leaves-awake}
+use Rattle.journal.proofs.SiteFrames.{leaves-done, leaves-ended, leaves-doubted, leaves-on_eject}
 
 -- 1. Changes that leave both
 

@@ -1,5 +1,6 @@
 -- The calls go on through every event at a node, and a process of that node may have asked a new one.
-use Rattle.std.proofs.Common.{◌≡◌, ℕ, nat_le, Bool, true, false, cond, List, [], Option, None, Some, is_some, Result, Ok, Err, length, refl, ap, subst}
+use Rattle.std.proofs.Common.{◌≡◌, ℕ, nat_le, Bool, true, false, cond, List, [], Option, None, Some, is_some, Result, Ok, Err, length}
+use Rattle.std.proofs.Common.{refl, ap, subst}
 use Rattle.std.specs.Prelude.{IsSomeAnd}
 use Rattle.capability.specs.declared.Uid.{Uid}
 use Rattle.capability.specs.declared.TheConstants.{BODY_LIMIT}
@@ -13,7 +14,8 @@ use Rattle.eden_model.specs.Map.{with_item, rest}
 use Rattle.eden_model.specs.Crew.{Invocation, outside, set_waits, locked, left, waited, signalled, running}
 use Rattle.eden_model.specs.declared.Asker.{Asker}
 use Rattle.eden_model.specs.declared.Asker.TheVariants.{Shell, Eject as Process}
-use Rattle.eden_model.specs.Traffic.{Traffic, Call, asked, held, call_at, changed_call, at_place, taken, replied, all_replied, orphaned, next_call, with_call, without_node}
+use Rattle.eden_model.specs.Traffic.{Traffic, Call, asked, held, call_at, changed_call, at_place, taken, replied, all_replied, orphaned}
+use Rattle.eden_model.specs.Traffic.{next_call, with_call, without_node}
 use Rattle.epl_syntax.specs.declared.effect.Answer.{Answer}
 use Rattle.epl_syntax.specs.declared.effect.Answer.TheVariants.{Code, Reply as Told, Created as Made}
 use Rattle.epl_syntax.specs.declared.effect.Effect.{Effect}
@@ -29,18 +31,22 @@ use Rattle.journal.specs.declared.event.RequestEnd.TheVariants as end
 use Rattle.journal.specs.declared.event.Event.{Event}
 use Rattle.journal.specs.declared.event.Event.TheVariants as event
 use Rattle.journal.specs.World.{Active, Eject, StoreRequest, Node, Site, eject_in, on_eject, on_node, on_traffic}
-use Rattle.journal.specs.Ejects.{with_active, with_queued, on_active, on_crew, is_there, told, tells, without_requests, deactivated, turned_away, gone_if_unkept, fresh, next_uid, born_in, born}
+use Rattle.journal.specs.Ejects.{with_active, with_queued, on_active, on_crew, is_there, told, tells, without_requests, deactivated}
+use Rattle.journal.specs.Ejects.{turned_away, gone_if_unkept, fresh, next_uid, born_in, born}
 use Rattle.journal.specs.Deliveries.{requested, tells_asker, received, heard, AllowsRequest, refusal_at}
-use Rattle.journal.specs.Processes.{turn_of, turned, serving, start, without_process, asks_store, answers, refused_at_once, waits_or_told, creates, checkpoints, effected, process_turn}
+use Rattle.journal.specs.Processes.{turn_of, turned, serving, start, without_process, asks_store, answers, refused_at_once}
+use Rattle.journal.specs.Processes.{waits_or_told, creates, checkpoints, effected, process_turn}
 use Rattle.journal.specs.Crashes.{down, crashed}
-use Rattle.journal.specs.Stores.{Work, syncs, reads, unkept, without_room, calls, work_of, more_made, doubted, tells_code, request_ended, removed, stored, done, worked, store_turn}
+use Rattle.journal.specs.Stores.{Work, syncs, reads, unkept, without_room, calls, work_of, more_made, doubted, tells_code, request_ended}
+use Rattle.journal.specs.Stores.{removed, stored, done, worked, store_turn}
 use Rattle.journal.specs.Starts.{start_of, misfits_answered, activated, start_settled}
 use Rattle.journal.specs.Boots.{booted_node, boot_turn}
 use Rattle.journal.specs.Step.{site_turn, AllowsAt, IsActiveAnd}
 use Rattle.journal.specs.Settling.{first_request, settled_node, settled, unsynced, to_settle}
 use Rattle.journal.specs.declared.event.BootEnd.{BootEnd}
 use Rattle.journal.specs.Sites.{AreNumbered, CallsGoOn, IsSoundSite, Sound}
-use Rattle.journal.proofs.Goings.{GoOn, on-same, on-then, on-all_replied, on-refused, on-taken_in, on-received, on-orphaned, on-without_node, on-answers, on-misfits, Around, on-around, around-call}
+use Rattle.journal.proofs.Goings.{GoOn, on-same, on-then, on-all_replied, on-refused, on-taken_in, on-received, on-orphaned}
+use Rattle.journal.proofs.Goings.{on-without_node, on-answers, on-misfits, Around, on-around, around-call}
 
 abbrev pub On : Site → Site → Type 0
 On s new = GoOn s.traffic new.traffic
@@ -304,7 +310,8 @@ calls-around reach (event.Reply k a b name why values) s sound numbered allowed 
     on-around s.number s.traffic _ (event-on reach (event.Reply k a b name why values) s allowed tt)
 calls-around reach (event.Activate u how p) s sound numbered allowed = on-around s.number s.traffic _
     (event-on reach (event.Activate u how p) s allowed tt)
-calls-around reach (event.Start k u p) s sound numbered allowed = on-around s.number s.traffic _ (event-on reach (event.Start k u p) s allowed tt)
+calls-around reach (event.Start k u p) s sound numbered allowed = on-around s.number s.traffic _
+    (event-on reach (event.Start k u p) s allowed tt)
 calls-around reach (event.Store u clock how p) s sound numbered allowed =
     on-around s.number s.traffic _ (event-on reach (event.Store u clock how p) s allowed tt)
 calls-around reach (event.Boot n e how p began) s sound numbered allowed =

@@ -1,5 +1,6 @@
 -- What is kept of every node: a property of a node and its number that the turns there keep holds of all nodes after every entry.
-use Rattle.std.proofs.Common.{not, ◌&&◌, ◌||◌, ◌≡◌, ◌==◌, ◌+◌, ℕ, nat_le, Bool, true, false, cond, List, [], ◌∷◌, Option, None, Some, Result, Ok, Err, refl, sym, ◌∙◌, ap, subst}
+use Rattle.std.proofs.Common.{not, ◌&&◌, ◌||◌, ◌≡◌, ◌==◌, ◌+◌, ℕ, nat_le, Bool, true, false, cond, List, [], ◌∷◌, Option, None, Some}
+use Rattle.std.proofs.Common.{Result, Ok, Err, refl, sym, ◌∙◌, ap, subst}
 use Rattle.std.specs.Prelude.{IsSomeAnd, IfSome}
 use Rattle.std.specs.Option.{option_map}
 use Rattle.std.specs.Ordering.{nat_cmp, eq_by_cmp}
@@ -30,8 +31,10 @@ use Rattle.journal.specs.Ejects.{count, stored_epoch, fresh, next_uid, tells, bo
 use Rattle.journal.specs.Crashes.{crashed, tells_each, linked}
 use Rattle.journal.specs.Boots.{AllowsBoot}
 use Rattle.journal.specs.References.{cap_at}
-use Rattle.journal.specs.Commands.{creation, IsCreation, AllowsCommand, born_as, made, held_by, restricted_by, asked_by, ready_call, type_name_of}
-use Rattle.journal.specs.Step.{AllowsAt, AllowsInTurn, AllowsEvent, Allows, next, after_turn, after_command, happened, at_site, stopped_at, site_turn, counted, clocked, key_of}
+use Rattle.journal.specs.Commands.{creation, IsCreation, AllowsCommand, born_as, made, held_by, restricted_by, asked_by, ready_call}
+use Rattle.journal.specs.Commands.{type_name_of}
+use Rattle.journal.specs.Step.{AllowsAt, AllowsInTurn, AllowsEvent, Allows, next, after_turn, after_command, happened, at_site}
+use Rattle.journal.specs.Step.{stopped_at, site_turn, counted, clocked, key_of}
 use Rattle.journal.specs.Sites.{Everywhere}
 use Rattle.journal.proofs.Frame.{node-at_node, after_at}
 use Rattle.journal.proofs.NoneRolledBack.{with_clock}
@@ -75,7 +78,8 @@ pub record IsKeptBy (F : ℕ → Node → Type 0) (w : World) (e : Event) : Type
 
 -- the same of whatever is told, and of whatever is created
 pub record IsKeptAt (F : ℕ → Node → Type 0) (w : World) (e : Event) : Type 0 where
-  pub turns : (n : ℕ) (it : Node) → node_at w n ≡ Some it → IsAt e n → AllowsAt (site_of w n it) e → F n it → F n (site_turn (reaches w n) e (site_of w n it)).node
+  pub turns : (n : ℕ) (it : Node) → node_at w n ≡ Some it → IsAt e n → AllowsAt (site_of w n it) e → F n it
+      → F n (site_turn (reaches w n) e (site_of w n it)).node
   pub crashes : (n : ℕ) (s : Site) → e ≡ event.Crash n → s.number ≡ n → F s.number s.node → F s.number (crashed s).node
   pub tellings : (u : Uid) (p : ℕ) (a : Answer) (s : Site) → F s.number s.node → F s.number (tells u p a s).node
   pub births : (u : Uid) (t : Edentype) (s : Site) → next_uid s ≡ Ok u → s.node.up ≡ true → IsTypeOf w.types t → F s.number s.node
@@ -93,28 +97,33 @@ kept-by F w e kept = record {
 
 -- 1. A change at one node
 
-pub all-at_node : (F : ℕ → Node → Type 0) (w : World) (n : ℕ) (f : Site → Site) → ((it : Node) → node_at w n ≡ Some it → F n it → F n (f (site_of w n it)).node)
+pub all-at_node : (F : ℕ → Node → Type 0) (w : World) (n : ℕ) (f : Site → Site)
+    → ((it : Node) → node_at w n ≡ Some it → F n it → F n (f (site_of w n it)).node)
     → Everywhere F w → Everywhere F (at_node n f w)
 all-at_node F w n f keeps all m jt is = go (eq_by_cmp nat_cmp m n) refl (node_at w m) refl (sym (node-at_node m n f w) ∙ is)
   where
     found : (it : Node) → node_at w n ≡ Some it → F n it → Some (after_at n f w it) ≡ Some jt → F n jt
     found it here fit same = subst (λ o. IfSome o (F n)) same (keeps it here fit)
 
-    go : (b : Bool) → eq_by_cmp nat_cmp m n ≡ b → (o : Option Node) → node_at w m ≡ o → cond (eq_by_cmp nat_cmp m n) (option_map (after_at n f w) (node_at w m)) (node_at w m) ≡ Some jt → F m jt
+    go : (b : Bool) → eq_by_cmp nat_cmp m n ≡ b → (o : Option Node) → node_at w m ≡ o
+        → cond (eq_by_cmp nat_cmp m n) (option_map (after_at n f w) (node_at w m)) (node_at w m) ≡ Some jt → F m jt
     go false b o at same = all m jt (subst (λ c. cond c (option_map (after_at n f w) (node_at w m)) (node_at w m) ≡ Some jt) b same)
     go true b None at same = absurd (let bad : None ≡ Some jt = subst (λ o. option_map (after_at n f w) o ≡ Some jt) at
         (subst (λ c. cond c (option_map (after_at n f w) (node_at w m)) (node_at w m) ≡ Some jt) b same) in cc bad)
     go true b (Some it) at same = let e : m ≡ n = eq-same nat_cmp nat_cmp-IsAntisymmetric m n b in
-        subst (λ k. F k jt) (sym e) (found it (ap (node_at w) (sym e) ∙ at) (subst (λ k. F k it) e (all m it at)) (subst (λ o. option_map (after_at n f w) o ≡ Some jt) at
+        subst (λ k. F k jt) (sym e) (found it (ap (node_at w) (sym e) ∙ at) (subst (λ k. F k it) e (all m it at))
+        (subst (λ o. option_map (after_at n f w) o ≡ Some jt) at
         (subst (λ c. cond c (option_map (after_at n f w) (node_at w m)) (node_at w m) ≡ Some jt) b same)))
 
 -- the site at which an event is allowed
-pub at-its-site : (w : World) (n : ℕ) (P : Site → Type 0) (it : Node) → node_at w n ≡ Some it → IsSomeAnd (site_at w n) P → P (site_of w n it)
+pub at-its-site : (w : World) (n : ℕ) (P : Site → Type 0) (it : Node) → node_at w n ≡ Some it → IsSomeAnd (site_at w n) P
+    → P (site_of w n it)
 at-its-site w n P it is p = subst (λ o. IsSomeAnd (with_item o (λ it. Some (site_of w n it)) None) P) is p
 
 all-turn : (F : ℕ → Node → Type 0) (w : World) (n : ℕ) (e : Event) → IsAt e n → IsKeptBy F w e → IsSomeAnd (site_at w n) (λ s. AllowsAt s e)
     → Everywhere F w → Everywhere F (at_site w n e)
-all-turn F w n e place kept allowed all = all-at_node F w n (site_turn (reaches w n) e) (λ it is f. kept.turns n it is place (at-its-site w n (λ s. AllowsAt s e) it is allowed) f) all
+all-turn F w n e place kept allowed all = all-at_node F w n (site_turn (reaches w n) e)
+    (λ it is f. kept.turns n it is place (at-its-site w n (λ s. AllowsAt s e) it is allowed) f) all
 
 all-tells_each : (F : ℕ → Node → Type 0)
     → ((u : Uid) (p : ℕ) (s : Site) → F s.number s.node → F s.number (tells u p (Told status.Broken []) s).node)
@@ -133,7 +142,8 @@ all-stopped F kept w n e all = all-tells_each F kept (processes_of (broken_by_no
 -- a reply that a node hears is allowed at its site where it is allowed in the world
 all-replied : (F : ℕ → Node → Type 0) (w : World) (b : ℕ) (e : Event) → IsAt e b → IsKeptBy F w e
     → ((it : Node) → AllowsAt (site_of w b it) e) → Everywhere F w → Everywhere F (at_site w b e)
-all-replied F w b e place kept allowed all = all-at_node F w b (site_turn (reaches w b) e) (λ it is f. kept.turns b it is place (allowed it) f) all
+all-replied F w b e place kept allowed all = all-at_node F w b (site_turn (reaches w b) e)
+    (λ it is f. kept.turns b it is place (allowed it) f) all
 
 all-in_turn : (F : ℕ → Node → Type 0) (w : World) (e : Event) → IsKeptBy F w e → AllowsInTurn w e → Everywhere F w
     → Everywhere F (after_turn w e)
@@ -150,26 +160,36 @@ all-in_turn F w (event.Left names) kept allowed all = absurd allowed
 all-in_turn F w event.Quiet kept allowed all = all
 all-in_turn F w event.Spent kept allowed all = all
 all-in_turn F w (event.Request k a b refused) kept allowed all = all-turn F w b (event.Request k a b refused) refl kept allowed all
-all-in_turn F w (event.Reply k a b None why values) kept allowed all = all-replied F w b (event.Reply k a b None why values) tt kept (λ it. allowed) all
+all-in_turn F w (event.Reply k a b None why values) kept allowed all = all-replied F w b (event.Reply k a b None why values) tt kept
+    (λ it. allowed) all
 all-in_turn F w (event.Reply k a b (Some name) why values) kept allowed all = all
 all-in_turn F w (event.Start k v p) kept allowed all = all-turn F w v.node (event.Start k v p) tt kept allowed all
 all-in_turn F w (event.Process v p said) kept allowed all = all-turn F w v.node (event.Process v p said) tt kept allowed all
-all-in_turn F w (event.Activate v start_end.Ok p) kept allowed all = all-turn F w v.node (event.Activate v start_end.Ok p) refl kept allowed all
-all-in_turn F w (event.Activate v start_end.Gone p) kept allowed all = all-turn F w v.node (event.Activate v start_end.Gone p) refl kept allowed all
-all-in_turn F w (event.Activate v start_end.Fault p) kept allowed all = all-turn F w v.node (event.Activate v start_end.Fault p) refl kept allowed all
-all-in_turn F w (event.Activate v start_end.Damaged p) kept allowed all = all-turn F w v.node (event.Activate v start_end.Damaged p) refl kept allowed all
+all-in_turn F w (event.Activate v start_end.Ok p) kept allowed all = all-turn F w v.node
+    (event.Activate v start_end.Ok p) refl kept allowed all
+all-in_turn F w (event.Activate v start_end.Gone p) kept allowed all = all-turn F w v.node
+    (event.Activate v start_end.Gone p) refl kept allowed all
+all-in_turn F w (event.Activate v start_end.Fault p) kept allowed all = all-turn F w v.node
+    (event.Activate v start_end.Fault p) refl kept allowed all
+all-in_turn F w (event.Activate v start_end.Damaged p) kept allowed all = all-turn F w v.node
+    (event.Activate v start_end.Damaged p) refl kept allowed all
 all-in_turn F w (event.Activate v start_end.Stop p) kept allowed all = all-stopped F kept.broken w v.node
     (event.Activate v start_end.Stop p) (all-turn F w v.node (event.Activate v start_end.Stop p) refl kept allowed all)
-all-in_turn F w (event.Store v clock end.Part p) kept allowed all = all-turn F w v.node (event.Store v clock end.Part p) refl kept allowed all
-all-in_turn F w (event.Store v clock end.Done p) kept allowed all = all-turn F w v.node (event.Store v clock end.Done p) refl kept allowed all
-all-in_turn F w (event.Store v clock end.Fault p) kept allowed all = all-turn F w v.node (event.Store v clock end.Fault p) refl kept allowed all
-all-in_turn F w (event.Store v clock end.Full p) kept allowed all = all-turn F w v.node (event.Store v clock end.Full p) refl kept allowed all
+all-in_turn F w (event.Store v clock end.Part p) kept allowed all = all-turn F w v.node
+    (event.Store v clock end.Part p) refl kept allowed all
+all-in_turn F w (event.Store v clock end.Done p) kept allowed all = all-turn F w v.node
+    (event.Store v clock end.Done p) refl kept allowed all
+all-in_turn F w (event.Store v clock end.Fault p) kept allowed all = all-turn F w v.node
+    (event.Store v clock end.Fault p) refl kept allowed all
+all-in_turn F w (event.Store v clock end.Full p) kept allowed all = all-turn F w v.node
+    (event.Store v clock end.Full p) refl kept allowed all
 all-in_turn F w (event.Store v clock end.Stop p) kept allowed all = all-stopped F kept.broken w v.node (event.Store v clock end.Stop p)
     (all-turn F w v.node (event.Store v clock end.Stop p) refl kept allowed all)
 
 -- 3. Commands
 
-same-item : {X : Type 0} (F : ℕ → Node → Type 0) (w : World) (o : Option X) (f : X → World) → ((x : X) → Everywhere F (f x)) → Everywhere F w → Everywhere F (with_item o f w)
+same-item : {X : Type 0} (F : ℕ → Node → Type 0) (w : World) (o : Option X) (f : X → World) → ((x : X) → Everywhere F (f x))
+    → Everywhere F w → Everywhere F (with_item o f w)
 same-item F w None f each all = all
 same-item F w (Some x) f each all = each x
 
@@ -181,15 +201,18 @@ all-restricted_by : (F : ℕ → Node → Type 0) (c : Command) (w : World) → 
 all-restricted_by F (command.Restrict name target mask) w all = same-item F w (cap_at w target) _ (λ c. all) all
 all-restricted_by F _ w all = all
 
-all-asked_by : (F : ℕ → Node → Type 0) (c : Command) (k : ℕ) (at_once : Option Status) (w : World) → Everywhere F w → Everywhere F (asked_by c k at_once w)
-all-asked_by F (command.Call name target operation args) k at_once w all = same-item F w (ready_call w (command.Call name target operation args)) _ (λ c. all) all
+all-asked_by : (F : ℕ → Node → Type 0) (c : Command) (k : ℕ) (at_once : Option Status) (w : World) → Everywhere F w
+    → Everywhere F (asked_by c k at_once w)
+all-asked_by F (command.Call name target operation args) k at_once w all = same-item F w
+    (ready_call w (command.Call name target operation args)) _ (λ c. all) all
 all-asked_by F _ k at_once w all = all
 
 all-linked : (F : ℕ → Node → Type 0)
     → ((u : Uid) (p : ℕ) (s : Site) → F s.number s.node → F s.number (tells u p (Told status.Broken []) s).node)
     → (a b : ℕ) (joined : Bool) (w : World) → Everywhere F w → Everywhere F (linked a b joined w)
 all-linked F kept a b true w all = all
-all-linked F kept a b false w all = all-tells_each F kept (processes_of (broken_by_link a b) w.traffic) (record w { cuts = (a, b) ∷ w.cuts; traffic = without_link a b w.traffic }) all
+all-linked F kept a b false w all = all-tells_each F kept (processes_of (broken_by_link a b) w.traffic)
+    (record w { cuts = (a, b) ∷ w.cuts; traffic = without_link a b w.traffic }) all
 
 all-boot : (F : ℕ → Node → Type 0) (w : World) (c : Command) (n e : ℕ) (how : BootEnd) (p : Option Pick) (began : Bool)
     → IsKeptBy F w (event.Boot n e how p began) → AllowsCommand w c (event.Boot n e how p began)
@@ -214,12 +237,15 @@ creation-next w n u is = go (reaches w 0 n) (node_at w n) refl is
         let number : u.node ≡ n = ap (λ (v : Uid). v.node) (next-following (site_of w n it) u gives) in
         subst (λ m. IsSomeAnd (site_at w m) (λ s. next_uid s ≡ Ok u)) (sym number) (rw at gives)
 
-    go : (b : Bool) (o : Option Node) → node_at w n ≡ o → cond b (with_item (with_item o (λ it. Some (site_of w n it)) None) next_uid (Err status.Unreachable)) (Err status.Unreachable) ≡ Ok u → IsNext w u
+    go : (b : Bool) (o : Option Node) → node_at w n ≡ o
+        → cond b (with_item (with_item o (λ it. Some (site_of w n it)) None) next_uid (Err status.Unreachable)) (Err status.Unreachable)
+        ≡ Ok u → IsNext w u
     go false o at e = absurd (cc e)
     go true None at e = absurd (cc e)
     go true (Some it) at e = next-at it at e
 
-pub made-next : (w : World) (c : Command) (name : List ℕ) (why : Status) (u : Uid) → AllowsCommand w c (event.Made name why (Some u)) → IsNext w u
+pub made-next : (w : World) (c : Command) (name : List ℕ) (why : Status) (u : Uid) → AllowsCommand w c (event.Made name why (Some u))
+    → IsNext w u
 made-next w (command.Create said n type_name) name why u allowed = creation-next w n u (is-creation (creation w n) why u allowed.2)
   where
     is-creation : (made : Result Uid Status) (why : Status) (u : Uid) → IsCreation made why (Some u) → made ≡ Ok u
@@ -238,7 +264,9 @@ creation-up w n u is jt found = go (reaches w 0 n) refl (node_at w n) refl is
     both-true true b e = refl
     both-true false b e = absurd (cc e)
 
-    go : (b : Bool) → reaches w 0 n ≡ b → (o : Option Node) → node_at w n ≡ o → cond b (with_item (with_item o (λ it. Some (site_of w n it)) None) next_uid (Err status.Unreachable)) (Err status.Unreachable) ≡ Ok u → jt.up ≡ true
+    go : (b : Bool) → reaches w 0 n ≡ b → (o : Option Node) → node_at w n ≡ o
+        → cond b (with_item (with_item o (λ it. Some (site_of w n it)) None) next_uid (Err status.Unreachable)) (Err status.Unreachable)
+        ≡ Ok u → jt.up ≡ true
     go false r o at e = absurd (cc e)
     go true r None at e = absurd (cc e)
     go true r (Some it) at e =
@@ -307,7 +335,8 @@ all-counted : (F : ℕ → Node → Type 0) (k : Option Key) (w : World) → Eve
 all-counted F None w all = all
 all-counted F (Some k) w all = all
 
-pub all-clocked : (F : ℕ → Node → Type 0) → ((n c : ℕ) (it : Node) → F n it → F n (with_clock c it)) → (n c : ℕ) (w : World) → Everywhere F w → Everywhere F (clocked n c w)
+pub all-clocked : (F : ℕ → Node → Type 0) → ((n c : ℕ) (it : Node) → F n it → F n (with_clock c it)) → (n c : ℕ) (w : World)
+    → Everywhere F w → Everywhere F (clocked n c w)
 all-clocked F kept n c w all = go (n == 0)
   where
     here : (m : ℕ) (jt : Node) (b : Bool) (o : Option Node) → node_at w m ≡ o → cond b (option_map (with_clock c) o) o ≡ Some jt → F m jt
@@ -317,7 +346,8 @@ all-clocked F kept n c w all = go (n == 0)
 
     go : (b : Bool) → Everywhere F (record w { nodes = cond b w.nodes (changed_at nat_cmp n (with_clock c) w.nodes) })
     go true = all
-    go false = λ m jt is. here m jt (eq_by_cmp nat_cmp m n) (node_at w m) refl (sym (value-changed nat_cmp nat_cmp_total nat_cmp-IsAntisymmetric m n (with_clock c) w.nodes) ∙ is)
+    go false = λ m jt is. here m jt (eq_by_cmp nat_cmp m n) (node_at w m) refl
+        (sym (value-changed nat_cmp nat_cmp_total nat_cmp-IsAntisymmetric m n (with_clock c) w.nodes) ∙ is)
 
 pub all-next_by : (F : ℕ → Node → Type 0) (w : World) (c : Option Command) (e : Entry) → IsKeptBy F w e.event → Allows w c e
     → Everywhere F w → Everywhere F (next w c e)

@@ -1,5 +1,6 @@
 -- What a fit command hands to a world is within the limits of values.
-use Rattle.std.proofs.Common.{◌≡◌, ap, refl, subst, ℕ, zero, suc, ◌+◌, ◌≤◌, ◌==◌, nat_le, Bool, true, false, cond, List, [], ◌∷◌, length, Option, None, Some, arith}
+use Rattle.std.proofs.Common.{◌≡◌, ap, refl, subst, ℕ, zero, suc, ◌+◌, ◌≤◌, ◌==◌, nat_le, Bool, true, false, cond, List, [], ◌∷◌, length}
+use Rattle.std.proofs.Common.{Option, None, Some, arith}
 use Rattle.std.specs.List.{All, list_all}
 use Rattle.std.proofs.lemmas.Bool.{leb-true, and_parts, and_from}
 use Rattle.std.proofs.lemmas.List.Elements.{All-nil, All-cons, All-head, All-tail, All-weaker}
@@ -61,9 +62,11 @@ mutual
   argument-fine w names (suc deep) (several gs) d h is =
       listed deep gs (values_of w gs) d h.0 is (λ ds at. arguments-fine w names deep gs ds h.1 at)
 
-  arguments-fine : (w : World) → NamesAreValues w → (deep : ℕ) (gs : Arguments) (ds : Data) → AreArguments deep gs → values_of w gs ≡ Some ds
+  arguments-fine : (w : World) → NamesAreValues w → (deep : ℕ) (gs : Arguments) (ds : Data) → AreArguments deep gs
+      → values_of w gs ≡ Some ds
       → FineData deep gs ds
-  arguments-fine w names deep no_arguments ds h is = let same : no_data ≡ ds = cc is in subst (FineData deep no_arguments) same (tt, tt, refl)
+  arguments-fine w names deep no_arguments ds h is = let same : no_data ≡ ds = cc is in
+      subst (FineData deep no_arguments) same (tt, tt, refl)
   arguments-fine w names deep (argument_and g gs) ds h is =
       joined deep g gs (value_of w g) (values_of w gs) ds is (λ d at. argument-fine w names deep g d h.0 at)
       (λ es at. arguments-fine w names deep gs es h.1 at)

@@ -68,6 +68,7 @@ pub follows : FollowsOverBlank 1 commands history
 unfolding commands history at_node on_eject on_node on_traffic least_number
 follows = follows-over-blank 1 commands history refl
 
-plain_text : text_of mode.Plain history ≡ codes "node 1 up epoch 1\nc is 1.1.1\na refused 1 no right\nquiet\nb ok (0)\nquiet\nd refused 2 no operation\nquiet\ne refused 3 bad arguments\nquiet\nf refused 4 gone\nquiet\n"
+plain_text : text_of mode.Plain history ≡ codes
+    "node 1 up epoch 1\nc is 1.1.1\na refused 1 no right\nquiet\nb ok (0)\nquiet\nd refused 2 no operation\nquiet\ne refused 3 bad arguments\nquiet\nf refused 4 gone\nquiet\n"
 unfolding history entry_text trace_text shown_text
 plain_text = rw (d0, d1, d2, d3, d4) refl

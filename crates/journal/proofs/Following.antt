@@ -1,5 +1,6 @@
 -- Whether a history follows a script, decided by computation: each entry is tested against what is due at its position.
-use Rattle.std.proofs.Common.{◌≡◌, ℕ, zero, suc, ◌+◌, ◌==◌, Bool, true, false, cond, List, [], ◌∷◌, Option, None, Some, Result, Ok, Err, is_some, refl, sym, ap, ◌∙◌}
+use Rattle.std.proofs.Common.{◌≡◌, ℕ, zero, suc, ◌+◌, ◌==◌, Bool, true, false, cond, List, [], ◌∷◌, Option, None, Some, Result, Ok, Err}
+use Rattle.std.proofs.Common.{is_some, refl, sym, ap, ◌∙◌}
 use Rattle.std.specs.Prelude.{IsTrue}
 use Rattle.capability.specs.declared.Uid.{Uid}
 use Rattle.capability.specs.declared.Cap.{Cap}
@@ -36,18 +37,24 @@ use Rattle.journal.specs.declared.event.RequestEnd.{RequestEnd}
 use Rattle.journal.specs.declared.event.RequestEnd.TheVariants as request_end
 use Rattle.journal.specs.World.{World, Node, Eject, Active, Site, StoreRequest, site_at, eject_in, reaches, is_up}
 use Rattle.journal.specs.Deliveries.{AllowsRequest, AllowsReply, refusal_at}
-use Rattle.journal.specs.Processes.{AllowsStart, AllowsTurn, CreatesKnown, next_start, invocation, turn_of, worker_at, shown_of, refused_at_once}
+use Rattle.journal.specs.Processes.{AllowsStart, AllowsTurn, CreatesKnown, next_start, invocation, turn_of, worker_at, shown_of}
+use Rattle.journal.specs.Processes.{refused_at_once}
 use Rattle.journal.specs.Settling.{first_request, in_doubt, settled, to_settle}
-use Rattle.journal.specs.Stores.{Work, syncs, reads, unkept, without_room, calls, AllowsStore, EndsSo, HasCallLeft, work_of, makes_own_call, calls_needed, most_calls}
+use Rattle.journal.specs.Stores.{Work, syncs, reads, unkept, without_room, calls, AllowsStore, EndsSo, HasCallLeft, work_of}
+use Rattle.journal.specs.Stores.{makes_own_call, calls_needed, most_calls}
 use Rattle.journal.specs.Starts.{AllowsActivate, StartsSo, StartsFrom, FailsSettling, start_of, is_worked_on}
-use Rattle.journal.specs.Boots.{OpenedNothing, Opened, BeganNothing, BeganNext, ReadsEpoch, OpensStore, Failed, BootsSo, AllowsBoot, epoch_has_room, last_epoch}
+use Rattle.journal.specs.Boots.{OpenedNothing, Opened, BeganNothing, BeganNext, ReadsEpoch, OpensStore, Failed, BootsSo, AllowsBoot}
+use Rattle.journal.specs.Boots.{epoch_has_room, last_epoch}
 use Rattle.journal.specs.Ejects.{stored_epoch}
 use Rattle.journal.specs.References.{cap_at}
 use Rattle.journal.specs.Commands.{AllowsCommand, AllowsAsked, IsCreation, creation, ready_call, open_names}
-use Rattle.journal.specs.Step.{Allows, AllowsEvent, AllowsInTurn, ClockFits, NotBefore, StoreClock, StoreClockFits, breaks, clock_before, key_of, one_more, touched}
+use Rattle.journal.specs.Step.{Allows, AllowsEvent, AllowsInTurn, ClockFits, NotBefore, StoreClock, StoreClockFits, breaks, clock_before}
+use Rattle.journal.specs.Step.{key_of, one_more, touched}
 use Rattle.journal.specs.Enabled.{item, following}
-use Rattle.journal.specs.Run.{Due, Position, Follows, Leads, IsDueBy, IsTurn, IdleIf, IsPlain, AllowsLookUp, beginning, end_of, lead, lookup_args, idle, taken_key, boots, command_is, turn_is, turns, looks_up, waits_for, over}
-use Rattle.journal.proofs.Same.{both, then, either, some-and, if-some, passed, same-number, is-at-most, is-below, is-true, same-bool, same-list, same-option, is-none, is-empty, same-text, same-uid, same-value, same-status}
+use Rattle.journal.specs.Run.{Due, Position, Follows, Leads, IsDueBy, IsTurn, IdleIf, IsPlain, AllowsLookUp, beginning, end_of, lead}
+use Rattle.journal.specs.Run.{lookup_args, idle, taken_key, boots, command_is, turn_is, turns, looks_up, waits_for, over}
+use Rattle.journal.proofs.Same.{both, then, either, some-and, if-some, passed, same-number, is-at-most, is-below, is-true, same-bool}
+use Rattle.journal.proofs.Same.{same-list, same-option, is-none, is-empty, same-text, same-uid, same-value, same-status}
 
 -- 1. Things that are told apart
 

@@ -29,7 +29,8 @@ node-at_node m n f w = go (node_at w n) refl (eq_by_cmp nat_cmp m n) refl
         → node_at (at_node n f w) m ≡ cond (eq_by_cmp nat_cmp m n) (option_map (after_at n f w) (node_at w m)) (node_at w m)
     go None is true b = rw (is, b) (let e : m ≡ n = eq-same nat_cmp nat_cmp-IsAntisymmetric m n b in rw (e, is) refl)
     go None is false b = rw (is, b) refl
-    go (Some it) is true b = rw (is, find-put nat_cmp nat_cmp_total m n (after_at n f w it) w.nodes, b) (let e : m ≡ n = eq-same nat_cmp nat_cmp-IsAntisymmetric m n b in rw (e, is) refl)
+    go (Some it) is true b = rw (is, find-put nat_cmp nat_cmp_total m n (after_at n f w it) w.nodes, b)
+        (let e : m ≡ n = eq-same nat_cmp nat_cmp-IsAntisymmetric m n b in rw (e, is) refl)
     go (Some it) is false b = rw (is, find-put nat_cmp nat_cmp_total m n (after_at n f w it) w.nodes, b) refl
 
 pub other-node : (m n : ℕ) → (m == n) ≡ false → eq_by_cmp nat_cmp m n ≡ false
@@ -87,7 +88,8 @@ eject-on_eject u v f s = value-changed uid_cmp uid_cmp_total uid_cmp-IsAntisymme
 
 pub on_eject-twice : (u : Uid) (f g : Eject → Eject) (s : Site) → on_eject u g (on_eject u f s) ≡ on_eject u (λ e. g (f e)) s
 unfolding on_eject
-on_eject-twice u f g s = ap (λ es. record s { node = record s.node { ejects = es } }) (changed-changed uid_cmp uid_cmp_total u f g s.node.ejects)
+on_eject-twice u f g s = ap (λ es. record s { node = record s.node { ejects = es } })
+    (changed-changed uid_cmp uid_cmp_total u f g s.node.ejects)
 
 -- what one change leaves alone
 pub eject-on_node : (v : Uid) (f : Node → Node) (s : Site) → eject_in (on_node f s) v ≡ eject_in (record s { node = f s.node }) v

@@ -15,7 +15,8 @@ use Rattle.journal.specs.World.{World, at_node, on_eject, on_node, on_traffic}
 use Rattle.journal.specs.declared.event.Mode.TheVariants as mode
 use Rattle.journal.specs.Lines.{text_of, entry_text, trace_text, shown_text}
 use Rattle.journal.proofs.Blank.{FollowsOverBlankOf, follows-over-blank-of}
-use Rattle.journal.proofs.Scenes.{int, with_trees, blank_world_of, eject, ref, boots, made, asks, comes, starts, turn, answers, quiet, left, printed}
+use Rattle.journal.proofs.Scenes.{int, with_trees, blank_world_of, eject, ref, boots, made, asks, comes, starts, turn, answers, quiet}
+use Rattle.journal.proofs.Scenes.{left, printed}
 use Rattle.journal.proofs.TypeTexts.{gate}
 use Rattle.journal.proofs.Wrong.{NotFollowed, not-followed, process_of}
 

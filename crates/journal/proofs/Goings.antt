@@ -1,5 +1,6 @@
 -- The calls go on: what each change of the messages leaves of a call.
-use Rattle.std.proofs.Common.{◌≡◌, ◌==◌, ℕ, nat_le, Bool, true, false, cond, ◌||◌, List, [], ◌∷◌, Option, None, Some, is_some, refl, sym, ◌∙◌, ap, subst, arith, inl, inr}
+use Rattle.std.proofs.Common.{◌≡◌, ◌==◌, ℕ, nat_le, Bool, true, false, cond, ◌||◌, List, [], ◌∷◌, Option, None, Some, is_some, refl, sym}
+use Rattle.std.proofs.Common.{◌∙◌, ap, subst, arith, inl, inr}
 use Rattle.std.specs.Prelude.{IsSomeAnd, ◌⊎◌}
 use Rattle.std.specs.Option.{option_map}
 use Rattle.std.specs.Ordering.{nat_cmp, eq_by_cmp}
@@ -13,7 +14,9 @@ use Rattle.eden_codec.specs.Spelling.{values_size}
 use Rattle.eden_model.specs.Map.{with_item, each_value}
 use Rattle.eden_model.proofs.Numbers.{same-true}
 use Rattle.eden_model.specs.Crew.{Invocation}
-use Rattle.eden_model.specs.Traffic.{asked, held, answered, done as over, Traffic, Call, call_at, target_station, next_call, changed_call, at_place, closed, sent, taken, replied, all_replied, new_call, with_call, asks, orphaned, in_transit, touches, crashed_call, on_link, cut_call, without_node, without_link}
+use Rattle.eden_model.specs.Traffic.{asked, held, answered, done as over, Traffic, Call, call_at, target_station, next_call}
+use Rattle.eden_model.specs.Traffic.{changed_call, at_place, closed, sent, taken, replied, all_replied, new_call, with_call, asks}
+use Rattle.eden_model.specs.Traffic.{orphaned, in_transit, touches, crashed_call, on_link, cut_call, without_node, without_link}
 use Rattle.eden_model.specs.declared.Asker.{Asker}
 use Rattle.eden_model.specs.declared.Asker.TheVariants.{Eject as Process}
 use Rattle.epl_syntax.specs.Edentype.{Edentype}

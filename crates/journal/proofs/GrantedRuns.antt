@@ -1,5 +1,6 @@
 -- In every history of a script that writes out no capabilities, each entry uses only what was granted before it.
-use Rattle.std.proofs.Common.{◌≡◌, inl, ◌==◌, ℕ, Bool, true, false, cond, ◌&&◌, T, List, [], ◌∷◌, ◌++◌, map, Option, None, Some, Result, Ok, Err, is_some, refl, sym, ◌∙◌, ap, subst}
+use Rattle.std.proofs.Common.{◌≡◌, inl, ◌==◌, ℕ, Bool, true, false, cond, ◌&&◌, T, List, [], ◌∷◌, ◌++◌, map, Option, None, Some, Result}
+use Rattle.std.proofs.Common.{Ok, Err, is_some, refl, sym, ◌∙◌, ap, subst}
 use Rattle.std.specs.Prelude.{IsSomeAnd, IfSome, codes}
 use Rattle.std.specs.List.{filter_map, cons_option}
 use Rattle.std.specs.Ordering.{nat_cmp, eq_by_cmp}
@@ -38,20 +39,26 @@ use Rattle.journal.specs.Ejects.{fresh, tells, born}
 use Rattle.journal.specs.Deliveries.{AllowsReply, meaning_of_reply}
 use Rattle.journal.specs.Crashes.{tells_each, linked}
 use Rattle.journal.specs.References.{meaning_of, cap_at, args_of, with_name}
-use Rattle.journal.specs.Commands.{AllowsAsked, AllowsCommand, born_as, made, held_by, restricted_by, asked_by, asked, ready_call, type_name_of}
-use Rattle.journal.specs.Step.{AllowsInTurn, AllowsEvent, Allows, next, after_turn, after_command, happened, at_site, stopped_at, site_turn, counted, clocked, key_of}
+use Rattle.journal.specs.Commands.{AllowsAsked, AllowsCommand, born_as, made, held_by, restricted_by, asked_by, asked, ready_call}
+use Rattle.journal.specs.Commands.{type_name_of}
+use Rattle.journal.specs.Step.{AllowsInTurn, AllowsEvent, Allows, next, after_turn, after_command, happened, at_site, stopped_at}
+use Rattle.journal.specs.Step.{site_turn, counted, clocked, key_of}
 use Rattle.journal.specs.Run.{Step, AllowsLookUp, lookup_args, looked_up, beginning}
 use Rattle.journal.specs.Opening.{found_in, node_of, node_from, passive, passive_entry}
 use Rattle.journal.specs.LegalRun.{numbered, images, opening_world}
-use Rattle.journal.specs.Granted.{Grant, effect_uses, kept_settled, Holder, the_shell, eject, holder_of, same_holder, grants, granted_to, granted, kept_after_pick, stored_caps, uses, turn_uses, active_uses, IsBelowOne, AllBelow, AllGranted, is_ok, cap_meant}
+use Rattle.journal.specs.Granted.{Grant, effect_uses, kept_settled, Holder, the_shell, eject, holder_of, same_holder, grants, granted_to}
+use Rattle.journal.specs.Granted.{granted, kept_after_pick, stored_caps, uses, turn_uses, active_uses, IsBelowOne, AllBelow, AllGranted}
+use Rattle.journal.specs.Granted.{is_ok, cap_meant}
 use Rattle.journal.specs.Laws.{WritesNone, WriteNone, OnlyGrantedAreUsed}
 use Rattle.journal.proofs.Frame.{only-at_node}
 use Rattle.journal.proofs.Runs.{step, IsNamed, EachOf, of-booting, each-step, world-booting, nodes-looked_up}
 use Rattle.journal.proofs.EveryNode.{IsAt, all-next_by, all-same_nodes}
 use Rattle.journal.proofs.Ordered.{order-passive}
 use Rattle.journal.proofs.NoUidTwice.{in-order}
-use Rattle.journal.proofs.Held.{below-later, Has, EntryHas, entry-more, AskerNamed, ShownNamed, turn-left, effect-uses, Holds, Brings, kept-holds}
-use Rattle.journal.proofs.ShellHolds.{NamesHold, meaning_in, meant_caps, names-more, names-with, same-text, named-held, cap-held, restricted-held, args-held, shell-uses}
+use Rattle.journal.proofs.Held.{below-later, Has, EntryHas, entry-more, AskerNamed, ShownNamed, turn-left, effect-uses, Holds, Brings}
+use Rattle.journal.proofs.Held.{kept-holds}
+use Rattle.journal.proofs.ShellHolds.{NamesHold, meaning_in, meant_caps, names-more, names-with, same-text, named-held, cap-held}
+use Rattle.journal.proofs.ShellHolds.{restricted-held, args-held, shell-uses}
 
 -- what is granted to a holder in a step
 abbrev new_to : Holder → Step → List Cap
@@ -68,7 +75,8 @@ names-at D w v same h = subst (NamesHold D) (sym same) h
 
 names-tells_each : (qs : List (Uid × ℕ)) (w : World) → (tells_each qs w).names ≡ w.names
 names-tells_each [] w = refl
-names-tells_each (q ∷ qs) w = names-tells_each qs (at_node q.0.node (tells q.0 q.1 (Told status.Broken [])) w) ∙ (only-at_node q.0.node (tells q.0 q.1 (Told status.Broken [])) w).names
+names-tells_each (q ∷ qs) w = names-tells_each qs (at_node q.0.node (tells q.0 q.1 (Told status.Broken [])) w)
+    ∙ (only-at_node q.0.node (tells q.0 q.1 (Told status.Broken [])) w).names
 
 names-site : (w : World) (n : ℕ) (e : Event) → (at_site w n e).names ≡ w.names
 names-site w n e = (only-at_node n (site_turn (reaches w n) e) w).names
@@ -86,10 +94,12 @@ names-born_as u (Some t) w = (only-at_node u.node (born u (fresh t (first_values
 
 names-linked : (a b : ℕ) (joined : Bool) (w : World) → (linked a b joined w).names ≡ w.names
 names-linked a b true w = refl
-names-linked a b false w = names-tells_each (processes_of (broken_by_link a b) w.traffic) (record w { cuts = (a, b) ∷ w.cuts; traffic = without_link a b w.traffic })
+names-linked a b false w = names-tells_each (processes_of (broken_by_link a b) w.traffic)
+    (record w { cuts = (a, b) ∷ w.cuts; traffic = without_link a b w.traffic })
 
 -- a reply to the shell: what it answers `ok` is granted
-replied-names : (D : List Cap) (w : World) (e : Entry) (later : World) (k a b : ℕ) (name : List ℕ) (why : Status) (values : List Datum) → AllowsReply w.traffic k a b (Some name) why values
+replied-names : (D : List Cap) (w : World) (e : Entry) (later : World) (k a b : ℕ) (name : List ℕ) (why : Status) (values : List Datum)
+    → AllowsReply w.traffic k a b (Some name) why values
     → NamesHold D w.names → NamesHold (D ++ granted_to the_shell (grants (step w e later) (event.Reply k a b (Some name) why values)))
     (cond (with_item (call_at w.traffic k) (λ c. c.open_) false) ((name, meaning_of_reply why values) ∷ w.names) w.names)
 replied-names D w e later k a b name why values allowed h = go (call_at w.traffic k) allowed.delivered
@@ -101,16 +111,21 @@ replied-names D w e later k a b name why values allowed h = go (call_at w.traffi
     shell (Shell said) e = refl
     shell (Process u p) e = absurd (cc e)
 
-    meant : (s : Status) (c : Call) → Some name ≡ shell_name c.asker → AllBelow (meant_caps (meaning_of_reply s values)) (D ++ granted_to the_shell (cond (is_ok s && true) ((holder_of c.asker, caps_of values) ∷ []) []))
-    meant status.Ok c e = below-later (caps_of values) D _ (subst (λ b. AllBelow (caps_of values) (cond b (caps_of values ++ []) [])) (sym (shell c.asker e)) (itself (caps_of values) []))
+    meant : (s : Status) (c : Call) → Some name ≡ shell_name c.asker
+        → AllBelow (meant_caps (meaning_of_reply s values))
+        (D ++ granted_to the_shell (cond (is_ok s && true) ((holder_of c.asker, caps_of values) ∷ []) []))
+    meant status.Ok c e = below-later (caps_of values) D _
+        (subst (λ b. AllBelow (caps_of values) (cond b (caps_of values ++ []) [])) (sym (shell c.asker e)) (itself (caps_of values) []))
     meant _ c e = tt
 
     one : (c : Call) → Some name ≡ shell_name c.asker → (still : Bool) → c.open_ ≡ still
-        → NamesHold (D ++ granted_to the_shell (cond (is_ok why && still) ((holder_of c.asker, caps_of values) ∷ []) [])) (cond still ((name, meaning_of_reply why values) ∷ w.names) w.names)
+        → NamesHold (D ++ granted_to the_shell (cond (is_ok why && still) ((holder_of c.asker, caps_of values) ∷ []) []))
+        (cond still ((name, meaning_of_reply why values) ∷ w.names) w.names)
     one c e true at = names-with _ name (meaning_of_reply why values) w.names (meant why c e) (names-more D _ w.names h)
     one c e false at = names-more D _ w.names h
 
-    go : (o : Option Call) → IsSomeAnd o (λ c. (c.place ≡ answered why values) × (Some name ≡ shell_name c.asker)) → NamesHold (D ++ Argument-to o) (cond (with_item o (λ c. c.open_) false) ((name, meaning_of_reply why values) ∷ w.names) w.names)
+    go : (o : Option Call) → IsSomeAnd o (λ c. (c.place ≡ answered why values) × (Some name ≡ shell_name c.asker))
+        → NamesHold (D ++ Argument-to o) (cond (with_item o (λ c. c.open_) false) ((name, meaning_of_reply why values) ∷ w.names) w.names)
     go None x = absurd x
     go (Some c) x = one c x.1 c.open_ refl
 
@@ -118,37 +133,56 @@ replied-names D w e later k a b name why values allowed h = go (call_at w.traffi
 abbrev ShellAfter : List Cap → World → Entry → World → Event → List (List ℕ × Meaning) → Type 0
 ShellAfter D w ent later ev names = NamesHold (D ++ granted_to the_shell (grants (step w ent later) ev)) names
 
-kept-names : (D : List Cap) (w : World) (ent : Entry) (later : World) (names : List (List ℕ × Meaning)) (ev : Event) → names ≡ w.names → NamesHold D w.names → ShellAfter D w ent later ev names
+kept-names : (D : List Cap) (w : World) (ent : Entry) (later : World) (names : List (List ℕ × Meaning)) (ev : Event) → names ≡ w.names
+    → NamesHold D w.names → ShellAfter D w ent later ev names
 kept-names D w ent later names ev same h = names-more D _ names (subst (NamesHold D) (sym same) h)
 
-shell-turn : (D : List Cap) (w : World) (ent : Entry) (later : World) (ev : Event) → AllowsInTurn w ev → NamesHold D w.names → ShellAfter D w ent later ev (after_turn w ev).names
+shell-turn : (D : List Cap) (w : World) (ent : Entry) (later : World) (ev : Event) → AllowsInTurn w ev → NamesHold D w.names
+    → ShellAfter D w ent later ev (after_turn w ev).names
 shell-turn D w ent later (event.Reply k a b (Some name) why values) allowed h = replied-names D w ent later k a b name why values allowed h
-shell-turn D w ent later (event.Reply k a b None why values) allowed h = kept-names D w ent later _ (event.Reply k a b None why values) (names-site w b (event.Reply k a b None why values)) h
-shell-turn D w ent later (event.Request k a b refused) allowed h = kept-names D w ent later _ (event.Request k a b refused) (names-site w b (event.Request k a b refused)) h
-shell-turn D w ent later (event.Start k v p) allowed h = kept-names D w ent later _ (event.Start k v p) (names-site w v.node (event.Start k v p)) h
-shell-turn D w ent later (event.Process v p said) allowed h = kept-names D w ent later _ (event.Process v p said) (names-site w v.node (event.Process v p said)) h
-shell-turn D w ent later (event.Activate v start_end.Ok p) allowed h = kept-names D w ent later _ (event.Activate v start_end.Ok p) (names-site w v.node (event.Activate v start_end.Ok p)) h
-shell-turn D w ent later (event.Activate v start_end.Gone p) allowed h = kept-names D w ent later _ (event.Activate v start_end.Gone p) (names-site w v.node (event.Activate v start_end.Gone p)) h
-shell-turn D w ent later (event.Activate v start_end.Fault p) allowed h = kept-names D w ent later _ (event.Activate v start_end.Fault p) (names-site w v.node (event.Activate v start_end.Fault p)) h
-shell-turn D w ent later (event.Activate v start_end.Damaged p) allowed h = kept-names D w ent later _ (event.Activate v start_end.Damaged p) (names-site w v.node (event.Activate v start_end.Damaged p)) h
-shell-turn D w ent later (event.Activate v start_end.Stop p) allowed h = kept-names D w ent later _ (event.Activate v start_end.Stop p) (names-stopped w v.node (event.Activate v start_end.Stop p)) h
-shell-turn D w ent later (event.Store v clock end.Part p) allowed h = kept-names D w ent later _ (event.Store v clock end.Part p) (names-site w v.node (event.Store v clock end.Part p)) h
-shell-turn D w ent later (event.Store v clock end.Done p) allowed h = kept-names D w ent later _ (event.Store v clock end.Done p) (names-site w v.node (event.Store v clock end.Done p)) h
-shell-turn D w ent later (event.Store v clock end.Fault p) allowed h = kept-names D w ent later _ (event.Store v clock end.Fault p) (names-site w v.node (event.Store v clock end.Fault p)) h
-shell-turn D w ent later (event.Store v clock end.Full p) allowed h = kept-names D w ent later _ (event.Store v clock end.Full p) (names-site w v.node (event.Store v clock end.Full p)) h
-shell-turn D w ent later (event.Store v clock end.Stop p) allowed h = kept-names D w ent later _ (event.Store v clock end.Stop p) (names-stopped w v.node (event.Store v clock end.Stop p)) h
+shell-turn D w ent later (event.Reply k a b None why values) allowed h = kept-names D w ent later _ (event.Reply k a b None why values)
+    (names-site w b (event.Reply k a b None why values)) h
+shell-turn D w ent later (event.Request k a b refused) allowed h = kept-names D w ent later _ (event.Request k a b refused)
+    (names-site w b (event.Request k a b refused)) h
+shell-turn D w ent later (event.Start k v p) allowed h = kept-names D w ent later _ (event.Start k v p)
+    (names-site w v.node (event.Start k v p)) h
+shell-turn D w ent later (event.Process v p said) allowed h = kept-names D w ent later _ (event.Process v p said)
+    (names-site w v.node (event.Process v p said)) h
+shell-turn D w ent later (event.Activate v start_end.Ok p) allowed h = kept-names D w ent later _ (event.Activate v start_end.Ok p)
+    (names-site w v.node (event.Activate v start_end.Ok p)) h
+shell-turn D w ent later (event.Activate v start_end.Gone p) allowed h = kept-names D w ent later _ (event.Activate v start_end.Gone p)
+    (names-site w v.node (event.Activate v start_end.Gone p)) h
+shell-turn D w ent later (event.Activate v start_end.Fault p) allowed h = kept-names D w ent later _ (event.Activate v start_end.Fault p)
+    (names-site w v.node (event.Activate v start_end.Fault p)) h
+shell-turn D w ent later (event.Activate v start_end.Damaged p) allowed h = kept-names D w ent later _
+    (event.Activate v start_end.Damaged p) (names-site w v.node (event.Activate v start_end.Damaged p)) h
+shell-turn D w ent later (event.Activate v start_end.Stop p) allowed h = kept-names D w ent later _ (event.Activate v start_end.Stop p)
+    (names-stopped w v.node (event.Activate v start_end.Stop p)) h
+shell-turn D w ent later (event.Store v clock end.Part p) allowed h = kept-names D w ent later _ (event.Store v clock end.Part p)
+    (names-site w v.node (event.Store v clock end.Part p)) h
+shell-turn D w ent later (event.Store v clock end.Done p) allowed h = kept-names D w ent later _ (event.Store v clock end.Done p)
+    (names-site w v.node (event.Store v clock end.Done p)) h
+shell-turn D w ent later (event.Store v clock end.Fault p) allowed h = kept-names D w ent later _ (event.Store v clock end.Fault p)
+    (names-site w v.node (event.Store v clock end.Fault p)) h
+shell-turn D w ent later (event.Store v clock end.Full p) allowed h = kept-names D w ent later _ (event.Store v clock end.Full p)
+    (names-site w v.node (event.Store v clock end.Full p)) h
+shell-turn D w ent later (event.Store v clock end.Stop p) allowed h = kept-names D w ent later _ (event.Store v clock end.Stop p)
+    (names-stopped w v.node (event.Store v clock end.Stop p)) h
 shell-turn D w ent later event.Quiet allowed h = kept-names D w ent later w.names event.Quiet refl h
 shell-turn D w ent later event.Spent allowed h = kept-names D w ent later w.names event.Spent refl h
 shell-turn D w ent later _ allowed h = absurd allowed
 
 -- a name that is held
-held-names : (D : List Cap) (w : World) (ent : Entry) (later : World) (c : Command) (name : List ℕ) → AllowsCommand w c (event.Bound name true) → later.names ≡ (held_by c w).names
+held-names : (D : List Cap) (w : World) (ent : Entry) (later : World) (c : Command) (name : List ℕ)
+    → AllowsCommand w c (event.Bound name true) → later.names ≡ (held_by c w).names
     → NamesHold D w.names → ShellAfter D w ent later (event.Bound name true) (held_by c w).names
 held-names D w ent later (command.Hold said v) name allowed same h = names-with _ said (capability (full v)) w.names
-    (below-later (full v ∷ []) D _ (subst (λ o. AllBelow (full v ∷ []) (with_item o cap_meant [] ++ [])) (sym found) (inl (below_self (full v)), tt))) (names-more D _ w.names h)
+    (below-later (full v ∷ []) D _ (subst (λ o. AllBelow (full v ∷ []) (with_item o cap_meant [] ++ [])) (sym found)
+    (inl (below_self (full v)), tt))) (names-more D _ w.names h)
   where
     found : meaning_of later name ≡ Some (capability (full v))
-    found = ap (λ ns. meaning_in ns name) same ∙ (ap (λ q. meaning_in ((said, capability (full v)) ∷ w.names) q) allowed.0 ∙ rw (same-text said) refl)
+    found = ap (λ ns. meaning_in ns name) same
+        ∙ (ap (λ q. meaning_in ((said, capability (full v)) ∷ w.names) q) allowed.0 ∙ rw (same-text said) refl)
 held-names D w ent later (command.Restrict said target mask) name allowed same h = absurd (let bad : true ≡ false = allowed.1 in cc bad)
 held-names D w ent later _ name allowed same h = absurd allowed
 
@@ -157,10 +191,12 @@ restricted-names D w (command.Restrict said target mask) h = go (cap_at w target
   where
     go : (o : Option Cap) → cap_at w target ≡ o → NamesHold D (with_item o (λ b. with_name said (capability (restricted b mask)) w) w).names
     go None at = h
-    go (Some b) at = names-with D said (capability (restricted b mask)) w.names (restricted-held b mask D (cap-held w D h target b at), tt) h
+    go (Some b) at = names-with D said (capability (restricted b mask)) w.names
+        (restricted-held b mask D (cap-held w D h target b at), tt) h
 restricted-names D w _ h = h
 
-asked-names : (D : List Cap) (w : World) (c : Command) (k : ℕ) (at_once : Option Status) → NamesHold D w.names → NamesHold D (asked_by c k at_once w).names
+asked-names : (D : List Cap) (w : World) (c : Command) (k : ℕ) (at_once : Option Status) → NamesHold D w.names
+    → NamesHold D (asked_by c k at_once w).names
 asked-names D w (command.Call said target operation args) k at_once h = go (ready_call w (command.Call said target operation args))
   where
     go : (o : Option (Cap × List Datum)) → NamesHold D (with_item o (λ c. asked said c.0 operation c.1 k at_once w) w).names
@@ -168,20 +204,26 @@ asked-names D w (command.Call said target operation args) k at_once h = go (read
     go (Some c) = names-with D said nothing w.names tt h
 asked-names D w _ k at_once h = h
 
-made-names : (D : List Cap) (w : World) (ent : Entry) (later : World) (name type_name : List ℕ) (why : Status) (u : Option Uid) → NamesHold D w.names → ShellAfter D w ent later (event.Made name why u) (made name type_name u w).names
+made-names : (D : List Cap) (w : World) (ent : Entry) (later : World) (name type_name : List ℕ) (why : Status) (u : Option Uid)
+    → NamesHold D w.names → ShellAfter D w ent later (event.Made name why u) (made name type_name u w).names
 made-names D w ent later name type_name why None h = names-with _ name nothing w.names tt (names-more D _ w.names h)
-made-names D w ent later name type_name why (Some u) h = names-with _ name (capability (full u)) _ (below-later (full u ∷ []) D _ (inl (below_self (full u)), tt))
+made-names D w ent later name type_name why (Some u) h = names-with _ name (capability (full u)) _
+    (below-later (full u ∷ []) D _ (inl (below_self (full u)), tt))
     (names-more D _ _ (names-at D w (born_as u (type_of w.types type_name) w) (names-born_as u (type_of w.types type_name) w) h))
 
-shell-command : (D : List Cap) (w : World) (c : Command) (ent : Entry) (later : World) (ev : Event) → AllowsCommand w c ev → later.names ≡ (after_command w c ev).names → NamesHold D w.names
+shell-command : (D : List Cap) (w : World) (c : Command) (ent : Entry) (later : World) (ev : Event) → AllowsCommand w c ev
+    → later.names ≡ (after_command w c ev).names → NamesHold D w.names
     → ShellAfter D w ent later ev (after_command w c ev).names
 shell-command D w c ent later (event.Bound name true) allowed same h = held-names D w ent later c name allowed same h
 shell-command D w c ent later (event.Bound name false) allowed same h = names-more D _ _ (restricted-names D w c h)
 shell-command D w c ent later (event.Asked k name at_once) allowed same h = names-more D _ _ (asked-names D w c k at_once h)
 shell-command D w c ent later (event.Made name why u) allowed same h = made-names D w ent later name (type_name_of c) why u h
-shell-command D w c ent later (event.Boot n e how p began) allowed same h = kept-names D w ent later _ (event.Boot n e how p began) (names-site w n (event.Boot n e how p began)) h
-shell-command D w c ent later (event.Crash n) allowed same h = kept-names D w ent later _ (event.Crash n) (names-stopped w n (event.Crash n)) h
-shell-command D w c ent later (event.Link a b joined) allowed same h = kept-names D w ent later _ (event.Link a b joined) (names-linked a b joined w) h
+shell-command D w c ent later (event.Boot n e how p began) allowed same h = kept-names D w ent later _ (event.Boot n e how p began)
+    (names-site w n (event.Boot n e how p began)) h
+shell-command D w c ent later (event.Crash n) allowed same h = kept-names D w ent later _ (event.Crash n)
+    (names-stopped w n (event.Crash n)) h
+shell-command D w c ent later (event.Link a b joined) allowed same h = kept-names D w ent later _ (event.Link a b joined)
+    (names-linked a b joined w) h
 shell-command D w c ent later (event.Still n up) allowed same h = names-more D _ w.names h
 shell-command D w c ent later (event.Armed n what) allowed same h = names-more D _ w.names h
 shell-command D w c ent later (event.Void name) allowed same h = names-more D _ w.names h
@@ -195,13 +237,16 @@ shell-command D w c ent later (event.Start k v p) allowed same h = names-more D 
 shell-command D w c ent later (event.Process v p said) allowed same h = names-more D _ w.names h
 shell-command D w c ent later (event.Store v clock how p) allowed same h = names-more D _ w.names h
 
-shell-next : (past : List Step) (w : World) (c : Option Command) (e : Entry) → Allows w c e → NamesHold (granted the_shell past) w.names → NamesHold (granted the_shell (step w e (next w c e) ∷ past)) (next w c e).names
-shell-next past w c e allowed h = subst (NamesHold (granted the_shell past ++ granted_to the_shell (grants (step w e (next w c e)) e.event))) (sym same) (go c allowed.event same)
+shell-next : (past : List Step) (w : World) (c : Option Command) (e : Entry) → Allows w c e → NamesHold (granted the_shell past) w.names
+    → NamesHold (granted the_shell (step w e (next w c e) ∷ past)) (next w c e).names
+shell-next past w c e allowed h = subst (NamesHold
+    (granted the_shell past ++ granted_to the_shell (grants (step w e (next w c e)) e.event))) (sym same) (go c allowed.event same)
   where
     same : (next w c e).names ≡ (happened w c e.event).names
     same = names-counted (key_of e.event) (clocked e.node e.clock (happened w c e.event))
 
-    go : (c' : Option Command) → AllowsEvent w c' e.event → (next w c e).names ≡ (happened w c' e.event).names → ShellAfter (granted the_shell past) w e (next w c e) e.event (happened w c' e.event).names
+    go : (c' : Option Command) → AllowsEvent w c' e.event → (next w c e).names ≡ (happened w c' e.event).names
+        → ShellAfter (granted the_shell past) w e (next w c e) e.event (happened w c' e.event).names
     go None a s = shell-turn (granted the_shell past) w e (next w c e) e.event a h
     go (Some k) a s = shell-command (granted the_shell past) w k e (next w c e) e.event a s h
 
@@ -211,16 +256,22 @@ traffic-counted : (k : Option Key) (w : World) → (counted k w).traffic ≡ w.t
 traffic-counted None w = refl
 traffic-counted (Some k) w = refl
 
-asked-uses : (past : List Step) (w : World) (c : Command) (k : ℕ) (name : List ℕ) (at_once : Option Status) → WritesNone c → AllowsCommand w c (event.Asked k name at_once) → NamesHold (granted the_shell past) w.names
+asked-uses : (past : List Step) (w : World) (c : Command) (k : ℕ) (name : List ℕ) (at_once : Option Status) → WritesNone c
+    → AllowsCommand w c (event.Asked k name at_once) → NamesHold (granted the_shell past) w.names
     → AllGranted (with_item (call_at (asked_by c k at_once w).traffic k) (λ c. (holder_of c.asker, c.target ∷ caps_of c.args) ∷ []) []) past
-asked-uses past w (command.Call said target operation args) k name at_once none allowed h = go (cap_at w target) refl (args_of w args) refl allowed.1
+asked-uses past w (command.Call said target operation args) k name at_once none allowed h = go (cap_at w target) refl
+    (args_of w args) refl allowed.1
   where
     go : (t : Option Cap) → cap_at w target ≡ t → (a : Option (List Datum)) → args_of w args ≡ a
-        → IsSomeAnd {T = Cap × List Datum} (with_item t (λ c. with_item a (λ ds. Some (c, ds)) None) None) (λ c. AllowsAsked w k at_once c.0 c.1)
-        → AllGranted (with_item (call_at (with_item {X = Cap × List Datum} (with_item t (λ c. with_item a (λ ds. Some (c, ds)) None) None) (λ c. asked said c.0 operation c.1 k at_once w) w).traffic k) (λ c. (holder_of c.asker, c.target ∷ caps_of c.args) ∷ []) []) past
+        → IsSomeAnd {T = Cap × List Datum} (with_item t (λ c. with_item a (λ ds. Some (c, ds)) None) None)
+        (λ c. AllowsAsked w k at_once c.0 c.1)
+        → AllGranted (with_item (call_at (with_item {X = Cap × List Datum} (with_item t (λ c. with_item a (λ ds. Some (c, ds)) None) None)
+        (λ c. asked said c.0 operation c.1 k at_once w) w).traffic k) (λ c. (holder_of c.asker, c.target ∷ caps_of c.args) ∷ []) [])
+        past
     go None at a is x = absurd x
     go (Some c) at None is x = absurd x
-    go (Some c) at (Some ds) is x = shell-uses past k said c operation ds at_once w.traffic (cap-held w (granted the_shell past) h target c at) (args-held w (granted the_shell past) h args ds none is)
+    go (Some c) at (Some ds) is x = shell-uses past k said c operation ds at_once w.traffic
+        (cap-held w (granted the_shell past) h target c at) (args-held w (granted the_shell past) h args ds none is)
 asked-uses past w _ k name at_once none allowed h = absurd allowed
 
 path-caps : (path : List (List ℕ)) (D : List Cap) → AllBelow (caps_of (lookup_args path)) D
@@ -282,7 +333,8 @@ shown-named : (D : Uid → List Cap) (s : Step) (v : Uid) (p : ℕ) (said : Show
 shown-named D s v p (shown.Created new) named = (named.0.0, named.1.0.0)
 shown-named D s v p _ named = tt
 
-brings-at : (past : List Step) (w : World) (ent : Entry) (later : World) (ev : Event) (n : ℕ) (it : Node) → node_at w n ≡ Some it → IsAt ev n
+brings-at : (past : List Step) (w : World) (ent : Entry) (later : World) (ev : Event) (n : ℕ) (it : Node) → node_at w n ≡ Some it
+    → IsAt ev n
     → Brings (site_of w n it) ev (Now past (step w ent later) ev)
 brings-at past w ent later (event.Activate v start_end.Ok p) n it at place = (
   x.0.0,
@@ -399,37 +451,50 @@ process-uses past w u p all = by_node (node_at w u.node) refl
 abbrev Have : List Step → World → Type 0
 Have past w = NamesHold (granted the_shell past) w.names × EjectsHold past w
 
-uses-turn : (past : List Step) (w : World) (ent : Entry) (later : World) (ev : Event) → AllowsInTurn w ev → EjectsHold past w → AllGranted (uses (step w ent later) ev) past
+uses-turn : (past : List Step) (w : World) (ent : Entry) (later : World) (ev : Event) → AllowsInTurn w ev → EjectsHold past w
+    → AllGranted (uses (step w ent later) ev) past
 uses-turn past w ent later (event.Process u p said) allowed all = process-uses past w u p all
 uses-turn past w ent later (event.Asked k name at_once) allowed all = absurd allowed
 uses-turn past w ent later _ allowed all = tt
 
-uses-command : (past : List Step) (w : World) (c : Command) (ent : Entry) (later : World) (ev : Event) → WritesNone c → AllowsCommand w c ev → later.traffic ≡ (after_command w c ev).traffic → NamesHold (granted the_shell past) w.names → EjectsHold past w
+uses-command : (past : List Step) (w : World) (c : Command) (ent : Entry) (later : World) (ev : Event) → WritesNone c
+    → AllowsCommand w c ev → later.traffic ≡ (after_command w c ev).traffic → NamesHold (granted the_shell past) w.names → EjectsHold past w
     → AllGranted (uses (step w ent later) ev) past
 uses-command past w c ent later (event.Process u p said) none allowed same h all = process-uses past w u p all
-uses-command past w c ent later (event.Asked k name at_once) none allowed same h all = subst (λ t. AllGranted (with_item (call_at t k) (λ c. (holder_of c.asker, c.target ∷ caps_of c.args) ∷ []) []) past) (sym same) (asked-uses past w c k name at_once none allowed h)
+uses-command past w c ent later (event.Asked k name at_once) none allowed same h all = subst
+    (λ t. AllGranted (with_item (call_at t k) (λ c. (holder_of c.asker, c.target ∷ caps_of c.args) ∷ []) []) past) (sym same)
+    (asked-uses past w c k name at_once none allowed h)
 uses-command past w c ent later _ none allowed same h all = tt
 
-uses-next : (past : List Step) (w : World) (c : Option Command) (e : Entry) → IfSome c WritesNone → Allows w c e → Have past w → AllGranted (uses (step w e (next w c e)) e.event) past
-uses-next past w c e none allowed have = go c none allowed.event (traffic-counted (key_of e.event) (clocked e.node e.clock (happened w c e.event)))
+uses-next : (past : List Step) (w : World) (c : Option Command) (e : Entry) → IfSome c WritesNone → Allows w c e → Have past w
+    → AllGranted (uses (step w e (next w c e)) e.event) past
+uses-next past w c e none allowed have = go c none allowed.event
+    (traffic-counted (key_of e.event) (clocked e.node e.clock (happened w c e.event)))
   where
-    go : (c' : Option Command) → IfSome c' WritesNone → AllowsEvent w c' e.event → (next w c e).traffic ≡ (happened w c' e.event).traffic → AllGranted (uses (step w e (next w c e)) e.event) past
+    go : (c' : Option Command) → IfSome c' WritesNone → AllowsEvent w c' e.event → (next w c e).traffic ≡ (happened w c' e.event).traffic
+        → AllGranted (uses (step w e (next w c e)) e.event) past
     go None none a same = uses-turn past w e (next w c e) e.event a have.1
     go (Some k) none a same = uses-command past w k e (next w c e) e.event none a same have.0 have.1
 
 -- a look-up of a walk
-look-up : (past : List Step) (w : World) (name : List ℕ) (target : Option Cap) (path : List (List ℕ)) (ent : Entry) (ev : Event) → IfSome target (IsNamed w) → AllowsLookUp w name target path ev → Have past w
-    → AllGranted (uses (step w ent (looked_up w name target path ev)) ev) past × NamesHold (granted the_shell past ++ granted_to the_shell (grants (step w ent (looked_up w name target path ev)) ev)) (looked_up w name target path ev).names
+look-up : (past : List Step) (w : World) (name : List ℕ) (target : Option Cap) (path : List (List ℕ)) (ent : Entry) (ev : Event)
+    → IfSome target (IsNamed w) → AllowsLookUp w name target path ev → Have past w
+    → AllGranted (uses (step w ent (looked_up w name target path ev)) ev) past
+    × NamesHold (granted the_shell past ++ granted_to the_shell (grants (step w ent (looked_up w name target path ev)) ev))
+    (looked_up w name target path ev).names
 look-up past w name (Some target) path ent (event.Asked k said at_once) named allowed have = (
-  shell-uses past k name target (codes "LookUp") (lookup_args path) at_once w.traffic (named-held w (granted the_shell past) have.0 target named) (path-caps path (granted the_shell past)),
+  shell-uses past k name target (codes "LookUp") (lookup_args path) at_once w.traffic
+      (named-held w (granted the_shell past) have.0 target named) (path-caps path (granted the_shell past)),
   names-more (granted the_shell past) _ _ (names-with (granted the_shell past) name nothing w.names tt have.0),
 )
 look-up past w name None path ent (event.Void said) named allowed have = (tt, names-more (granted the_shell past) _ w.names have.0)
 look-up past w name target path ent _ named allowed have = absurd allowed
 
-ejects-looked_up : (past : List Step) (w later : World) (ent : Entry) → later.nodes ≡ w.nodes → EjectsHold past w → EjectsHold (step w ent later ∷ past) later
+ejects-looked_up : (past : List Step) (w later : World) (ent : Entry) → later.nodes ≡ w.nodes → EjectsHold past w
+    → EjectsHold (step w ent later ∷ past) later
 ejects-looked_up past w later ent same all = granted-now past (step w ent later)
-    (all-same_nodes (λ n it. Holds n (λ u. granted (eject u) past ++ new_to (eject u) (step w ent later)) it.ejects) w later same (ejects-more past w (step w ent later) all))
+    (all-same_nodes (λ n it. Holds n (λ u. granted (eject u) past ++ new_to (eject u) (step w ent later)) it.ejects) w later same
+    (ejects-more past w (step w ent later) all))
 
 -- 5. Every history
 
@@ -456,11 +521,13 @@ nothing-held n m size D (Ok kept) overfull ledger sorted = record {
 }
 nothing-held n m size D (Err place) overfull ledger sorted = record { in_order = tt; at = λ u number. tt }
 
-opening-holds : (layout : Layout) (D : Uid → List Cap) (images : List (ℕ × List ℕ)) (n : ℕ) (it : Node) → value_at nat_cmp n (map (λ d. (d.0, node_of layout d)) images) ≡ Some it → Holds n D it.ejects
+opening-holds : (layout : Layout) (D : Uid → List Cap) (images : List (ℕ × List ℕ)) (n : ℕ) (it : Node)
+    → value_at nat_cmp n (map (λ d. (d.0, node_of layout d)) images) ≡ Some it → Holds n D it.ejects
 opening-holds layout D [] n it is = absurd (cc is)
 opening-holds layout D (d ∷ ds) n it is = go (eq_by_cmp nat_cmp n d.0) (opening-holds layout D ds n it) is
   where
-    go : (b : Bool) → (value_at nat_cmp n (map (λ d. (d.0, node_of layout d)) ds) ≡ Some it → Holds n D it.ejects) → cond b (Some (node_of layout d)) (value_at nat_cmp n (map (λ d. (d.0, node_of layout d)) ds)) ≡ Some it → Holds n D it.ejects
+    go : (b : Bool) → (value_at nat_cmp n (map (λ d. (d.0, node_of layout d)) ds) ≡ Some it → Holds n D it.ejects)
+        → cond b (Some (node_of layout d)) (value_at nat_cmp n (map (λ d. (d.0, node_of layout d)) ds)) ≡ Some it → Holds n D it.ejects
     go true later e = subst (λ o. IfSome o (λ (x : Node). Holds n D x.ejects)) e
         (nothing-held d.0 n _ D (found_in layout d.0 d.1) _ _ (in-order layout d.0 d.1))
     go false later e = later e
@@ -470,12 +537,18 @@ each-none [] h = tt
 each-none (c ∷ cs) h = (h.0, each-none cs h.1)
 
 pub only-granted : OnlyGrantedAreUsed
-only-granted layout script disks history none begins = each-step WritesNone Have (λ past s. AllGranted (uses s s.entry.event) past) (record {
-  entries = λ past w c e of allowed have. (uses-next past w c e of allowed have, (shell-next past w c e allowed have.0, ejects-next past w c e allowed have.1));
-  look_ups = λ past w name target path e named allowed plain have. let x = look-up past w name target path e e.event named allowed have in
-      (x.0, (x.1, ejects-looked_up past w (looked_up w name target path e.event) e (nodes-looked_up w name target path e.event) have.1));
-}) (beginning w script.nodes script.commands) [] history (of-booting WritesNone (λ m. tt) 1 script.nodes w script.commands (each-none script.commands none))
-    (subst (Have []) (sym (world-booting 1 script.nodes w script.commands)) (record { at = λ name m is. absurd (cc is) }, opening-holds layout (λ u. []) (images (numbered disks)))) begins
+only-granted layout script disks history none begins = each-step WritesNone Have (λ past s. AllGranted (uses s s.entry.event) past)
+    (record {
+      entries = λ past w c e of allowed have. (
+        uses-next past w c e of allowed have,
+        (shell-next past w c e allowed have.0, ejects-next past w c e allowed have.1),
+      );
+      look_ups = λ past w name target path e named allowed plain have. let x = look-up past w name target path e e.event named allowed have in
+          (x.0, (x.1, ejects-looked_up past w (looked_up w name target path e.event) e (nodes-looked_up w name target path e.event) have.1));
+    }) (beginning w script.nodes script.commands) [] history
+    (of-booting WritesNone (λ m. tt) 1 script.nodes w script.commands (each-none script.commands none))
+    (subst (Have []) (sym (world-booting 1 script.nodes w script.commands))
+    (record { at = λ name m is. absurd (cc is) }, opening-holds layout (λ u. []) (images (numbered disks)))) begins
   where
     w : World
     w = opening_world layout script disks

@@ -1,6 +1,7 @@
 -- The capabilities that active parts hold, in their values and in what their processes are to do. A turn brings in those that its entry
 -- grants, and no others.
-use Rattle.std.proofs.Common.{◌≡◌, inl, inr, ◌==◌, ◌+◌, ℕ, nat_le, Bool, true, false, cond, not, List, [], ◌∷◌, ◌++◌, Option, None, Some, Result, Ok, Err, length, refl, sym, ◌∙◌, ap, subst}
+use Rattle.std.proofs.Common.{◌≡◌, inl, inr, ◌==◌, ◌+◌, ℕ, nat_le, Bool, true, false, cond, not, List, [], ◌∷◌, ◌++◌, Option, None, Some}
+use Rattle.std.proofs.Common.{Result, Ok, Err, length, refl, sym, ◌∙◌, ap, subst}
 use Rattle.std.specs.Prelude.{IsSomeAnd, IfSome}
 use Rattle.std.specs.List.{filter, flat_map}
 use Rattle.std.specs.Option.{option_map}
@@ -22,7 +23,8 @@ use Rattle.eden_codec.specs.Spelling.{spelling}
 use Rattle.eden_codec.specs.Reading.{reading}
 use Rattle.eden_model.specs.Map.{with_item, rest, uid_cmp, value_at, put_at, changed_at, where_key, each_value}
 use Rattle.eden_model.proofs.Laws.{eq-same}
-use Rattle.eden_model.specs.Traffic.{Traffic, Call, held, call_at, changed_call, at_place, taken, replied, all_replied, orphaned, next_call, with_call, without_node}
+use Rattle.eden_model.specs.Traffic.{Traffic, Call, held, call_at, changed_call, at_place, taken, replied, all_replied, orphaned}
+use Rattle.eden_model.specs.Traffic.{next_call, with_call, without_node}
 use Rattle.eden_model.specs.declared.Asker.{Asker}
 use Rattle.eden_model.specs.declared.Asker.TheVariants.{Shell, Eject as Process}
 use Rattle.eden_model.specs.Crew.{Crew, Process as Worker, Invocation, outside, set_waits, locked, left, waited, signalled, running}
@@ -33,7 +35,8 @@ use Rattle.epl_syntax.specs.declared.effect.Effect.TheVariants as effect
 use Rattle.epl_syntax.specs.Edentype.{Edentype}
 use Rattle.epl_syntax.specs.Meaning.{Rest, Turned, turn, declared, rep_of, type_of, first_values, values_from, durable_from, started_from}
 use Rattle.epl_syntax.specs.Authority.{rest_caps, reply_caps, answer_caps, effect_caps, AreLeft}
-use Rattle.epl_syntax.proofs.Authority.{turn_keeps_caps, begin_keeps_caps, declared_have_none, first_have_none, durable_keep_caps, start_keeps_caps}
+use Rattle.epl_syntax.proofs.Authority.{turn_keeps_caps, begin_keeps_caps, declared_have_none, first_have_none, durable_keep_caps}
+use Rattle.epl_syntax.proofs.Authority.{start_keeps_caps}
 use Rattle.passive_store.specs.declared.store.Pick.{Pick}
 use Rattle.passive_store.specs.declared.store.Pick.TheVariants as pick
 use Rattle.journal.specs.Change.{Change, body, removal, kept_of}
@@ -47,13 +50,18 @@ use Rattle.journal.specs.declared.event.Event.{Event}
 use Rattle.journal.specs.declared.event.Event.TheVariants as event
 use Rattle.journal.specs.declared.event.Shown.{Shown}
 use Rattle.journal.specs.declared.event.Shown.TheVariants as shown
-use Rattle.journal.specs.World.{World, Site, Node, Eject, Active, Task, StoreRequest, node_at, site_of, reaches, eject_in, on_eject, on_node, on_traffic}
-use Rattle.journal.specs.Ejects.{with_active, with_queued, on_active, on_crew, is_there, told, tells, without_requests, deactivated, turned_away, gone_if_unkept, tasks_from, fresh, next_uid, newborn, born}
+use Rattle.journal.specs.World.{World, Site, Node, Eject, Active, Task, StoreRequest, node_at, site_of, reaches, eject_in, on_eject}
+use Rattle.journal.specs.World.{on_node, on_traffic}
+use Rattle.journal.specs.Ejects.{with_active, with_queued, on_active, on_crew, is_there, told, tells, without_requests, deactivated}
+use Rattle.journal.specs.Ejects.{turned_away, gone_if_unkept, tasks_from, fresh, next_uid, newborn, born}
 use Rattle.journal.specs.Deliveries.{requested, tells_asker, received, heard}
-use Rattle.journal.specs.Processes.{AllowsTurn, worker_at, shown_of, shown_creation, turn_of, turned, serving, with_start, start, without_process, asks_store, answers, refused_at_once, waits_or_told, creates, checkpoints, effected, process_turn}
+use Rattle.journal.specs.Processes.{AllowsTurn, worker_at, shown_of, shown_creation, turn_of, turned, serving, with_start, start}
+use Rattle.journal.specs.Processes.{without_process, asks_store, answers, refused_at_once, waits_or_told, creates, checkpoints, effected}
+use Rattle.journal.specs.Processes.{process_turn}
 use Rattle.journal.specs.Settling.{first_request, settled_eject, settled, unsynced, written_with, to_settle}
 use Rattle.journal.specs.Crashes.{fallen, down, crashed}
-use Rattle.journal.specs.Stores.{Work, syncs, reads, unkept, without_room, calls, work_of, more_made, doubted, tells_code, request_ended, removed, stored, done, worked, store_turn}
+use Rattle.journal.specs.Stores.{Work, syncs, reads, unkept, without_room, calls, work_of, more_made, doubted, tells_code, request_ended}
+use Rattle.journal.specs.Stores.{removed, stored, done, worked, store_turn}
 use Rattle.journal.specs.Starts.{AllowsActivate, StartsFrom, start_of, misfits_answered, activated, start_settled, activation_turn}
 use Rattle.journal.specs.Boots.{booted_node, boot_turn}
 use Rattle.journal.specs.Step.{AllowsAt, site_turn}
@@ -306,7 +314,8 @@ holds-on_node : {n : ℕ} {D : Uid → List Cap} (f : Node → Node) (s : Site) 
 unfolding on_node
 holds-on_node f s h = h
 
-holds-item : {n : ℕ} {D : Uid → List Cap} {X : Type 0} (s : Site) (o : Option X) (f : X → Site) → ((x : X) → o ≡ Some x → HoldsAt n D (f x)) → HoldsAt n D s → HoldsAt n D (with_item o f s)
+holds-item : {n : ℕ} {D : Uid → List Cap} {X : Type 0} (s : Site) (o : Option X) (f : X → Site)
+    → ((x : X) → o ≡ Some x → HoldsAt n D (f x)) → HoldsAt n D s → HoldsAt n D (with_item o f s)
 holds-item s None f each h = h
 holds-item s (Some x) f each h = each x refl
 
@@ -356,7 +365,8 @@ holds-turned_away v why s h = holds-item s (eject_in s v) _ (λ e is.
 
 holds-deactivated : {n : ℕ} {D : Uid → List Cap} (v : Uid) (s : Site) → HoldsAt n D s → HoldsAt n D (deactivated v s)
 holds-deactivated v s h = holds-item s (eject_in s v) _ (λ e is. holds-item s e.active _ (λ it is_it.
-    holds-on_traffic (λ t. all_replied status.Dropped (running it.crew) (orphaned v t)) (on_eject v (with_active None) (on_node (without_requests v) s))
+    holds-on_traffic (λ t. all_replied status.Dropped (running it.crew) (orphaned v t))
+    (on_eject v (with_active None) (on_node (without_requests v) s))
     (holds-on_eject v (with_active None) (on_node (without_requests v) s) (λ e is x. tt) (holds-on_node (without_requests v) s h))) h) h
 
 holds-gone : {n : ℕ} {D : Uid → List Cap} (v : Uid) (s : Site) → HoldsAt n D s → HoldsAt n D (gone_if_unkept v s)
@@ -367,8 +377,10 @@ holds-asks : {n : ℕ} {D : Uid → List Cap} (v : Uid) (p : ℕ) (c : Change) (
 holds-asks v p c s h = holds-on_node _ (on_eject v (on_active (on_crew (set_waits p outside))) s)
     (holds-on_crew v (set_waits p outside) s h)
 
-holds-checkpoints : {n : ℕ} {D : Uid → List Cap} (v : Uid) (p : ℕ) (bytes : List ℕ) (s : Site) → HoldsAt n D s → HoldsAt n D (checkpoints v p bytes s)
-holds-checkpoints v p bytes s h = holds-cond (nat_le (length bytes) BODY_LIMIT) (asks_store v p (body bytes) s) (tells v p (Code status.TooLarge) s)
+holds-checkpoints : {n : ℕ} {D : Uid → List Cap} (v : Uid) (p : ℕ) (bytes : List ℕ) (s : Site) → HoldsAt n D s
+    → HoldsAt n D (checkpoints v p bytes s)
+holds-checkpoints v p bytes s h = holds-cond (nat_le (length bytes) BODY_LIMIT) (asks_store v p (body bytes) s)
+    (tells v p (Code status.TooLarge) s)
     (holds-asks v p (body bytes) s h) (holds-tells v p (Code status.TooLarge) s tt h)
 
 -- what is born has its own capability alone
@@ -434,7 +446,8 @@ holds-effected reach v p i t vars (effect.Fault cause) s named h = holds-turned_
 holds-effected reach v p i t vars (effect.Create type_name) s named h = holds-creates v p (type_of s.types type_name) (next_uid s) s named h
 holds-effected {D = D} reach v p i t vars (effect.Invoke target operation args) s named h =
     let at_once = refused_at_once (reach target.uid.node) args in
-    holds-on_traffic (λ t. with_call (next_call t) (Process v p) target operation args at_once t) (on_eject v (on_active (waits_or_told p at_once)) s)
+    holds-on_traffic (λ t. with_call (next_call t) (Process v p) target operation args at_once t)
+    (on_eject v (on_active (waits_or_told p at_once)) s)
     (holds-on_active v (waits_or_told p at_once) s (λ it x. has-waiting v (D v) p at_once it x) h)
 holds-effected reach v p i t vars (effect.Lock m) s named h = holds-on_crew v (locked p m) s h
 holds-effected reach v p i t vars (effect.Leave m) s named h = holds-on_crew v (left m) s h
@@ -490,10 +503,12 @@ holds-process_turn {n = n} {D = D} reach v p said s allowed named h = holds-item
 
 -- 5. The other turns
 
-holds-requested : {n : ℕ} {D : Uid → List Cap} (k : ℕ) (refused : Option Status) (s : Site) → HoldsAt n D s → HoldsAt n D (requested k refused s)
+holds-requested : {n : ℕ} {D : Uid → List Cap} (k : ℕ) (refused : Option Status) (s : Site) → HoldsAt n D s
+    → HoldsAt n D (requested k refused s)
 holds-requested k (Some why) s h = holds-on_traffic (λ t. replied why [] k (taken k t)) s h
 holds-requested k None s h = holds-item s (call_at s.traffic k) _ (λ c is.
-    holds-on_eject c.target.uid (λ e. record e { queued = e.queued ++ k ∷ [] }) (on_traffic (λ t. changed_call k (at_place held) (taken k t)) s) (λ e is x. x)
+    holds-on_eject c.target.uid (λ e. record e { queued = e.queued ++ k ∷ [] })
+    (on_traffic (λ t. changed_call k (at_place held) (taken k t)) s) (λ e is x. x)
     (holds-on_traffic (λ t. changed_call k (at_place held) (taken k t)) s h)) h
 
 -- D names what a reply gives to the process that asked, if one did
@@ -538,7 +553,8 @@ holds-settled (Some pick.New) s h = holds-each (settled_eject pick.New) s.node.e
 holds-unsynced : {n : ℕ} {D : Uid → List Cap} (s : Site) → HoldsAt n D s → HoldsAt n D (unsynced s)
 holds-unsynced s h = holds-on_node (λ it. record it { synced = false }) s h
 
-holds-ended : {n : ℕ} {D : Uid → List Cap} (r : StoreRequest) (why : Status) (s : Site) → HoldsAt n D s → HoldsAt n D (request_ended r why s)
+holds-ended : {n : ℕ} {D : Uid → List Cap} (r : StoreRequest) (why : Status) (s : Site) → HoldsAt n D s
+    → HoldsAt n D (request_ended r why s)
 holds-ended {n = n} {D = D} r why s h = go r.process
   where
     go : (p : Option ℕ) → HoldsAt n D (tells_code r.uid p why (on_node (λ it. record it { requests = rest it.requests }) s))
@@ -557,10 +573,12 @@ holds-doubted : {n : ℕ} {D : Uid → List Cap} (r : StoreRequest) (s : Site) �
 holds-doubted r s h = holds-on_eject r.uid (λ e. record e { doubt = Some r.change }) s (λ e is x. x) h
 
 holds-stored : {n : ℕ} {D : Uid → List Cap} (r : StoreRequest) (s : Site) → HoldsAt n D s → HoldsAt n D (stored r s)
-holds-stored r s h = holds-on_node (λ it. record it { ledger = written_with s.layout r.change it.ledger }) (on_eject r.uid (λ e. record e { kept = kept_of r.change; doubt = None }) s)
+holds-stored r s h = holds-on_node (λ it. record it { ledger = written_with s.layout r.change it.ledger })
+    (on_eject r.uid (λ e. record e { kept = kept_of r.change; doubt = None }) s)
     (holds-on_eject r.uid (λ e. record e { kept = kept_of r.change; doubt = None }) s (λ e is x. x) h)
 
-holds-worked : {n : ℕ} {D : Uid → List Cap} (w : Work) (r : StoreRequest) (how : RequestEnd) (p : Option Pick) (s : Site) → HoldsAt n D s → HoldsAt n D (worked w r how p s)
+holds-worked : {n : ℕ} {D : Uid → List Cap} (w : Work) (r : StoreRequest) (how : RequestEnd) (p : Option Pick) (s : Site) → HoldsAt n D s
+    → HoldsAt n D (worked w r how p s)
 holds-worked syncs r end.Part p s h = holds-on_node (λ it. record it { synced = true }) s h
 holds-worked syncs r end.Done p s h = h
 holds-worked syncs r end.Full p s h = h
@@ -573,13 +591,15 @@ holds-worked reads r end.Fault p s h = holds-ended r status.StoreFault (unsynced
 holds-worked reads r end.Stop p s h = holds-crashed s h
 holds-worked unkept r how p s h = holds-done r s h
 holds-worked without_room r how p s h = holds-ended r status.Full s h
-holds-worked calls r end.Part p s h = holds-on_node (λ it. record it { requests = more_made it.requests }) (doubted r s) (holds-doubted r s h)
+holds-worked calls r end.Part p s h = holds-on_node (λ it. record it { requests = more_made it.requests }) (doubted r s)
+    (holds-doubted r s h)
 holds-worked calls r end.Done p s h = holds-done r (stored r s) (holds-stored r s h)
 holds-worked calls r end.Full p s h = h
 holds-worked calls r end.Fault p s h = holds-ended r status.StoreFault (doubted r s) (holds-doubted r s h)
 holds-worked calls r end.Stop p s h = holds-crashed (doubted r s) (holds-doubted r s h)
 
-holds-store_turn : {n : ℕ} {D : Uid → List Cap} (how : RequestEnd) (p : Option Pick) (s : Site) → HoldsAt n D s → HoldsAt n D (store_turn how p s)
+holds-store_turn : {n : ℕ} {D : Uid → List Cap} (how : RequestEnd) (p : Option Pick) (s : Site) → HoldsAt n D s
+    → HoldsAt n D (store_turn how p s)
 holds-store_turn how p s h = holds-item s (first_request s.node) _ (λ r is. holds-worked (work_of s r) r how p s h) h
 
 -- 6. Activations: what is kept after the pick
@@ -590,10 +610,12 @@ same-settled v None s = refl
 same-settled v (Some p) s = refl
 
 -- an activation starts from what is kept after its pick
-from-kept : (v : Uid) (how : StartEnd) (p : Option Pick) (s : Site) → StartsFrom s v (to_settle s) how p → with_item (eject_in (start_settled p s) v) (λ e. e.kept) None ≡ kept_settled v p s
+from-kept : (v : Uid) (how : StartEnd) (p : Option Pick) (s : Site) → StartsFrom s v (to_settle s) how p
+    → with_item (eject_in (start_settled p s) v) (λ e. e.kept) None ≡ kept_settled v p s
 from-kept v how p s starts = go (to_settle s) p starts
   where
-    go : (b : Bool) (p : Option Pick) → StartsFrom s v b how p → with_item (eject_in (cond b (settled p (unsynced s)) s) v) (λ e. e.kept) None ≡ kept_settled v p s
+    go : (b : Bool) (p : Option Pick) → StartsFrom s v b how p
+        → with_item (eject_in (cond b (settled p (unsynced s)) s) v) (λ e. e.kept) None ≡ kept_settled v p s
     go true p f = ap (λ o. with_item o (λ (e : Eject). e.kept) None) (same-settled v p s)
     go false None f = refl
     go false (Some k) f = absurd (let bad : Some k ≡ None = f.0 in cc bad)
@@ -608,7 +630,8 @@ Brings s (event.Reply k a b name why values) D =
 Brings s (event.Process v p said) D = ShownNamed D v said
 Brings s _ D = Unit {0}
 
-starts-at : (s : Site) (v : Uid) (how : StartEnd) (p : Option Pick) → IsSomeAnd (eject_in s v) (λ e. AllowsActivate s v how p e) → StartsFrom s v (to_settle s) how p
+starts-at : (s : Site) (v : Uid) (how : StartEnd) (p : Option Pick) → IsSomeAnd (eject_in s v) (λ e. AllowsActivate s v how p e)
+    → StartsFrom s v (to_settle s) how p
 starts-at s v how p allowed = go (eject_in s v) allowed
   where
     go : (o : Option Eject) → IsSomeAnd o (λ e. AllowsActivate s v how p e) → StartsFrom s v (to_settle s) how p
@@ -634,8 +657,10 @@ holds-activation v start_end.Ok p s allowed brings h = holds-awake v (start_sett
     (λ bytes is. brings.1 bytes (sym (from-kept v start_end.Ok p s (starts-at s v start_end.Ok p allowed)) ∙ is))
     (holds-start_settled p s h)
 holds-activation v start_end.Gone p s allowed brings h = holds-turned_away v status.Gone (start_settled p s) (holds-start_settled p s h)
-holds-activation v start_end.Fault p s allowed brings h = holds-turned_away v status.StoreFault (start_settled p s) (holds-start_settled p s h)
-holds-activation v start_end.Damaged p s allowed brings h = holds-turned_away v status.Damaged (start_settled p s) (holds-start_settled p s h)
+holds-activation v start_end.Fault p s allowed brings h = holds-turned_away v status.StoreFault (start_settled p s)
+    (holds-start_settled p s h)
+holds-activation v start_end.Damaged p s allowed brings h = holds-turned_away v status.Damaged (start_settled p s)
+    (holds-start_settled p s h)
 holds-activation v start_end.Stop p s allowed brings h = holds-crashed (start_settled p s) (holds-start_settled p s h)
 
 booted-same : (s : Site) (e : ℕ) (how : BootEnd) (began : Bool) (it : Node) → (booted_node s e how began it).ejects ≡ it.ejects
@@ -646,12 +671,15 @@ booted-same s e (boot_end.Damaged place) began it = refl
 booted-same s e boot_end.EpochsSpent began it = refl
 booted-same s e boot_end.Full began it = refl
 
-holds-boot : {n : ℕ} {D : Uid → List Cap} (e : ℕ) (how : BootEnd) (p : Option Pick) (began : Bool) (s : Site) → HoldsAt n D s → HoldsAt n D (boot_turn e how p began s)
-holds-boot {n = n} {D = D} e how p began s h = holds-on_node (booted_node s e how began) (settled p s) (subst (Holds n D) (sym (booted-same s e how began (settled p s).node)) (holds-settled p s h))
+holds-boot : {n : ℕ} {D : Uid → List Cap} (e : ℕ) (how : BootEnd) (p : Option Pick) (began : Bool) (s : Site) → HoldsAt n D s
+    → HoldsAt n D (boot_turn e how p began s)
+holds-boot {n = n} {D = D} e how p began s h = holds-on_node (booted_node s e how began) (settled p s)
+    (subst (Holds n D) (sym (booted-same s e how began (settled p s).node)) (holds-settled p s h))
 
 -- 7. Every turn
 
-holds-site_turn : {n : ℕ} {D : Uid → List Cap} (reach : ℕ → Bool) (e : Event) (s : Site) → Brings s e D → AllowsAt s e → HoldsAt n D s → HoldsAt n D (site_turn reach e s)
+holds-site_turn : {n : ℕ} {D : Uid → List Cap} (reach : ℕ → Bool) (e : Event) (s : Site) → Brings s e D → AllowsAt s e → HoldsAt n D s
+    → HoldsAt n D (site_turn reach e s)
 holds-site_turn reach (event.Request k a b refused) s brings allowed h = holds-requested k refused s h
 holds-site_turn reach (event.Reply k a b name why values) s brings allowed h = holds-heard k why values s brings h
 holds-site_turn reach (event.Activate v how p) s brings allowed h = holds-activation v how p s allowed brings h

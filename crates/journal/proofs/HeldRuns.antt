@@ -1,5 +1,6 @@
 -- In every world of a history, each call that is held at an Eject is one that it runs or has queued.
-use Rattle.std.proofs.Common.{◌≡◌, ◌==◌, ◌+◌, ◌≤◌, ℕ, Bool, true, false, cond, ◌||◌, List, [], ◌∷◌, ◌++◌, Option, None, Some, Ok, is_some, refl, sym, ◌∙◌, ap, subst, arith, inl, inr}
+use Rattle.std.proofs.Common.{◌≡◌, ◌==◌, ◌+◌, ◌≤◌, ℕ, Bool, true, false, cond, ◌||◌, List, [], ◌∷◌, ◌++◌, Option, None, Some, Ok}
+use Rattle.std.proofs.Common.{is_some, refl, sym, ◌∙◌, ap, subst, arith, inl, inr}
 use Rattle.std.specs.Prelude.{IsSomeAnd, ◌⊎◌}
 use Rattle.std.proofs.lemmas.Cmp.{tied_itself}
 use Rattle.std.specs.Option.{option_map}
@@ -14,7 +15,8 @@ use Rattle.eden_model.specs.Map.{with_item, value_at, uid_cmp}
 use Rattle.eden_model.proofs.Numbers.{same-true, same-self}
 use Rattle.eden_model.specs.Lines.{has}
 use Rattle.eden_model.specs.declared.Asker.TheVariants.{Shell}
-use Rattle.eden_model.specs.Traffic.{Traffic, Call, asked, held, call_at, changed_call, at_place, taken, asking_station, target_station, goes_by, goes, with_call, processes_of, broken_by_node, broken_by_link, without_link}
+use Rattle.eden_model.specs.Traffic.{Traffic, Call, asked, held, call_at, changed_call, at_place, taken, asking_station, target_station}
+use Rattle.eden_model.specs.Traffic.{goes_by, goes, with_call, processes_of, broken_by_node, broken_by_link, without_link}
 use Rattle.epl_syntax.specs.declared.effect.Answer.TheVariants.{Reply as Told}
 use Rattle.epl_syntax.specs.Edentype.{Edentype}
 use Rattle.epl_syntax.specs.Rules.OfTypes.{KeepRules, HaveMonitors}
@@ -40,7 +42,8 @@ use Rattle.journal.specs.Crashes.{tells_each, linked}
 use Rattle.journal.specs.References.{cap_at}
 use Rattle.journal.specs.Starts.{AllowsActivate}
 use Rattle.journal.specs.Commands.{AllowsCommand, asked as asks, asked_by, ready_call, born_as, made, type_name_of, held_by, restricted_by}
-use Rattle.journal.specs.Step.{AllowsAt, AllowsInTurn, AllowsEvent, Allows, next, after_turn, after_command, happened, at_site, stopped_at, site_turn, clocked, counted, key_of}
+use Rattle.journal.specs.Step.{AllowsAt, AllowsInTurn, AllowsEvent, Allows, next, after_turn, after_command, happened, at_site}
+use Rattle.journal.specs.Step.{stopped_at, site_turn, clocked, counted, key_of}
 use Rattle.journal.specs.Run.{AllowsLookUp, looked_up, beginning}
 use Rattle.journal.specs.Standing.{DiskRun}
 use Rattle.journal.specs.LegalRun.{AreHandedIn, opening_world, last_world}
@@ -57,7 +60,8 @@ use Rattle.journal.proofs.Fits.{times, times_in}
 use Rattle.journal.proofs.Times.{times-append, call-changed}
 use Rattle.journal.proofs.SiteWorlds.{at-none}
 use Rattle.journal.proofs.SiteRuns.{KnownWorld, SiteWorld, new-by, both-true, on-call, effects-fit, site-next, site-looked_up, site-opening}
-use Rattle.journal.proofs.HeldWork.{Lets, lets-without_link, lets-call, lets-received, Part, part-born, part-process_turn, part-refused, part-heard, part-start, part-crashed, part-store_turn, part-activation, part-boot, part-told}
+use Rattle.journal.proofs.HeldWork.{Lets, lets-without_link, lets-call, lets-received, Part, part-born, part-process_turn, part-refused}
+use Rattle.journal.proofs.HeldWork.{part-heard, part-start, part-crashed, part-store_turn, part-activation, part-boot, part-told}
 
 -- 1. A site, and what an event leaves elsewhere
 
@@ -426,7 +430,10 @@ held-calls-are-work layout script disks history lays fits rules monitors begins 
     here n = is_some (node_at w n)
 
     opening : HeldWorld here w
-    opening = record { site = site-opening layout script disks lays fits rules monitors; have = λ n it is. record { at = λ u k at on. absurd on } }
+    opening = record {
+      site = site-opening layout script disks lays fits rules monitors;
+      have = λ n it is. record { at = λ u k at on. absurd on };
+    }
 
     last : HeldWorld here (last_world w script history)
     last = end-keeps Any (HeldWorld here) (record {

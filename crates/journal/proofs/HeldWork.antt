@@ -1,5 +1,6 @@
 -- Each call that is held at an Eject is one that it runs or has queued: what the parts of a turn keep of that.
-use Rattle.std.proofs.Common.{◌≡◌, ◌==◌, ◌+◌, ◌≤◌, ℕ, nat_le, Bool, true, false, cond, not, ◌&&◌, ◌||◌, T, List, [], ◌∷◌, ◌++◌, Option, None, Some, is_some, Result, Ok, Err, length, refl, sym, ◌∙◌, ap, subst, arith}
+use Rattle.std.proofs.Common.{◌≡◌, ◌==◌, ◌+◌, ◌≤◌, ℕ, nat_le, Bool, true, false, cond, not, ◌&&◌, ◌||◌, T, List, [], ◌∷◌, ◌++◌, Option}
+use Rattle.std.proofs.Common.{None, Some, is_some, Result, Ok, Err, length, refl, sym, ◌∙◌, ap, subst, arith}
 use Rattle.std.specs.Prelude.{IsSomeAnd, IfSome}
 use Rattle.std.proofs.lemmas.Bool.{eq-eqb, eqb-true}
 use Rattle.std.proofs.lemmas.Cmp.{tied_itself}
@@ -23,10 +24,13 @@ use Rattle.eden_model.specs.Map.{with_item, rest, value_at, put_at, where_key, e
 use Rattle.eden_model.proofs.Laws.{eq-same}
 use Rattle.eden_model.proofs.Numbers.{same-true, same-self}
 use Rattle.eden_model.proofs.FreeNumbers.{free-none, least_free-free}
-use Rattle.eden_model.specs.Crew.{Crew, Process as Worker, Waiting, Invocation, nothing, outside, set_waits, locked, left, waited, signalled, running, call_of, leave_held, ended, least_free, started}
+use Rattle.eden_model.specs.Crew.{Crew, Process as Worker, Waiting, Invocation, nothing, outside, set_waits, locked, left, waited}
+use Rattle.eden_model.specs.Crew.{signalled, running, call_of, leave_held, ended, least_free, started}
 use Rattle.eden_model.specs.declared.Asker.{Asker}
 use Rattle.eden_model.specs.declared.Asker.TheVariants.{Shell, Eject as Process}
-use Rattle.eden_model.specs.Traffic.{Place, asked, held, answered, done as over, Traffic, Call, call_at, asking_station, target_station, next_call, changed_call, at_place, closed, sent, taken, replied, all_replied, new_call, with_call, asks, orphaned, in_transit, touches, crashed_call, on_link, cut_call, without_node, without_link}
+use Rattle.eden_model.specs.Traffic.{Place, asked, held, answered, done as over, Traffic, Call, call_at, asking_station, target_station}
+use Rattle.eden_model.specs.Traffic.{next_call, changed_call, at_place, closed, sent, taken, replied, all_replied, new_call, with_call}
+use Rattle.eden_model.specs.Traffic.{asks, orphaned, in_transit, touches, crashed_call, on_link, cut_call, without_node, without_link}
 use Rattle.epl_syntax.specs.declared.effect.Answer.{Answer}
 use Rattle.epl_syntax.specs.declared.effect.Answer.TheVariants.{Code, Reply as Told, Created as Made}
 use Rattle.epl_syntax.specs.declared.effect.Effect.{Effect}
@@ -42,12 +46,15 @@ use Rattle.journal.specs.declared.event.StartEnd.TheVariants as start_end
 use Rattle.journal.specs.declared.event.RequestEnd.{RequestEnd}
 use Rattle.journal.specs.declared.event.RequestEnd.TheVariants as end
 use Rattle.journal.specs.World.{Active, Eject, StoreRequest, Node, Site, eject_in, on_eject, on_node, on_traffic}
-use Rattle.journal.specs.Ejects.{with_active, with_queued, on_active, on_crew, is_there, told, tells, without_requests, deactivated, turned_away, gone_if_unkept, fresh, next_uid, newborn, born}
+use Rattle.journal.specs.Ejects.{with_active, with_queued, on_active, on_crew, is_there, told, tells, without_requests, deactivated}
+use Rattle.journal.specs.Ejects.{turned_away, gone_if_unkept, fresh, next_uid, newborn, born}
 use Rattle.journal.specs.Deliveries.{misfit, requested, tells_asker, received, heard}
-use Rattle.journal.specs.Processes.{AllowsStart, invocation, turn_of, turned, serving, with_start, start, without_process, asks_store, answers, refused_at_once, waits_or_told, creates, checkpoints, effected, process_turn}
+use Rattle.journal.specs.Processes.{AllowsStart, invocation, turn_of, turned, serving, with_start, start, without_process, asks_store}
+use Rattle.journal.specs.Processes.{answers, refused_at_once, waits_or_told, creates, checkpoints, effected, process_turn}
 use Rattle.journal.specs.Settling.{first_request, settled_eject, settled_node, settled, unsynced, written_with, to_settle}
 use Rattle.journal.specs.Crashes.{crashed}
-use Rattle.journal.specs.Stores.{Work, syncs, reads, unkept, without_room, calls, work_of, more_made, doubted, tells_code, request_ended, removed, stored, done, worked, store_turn}
+use Rattle.journal.specs.Stores.{Work, syncs, reads, unkept, without_room, calls, work_of, more_made, doubted, tells_code, request_ended}
+use Rattle.journal.specs.Stores.{removed, stored, done, worked, store_turn}
 use Rattle.journal.specs.Starts.{start_of, misfits_answered, fits_at, awake_as, activated, start_settled, activation_turn}
 use Rattle.journal.specs.Boots.{booted_node, boot_turn}
 use Rattle.journal.specs.Step.{IsActiveAnd}

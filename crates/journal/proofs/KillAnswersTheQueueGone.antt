@@ -72,6 +72,7 @@ pub follows : FollowsOverBlank 1 commands history
 unfolding commands history at_node on_eject on_node on_traffic least_number
 follows = follows-over-blank 1 commands history refl
 
-plain_text : text_of mode.Plain history ≡ codes "node 1 up epoch 1\nc is 1.1.1\na ok (0)\nquiet\ns refused 9 dropped\nb refused 4 gone\nd refused 4 gone\ne refused 4 gone\nquiet\n"
+plain_text : text_of mode.Plain history ≡ codes
+    "node 1 up epoch 1\nc is 1.1.1\na ok (0)\nquiet\ns refused 9 dropped\nb refused 4 gone\nd refused 4 gone\ne refused 4 gone\nquiet\n"
 unfolding history entry_text trace_text shown_text
 plain_text = rw (d0, d1, d4, d9) refl

@@ -12,9 +12,12 @@ use Rattle.journal.proofs.StartsWholeLaw.{starts-are-whole}
 use Rattle.journal.proofs.NoUidTwice.{no-uid-twice}
 use Rattle.journal.proofs.GrantedRuns.{only-granted}
 
-is-safe : (layout : Layout) (script : Script) (disks : List DiskRun) (history : List Entry) (added : Added) → IsLayout layout → AreHandedIn layout disks → WriteNone script.commands → Begins layout script disks history
-    → EachDiskStands layout (last_world (opening_world layout script disks) script history) (run_of (opening_world layout script disks) script history) added disks
-    → IsSafeRun layout (opening_world layout script disks) (last_world (opening_world layout script disks) script history) (run_of (opening_world layout script disks) script history) added (numbered disks)
+is-safe : (layout : Layout) (script : Script) (disks : List DiskRun) (history : List Entry) (added : Added) → IsLayout layout
+    → AreHandedIn layout disks → WriteNone script.commands → Begins layout script disks history
+    → EachDiskStands layout (last_world (opening_world layout script disks) script history)
+    (run_of (opening_world layout script disks) script history) added disks
+    → IsSafeRun layout (opening_world layout script disks) (last_world (opening_world layout script disks) script history)
+    (run_of (opening_world layout script disks) script history) added (numbered disks)
 is-safe layout script disks history added lays fits none begins stands = record {
   starts_are_whole = starts-are-whole layout script disks history begins;
   none_rolled_back = each-none-rolled-back (opening_world layout script disks) script.nodes script.commands history begins;
@@ -35,6 +38,7 @@ runs-are-legal layout script disks history lays fits none follows stands ends fa
 pub runs-are-legal-so-far : RunsAreLegalSoFar
 runs-are-legal-so-far layout script disks history lays fits none begins stands faults = record {
   begins = begins;
-  safe = is-safe layout script disks history (unfinished (last_world (opening_world layout script disks) script history)) lays fits none begins stands;
+  safe = is-safe layout script disks history
+      (unfinished (last_world (opening_world layout script disks) script history)) lays fits none begins stands;
   faults = faults;
 }

@@ -1,5 +1,6 @@
 -- The processes of an active part stand in ascending order of their numbers, and each has its task; every change keeps that.
-use Rattle.std.proofs.Common.{◌≡◌, ◌==◌, ◌-◌, ◌+◌, ◌<◌, arith, ℕ, zero, suc, Bool, true, false, cond, not, ◌&&◌, T, List, [], ◌∷◌, ◌++◌, map, length, Option, None, Some, is_some, slice_get, refl, sym, ◌∙◌, ap, subst}
+use Rattle.std.proofs.Common.{◌≡◌, ◌==◌, ◌-◌, ◌+◌, ◌<◌, arith, ℕ, zero, suc, Bool, true, false, cond, not, ◌&&◌, T, List, [], ◌∷◌, ◌++◌}
+use Rattle.std.proofs.Common.{map, length, Option, None, Some, is_some, slice_get, refl, sym, ◌∙◌, ap, subst}
 use Rattle.std.specs.Option.{option_map}
 use Rattle.std.specs.Ordering.{nat_cmp, eq_by_cmp, is_lt}
 use Rattle.std.specs.declared.cmp.Ordering.TheVariants.{Less}
@@ -8,7 +9,9 @@ use Rattle.std.specs.FinMap.{nat_cmp-IsAntisymmetric}
 use Rattle.std.specs.FinMap.Entries.{is_sorted, below_all, is_sorted-put, is_sorted-where_key, find-put, find-where_key}
 use Rattle.eden_value.specs.Datum.{Datum}
 use Rattle.eden_model.specs.Map.{with_item, first, value_at, changed_at, where_key}
-use Rattle.eden_model.specs.Crew.{Waiting, nothing, outside, Process, Monitor, Crew, with_waits, set_waits, set_waits_of, set_monitor, set_condition, match_holder, locked_by, locked, left, waited, queued_at, signalled, least_free, is_held_by, leave_held, declared_from, entry, condition}
+use Rattle.eden_model.specs.Crew.{Waiting, nothing, outside, Process, Monitor, Crew, with_waits, set_waits, set_waits_of, set_monitor}
+use Rattle.eden_model.specs.Crew.{set_condition, match_holder, locked_by, locked, left, waited, queued_at, signalled, least_free}
+use Rattle.eden_model.specs.Crew.{is_held_by, leave_held, declared_from, entry, condition}
 use Rattle.eden_model.specs.Traffic.{Traffic, Call}
 use Rattle.eden_model.proofs.Laws.{value-changed}
 use Rattle.epl_syntax.specs.declared.effect.Answer.{Answer}
@@ -45,7 +48,8 @@ pub sorted-waits : (p : ℕ) (w : Waiting) (es : List (ℕ × Process)) → is_s
 sorted-waits p w [] = refl
 sorted-waits p w (e ∷ es) = λ i. below-waits e.0 p w es i && sorted-waits p w es i
 
-there-waits : (q p : ℕ) (w : Waiting) (es : List (ℕ × Process)) → is_some (value_at nat_cmp q (map (with_waits p w) es)) ≡ is_some (value_at nat_cmp q es)
+there-waits : (q p : ℕ) (w : Waiting) (es : List (ℕ × Process))
+    → is_some (value_at nat_cmp q (map (with_waits p w) es)) ≡ is_some (value_at nat_cmp q es)
 there-waits q p w [] = refl
 there-waits q p w (e ∷ es) = go (there-waits q p w es) (eq_by_cmp nat_cmp q e.0) refl
   where
@@ -61,7 +65,8 @@ same-waits_of : (o : Option ℕ) (w : Waiting) (crew : Crew) → SameNumbers cre
 same-waits_of None w crew = same-crew crew
 same-waits_of (Some p) w crew = same-waits p w crew
 
-same-item : {X : Type 0} (o : Option X) (f : X → Crew) (crew : Crew) → ((x : X) → SameNumbers crew (f x)) → SameNumbers crew (with_item o f crew)
+same-item : {X : Type 0} (o : Option X) (f : X → Crew) (crew : Crew) → ((x : X) → SameNumbers crew (f x))
+    → SameNumbers crew (with_item o f crew)
 same-item None f crew each = same-crew crew
 same-item (Some x) f crew each = each x
 
@@ -71,48 +76,63 @@ same-monitor m it crew = record { order = refl; there = λ p. refl }
 same-locked_by : (p m : ℕ) (it : Monitor) (crew : Crew) → SameNumbers crew (locked_by p m it crew)
 same-locked_by p m it crew = go it.holder
   where
-    go : (o : Option ℕ) → SameNumbers crew (match_holder o (set_monitor m (record it { holder = Some p }) crew) (set_waits p (entry m) (set_monitor m (record it { entering = it.entering ++ p ∷ [] }) crew)))
+    go : (o : Option ℕ) → SameNumbers crew (match_holder o (set_monitor m (record it { holder = Some p }) crew)
+        (set_waits p (entry m) (set_monitor m (record it { entering = it.entering ++ p ∷ [] }) crew)))
     go None = same-monitor m _ crew
-    go (Some h) = both-same crew (set_monitor m (record it { entering = it.entering ++ p ∷ [] }) crew) _ (same-monitor m _ crew) (same-waits p (entry m) _)
+    go (Some h) = both-same crew (set_monitor m (record it { entering = it.entering ++ p ∷ [] }) crew) _ (same-monitor m _ crew)
+        (same-waits p (entry m) _)
 
 pub same-locked : (p m : ℕ) (crew : Crew) → SameNumbers crew (locked p m crew)
 same-locked p m crew = same-item (slice_get crew.monitors (m - 1)) _ crew (λ it. same-locked_by p m it crew)
 
 pub same-left : (m : ℕ) (crew : Crew) → SameNumbers crew (left m crew)
-same-left m crew = same-item (slice_get crew.monitors (m - 1)) _ crew (λ it. both-same crew (set_monitor m _ crew) _ (same-monitor m _ crew) (same-waits_of (first it.entering) nothing (set_monitor m _ crew)))
+same-left m crew = same-item (slice_get crew.monitors (m - 1)) _ crew
+    (λ it. both-same crew (set_monitor m _ crew) _ (same-monitor m _ crew)
+    (same-waits_of (first it.entering) nothing (set_monitor m _ crew)))
 
 pub same-waited : (p c : ℕ) (crew : Crew) → SameNumbers crew (waited p c crew)
 same-waited p c crew = same-item (slice_get crew.conditions c) _ crew (λ it.
     both-same crew (left it.monitor crew) _ (same-left it.monitor crew)
-    (both-same (left it.monitor crew) (set_condition c (record it { waiters = it.waiters ++ p ∷ [] }) (left it.monitor crew)) _ (record { order = refl; there = λ q. refl }) (same-waits p (condition c) _)))
+    (both-same (left it.monitor crew) (set_condition c (record it { waiters = it.waiters ++ p ∷ [] }) (left it.monitor crew)) _
+    (record { order = refl; there = λ q. refl }) (same-waits p (condition c) _)))
 
 same-queued : (o : Option ℕ) (m : ℕ) (crew : Crew) → SameNumbers crew (queued_at o m crew)
 same-queued None m crew = same-crew crew
-same-queued (Some p) m crew = same-item (slice_get crew.monitors (m - 1)) _ crew (λ it. both-same crew (set_monitor m _ crew) _ (same-monitor m _ crew) (same-waits p (entry m) (set_monitor m _ crew)))
+same-queued (Some p) m crew = same-item (slice_get crew.monitors (m - 1)) _ crew
+    (λ it. both-same crew (set_monitor m _ crew) _ (same-monitor m _ crew) (same-waits p (entry m) (set_monitor m _ crew)))
 
 pub same-signalled : (c : ℕ) (crew : Crew) → SameNumbers crew (signalled c crew)
 same-signalled c crew = same-item (slice_get crew.conditions c) _ crew (λ it.
-    both-same crew (set_condition c _ crew) _ (record { order = refl; there = λ q. refl }) (same-queued (first it.waiters) it.monitor (set_condition c _ crew)))
+    both-same crew (set_condition c _ crew) _ (record { order = refl; there = λ q. refl })
+    (same-queued (first it.waiters) it.monitor (set_condition c _ crew)))
 
 same-held : (p n : ℕ) (crew : Crew) → SameNumbers crew (leave_held p n crew)
 same-held p zero crew = same-crew crew
 same-held p (suc n) crew = go (same-held p n crew) (slice_get crew.monitors n)
   where
-    one : SameNumbers crew (leave_held p n crew) → (b : Bool) → SameNumbers crew (cond b (left (n + 1) (leave_held p n crew)) (leave_held p n crew))
+    one : SameNumbers crew (leave_held p n crew) → (b : Bool)
+        → SameNumbers crew (cond b (left (n + 1) (leave_held p n crew)) (leave_held p n crew))
     one x true = both-same crew (leave_held p n crew) _ x (same-left (n + 1) (leave_held p n crew))
     one x false = x
 
-    go : SameNumbers crew (leave_held p n crew) → (o : Option Monitor) → SameNumbers crew (with_item o (λ it. cond (is_held_by p it.holder) (left (n + 1) (leave_held p n crew)) (leave_held p n crew)) (leave_held p n crew))
+    go : SameNumbers crew (leave_held p n crew) → (o : Option Monitor)
+        → SameNumbers crew (with_item o (λ it. cond (is_held_by p it.holder) (left (n + 1) (leave_held p n crew)) (leave_held p n crew))
+        (leave_held p n crew))
     go x None = x
     go x (Some it) = one x (is_held_by p it.holder)
 
 -- 2. Changes of an active part
 
 pub manned-crew : (f : Crew → Crew) → ((crew : Crew) → SameNumbers crew (f crew)) → (it : Active) → IsManned it → IsManned (on_crew f it)
-manned-crew f same it m = record { numbered = subst T (sym (same it.crew).order) m.numbered; tasked = λ p is. m.tasked p (sym ((same it.crew).there p) ∙ is) }
+manned-crew f same it m = record {
+  numbered = subst T (sym (same it.crew).order) m.numbered;
+  tasked = λ p is. m.tasked p (sym ((same it.crew).there p) ∙ is);
+}
 
-there-task : (q p : ℕ) (f : Task → Task) (ts : List (ℕ × Task)) → is_some (value_at nat_cmp q (changed_at nat_cmp p f ts)) ≡ is_some (value_at nat_cmp q ts)
-there-task q p f ts = ap is_some (value-changed nat_cmp nat_cmp_total nat_cmp-IsAntisymmetric q p f ts) ∙ some (eq_by_cmp nat_cmp q p) (value_at nat_cmp q ts)
+there-task : (q p : ℕ) (f : Task → Task) (ts : List (ℕ × Task))
+    → is_some (value_at nat_cmp q (changed_at nat_cmp p f ts)) ≡ is_some (value_at nat_cmp q ts)
+there-task q p f ts = ap is_some (value-changed nat_cmp nat_cmp_total nat_cmp-IsAntisymmetric q p f ts) ∙ some (eq_by_cmp nat_cmp q p)
+    (value_at nat_cmp q ts)
   where
     some : (b : Bool) (o : Option Task) → is_some (cond b (option_map f o) o) ≡ is_some o
     some true None = refl
@@ -133,7 +153,8 @@ manned-waits_or_told p None it m = manned-crew (set_waits p outside) (same-waits
 manned-waits_or_told p (Some why) it m = manned-told p _ it m
 
 -- an invocation that starts has the least free number
-pub manned-start : (traffic : Traffic) (k p : ℕ) (c : Call) (it : Active) → p ≡ least_free it.crew → IsManned it → IsManned (with_start traffic k p c it)
+pub manned-start : (traffic : Traffic) (k p : ℕ) (c : Call) (it : Active) → p ≡ least_free it.crew → IsManned it
+    → IsManned (with_start traffic k p c it)
 manned-start traffic k p c it is m = record {
   numbered = is_sorted-put nat_cmp nat_cmp_total (least_free it.crew) one it.crew.processes m.numbered;
   tasked = λ q here. ap is_some (find-put nat_cmp nat_cmp_total q p task it.tasks)
@@ -147,12 +168,15 @@ manned-start traffic k p c it is m = record {
     task : Task
     task = record { rest = begin it.kind c.operation c.args; answer = Go }
 
-    go : (q : ℕ) (b : Bool) → is_some (cond b (Some one) (value_at nat_cmp q it.crew.processes)) ≡ true → is_some (cond b (Some task) (value_at nat_cmp q it.tasks)) ≡ true
+    go : (q : ℕ) (b : Bool) → is_some (cond b (Some one) (value_at nat_cmp q it.crew.processes)) ≡ true
+        → is_some (cond b (Some task) (value_at nat_cmp q it.tasks)) ≡ true
     go q true h = refl
     go q false h = m.tasked q h
 
-pub other-key : {X : Type 0} (p q : ℕ) (es : List (ℕ × X)) → value_at nat_cmp q (where_key nat_cmp (λ k. not (k == p)) es) ≡ cond (not (q == p)) (value_at nat_cmp q es) None
-other-key p q es = find-where_key nat_cmp (λ k. not (k == p)) q (λ x same. ap (λ k. not (k == p)) (sym (nat_cmp-IsAntisymmetric q x same))) es
+pub other-key : {X : Type 0} (p q : ℕ) (es : List (ℕ × X))
+    → value_at nat_cmp q (where_key nat_cmp (λ k. not (k == p)) es) ≡ cond (not (q == p)) (value_at nat_cmp q es) None
+other-key p q es = find-where_key nat_cmp (λ k. not (k == p)) q
+    (λ x same. ap (λ k. not (k == p)) (sym (nat_cmp-IsAntisymmetric q x same))) es
 
 -- a process that ends goes with its task
 pub manned-without : (p : ℕ) (it : Active) → IsManned it → IsManned (without_process p it)
@@ -167,7 +191,8 @@ manned-without p it m = record {
     same : SameNumbers it.crew crew
     same = same-held p (length it.crew.monitors) it.crew
 
-    go : (q : ℕ) (b : Bool) → is_some (cond b (value_at nat_cmp q crew.processes) None) ≡ true → is_some (cond b (value_at nat_cmp q it.tasks) None) ≡ true
+    go : (q : ℕ) (b : Bool) → is_some (cond b (value_at nat_cmp q crew.processes) None) ≡ true
+        → is_some (cond b (value_at nat_cmp q it.tasks) None) ≡ true
     go q true h = m.tasked q (sym (same.there q) ∙ h)
     go q false h = absurd (cc h)
 
@@ -179,19 +204,25 @@ both false b x y = absurd x
 
 below-declared : (k n more : ℕ) → k < n → T (below_all nat_cmp k (declared_from n more))
 below-declared k n zero lt = tt
-below-declared k n (suc more) lt = both (is_lt (nat_cmp k n)) (below_all nat_cmp k (declared_from (n + 1) more)) (subst (λ o. T (is_lt o)) (nat_cmp_is k n Less lt) tt) (below-declared k (n + 1) more (omega (arith, lt)))
+below-declared k n (suc more) lt = both (is_lt (nat_cmp k n)) (below_all nat_cmp k (declared_from (n + 1) more))
+    (subst (λ o. T (is_lt o)) (nat_cmp_is k n Less lt) tt) (below-declared k (n + 1) more (omega (arith, lt)))
 
 sorted-declared : (n more : ℕ) → T (is_sorted nat_cmp (declared_from n more))
 sorted-declared n zero = tt
-sorted-declared n (suc more) = both (below_all nat_cmp n (declared_from (n + 1) more)) (is_sorted nat_cmp (declared_from (n + 1) more)) (below-declared n (n + 1) more (omega arith)) (sorted-declared (n + 1) more)
+sorted-declared n (suc more) = both (below_all nat_cmp n (declared_from (n + 1) more)) (is_sorted nat_cmp (declared_from (n + 1) more))
+    (below-declared n (n + 1) more (omega arith)) (sorted-declared (n + 1) more)
 
-tasked-declared : (k : ℕ) (ps : List Body) (p : ℕ) → is_some (value_at nat_cmp p (declared_from k (length ps))) ≡ true → is_some (value_at nat_cmp p (tasks_from k (map (λ q. of_declared (process_left q)) ps))) ≡ true
+tasked-declared : (k : ℕ) (ps : List Body) (p : ℕ) → is_some (value_at nat_cmp p (declared_from k (length ps))) ≡ true
+    → is_some (value_at nat_cmp p (tasks_from k (map (λ q. of_declared (process_left q)) ps))) ≡ true
 tasked-declared k [] p is = is
 tasked-declared k (b ∷ ps) p is = go (eq_by_cmp nat_cmp p k) is (tasked-declared (k + 1) ps p)
   where
-    go : (same : Bool) → is_some (cond same (Some (record { serves = None; waits = nothing })) (value_at nat_cmp p (declared_from (k + 1) (length ps)))) ≡ true
-        → (is_some (value_at nat_cmp p (declared_from (k + 1) (length ps))) ≡ true → is_some (value_at nat_cmp p (tasks_from (k + 1) (map (λ q. of_declared (process_left q)) ps))) ≡ true)
-        → is_some (cond same (Some (record { rest = of_declared (process_left b); answer = Go })) (value_at nat_cmp p (tasks_from (k + 1) (map (λ q. of_declared (process_left q)) ps)))) ≡ true
+    go : (same : Bool) → is_some (cond same (Some (record { serves = None; waits = nothing }))
+        (value_at nat_cmp p (declared_from (k + 1) (length ps)))) ≡ true
+        → (is_some (value_at nat_cmp p (declared_from (k + 1) (length ps))) ≡ true
+        → is_some (value_at nat_cmp p (tasks_from (k + 1) (map (λ q. of_declared (process_left q)) ps))) ≡ true)
+        → is_some (cond same (Some (record { rest = of_declared (process_left b); answer = Go }))
+        (value_at nat_cmp p (tasks_from (k + 1) (map (λ q. of_declared (process_left q)) ps)))) ≡ true
     go true is more = refl
     go false is more = more is
 
@@ -204,4 +235,7 @@ manned-fresh (native code.Skip) vars = record { numbered = tt; tasked = λ p is.
 manned-fresh (native code.Only) vars = record { numbered = tt; tasked = λ p is. absurd (cc is) }
 manned-fresh (native code.Number) vars = record { numbered = tt; tasked = λ p is. absurd (cc is) }
 manned-fresh (native code.Sink) vars = record { numbered = tt; tasked = λ p is. absurd (cc is) }
-manned-fresh (declared_type t) vars = record { numbered = sorted-declared 1 (length t.processes); tasked = λ p is. tasked-declared 1 t.processes p is }
+manned-fresh (declared_type t) vars = record {
+  numbered = sorted-declared 1 (length t.processes);
+  tasked = λ p is. tasked-declared 1 t.processes p is;
+}

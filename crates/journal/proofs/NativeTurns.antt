@@ -1,5 +1,6 @@
 -- No turn of a native type creates an Eject, uses a monitor, or ends without an answer.
-use Rattle.std.proofs.Common.{◌+◌, ◌==◌, ℕ, Bool, true, false, cond, not, ◌&&◌, ◌||◌, List, [], ◌∷◌, ◌++◌, length, Option, None, Some, is_some}
+use Rattle.std.proofs.Common.{◌+◌, ◌==◌, ℕ, Bool, true, false, cond, not, ◌&&◌, ◌||◌, List, [], ◌∷◌, ◌++◌, length, Option, None, Some}
+use Rattle.std.proofs.Common.{is_some}
 use Rattle.std.specs.Prelude.{ℤ, pos, negsuc, int_le, ◌-ℤ◌, slice_get}
 use Rattle.std.specs.Ordering.{int_eq}
 use Rattle.eden_value.specs.Datum.{Datum, text}

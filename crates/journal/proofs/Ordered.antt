@@ -1,5 +1,6 @@
 -- Lists of Ejects in ascending order: what keeps the order, and how many there are.
-use Rattle.std.proofs.Common.{◌≡◌, ◌==◌, ℕ, suc, Bool, true, false, cond, ◌&&◌, T, List, [], ◌∷◌, map, length, Option, None, Some, refl, sym, ◌∙◌, ap, subst}
+use Rattle.std.proofs.Common.{◌≡◌, ◌==◌, ℕ, suc, Bool, true, false, cond, ◌&&◌, T, List, [], ◌∷◌, map, length, Option, None, Some, refl}
+use Rattle.std.proofs.Common.{sym, ◌∙◌, ap, subst}
 use Rattle.std.specs.List.{filter, filter_map, cons_option}
 use Rattle.std.specs.Option.{option_map}
 use Rattle.std.specs.Ordering.{eq_by_cmp, is_lt}
@@ -49,7 +50,8 @@ abbrev changed_entry : Uid → (Eject → Eject) → Uid × Eject → Eject
 changed_entry u f e = cond (eq_by_cmp uid_cmp e.0 u) (f e.1) e.1
 
 value-keyed : (q u : Uid) (f : Eject → Eject) (es : List (Uid × Eject))
-    → value_at uid_cmp q (keyed (changed_entry u f) es) ≡ cond (eq_by_cmp uid_cmp q u) (option_map f (value_at uid_cmp q es)) (value_at uid_cmp q es)
+    → value_at uid_cmp q (keyed (changed_entry u f) es) ≡ cond (eq_by_cmp uid_cmp q u) (option_map f (value_at uid_cmp q es))
+    (value_at uid_cmp q es)
 value-keyed q u f [] = none (eq_by_cmp uid_cmp q u)
   where
     none : (b : Bool) → None ≡ cond {A = Option Eject} b None None
@@ -61,14 +63,19 @@ value-keyed q u f (e ∷ es) = go (value-keyed q u f es) (eq_by_cmp uid_cmp q e.
     here true = refl
     here false = refl
 
-    go : value_at uid_cmp q (keyed (changed_entry u f) es) ≡ cond (eq_by_cmp uid_cmp q u) (option_map f (value_at uid_cmp q es)) (value_at uid_cmp q es)
+    go : value_at uid_cmp q (keyed (changed_entry u f) es) ≡ cond (eq_by_cmp uid_cmp q u) (option_map f (value_at uid_cmp q es))
+        (value_at uid_cmp q es)
         → (b : Bool) → eq_by_cmp uid_cmp q e.0 ≡ b
-        → value_at uid_cmp q (keyed (changed_entry u f) (e ∷ es)) ≡ cond (eq_by_cmp uid_cmp q u) (option_map f (value_at uid_cmp q (e ∷ es))) (value_at uid_cmp q (e ∷ es))
+        → value_at uid_cmp q (keyed (changed_entry u f) (e ∷ es)) ≡ cond (eq_by_cmp uid_cmp q u)
+        (option_map f (value_at uid_cmp q (e ∷ es))) (value_at uid_cmp q (e ∷ es))
     go later false is = rw is later
-    go later true is = let same : q ≡ e.0 = eq-same uid_cmp uid_cmp-IsAntisymmetric q e.0 is in rw is (rw same (here (eq_by_cmp uid_cmp e.0 u)))
+    go later true is = let same : q ≡ e.0 = eq-same uid_cmp uid_cmp-IsAntisymmetric q e.0 is in
+        rw is (rw same (here (eq_by_cmp uid_cmp e.0 u)))
 
-changed-keyed : (u : Uid) (f : Eject → Eject) (es : List (Uid × Eject)) → InOrder es → changed_at uid_cmp u f es ≡ keyed (changed_entry u f) es
-changed-keyed u f es h = same_entries uid_cmp uid_cmp_total uid_cmp-IsAntisymmetric (changed_at uid_cmp u f es) (keyed (changed_entry u f) es) (order-changed u f es h) (order-keyed (changed_entry u f) es h)
+changed-keyed : (u : Uid) (f : Eject → Eject) (es : List (Uid × Eject)) → InOrder es
+    → changed_at uid_cmp u f es ≡ keyed (changed_entry u f) es
+changed-keyed u f es h = same_entries uid_cmp uid_cmp_total uid_cmp-IsAntisymmetric (changed_at uid_cmp u f es)
+    (keyed (changed_entry u f) es) (order-changed u f es h) (order-keyed (changed_entry u f) es h)
     (λ q. value-changed uid_cmp uid_cmp_total uid_cmp-IsAntisymmetric q u f es ∙ sym (value-keyed q u f es))
 
 -- 3. How many pass a test
@@ -83,14 +90,16 @@ passing P u f same (e ∷ es) = go (passing P u f same es) (P (changed_entry u f
     one false = refl
 
     go : length (filter (λ e. P e.1) (keyed (changed_entry u f) es)) ≡ length (filter (λ e. P e.1) es) → (a b : Bool) → a ≡ b
-        → length (cond a ((e.0, changed_entry u f e) ∷ filter (λ e. P e.1) (keyed (changed_entry u f) es)) (filter (λ e. P e.1) (keyed (changed_entry u f) es)))
+        → length (cond a ((e.0, changed_entry u f e) ∷ filter (λ e. P e.1) (keyed (changed_entry u f) es))
+        (filter (λ e. P e.1) (keyed (changed_entry u f) es)))
         ≡ length (cond b (e ∷ filter (λ e. P e.1) es) (filter (λ e. P e.1) es))
     go later true true is = ap (λ n. suc n) later
     go later false false is = later
     go later true false is = absurd (cc is)
     go later false true is = absurd (cc is)
 
-pub count-changed : (P : Eject → Bool) (u : Uid) (f : Eject → Eject) → ((e : Eject) → P (f e) ≡ P e) → (es : List (Uid × Eject)) → InOrder es
+pub count-changed : (P : Eject → Bool) (u : Uid) (f : Eject → Eject) → ((e : Eject) → P (f e) ≡ P e) → (es : List (Uid × Eject))
+    → InOrder es
     → length (filter (λ e. P e.1) (changed_at uid_cmp u f es)) ≡ length (filter (λ e. P e.1) es)
 count-changed P u f same es h = ap (λ l. length (filter (λ e. P e.1) l)) (changed-keyed u f es h) ∙ passing P u f same es
 
@@ -103,16 +112,19 @@ there-active f e = go e.active refl
 
 -- 4. What an image holds
 
-below-passive : (x : Uid) (kept : List (Uid × List ℕ)) → T (below_all uid_cmp x kept) → T (below_all uid_cmp x (filter_map passive_entry kept))
+below-passive : (x : Uid) (kept : List (Uid × List ℕ)) → T (below_all uid_cmp x kept)
+    → T (below_all uid_cmp x (filter_map passive_entry kept))
 below-passive x [] h = tt
 below-passive x (e ∷ es) h = split (e.0.serial == 0) (go (e.0.serial == 0) (is_lt (uid_cmp x e.0)) (below-passive x es) h)
   where
-    split : (skipped : Bool) → T (cond skipped (below_all uid_cmp x (filter_map passive_entry es)) (is_lt (uid_cmp x e.0) && below_all uid_cmp x (filter_map passive_entry es)))
+    split : (skipped : Bool) → T (cond skipped (below_all uid_cmp x (filter_map passive_entry es))
+        (is_lt (uid_cmp x e.0) && below_all uid_cmp x (filter_map passive_entry es)))
         → T (below_all uid_cmp x (cons_option (cond skipped None (Some (e.0, passive e.1))) (filter_map passive_entry es)))
     split true h = h
     split false h = h
 
-    go : (skipped b : Bool) → (T (below_all uid_cmp x es) → T (below_all uid_cmp x (filter_map passive_entry es))) → T (b && below_all uid_cmp x es)
+    go : (skipped b : Bool) → (T (below_all uid_cmp x es) → T (below_all uid_cmp x (filter_map passive_entry es)))
+        → T (b && below_all uid_cmp x es)
         → T (cond skipped (below_all uid_cmp x (filter_map passive_entry es)) (b && below_all uid_cmp x (filter_map passive_entry es)))
     go true true later h = later h
     go false true later h = later h
@@ -126,7 +138,8 @@ order-passive (e ∷ es) h = go (e.0.serial == 0) (below_all uid_cmp e.0 es) (or
     both true x y = y
     both false x y = absurd x
 
-    go : (skipped b : Bool) → (T (is_sorted uid_cmp es) → InOrder (filter_map passive_entry es)) → (T b → T (below_all uid_cmp e.0 (filter_map passive_entry es))) → T (b && is_sorted uid_cmp es)
+    go : (skipped b : Bool) → (T (is_sorted uid_cmp es) → InOrder (filter_map passive_entry es))
+        → (T b → T (below_all uid_cmp e.0 (filter_map passive_entry es))) → T (b && is_sorted uid_cmp es)
         → InOrder (cons_option (cond skipped None (Some (e.0, passive e.1))) (filter_map passive_entry es))
     go true true later below h = later h
     go false true later below h = both (below_all uid_cmp e.0 (filter_map passive_entry es)) (below tt) (later h)

@@ -14,7 +14,8 @@ use Rattle.journal.specs.World.{World, at_node, on_eject, on_node, on_traffic}
 use Rattle.journal.specs.declared.event.Mode.TheVariants as mode
 use Rattle.journal.specs.Lines.{text_of, entry_text, trace_text, shown_text}
 use Rattle.journal.proofs.Blank.{FollowsOverBlank, follows-over-blank}
-use Rattle.journal.proofs.Scenes.{int, blank_world, eject, ref, word, boots, made, asks, comes, starts, turn, answers, replies, saves, quiet, left, printed, words, invocations}
+use Rattle.journal.proofs.Scenes.{int, blank_world, eject, ref, word, boots, made, asks, comes, starts, turn, answers, replies, saves}
+use Rattle.journal.proofs.Scenes.{quiet, left, printed, words, invocations}
 use Rattle.journal.proofs.Wrong.{NotFollowed, not-followed}
 
 abbrev l : Uid

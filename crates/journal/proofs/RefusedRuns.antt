@@ -13,7 +13,9 @@ use Rattle.journal.specs.Opening.{found_in}
 use Rattle.journal.specs.Run.{Step, world_after}
 use Rattle.journal.specs.Standing.{Standing, StandsFor, Stands, state}
 use Rattle.journal.specs.Faults.{shows_fault, number_of}
-use Rattle.journal.specs.RefusedRuns.{zeros, blank_told, on_disk, script_of, c_uid, saving, saved, faults, stopped, booted, UnwrittenDiskIsRefused, ExchangedDisksAreRefused, InventedFaultsAreRefused, UnaskedStopIsRefused, OtherClockIsRefused}
+use Rattle.journal.specs.RefusedRuns.{zeros, blank_told, on_disk, script_of, c_uid, saving, saved, faults, stopped, booted}
+use Rattle.journal.specs.RefusedRuns.{UnwrittenDiskIsRefused, ExchangedDisksAreRefused, InventedFaultsAreRefused, UnaskedStopIsRefused}
+use Rattle.journal.specs.RefusedRuns.{OtherClockIsRefused}
 use Rattle.journal.proofs.AtTheEnd.{at-the-end}
 use Rattle.journal.proofs.Scenes.{blank_world}
 use Rattle.journal.proofs.Blank.{FollowsOverBlank, blank-found, opens-blank, follows-over-blank}

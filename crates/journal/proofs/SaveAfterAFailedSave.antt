@@ -116,6 +116,7 @@ pub follows : FollowsOverBlank 1 commands history
 unfolding commands history at_node on_eject on_node on_traffic least_number
 follows = follows-over-blank 1 commands history refl
 
-plain_text : text_of mode.Plain history ≡ codes "node 1 up epoch 1\nc is 1.1.1\na ok ()\nquiet\nb ok (0)\nquiet\nd ok ()\nquiet\nf ok (7)\nquiet\ng ok ()\nquiet\nh ok (0)\nquiet\nnode 1 down crash\nnode 1 up epoch 2\ni ok (11)\nquiet\n"
+plain_text : text_of mode.Plain history ≡ codes
+    "node 1 up epoch 1\nc is 1.1.1\na ok ()\nquiet\nb ok (0)\nquiet\nd ok ()\nquiet\nf ok (7)\nquiet\ng ok ()\nquiet\nh ok (0)\nquiet\nnode 1 down crash\nnode 1 up epoch 2\ni ok (11)\nquiet\n"
 unfolding history entry_text trace_text shown_text
 plain_text = rw (d0, d1, d2, d7, d11) refl

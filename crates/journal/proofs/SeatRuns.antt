@@ -1,5 +1,6 @@
 -- In every world of every history each process is in its place: inside of the monitor that it holds, waits to enter, or has a condition of.
-use Rattle.std.proofs.Common.{◌≡◌, ◌+◌, ◌-◌, ◌<◌, ℕ, zero, suc, Bool, true, false, cond, List, [], ◌∷◌, map, length, replicate, Option, None, Some, is_some, refl, sym, ◌∙◌, ap, subst, arith}
+use Rattle.std.proofs.Common.{◌≡◌, ◌+◌, ◌-◌, ◌<◌, ℕ, zero, suc, Bool, true, false, cond, List, [], ◌∷◌, map, length, replicate, Option}
+use Rattle.std.proofs.Common.{None, Some, is_some, refl, sym, ◌∙◌, ap, subst, arith}
 use Rattle.std.specs.Prelude.{IsSomeAnd, IfSome, slice_get}
 use Rattle.std.specs.Option.{option_map}
 use Rattle.std.specs.Ordering.{nat_cmp}
@@ -10,7 +11,8 @@ use Rattle.eden_value.specs.Datum.{Datum}
 use Rattle.eden_value.specs.declared.status.Status.{Status}
 use Rattle.eden_value.specs.declared.status.Status.TheVariants as status
 use Rattle.eden_model.specs.Map.{with_item, value_at, uid_cmp}
-use Rattle.eden_model.specs.Crew.{Waiting, nothing, outside, entry, condition, Process as Worker, Monitor, Condition, Holds, is_held_by, quiet_at}
+use Rattle.eden_model.specs.Crew.{Waiting, nothing, outside, entry, condition, Process as Worker, Monitor, Condition, Holds, is_held_by}
+use Rattle.eden_model.specs.Crew.{quiet_at}
 use Rattle.eden_model.specs.Traffic.{Traffic, without_node, processes_of, broken_by_node, broken_by_link, without_link}
 use Rattle.epl_syntax.specs.declared.effect.Answer.{Answer}
 use Rattle.epl_syntax.specs.declared.effect.Answer.TheVariants.{Reply as Told}
@@ -43,7 +45,8 @@ use Rattle.journal.specs.Processes.{turn_of}
 use Rattle.journal.specs.Crashes.{tells_each, linked}
 use Rattle.journal.specs.References.{cap_at}
 use Rattle.journal.specs.Commands.{AllowsCommand, asked_by, ready_call, born_as, made, type_name_of, held_by, restricted_by}
-use Rattle.journal.specs.Step.{AllowsAt, AllowsInTurn, AllowsEvent, Allows, next, after_turn, after_command, happened, at_site, stopped_at, site_turn, clocked, counted, key_of}
+use Rattle.journal.specs.Step.{AllowsAt, AllowsInTurn, AllowsEvent, Allows, next, after_turn, after_command, happened, at_site}
+use Rattle.journal.specs.Step.{stopped_at, site_turn, clocked, counted, key_of}
 use Rattle.journal.specs.Run.{AllowsLookUp, looked_up, beginning}
 use Rattle.journal.specs.Standing.{DiskRun}
 use Rattle.journal.specs.LegalRun.{AreHandedIn, images, numbered, opening_world, last_world}
@@ -57,9 +60,11 @@ use Rattle.journal.proofs.NativeTurns.{IsPlain, plain-native}
 use Rattle.journal.proofs.Tasks.{FitsRest, FitsActive}
 use Rattle.journal.proofs.CallsKeep.{kept-itself}
 use Rattle.journal.proofs.Seats.{IsOpenAt}
-use Rattle.journal.proofs.SeatTurns.{inside_at, PartSeated, settled_so, Steps, AllStep, seats-tells, seats-born, seats-crashed, seats-boot, seats-site_turn}
+use Rattle.journal.proofs.SeatTurns.{inside_at, PartSeated, settled_so, Steps, AllStep, seats-tells, seats-born, seats-crashed}
+use Rattle.journal.proofs.SeatTurns.{seats-boot, seats-site_turn}
 use Rattle.journal.proofs.SiteWorlds.{AllSites, AllCan, all-can-after, cans-crash, cans-cut}
-use Rattle.journal.proofs.SiteRuns.{SiteWorld, new-by, traffic-crashed, traffic-started, traffic-stopped, some-site, up-there, site-next, site-looked_up, rests-opening, site-opening}
+use Rattle.journal.proofs.SiteRuns.{SiteWorld, new-by, traffic-crashed, traffic-started, traffic-stopped, some-site, up-there, site-next}
+use Rattle.journal.proofs.SiteRuns.{site-looked_up, rests-opening, site-opening}
 
 -- 1. How a turn moves its process
 

@@ -1,5 +1,6 @@
 -- Every turn at a site leaves each process in its place: inside of the monitor that it holds, waits to enter, or has a condition of.
-use Rattle.std.proofs.Common.{◌≡◌, ◌==◌, ◌+◌, ◌-◌, ◌≤◌, ℕ, nat_le, zero, suc, Bool, true, false, cond, not, ◌&&◌, List, [], ◌∷◌, ◌++◌, map, length, replicate, Option, None, Some, is_some, Result, Ok, Err, refl, sym, ◌∙◌, ap, subst, arith}
+use Rattle.std.proofs.Common.{◌≡◌, ◌==◌, ◌+◌, ◌-◌, ◌≤◌, ℕ, nat_le, zero, suc, Bool, true, false, cond, not, ◌&&◌, List, [], ◌∷◌, ◌++◌}
+use Rattle.std.proofs.Common.{map, length, replicate, Option, None, Some, is_some, Result, Ok, Err, refl, sym, ◌∙◌, ap, subst, arith}
 use Rattle.std.specs.Prelude.{IsSomeAnd, IfSome, slice_get}
 use Rattle.std.specs.List.{filter, find}
 use Rattle.std.specs.Option.{option_map}
@@ -21,11 +22,13 @@ use Rattle.eden_model.specs.Map.{with_item, first, rest, value_at, changed_at, p
 use Rattle.eden_model.proofs.Laws.{eq-same, value-changed}
 use Rattle.eden_model.proofs.Numbers.{same-true, same-self}
 use Rattle.eden_model.proofs.FreeNumbers.{free-none, least_free-free}
-use Rattle.eden_model.specs.Crew.{Waiting, nothing, outside, entry, condition, Process as Worker, Monitor, Invocation, waits_at, Runs, set_waits, locked, left, waited, signalled, running, least_free, declared_from, fresh_crew}
+use Rattle.eden_model.specs.Crew.{Waiting, nothing, outside, entry, condition, Process as Worker, Monitor, Invocation, waits_at, Runs}
+use Rattle.eden_model.specs.Crew.{set_waits, locked, left, waited, signalled, running, least_free, declared_from, fresh_crew}
 use Rattle.eden_model.specs.Lines.{AreLines}
 use Rattle.eden_model.specs.declared.Asker.{Asker}
 use Rattle.eden_model.specs.declared.Asker.TheVariants.{Shell, Eject as Process}
-use Rattle.eden_model.specs.Traffic.{Traffic, Call, held, call_at, next_call, with_call, changed_call, at_place, taken, replied, all_replied, orphaned}
+use Rattle.eden_model.specs.Traffic.{Traffic, Call, held, call_at, next_call, with_call, changed_call, at_place, taken, replied}
+use Rattle.eden_model.specs.Traffic.{all_replied, orphaned}
 use Rattle.epl_syntax.specs.declared.effect.Answer.{Answer}
 use Rattle.epl_syntax.specs.declared.effect.Answer.TheVariants.{Go, Code, Reply as Told, Created as Made}
 use Rattle.epl_syntax.specs.declared.effect.Effect.{Effect}
@@ -49,12 +52,16 @@ use Rattle.journal.specs.declared.event.Shown.{Shown}
 use Rattle.journal.specs.declared.event.Event.{Event}
 use Rattle.journal.specs.declared.event.Event.TheVariants as event
 use Rattle.journal.specs.World.{Task, Active, Eject, StoreRequest, Node, Site, eject_in, on_eject, on_node, on_traffic}
-use Rattle.journal.specs.Ejects.{with_active, with_queued, on_active, on_crew, is_there, told, tells, without_requests, deactivated, turned_away, gone_if_unkept, tasks_from, fresh, next_uid, newborn, born}
+use Rattle.journal.specs.Ejects.{with_active, with_queued, on_active, on_crew, is_there, told, tells, without_requests, deactivated}
+use Rattle.journal.specs.Ejects.{turned_away, gone_if_unkept, tasks_from, fresh, next_uid, newborn, born}
 use Rattle.journal.specs.Deliveries.{requested, tells_asker, received, heard}
-use Rattle.journal.specs.Processes.{AllowsStart, AllowsTurn, worker_at, with_start, start, invocation, turn_of, turned, serving, without_process, asks_store, answers, refused_at_once, waits_or_told, creates, effected, process_turn}
+use Rattle.journal.specs.Processes.{AllowsStart, AllowsTurn, worker_at, with_start, start, invocation, turn_of, turned, serving}
+use Rattle.journal.specs.Processes.{without_process, asks_store, answers, refused_at_once, waits_or_told, creates, effected}
+use Rattle.journal.specs.Processes.{process_turn}
 use Rattle.journal.specs.Settling.{first_request, settled_eject, settled, unsynced, written_with, to_settle}
 use Rattle.journal.specs.Crashes.{fallen, crashed}
-use Rattle.journal.specs.Stores.{Work, syncs, reads, unkept, without_room, calls, work_of, more_made, doubted, tells_code, request_ended, removed, stored, done, worked, store_turn}
+use Rattle.journal.specs.Stores.{Work, syncs, reads, unkept, without_room, calls, work_of, more_made, doubted, tells_code, request_ended}
+use Rattle.journal.specs.Stores.{removed, stored, done, worked, store_turn}
 use Rattle.journal.specs.Starts.{start_of, misfits_answered, activated, start_settled, activation_turn}
 use Rattle.journal.specs.Boots.{booted_node, boot_turn}
 use Rattle.journal.specs.Step.{AllowsAt, IsActiveAnd, site_turn}
@@ -69,7 +76,8 @@ use Rattle.journal.proofs.SiteEvents.{startable-there}
 use Rattle.journal.proofs.SiteStores.{first-is, at-own}
 use Rattle.journal.proofs.SiteTurns.{IsNew, ready-born}
 use Rattle.journal.proofs.Seats.{IsOpenAt}
-use Rattle.journal.proofs.SeatedCrews.{holders_of, monitors_of, AreSeated, areseated-like, in-set, in-locked, in-left, in-waited, in-signalled, in-started, in-ended}
+use Rattle.journal.proofs.SeatedCrews.{holders_of, monitors_of, AreSeated, areseated-like, in-set, in-locked, in-left, in-waited}
+use Rattle.journal.proofs.SeatedCrews.{in-signalled, in-started, in-ended}
 
 -- 1. An active part
 

@@ -1,6 +1,7 @@
 -- Where each process of a crew is: it holds the monitor that it is inside of, or waits to enter it, or waits on a condition of it.
--- First of functions alone: what each process waits for (W), who holds each monitor, counted from 0 (H), of which monitor each condition
--- is (C), and inside of which monitor each process is (r).
+-- First of functions alone: what each process waits for (waiting), who holds each monitor, counted from 0 (holding), of which monitor
+-- each condition
+-- is (guards), and inside of which monitor each process is (seat).
 use Rattle.std.proofs.Common.{◌≡◌, ◌+◌, ◌-◌, ◌≤◌, ℕ, Bool, true, false, Option, None, Some, refl, sym, ◌∙◌, ap, subst, arith}
 use Rattle.std.specs.Prelude.{IsSomeAnd}
 use Rattle.std.specs.Ordering.{nat_cmp, eq_by_cmp}
@@ -16,11 +17,12 @@ IsOpen _ = ⊥
 abbrev pub IsOpenAt : Option Waiting → Type 0
 IsOpenAt o = IsSomeAnd o IsOpen
 
-pub record Seated (W : ℕ → Option Waiting) (H : ℕ → Option (Option ℕ)) (C : ℕ → Option ℕ) (r : ℕ → Option ℕ) : Type 0 where
-  pub held : (i p : ℕ) → H i ≡ Some (Some p) → (r p ≡ Some (i + 1)) × IsOpenAt (W p)
-  pub holds : (p m : ℕ) → IsOpenAt (W p) → r p ≡ Some m → (1 ≤ m) × (H (m - 1) ≡ Some (Some p))
-  pub enters : (p m : ℕ) → W p ≡ Some (entry m) → r p ≡ Some m
-  pub waits : (p c : ℕ) → W p ≡ Some (condition c) → r p ≡ C c
+pub record Seated (waiting : ℕ → Option Waiting) (holding : ℕ → Option (Option ℕ)) (guards : ℕ → Option ℕ)
+    (seat : ℕ → Option ℕ) : Type 0 where
+  pub held : (i p : ℕ) → holding i ≡ Some (Some p) → (seat p ≡ Some (i + 1)) × IsOpenAt (waiting p)
+  pub holds : (p m : ℕ) → IsOpenAt (waiting p) → seat p ≡ Some m → (1 ≤ m) × (holding (m - 1) ≡ Some (Some p))
+  pub enters : (p m : ℕ) → waiting p ≡ Some (entry m) → seat p ≡ Some m
+  pub waits : (p c : ℕ) → waiting p ≡ Some (condition c) → seat p ≡ guards c
 
 -- a function is another but at one place
 pub record OnlyAt {X : Type 0} (p : ℕ) (f g : ℕ → X) : Type 0 where
@@ -29,9 +31,11 @@ pub record OnlyAt {X : Type 0} (p : ℕ) (f g : ℕ → X) : Type 0 where
 clash : {A : Type 0} {v : Waiting} {o : Option Waiting} → o ≡ Some v → (IsOpen v → ⊥) → IsOpenAt o → A
 clash {v = v} is shut opened = absurd (shut (subst IsOpenAt is opened))
 
-module _ (W W2 : ℕ → Option Waiting) (H H2 : ℕ → Option (Option ℕ)) (C : ℕ → Option ℕ) (r r2 : ℕ → Option ℕ) (p : ℕ) where
+module _ (waiting waiting_after : ℕ → Option Waiting) (holding holding_after : ℕ → Option (Option ℕ)) (guards : ℕ → Option ℕ)
+    (seat seat_after : ℕ → Option ℕ) (p : ℕ) where
   -- 1. A process waits for nothing, or for what is outside, before and after
-  pub seated-opened : Seated W H C r → OnlyAt p W W2 → IsOpenAt (W p) → IsOpenAt (W2 p) → Seated W2 H C r
+  pub seated-opened : Seated waiting holding guards seat → OnlyAt p waiting waiting_after → IsOpenAt (waiting p)
+      → IsOpenAt (waiting_after p) → Seated waiting_after holding guards seat
   seated-opened s w was is = record {
     held = λ i q at. let x = s.held i q at in (x.0, opened q x.1 (eq_by_cmp nat_cmp q p) refl);
     holds = λ q m o at. s.holds q m (back q o (eq_by_cmp nat_cmp q p) refl) at;
@@ -39,25 +43,28 @@ module _ (W W2 : ℕ → Option Waiting) (H H2 : ℕ → Option (Option ℕ)) (C
     waits = λ q c at. s.waits q c (still q (condition c) (λ x. x) at (eq_by_cmp nat_cmp q p) refl);
   }
     where
-      opened : (q : ℕ) → IsOpenAt (W q) → (b : Bool) → eq_by_cmp nat_cmp q p ≡ b → IsOpenAt (W2 q)
-      opened q o true same = subst (λ n. IsOpenAt (W2 n)) (sym (same-true q p same)) is
+      opened : (q : ℕ) → IsOpenAt (waiting q) → (b : Bool) → eq_by_cmp nat_cmp q p ≡ b → IsOpenAt (waiting_after q)
+      opened q o true same = subst (λ n. IsOpenAt (waiting_after n)) (sym (same-true q p same)) is
       opened q o false same = subst IsOpenAt (sym (w.others q same)) o
 
-      back : (q : ℕ) → IsOpenAt (W2 q) → (b : Bool) → eq_by_cmp nat_cmp q p ≡ b → IsOpenAt (W q)
-      back q o true same = subst (λ n. IsOpenAt (W n)) (sym (same-true q p same)) was
+      back : (q : ℕ) → IsOpenAt (waiting_after q) → (b : Bool) → eq_by_cmp nat_cmp q p ≡ b → IsOpenAt (waiting q)
+      back q o true same = subst (λ n. IsOpenAt (waiting n)) (sym (same-true q p same)) was
       back q o false same = subst IsOpenAt (w.others q same) o
 
-      still : (q : ℕ) (v : Waiting) → (IsOpen v → ⊥) → W2 q ≡ Some v → (b : Bool) → eq_by_cmp nat_cmp q p ≡ b → W q ≡ Some v
-      still q v shut at true same = clash (ap W2 (sym (same-true q p same)) ∙ at) shut is
+      still : (q : ℕ) (v : Waiting) → (IsOpen v → ⊥) → waiting_after q ≡ Some v → (b : Bool) → eq_by_cmp nat_cmp q p ≡ b
+          → waiting q ≡ Some v
+      still q v shut at true same = clash (ap waiting_after (sym (same-true q p same)) ∙ at) shut is
       still q v shut at false same = sym (w.others q same) ∙ at
 
   -- 2. A process that is inside of none holds none
-  pub holds-none : Seated W H C r → r p ≡ None → (i : ℕ) → H i ≡ Some (Some p) → ⊥
+  pub holds-none : Seated waiting holding guards seat → seat p ≡ None → (i : ℕ) → holding i ≡ Some (Some p) → ⊥
   holds-none s none i at = let bad : None ≡ Some (i + 1) = sym none ∙ (s.held i p at).0 in cc bad
 
   -- 3. It locks a monitor that is free
-  pub seated-locked : (m : ℕ) → Seated W H C r → 1 ≤ m → IsOpenAt (W p) → r p ≡ None → r2 p ≡ Some m → OnlyAt p r r2
-      → H (m - 1) ≡ Some None → H2 (m - 1) ≡ Some (Some p) → OnlyAt (m - 1) H H2 → Seated W H2 C r2
+  pub seated-locked : (m : ℕ) → Seated waiting holding guards seat → 1 ≤ m → IsOpenAt (waiting p) → seat p ≡ None → seat_after p ≡ Some m
+      → OnlyAt p seat seat_after
+      → holding (m - 1) ≡ Some None → holding_after (m - 1) ≡ Some (Some p) → OnlyAt (m - 1) holding holding_after
+      → Seated waiting holding_after guards seat_after
   seated-locked m s from opened none now others free holder rest_of = record {
     held = λ i q at. held i q at (eq_by_cmp nat_cmp i (m - 1)) refl;
     holds = λ q n o at. holds q n o at (eq_by_cmp nat_cmp q p) refl;
@@ -65,41 +72,45 @@ module _ (W W2 : ℕ → Option Waiting) (H H2 : ℕ → Option (Option ℕ)) (C
     waits = λ q c at. (others.others q (apart q (λ o. clash at (λ x. x) o) (eq_by_cmp nat_cmp q p) refl)) ∙ s.waits q c at;
   }
     where
-      apart : (q : ℕ) → (IsOpenAt (W q) → ⊥) → (b : Bool) → eq_by_cmp nat_cmp q p ≡ b → eq_by_cmp nat_cmp q p ≡ false
-      apart q shut true same = absurd (shut (subst (λ n. IsOpenAt (W n)) (sym (same-true q p same)) opened))
+      apart : (q : ℕ) → (IsOpenAt (waiting q) → ⊥) → (b : Bool) → eq_by_cmp nat_cmp q p ≡ b → eq_by_cmp nat_cmp q p ≡ false
+      apart q shut true same = absurd (shut (subst (λ n. IsOpenAt (waiting n)) (sym (same-true q p same)) opened))
       apart q shut false same = same
 
-      held : (i q : ℕ) → H2 i ≡ Some (Some q) → (b : Bool) → eq_by_cmp nat_cmp i (m - 1) ≡ b → (r2 q ≡ Some (i + 1)) × IsOpenAt (W q)
+      held : (i q : ℕ) → holding_after i ≡ Some (Some q) → (b : Bool) → eq_by_cmp nat_cmp i (m - 1) ≡ b → (seat_after q ≡ Some (i + 1))
+          × IsOpenAt (waiting q)
       held i q at true same =
           let here : i ≡ m - 1 = same-true i (m - 1) same in
-          let is : q ≡ p = (let e : Some (Some q) ≡ Some (Some p) = sym at ∙ ap H2 here ∙ holder in cc e) in
-          (ap r2 is ∙ now ∙ ap Some (omega (arith, here, from)), subst (λ n. IsOpenAt (W n)) (sym is) opened)
+          let is : q ≡ p = (let e : Some (Some q) ≡ Some (Some p) = sym at ∙ ap holding_after here ∙ holder in cc e) in
+          (ap seat_after is ∙ now ∙ ap Some (omega (arith, here, from)), subst (λ n. IsOpenAt (waiting n)) (sym is) opened)
       held i q at false same =
-          let was : H i ≡ Some (Some q) = sym (rest_of.others i same) ∙ at in
+          let was : holding i ≡ Some (Some q) = sym (rest_of.others i same) ∙ at in
           let x = s.held i q was in
           (other i q was (eq_by_cmp nat_cmp q p) refl ∙ x.0, x.1)
         where
-          other : (i q : ℕ) → H i ≡ Some (Some q) → (b : Bool) → eq_by_cmp nat_cmp q p ≡ b → r2 q ≡ r q
+          other : (i q : ℕ) → holding i ≡ Some (Some q) → (b : Bool) → eq_by_cmp nat_cmp q p ≡ b → seat_after q ≡ seat q
           other i q was true same = absurd (holds-none s none i (was ∙ ap (λ n. Some (Some n)) (same-true q p same)))
           other i q was false same = others.others q same
 
-      holds : (q n : ℕ) → IsOpenAt (W q) → r2 q ≡ Some n → (b : Bool) → eq_by_cmp nat_cmp q p ≡ b → (1 ≤ n) × (H2 (n - 1) ≡ Some (Some q))
+      holds : (q n : ℕ) → IsOpenAt (waiting q) → seat_after q ≡ Some n → (b : Bool) → eq_by_cmp nat_cmp q p ≡ b → (1 ≤ n)
+          × (holding_after (n - 1) ≡ Some (Some q))
       holds q n o at true same =
           let is : q ≡ p = same-true q p same in
-          let n_is : n ≡ m = (let e : Some n ≡ Some m = sym at ∙ ap r2 is ∙ now in cc e) in
-          (omega (arith, n_is, from), ap (λ k. H2 (k - 1)) n_is ∙ holder ∙ ap (λ k. Some (Some k)) (sym is))
+          let n_is : n ≡ m = (let e : Some n ≡ Some m = sym at ∙ ap seat_after is ∙ now in cc e) in
+          (omega (arith, n_is, from), ap (λ k. holding_after (k - 1)) n_is ∙ holder ∙ ap (λ k. Some (Some k)) (sym is))
       holds q n o at false same =
           let x = s.holds q n o (sym (others.others q same) ∙ at) in
           (x.0, kept (n - 1) q x.1 (eq_by_cmp nat_cmp (n - 1) (m - 1)) refl)
         where
-          kept : (i q : ℕ) → H i ≡ Some (Some q) → (b : Bool) → eq_by_cmp nat_cmp i (m - 1) ≡ b → H2 i ≡ Some (Some q)
+          kept : (i q : ℕ) → holding i ≡ Some (Some q) → (b : Bool) → eq_by_cmp nat_cmp i (m - 1) ≡ b → holding_after i ≡ Some (Some q)
           kept i q was true same =
-              absurd (let bad : Some None ≡ Some (Some q) = sym free ∙ ap H (sym (same-true i (m - 1) same)) ∙ was in cc bad)
+              absurd (let bad : Some None ≡ Some (Some q) = sym free ∙ ap holding (sym (same-true i (m - 1) same)) ∙ was in cc bad)
           kept i q was false same = rest_of.others i same ∙ was
 
   -- 4. It goes to a queue, where it is inside of none so far: that of a monitor, or that of a condition
-  pub seated-queued : (v : Waiting) → Seated W H C r → (IsOpen v → ⊥) → r p ≡ None → IsOpenAt (W p) → W2 p ≡ Some v → OnlyAt p W W2
-      → OnlyAt p r r2 → ((m : ℕ) → v ≡ entry m → r2 p ≡ Some m) → ((c : ℕ) → v ≡ condition c → r2 p ≡ C c) → Seated W2 H C r2
+  pub seated-queued : (v : Waiting) → Seated waiting holding guards seat → (IsOpen v → ⊥) → seat p ≡ None → IsOpenAt (waiting p)
+      → waiting_after p ≡ Some v → OnlyAt p waiting waiting_after
+      → OnlyAt p seat seat_after → ((m : ℕ) → v ≡ entry m → seat_after p ≡ Some m) → ((c : ℕ) → v ≡ condition c → seat_after p ≡ guards c)
+      → Seated waiting_after holding guards seat_after
   seated-queued v s shut none was now w others enter wait = record {
     held = λ i q at. let x = s.held i q at in held i q at x (eq_by_cmp nat_cmp q p) refl;
     holds = λ q m o at. holds q m o at (eq_by_cmp nat_cmp q p) refl;
@@ -107,28 +118,30 @@ module _ (W W2 : ℕ → Option Waiting) (H H2 : ℕ → Option (Option ℕ)) (C
     waits = λ q c at. waits q c at (eq_by_cmp nat_cmp q p) refl;
   }
     where
-      held : (i q : ℕ) → H i ≡ Some (Some q) → (r q ≡ Some (i + 1)) × IsOpenAt (W q) → (b : Bool) → eq_by_cmp nat_cmp q p ≡ b
-          → (r2 q ≡ Some (i + 1)) × IsOpenAt (W2 q)
+      held : (i q : ℕ) → holding i ≡ Some (Some q) → (seat q ≡ Some (i + 1)) × IsOpenAt (waiting q) → (b : Bool) → eq_by_cmp nat_cmp q p ≡ b
+          → (seat_after q ≡ Some (i + 1)) × IsOpenAt (waiting_after q)
       held i q at x true same = absurd (holds-none s none i (at ∙ ap (λ n. Some (Some n)) (same-true q p same)))
       held i q at x false same = (others.others q same ∙ x.0, subst IsOpenAt (sym (w.others q same)) x.1)
 
-      holds : (q m : ℕ) → IsOpenAt (W2 q) → r2 q ≡ Some m → (b : Bool) → eq_by_cmp nat_cmp q p ≡ b → (1 ≤ m) × (H (m - 1) ≡ Some (Some q))
-      holds q m o at true same = clash (ap W2 (same-true q p same) ∙ now) shut o
+      holds : (q m : ℕ) → IsOpenAt (waiting_after q) → seat_after q ≡ Some m → (b : Bool) → eq_by_cmp nat_cmp q p ≡ b → (1 ≤ m)
+          × (holding (m - 1) ≡ Some (Some q))
+      holds q m o at true same = clash (ap waiting_after (same-true q p same) ∙ now) shut o
       holds q m o at false same = s.holds q m (subst IsOpenAt (w.others q same) o) (sym (others.others q same) ∙ at)
 
-      enters : (q m : ℕ) → W2 q ≡ Some (entry m) → (b : Bool) → eq_by_cmp nat_cmp q p ≡ b → r2 q ≡ Some m
+      enters : (q m : ℕ) → waiting_after q ≡ Some (entry m) → (b : Bool) → eq_by_cmp nat_cmp q p ≡ b → seat_after q ≡ Some m
       enters q m at true same = let is : q ≡ p = same-true q p same in
-          ap r2 is ∙ enter m (let e : Some v ≡ Some (entry m) = sym now ∙ ap W2 (sym is) ∙ at in cc e)
+          ap seat_after is ∙ enter m (let e : Some v ≡ Some (entry m) = sym now ∙ ap waiting_after (sym is) ∙ at in cc e)
       enters q m at false same = others.others q same ∙ s.enters q m (sym (w.others q same) ∙ at)
 
-      waits : (q c : ℕ) → W2 q ≡ Some (condition c) → (b : Bool) → eq_by_cmp nat_cmp q p ≡ b → r2 q ≡ C c
+      waits : (q c : ℕ) → waiting_after q ≡ Some (condition c) → (b : Bool) → eq_by_cmp nat_cmp q p ≡ b → seat_after q ≡ guards c
       waits q c at true same = let is : q ≡ p = same-true q p same in
-          ap r2 is ∙ wait c (let e : Some v ≡ Some (condition c) = sym now ∙ ap W2 (sym is) ∙ at in cc e)
+          ap seat_after is ∙ wait c (let e : Some v ≡ Some (condition c) = sym now ∙ ap waiting_after (sym is) ∙ at in cc e)
       waits q c at false same = others.others q same ∙ s.waits q c (sym (w.others q same) ∙ at)
 
   -- 5. It leaves the monitor that it is inside of, and nobody enters
-  pub seated-left : (m : ℕ) → Seated W H C r → 1 ≤ m → H (m - 1) ≡ Some (Some p) → H2 (m - 1) ≡ Some None → OnlyAt (m - 1) H H2
-      → r2 p ≡ None → OnlyAt p r r2 → Seated W H2 C r2
+  pub seated-left : (m : ℕ) → Seated waiting holding guards seat → 1 ≤ m → holding (m - 1) ≡ Some (Some p)
+      → holding_after (m - 1) ≡ Some None → OnlyAt (m - 1) holding holding_after
+      → seat_after p ≡ None → OnlyAt p seat seat_after → Seated waiting holding_after guards seat_after
   seated-left m s from holder free rest_of none others = record {
     held = λ i q at. held i q at (eq_by_cmp nat_cmp i (m - 1)) refl;
     holds = λ q n o at. holds q n o at (eq_by_cmp nat_cmp q p) refl;
@@ -136,44 +149,49 @@ module _ (W W2 : ℕ → Option Waiting) (H H2 : ℕ → Option (Option ℕ)) (C
     waits = λ q c at. others.others q (apart q (λ o. clash at (λ x. x) o) (eq_by_cmp nat_cmp q p) refl) ∙ s.waits q c at;
   }
     where
-      mine : (r p ≡ Some (m - 1 + 1)) × IsOpenAt (W p)
+      mine : (seat p ≡ Some (m - 1 + 1)) × IsOpenAt (waiting p)
       mine = s.held (m - 1) p holder
 
-      apart : (q : ℕ) → (IsOpenAt (W q) → ⊥) → (b : Bool) → eq_by_cmp nat_cmp q p ≡ b → eq_by_cmp nat_cmp q p ≡ false
-      apart q shut true same = absurd (shut (subst (λ n. IsOpenAt (W n)) (sym (same-true q p same)) mine.1))
+      apart : (q : ℕ) → (IsOpenAt (waiting q) → ⊥) → (b : Bool) → eq_by_cmp nat_cmp q p ≡ b → eq_by_cmp nat_cmp q p ≡ false
+      apart q shut true same = absurd (shut (subst (λ n. IsOpenAt (waiting n)) (sym (same-true q p same)) mine.1))
       apart q shut false same = same
 
-      held : (i q : ℕ) → H2 i ≡ Some (Some q) → (b : Bool) → eq_by_cmp nat_cmp i (m - 1) ≡ b → (r2 q ≡ Some (i + 1)) × IsOpenAt (W q)
+      held : (i q : ℕ) → holding_after i ≡ Some (Some q) → (b : Bool) → eq_by_cmp nat_cmp i (m - 1) ≡ b → (seat_after q ≡ Some (i + 1))
+          × IsOpenAt (waiting q)
       held i q at true same =
-          absurd (let bad : Some None ≡ Some (Some q) = sym free ∙ ap H2 (sym (same-true i (m - 1) same)) ∙ at in cc bad)
+          absurd (let bad : Some None ≡ Some (Some q) = sym free ∙ ap holding_after (sym (same-true i (m - 1) same)) ∙ at in cc bad)
       held i q at false same =
-          let was : H i ≡ Some (Some q) = sym (rest_of.others i same) ∙ at in
+          let was : holding i ≡ Some (Some q) = sym (rest_of.others i same) ∙ at in
           let x = s.held i q was in
           (other i q x.0 same (eq_by_cmp nat_cmp q p) refl ∙ x.0, x.1)
         where
-          other : (i q : ℕ) → r q ≡ Some (i + 1) → eq_by_cmp nat_cmp i (m - 1) ≡ false → (b : Bool) → eq_by_cmp nat_cmp q p ≡ b → r2 q ≡ r q
+          other : (i q : ℕ) → seat q ≡ Some (i + 1) → eq_by_cmp nat_cmp i (m - 1) ≡ false → (b : Bool) → eq_by_cmp nat_cmp q p ≡ b
+              → seat_after q ≡ seat q
           other i q at away true same =
-              let e : i + 1 ≡ m - 1 + 1 = (let f : Some (i + 1) ≡ Some (m - 1 + 1) = sym at ∙ ap r (same-true q p same) ∙ mine.0 in cc f) in
+              let e : i + 1 ≡ m - 1 + 1 = (let f : Some (i + 1) ≡ Some (m - 1 + 1) = sym at ∙ ap seat (same-true q p same) ∙ mine.0 in
+              cc f) in
               let here : i ≡ m - 1 = omega (arith, e) in
               absurd (let bad : true ≡ false = sym (same-self i) ∙ ap (eq_by_cmp nat_cmp i) here ∙ away in cc bad)
           other i q at away false same = others.others q same
 
-      holds : (q n : ℕ) → IsOpenAt (W q) → r2 q ≡ Some n → (b : Bool) → eq_by_cmp nat_cmp q p ≡ b → (1 ≤ n) × (H2 (n - 1) ≡ Some (Some q))
-      holds q n o at true same = absurd (let bad : None ≡ Some n = sym none ∙ ap r2 (sym (same-true q p same)) ∙ at in cc bad)
+      holds : (q n : ℕ) → IsOpenAt (waiting q) → seat_after q ≡ Some n → (b : Bool) → eq_by_cmp nat_cmp q p ≡ b → (1 ≤ n)
+          × (holding_after (n - 1) ≡ Some (Some q))
+      holds q n o at true same = absurd (let bad : None ≡ Some n = sym none ∙ ap seat_after (sym (same-true q p same)) ∙ at in cc bad)
       holds q n o at false same =
           let x = s.holds q n o (sym (others.others q same) ∙ at) in
           (x.0, kept (n - 1) q same x.1 (eq_by_cmp nat_cmp (n - 1) (m - 1)) refl)
         where
-          kept : (i q : ℕ) → eq_by_cmp nat_cmp q p ≡ false → H i ≡ Some (Some q) → (b : Bool) → eq_by_cmp nat_cmp i (m - 1) ≡ b
-              → H2 i ≡ Some (Some q)
+          kept : (i q : ℕ) → eq_by_cmp nat_cmp q p ≡ false → holding i ≡ Some (Some q) → (b : Bool) → eq_by_cmp nat_cmp i (m - 1) ≡ b
+              → holding_after i ≡ Some (Some q)
           kept i q away was true same =
-              let e : Some (Some q) ≡ Some (Some p) = sym was ∙ ap H (same-true i (m - 1) same) ∙ holder in
+              let e : Some (Some q) ≡ Some (Some p) = sym was ∙ ap holding (same-true i (m - 1) same) ∙ holder in
               let is : q ≡ p = cc e in
               absurd (let bad : true ≡ false = sym (same-self q) ∙ ap (eq_by_cmp nat_cmp q) is ∙ away in cc bad)
           kept i q away was false same = rest_of.others i same ∙ was
 
   -- 6. A process starts, or goes, that is inside of none
-  pub seated-started : Seated W H C r → W p ≡ None → OnlyAt p W W2 → IsOpenAt (W2 p) → r2 p ≡ None → OnlyAt p r r2 → Seated W2 H C r2
+  pub seated-started : Seated waiting holding guards seat → waiting p ≡ None → OnlyAt p waiting waiting_after → IsOpenAt (waiting_after p)
+      → seat_after p ≡ None → OnlyAt p seat seat_after → Seated waiting_after holding guards seat_after
   seated-started s absent w opened none others = record {
     held = λ i q at. let x = s.held i q at in held i q x (eq_by_cmp nat_cmp q p) refl;
     holds = λ q m o at. holds q m o at (eq_by_cmp nat_cmp q p) refl;
@@ -181,24 +199,26 @@ module _ (W W2 : ℕ → Option Waiting) (H H2 : ℕ → Option (Option ℕ)) (C
     waits = λ q c at. waits q c at (eq_by_cmp nat_cmp q p) refl;
   }
     where
-      held : (i q : ℕ) → (r q ≡ Some (i + 1)) × IsOpenAt (W q) → (b : Bool) → eq_by_cmp nat_cmp q p ≡ b
-          → (r2 q ≡ Some (i + 1)) × IsOpenAt (W2 q)
-      held i q x true same = absurd (subst IsOpenAt (ap W (same-true q p same) ∙ absent) x.1)
+      held : (i q : ℕ) → (seat q ≡ Some (i + 1)) × IsOpenAt (waiting q) → (b : Bool) → eq_by_cmp nat_cmp q p ≡ b
+          → (seat_after q ≡ Some (i + 1)) × IsOpenAt (waiting_after q)
+      held i q x true same = absurd (subst IsOpenAt (ap waiting (same-true q p same) ∙ absent) x.1)
       held i q x false same = (others.others q same ∙ x.0, subst IsOpenAt (sym (w.others q same)) x.1)
 
-      holds : (q m : ℕ) → IsOpenAt (W2 q) → r2 q ≡ Some m → (b : Bool) → eq_by_cmp nat_cmp q p ≡ b → (1 ≤ m) × (H (m - 1) ≡ Some (Some q))
-      holds q m o at true same = absurd (let bad : None ≡ Some m = sym none ∙ ap r2 (sym (same-true q p same)) ∙ at in cc bad)
+      holds : (q m : ℕ) → IsOpenAt (waiting_after q) → seat_after q ≡ Some m → (b : Bool) → eq_by_cmp nat_cmp q p ≡ b → (1 ≤ m)
+          × (holding (m - 1) ≡ Some (Some q))
+      holds q m o at true same = absurd (let bad : None ≡ Some m = sym none ∙ ap seat_after (sym (same-true q p same)) ∙ at in cc bad)
       holds q m o at false same = s.holds q m (subst IsOpenAt (w.others q same) o) (sym (others.others q same) ∙ at)
 
-      enters : (q m : ℕ) → W2 q ≡ Some (entry m) → (b : Bool) → eq_by_cmp nat_cmp q p ≡ b → r2 q ≡ Some m
-      enters q m at true same = clash (ap W2 (sym (same-true q p same)) ∙ at) (λ x. x) opened
+      enters : (q m : ℕ) → waiting_after q ≡ Some (entry m) → (b : Bool) → eq_by_cmp nat_cmp q p ≡ b → seat_after q ≡ Some m
+      enters q m at true same = clash (ap waiting_after (sym (same-true q p same)) ∙ at) (λ x. x) opened
       enters q m at false same = others.others q same ∙ s.enters q m (sym (w.others q same) ∙ at)
 
-      waits : (q c : ℕ) → W2 q ≡ Some (condition c) → (b : Bool) → eq_by_cmp nat_cmp q p ≡ b → r2 q ≡ C c
-      waits q c at true same = clash (ap W2 (sym (same-true q p same)) ∙ at) (λ x. x) opened
+      waits : (q c : ℕ) → waiting_after q ≡ Some (condition c) → (b : Bool) → eq_by_cmp nat_cmp q p ≡ b → seat_after q ≡ guards c
+      waits q c at true same = clash (ap waiting_after (sym (same-true q p same)) ∙ at) (λ x. x) opened
       waits q c at false same = others.others q same ∙ s.waits q c (sym (w.others q same) ∙ at)
 
-  pub seated-gone : Seated W H C r → r p ≡ None → OnlyAt p W W2 → W2 p ≡ None → OnlyAt p r r2 → Seated W2 H C r2
+  pub seated-gone : Seated waiting holding guards seat → seat p ≡ None → OnlyAt p waiting waiting_after → waiting_after p ≡ None
+      → OnlyAt p seat seat_after → Seated waiting_after holding guards seat_after
   seated-gone s none w gone others = record {
     held = λ i q at. let x = s.held i q at in held i q at x (eq_by_cmp nat_cmp q p) refl;
     holds = λ q m o at. holds q m o at (eq_by_cmp nat_cmp q p) refl;
@@ -206,27 +226,32 @@ module _ (W W2 : ℕ → Option Waiting) (H H2 : ℕ → Option (Option ℕ)) (C
     waits = λ q c at. waits q c at (eq_by_cmp nat_cmp q p) refl;
   }
     where
-      held : (i q : ℕ) → H i ≡ Some (Some q) → (r q ≡ Some (i + 1)) × IsOpenAt (W q) → (b : Bool) → eq_by_cmp nat_cmp q p ≡ b
-          → (r2 q ≡ Some (i + 1)) × IsOpenAt (W2 q)
+      held : (i q : ℕ) → holding i ≡ Some (Some q) → (seat q ≡ Some (i + 1)) × IsOpenAt (waiting q) → (b : Bool) → eq_by_cmp nat_cmp q p ≡ b
+          → (seat_after q ≡ Some (i + 1)) × IsOpenAt (waiting_after q)
       held i q at x true same = absurd (holds-none s none i (at ∙ ap (λ n. Some (Some n)) (same-true q p same)))
       held i q at x false same = (others.others q same ∙ x.0, subst IsOpenAt (sym (w.others q same)) x.1)
 
-      holds : (q m : ℕ) → IsOpenAt (W2 q) → r2 q ≡ Some m → (b : Bool) → eq_by_cmp nat_cmp q p ≡ b → (1 ≤ m) × (H (m - 1) ≡ Some (Some q))
-      holds q m o at true same = absurd (subst IsOpenAt (ap W2 (same-true q p same) ∙ gone) o)
+      holds : (q m : ℕ) → IsOpenAt (waiting_after q) → seat_after q ≡ Some m → (b : Bool) → eq_by_cmp nat_cmp q p ≡ b → (1 ≤ m)
+          × (holding (m - 1) ≡ Some (Some q))
+      holds q m o at true same = absurd (subst IsOpenAt (ap waiting_after (same-true q p same) ∙ gone) o)
       holds q m o at false same = s.holds q m (subst IsOpenAt (w.others q same) o) (sym (others.others q same) ∙ at)
 
-      enters : (q m : ℕ) → W2 q ≡ Some (entry m) → (b : Bool) → eq_by_cmp nat_cmp q p ≡ b → r2 q ≡ Some m
-      enters q m at true same = absurd (let bad : None ≡ Some (entry m) = sym gone ∙ ap W2 (sym (same-true q p same)) ∙ at in cc bad)
+      enters : (q m : ℕ) → waiting_after q ≡ Some (entry m) → (b : Bool) → eq_by_cmp nat_cmp q p ≡ b → seat_after q ≡ Some m
+      enters q m at true same = absurd (let bad : None ≡ Some (entry m) = sym gone ∙ ap waiting_after (sym (same-true q p same)) ∙ at in
+          cc bad)
       enters q m at false same = others.others q same ∙ s.enters q m (sym (w.others q same) ∙ at)
 
-      waits : (q c : ℕ) → W2 q ≡ Some (condition c) → (b : Bool) → eq_by_cmp nat_cmp q p ≡ b → r2 q ≡ C c
-      waits q c at true same = absurd (let bad : None ≡ Some (condition c) = sym gone ∙ ap W2 (sym (same-true q p same)) ∙ at in cc bad)
+      waits : (q c : ℕ) → waiting_after q ≡ Some (condition c) → (b : Bool) → eq_by_cmp nat_cmp q p ≡ b → seat_after q ≡ guards c
+      waits q c at true same = absurd (let bad : None ≡ Some (condition c) =
+          sym gone ∙ ap waiting_after (sym (same-true q p same)) ∙ at in cc bad)
       waits q c at false same = others.others q same ∙ s.waits q c (sym (w.others q same) ∙ at)
 
 -- 7. The head of a queue enters a monitor that is free
-module _ (W W2 : ℕ → Option Waiting) (H H2 : ℕ → Option (Option ℕ)) (C : ℕ → Option ℕ) (r : ℕ → Option ℕ) (q : ℕ) where
-  pub seated-entered : (m : ℕ) → Seated W H C r → 1 ≤ m → W q ≡ Some (entry m) → IsOpenAt (W2 q) → OnlyAt q W W2 → H (m - 1) ≡ Some None
-      → H2 (m - 1) ≡ Some (Some q) → OnlyAt (m - 1) H H2 → Seated W2 H2 C r
+module _ (waiting waiting_after : ℕ → Option Waiting) (holding holding_after : ℕ → Option (Option ℕ)) (guards : ℕ → Option ℕ)
+    (seat : ℕ → Option ℕ) (q : ℕ) where
+  pub seated-entered : (m : ℕ) → Seated waiting holding guards seat → 1 ≤ m → waiting q ≡ Some (entry m) → IsOpenAt (waiting_after q)
+      → OnlyAt q waiting waiting_after → holding (m - 1) ≡ Some None
+      → holding_after (m - 1) ≡ Some (Some q) → OnlyAt (m - 1) holding holding_after → Seated waiting_after holding_after guards seat
   seated-entered m s from was opened w free holder rest_of = record {
     held = λ i p at. held i p at (eq_by_cmp nat_cmp i (m - 1)) refl;
     holds = λ p n o at. holds p n o at (eq_by_cmp nat_cmp p q) refl;
@@ -234,37 +259,41 @@ module _ (W W2 : ℕ → Option Waiting) (H H2 : ℕ → Option (Option ℕ)) (C
     waits = λ p c at. s.waits p c (still p (condition c) (λ x. x) at (eq_by_cmp nat_cmp p q) refl);
   }
     where
-      still : (p : ℕ) (v : Waiting) → (IsOpen v → ⊥) → W2 p ≡ Some v → (b : Bool) → eq_by_cmp nat_cmp p q ≡ b → W p ≡ Some v
-      still p v shut at true same = clash (ap W2 (sym (same-true p q same)) ∙ at) shut opened
+      still : (p : ℕ) (v : Waiting) → (IsOpen v → ⊥) → waiting_after p ≡ Some v → (b : Bool) → eq_by_cmp nat_cmp p q ≡ b
+          → waiting p ≡ Some v
+      still p v shut at true same = clash (ap waiting_after (sym (same-true p q same)) ∙ at) shut opened
       still p v shut at false same = sym (w.others p same) ∙ at
 
-      held : (i p : ℕ) → H2 i ≡ Some (Some p) → (b : Bool) → eq_by_cmp nat_cmp i (m - 1) ≡ b → (r p ≡ Some (i + 1)) × IsOpenAt (W2 p)
+      held : (i p : ℕ) → holding_after i ≡ Some (Some p) → (b : Bool) → eq_by_cmp nat_cmp i (m - 1) ≡ b → (seat p ≡ Some (i + 1))
+          × IsOpenAt (waiting_after p)
       held i p at true same =
           let here : i ≡ m - 1 = same-true i (m - 1) same in
-          let is : p ≡ q = (let e : Some (Some p) ≡ Some (Some q) = sym at ∙ ap H2 here ∙ holder in cc e) in
-          (ap r is ∙ s.enters q m was ∙ ap Some (omega (arith, here, from)), subst (λ n. IsOpenAt (W2 n)) (sym is) opened)
+          let is : p ≡ q = (let e : Some (Some p) ≡ Some (Some q) = sym at ∙ ap holding_after here ∙ holder in cc e) in
+          (ap seat is ∙ s.enters q m was ∙ ap Some (omega (arith, here, from)), subst (λ n. IsOpenAt (waiting_after n)) (sym is) opened)
       held i p at false same = let x = s.held i p (sym (rest_of.others i same) ∙ at) in (x.0, later p x.1 (eq_by_cmp nat_cmp p q) refl)
         where
-          later : (p : ℕ) → IsOpenAt (W p) → (b : Bool) → eq_by_cmp nat_cmp p q ≡ b → IsOpenAt (W2 p)
-          later p o true same = clash (ap W (same-true p q same) ∙ was) (λ x. x) o
+          later : (p : ℕ) → IsOpenAt (waiting p) → (b : Bool) → eq_by_cmp nat_cmp p q ≡ b → IsOpenAt (waiting_after p)
+          later p o true same = clash (ap waiting (same-true p q same) ∙ was) (λ x. x) o
           later p o false same = subst IsOpenAt (sym (w.others p same)) o
 
-      holds : (p n : ℕ) → IsOpenAt (W2 p) → r p ≡ Some n → (b : Bool) → eq_by_cmp nat_cmp p q ≡ b → (1 ≤ n) × (H2 (n - 1) ≡ Some (Some p))
+      holds : (p n : ℕ) → IsOpenAt (waiting_after p) → seat p ≡ Some n → (b : Bool) → eq_by_cmp nat_cmp p q ≡ b → (1 ≤ n)
+          × (holding_after (n - 1) ≡ Some (Some p))
       holds p n o at true same =
           let is : p ≡ q = same-true p q same in
-          let n_is : n ≡ m = (let e : Some n ≡ Some m = sym at ∙ ap r is ∙ s.enters q m was in cc e) in
-          (omega (arith, n_is, from), ap (λ k. H2 (k - 1)) n_is ∙ holder ∙ ap (λ k. Some (Some k)) (sym is))
+          let n_is : n ≡ m = (let e : Some n ≡ Some m = sym at ∙ ap seat is ∙ s.enters q m was in cc e) in
+          (omega (arith, n_is, from), ap (λ k. holding_after (k - 1)) n_is ∙ holder ∙ ap (λ k. Some (Some k)) (sym is))
       holds p n o at false same = let x = s.holds p n (subst IsOpenAt (w.others p same) o) at in
           (x.0, kept (n - 1) p x.1 (eq_by_cmp nat_cmp (n - 1) (m - 1)) refl)
         where
-          kept : (i p : ℕ) → H i ≡ Some (Some p) → (b : Bool) → eq_by_cmp nat_cmp i (m - 1) ≡ b → H2 i ≡ Some (Some p)
+          kept : (i p : ℕ) → holding i ≡ Some (Some p) → (b : Bool) → eq_by_cmp nat_cmp i (m - 1) ≡ b → holding_after i ≡ Some (Some p)
           kept i p was true same =
-              absurd (let bad : Some None ≡ Some (Some p) = sym free ∙ ap H (sym (same-true i (m - 1) same)) ∙ was in cc bad)
+              absurd (let bad : Some None ≡ Some (Some p) = sym free ∙ ap holding (sym (same-true i (m - 1) same)) ∙ was in cc bad)
           kept i p was false same = rest_of.others i same ∙ was
 
   -- 8. The head of a condition's queue goes to the entry queue of its monitor
-  pub seated-signalled : (c m : ℕ) → Seated W H C r → W q ≡ Some (condition c) → C c ≡ Some m → W2 q ≡ Some (entry m) → OnlyAt q W W2
-      → Seated W2 H C r
+  pub seated-signalled : (c m : ℕ) → Seated waiting holding guards seat → waiting q ≡ Some (condition c) → guards c ≡ Some m
+      → waiting_after q ≡ Some (entry m) → OnlyAt q waiting waiting_after
+      → Seated waiting_after holding guards seat
   seated-signalled c m s was of_c now w = record {
     held = λ i p at. let x = s.held i p at in (x.0, later p x.1 (eq_by_cmp nat_cmp p q) refl);
     holds = λ p n o at. holds p n o at (eq_by_cmp nat_cmp p q) refl;
@@ -272,23 +301,24 @@ module _ (W W2 : ℕ → Option Waiting) (H H2 : ℕ → Option (Option ℕ)) (C
     waits = λ p d at. waits p d at (eq_by_cmp nat_cmp p q) refl;
   }
     where
-      later : (p : ℕ) → IsOpenAt (W p) → (b : Bool) → eq_by_cmp nat_cmp p q ≡ b → IsOpenAt (W2 p)
-      later p o true same = clash (ap W (same-true p q same) ∙ was) (λ x. x) o
+      later : (p : ℕ) → IsOpenAt (waiting p) → (b : Bool) → eq_by_cmp nat_cmp p q ≡ b → IsOpenAt (waiting_after p)
+      later p o true same = clash (ap waiting (same-true p q same) ∙ was) (λ x. x) o
       later p o false same = subst IsOpenAt (sym (w.others p same)) o
 
-      holds : (p n : ℕ) → IsOpenAt (W2 p) → r p ≡ Some n → (b : Bool) → eq_by_cmp nat_cmp p q ≡ b → (1 ≤ n) × (H (n - 1) ≡ Some (Some p))
-      holds p n o at true same = clash (ap W2 (same-true p q same) ∙ now) (λ x. x) o
+      holds : (p n : ℕ) → IsOpenAt (waiting_after p) → seat p ≡ Some n → (b : Bool) → eq_by_cmp nat_cmp p q ≡ b → (1 ≤ n)
+          × (holding (n - 1) ≡ Some (Some p))
+      holds p n o at true same = clash (ap waiting_after (same-true p q same) ∙ now) (λ x. x) o
       holds p n o at false same = s.holds p n (subst IsOpenAt (w.others p same) o) at
 
-      enters : (p n : ℕ) → W2 p ≡ Some (entry n) → (b : Bool) → eq_by_cmp nat_cmp p q ≡ b → r p ≡ Some n
+      enters : (p n : ℕ) → waiting_after p ≡ Some (entry n) → (b : Bool) → eq_by_cmp nat_cmp p q ≡ b → seat p ≡ Some n
       enters p n at true same =
           let is : p ≡ q = same-true p q same in
-          let m_is : entry m ≡ entry n = (let e : Some (entry m) ≡ Some (entry n) = sym now ∙ ap W2 (sym is) ∙ at in cc e) in
+          let m_is : entry m ≡ entry n = (let e : Some (entry m) ≡ Some (entry n) = sym now ∙ ap waiting_after (sym is) ∙ at in cc e) in
           let number : m ≡ n = cc m_is in
-          ap r is ∙ s.waits q c was ∙ of_c ∙ ap Some number
+          ap seat is ∙ s.waits q c was ∙ of_c ∙ ap Some number
       enters p n at false same = s.enters p n (sym (w.others p same) ∙ at)
 
-      waits : (p d : ℕ) → W2 p ≡ Some (condition d) → (b : Bool) → eq_by_cmp nat_cmp p q ≡ b → r p ≡ C d
+      waits : (p d : ℕ) → waiting_after p ≡ Some (condition d) → (b : Bool) → eq_by_cmp nat_cmp p q ≡ b → seat p ≡ guards d
       waits p d at true same =
-          absurd (let bad : Some (entry m) ≡ Some (condition d) = sym now ∙ ap W2 (sym (same-true p q same)) ∙ at in cc bad)
+          absurd (let bad : Some (entry m) ≡ Some (condition d) = sym now ∙ ap waiting_after (sym (same-true p q same)) ∙ at in cc bad)
       waits p d at false same = s.waits p d (sym (w.others p same) ∙ at)

@@ -51,7 +51,8 @@ plain_text : text_of mode.Plain history ≡ codes "node 1 up epoch 1\nc is 1.1.1
 unfolding history entry_text trace_text shown_text
 plain_text = rw (d1, d5) refl
 
-traced_text : text_of mode.Trace (take 6 (drop 2 history)) ≡ codes "+ call 1 a\n+ request 1 0 1\n+ start 1 1.1.1 1\n+ process 1.1.1 1 return 1\n+ reply 1 1 0\na ok ()\nquiet\n"
+traced_text : text_of mode.Trace (take 6 (drop 2 history))
+    ≡ codes "+ call 1 a\n+ request 1 0 1\n+ start 1 1.1.1 1\n+ process 1.1.1 1 return 1\n+ reply 1 1 0\na ok ()\nquiet\n"
 unfolding history entry_text trace_text shown_text
 traced_text = rw (d0, d1) refl
 

@@ -1,5 +1,6 @@
 -- The capabilities that the names of a script stand for are below those that were granted to the shell, and so is what its calls use.
-use Rattle.std.proofs.Common.{◌≡◌, inl, inr, ℕ, zero, suc, nat_le, Bool, true, false, cond, List, [], ◌∷◌, ◌++◌, Option, None, Some, slice_get, refl, sym, ◌∙◌, ap, subst}
+use Rattle.std.proofs.Common.{◌≡◌, inl, inr, ℕ, zero, suc, nat_le, Bool, true, false, cond, List, [], ◌∷◌, ◌++◌, Option, None, Some}
+use Rattle.std.proofs.Common.{slice_get, refl, sym, ◌∙◌, ap, subst}
 use Rattle.std.specs.List.{find}
 use Rattle.std.specs.Ordering.{nat_cmp}
 use Rattle.std.specs.Cmp.{nat_cmp_total, eq_by_cmp_equiv}
@@ -48,10 +49,12 @@ pub record NamesHold (D : List Cap) (names : Named) : Type 0 where
 pub names-more : (D more : List Cap) (names : Named) → NamesHold D names → NamesHold (D ++ more) names
 names-more D more names h = record { at = λ name m is. below-more (meant_caps m) D more (h.at name m is) }
 
-pub names-with : (D : List Cap) (name : List ℕ) (m : Meaning) (names : Named) → AllBelow (meant_caps m) D → NamesHold D names → NamesHold D ((name, m) ∷ names)
+pub names-with : (D : List Cap) (name : List ℕ) (m : Meaning) (names : Named) → AllBelow (meant_caps m) D → NamesHold D names
+    → NamesHold D ((name, m) ∷ names)
 names-with D name m names new h = record { at = λ q x is. go q x (same_text name q) is }
   where
-    go : (q : List ℕ) (x : Meaning) (b : Bool) → with_item (cond b (Some (name, m)) (find (λ e. same_text e.0 q) names)) (λ e. Some e.1) None ≡ Some x → AllBelow (meant_caps x) D
+    go : (q : List ℕ) (x : Meaning) (b : Bool)
+        → with_item (cond b (Some (name, m)) (find (λ e. same_text e.0 q) names)) (λ e. Some e.1) None ≡ Some x → AllBelow (meant_caps x) D
     go q x true e = let same : m ≡ x = cc e in subst (λ y. AllBelow (meant_caps y) D) same new
     go q x false e = h.at q x e
 
@@ -73,7 +76,8 @@ get-caps (x ∷ xs) (suc k) d D is h = get-caps xs k d D is (second-part (caps x
     second-part [] h = h
     second-part (c ∷ cs) h = second-part cs h.1
 
-meaning-value : (m : Meaning) (k : ℕ) (d : Datum) (D : List Cap) → value_of_meaning m k ≡ Some d → AllBelow (meant_caps m) D → AllBelow (caps d) D
+meaning-value : (m : Meaning) (k : ℕ) (d : Datum) (D : List Cap) → value_of_meaning m k ≡ Some d → AllBelow (meant_caps m) D
+    → AllBelow (caps d) D
 meaning-value (capability c) zero d D is h = let same : cap (Some c) ≡ d = cc is in subst (λ y. AllBelow (caps y) D) same h
 meaning-value (capability c) (suc k) d D is h = absurd (cc is)
 meaning-value (results ds) zero d D is h = absurd (cc is)
@@ -81,7 +85,8 @@ meaning-value (results ds) (suc k) d D is h = get-caps ds k d D is h
 meaning-value nothing zero d D is h = absurd (cc is)
 meaning-value nothing (suc k) d D is h = absurd (cc is)
 
-value-held : (w : World) (D : List Cap) → NamesHold D w.names → (name : List ℕ) (k : ℕ) (d : Datum) → value_at_name w name k ≡ Some d → AllBelow (caps d) D
+value-held : (w : World) (D : List Cap) → NamesHold D w.names → (name : List ℕ) (k : ℕ) (d : Datum) → value_at_name w name k ≡ Some d
+    → AllBelow (caps d) D
 value-held w D h name k d is = go (meaning_of w name) refl is
   where
     go : (o : Option Meaning) → meaning_of w name ≡ o → with_item o (λ m. value_of_meaning m k) None ≡ Some d → AllBelow (caps d) D
@@ -124,52 +129,67 @@ empty-second (x ∷ xs) ys e = absurd (cc e)
 none-below : (cs D : List Cap) → cs ≡ [] → AllBelow cs D
 none-below cs D e = subst (λ x. AllBelow x D) (sym e) tt
 
-listed : (D : List Cap) (o : Option Data) (d : Datum) → with_item o (λ ds. Some (list ds)) None ≡ Some d → ((ds : Data) → o ≡ Some ds → AllBelow (data_caps ds) D) → AllBelow (caps d) D
+listed : (D : List Cap) (o : Option Data) (d : Datum) → with_item o (λ ds. Some (list ds)) None ≡ Some d
+    → ((ds : Data) → o ≡ Some ds → AllBelow (data_caps ds) D) → AllBelow (caps d) D
 listed D None d is each = absurd (cc is)
 listed D (Some ds) d is each = let same : list ds ≡ d = cc is in subst (λ y. AllBelow (caps y) D) same (each ds refl)
 
-joined : (D : List Cap) (a : Option Datum) (b : Option Data) (ds : Data) → with_item a (λ d. with_item b (λ es. Some (data_and d es)) None) None ≡ Some ds
+joined : (D : List Cap) (a : Option Datum) (b : Option Data) (ds : Data)
+    → with_item a (λ d. with_item b (λ es. Some (data_and d es)) None) None ≡ Some ds
     → ((d : Datum) → a ≡ Some d → AllBelow (caps d) D) → ((es : Data) → b ≡ Some es → AllBelow (data_caps es) D) → AllBelow (data_caps ds) D
 joined D None b ds is x y = absurd (cc is)
 joined D (Some d) None ds is x y = absurd (cc is)
-joined D (Some d) (Some es) ds is x y = let same : data_and d es ≡ ds = cc is in subst (λ z. AllBelow (data_caps z) D) same (below-both (caps d) (data_caps es) D (x d refl) (y es refl))
+joined D (Some d) (Some es) ds is x y = let same : data_and d es ≡ ds = cc is in
+    subst (λ z. AllBelow (data_caps z) D) same (below-both (caps d) (data_caps es) D (x d refl) (y es refl))
 
 mutual
-  given-held : (w : World) (D : List Cap) → NamesHold D w.names → (g : Argument) (d : Datum) → written_in g ≡ [] → value_of w g ≡ Some d → AllBelow (caps d) D
+  given-held : (w : World) (D : List Cap) → NamesHold D w.names → (g : Argument) (d : Datum) → written_in g ≡ [] → value_of w g ≡ Some d
+      → AllBelow (caps d) D
   given-held w D h (plain x) d none is = let same : x ≡ d = cc is in subst (λ y. AllBelow (caps y) D) same (none-below (caps x) D none)
   given-held w D h (named name k) d none is = value-held w D h name k d is
   given-held w D h (several gs) d none is = listed D (values_of w gs) d is (λ ds at. givens-held w D h gs ds none at)
 
-  givens-held : (w : World) (D : List Cap) → NamesHold D w.names → (gs : Arguments) (ds : Data) → written_in_each gs ≡ [] → values_of w gs ≡ Some ds → AllBelow (data_caps ds) D
+  givens-held : (w : World) (D : List Cap) → NamesHold D w.names → (gs : Arguments) (ds : Data) → written_in_each gs ≡ []
+      → values_of w gs ≡ Some ds → AllBelow (data_caps ds) D
   givens-held w D h no_arguments ds none is = let same : no_data ≡ ds = cc is in subst (λ y. AllBelow (data_caps y) D) same tt
   givens-held w D h (argument_and g gs) ds none is = joined D (value_of w g) (values_of w gs) ds is
-      (λ d at. given-held w D h g d (empty-first (written_in g) (written_in_each gs) none) at) (λ es at. givens-held w D h gs es (empty-second (written_in g) (written_in_each gs) none) at)
+      (λ d at. given-held w D h g d (empty-first (written_in g) (written_in_each gs) none) at)
+      (λ es at. givens-held w D h gs es (empty-second (written_in g) (written_in_each gs) none) at)
 
 items-caps : (ds : Data) → caps_of (items_of ds) ≡ data_caps ds
 items-caps no_data = refl
 items-caps (data_and d ds) = ap (λ cs. caps d ++ cs) (items-caps ds)
 
-pub args-held : (w : World) (D : List Cap) → NamesHold D w.names → (gs : List Argument) (ds : List Datum) → written_in_each (arguments_of gs) ≡ [] → args_of w gs ≡ Some ds → AllBelow (caps_of ds) D
+pub args-held : (w : World) (D : List Cap) → NamesHold D w.names → (gs : List Argument) (ds : List Datum)
+    → written_in_each (arguments_of gs) ≡ [] → args_of w gs ≡ Some ds → AllBelow (caps_of ds) D
 args-held w D h gs ds none is = go (values_of w (arguments_of gs)) is (λ es at. givens-held w D h (arguments_of gs) es none at)
   where
     one : (es : Data) (b : Bool) → cond b (Some (items_of es)) None ≡ Some ds → AllBelow (data_caps es) D → AllBelow (caps_of ds) D
-    one es true e x = let same : items_of es ≡ ds = cc e in subst (λ y. AllBelow (caps_of y) D) same (subst (λ cs. AllBelow cs D) (sym (items-caps es)) x)
+    one es true e x = let same : items_of es ≡ ds = cc e in
+        subst (λ y. AllBelow (caps_of y) D) same (subst (λ cs. AllBelow cs D) (sym (items-caps es)) x)
     one es false e x = absurd (cc e)
 
-    go : (o : Option Data) → with_item o (λ es. cond (nat_le (depths es) DEPTH_LIMIT) (Some (items_of es)) None) None ≡ Some ds → ((es : Data) → o ≡ Some es → AllBelow (data_caps es) D) → AllBelow (caps_of ds) D
+    go : (o : Option Data) → with_item o (λ es. cond (nat_le (depths es) DEPTH_LIMIT) (Some (items_of es)) None) None ≡ Some ds
+        → ((es : Data) → o ≡ Some es → AllBelow (data_caps es) D) → AllBelow (caps_of ds) D
     go None e each = absurd (cc e)
     go (Some es) e each = one es (nat_le (depths es) DEPTH_LIMIT) e (each es refl)
 
 -- 4. What a call of the shell uses
 
-call-uses : (past : List Step) (name : List ℕ) (target : Cap) (operation : List ℕ) (args : List Datum) (at_once : Option Status) → IsBelowOne target (granted the_shell past) → AllBelow (caps_of args) (granted the_shell past)
+call-uses : (past : List Step) (name : List ℕ) (target : Cap) (operation : List ℕ) (args : List Datum) (at_once : Option Status)
+    → IsBelowOne target (granted the_shell past) → AllBelow (caps_of args) (granted the_shell past)
     → AllGranted (call_uses (new_call (Shell name) target operation args at_once) ∷ []) past
 call-uses past name target operation args None t a = ((t, a), tt)
 call-uses past name target operation args (Some s) t a = ((t, a), tt)
 
-pub shell-uses : (past : List Step) (k : ℕ) (name : List ℕ) (target : Cap) (operation : List ℕ) (args : List Datum) (at_once : Option Status) (t : Traffic) → IsBelowOne target (granted the_shell past)
-    → AllBelow (caps_of args) (granted the_shell past) → AllGranted (with_item (call_at (with_call k (Shell name) target operation args at_once t) k) (λ c. call_uses c ∷ []) []) past
+pub shell-uses : (past : List Step) (k : ℕ) (name : List ℕ) (target : Cap) (operation : List ℕ) (args : List Datum)
+    (at_once : Option Status) (t : Traffic) → IsBelowOne target (granted the_shell past)
+    → AllBelow (caps_of args) (granted the_shell past)
+    → AllGranted (with_item (call_at (with_call k (Shell name) target operation args at_once t) k) (λ c. call_uses c ∷ []) []) past
 shell-uses past k name target operation args at_once t below held =
-    let found : call_at (with_call k (Shell name) target operation args at_once t) k ≡ Some (new_call (Shell name) target operation args at_once)
-    = find-put nat_cmp nat_cmp_total k k (new_call (Shell name) target operation args at_once) t.calls ∙ rw (tied_itself nat_cmp_total k) refl in
-    subst (λ o. AllGranted (with_item o (λ c. call_uses c ∷ []) []) past) (sym found) (call-uses past name target operation args at_once below held)
+    let found : call_at (with_call k (Shell name) target operation args at_once t) k ≡ Some
+    (new_call (Shell name) target operation args at_once)
+    = find-put nat_cmp nat_cmp_total k k (new_call (Shell name) target operation args at_once) t.calls
+    ∙ rw (tied_itself nat_cmp_total k) refl in
+    subst (λ o. AllGranted (with_item o (λ c. call_uses c ∷ []) []) past) (sym found)
+    (call-uses past name target operation args at_once below held)

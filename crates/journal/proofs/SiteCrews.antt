@@ -1,5 +1,6 @@
 -- What changes of a crew leave: the calls that run, those who wait for what is outside, and the order of its queues.
-use Rattle.std.proofs.Common.{◌≡◌, ◌==◌, ◌+◌, ◌-◌, ◌≤◌, ◌<◌, ℕ, zero, suc, Bool, true, false, cond, not, List, [], ◌∷◌, map, Option, None, Some, length, refl, sym, ◌∙◌, ap, subst, arith}
+use Rattle.std.proofs.Common.{◌≡◌, ◌==◌, ◌+◌, ◌-◌, ◌≤◌, ◌<◌, ℕ, zero, suc, Bool, true, false, cond, not, List, [], ◌∷◌, map, Option}
+use Rattle.std.proofs.Common.{None, Some, length, refl, sym, ◌∙◌, ap, subst, arith}
 use Rattle.std.specs.Prelude.{slice_get}
 use Rattle.std.proofs.lemmas.Bool.{eq-eqb}
 use Rattle.std.specs.List.{filter_map, cons_option}
@@ -10,7 +11,9 @@ use Rattle.std.specs.Ordering.{nat_cmp, eq_by_cmp}
 use Rattle.std.specs.FinMap.Entries.{by_order}
 use Rattle.eden_model.specs.Map.{with_item, first, rest, value_at, put_at, where_key}
 use Rattle.eden_model.proofs.Numbers.{same-true, same-self}
-use Rattle.eden_model.specs.Crew.{Crew, Process, Monitor, Invocation, Waiting, nothing, outside, entry, condition, waits_at, Waits, Runs, with_waits, set_waits, set_waits_of, set_monitor, left_free, left, is_held_by, leave_held, ended, started, least_free, call_of, running}
+use Rattle.eden_model.specs.Crew.{Crew, Process, Monitor, Invocation, Waiting, nothing, outside, entry, condition, waits_at, Waits, Runs}
+use Rattle.eden_model.specs.Crew.{with_waits, set_waits, set_waits_of, set_monitor, left_free, left, is_held_by, leave_held, ended}
+use Rattle.eden_model.specs.Crew.{started, least_free, call_of, running}
 use Rattle.eden_model.specs.Lines.{AreLines, IsLine, IsOut}
 use Rattle.eden_model.proofs.LineLaws.{set-other, line-apart}
 use Rattle.eden_model.proofs.CrewLaws.{left-lines, left-conditions, leave_held-lines}

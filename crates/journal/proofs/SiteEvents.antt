@@ -1,5 +1,6 @@
 -- Every turn at a site keeps it sound: a process's turn, deliveries, starts, activations, the store's turns, boots and crashes.
-use Rattle.std.proofs.Common.{◌≡◌, ◌==◌, ◌+◌, ◌≤◌, ◌<◌, ℕ, nat_lt, zero, suc, Bool, true, false, cond, not, List, [], ◌∷◌, ◌++◌, map, Option, None, Some, is_some, length, refl, sym, ◌∙◌, ap, subst, arith, inl, inr}
+use Rattle.std.proofs.Common.{◌≡◌, ◌==◌, ◌+◌, ◌≤◌, ◌<◌, ℕ, nat_lt, zero, suc, Bool, true, false, cond, not, List, [], ◌∷◌, ◌++◌, map}
+use Rattle.std.proofs.Common.{Option, None, Some, is_some, length, refl, sym, ◌∙◌, ap, subst, arith, inl, inr}
 use Rattle.std.specs.Prelude.{IsSomeAnd, IfSome, ◌⊎◌}
 use Rattle.std.specs.List.{filter, find}
 use Rattle.std.specs.Option.{option_map}
@@ -14,7 +15,8 @@ use Rattle.eden_model.proofs.Laws.{eq-same}
 use Rattle.eden_model.proofs.Numbers.{same-true, same-self}
 use Rattle.eden_model.specs.Crew.{Invocation, Process, outside, Waits, Runs, running, started, least_free, startable, may_start}
 use Rattle.eden_model.proofs.FreeNumbers.{free-none, least_free-free}
-use Rattle.eden_model.specs.Traffic.{Traffic, Call, asked, held, answered, call_at, changed_call, at_place, closed, taken, replied, without_node}
+use Rattle.eden_model.specs.Traffic.{Traffic, Call, asked, held, answered, call_at, changed_call, at_place, closed, taken, replied}
+use Rattle.eden_model.specs.Traffic.{without_node}
 use Rattle.eden_model.specs.declared.Asker.{Asker}
 use Rattle.eden_model.specs.declared.Asker.TheVariants.{Shell, Eject as Asking}
 use Rattle.epl_syntax.specs.declared.effect.Answer.TheVariants.{Reply as Told}
@@ -23,7 +25,8 @@ use Rattle.epl_syntax.specs.Meaning.{Turned}
 use Rattle.journal.specs.World.{Active, Eject, Site, eject_in, on_eject, on_node, on_traffic}
 use Rattle.journal.specs.Ejects.{with_active, on_active, tells}
 use Rattle.journal.specs.Deliveries.{requested, tells_asker, received, heard}
-use Rattle.journal.specs.Processes.{invocation, AllowsStart, with_start, start, AllowsTurn, worker_at, turn_of, turned, serving, effected, process_turn}
+use Rattle.journal.specs.Processes.{invocation, AllowsStart, with_start, start, AllowsTurn, worker_at, turn_of, turned, serving}
+use Rattle.journal.specs.Processes.{effected, process_turn}
 use Rattle.journal.specs.Crashes.{fallen, crashed}
 use Rattle.journal.specs.Step.{IsActiveAnd}
 use Rattle.journal.specs.Sites.{active_in, runs_of, IsHeldAt, IsOpenOf, at_store, IsLaid}
@@ -31,8 +34,10 @@ use Rattle.journal.specs.declared.event.Shown.{Shown}
 use Rattle.journal.proofs.Fits.{times, times_in, LaidIn, Fits, SoundSite}
 use Rattle.journal.proofs.KeptTurns.{value-each}
 use Rattle.journal.proofs.Frame.{eject-on_eject}
-use Rattle.journal.proofs.Times.{times-append, times-filter, times-gone, Passes, passes-replied, passes-place, passes-closed, held-without_node, open-without_node, numbered-without_node, call-changed, shut-without_node}
-use Rattle.journal.proofs.SiteChanges.{Claims, AddsNothing, nothing-sound, StaysSound, stays-same, stays-then, nothing-stays, stays-item, nothing-on_traffic, nothing-on_eject}
+use Rattle.journal.proofs.Times.{times-append, times-filter, times-gone, Passes, passes-replied, passes-place, passes-closed}
+use Rattle.journal.proofs.Times.{held-without_node, open-without_node, numbered-without_node, call-changed, shut-without_node}
+use Rattle.journal.proofs.SiteChanges.{Claims, AddsNothing, nothing-sound, StaysSound, stays-same, stays-then, nothing-stays, stays-item}
+use Rattle.journal.proofs.SiteChanges.{nothing-on_traffic, nothing-on_eject}
 use Rattle.journal.proofs.SiteCrews.{runs-started, laid-started, waits-put}
 use Rattle.journal.proofs.SiteParts.{nothing-on_active, nothing-tells, loose-waits, eject-here}
 use Rattle.journal.proofs.Tasks.{Ruling, EffectFits}

@@ -1,5 +1,6 @@
 -- The parts of a turn keep a site sound: answers to processes, the end of an active part, and what is asked of the store.
-use Rattle.std.proofs.Common.{◌≡◌, ◌==◌, ◌+◌, ◌≤◌, ℕ, Bool, true, false, cond, ◌&&◌, List, [], ◌∷◌, Option, None, Some, refl, sym, ◌∙◌, ap, subst, arith, inl, inr}
+use Rattle.std.proofs.Common.{◌≡◌, ◌==◌, ◌+◌, ◌≤◌, ℕ, Bool, true, false, cond, ◌&&◌, List, [], ◌∷◌, Option, None, Some, refl, sym, ◌∙◌}
+use Rattle.std.proofs.Common.{ap, subst, arith, inl, inr}
 use Rattle.std.specs.Prelude.{IsSomeAnd, IfSome, ◌⊎◌}
 use Rattle.std.specs.List.{filter_map, cons_option}
 use Rattle.std.specs.Option.{option_map}
@@ -17,13 +18,15 @@ use Rattle.eden_model.specs.Traffic.{Traffic, Call, call_at, all_replied, asks, 
 use Rattle.eden_model.specs.declared.Asker.TheVariants.{Eject as Asking}
 use Rattle.epl_syntax.specs.declared.effect.Answer.{Answer}
 use Rattle.journal.specs.World.{Active, Eject, StoreRequest, Site, eject_in, on_eject, on_node, on_traffic}
-use Rattle.journal.specs.Ejects.{with_active, with_queued, on_active, on_crew, is_there, told, tells, dropped_of, without_requests, without_active, deactivated, turned_away, gone_if_unkept}
+use Rattle.journal.specs.Ejects.{with_active, with_queued, on_active, on_crew, is_there, told, tells, dropped_of, without_requests}
+use Rattle.journal.specs.Ejects.{without_active, deactivated, turned_away, gone_if_unkept}
 use Rattle.journal.specs.Sites.{active_in, runs_of, IsHeldAt, IsOpenOf, is_number, at_store, WaitsIn, IsLaid}
 use Rattle.journal.proofs.Fits.{times, times_in, LaidIn, SoundSite}
 use Rattle.journal.proofs.Frame.{eject-on_eject}
 use Rattle.journal.proofs.Messages.{value-calls}
 use Rattle.journal.proofs.Times.{passes-orphaned, passes-all_replied}
-use Rattle.journal.proofs.SiteChanges.{Claims, AddsNothing, StaysSound, stays-same, stays-then, nothing-stays, stays-item, nothing-on_traffic, nothing-quiet, nothing-on_node, nothing-on_eject, same-target}
+use Rattle.journal.proofs.SiteChanges.{Claims, AddsNothing, StaysSound, stays-same, stays-then, nothing-stays, stays-item}
+use Rattle.journal.proofs.SiteChanges.{nothing-on_traffic, nothing-quiet, nothing-on_node, nothing-on_eject, same-target}
 use Rattle.journal.proofs.SiteCrews.{Loose, waits_outside, waits_not, laid-set, runs-set}
 
 -- 1. Changes of the active part
@@ -164,7 +167,8 @@ none-open v p k t h = go (call_at t k) (subst (λ o. IsSomeAnd o (λ (c : Call).
     go None x = x
     go (Some c) x = one c (asks v c.asker) refl x.0 x.1
 
--- the same in another order: first the calls of the Eject are closed, then its requests go, then its active part, and then its calls are answered
+-- the same in another order: first the calls of the Eject are closed, then its requests go, then its active part, and then its calls are
+-- answered
 in-order : (v : Uid) (it : Active) (s : Site) → without_active v it s
     ≡ on_traffic (all_replied status.Dropped (running it.crew))
     (on_eject v (with_active None) (on_node (without_requests v) (on_traffic (orphaned v) s)))

@@ -5,7 +5,8 @@ use Rattle.std.specs.Prelude.{slice_get, slice_set}
 use Rattle.std.specs.Ordering.{nat_cmp, eq_by_cmp}
 use Rattle.eden_model.specs.Map.{with_item, first, rest}
 use Rattle.eden_model.proofs.Numbers.{same-true}
-use Rattle.eden_model.specs.Crew.{Crew, Monitor, Condition, outside, entry, condition, waits_at, Waits, Runs, set_waits, set_monitor, set_condition, match_holder, locked_by, locked, left, waited, queued_at, signalled, running}
+use Rattle.eden_model.specs.Crew.{Crew, Monitor, Condition, outside, entry, condition, waits_at, Waits, Runs, set_waits, set_monitor}
+use Rattle.eden_model.specs.Crew.{set_condition, match_holder, locked_by, locked, left, waited, queued_at, signalled, running}
 use Rattle.eden_model.specs.Lines.{AreLines, IsLine}
 use Rattle.eden_model.proofs.LineLaws.{set-other}
 use Rattle.eden_model.proofs.CrewLaws.{changed-at, left-conditions, locked-lines, waited-lines, signalled-lines}

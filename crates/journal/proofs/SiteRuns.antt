@@ -1,5 +1,6 @@
 -- Every site of every history is sound.
-use Rattle.std.proofs.Common.{◌≡◌, ◌==◌, ◌+◌, ◌≤◌, ℕ, Bool, true, false, cond, ◌&&◌, List, [], ◌∷◌, map, Option, None, Some, Ok, is_some, refl, sym, ◌∙◌, ap, subst, arith, inl, inr}
+use Rattle.std.proofs.Common.{◌≡◌, ◌==◌, ◌+◌, ◌≤◌, ℕ, Bool, true, false, cond, ◌&&◌, List, [], ◌∷◌, map, Option, None, Some, Ok, is_some}
+use Rattle.std.proofs.Common.{refl, sym, ◌∙◌, ap, subst, arith, inl, inr}
 use Rattle.std.specs.Prelude.{IsSomeAnd, IfSome, ◌⊎◌}
 use Rattle.std.specs.List.{All}
 use Rattle.std.specs.Ordering.{nat_cmp, eq_by_cmp}
@@ -10,7 +11,9 @@ use Rattle.eden_value.specs.declared.status.Status.{Status}
 use Rattle.eden_value.specs.declared.status.Status.TheVariants as status
 use Rattle.eden_model.specs.Map.{with_item, first, uid_cmp, value_at}
 use Rattle.eden_model.proofs.Numbers.{same-true}
-use Rattle.eden_model.specs.Traffic.{Traffic, Call, held, answered, call_at, next_call, new_call, with_call, asking_station, target_station, goes_by, goes, without_node, processes_of, broken_by_node, broken_by_link, without_link, shell_name}
+use Rattle.eden_model.specs.Traffic.{Traffic, Call, held, answered, call_at, next_call, new_call, with_call, asking_station}
+use Rattle.eden_model.specs.Traffic.{target_station, goes_by, goes, without_node, processes_of, broken_by_node, broken_by_link}
+use Rattle.eden_model.specs.Traffic.{without_link, shell_name}
 use Rattle.eden_model.specs.declared.Asker.TheVariants.{Shell, Eject as Asking}
 use Rattle.epl_syntax.specs.declared.effect.Answer.TheVariants.{Reply as Told}
 use Rattle.epl_syntax.specs.Edentype.{Edentype}
@@ -30,7 +33,8 @@ use Rattle.journal.specs.declared.event.Event.{Event}
 use Rattle.journal.specs.declared.event.Event.TheVariants as event
 use Rattle.journal.specs.declared.event.Entry.{Entry}
 use Rattle.journal.specs.declared.event.Key.{Key}
-use Rattle.journal.specs.World.{World, Site, Node, Eject, StoreRequest, node_at, site_of, site_at, at_node, with_site, eject_in, on_eject, on_node, on_traffic, is_up, reaches}
+use Rattle.journal.specs.World.{World, Site, Node, Eject, StoreRequest, node_at, site_of, site_at, at_node, with_site, eject_in}
+use Rattle.journal.specs.World.{on_eject, on_node, on_traffic, is_up, reaches}
 use Rattle.journal.specs.Ejects.{tells, fresh, next_uid, born}
 use Rattle.journal.specs.References.{cap_at}
 use Rattle.journal.specs.Deliveries.{AllowsReply, received}
@@ -38,9 +42,11 @@ use Rattle.journal.specs.Settling.{first_request, settled, unsynced, to_settle}
 use Rattle.journal.specs.Crashes.{crashed, tells_each, linked}
 use Rattle.journal.specs.Starts.{AllowsActivate, start_settled, activation_turn}
 use Rattle.journal.specs.Stores.{AllowsStore, EndsSo, Work, syncs, reads, unkept, without_room, calls, work_of, doubted, worked, store_turn}
-use Rattle.journal.specs.Commands.{AllowsCommand, AllowsAsked, asked, asked_by, ready_call, born_as, made, type_name_of, held_by, restricted_by}
+use Rattle.journal.specs.Commands.{AllowsCommand, AllowsAsked, asked, asked_by, ready_call, born_as, made, type_name_of, held_by}
+use Rattle.journal.specs.Commands.{restricted_by}
 use Rattle.journal.specs.Opening.{epoch_or_zero, node_of, found_in}
-use Rattle.journal.specs.Step.{AllowsAt, AllowsInTurn, AllowsEvent, Allows, next, after_turn, after_command, happened, at_site, stopped_at, site_turn, heard_by_shell, clocked, counted, key_of}
+use Rattle.journal.specs.Step.{AllowsAt, AllowsInTurn, AllowsEvent, Allows, next, after_turn, after_command, happened, at_site}
+use Rattle.journal.specs.Step.{stopped_at, site_turn, heard_by_shell, clocked, counted, key_of}
 use Rattle.journal.specs.Run.{AllowsLookUp, looked_up, beginning}
 use Rattle.journal.specs.Standing.{DiskRun}
 use Rattle.journal.specs.LegalRun.{AreHandedIn, numbered, images, opening_world, last_world}
@@ -51,7 +57,8 @@ use Rattle.journal.proofs.Fits.{times_in, Fits, SoundSite}
 use Rattle.journal.proofs.SafeRuns.{same-number}
 use Rattle.journal.proofs.EntryLists.{first-passes}
 use Rattle.journal.proofs.Runs.{Any, of-any, end-keeps, world-booting, nodes-looked_up}
-use Rattle.journal.proofs.EveryNode.{IsKeptAt, IsNext, next-following, following_uid, at-its-site, made-next, all-clocked, all-next, all-same_nodes}
+use Rattle.journal.proofs.EveryNode.{IsKeptAt, IsNext, next-following, following_uid, at-its-site, made-next, all-clocked, all-next}
+use Rattle.journal.proofs.EveryNode.{all-same_nodes}
 use Rattle.journal.proofs.SoundWorld.{sound-next, sound-looked_up}
 use Rattle.journal.proofs.EnabledTurns.{enabled-turns}
 use Rattle.journal.proofs.EnabledRuns.{sound-opening-world}

@@ -1,5 +1,6 @@
 -- The store's turns, activations and boots keep a site sound.
-use Rattle.std.proofs.Common.{◌≡◌, ◌+◌, ◌≤◌, ℕ, Bool, true, false, cond, not, ◌&&◌, List, [], ◌∷◌, Option, None, Some, is_some, refl, sym, ◌∙◌, ap, subst, arith, inl, inr}
+use Rattle.std.proofs.Common.{◌≡◌, ◌+◌, ◌≤◌, ℕ, Bool, true, false, cond, not, ◌&&◌, List, [], ◌∷◌, Option, None, Some, is_some, refl}
+use Rattle.std.proofs.Common.{sym, ◌∙◌, ap, subst, arith, inl, inr}
 use Rattle.std.specs.Prelude.{IsSomeAnd, IfSome}
 use Rattle.std.specs.List.{filter}
 use Rattle.std.specs.Option.{option_map}
@@ -34,13 +35,15 @@ use Rattle.journal.specs.declared.event.RequestEnd.{RequestEnd}
 use Rattle.journal.specs.declared.event.RequestEnd.TheVariants as end
 use Rattle.journal.specs.Deliveries.{misfit}
 use Rattle.journal.specs.Settling.{first_request, settled_eject, settled_node, settled, unsynced, written_with, to_settle}
-use Rattle.journal.specs.Stores.{Work, syncs, reads, unkept, without_room, calls, work_of, more_made, doubted, tells_code, request_ended, removed, stored, done, worked, store_turn}
+use Rattle.journal.specs.Stores.{Work, syncs, reads, unkept, without_room, calls, work_of, more_made, doubted, tells_code, request_ended}
+use Rattle.journal.specs.Stores.{removed, stored, done, worked, store_turn}
 use Rattle.journal.specs.Starts.{start_of, misfits_answered, fits_at, awake_as, activated, start_settled, activation_turn}
 use Rattle.journal.specs.Boots.{booted_node, boot_turn}
 use Rattle.journal.proofs.Fits.{times, times_in, SoundSite}
 use Rattle.journal.proofs.KeptTurns.{value-each}
 use Rattle.journal.proofs.Times.{times-filter, Passes, passes-same, passes-replied, call-changed, passes-then}
-use Rattle.journal.proofs.SiteChanges.{Claims, AddsNothing, StaysSound, stays-same, stays-then, nothing-stays, stays-item, nothing-on_traffic, SameParts, nothing-on_node, nothing-on_eject}
+use Rattle.journal.proofs.SiteChanges.{Claims, AddsNothing, StaysSound, stays-same, stays-then, nothing-stays, stays-item}
+use Rattle.journal.proofs.SiteChanges.{nothing-on_traffic, SameParts, nothing-on_node, nothing-on_eject}
 use Rattle.journal.proofs.SiteParts.{nothing-tells, loose-waits, eject-here, stays-turned_away, stays-deactivated, out-of}
 use Rattle.journal.proofs.Tasks.{IsRuledType, Ruling}
 use Rattle.journal.proofs.SiteTurns.{laid-fresh, runs-fresh}

@@ -1,5 +1,6 @@
 -- Turns of processes, deliveries, starts and crashes keep a site sound.
-use Rattle.std.proofs.Common.{◌≡◌, ◌+◌, ◌≤◌, ℕ, nat_le, zero, suc, Bool, true, false, cond, List, [], ◌∷◌, map, Option, None, Some, Result, Ok, Err, length, refl, sym, ◌∙◌, ap, subst, arith, inl, inr}
+use Rattle.std.proofs.Common.{◌≡◌, ◌+◌, ◌≤◌, ℕ, nat_le, zero, suc, Bool, true, false, cond, List, [], ◌∷◌, map, Option, None, Some}
+use Rattle.std.proofs.Common.{Result, Ok, Err, length, refl, sym, ◌∙◌, ap, subst, arith, inl, inr}
 use Rattle.std.specs.Prelude.{IfSome, slice_get}
 use Rattle.std.specs.List.{AllByRecursion, filter_map}
 use Rattle.std.specs.Ordering.{nat_cmp, eq_by_cmp}
@@ -16,7 +17,8 @@ use Rattle.eden_codec.specs.Spelling.{spelling, values_size}
 use Rattle.eden_model.specs.Map.{with_item, uid_cmp}
 use Rattle.eden_model.proofs.Laws.{eq-same}
 use Rattle.eden_model.proofs.Numbers.{same-true}
-use Rattle.eden_model.specs.Crew.{Crew, Condition, Invocation, fresh_crew, quiet_at, outside, Waits, Runs, locked, left, waited, signalled, set_waits, running, declared_from, call_of}
+use Rattle.eden_model.specs.Crew.{Crew, Condition, Invocation, fresh_crew, quiet_at, outside, Waits, Runs, locked, left, waited}
+use Rattle.eden_model.specs.Crew.{signalled, set_waits, running, declared_from, call_of}
 use Rattle.eden_model.proofs.Fresh.{fresh-lines}
 use Rattle.eden_model.specs.Traffic.{next_call, replied, with_call}
 use Rattle.eden_model.specs.declared.Asker.TheVariants.{Eject as Asking}
@@ -31,15 +33,19 @@ use Rattle.epl_syntax.specs.Meaning.{setup_of, rep_of, type_of, first_values}
 use Rattle.journal.specs.Change.{body, removal}
 use Rattle.journal.specs.World.{Active, Eject, Site, eject_in, on_eject, on_node, on_traffic}
 use Rattle.journal.specs.Ejects.{with_active, on_active, on_crew, tells, deactivated, fresh, next_uid, newborn, born}
-use Rattle.journal.specs.Processes.{serving, without_process, asks_store, answers, refused_at_once, waits_or_told, creates, checkpoints, effected}
+use Rattle.journal.specs.Processes.{serving, without_process, asks_store, answers, refused_at_once, waits_or_told, creates, checkpoints}
+use Rattle.journal.specs.Processes.{effected}
 use Rattle.journal.specs.Sites.{active_in, runs_of, IsHeldAt, WaitsIn, IsLaid}
 use Rattle.journal.proofs.Fits.{times, times_in, LaidIn, SoundSite}
 use Rattle.journal.proofs.Tasks.{IsRuledType, Ruling, FitsEffect}
 use Rattle.journal.proofs.Times.{Passes, passes-same, passes-replied}
-use Rattle.journal.proofs.SiteChanges.{Claims, AddsNothing, nothing-sound, StaysSound, stays-same, stays-then, nothing-stays, nothing-on_traffic, nothing-quiet, same-target}
+use Rattle.journal.proofs.SiteChanges.{Claims, AddsNothing, nothing-sound, StaysSound, stays-same, stays-then, nothing-stays}
+use Rattle.journal.proofs.SiteChanges.{nothing-on_traffic, nothing-quiet, same-target}
 use Rattle.journal.proofs.SiteCrews.{runs-ended, runs-served, runs-left, laid-ended, laid-left, waits-ended, waits-left}
-use Rattle.journal.proofs.SiteQueues.{runs-locked, waits-locked, laid-locked, runs-waited, waits-waited, laid-waited, runs-signalled, waits-signalled, laid-signalled}
-use Rattle.journal.proofs.SiteParts.{HasPart, nothing-on_active, eject-here, stays-turned_away, stays-deactivated, stays-gone, Ready, free-ready, stays-tells, nothing-waits, waits-now}
+use Rattle.journal.proofs.SiteQueues.{runs-locked, waits-locked, laid-locked, runs-waited, waits-waited, laid-waited, runs-signalled}
+use Rattle.journal.proofs.SiteQueues.{waits-signalled, laid-signalled}
+use Rattle.journal.proofs.SiteParts.{HasPart, nothing-on_active, eject-here, stays-turned_away, stays-deactivated, stays-gone, Ready}
+use Rattle.journal.proofs.SiteParts.{free-ready, stays-tells, nothing-waits, waits-now}
 use Rattle.journal.proofs.SiteCalls.{stays-asks, stays-called}
 
 -- 1. A process ends, and its call is answered

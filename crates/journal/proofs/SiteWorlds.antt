@@ -1,5 +1,6 @@
 -- A change of one site leaves the others sound, and so do the answers to those whose calls are broken.
-use Rattle.std.proofs.Common.{◌≡◌, ◌==◌, ◌+◌, ◌≤◌, ℕ, Bool, true, false, cond, not, ◌&&◌, ◌||◌, List, [], ◌∷◌, Option, None, Some, refl, sym, ◌∙◌, ap, subst, arith, inl, inr}
+use Rattle.std.proofs.Common.{◌≡◌, ◌==◌, ◌+◌, ◌≤◌, ℕ, Bool, true, false, cond, not, ◌&&◌, ◌||◌, List, [], ◌∷◌, Option, None, Some, refl}
+use Rattle.std.proofs.Common.{sym, ◌∙◌, ap, subst, arith, inl, inr}
 use Rattle.std.specs.Prelude.{IsSomeAnd, IfSome, ◌⊎◌}
 use Rattle.std.specs.List.{filter_map, cons_option}
 use Rattle.std.specs.Option.{option_map}
@@ -10,7 +11,8 @@ use Rattle.eden_model.specs.Map.{with_item, uid_cmp, value_at, each_value}
 use Rattle.eden_model.proofs.Numbers.{same-true, same-self}
 use Rattle.eden_model.specs.Crew.{Crew, nothing, outside, set_waits, waits_at}
 use Rattle.eden_model.proofs.LineLaws.{set-other, set-same}
-use Rattle.eden_model.specs.Traffic.{Traffic, Call, call_at, asking_station, target_station, crashed_call, on_link, cut_call, without_node, without_link, waiting_process, processes_of, broken_by_node, broken_by_link}
+use Rattle.eden_model.specs.Traffic.{Traffic, Call, call_at, asking_station, target_station, crashed_call, on_link, cut_call}
+use Rattle.eden_model.specs.Traffic.{without_node, without_link, waiting_process, processes_of, broken_by_node, broken_by_link}
 use Rattle.eden_model.specs.declared.Asker.{Asker}
 use Rattle.eden_model.specs.declared.Asker.TheVariants.{Shell, Eject as Asking}
 use Rattle.epl_syntax.specs.declared.effect.Answer.{Answer}

@@ -1,5 +1,6 @@
 -- Each start is whole in every history of every script over any disks.
-use Rattle.std.proofs.Common.{◌≡◌, ◌==◌, ℕ, Bool, true, false, cond, List, [], ◌∷◌, map, Option, None, Some, Result, Ok, Err, refl, sym, ap, subst}
+use Rattle.std.proofs.Common.{◌≡◌, ◌==◌, ℕ, Bool, true, false, cond, List, [], ◌∷◌, map, Option, None, Some, Result, Ok, Err, refl, sym}
+use Rattle.std.proofs.Common.{ap, subst}
 use Rattle.std.specs.Prelude.{IfSome}
 use Rattle.std.specs.List.{filter_map, cons_option}
 use Rattle.std.specs.Ordering.{nat_cmp, eq_by_cmp}
@@ -36,18 +37,23 @@ no-doubt u (e ∷ es) = go (e.0.serial == 0) (no-doubt u es)
     go true h = h
     go false h = found (eq_by_cmp uid_cmp u e.0) (value_at uid_cmp u (filter_map passive_entry es)) h
 
-rests : (n size : ℕ) (found : Result (List (Uid × List ℕ)) ℕ) (overfull : Bool) (ledger : List ℕ) → IsAtRest (node_from n size found overfull ledger)
+rests : (n size : ℕ) (found : Result (List (Uid × List ℕ)) ℕ) (overfull : Bool) (ledger : List ℕ)
+    → IsAtRest (node_from n size found overfull ledger)
 rests n size (Ok kept) overfull ledger = record { no_doubt = λ u. no-doubt u kept; no_request = refl }
 rests n size (Err place) overfull ledger = record { no_doubt = λ u. refl; no_request = refl }
 
-all-rest : (layout : Layout) (disks : List (ℕ × List ℕ)) (n : ℕ) (it : Node) → value_at nat_cmp n (map (λ d. (d.0, node_of layout d)) disks) ≡ Some it → IsAtRest it
+all-rest : (layout : Layout) (disks : List (ℕ × List ℕ)) (n : ℕ) (it : Node)
+    → value_at nat_cmp n (map (λ d. (d.0, node_of layout d)) disks) ≡ Some it → IsAtRest it
 all-rest layout [] n it is = absurd (cc is)
 all-rest layout (d ∷ ds) n it is = go (eq_by_cmp nat_cmp n d.0) refl (all-rest layout ds n it)
   where
-    go : (b : Bool) → eq_by_cmp nat_cmp n d.0 ≡ b → (value_at nat_cmp n (map (λ d. (d.0, node_of layout d)) ds) ≡ Some it → IsAtRest it) → IsAtRest it
-    go true b later = let here : Some (node_of layout d) ≡ Some it = subst (λ c. cond c (Some (node_of layout d)) (value_at nat_cmp n (map (λ d. (d.0, node_of layout d)) ds)) ≡ Some it) b is in
+    go : (b : Bool) → eq_by_cmp nat_cmp n d.0 ≡ b → (value_at nat_cmp n (map (λ d. (d.0, node_of layout d)) ds) ≡ Some it → IsAtRest it)
+        → IsAtRest it
+    go true b later = let here : Some (node_of layout d) ≡ Some it = subst
+        (λ c. cond c (Some (node_of layout d)) (value_at nat_cmp n (map (λ d. (d.0, node_of layout d)) ds)) ≡ Some it) b is in
         subst (λ o. IfSome o IsAtRest) here (rests d.0 _ (found_in layout d.0 d.1) _ _)
-    go false b later = later (subst (λ c. cond c (Some (node_of layout d)) (value_at nat_cmp n (map (λ d. (d.0, node_of layout d)) ds)) ≡ Some it) b is)
+    go false b later = later (subst (λ c. cond c (Some (node_of layout d)) (value_at nat_cmp n (map (λ d. (d.0, node_of layout d)) ds))
+        ≡ Some it) b is)
 
 kept-facts : (o : Option Eject) → (facts_of o).0 ≡ with_item o (λ e. e.kept) None
 kept-facts None = refl
@@ -71,9 +77,11 @@ told-at-rest w all = record { each = each; queues = λ n it is. rw (all n it is)
 
 pub starts-are-whole : (layout : Layout) (script : Script) (disks : List DiskRun) (history : List Entry)
     → FollowsSoFar (opening_world layout script disks) script.nodes script.commands history
-    → EachStep (λ past s. StartIsWhole (opening_world layout script disks) past s s.entry.event) [] (run_of (opening_world layout script disks) script history)
+    → EachStep (λ past s. StartIsWhole (opening_world layout script disks) past s s.entry.event) []
+    (run_of (opening_world layout script disks) script history)
 starts-are-whole layout script disks history follows = each-start-whole w script.nodes script.commands history
-    (subst (λ x. AllTold w x []) (sym (world-booting 1 script.nodes w script.commands)) (told-at-rest w (all-rest layout (images (numbered disks))))) follows
+    (subst (λ x. AllTold w x []) (sym (world-booting 1 script.nodes w script.commands))
+    (told-at-rest w (all-rest layout (images (numbered disks))))) follows
   where
     w : World
     w = opening_world layout script disks

@@ -88,11 +88,13 @@ pub follows : FollowsOverBlank 1 commands history
 unfolding commands history at_node on_eject on_node on_traffic least_number
 follows = follows-over-blank 1 commands history refl
 
-plain_text : text_of mode.Plain history ≡ codes "node 1 up epoch 1\nc is 1.1.1\na ok ()\nquiet\nb ok (0)\nquiet\nd ok ()\nquiet\nnode 1 down stop\nf refused 6 broken\nquiet\nnode 1 up epoch 2\ng ok (5)\nquiet\n"
+plain_text : text_of mode.Plain history ≡ codes
+    "node 1 up epoch 1\nc is 1.1.1\na ok ()\nquiet\nb ok (0)\nquiet\nd ok ()\nquiet\nnode 1 down stop\nf refused 6 broken\nquiet\nnode 1 up epoch 2\ng ok (5)\nquiet\n"
 unfolding history entry_text trace_text shown_text
 plain_text = rw (d0, d1, d2, d5) refl
 
-traced_text : text_of mode.Trace (take 5 (drop 29 history)) ≡ codes "+ process 1.1.1 1 checkpoint\n+ store 1.1.1 16 part\n+ store 1.1.1 17 part\nnode 1 down stop\nf refused 6 broken\nquiet\n"
+traced_text : text_of mode.Trace (take 5 (drop 29 history))
+    ≡ codes "+ process 1.1.1 1 checkpoint\n+ store 1.1.1 16 part\n+ store 1.1.1 17 part\nnode 1 down stop\nf refused 6 broken\nquiet\n"
 unfolding history entry_text trace_text shown_text
 traced_text = rw (d1, d16, d17) refl
 

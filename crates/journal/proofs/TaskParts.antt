@@ -1,5 +1,6 @@
 -- What changes of an active part leave of its tasks.
-use Rattle.std.proofs.Common.{◌≡◌, ◌==◌, ◌-◌, ◌+◌, ◌≤◌, arith, ℕ, zero, suc, Bool, true, false, cond, not, List, [], ◌∷◌, ◌++◌, map, length, Option, None, Some, is_some, refl, sym, ◌∙◌, ap, subst}
+use Rattle.std.proofs.Common.{◌≡◌, ◌==◌, ◌-◌, ◌+◌, ◌≤◌, arith, ℕ, zero, suc, Bool, true, false, cond, not, List, [], ◌∷◌, ◌++◌, map}
+use Rattle.std.proofs.Common.{length, Option, None, Some, is_some, refl, sym, ◌∙◌, ap, subst}
 use Rattle.std.specs.Prelude.{IfSome, slice_get}
 use Rattle.std.specs.List.{AllByRecursion, filter}
 use Rattle.std.specs.Option.{option_map}
@@ -11,7 +12,9 @@ use Rattle.capability.specs.declared.Uid.{Uid}
 use Rattle.eden_value.specs.Datum.{Datum}
 use Rattle.eden_value.specs.declared.status.Status.{Status}
 use Rattle.eden_model.specs.Map.{with_item, first, rest, value_at, changed_at}
-use Rattle.eden_model.specs.Crew.{Waiting, nothing, outside, Process, Monitor, Condition, Crew, set_waits, set_monitor, set_condition, match_holder, locked, left, waited, queued_at, signalled, least_free, started, leave_held, ended, declared_from, entry, condition}
+use Rattle.eden_model.specs.Crew.{Waiting, nothing, outside, Process, Monitor, Condition, Crew, set_waits, set_monitor, set_condition}
+use Rattle.eden_model.specs.Crew.{match_holder, locked, left, waited, queued_at, signalled, least_free, started, leave_held, ended}
+use Rattle.eden_model.specs.Crew.{declared_from, entry, condition}
 use Rattle.eden_model.specs.Traffic.{Traffic, Call, call_at}
 use Rattle.eden_model.proofs.Laws.{value-changed}
 use Rattle.eden_model.proofs.Numbers.{same-true}

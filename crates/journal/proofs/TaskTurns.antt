@@ -1,5 +1,6 @@
 -- Every turn at a site leaves its active parts fit.
-use Rattle.std.proofs.Common.{◌≡◌, ◌==◌, ◌+◌, ◌≤◌, ℕ, nat_le, nat_lt, Bool, true, false, cond, not, List, [], ◌∷◌, ◌++◌, Option, None, Some, is_some, Result, Ok, Err, length, refl, sym, ◌∙◌, ap, subst, arith}
+use Rattle.std.proofs.Common.{◌≡◌, ◌==◌, ◌+◌, ◌≤◌, ℕ, nat_le, nat_lt, Bool, true, false, cond, not, List, [], ◌∷◌, ◌++◌, Option, None}
+use Rattle.std.proofs.Common.{Some, is_some, Result, Ok, Err, length, refl, sym, ◌∙◌, ap, subst, arith}
 use Rattle.std.specs.Prelude.{IsSomeAnd, IfSome}
 use Rattle.std.specs.List.{filter}
 use Rattle.std.specs.Option.{option_map}
@@ -21,7 +22,8 @@ use Rattle.eden_model.proofs.Numbers.{same-true}
 use Rattle.eden_model.specs.Crew.{Invocation, outside, set_waits, locked, left, waited, signalled, running}
 use Rattle.eden_model.specs.declared.Asker.{Asker}
 use Rattle.eden_model.specs.declared.Asker.TheVariants.{Shell, Eject as Process}
-use Rattle.eden_model.specs.Traffic.{Traffic, Call, asked, held, call_at, next_call, with_call, changed_call, at_place, taken, replied, all_replied, orphaned}
+use Rattle.eden_model.specs.Traffic.{Traffic, Call, asked, held, call_at, next_call, with_call, changed_call, at_place, taken, replied}
+use Rattle.eden_model.specs.Traffic.{all_replied, orphaned}
 use Rattle.epl_syntax.specs.declared.effect.Answer.{Answer}
 use Rattle.epl_syntax.specs.declared.effect.Answer.TheVariants.{Code, Reply as Told, Created as Made}
 use Rattle.epl_syntax.specs.declared.effect.Effect.{Effect}
@@ -41,12 +43,15 @@ use Rattle.journal.specs.declared.event.RequestEnd.TheVariants as end
 use Rattle.journal.specs.declared.event.Event.{Event}
 use Rattle.journal.specs.declared.event.Event.TheVariants as event
 use Rattle.journal.specs.World.{Active, Eject, StoreRequest, Node, Site, eject_in, on_eject, on_node, on_traffic}
-use Rattle.journal.specs.Ejects.{with_active, with_queued, on_active, on_crew, is_there, told, tells, without_requests, deactivated, turned_away, gone_if_unkept, fresh, next_uid, newborn, born}
+use Rattle.journal.specs.Ejects.{with_active, with_queued, on_active, on_crew, is_there, told, tells, without_requests, deactivated}
+use Rattle.journal.specs.Ejects.{turned_away, gone_if_unkept, fresh, next_uid, newborn, born}
 use Rattle.journal.specs.Deliveries.{misfit, refusal, refusal_at, AllowsRequest, requested, tells_asker, received, heard}
-use Rattle.journal.specs.Processes.{AllowsStart, turn_of, turned, serving, with_start, start, without_process, asks_store, answers, refused_at_once, waits_or_told, creates, checkpoints, effected, process_turn}
+use Rattle.journal.specs.Processes.{AllowsStart, turn_of, turned, serving, with_start, start, without_process, asks_store, answers}
+use Rattle.journal.specs.Processes.{refused_at_once, waits_or_told, creates, checkpoints, effected, process_turn}
 use Rattle.journal.specs.Settling.{first_request, settled_eject, settled, unsynced, written_with, to_settle}
 use Rattle.journal.specs.Crashes.{fallen, crashed}
-use Rattle.journal.specs.Stores.{Work, syncs, reads, unkept, without_room, calls, work_of, more_made, doubted, tells_code, request_ended, removed, stored, done, worked, store_turn}
+use Rattle.journal.specs.Stores.{Work, syncs, reads, unkept, without_room, calls, work_of, more_made, doubted, tells_code, request_ended}
+use Rattle.journal.specs.Stores.{removed, stored, done, worked, store_turn}
 use Rattle.journal.specs.Starts.{start_of, misfits_answered, fits_at, activated, activation_turn}
 use Rattle.journal.specs.Boots.{booted_node, boot_turn}
 use Rattle.journal.specs.Step.{AllowsAt, IsActiveAnd, site_turn}
@@ -56,7 +61,8 @@ use Rattle.journal.proofs.KeptTurns.{value-each}
 use Rattle.journal.proofs.Fits.{times}
 use Rattle.journal.proofs.Times.{times-append, times-gone}
 use Rattle.journal.proofs.Tasks.{IsRuledType, Ruling, FitsCall, FitsActive, FitsEject, AllFitIn, EffectFits, CallsKept}
-use Rattle.journal.proofs.TaskParts.{fits-crew, fits-told, fits-waits_or_told, fits-turned, fits-effect, fits-without, fits-start, fits-fresh, serves-set, serves-left, serves-locked, serves-waited, serves-signalled}
+use Rattle.journal.proofs.TaskParts.{fits-crew, fits-told, fits-waits_or_told, fits-turned, fits-effect, fits-without, fits-start}
+use Rattle.journal.proofs.TaskParts.{fits-fresh, serves-set, serves-left, serves-locked, serves-waited, serves-signalled}
 use Rattle.journal.proofs.SiteTurns.{IsNew}
 use Rattle.journal.proofs.SiteEvents.{ruling-on_eject, startable-there}
 use Rattle.journal.proofs.SiteStores.{ruled-start}

@@ -1,5 +1,6 @@
 -- How often calls stand in lists, and what changes of the messages leave of calls that are held or open.
-use Rattle.std.proofs.Common.{◌≡◌, ◌==◌, ◌+◌, ◌≤◌, ◌<◌, ℕ, suc, Bool, true, false, cond, not, ◌||◌, List, [], ◌∷◌, ◌++◌, Option, None, Some, length, refl, sym, ◌∙◌, ap, subst, arith}
+use Rattle.std.proofs.Common.{◌≡◌, ◌==◌, ◌+◌, ◌≤◌, ◌<◌, ℕ, suc, Bool, true, false, cond, not, ◌||◌, List, [], ◌∷◌, ◌++◌, Option, None}
+use Rattle.std.proofs.Common.{Some, length, refl, sym, ◌∙◌, ap, subst, arith}
 use Rattle.std.specs.Prelude.{IsSomeAnd}
 use Rattle.std.proofs.lemmas.Bool.{eq-eqb}
 use Rattle.std.specs.List.{filter}
@@ -19,7 +20,9 @@ use Rattle.eden_model.proofs.Laws.{value-changed}
 use Rattle.eden_model.proofs.Numbers.{same-true}
 use Rattle.eden_model.specs.declared.Asker.{Asker}
 use Rattle.eden_model.specs.declared.Asker.TheVariants.{Eject as Asking}
-use Rattle.eden_model.specs.Traffic.{Place, held, answered, done as over, Traffic, Call, asking_station, call_at, next_call, changed_call, at_place, closed, sent, taken, replied, all_replied, new_call, with_call, asks, orphaned, in_transit, touches, crashed_call, on_link, cut_call, without_node, without_link}
+use Rattle.eden_model.specs.Traffic.{Place, held, answered, done as over, Traffic, Call, asking_station, call_at, next_call}
+use Rattle.eden_model.specs.Traffic.{changed_call, at_place, closed, sent, taken, replied, all_replied, new_call, with_call, asks}
+use Rattle.eden_model.specs.Traffic.{orphaned, in_transit, touches, crashed_call, on_link, cut_call, without_node, without_link}
 use Rattle.journal.specs.Sites.{IsHeldAt, IsOpenOf, AreNumbered}
 use Rattle.journal.proofs.Fits.{times}
 use Rattle.journal.proofs.Messages.{value-calls}

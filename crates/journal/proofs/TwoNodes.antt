@@ -61,6 +61,7 @@ pub follows : FollowsOverBlank 2 commands history
 unfolding commands history at_node on_eject on_node on_traffic least_number
 follows = follows-over-blank 2 commands history refl
 
-plain_text : text_of mode.Plain history ≡ codes "node 1 up epoch 1\nnode 2 up epoch 1\nc is 1.1.1\nd is 2.1.1\nnode 2 down crash\na refused 6 broken\nb ok (0)\nquiet\nnode 2 up epoch 2\ne refused 4 gone\nquiet\nf refused 5 unreachable\n"
+plain_text : text_of mode.Plain history ≡ codes
+    "node 1 up epoch 1\nnode 2 up epoch 1\nc is 1.1.1\nd is 2.1.1\nnode 2 down crash\na refused 6 broken\nb ok (0)\nquiet\nnode 2 up epoch 2\ne refused 4 gone\nquiet\nf refused 5 unreachable\n"
 unfolding history entry_text trace_text shown_text
 plain_text = rw (d0, d1, d2, d4, d5) refl

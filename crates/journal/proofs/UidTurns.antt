@@ -15,14 +15,17 @@ use Rattle.journal.specs.Step.{AllowsAt, site_turn}
 use Rattle.journal.specs.Opening.{epoch_or_zero}
 use Rattle.journal.proofs.Uids.{UidsFit, Fit, OfNode}
 use Rattle.journal.proofs.EveryNode.{IsKeptAt, next-following}
-use Rattle.journal.proofs.UidLaw.{raised, fit-on_node, fit-tells, fit-born, fit-process_turn, fit-requested, fit-heard, fit-start, fit-crashed, fit-settled, fit-store_turn, fit-activation}
+use Rattle.journal.proofs.UidLaw.{raised, fit-on_node, fit-tells, fit-born, fit-process_turn, fit-requested, fit-heard, fit-start}
+use Rattle.journal.proofs.UidLaw.{fit-crashed, fit-settled, fit-store_turn, fit-activation}
 
 -- 1. Boots: the epoch that is put is past the stored one
 
-began-doubt : {G : Uid → Type 0} (epoch doubt : Option ℕ) (last : ℕ) (es : List (Uid × Eject)) (e : ℕ) (began : Bool) → (began ≡ true → e ≡ epoch_or_zero epoch + 1)
+began-doubt : {G : Uid → Type 0} (epoch doubt : Option ℕ) (last : ℕ) (es : List (Uid × Eject)) (e : ℕ) (began : Bool)
+    → (began ≡ true → e ≡ epoch_or_zero epoch + 1)
     → UidsFit G epoch doubt last es → UidsFit G epoch (cond began (Some e) doubt) last es
 began-doubt epoch doubt last es e false is fit = fit
-began-doubt epoch doubt last es e true is fit = record { doubt_is_next = omega (arith, is refl); in_order = fit.in_order; behind = fit.behind; all_given = fit.all_given }
+began-doubt epoch doubt last es e true is fit =
+    record { doubt_is_next = omega (arith, is refl); in_order = fit.in_order; behind = fit.behind; all_given = fit.all_given }
 
 false-true : {A : Type 0} → false ≡ true → A
 false-true e = absurd (cc e)
@@ -30,7 +33,8 @@ false-true e = absurd (cc e)
 not-begun : {A : Type 0} (began : Bool) → began ≡ false → began ≡ true → A
 not-begun began is_not is = false-true (sym is_not ∙ is)
 
-failed-next : (s : Site) (e : ℕ) (p : Option Pick) (began : Bool) → Failed s e p began → began ≡ true → e ≡ epoch_or_zero (settled p s).node.epoch + 1
+failed-next : (s : Site) (e : ℕ) (p : Option Pick) (began : Bool) → Failed s e p began → began ≡ true
+    → e ≡ epoch_or_zero (settled p s).node.epoch + 1
 failed-next s e p began (inl opens) is = not-begun began opens.nothing.not_begun is
 failed-next s e p began (inr (inl reads)) is = not-begun began reads.nothing.not_begun is
 failed-next s e p began (inr (inr next)) is = next.next_one
@@ -45,7 +49,8 @@ no-doubt None s is = go s.node.epoch_doubt refl
     go None e = e
     go (Some x) e = false-true (is ∙ ap (λ d. in_doubt s.number (record s.node { epoch_doubt = d })) e)
 
-up-fits : {G : Uid → Type 0} (epoch doubt : Option ℕ) (last : ℕ) (es : List (Uid × Eject)) (e : ℕ) → doubt ≡ None → e ≡ epoch_or_zero epoch + 1 → UidsFit G epoch doubt last es → UidsFit G (Some e) doubt 0 es
+up-fits : {G : Uid → Type 0} (epoch doubt : Option ℕ) (last : ℕ) (es : List (Uid × Eject)) (e : ℕ) → doubt ≡ None
+    → e ≡ epoch_or_zero epoch + 1 → UidsFit G epoch doubt last es → UidsFit G (Some e) doubt 0 es
 up-fits epoch doubt last es e none is fit = record {
   doubt_is_next = rw none tt;
   in_order = fit.in_order;
@@ -53,24 +58,35 @@ up-fits epoch doubt last es e none is fit = record {
   all_given = λ u g. raised u (epoch_or_zero epoch) e last 0 (omega (arith, is)) (fit.all_given u g);
 }
 
-fit-booted : {G : Uid → Type 0} (s : Site) (e : ℕ) (how : BootEnd) (p : Option Pick) (began : Bool) (now : Site) → now ≡ settled p s → BootsSo s e how p began → Fit G now.node → Fit G (booted_node s e how began now.node)
+fit-booted : {G : Uid → Type 0} (s : Site) (e : ℕ) (how : BootEnd) (p : Option Pick) (began : Bool) (now : Site) → now ≡ settled p s
+    → BootsSo s e how p began → Fit G now.node → Fit G (booted_node s e how began now.node)
 fit-booted s e boot_end.Up p began now is b fit = up-fits now.node.epoch now.node.epoch_doubt now.node.last_serial now.node.ejects e
-    (ap (λ (t : Site). t.node.epoch_doubt) is ∙ no-doubt p s b.opened.picked) (b.next_one ∙ ap (λ (t : Site). epoch_or_zero t.node.epoch + 1) (sym is)) fit
-fit-booted s e boot_end.DiskFault p began now is b fit = began-doubt now.node.epoch now.node.epoch_doubt now.node.last_serial now.node.ejects e began
+    (ap (λ (t : Site). t.node.epoch_doubt) is ∙ no-doubt p s b.opened.picked)
+    (b.next_one ∙ ap (λ (t : Site). epoch_or_zero t.node.epoch + 1) (sym is)) fit
+fit-booted s e boot_end.DiskFault p began now is b fit =
+    began-doubt now.node.epoch now.node.epoch_doubt now.node.last_serial now.node.ejects e began
     (λ h. failed-next s e p began b h ∙ ap (λ (t : Site). epoch_or_zero t.node.epoch + 1) (sym is)) fit
-fit-booted s e boot_end.Stop p began now is b fit = began-doubt now.node.epoch now.node.epoch_doubt now.node.last_serial now.node.ejects e began
+fit-booted s e boot_end.Stop p began now is b fit =
+    began-doubt now.node.epoch now.node.epoch_doubt now.node.last_serial now.node.ejects e began
     (λ h. failed-next s e p began b h ∙ ap (λ (t : Site). epoch_or_zero t.node.epoch + 1) (sym is)) fit
-fit-booted s e (boot_end.Damaged place) p began now is b fit = began-doubt now.node.epoch now.node.epoch_doubt now.node.last_serial now.node.ejects e began (not-begun began b.nothing.not_begun) fit
-fit-booted s e boot_end.EpochsSpent p began now is b fit = began-doubt now.node.epoch now.node.epoch_doubt now.node.last_serial now.node.ejects e began (not-begun began b.nothing.not_begun) fit
-fit-booted s e boot_end.Full p began now is (inl b) fit = began-doubt now.node.epoch now.node.epoch_doubt now.node.last_serial now.node.ejects e began (not-begun began b.nothing.not_begun) fit
-fit-booted s e boot_end.Full p began now is (inr b) fit = began-doubt now.node.epoch now.node.epoch_doubt now.node.last_serial now.node.ejects e began (not-begun began b.nothing.not_begun) fit
+fit-booted s e (boot_end.Damaged place) p began now is b fit =
+    began-doubt now.node.epoch now.node.epoch_doubt now.node.last_serial now.node.ejects e began (not-begun began b.nothing.not_begun) fit
+fit-booted s e boot_end.EpochsSpent p began now is b fit =
+    began-doubt now.node.epoch now.node.epoch_doubt now.node.last_serial now.node.ejects e began (not-begun began b.nothing.not_begun) fit
+fit-booted s e boot_end.Full p began now is (inl b) fit =
+    began-doubt now.node.epoch now.node.epoch_doubt now.node.last_serial now.node.ejects e began (not-begun began b.nothing.not_begun) fit
+fit-booted s e boot_end.Full p began now is (inr b) fit =
+    began-doubt now.node.epoch now.node.epoch_doubt now.node.last_serial now.node.ejects e began (not-begun began b.nothing.not_begun) fit
 
-fit-boot : {G : Uid → Type 0} (e : ℕ) (how : BootEnd) (p : Option Pick) (began : Bool) (s : Site) → BootsSo s e how p began → Fit G s.node → Fit G (boot_turn e how p began s).node
-fit-boot e how p began s b fit = fit-on_node (booted_node s e how began) (settled p s) (fit-booted s e how p began (settled p s) refl b (fit-settled p s fit))
+fit-boot : {G : Uid → Type 0} (e : ℕ) (how : BootEnd) (p : Option Pick) (began : Bool) (s : Site) → BootsSo s e how p began → Fit G s.node
+    → Fit G (boot_turn e how p began s).node
+fit-boot e how p began s b fit = fit-on_node (booted_node s e how began) (settled p s)
+    (fit-booted s e how p began (settled p s) refl b (fit-settled p s fit))
 
 -- 2. Every turn
 
-fit-site_turn : {G : Uid → Type 0} (reach : ℕ → Bool) (e : Event) (s : Site) → AllowsAt s e → Fit G s.node → Fit G (site_turn reach e s).node
+fit-site_turn : {G : Uid → Type 0} (reach : ℕ → Bool) (e : Event) (s : Site) → AllowsAt s e → Fit G s.node
+    → Fit G (site_turn reach e s).node
 fit-site_turn reach (event.Request k a b refused) s allowed fit = fit-requested k refused s fit
 fit-site_turn reach (event.Reply k a b name why values) s allowed fit = fit-heard k why values s fit
 fit-site_turn reach (event.Activate v how p) s allowed fit = fit-activation v how p s fit

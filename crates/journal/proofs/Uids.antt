@@ -13,7 +13,8 @@ pub record IsBehind (u : Uid) (epoch last : ℕ) : Type 0 where
   pub epoch_given : u.epoch ≤ epoch
   pub serial_given : u.epoch ≡ epoch → u.serial ≤ last
 
--- the Ejects stand in ascending order, an epoch in doubt is past the one that is kept, and the uids that are there or were given are behind the one that is kept
+-- the Ejects stand in ascending order, an epoch in doubt is past the one that is kept, and the uids that are there or were given are
+-- behind the one that is kept
 pub record UidsFit (G : Uid → Type 0) (epoch doubt : Option ℕ) (last : ℕ) (ejects : List (Uid × Eject)) : Type 0 where
   pub doubt_is_next : IfSome doubt (λ e. epoch_or_zero epoch < e)
   pub behind : (u : Uid) → is_some (value_at uid_cmp u ejects) ≡ true → IsBehind u (epoch_or_zero epoch) last

@@ -16,7 +16,8 @@ use Rattle.journal.specs.Run.{world_after}
 use Rattle.journal.specs.declared.event.Mode.TheVariants as mode
 use Rattle.journal.specs.Lines.{text_of, entry_text, trace_text, shown_text}
 use Rattle.journal.proofs.Blank.{FollowsOver, follows-over}
-use Rattle.journal.proofs.Scenes.{asleep, plain, on_disk, with_trees, blank_world_of, eject, ref, boots, asks, comes, answers, quiet, left, printed}
+use Rattle.journal.proofs.Scenes.{asleep, plain, on_disk, with_trees, blank_world_of, eject, ref, boots, asks, comes, answers, quiet}
+use Rattle.journal.proofs.Scenes.{left, printed}
 use Rattle.journal.proofs.TypeTexts.{later_tally, from_first, by_zero}
 use Rattle.journal.proofs.Wrong.{NotFollowed, not-followed, false-true}
 use Rattle.passive_store.specs.LogLayout.{log_layout}

@@ -15,7 +15,8 @@ use Rattle.journal.specs.World.{World, at_node, on_eject, on_node, on_traffic}
 use Rattle.journal.specs.declared.event.Mode.TheVariants as mode
 use Rattle.journal.specs.Lines.{text_of, entry_text, trace_text, shown_text}
 use Rattle.journal.proofs.Blank.{FollowsOverBlank, follows-over-blank}
-use Rattle.journal.proofs.Scenes.{plain, int, blank_world, eject, result_of, ref, boots, made, asks, comes, starts, turn, answers, left, printed}
+use Rattle.journal.proofs.Scenes.{plain, int, blank_world, eject, result_of, ref, boots, made, asks, comes, starts, turn, answers, left}
+use Rattle.journal.proofs.Scenes.{printed}
 use Rattle.journal.proofs.Wrong.{NotFollowed, not-followed}
 
 abbrev d : Uid

@@ -7,7 +7,8 @@ use Rattle.eden_value.specs.declared.status.Status.TheVariants as status
 use Rattle.eden_model.specs.Map.{with_item}
 use Rattle.eden_model.specs.declared.Asker.{Asker}
 use Rattle.eden_model.specs.declared.Asker.TheVariants.{Shell, Eject as Process}
-use Rattle.eden_model.specs.Traffic.{Traffic, Call, asked, held, answered, call_at, changed_call, at_place, closed, taken, replied, next_message, shell_name}
+use Rattle.eden_model.specs.Traffic.{Traffic, Call, asked, held, answered, call_at, changed_call, at_place, closed, taken, replied}
+use Rattle.eden_model.specs.Traffic.{next_message, shell_name}
 use Rattle.epl_syntax.specs.declared.effect.Answer.TheVariants.{Reply as Told}
 use Rattle.epl_syntax.specs.Edentype.{Edentype}
 use Rattle.epl_syntax.specs.Kinds.{have_shapes}

@@ -1,5 +1,6 @@
 -- Which entries show a failed or a stopped device call of a node's disk, how many, and which command asked for it.
-use Rattle.std.specs.Prelude.{◌≡◌, ℕ, ◌+◌, ◌-◌, ◌^◌, ◌==◌, ◌≤◌, ◌<◌, Bool, true, false, cond, List, [], ◌∷◌, Option, None, Some, IsSomeAnd, IfSome, IsTrue}
+use Rattle.std.specs.Prelude.{◌≡◌, ℕ, ◌+◌, ◌-◌, ◌^◌, ◌==◌, ◌≤◌, ◌<◌, Bool, true, false, cond, List, [], ◌∷◌, Option, None, Some}
+use Rattle.std.specs.Prelude.{IsSomeAnd, IfSome, IsTrue}
 use Rattle.eden_model.specs.Map.{with_item, or_else}
 use Rattle.eden_disk.specs.declared.disk.Arm.{Arm}
 use Rattle.eden_disk.specs.declared.disk.Arm.TheVariants as arm
@@ -41,7 +42,8 @@ RoseBy shown before after = after < 2 ^ 64 - 1 → after ≡ before + shown
 abbrev pub RoseByAtLeast : ℕ → ℕ → ℕ → Type 0
 RoseByAtLeast shown before after = after < 2 ^ 64 - 1 → before + shown ≤ after
 
--- Each fault of the disk of node n is shown by an entry of its own, and each such entry shows one: none is made up, and none is hidden. So is
+-- Each fault of the disk of node n is shown by an entry of its own, and each such entry shows one: none is made up, and none is hidden.
+-- So is
 -- each stop.
 pub record ShowsEach (history : List Entry) (n : ℕ) (d : DiskRun) : Type 0 where
   pub faults : RoseBy (number_of (shows_fault n) history) d.first.faults d.last.faults
@@ -87,7 +89,8 @@ pub record HasItsCommand (n began : ℕ) (past : List Step) (s : Step) : Type 0 
   pub fault : IsAsked fail_after (shows_fault n s.entry.event) n began past s
   pub stop : IsAsked stop_after (shows_stop n s.entry.event) n began past s
 
--- A disk of which that holds: it does what is asked of it, nothing that was asked before it was handed in is still to come, its clock has not
+-- A disk of which that holds: it does what is asked of it, nothing that was asked before it was handed in is still to come, its clock
+-- has not
 -- reached its end, and no device call has wanted memory.
 pub record IsObedient (d : DiskRun) : Type 0 where
   pub obeys : IsTrue d.obeys

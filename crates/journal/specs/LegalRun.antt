@@ -117,7 +117,8 @@ end_over layout script disks history = last_world (opening_world layout script d
 abbrev pub EachDisk : List DiskRun → (ℕ → DiskRun → Type 0) → Type 0
 EachDisk disks P = (n : ℕ) (d : DiskRun) → value_at nat_cmp n (numbered disks) ≡ Some d → P n d
 
--- The last entry on a disk shows the clock with which the disk is given back, so that no device call is made behind it. A disk with no entry
+-- The last entry on a disk shows the clock with which the disk is given back, so that no device call is made behind it. A disk with no
+-- entry
 -- has the clock with which it was handed in.
 abbrev pub EndsAt : Option ℕ → DiskRun → Type 0
 EndsAt None d = d.last.clock ≡ d.first.clock

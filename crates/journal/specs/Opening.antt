@@ -1,5 +1,6 @@
 -- The world before the first event: what the images hold; all Ejects passive, all nodes down, all links joined.
-use Rattle.std.specs.Prelude.{ℕ, ◌+◌, ◌*◌, ◌==◌, ◌≤◌, ◌≡◌, Bool, false, cond, is_some, IsTrue, List, [], ◌∷◌, map, length, Option, None, Some, Result, Ok, Err}
+use Rattle.std.specs.Prelude.{ℕ, ◌+◌, ◌*◌, ◌==◌, ◌≤◌, ◌≡◌, Bool, false, cond, is_some, IsTrue, List, [], ◌∷◌, map, length, Option, None}
+use Rattle.std.specs.Prelude.{Some, Result, Ok, Err}
 use Rattle.std.specs.List.{filter_map}
 use Rattle.capability.specs.declared.Uid.{Uid}
 use Rattle.eden_model.specs.Map.{with_item, value_at, uid_cmp}

@@ -1,5 +1,6 @@
 -- Invocations start, and processes take their turns.
-use Rattle.std.specs.Prelude.{◌≡◌, ℕ, ◌==◌, nat_le, Bool, cond, not, List, [], ◌∷◌, ◌++◌, map, length, Option, None, Some, Result, Ok, Err, is_some, IsSomeAnd, IsTrue}
+use Rattle.std.specs.Prelude.{◌≡◌, ℕ, ◌==◌, nat_le, Bool, cond, not, List, [], ◌∷◌, ◌++◌, map, length, Option, None, Some, Result, Ok}
+use Rattle.std.specs.Prelude.{Err, is_some, IsSomeAnd, IsTrue}
 use Rattle.std.specs.Ordering.{nat_cmp}
 use Rattle.std.specs.List.{filter}
 use Rattle.capability.specs.declared.Uid.{Uid}
@@ -13,7 +14,8 @@ use Rattle.eden_codec.specs.Spelling.{spelling, values_size}
 use Rattle.eden_model.specs.Map.{with_item, changed_at, value_at, put_at, where_key}
 use Rattle.eden_model.specs.declared.Asker.TheVariants.{Eject as Process}
 use Rattle.eden_model.specs.Traffic.{Traffic, Call, call_at, next_call, replied, with_call}
-use Rattle.eden_model.specs.Crew.{Invocation, Process as Worker, nothing, outside, set_waits, locked, left, waited, signalled, startable, started, ended, least_free}
+use Rattle.eden_model.specs.Crew.{Invocation, Process as Worker, nothing, outside, set_waits, locked, left, waited, signalled, startable}
+use Rattle.eden_model.specs.Crew.{started, ended, least_free}
 use Rattle.epl_syntax.specs.declared.effect.Answer.TheVariants.{Go, Reply as Told, Code, Created as Made}
 use Rattle.epl_syntax.specs.declared.effect.Effect.{Effect}
 use Rattle.epl_syntax.specs.declared.effect.Effect.TheVariants as effect

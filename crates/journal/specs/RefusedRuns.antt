@@ -156,7 +156,8 @@ abbrev pub OtherClockIsRefused : Type 0
 OtherClockIsRefused =
     (layout : Layout) (d : DiskRun) → d.last.clock < 11 → IsLegalRun layout (script_of 1 (command.End ∷ [])) (d ∷ []) booted → ⊥
 
--- 7. None of them is refused for the disks that were handed in: a disk of zeros, on which nothing was ever written, is handed in as it has to
+-- 7. None of them is refused for the disks that were handed in: a disk of zeros, on which nothing was ever written, is handed in as it
+-- has to
 -- be wherever a log has room on it.
 
 abbrev pub BlankDisksMayBeHandedIn : Type 0

@@ -1,5 +1,6 @@
 -- Which histories follow a script: a position says what is due next, and each entry leads to one position.
-use Rattle.std.specs.Prelude.{◌≡◌, ℕ, zero, suc, ◌+◌, ◌-◌, ◌==◌, pos, nat_le, Bool, true, false, cond, List, [], ◌∷◌, Option, None, Some, codes}
+use Rattle.std.specs.Prelude.{◌≡◌, ℕ, zero, suc, ◌+◌, ◌-◌, ◌==◌, pos, nat_le, Bool, true, false, cond, List, [], ◌∷◌, Option, None, Some}
+use Rattle.std.specs.Prelude.{codes}
 use Rattle.capability.specs.declared.Cap.{Cap}
 use Rattle.eden_value.specs.Datum.{Datum, text, number}
 use Rattle.eden_model.specs.Map.{with_item}

@@ -1,5 +1,6 @@
 -- One step: which entries are allowed in a world, and the world after one.
-use Rattle.std.specs.Prelude.{◌≡◌, ℕ, zero, suc, ◌+◌, ◌-◌, ◌≤◌, ◌^◌, ◌==◌, nat_lt, Bool, true, false, cond, List, ◌∷◌, Option, None, Some, is_some, IsSomeAnd, IfSome}
+use Rattle.std.specs.Prelude.{◌≡◌, ℕ, zero, suc, ◌+◌, ◌-◌, ◌≤◌, ◌^◌, ◌==◌, nat_lt, Bool, true, false, cond, List, ◌∷◌, Option, None}
+use Rattle.std.specs.Prelude.{Some, is_some, IsSomeAnd, IfSome}
 use Rattle.std.specs.Ordering.{nat_cmp}
 use Rattle.capability.specs.declared.Uid.{Uid}
 use Rattle.eden_value.specs.Datum.{Datum}
@@ -112,7 +113,8 @@ abbrev pub ClockFits : World → ℕ → ℕ → Type 0
 ClockFits w zero c = c ≡ 0
 ClockFits w (suc n) c = NotBefore c (clock_before w (suc n))
 
--- A store's turn shows the disk's clock; with a device call it is one more, and without one it is what it was. A node with a request has been
+-- A store's turn shows the disk's clock; with a device call it is one more, and without one it is what it was. A node with a request has
+-- been
 -- booted, so its disk has a clock.
 abbrev pub StoreClockFits : ℕ → Option ℕ → ℕ → ℕ → Type 0
 StoreClockFits zero before shown c = IfSome before (λ b. shown ≡ b)

@@ -89,7 +89,7 @@ fn count(entries: &[Entry]) -> Counts
     for entry in entries {
         calls += calls_in(&entry.event);
         ok += ok_in(&entry.event);
-        refused += refused_in(&entry.event) + entry.broken.names.len() as u128;
+        refused += refused_in(&entry.event) + entry.broken.items.len() as u128;
         turns += turns_in(&entry.event);
     }
     Counts {

@@ -1,6 +1,9 @@
 //! What holds of every history of every script, apart from any code.
-ghost use Rattle.journal.specs.RefusedRuns.{UnwrittenDiskIsRefused, ExchangedDisksAreRefused, InventedFaultsAreRefused, UnaskedStopIsRefused, OtherClockIsRefused, BlankDisksMayBeHandedIn};
-ghost use Rattle.journal.specs.Laws.{NoEjectIsRolledBack, EveryStartIsWhole, NoUidIsGivenTwice, RunsAreLegal, RunsAreLegalSoFar, FirstPartsFollow, FirstPartsFollowSoFar, EnabledKeysHaveTurns, OnlyGrantedAreUsed, DownNodesRest, DisksStandAtTheOpening, DisksStandAtTheEnd};
+ghost use Rattle.journal.specs.RefusedRuns.{UnwrittenDiskIsRefused, ExchangedDisksAreRefused, InventedFaultsAreRefused};
+ghost use Rattle.journal.specs.RefusedRuns.{UnaskedStopIsRefused, OtherClockIsRefused, BlankDisksMayBeHandedIn};
+ghost use Rattle.journal.specs.Laws.{NoEjectIsRolledBack, EveryStartIsWhole, NoUidIsGivenTwice, RunsAreLegal, RunsAreLegalSoFar};
+ghost use Rattle.journal.specs.Laws.{FirstPartsFollow, FirstPartsFollowSoFar, EnabledKeysHaveTurns, OnlyGrantedAreUsed, DownNodesRest};
+ghost use Rattle.journal.specs.Laws.{DisksStandAtTheOpening, DisksStandAtTheEnd};
 
 /// No Eject is rolled back but by its own put or removal, acknowledged or found done; a crash of one
 /// node takes no active part from an Eject of another.

@@ -414,7 +414,7 @@ fn add_shown(alloc: Global, event: &Event, out: &mut Vec<u8>) -> Result<(), Allo
         } => add_down(uid.node, "stop", out),
         Event::Quiet => out.extend_from_slice(b"quiet\n"),
         Event::Spent => out.extend_from_slice(b"spent\n"),
-        Event::Left { names } => add_open(&names.names, out),
+        Event::Left { names } => add_open(&names.items, out),
         _ => Ok(()),
     }
 }
@@ -467,17 +467,17 @@ fn add_entry(alloc: Global, mode: Mode, entry: &Entry, out: &mut Vec<u8>) -> Res
         Mode::Summary => Ok(()),
         Mode::Plain => {
             add_shown(alloc, &entry.event, out)?;
-            add_broken(&entry.broken.names, out)
+            add_broken(&entry.broken.items, out)
         }
         Mode::Trace => {
             add_trace(&entry.event, out)?;
             add_shown(alloc, &entry.event, out)?;
-            add_broken(&entry.broken.names, out)
+            add_broken(&entry.broken.items, out)
         }
         Mode::Full => {
             add_trace(&entry.event, out)?;
             add_shown(alloc, &entry.event, out)?;
-            add_broken(&entry.broken.names, out)?;
+            add_broken(&entry.broken.items, out)?;
             add_disk(entry, out)
         }
     }

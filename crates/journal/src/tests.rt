@@ -1,5 +1,5 @@
 use super::*;
-use capability::Uid;
+use capability::{Seq, Uid};
 use eden_disk::{Arm, ImageMode};
 use eden_value::{Items, Status, Txt, Value};
 use epl_syntax::FaultCause;
@@ -24,8 +24,8 @@ fn txt(alloc: Global, bytes: &[u8]) -> Result<Txt, AllocError> {
 }
 
 fn names(alloc: Global, one: &[u8]) -> Result<Names, AllocError> {
-    Ok(Names {
-        names: vec![in alloc; txt(alloc, one)?]?,
+    Ok(Seq {
+        items: vec![in alloc; txt(alloc, one)?]?,
     })
 }
 
@@ -35,8 +35,8 @@ fn plain(alloc: Global, event: Event) -> Entry {
         event,
         node: 0,
         clock: 0,
-        broken: Names {
-            names: Vec::new(alloc),
+        broken: Seq {
+            items: Vec::new(alloc),
         },
     }
 }

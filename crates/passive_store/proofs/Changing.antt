@@ -11,7 +11,11 @@ use Rattle.passive_store.specs.declared.store.Pick.{Pick}
 use Rattle.passive_store.specs.declared.store.Pick.TheVariants.{Old, New}
 use Rattle.passive_store.proofs.Joining.{stands_weaker, ran_join, refused_told_more}
 use Rattle.passive_store.specs.Seen.{Seen, Asked, Changes, Settles}
-use Rattle.passive_store.specs.Kept.{IsEarlyRefusal, Layout, Work, Idle, Busy, Unsettled, Change, Kept, Stands, Ran, IsDiskRefusal, IsAnyOf, IsFresh, changes_in, doubt_in, is_busy, is_unsettled, settling_calls, settling_before, settled, work_settled, work_changed, work_finished, kept_finished, kept_changed, kept_after, SettlesFirst, SettlesAfterMemory, IsFullBy, changes_refused, changes_begun, calls_due, settling_due, settling_of, work_unchanged, end_of_store, change_in}
+use Rattle.passive_store.specs.Kept.{IsEarlyRefusal, Layout, Work, Idle, Busy, Unsettled, Change, Kept, Stands, Ran, IsDiskRefusal}
+use Rattle.passive_store.specs.Kept.{IsAnyOf, IsFresh, changes_in, doubt_in, is_busy, is_unsettled, settling_calls, settling_before}
+use Rattle.passive_store.specs.Kept.{settled, work_settled, work_changed, work_finished, kept_finished, kept_changed, kept_after}
+use Rattle.passive_store.specs.Kept.{SettlesFirst, SettlesAfterMemory, IsFullBy, changes_refused, changes_begun, calls_due, settling_due}
+use Rattle.passive_store.specs.Kept.{settling_of, work_unchanged, end_of_store, change_in}
 use Rattle.passive_store.specs.Acts.{DiskCall, CallsTold}
 
 -- whose changes a crash may show, where the settling of a change was refused, and where its job was begun

@@ -1,5 +1,6 @@
 -- Calls of a store one behind another.
-use Rattle.std.proofs.Common.{◌≡◌, ◌⊎◌, ℕ, suc, zero, ◌+◌, ◌≤◌, Bool, true, false, IsTrue, List, [], ◌∷◌, ◌++◌, refl, sym, ap, subst, ◌∙◌, inl, inr, arith, append_assoc, length, replicate}
+use Rattle.std.proofs.Common.{◌≡◌, ◌⊎◌, ℕ, suc, zero, ◌+◌, ◌≤◌, Bool, true, false, IsTrue, List, [], ◌∷◌, ◌++◌, refl, sym, ap, subst}
+use Rattle.std.proofs.Common.{◌∙◌, inl, inr, arith, append_assoc, length, replicate}
 use Rattle.std.specs.Prelude.{◌-◌, ◌^◌, Option, None, Some, Result, Ok, Err, nat_le, is_some, ◌&&◌, IfSome, OnOk, take}
 use Rattle.std.proofs.lemmas.Bool.{false≢true}
 use Rattle.std.proofs.lemmas.Bool.Decides.{nat_tests}
@@ -18,7 +19,11 @@ use Rattle.passive_store.specs.declared.store.Progress.TheVariants.{Going, Done}
 use Rattle.passive_store.specs.declared.store.Pick.{Pick}
 use Rattle.passive_store.specs.declared.store.Pick.TheVariants.{Old, New}
 use Rattle.passive_store.specs.Seen.{Seen, SettlesOneCall, Settled, Advances, Finishes}
-use Rattle.passive_store.specs.Kept.{OpeningMade, OpeningTold, IsOverfullBy, kept_after, kept_finished, work_finished, settling_calls, Layout, Work, Idle, Busy, Unsettled, Change, Kept, Stands, Ran, IsDiskRefusal, changes_in, change_in, doubt_in, is_busy, is_unsettled, is_synced, calls_left, job_left, settling_of, reads_due, refused, NextTold, progress_at, end_of_store, work_stepped, work_advanced, kept_advanced, settled, work_settled, IsAnyOf, IsFresh, IsRefusedIn, IsRefusedAfter}
+use Rattle.passive_store.specs.Kept.{OpeningMade, OpeningTold, IsOverfullBy, kept_after, kept_finished, work_finished, settling_calls}
+use Rattle.passive_store.specs.Kept.{Layout, Work, Idle, Busy, Unsettled, Change, Kept, Stands, Ran, IsDiskRefusal, changes_in}
+use Rattle.passive_store.specs.Kept.{change_in, doubt_in, is_busy, is_unsettled, is_synced, calls_left, job_left, settling_of, reads_due}
+use Rattle.passive_store.specs.Kept.{refused, NextTold, progress_at, end_of_store, work_stepped, work_advanced, kept_advanced, settled}
+use Rattle.passive_store.specs.Kept.{work_settled, IsAnyOf, IsFresh, IsRefusedIn, IsRefusedAfter}
 
 -- the same moments, under equal names
 pub as_before : (layout : Layout) (n m f h : ℕ) (s t : Kept) (d e : Option Change) (mid new : Told) → m ≡ n → h ≡ f → t ≡ s → e ≡ d →

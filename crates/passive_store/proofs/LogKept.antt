@@ -1,6 +1,8 @@
 -- What a log keeps, by what its records are.
-use Rattle.std.proofs.Common.{◌≡◌, ◌⊎◌, ℕ, suc, zero, ◌+◌, ◌≤◌, ◌<◌, ◌^◌, Bool, true, false, cond, List, [], ◌∷◌, ◌++◌, length, take, drop, map, get_or, refl, sym, ap, subst, ◌∙◌, inl, inr, arith, append_assoc, append-nil}
-use Rattle.std.specs.Prelude.{◌==◌, ◌&&◌, ◌||◌, not, nat_le, nat_lt, is_some, Option, None, Some, Result, Ok, Err, All, slice_index, slice_range, if◌then◌else◌}
+use Rattle.std.proofs.Common.{◌≡◌, ◌⊎◌, ℕ, suc, zero, ◌+◌, ◌≤◌, ◌<◌, ◌^◌, Bool, true, false, cond, List, [], ◌∷◌, ◌++◌, length, take}
+use Rattle.std.proofs.Common.{drop, map, get_or, refl, sym, ap, subst, ◌∙◌, inl, inr, arith, append_assoc, append-nil}
+use Rattle.std.specs.Prelude.{◌==◌, ◌&&◌, ◌||◌, not, nat_le, nat_lt, is_some, Option, None, Some, Result, Ok, Err, All, slice_index}
+use Rattle.std.specs.Prelude.{slice_range, if◌then◌else◌}
 use Rattle.std.specs.List.{AllByRecursion}
 use Rattle.std.specs.FinMap as finite
 use Rattle.std.specs.FinMap.{FinMap}
@@ -15,8 +17,10 @@ use Rattle.std.proofs.lemmas.Nat.{be_bytes_4}
 use Rattle.capability.specs.declared.Uid.{Uid}
 use Rattle.capability.specs.Uids.{uid_cmp}
 use Rattle.capability.proofs.Uids.{uid_cmp_total, uid_cmp-IsAntisymmetric}
-use Rattle.passive_store.specs.Kept.{Change, Kept, IsOwn, reserved_uid, nothing_kept, bodies_after, marks_after, kept_after, kept_from, kept_by}
-use Rattle.passive_store.specs.Log.{length_of, uid_of, kind_of, log_grows, is_record, record_of, with_record, records_behind, records_of, log_map}
+use Rattle.passive_store.specs.Kept.{Change, Kept, IsOwn, reserved_uid, nothing_kept, bodies_after, marks_after, kept_after, kept_from}
+use Rattle.passive_store.specs.Kept.{kept_by}
+use Rattle.passive_store.specs.Log.{length_of, uid_of, kind_of, log_grows, is_record, record_of, with_record, records_behind, records_of}
+use Rattle.passive_store.specs.Log.{log_map}
 use Rattle.passive_store.specs.Layout.{IsLayout}
 use Rattle.passive_store.specs.LogLayout.{log_layout, log_kept, log_opening, records_or_none, records_before, body_length}
 use Rattle.passive_store.proofs.Parsing.{split_test}

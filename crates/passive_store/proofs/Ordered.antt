@@ -1,5 +1,6 @@
 -- The first entry of an index, in the order of uids, that is of a kind.
-use Rattle.std.proofs.Common.{◌≡◌, ◌⊎◌, ◌≤◌, arith, ℕ, Bool, true, false, cond, IsTrue, length, List, [], ◌∷◌, ◌++◌, Option, None, Some, refl, sym, ap, subst, ◌∙◌, inl, inr}
+use Rattle.std.proofs.Common.{◌≡◌, ◌⊎◌, ◌≤◌, arith, ℕ, Bool, true, false, cond, IsTrue, length, List, [], ◌∷◌, ◌++◌, Option, None, Some}
+use Rattle.std.proofs.Common.{refl, sym, ap, subst, ◌∙◌, inl, inr}
 use Rattle.std.specs.Prelude.{◌==◌, ◌≢◌, ◌&&◌, not, is_some, IfSome}
 use Rattle.std.specs.List.{find, filter, AllByRecursion}
 use Rattle.std.specs.List.Sorted.{IsStrictlySortedBy}
@@ -40,11 +41,13 @@ one_uid a b h = uid_cmp-IsAntisymmetric a b (tied (uid_cmp a b) h)
 at_itself : (a : Uid) → is_at (uid_cmp a) a ≡ true
 at_itself a = ap is_eq (tied_itself uid_cmp_total a)
 
-chosen : (b : Bool) (x : Option Slot) (y : Option (Option Slot)) (z : Option Slot) → cond b (Some x) y ≡ Some z → ((b ≡ true) × (x ≡ z)) ⊎ ((b ≡ false) × (y ≡ Some z))
+chosen : (b : Bool) (x : Option Slot) (y : Option (Option Slot)) (z : Option Slot) → cond b (Some x) y ≡ Some z
+    → ((b ≡ true) × (x ≡ z)) ⊎ ((b ≡ false) × (y ≡ Some z))
 chosen true x y z e = inl (refl, cc)
 chosen false x y z e = inr (refl, e)
 
-hit : (uid : Uid) (e : Uid × Option Slot) (es : List (Uid × Option Slot)) (slot : Option Slot) → lookup (is_at (uid_cmp uid)) (e ∷ es) ≡ Some slot →
+hit : (uid : Uid) (e : Uid × Option Slot) (es : List (Uid × Option Slot)) (slot : Option Slot)
+    → lookup (is_at (uid_cmp uid)) (e ∷ es) ≡ Some slot →
     ((uid ≡ e.0) × (e.1 ≡ slot)) ⊎ (lookup (is_at (uid_cmp uid)) es ≡ Some slot)
 hit uid e es slot h = elim (chosen (is_at (uid_cmp uid) e.0) e.1 (lookup (is_at (uid_cmp uid)) es) slot h) [
   | inl here ↦ inl (one_uid uid e.0 here.0, here.1)
@@ -52,7 +55,8 @@ hit uid e es slot h = elim (chosen (is_at (uid_cmp uid) e.0) e.1 (lookup (is_at 
 ]
 
 -- what stands in an ordered list is behind all that is before it
-above : (key uid : Uid) (es : List (Uid × Option Slot)) (slot : Option Slot) → AllByRecursion (λ y. uid_cmp key y ≡ Less) (keys_of es) → lookup (is_at (uid_cmp uid)) es ≡ Some slot → uid_cmp key uid ≡ Less
+above : (key uid : Uid) (es : List (Uid × Option Slot)) (slot : Option Slot) → AllByRecursion (λ y. uid_cmp key y ≡ Less) (keys_of es)
+    → lookup (is_at (uid_cmp uid)) es ≡ Some slot → uid_cmp key uid ≡ Less
 above key uid [] slot all h = absurd cc
 above key uid (e ∷ es) slot all h = elim (hit uid e es slot h) [
   | inl here ↦ subst (λ u. uid_cmp key u ≡ Less) (sym here.0) all.0
@@ -61,16 +65,20 @@ above key uid (e ∷ es) slot all h = elim (hit uid e es slot h) [
 
 -- of the entries that p lets in, the first that passes a test
 abbrev pub IsFirstOf : (Uid → Bool) → (Uid × Option Slot → Bool) → List (Uid × Option Slot) → Option (Uid × Option Slot) → Type 0
-IsFirstOf p test es None = (uid : Uid) (slot : Option Slot) → p uid ≡ true → lookup (is_at (uid_cmp uid)) es ≡ Some slot → test (uid, slot) ≡ true → ⊥
+IsFirstOf p test es None = (uid : Uid) (slot : Option Slot) → p uid ≡ true → lookup (is_at (uid_cmp uid)) es ≡ Some slot
+    → test (uid, slot) ≡ true → ⊥
 IsFirstOf p test es (Some f) =
     (p f.0 ≡ true) × (test f ≡ true) × (lookup (is_at (uid_cmp f.0)) es ≡ Some f.1)
-    × ((uid : Uid) (slot : Option Slot) → p uid ≡ true → lookup (is_at (uid_cmp uid)) es ≡ Some slot → test (uid, slot) ≡ true → (uid ≡ f.0) ⊎ (uid_cmp f.0 uid ≡ Less))
+    × ((uid : Uid) (slot : Option Slot) → p uid ≡ true → lookup (is_at (uid_cmp uid)) es ≡ Some slot → test (uid, slot) ≡ true
+    → (uid ≡ f.0) ⊎ (uid_cmp f.0 uid ≡ Less))
 
 -- an entry that is not let in, or does not pass, changes nothing
-passed_by : (p : Uid → Bool) (test : Uid × Option Slot → Bool) (e : Uid × Option Slot) (es : List (Uid × Option Slot)) (found : Option (Uid × Option Slot)) → (p e.0 ≡ true → test e ≡ true → ⊥) →
+passed_by : (p : Uid → Bool) (test : Uid × Option Slot → Bool) (e : Uid × Option Slot) (es : List (Uid × Option Slot))
+    (found : Option (Uid × Option Slot)) → (p e.0 ≡ true → test e ≡ true → ⊥) →
     IsStrictlySortedBy uid_cmp (keys_of (e ∷ es)) → IsFirstOf p test es found → IsFirstOf p test (e ∷ es) found
 passed_by p test e es None not_it sorted first = λ uid slot let_in h passes. elim (hit uid e es slot h) [
-  | inl here ↦ not_it (ap p (sym here.0) ∙ let_in) (subst (λ u. test (u, e.1) ≡ true) here.0 (subst (λ s. test (uid, s) ≡ true) (sym here.1) passes))
+  | inl here ↦ not_it (ap p (sym here.0) ∙ let_in)
+      (subst (λ u. test (u, e.1) ≡ true) here.0 (subst (λ s. test (uid, s) ≡ true) (sym here.1) passes))
   | inr there ↦ first uid slot let_in there passes
 ]
 passed_by p test e es (Some f) not_it sorted first = (
@@ -84,12 +92,14 @@ passed_by p test e es (Some f) not_it sorted first = (
     | inr other ↦ lookup_tail (is_at (uid_cmp f.0)) e es other ∙ first.2
   ],
   λ uid slot let_in h passes. elim (hit uid e es slot h) [
-    | inl here ↦ absurd (not_it (ap p (sym here.0) ∙ let_in) (subst (λ u. test (u, e.1) ≡ true) here.0 (subst (λ s. test (uid, s) ≡ true) (sym here.1) passes)))
+    | inl here ↦ absurd (not_it (ap p (sym here.0) ∙ let_in)
+        (subst (λ u. test (u, e.1) ≡ true) here.0 (subst (λ s. test (uid, s) ≡ true) (sym here.1) passes)))
     | inr there ↦ first.3 uid slot let_in there passes
   ],
 )
 
-found_at : (p : Uid → Bool) (test : Uid × Option Slot → Bool) (e : Uid × Option Slot) (es : List (Uid × Option Slot)) → p e.0 ≡ true → test e ≡ true →
+found_at : (p : Uid → Bool) (test : Uid × Option Slot → Bool) (e : Uid × Option Slot) (es : List (Uid × Option Slot)) → p e.0 ≡ true
+    → test e ≡ true →
     IsStrictlySortedBy uid_cmp (keys_of (e ∷ es)) → IsFirstOf p test (e ∷ es) (Some e)
 found_at p test e es let_in passes sorted = (
   let_in,
@@ -101,14 +111,21 @@ found_at p test e es let_in passes sorted = (
   ],
 )
 
-by_tests : (p : Uid → Bool) (test : Uid × Option Slot → Bool) (e : Uid × Option Slot) (es : List (Uid × Option Slot)) (a b : Bool) → p e.0 ≡ a → test e ≡ b →
+by_tests : (p : Uid → Bool) (test : Uid × Option Slot → Bool) (e : Uid × Option Slot) (es : List (Uid × Option Slot)) (a b : Bool)
+    → p e.0 ≡ a → test e ≡ b →
     IsStrictlySortedBy uid_cmp (keys_of (e ∷ es)) → IsFirstOf p test es (find test (filter (λ (x : Uid × Option Slot). p x.0) es)) →
-    IsFirstOf p test (e ∷ es) (find test (cond a (e ∷ filter (λ (x : Uid × Option Slot). p x.0) es) (filter (λ (x : Uid × Option Slot). p x.0) es)))
+    IsFirstOf p test (e ∷ es) (find test (cond a (e ∷ filter (λ (x : Uid × Option Slot). p x.0) es)
+    (filter (λ (x : Uid × Option Slot). p x.0) es)))
 by_tests p test e es false b inside passes sorted first = passed_by p test e es _ (λ q r. false≢true (sym inside ∙ q)) sorted first
-by_tests p test e es true true inside passes sorted first = subst (λ c. IsFirstOf p test (e ∷ es) (cond c (Some e) (find test (filter (λ (x : Uid × Option Slot). p x.0) es)))) (sym passes) (found_at p test e es inside passes sorted)
-by_tests p test e es true false inside passes sorted first = subst (λ c. IsFirstOf p test (e ∷ es) (cond c (Some e) (find test (filter (λ (x : Uid × Option Slot). p x.0) es)))) (sym passes) (passed_by p test e es _ (λ q r. false≢true (sym passes ∙ r)) sorted first)
+by_tests p test e es true true inside passes sorted first = subst
+    (λ c. IsFirstOf p test (e ∷ es) (cond c (Some e) (find test (filter (λ (x : Uid × Option Slot). p x.0) es)))) (sym passes)
+    (found_at p test e es inside passes sorted)
+by_tests p test e es true false inside passes sorted first = subst
+    (λ c. IsFirstOf p test (e ∷ es) (cond c (Some e) (find test (filter (λ (x : Uid × Option Slot). p x.0) es)))) (sym passes)
+    (passed_by p test e es _ (λ q r. false≢true (sym passes ∙ r)) sorted first)
 
-pub first_of_all : (p : Uid → Bool) (test : Uid × Option Slot → Bool) (es : List (Uid × Option Slot)) → IsStrictlySortedBy uid_cmp (keys_of es) → IsFirstOf p test es (find test (filter (λ (x : Uid × Option Slot). p x.0) es))
+pub first_of_all : (p : Uid → Bool) (test : Uid × Option Slot → Bool) (es : List (Uid × Option Slot))
+    → IsStrictlySortedBy uid_cmp (keys_of es) → IsFirstOf p test es (find test (filter (λ (x : Uid × Option Slot). p x.0) es))
 first_of_all p test [] sorted = λ uid slot let_in h passes. absurd cc
 first_of_all p test (e ∷ es) sorted =
     by_tests p test e es (p e.0) (test e) refl refl sorted (first_of_all p test es (sorted_tail uid_cmp e.0 (keys_of es) sorted))
@@ -128,7 +145,8 @@ bound_of (Some uid) = Excluded uid
 abbrev pub has_slot : ℕ → Uid × Option Slot → Bool
 has_slot node e = is_some e.1 && is_eject node e.0
 
-number_tests : (n node epoch serial : ℕ) → (n == node && (not (epoch == 0) && not (serial == 0))) ≡ true → (n ≡ node) × (1 ≤ epoch) × (1 ≤ serial)
+number_tests : (n node epoch serial : ℕ) → (n == node && (not (epoch == 0) && not (serial == 0))) ≡ true → (n ≡ node) × (1 ≤ epoch)
+    × (1 ≤ serial)
 number_tests n node epoch serial h = (grind (arith, nat_tests), grind (arith, nat_tests), grind (arith, nat_tests))
 
 pub eject_told : (node : ℕ) (uid : Uid) → is_eject node uid ≡ true → IsEject node uid
@@ -156,12 +174,15 @@ of_behind : (from : Option Uid) (uid : Uid) → IsBehind from uid → range_cont
 of_behind None uid h = refl
 of_behind (Some a) uid h = ap (λ o. is_lt o && true) h
 
-slot_is : (found : Option (Option Slot)) → IsTrue (is_some (option_and_then (λ (s : Option Slot). s) found)) → (slot : Option Slot) × (found ≡ Some slot) × (is_some slot ≡ true)
+slot_is : (found : Option (Option Slot)) → IsTrue (is_some (option_and_then (λ (s : Option Slot). s) found)) → (slot : Option Slot)
+    × (found ≡ Some slot) × (is_some slot ≡ true)
 slot_is None h = absurd (false≢true h)
 slot_is (Some slot) h = (slot, refl, h)
 
-pub next_of : (index : BTreeMap Uid (Option Slot)) (from : Option Uid) (node : ℕ) (found : Option (Uid × Option Slot)) → IsFirstOf (λ uid. range_contains uid_cmp (bound_of from) Unbounded uid) (has_slot node) index.entries found →
-    IsNextOf (λ uid. is_some (slot_at index uid) && is_eject node uid) (reserved_uid node) from (option_map (λ (e : Uid × Option Slot). e.0) found)
+pub next_of : (index : BTreeMap Uid (Option Slot)) (from : Option Uid) (node : ℕ) (found : Option (Uid × Option Slot))
+    → IsFirstOf (λ uid. range_contains uid_cmp (bound_of from) Unbounded uid) (has_slot node) index.entries found →
+    IsNextOf (λ uid. is_some (slot_at index uid) && is_eject node uid) (reserved_uid node) from
+    (option_map (λ (e : Uid × Option Slot). e.0) found)
 next_of index from node None first = λ uid behind one other.
     let t = both (is_some (slot_at index uid)) (is_eject node uid) one in
     let s = slot_is (lookup (is_at (uid_cmp uid)) index.entries) t.0 in
@@ -169,7 +190,8 @@ next_of index from node None first = λ uid behind one other.
 next_of index from node (Some f) first =
     let t = both (is_some f.1) (is_eject node f.0) first.1 in (
       behind_of from f.0 first.0,
-      joined (is_some (slot_at index f.0)) (is_eject node f.0) (ap (λ x. is_some (option_and_then (λ (s : Option Slot). s) x)) first.2 ∙ t.0) t.1,
+      joined (is_some (slot_at index f.0)) (is_eject node f.0)
+          (ap (λ x. is_some (option_and_then (λ (s : Option Slot). s) x)) first.2 ∙ t.0) t.1,
       not_reserved node f.0 t.1,
       λ uid behind one other.
           let u = both (is_some (slot_at index uid)) (is_eject node uid) one in
@@ -178,25 +200,34 @@ next_of index from node (Some f) first =
     )
 
 -- of the same kind, the reserved uid apart, is the same next
-pub next_as : (p q : Uid → Bool) (reserved : Uid) (from next : Option Uid) → ((uid : Uid) → uid ≢ reserved → q uid ≡ p uid) → IsNextOf p reserved from next → IsNextOf q reserved from next
+pub next_as : (p q : Uid → Bool) (reserved : Uid) (from next : Option Uid) → ((uid : Uid) → uid ≢ reserved → q uid ≡ p uid)
+    → IsNextOf p reserved from next → IsNextOf q reserved from next
 next_as p q reserved from None same next = λ uid behind one other. next uid behind (subst IsTrue (same uid other) one) other
-next_as p q reserved from (Some x) same next = (next.0, subst IsTrue (sym (same x next.2)) next.1, next.2, λ uid behind one other. next.3 uid behind (subst IsTrue (same uid other) one) other)
+next_as p q reserved from (Some x) same next = (
+  next.0,
+  subst IsTrue (sym (same x next.2)) next.1,
+  next.2,
+  λ uid behind one other. next.3 uid behind (subst IsTrue (same uid other) one) other,
+)
 
 -- an own uid that is not the reserved one is that of an Eject
 own_eject : (node : ℕ) (uid : Uid) (size : ℕ) → IsOwn node uid size → uid ≢ reserved_uid node → IsEject node uid
 own_eject node uid size (at, inl some) other = (at, some.0, some.1)
 own_eject node uid size (at, inr none) other = absurd (other (λ i. record { node = at i; epoch = none.0 i; serial = none.1 i }))
 
-kept_or_not : (node : ℕ) (uid : Uid) (body : Option (List ℕ)) → ((b : List ℕ) → body ≡ Some b → IsOwn node uid (length b)) → uid ≢ reserved_uid node → is_some body ≡ (is_some body && is_eject node uid)
+kept_or_not : (node : ℕ) (uid : Uid) (body : Option (List ℕ)) → ((b : List ℕ) → body ≡ Some b → IsOwn node uid (length b))
+    → uid ≢ reserved_uid node → is_some body ≡ (is_some body && is_eject node uid)
 kept_or_not node uid None own other = refl
 kept_or_not node uid (Some b) own other = sym (eject_tests node uid (own_eject node uid (length b) (own b refl) other))
 
 -- of what is kept under own uids, all but what the reserved one has is that of Ejects
-pub only_ejects : (node : ℕ) (uid : Uid) (body : Option (List ℕ)) (slot : Bool) → is_some body ≡ slot → ((b : List ℕ) → body ≡ Some b → IsOwn node uid (length b)) → uid ≢ reserved_uid node → is_some body ≡ (slot && is_eject node uid)
+pub only_ejects : (node : ℕ) (uid : Uid) (body : Option (List ℕ)) (slot : Bool) → is_some body ≡ slot
+    → ((b : List ℕ) → body ≡ Some b → IsOwn node uid (length b)) → uid ≢ reserved_uid node → is_some body ≡ (slot && is_eject node uid)
 only_ejects node uid body slot same own other = kept_or_not node uid body own other ∙ ap (λ b. b && is_eject node uid) same
 
 -- what comes next is an Eject
-pub next_eject : (is_one : Uid → Bool) (node : ℕ) (reserved : Uid) (from found : Option Uid) → IsNextOf (λ uid. is_one uid && is_eject node uid) reserved from found → IfSome found (λ uid. IsEject node uid)
+pub next_eject : (is_one : Uid → Bool) (node : ℕ) (reserved : Uid) (from found : Option Uid)
+    → IsNextOf (λ uid. is_one uid && is_eject node uid) reserved from found → IfSome found (λ uid. IsEject node uid)
 next_eject is_one node reserved from None next = tt
 next_eject is_one node reserved from (Some uid) next = eject_told node uid (both (is_one uid) (is_eject node uid) next.1).1
 
@@ -209,14 +240,17 @@ abbrev pub NonePasses : (Uid × Option Slot → Bool) → List (Uid × Option Sl
 NonePasses test [] = Unit {0}
 NonePasses test (e ∷ es) = (test e ≡ false) × NonePasses test es
 
-pub none_more : (test : Uid × Option Slot → Bool) (es : List (Uid × Option Slot)) (e : Uid × Option Slot) → NonePasses test es → test e ≡ false → NonePasses test (es ++ e ∷ [])
+pub none_more : (test : Uid × Option Slot → Bool) (es : List (Uid × Option Slot)) (e : Uid × Option Slot) → NonePasses test es
+    → test e ≡ false → NonePasses test (es ++ e ∷ [])
 none_more test [] e none fails = (fails, tt)
 none_more test (x ∷ es) e none fails = (none.0, none_more test es e none.1 fails)
 
 -- the first of a list that passes, behind those that do not
-pub found_behind : (test : Uid × Option Slot → Bool) (es rest : List (Uid × Option Slot)) (e : Uid × Option Slot) → NonePasses test es → test e ≡ true → find test (es ++ e ∷ rest) ≡ Some e
+pub found_behind : (test : Uid × Option Slot → Bool) (es rest : List (Uid × Option Slot)) (e : Uid × Option Slot) → NonePasses test es
+    → test e ≡ true → find test (es ++ e ∷ rest) ≡ Some e
 found_behind test [] rest e none passes = ap (λ b. cond b (Some e) (find test rest)) passes
-found_behind test (x ∷ es) rest e none passes = ap (λ b. cond b (Some x) (find test (es ++ e ∷ rest))) none.0 ∙ found_behind test es rest e none.1 passes
+found_behind test (x ∷ es) rest e none passes = ap (λ b. cond b (Some x) (find test (es ++ e ∷ rest))) none.0
+    ∙ found_behind test es rest e none.1 passes
 
 pub found_none : (test : Uid × Option Slot → Bool) (es : List (Uid × Option Slot)) → NonePasses test es → find test es ≡ None
 found_none test [] none = refl

@@ -1,5 +1,6 @@
 -- The log: open records one behind the other from byte 16 on, up to the first closed gate.
-use Rattle.std.specs.Prelude.{◌≡◌, ◌⊎◌, ℕ, ◌+◌, Bool, true, false, ◌&&◌, ◌||◌, not, ◌==◌, nat_le, nat_lt, suc, zero, List, [], ◌∷◌, ◌++◌, length, take, slice_index, slice_range, Option, None, Some, Result, Ok, Err, if◌then◌else◌}
+use Rattle.std.specs.Prelude.{◌≡◌, ◌⊎◌, ℕ, ◌+◌, Bool, true, false, ◌&&◌, ◌||◌, not, ◌==◌, nat_le, nat_lt, suc, zero, List, [], ◌∷◌, ◌++◌}
+use Rattle.std.specs.Prelude.{length, take, slice_index, slice_range, Option, None, Some, Result, Ok, Err, if◌then◌else◌}
 use Rattle.std.specs.Int.{w32, from_be_bytes}
 use Rattle.capability.specs.declared.Uid.{Uid}
 use Rattle.passive_store.specs.Kept.{Change, Kept, nothing_kept, kept_by}

@@ -1,5 +1,6 @@
 -- A store over a log: what is seen of it, and how its index stands to the bytes of the disk.
-use Rattle.std.specs.Prelude.{◌≡◌, ◌&&◌, not, ℕ, suc, zero, ◌+◌, ◌≤◌, ◌==◌, Bool, true, false, List, [], ◌∷◌, ◌++◌, length, take, map, slice_index, slice_range, Option, None, Some, IfSome, IsSome}
+use Rattle.std.specs.Prelude.{◌≡◌, ◌&&◌, not, ℕ, suc, zero, ◌+◌, ◌≤◌, ◌==◌, Bool, true, false, List, [], ◌∷◌, ◌++◌, length, take, map}
+use Rattle.std.specs.Prelude.{slice_index, slice_range, Option, None, Some, IfSome, IsSome}
 use Rattle.std.proofs.Common.{cond}
 use Rattle.std.specs.Option.{option_map, option_and_then}
 use Rattle.std.specs.FinMap as finite

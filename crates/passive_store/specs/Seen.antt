@@ -1,5 +1,6 @@
 -- What is seen of a store, and what each of its calls leaves of it.
-use Rattle.std.specs.Prelude.{◌≡◌, ◌≢◌, ◌⊎◌, ℕ, ◌+◌, ◌≤◌, Bool, false, IsTrue, IsSome, is_some, is_ok, ◌&&◌, nat_le, List, length, Option, None, Some, Result, Ok, Err, OnOk, OnErr, IfOk, IfErr, IfSome}
+use Rattle.std.specs.Prelude.{◌≡◌, ◌≢◌, ◌⊎◌, ℕ, ◌+◌, ◌≤◌, Bool, false, IsTrue, IsSome, is_some, is_ok, ◌&&◌, nat_le, List, length}
+use Rattle.std.specs.Prelude.{Option, None, Some, Result, Ok, Err, OnOk, OnErr, IfOk, IfErr, IfSome}
 use Rattle.capability.specs.declared.Uid.{Uid}
 use Rattle.eden_disk.specs.Told.{Told, contents, EachMoment}
 use Rattle.eden_disk.specs.declared.disk.Arm.{Arm}
@@ -11,7 +12,14 @@ use Rattle.passive_store.specs.declared.store.Progress.{Progress}
 use Rattle.passive_store.specs.declared.store.StoreRefusal.{StoreRefusal}
 use Rattle.passive_store.specs.declared.store.StoreRefusal.TheVariants.{Full, Damaged, OutOfMemory}
 use Rattle.passive_store.specs.Acts.{DiskCall, CallTold, CallsTold, settling_call}
-use Rattle.passive_store.specs.Kept.{Change, Kept, Layout, Work, Idle, IsFresh, Stands, IsDamagedFrom, IsOverfull, IsRefusedIn, IsRefusedAfter, LeavesKept, StandsThrough, HasJob, NextTold, Ran, IsJobOf, changes_in, doubt_in, change_in, is_unsettled, is_synced, calls_left, job_left, settling_of, settling_calls, settling_before, settling_due, settled, finds_room, calls_due, reads_due, progress_at, end_of_store, work_begun, work_settled, work_stepped, work_advanced, work_finished, work_changed, work_unchanged, kept_advanced, kept_finished, kept_changed, changes_begun, SettlesFirst, SettlesAfterMemory, IsFullBy, IsDiskRefusal, IsEarlyRefusal, KeepsTelling, body_at, OpeningMade, OpeningTold, IsOverfullBy, NeverOverfull}
+use Rattle.passive_store.specs.Kept.{Change, Kept, Layout, Work, Idle, IsFresh, Stands, IsDamagedFrom, IsOverfull, IsRefusedIn}
+use Rattle.passive_store.specs.Kept.{IsRefusedAfter, LeavesKept, StandsThrough, HasJob, NextTold, Ran, IsJobOf, changes_in, doubt_in}
+use Rattle.passive_store.specs.Kept.{change_in, is_unsettled, is_synced, calls_left, job_left, settling_of, settling_calls}
+use Rattle.passive_store.specs.Kept.{settling_before, settling_due, settled, finds_room, calls_due, reads_due, progress_at, end_of_store}
+use Rattle.passive_store.specs.Kept.{work_begun, work_settled, work_stepped, work_advanced, work_finished, work_changed, work_unchanged}
+use Rattle.passive_store.specs.Kept.{kept_advanced, kept_finished, kept_changed, changes_begun, SettlesFirst, SettlesAfterMemory}
+use Rattle.passive_store.specs.Kept.{IsFullBy, IsDiskRefusal, IsEarlyRefusal, KeepsTelling, body_at, OpeningMade, OpeningTold}
+use Rattle.passive_store.specs.Kept.{IsOverfullBy, NeverOverfull}
 
 -- what is seen of a disk
 pub record DiskSeen : Type 0 where

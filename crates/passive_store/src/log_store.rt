@@ -1,5 +1,6 @@
 // A store over a log. Its index has each kept uid, and where its record stands.
-ghost use Rattle.std.specs.Prelude.{◌≡◌, ◌≢◌, ◌⊎◌, ◌+◌, ◌≤◌, ◌<◌, ◌==◌, ◌^◌, [], slice_range, ℕ, Bool, IsTrue, Option, OnOk, OnErr, IfOk, IfErr, List, ◌∷◌, ◌++◌, length, take, slice_index, IsSome, IfSome, is_some, is_ok, ◌&&◌, nat_le};
+ghost use Rattle.std.specs.Prelude.{◌≡◌, ◌≢◌, ◌⊎◌, ◌+◌, ◌≤◌, ◌<◌, ◌==◌, ◌^◌, [], slice_range, ℕ, Bool, IsTrue, Option, OnOk, OnErr, IfOk};
+ghost use Rattle.std.specs.Prelude.{IfErr, List, ◌∷◌, ◌++◌, length, take, slice_index, IsSome, IfSome, is_some, is_ok, ◌&&◌, nat_le};
 ghost use Rattle.std.specs.Option.{option_map};
 ghost use Rattle.std.proofs.Common.{cond};
 ghost use Rattle.passive_store.specs.declared.store.StoreRefusal.TheVariants.{Full, OutOfMemory};
@@ -12,14 +13,15 @@ ghost use Rattle.eden_disk.specs.Timed.{Timed};
 ghost use Rattle.passive_store.specs.Log.{HalfWritten, Unwritten, log_grows};
 ghost use Rattle.passive_store.specs.Acts.{CallTold, CallsTold, settling_call};
 ghost use Rattle.passive_store.specs.Kept.{IsOwn, IsEject, IsFresh, Idle, is_busy, end_of_store, IsDiskRefusal, Ran, work_begun, body_at};
-ghost use Rattle.passive_store.specs.LogState.{SetsSlot, slot_of, slot_at, IsRecordOf, IsJobAfter, made_at, stage_after, stage_synced, stage_ended, WhereBegun, stage_call};
+ghost use Rattle.passive_store.specs.LogState.{SetsSlot, slot_of, slot_at, IsRecordOf, IsJobAfter, made_at, stage_after, stage_synced};
+ghost use Rattle.passive_store.specs.LogState.{stage_ended, WhereBegun, stage_call};
 ghost use Rattle.passive_store.specs.LogLayout.{within_room, log_room, reads_for, record_job, log_tail, bytes_for};
 
 use crate::index::{Slot, find_slot, make_entry, make_slot, next_slot, set_slot};
 use crate::opening::{Found, open_log};
 use crate::records::{DELETED, OPEN, VALUE, make_record, read_gate};
 use crate::store::{Pick, Progress, Store, StoreRefusal};
-use capability::{Body, Uid};
+use capability::{Body, Seq, Uid};
 use eden_disk::{Arm, Disk, DiskRefusal};
 use std::alloc::{AllocError, Global};
 use std::collections::BTreeMap;
@@ -125,7 +127,9 @@ fn next_stage(stage: Stage) -> Option<Stage>
 }
 
 impl<D: Disk> LogStore<D> {
-    ghost use Rattle.passive_store.specs.Kept.{Work, Stands, changes_in, change_in, doubt_in, is_unsettled, is_synced, work_settled, work_stepped, settling_calls, work_advanced, kept_advanced, unsynced, progress_at, calls_left, job_left, settling_of, settled, SettlesFirst, IsFullBy, NextTold, reads_due};
+    ghost use Rattle.passive_store.specs.Kept.{Work, Stands, changes_in, change_in, doubt_in, is_unsettled, is_synced, work_settled};
+    ghost use Rattle.passive_store.specs.Kept.{work_stepped, settling_calls, work_advanced, kept_advanced, unsynced, progress_at};
+    ghost use Rattle.passive_store.specs.Kept.{calls_left, job_left, settling_of, settled, SettlesFirst, IsFullBy, NextTold, reads_due};
     ghost use Rattle.passive_store.specs.LogLayout.{log_layout, log_changes};
     ghost use Rattle.passive_store.specs.LogState.{state_kept, log_seen, HasEntry};
     ghost use Rattle.passive_store.specs.Seen.{asked, Finishes, Changes, Settles};
@@ -474,7 +478,7 @@ impl<D: Disk> LogStore<D> {
         };
         let mut bytes = vec![in alloc; 0u8; slot.length as usize]?;
         self.disk.read(slot.gate + 15, &mut bytes)?;
-        Ok(Some(Body { bytes }))
+        Ok(Some(Seq { items: bytes }))
     }
 }
 

@@ -1,5 +1,6 @@
 // The opening of a disk: what a log on it says, or a new log on a blank one.
-ghost use Rattle.std.specs.Prelude.{◌≡◌, ◌≢◌, ◌+◌, ◌≤◌, ◌<◌, ◌==◌, ◌∷◌, [], ℕ, true, false, length, map, slice_index, IsTrue, IfOk, IfErr, OnOk, Option, Result, if◌then◌else◌};
+ghost use Rattle.std.specs.Prelude.{◌≡◌, ◌≢◌, ◌+◌, ◌≤◌, ◌<◌, ◌==◌, ◌∷◌, [], ℕ, true, false, length, map, slice_index, IsTrue, IfOk};
+ghost use Rattle.std.specs.Prelude.{IfErr, OnOk, Option, Result, if◌then◌else◌};
 ghost use Rattle.eden_disk.specs.Told.{contents, at_rest};
 ghost use Rattle.eden_disk.specs.Timed.{Timed};
 ghost use Rattle.eden_disk.specs.Calls.{DeviceCalls, Obeyed, ReadTold, end_of};

@@ -1,5 +1,6 @@
 // The records of a log, as bytes.
-ghost use Rattle.std.specs.Prelude.{◌≡◌, ◌⊎◌, ◌+◌, ◌≤◌, ◌==◌, ◌&&◌, nat_le, not, [], ◌∷◌, ◌++◌, length, slice_index, slice_range, drop, IsTrue, IfOk, IfErr, IfSome, is_some};
+ghost use Rattle.std.specs.Prelude.{◌≡◌, ◌⊎◌, ◌+◌, ◌≤◌, ◌==◌, ◌&&◌, nat_le, not, [], ◌∷◌, ◌++◌, length, slice_index, slice_range, drop};
+ghost use Rattle.std.specs.Prelude.{IsTrue, IfOk, IfErr, IfSome, is_some};
 ghost use Rattle.std.specs.Int.{w32, from_be_bytes};
 ghost use Rattle.eden_disk.specs.Told.{contents};
 ghost use Rattle.eden_disk.specs.Timed.{Timed};

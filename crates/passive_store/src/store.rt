@@ -3,8 +3,10 @@ ghost use Rattle.std.specs.Prelude.{◌≡◌, ◌≢◌, ◌≤◌, ℕ, Bool, 
 ghost use Rattle.std.specs.FinMap as map;
 ghost use Rattle.eden_disk.specs.Calls.{armed, calls_until};
 ghost use Rattle.passive_store.specs.declared.store.StoreRefusal.TheVariants.{OutOfMemory, Damaged};
-ghost use Rattle.passive_store.specs.Kept.{Layout, Idle, unsure_in, worked_on, is_busy, is_unsettled, refused, IsOwn, IsEject, body_at, IsNextKept};
-ghost use Rattle.passive_store.specs.Seen.{Seen, disk_seen, opened, disk_opened, asked, Opens, SettlesOneCall, Settled, Begins, Advances, Arms, Puts, Deletes, Gets};
+ghost use Rattle.passive_store.specs.Kept.{Layout, Idle, unsure_in, worked_on, is_busy, is_unsettled, refused, IsOwn, IsEject, body_at};
+ghost use Rattle.passive_store.specs.Kept.{IsNextKept};
+ghost use Rattle.passive_store.specs.Seen.{Seen, disk_seen, opened, disk_opened, asked, Opens, SettlesOneCall, Settled, Begins, Advances};
+ghost use Rattle.passive_store.specs.Seen.{Arms, Puts, Deletes, Gets};
 
 use capability::{Body, Uid};
 use eden_disk::{Arm, Disk, DiskRefusal};

@@ -166,7 +166,7 @@ fn read<St: Store>(alloc: Global, store: &mut St, uid: Uid) -> Result<Option<Bod
 /// Whether a body is there, and is this one; or whether none is.
 fn is_body(found: Option<Body>, kept: bool, bytes: &[u8]) -> bool {
     match found {
-        Some(body) => kept && *body.bytes == *bytes,
+        Some(body) => kept && *body.as_slice() == *bytes,
         None => !kept,
     }
 }

@@ -3,13 +3,16 @@ use Rattle.std.specs.Prelude.{ℕ, suc, Bool, false, ◌==◌, ◌||◌, not, na
 use Rattle.eden_value.specs.Shape.{Shape, ints, truths, lists}
 use Rattle.epl_syntax.specs.declared.tree.Name.{Name}
 use Rattle.epl_syntax.specs.declared.tree.Operator.{Operator}
-use Rattle.epl_syntax.specs.declared.tree.Operator.TheVariants.{Or, And, Equal, Different, Less, LessEqual, Greater, GreaterEqual, Add, Subtract, Join, Multiply, Divide, Modulo}
-use Rattle.epl_syntax.specs.Tree.{PlacedShape, Constant, empty_list, Expression, Const_, Name_, Me, Unary, Binary, Index, ListOf, Apply, Expressions, no_expressions, expression_and}
+use Rattle.epl_syntax.specs.declared.tree.Operator.TheVariants.{Or, And, Equal, Different, Less, LessEqual, Greater, GreaterEqual, Add}
+use Rattle.epl_syntax.specs.declared.tree.Operator.TheVariants.{Subtract, Join, Multiply, Divide, Modulo}
+use Rattle.epl_syntax.specs.Tree.{PlacedShape, Constant, empty_list, Expression, Const_, Name_, Me, Unary, Binary, Index, ListOf, Apply}
+use Rattle.epl_syntax.specs.Tree.{Expressions, no_expressions, expression_and}
 use Rattle.epl_syntax.specs.declared.rule.Broken.{Broken}
 use Rattle.epl_syntax.specs.declared.rule.Rule.TheVariants.{UnknownName, KindDiffers, Unguarded, BadLimit}
 use Rattle.epl_syntax.specs.Rules.First.{broken_if, broken_at}
 use Rattle.epl_syntax.specs.Rules.Scopes.{Scope, Seen, variable_named}
-use Rattle.epl_syntax.specs.Rules.KindsOf.{same_shape, is_list, has_size, sized_kind, kind_of_prefix, kind_of, kind_of_first, argument_tests}
+use Rattle.epl_syntax.specs.Rules.KindsOf.{same_shape, is_list, has_size, sized_kind, kind_of_prefix, kind_of, kind_of_first}
+use Rattle.epl_syntax.specs.Rules.KindsOf.{argument_tests}
 
 -- the place of an expression's first token
 abbrev pub place_of : Expression → ℕ

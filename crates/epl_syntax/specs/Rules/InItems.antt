@@ -7,7 +7,8 @@ use Rattle.epl_syntax.specs.declared.tree.Name.{Name}
 use Rattle.epl_syntax.specs.declared.tree.Number.{Number}
 use Rattle.epl_syntax.specs.declared.tree.ClassDecl.{ClassDecl}
 use Rattle.epl_syntax.specs.declared.tree.CondDecl.{CondDecl}
-use Rattle.epl_syntax.specs.Tree.{PlacedShape, Beginning, Variable, Local, Parameter, Operation, Process, Change, Upgrade, TypeTree, block_of}
+use Rattle.epl_syntax.specs.Tree.{PlacedShape, Beginning, Variable, Local, Parameter, Operation, Process, Change, Upgrade, TypeTree}
+use Rattle.epl_syntax.specs.Tree.{block_of}
 use Rattle.epl_syntax.specs.declared.rule.Broken.{Broken}
 use Rattle.epl_syntax.specs.declared.rule.Rule.TheVariants.{UnknownName, BadLimit}
 use Rattle.epl_syntax.specs.Rules.First.{broken_if, broken_at}

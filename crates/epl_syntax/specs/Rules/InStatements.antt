@@ -5,7 +5,8 @@ use Rattle.eden_value.specs.Shape.{Shape, ints, truths, caps}
 use Rattle.epl_syntax.specs.declared.tree.Name.{Name}
 use Rattle.epl_syntax.specs.declared.tree.Target.{Target}
 use Rattle.epl_syntax.specs.declared.tree.Target.TheVariants as target
-use Rattle.epl_syntax.specs.Tree.{PlacedShape, Expression, Statement, Assign, If, While, With, Wait, Signal, Yield, Deactivate, Checkpoint, Destroy, Create, Invoke, Return, Statements, no_statements, statement_and}
+use Rattle.epl_syntax.specs.Tree.{PlacedShape, Expression, Statement, Assign, If, While, With, Wait, Signal, Yield, Deactivate}
+use Rattle.epl_syntax.specs.Tree.{Checkpoint, Destroy, Create, Invoke, Return, Statements, no_statements, statement_and}
 use Rattle.epl_syntax.specs.declared.rule.Broken.{Broken}
 use Rattle.epl_syntax.specs.declared.rule.Rule.TheVariants.{UnknownName, KindDiffers, Unguarded, Nested}
 use Rattle.epl_syntax.specs.Rules.First.{broken_if, broken_at}

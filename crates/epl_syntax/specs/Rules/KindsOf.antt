@@ -4,10 +4,12 @@ use Rattle.eden_value.specs.Shape.{Shape, ints, truths, texts, caps, lists}
 use Rattle.epl_syntax.specs.declared.tree.Prefix.{Prefix}
 use Rattle.epl_syntax.specs.declared.tree.Prefix.TheVariants.{Not, Negate}
 use Rattle.epl_syntax.specs.declared.tree.Operator.{Operator}
-use Rattle.epl_syntax.specs.declared.tree.Operator.TheVariants.{Or, And, Equal, Different, Less, LessEqual, Greater, GreaterEqual, Add, Subtract, Join, Multiply, Divide, Modulo}
+use Rattle.epl_syntax.specs.declared.tree.Operator.TheVariants.{Or, And, Equal, Different, Less, LessEqual, Greater, GreaterEqual, Add}
+use Rattle.epl_syntax.specs.declared.tree.Operator.TheVariants.{Subtract, Join, Multiply, Divide, Modulo}
 use Rattle.epl_syntax.specs.declared.tree.Builtin.{Builtin}
 use Rattle.epl_syntax.specs.declared.tree.Builtin.TheVariants.{Size, Str, Put, Cut, Part, Restrict}
-use Rattle.epl_syntax.specs.Tree.{Constant, integer, text, truth, absent, empty_list, Expression, Const_, Name_, Me, Unary, Binary, Index, ListOf, Apply, Expressions, no_expressions, expression_and}
+use Rattle.epl_syntax.specs.Tree.{Constant, integer, text, truth, absent, empty_list, Expression, Const_, Name_, Me, Unary, Binary}
+use Rattle.epl_syntax.specs.Tree.{Index, ListOf, Apply, Expressions, no_expressions, expression_and}
 use Rattle.epl_syntax.specs.Rules.Scopes.{Scope, Seen, variable_named}
 
 -- whether both are one kind

@@ -15,7 +15,8 @@ returns-in-Some-clause-starts g c = λ so law other s requests same h.
     let f : FindsTo g.St.Store.layout x.node s requests c.args.uid x (find.Bytes c.in-Bytes.body) c.in_ok-found.pick y =
     subst (λ k. FindsTo g.St.Store.layout x.node s requests c.args.uid x k c.in_ok-found.pick y) c.in-Bytes.is
     (c.in_ok-found.ensures.finds so other s requests h) in
-    starts-values g.St.Store.layout x.node s requests c.args.uid x c.in_ok-found.pick y h c.requires.other (g.T.Starter.types c.args.types.now)
+    starts-values g.St.Store.layout x.node s requests c.args.uid x c.in_ok-found.pick y h c.requires.other
+    (g.T.Starter.types c.args.types.now)
     c.in-Bytes.body (g.T.Starter.started c.in-Some.start) same f
     (sym (c.in_ok-start-in-Bytes.ensures (subst FindsShort c.in-Bytes.is (c.in_ok-found.ensures.short so law s requests h)))
     ∙ ap (option_map (g.T.Starter.started)) c.in-Some.is)

@@ -4,7 +4,8 @@ use Rattle.passive_store.specs.Seen.{Seen, DiskSeen}
 use Rattle.checkpoint.specs.Booting.{OpensTo, PutsTo}
 use Rattle.checkpoint.specs.Calls.{call_of_fall}
 use Rattle.checkpoint.proofs.SomeCalls.{calls-then, calls-refused, fall-call, calls-fell}
-use Rattle.checkpoint.proofs.WholeBoots.{fall-as, noted-idle, below-last, epochs-fit, boots-up, falls-unread, falls-spent, falls-full, falls-unmade, falls-put}
+use Rattle.checkpoint.proofs.WholeBoots.{fall-as, noted-idle, below-last, epochs-fit, boots-up, falls-unread, falls-spent, falls-full}
+use Rattle.checkpoint.proofs.WholeBoots.{falls-unmade, falls-put}
 use Rattle.checkpoint.proofs.up.boot_opened.Goals as goal
 
 pub put_epoch-requires-clause-power : goal.put_epoch-requires-clause-power

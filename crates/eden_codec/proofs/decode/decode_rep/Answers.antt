@@ -15,7 +15,8 @@ pub returns-in-Ok-clause-ok : goal.returns-in-Ok-clause-ok
 returns-in-Ok-clause-ok c = spelled_whole Spells rep_at rep_exact c.args.bytes.now c.in-Ok.rep c.in-Ok.ensures
 
 pub returns-in-Ok-clause-form : goal.returns-in-Ok-clause-form
-returns-in-Ok-clause-form c = (spelled_has_form c.args.bytes.now c.in-Ok.rep (spelled_whole Spells rep_at rep_exact c.args.bytes.now c.in-Ok.rep c.in-Ok.ensures)).0
+returns-in-Ok-clause-form c = (spelled_has_form c.args.bytes.now c.in-Ok.rep
+    (spelled_whole Spells rep_at rep_exact c.args.bytes.now c.in-Ok.rep c.in-Ok.ensures)).0
 
 pub returns-in-Err-At-clause-not_rep : goal.returns-in-Err-At-clause-not_rep
 returns-in-Err-At-clause-not_rep c =

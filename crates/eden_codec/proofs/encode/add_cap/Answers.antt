@@ -16,5 +16,8 @@ returns-clause-spelled c =
       c.to_be_bytes-3.ensures,
       c.to_be_bytes-4.ensures,
     )
-    (five c.args.out.now.items (c.args.cap.uid.node ∷ []) (bytes_high_first 4 c.args.cap.uid.epoch) (bytes_high_first 4 c.args.cap.uid.serial) (bytes_high_first 2 c.args.cap.rights.bits)
-    ∙ (let h : c.args.cap.uid.node < 256 = search rules in ap (λ n. c.args.out.now.items ++ n ∷ (bytes_high_first 4 c.args.cap.uid.epoch ++ (bytes_high_first 4 c.args.cap.uid.serial ++ bytes_high_first 2 c.args.cap.rights.bits))) (sym (mod-eq_of_lt h))))
+    (five c.args.out.now.items (c.args.cap.uid.node ∷ []) (bytes_high_first 4 c.args.cap.uid.epoch)
+    (bytes_high_first 4 c.args.cap.uid.serial) (bytes_high_first 2 c.args.cap.rights.bits)
+    ∙ (let h : c.args.cap.uid.node < 256 = search rules in
+    ap (λ n. c.args.out.now.items ++ n ∷ (bytes_high_first 4 c.args.cap.uid.epoch ++
+    (bytes_high_first 4 c.args.cap.uid.serial ++ bytes_high_first 2 c.args.cap.rights.bits))) (sym (mod-eq_of_lt h))))

@@ -15,4 +15,5 @@ abbrev pub decreases-values_of : goal.decreases-values_of
 decreases-values_of l = 3 * l.depth + 1
 
 abbrev pub invariant-values_of-loop : goal.invariant-values_of-loop
-invariant-values_of-loop l = with_front (datums l.values.items) (times (l.count - l.counter) (value_at l.depth) l.rest) ≡ times l.count (value_at l.depth) l.bytes
+invariant-values_of-loop l = with_front (datums l.values.items) (times (l.count - l.counter) (value_at l.depth) l.rest) ≡ times l.count
+    (value_at l.depth) l.bytes

@@ -20,7 +20,8 @@ returns-in-Err-edentype c =
     let seen = seen_of c.args.seen.now in
     let text = c.in-Some.text.now in
     pass_on (IsCause seen (parts.declaration text)) (FirstFails seen c.args.bytes.now)
-    (declaration_fails seen c.args.bytes.now text (parts_of (lines_of c.in-Some.behind.now)) c.in-Some.ensures.0 (let short = c.in-Some.ensures.2 in omega (arith, short)))
+    (declaration_fails seen c.args.bytes.now text (parts_of (lines_of c.in-Some.behind.now)) c.in-Some.ensures.0
+    (let short = c.in-Some.ensures.2 in omega (arith, short)))
     c.in-Err-edentype.flaw c.in-Err-edentype.ensures
 
 pub returns-in-Err-unclosed : goal.returns-in-Err-unclosed

@@ -34,7 +34,8 @@ values-returns-in_err-next t c =
     (values_fail (read_value c.args.names c.args.levels) c.args.close.now
     (option_map
     (λ v. map written v.items)
-    c.loop-left.found) c.loop-left.rest.now _ c.loop-left.left c.in-Some-behind.next.now _ c.loop-left-test.true e c.in_err-next.ensures c.loop-left.invariant)
+    c.loop-left.found) c.loop-left.rest.now _ c.loop-left.left c.in-Some-behind.next.now _ c.loop-left-test.true e c.in_err-next.ensures
+    c.loop-left.invariant)
 
 pub values-loop-left-preserved : goal.values-loop-left-preserved
 values-loop-left-preserved t c =

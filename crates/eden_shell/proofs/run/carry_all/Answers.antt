@@ -13,10 +13,15 @@ returns-in_err-note-clause-part c = reaches_none _ _ _ c.in_err-note.ensures.err
 
 pub loop-command-init : goal.loop-command-init
 loop-command-init c =
-    let names : names_of c.boot-event.new.self.names.items ≡ [] = ap (λ (v : Vec Binding Global). names_of v.items) c.boot-event.ensures.names ∙ ap (λ (w : World). names_of w.names) c.new-bench.ensures.opening in
-    let booted = sound-booted (world_of c.new-bench.result) (world_of c.boot-event.new.self) c.new-bench.result.node c.boot-event.result c.new-bench.ensures.opening c.boot-event.ensures.booted in
+    let names : names_of c.boot-event.new.self.names.items ≡ [] = ap
+    (λ (v : Vec Binding Global). names_of v.items) c.boot-event.ensures.names ∙ ap
+    (λ (w : World). names_of w.names) c.new-bench.ensures.opening in
+    let booted = sound-booted (world_of c.new-bench.result)
+    (world_of c.boot-event.new.self) c.new-bench.result.node c.boot-event.result c.new-bench.ensures.opening
+    c.boot-event.ensures.booted in
     record {
-      so_far = boot_advances (world_of c.new-bench.result) (world_of c.boot-event.new.self) c.args.commands.now c.new-bench.result.node c.boot-event.result _ _
+      so_far = boot_advances (world_of c.new-bench.result)
+          (world_of c.boot-event.new.self) c.args.commands.now c.new-bench.result.node c.boot-event.result _ _
           c.new-bench.ensures.opening refl refl c.boot-event.ensures.booted refl c.in_ok-note.ensures.ok;
       fit = rw names c.requires.fit;
       ready = record { sound = booted.0; serial = c.boot-event.ensures.serial ∙ sym booted.1 };
@@ -27,7 +32,8 @@ loop-command-init c =
 
 pub carry_out-requires : goal.carry_out-requires
 carry_out-requires c =
-    let fit = subst (AllFit (names_of c.loop-command.bench.names.items)) (next_command _ c.loop-command.command-index c.command-item.result (omega arith) c.command-item.is) c.loop-command.invariant.fit in
+    let fit = subst (AllFit (names_of c.loop-command.bench.names.items))
+    (next_command _ c.loop-command.command-index c.command-item.result (omega arith) c.command-item.is) c.loop-command.invariant.fit in
     record {
       fits = fit.0;
       few = omega arith;
@@ -38,14 +44,17 @@ carry_out-requires c =
 
 pub returns-in_err-carry_out-clause-part : goal.returns-in_err-carry_out-clause-part
 returns-in_err-carry_out-clause-part c =
-    reaches_command _ (world_of c.loop-command.bench) _ c.loop-command.command-index c.command-item.result _ _ _ (omega arith) c.command-item.is
+    reaches_command _ (world_of c.loop-command.bench) _ c.loop-command.command-index c.command-item.result _ _ _
+    (omega arith) c.command-item.is
     c.loop-command.invariant.so_far (c.carry_out.ensures.part (drop (c.loop-command.command-index + 1) c.args.commands.now))
 
 pub loop-command-preserved : goal.loop-command-preserved
 loop-command-preserved c =
-    let fit = subst (AllFit (names_of c.loop-command.bench.names.items)) (next_command _ c.loop-command.command-index c.command-item.result (omega arith) c.command-item.is) c.loop-command.invariant.fit in
+    let fit = subst (AllFit (names_of c.loop-command.bench.names.items))
+    (next_command _ c.loop-command.command-index c.command-item.result (omega arith) c.command-item.is) c.loop-command.invariant.fit in
     record {
-      so_far = advances_command _ _ (world_of c.loop-command.bench) _ c.loop-command.command-index c.command-item.result _ _ _ (omega arith) c.command-item.is
+      so_far = advances_command _ _ (world_of c.loop-command.bench) _ c.loop-command.command-index c.command-item.result _ _ _
+          (omega arith) c.command-item.is
           c.loop-command.invariant.so_far (c.in_ok-carry_out.ensures.done (drop (c.loop-command.command-index + 1) c.args.commands.now));
       fit = rw c.in_ok-carry_out.ensures.names fit.1;
       ready = c.in_ok-carry_out.ensures.ready;

@@ -8,7 +8,8 @@ pub returns-in-None-clause-done : goal.returns-in-None-clause-done
 returns-in-None-clause-done c = λ rest.
     rw c.in_ok-note-in-None.ensures.ok
     (advances_append _ _ _ _ _ _ (c.loop-taken.invariant.so_far rest)
-    (advances_one _ _ _ _ (quiet_due (c.args.n - c.loop-taken.taken) (world_of c.loop-taken.bench) rest (omega arith) (sym c.in_ok-next_key.ensures ∙ c.in-None.is))))
+    (advances_one _ _ _ _ (quiet_due (c.args.n - c.loop-taken.taken) (world_of c.loop-taken.bench) rest (omega arith)
+    (sym c.in_ok-next_key.ensures ∙ c.in-None.is))))
 
 pub returns-in-None-clause-part : goal.returns-in-None-clause-part
 returns-in-None-clause-part c = λ rest. record { to = at (world_of c.loop-taken.bench) rest; way = returns-in-None-clause-done c rest }
@@ -19,7 +20,8 @@ loop-taken-preserved c =
       so_far = λ rest.
           let fewer : (c.args.n - c.loop-taken.taken) - 1 ≡ c.args.n - (c.loop-taken.taken + 1) = omega arith in
           rw (← fewer)
-          (advances_append _ _ _ _ _ _ (c.loop-taken.invariant.so_far rest) (c.in_ok-take_turn-in-Some.ensures.taken (c.args.n - c.loop-taken.taken) rest (omega arith)));
+          (advances_append _ _ _ _ _ _ (c.loop-taken.invariant.so_far rest)
+          (c.in_ok-take_turn-in-Some.ensures.taken (c.args.n - c.loop-taken.taken) rest (omega arith)));
       sent = c.in_ok-take_turn-in-Some.ensures.sent;
       ready = c.in_ok-take_turn-in-Some.ensures.ready;
       node = c.take_turn.ensures.node ∙ c.loop-taken.invariant.node;

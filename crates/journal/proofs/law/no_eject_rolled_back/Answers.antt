@@ -3,4 +3,5 @@ use Rattle.journal.proofs.SafeRuns.{each-none-rolled-back}
 use Rattle.journal.proofs.law.no_eject_rolled_back.Goals as goal
 
 pub returns : goal.returns
-returns c = λ layout script disks history begins. each-none-rolled-back (opening_world layout script disks) script.nodes script.commands history begins
+returns c = λ layout script disks history begins. each-none-rolled-back
+    (opening_world layout script disks) script.nodes script.commands history begins

@@ -17,7 +17,8 @@ use Rattle.passive_store.proofs.index.make_entry.Goals as goal
 -- uids that compare alike are one
 exact_uid : CmpEqualImpliesEq uid_cmp
 exact_uid a b h = ap (λ (p : ℕ × (ℕ × ℕ)). record { node = p.0; epoch = p.1.0; serial = p.1.1 })
-    (exact_pairs nat_cmp (λ (x y : ℕ × ℕ). ordering_then (nat_cmp x.0 y.0) (nat_cmp x.1 y.1)) exact_unsigned (exact_pairs nat_cmp nat_cmp exact_unsigned exact_unsigned) (a.node, (a.epoch, a.serial)) (b.node, (b.epoch, b.serial)) h)
+    (exact_pairs nat_cmp (λ (x y : ℕ × ℕ). ordering_then (nat_cmp x.0 y.0) (nat_cmp x.1 y.1)) exact_unsigned
+    (exact_pairs nat_cmp nat_cmp exact_unsigned exact_unsigned) (a.node, (a.epoch, a.serial)) (b.node, (b.epoch, b.serial)) h)
 
 alike : (o : Ordering) → is_eq o ≡ true → o ≡ Equal
 alike Less h = absurd (false≢true h)
@@ -31,7 +32,8 @@ no_value (Some x) h = absurd (false≢true (sym h))
 -- an empty entry for a uid that had none gives it no slot
 empty_slot : (old : BTreeMap Uid (Option Slot)) (uid q : Uid) (b : Bool) → is_at (uid_cmp uid) q ≡ b → tree.get uid_cmp old uid ≡ None →
     option_and_then (λ (s : Option Slot). s) (cond b (Some None) (tree.get uid_cmp old q)) ≡ slot_at old q
-empty_slot old uid q true e absent = sym (ap (slot_at old) (sym (exact_uid uid q (alike (uid_cmp uid q) e))) ∙ ap (option_and_then (λ (s : Option Slot). s)) absent)
+empty_slot old uid q true e absent = sym (ap (slot_at old) (sym (exact_uid uid q (alike (uid_cmp uid q) e))) ∙ ap
+    (option_and_then (λ (s : Option Slot). s)) absent)
 empty_slot old uid q false e absent = refl
 
 entry_stays : (b : Bool) (old : Option (Option Slot)) → IsSome old → IsSome (cond b (Some None) old)
@@ -39,7 +41,8 @@ entry_stays true old h = refl
 entry_stays false old h = h
 
 pub returns-in_ok-insert-clause-slots : goal.returns-in_ok-insert-clause-slots
-returns-in_ok-insert-clause-slots c = λ q. ap (option_and_then (λ (s : Option Slot). s)) (c.in_ok-insert.ensures.updates.0 q) ∙ empty_slot c.args.index.now c.args.uid q _ refl (no_value _ (sym c.contains_key.ensures ∙ c.if-not-contains_key.true))
+returns-in_ok-insert-clause-slots c = λ q. ap (option_and_then (λ (s : Option Slot). s)) (c.in_ok-insert.ensures.updates.0 q)
+    ∙ empty_slot c.args.index.now c.args.uid q _ refl (no_value _ (sym c.contains_key.ensures ∙ c.if-not-contains_key.true))
 
 pub returns-in_ok-insert-clause-keys : goal.returns-in_ok-insert-clause-keys
 returns-in_ok-insert-clause-keys c = λ q h. subst IsSome (sym (c.in_ok-insert.ensures.updates.0 q)) (entry_stays _ _ h)

@@ -24,7 +24,8 @@ returns-clause-ran g c =
         calls_more 1 ran.0 _ _ _ _ c.in_ok-has_log.ensures.counts ran.1.0,
         omega arith,
         λ tells. on_ok_weaker c.format.result
-            (λ (four : ran.0 ≡ 4). ap (λ n. 1 + n) four ∙ sym (ap (λ b. if b then 1 else 5) (sym (c.in_ok-has_log.ensures.found tells) ∙ c.if-branch.false))) ran.1.1,
+            (λ (four : ran.0 ≡ 4). ap (λ n. 1 + n) four ∙ sym
+            (ap (λ b. if b then 1 else 5) (sym (c.in_ok-has_log.ensures.found tells) ∙ c.if-branch.false))) ran.1.1,
       ),
     )
 
@@ -34,15 +35,21 @@ returns-clause-timed g c = λ tells. timed_join _ _ _ _ _ _ (c.in_ok-has_log.ens
 pub returns-in_err-has_log-clause-order : goal.returns-in_err-has_log-clause-order
 returns-in_err-has_log-clause-order g c =
     let p = err_from_is_err_and c.from_residual.result c.from_residual.ensures.1 in
-    rw (p.1, p.2) (λ tells. look_told (slice_index (contents (g.D.Disk.told c.args.disk.now)).now 0 == 237) _ (g.D.Disk.told c.args.disk.now) (g.D.Disk.told c.has_log.new.disk) _ (c.in_err-has_log.ensures.told tells))
+    rw (p.1, p.2) (λ tells. look_told (slice_index (contents (g.D.Disk.told c.args.disk.now)).now 0 == 237) _
+    (g.D.Disk.told c.args.disk.now) (g.D.Disk.told c.has_log.new.disk) _ (c.in_err-has_log.ensures.told tells))
 
 pub returns-then-branch-clause-order : goal.returns-then-branch-clause-order
 returns-then-branch-clause-order g c = λ tells.
-    subst (λ b. AllTold (looks b) (g.D.Disk.told c.args.disk.now) (g.D.Disk.told c.has_log.new.disk)) (sym (sym (c.in_ok-has_log.ensures.found tells) ∙ c.if-branch.true))
-    (call_done Read (g.D.Disk.counts c.has_log.new.disk).clock (g.D.Disk.told c.args.disk.now) (g.D.Disk.told c.has_log.new.disk) (c.in_ok-has_log.ensures.told tells))
+    subst (λ b. AllTold (looks b) (g.D.Disk.told c.args.disk.now) (g.D.Disk.told c.has_log.new.disk))
+    (sym (sym (c.in_ok-has_log.ensures.found tells) ∙ c.if-branch.true))
+    (call_done Read (g.D.Disk.counts c.has_log.new.disk).clock (g.D.Disk.told c.args.disk.now) (g.D.Disk.told c.has_log.new.disk)
+    (c.in_ok-has_log.ensures.told tells))
 
 pub returns-clause-order : goal.returns-clause-order
 returns-clause-order g c = λ tells.
-    subst (λ b. CallsTold (looks b) (g.D.Disk.told c.args.disk.now) (g.D.Disk.told c.format.new.disk) (end_of c.format.result)) (sym (sym (c.in_ok-has_log.ensures.found tells) ∙ c.if-branch.false))
-    (calls_told_more (Read ∷ []) log_format (g.D.Disk.told c.args.disk.now) (g.D.Disk.told c.has_log.new.disk) (g.D.Disk.told c.format.new.disk) (end_of c.format.result)
-    (call_done Read (g.D.Disk.counts c.has_log.new.disk).clock (g.D.Disk.told c.args.disk.now) (g.D.Disk.told c.has_log.new.disk) (c.in_ok-has_log.ensures.told tells)) (c.format.ensures.order tells))
+    subst (λ b. CallsTold (looks b) (g.D.Disk.told c.args.disk.now) (g.D.Disk.told c.format.new.disk) (end_of c.format.result))
+    (sym (sym (c.in_ok-has_log.ensures.found tells) ∙ c.if-branch.false))
+    (calls_told_more (Read ∷ []) log_format (g.D.Disk.told c.args.disk.now) (g.D.Disk.told c.has_log.new.disk)
+    (g.D.Disk.told c.format.new.disk) (end_of c.format.result)
+    (call_done Read (g.D.Disk.counts c.has_log.new.disk).clock (g.D.Disk.told c.args.disk.now) (g.D.Disk.told c.has_log.new.disk)
+    (c.in_ok-has_log.ensures.told tells)) (c.format.ensures.order tells))

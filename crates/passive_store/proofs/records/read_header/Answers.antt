@@ -10,7 +10,8 @@ returns-in-Some-clause-header g c = λ tells.
     let now : List ℕ = (contents (g.D.Disk.told c.args.disk.now)).now in
     let count : ℕ = c.min-count.result in
     let long : length (take count (replicate 15 0)) ≡ count = length-take-le count (replicate 15 0) (omega (arith, c.min-count.ensures)) in
-    let bytes : c.read.new.out ≡ slice_range now c.args.place (c.args.place + length (take count (replicate 15 0))) = c.in_ok-read.ensures.bytes tells in
+    let bytes : c.read.new.out ≡ slice_range now c.args.place (c.args.place + length (take count (replicate 15 0))) =
+    c.in_ok-read.ensures.bytes tells in
     header_read c.args.node c.size.result c.args.place now (c.read.new.out ++ drop count (replicate 15 0)) c.in-Some.header
     (record {
       whole = c.size.ensures.told tells;
@@ -27,7 +28,8 @@ returns-in-None-clause-damaged g c = λ tells same.
     let now : List ℕ = (contents (g.D.Disk.told c.args.disk.now)).now in
     let count : ℕ = c.min-count.result in
     let long : length (take count (replicate 15 0)) ≡ count = length-take-le count (replicate 15 0) (omega (arith, c.min-count.ensures)) in
-    let bytes : c.read.new.out ≡ slice_range now c.args.place (c.args.place + length (take count (replicate 15 0))) = c.in_ok-read.ensures.bytes tells in
+    let bytes : c.read.new.out ≡ slice_range now c.args.place (c.args.place + length (take count (replicate 15 0))) =
+    c.in_ok-read.ensures.bytes tells in
     damage_read c.args.node c.size.result c.args.place now (c.read.new.out ++ drop count (replicate 15 0))
     (record {
       whole = c.size.ensures.told tells;
@@ -40,13 +42,17 @@ returns-in-None-clause-damaged g c = λ tells same.
     c.if-bytes.false c.in-None.ensures.found
 
 pub returns-in_err-read-clause-timed : goal.returns-in_err-read-clause-timed
-returns-in_err-read-clause-timed g c = λ tells. timed_read (g.D.Disk.counts c.args.disk.now).clock (g.D.Disk.counts c.read.new.self).clock (g.D.Disk.told c.args.disk.now) (g.D.Disk.told c.read.new.self) _ c.read.ensures.counts.clock (c.read.ensures.told tells)
+returns-in_err-read-clause-timed g c = λ tells. timed_read (g.D.Disk.counts c.args.disk.now).clock (g.D.Disk.counts c.read.new.self).clock
+    (g.D.Disk.told c.args.disk.now) (g.D.Disk.told c.read.new.self) _ c.read.ensures.counts.clock (c.read.ensures.told tells)
 
 pub returns-then-bytes-clause-timed : goal.returns-then-bytes-clause-timed
-returns-then-bytes-clause-timed g c = λ tells. timed_read (g.D.Disk.counts c.args.disk.now).clock (g.D.Disk.counts c.read.new.self).clock (g.D.Disk.told c.args.disk.now) (g.D.Disk.told c.read.new.self) _ c.read.ensures.counts.clock (c.read.ensures.told tells)
+returns-then-bytes-clause-timed g c = λ tells. timed_read (g.D.Disk.counts c.args.disk.now).clock (g.D.Disk.counts c.read.new.self).clock
+    (g.D.Disk.told c.args.disk.now) (g.D.Disk.told c.read.new.self) _ c.read.ensures.counts.clock (c.read.ensures.told tells)
 
 pub returns-in-Some-clause-timed : goal.returns-in-Some-clause-timed
-returns-in-Some-clause-timed g c = λ tells. timed_read (g.D.Disk.counts c.args.disk.now).clock (g.D.Disk.counts c.read.new.self).clock (g.D.Disk.told c.args.disk.now) (g.D.Disk.told c.read.new.self) _ c.read.ensures.counts.clock (c.read.ensures.told tells)
+returns-in-Some-clause-timed g c = λ tells. timed_read (g.D.Disk.counts c.args.disk.now).clock (g.D.Disk.counts c.read.new.self).clock
+    (g.D.Disk.told c.args.disk.now) (g.D.Disk.told c.read.new.self) _ c.read.ensures.counts.clock (c.read.ensures.told tells)
 
 pub returns-in-None-clause-timed : goal.returns-in-None-clause-timed
-returns-in-None-clause-timed g c = λ tells. timed_read (g.D.Disk.counts c.args.disk.now).clock (g.D.Disk.counts c.read.new.self).clock (g.D.Disk.told c.args.disk.now) (g.D.Disk.told c.read.new.self) _ c.read.ensures.counts.clock (c.read.ensures.told tells)
+returns-in-None-clause-timed g c = λ tells. timed_read (g.D.Disk.counts c.args.disk.now).clock (g.D.Disk.counts c.read.new.self).clock
+    (g.D.Disk.told c.args.disk.now) (g.D.Disk.told c.read.new.self) _ c.read.ensures.counts.clock (c.read.ensures.told tells)

@@ -30,7 +30,9 @@ pub loop-preserved : goal.loop-preserved
 loop-preserved g c =
     let here = g.St.Store.seen c.loop.store in
     let next = g.St.Store.seen c.advance.new.self in
-    goes_on _ _ _ _ here next c.loop.invariant (subst (λ p. Advances g.St.Device.Disk.tells g.St.Device.Disk.obeys g.St.Store.layout (Ok p) here next) c.in-Going.is c.in_ok-advance.ensures)
+    goes_on _ _ _ _ here next c.loop.invariant
+    (subst (λ p. Advances g.St.Device.Disk.tells g.St.Device.Disk.obeys g.St.Store.layout (Ok p) here next) c.in-Going.is
+    c.in_ok-advance.ensures)
 
 pub returns-in_err-advance : goal.returns-in_err-advance
 returns-in_err-advance g c =
@@ -41,4 +43,6 @@ pub returns : goal.returns
 returns g c =
     let here = g.St.Store.seen c.loop.store in
     let next = g.St.Store.seen c.advance.new.self in
-    last_done _ _ _ _ here next c.requires.busy c.loop.invariant (subst (λ p. Advances g.St.Device.Disk.tells g.St.Device.Disk.obeys g.St.Store.layout (Ok p) here next) c.in_default.is c.in_ok-advance.ensures)
+    last_done _ _ _ _ here next c.requires.busy c.loop.invariant
+    (subst (λ p. Advances g.St.Device.Disk.tells g.St.Device.Disk.obeys g.St.Store.layout (Ok p) here next) c.in_default.is
+    c.in_ok-advance.ensures)

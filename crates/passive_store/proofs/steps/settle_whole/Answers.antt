@@ -10,7 +10,9 @@ returns-in_err-settle_step g c =
 pub returns-in_err-settle_step-2 : goal.returns-in_err-settle_step-2
 returns-in_err-settle_step-2 g c =
     let p = err_from_is_err_and c.from_residual-in_err-settle_step-2.result c.from_residual-in_err-settle_step-2.ensures.1 in
-    rw (p.1, p.2) (read_refused _ _ _ _ _ _ _ _ c.requires.unsettled c.requires.unsynced c.in_ok-settle_step.ensures c.in_err-settle_step-2.ensures)
+    rw (p.1, p.2) (read_refused _ _ _ _ _ _ _ _ c.requires.unsettled c.requires.unsynced c.in_ok-settle_step.ensures
+    c.in_err-settle_step-2.ensures)
 
 pub returns : goal.returns
-returns g c = both_settled _ _ _ _ _ _ _ _ c.requires.unsettled c.requires.unsynced c.in_ok-settle_step.ensures c.in_ok-settle_step-2.ensures
+returns g c = both_settled _ _ _ _ _ _ _ _ c.requires.unsettled c.requires.unsynced c.in_ok-settle_step.ensures
+    c.in_ok-settle_step-2.ensures

@@ -6,7 +6,8 @@ use Rattle.eden_disk.specs.SimDisk.{Simulated, begun_with, blank_of}
 use Rattle.eden_disk.proofs.SimDiskLaws.{begun_blank}
 use Rattle.eden_disk.proofs.sim_disk.SimDisk.new.Goals as goal
 
-blank_if : (r : Result Simulated AllocError) (image : List ℕ) (size : ℕ) → image ≡ replicate size 0 → IfOk r (λ d. d ≡ begun_with image) → IfOk r (λ d. d ≡ blank_of size)
+blank_if : (r : Result Simulated AllocError) (image : List ℕ) (size : ℕ) → image ≡ replicate size 0 → IfOk r (λ d. d ≡ begun_with image)
+    → IfOk r (λ d. d ≡ blank_of size)
 blank_if (Ok d) image size e h = h ∙ begun_blank image size e
 blank_if (Err refused) image size e h = h
 

@@ -9,5 +9,7 @@ returns-else-is_err-2-clause-told c =
     let half : List ℕ = half_written c.args.at c.args.bytes.now (contents c.args.self.now.told).now in
     let size : length (contents c.args.self.now.told).now ≡ c.args.self.now.counts.size = rw (← c.self.view_is) c.self.invariant in
     let room : c.args.at + length c.args.bytes.now ≤ length (contents c.args.self.now.told).now = omega (arith, c.requires.range, size) in
-    let told : c.fail-in-Err-Failed.new.self.told ≡ noted (Wrote c.fail-in-Err-Failed.new.self.counts.clock c.args.at half) c.args.self.now.told = search rules in
-    rw c.fail-in-Err-Failed.ensures.refusal (inr (half, length-half_written c.args.at c.args.bytes.now (contents c.args.self.now.told).now room, told))
+    let told : c.fail-in-Err-Failed.new.self.told ≡ noted
+    (Wrote c.fail-in-Err-Failed.new.self.counts.clock c.args.at half) c.args.self.now.told = search rules in
+    rw c.fail-in-Err-Failed.ensures.refusal (inr
+    (half, length-half_written c.args.at c.args.bytes.now (contents c.args.self.now.told).now room, told))

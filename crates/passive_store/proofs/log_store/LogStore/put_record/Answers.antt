@@ -6,7 +6,9 @@ use Rattle.std.proofs.lemmas.Result.{err_from_is_err_and}
 use Rattle.eden_disk.specs.Told.{contents, EachMoment}
 use Rattle.eden_disk.proofs.Held.{moments_join, moments_weaker, obeyed_more}
 use Rattle.eden_disk.specs.Calls.{End, DeviceCalls, Obeyed}
-use Rattle.passive_store.specs.Kept.{Kept, Change, settling_of, job_left, end_of_store, changes_begun, Busy, Stands, Ran, changes_in, change_in, doubt_in, settled, settling_calls, calls_left, work_finished, kept_finished, work_changed, kept_changed, IsAnyOf}
+use Rattle.passive_store.specs.Kept.{Kept, Change, settling_of, job_left, end_of_store, changes_begun, Busy, Stands, Ran, changes_in}
+use Rattle.passive_store.specs.Kept.{change_in, doubt_in, settled, settling_calls, calls_left, work_finished, kept_finished}
+use Rattle.passive_store.specs.Kept.{work_changed, kept_changed, IsAnyOf}
 use Rattle.passive_store.specs.Acts.{DiskCall, AllTold, CallsTold}
 use Rattle.passive_store.proofs.Pendings.{job_bounded, log_job_is}
 use Rattle.passive_store.specs.Log.{log_map, log_grows}
@@ -14,7 +16,9 @@ use Rattle.passive_store.specs.LogLayout.{log_layout, log_changes, record_job, l
 use Rattle.passive_store.specs.LogState.{state_kept}
 use Rattle.passive_store.specs.declared.store.StoreRefusal.TheVariants.{Full}
 use Rattle.passive_store.proofs.Joining.{as_before, stands_weaker, none_refused, settled_now, calls_told_more}
-use Rattle.passive_store.proofs.Changing.{fresh_settled, fresh_idle, fresh_finished, begun_order, refused_order, moments_more, begun_moments, refused_changes, settled_then, idle_then, work_then, shown_then, refused_work, match_disk, refused_more, full_ran, done_ran}
+use Rattle.passive_store.proofs.Changing.{fresh_settled, fresh_idle, fresh_finished, begun_order, refused_order, moments_more}
+use Rattle.passive_store.proofs.Changing.{begun_moments, refused_changes, settled_then, idle_then, work_then, shown_then, refused_work}
+use Rattle.passive_store.proofs.Changing.{match_disk, refused_more, full_ran, done_ran}
 use Rattle.passive_store.proofs.log_store.LogStore.put_record.Goals as goal
 
 pub returns-in_err-settle_log-clause-changes : goal.returns-in_err-settle_log-clause-changes
@@ -31,12 +35,17 @@ returns-in_err-settle_log-clause-changes g c =
       job = refl;
       at = none_refused (log_job c.args.self.now.node None (contents (g.D.Disk.told c.args.self.now.device)).now c.args.uid body);
       ran = refused_more w 4 _ _ _ c.in_err-settle_log.ensures.only c.in_err-settle_log.ensures.ran;
-      work = refused_work _ w _ new _ c.in_err-settle_log.ensures.only c.in_err-settle_log.ensures.picked c.in_err-settle_log.ensures.refused c.in_err-settle_log.ensures.work;
+      work = refused_work _ w _ new _ c.in_err-settle_log.ensures.only c.in_err-settle_log.ensures.picked
+          c.in_err-settle_log.ensures.refused c.in_err-settle_log.ensures.work;
       kept = λ tells. c.in_err-settle_log.ensures.kept tells;
       by_layout = λ tells. refl;
-      order = λ tells. refused_order w (log_job c.args.self.now.node None (contents (g.D.Disk.told c.args.self.now.device)).now c.args.uid body) _ _ _ c.in_err-settle_log.ensures.only (c.in_err-settle_log.ensures.order tells);
-      moments = λ tells. subst (λ cs. EachMoment (Stands log_layout c.args.self.now.node log_changes s cs) (g.D.Disk.told c.args.self.now.device) (g.D.Disk.told c.settle_log.new.self.device))
-          (refused_changes _ w new _ c.in_err-settle_log.ensures.only c.in_err-settle_log.ensures.picked c.in_err-settle_log.ensures.refused) (c.in_err-settle_log.ensures.moments tells);
+      order = λ tells. refused_order w (log_job c.args.self.now.node None
+          (contents (g.D.Disk.told c.args.self.now.device)).now c.args.uid body) _ _ _ c.in_err-settle_log.ensures.only
+          (c.in_err-settle_log.ensures.order tells);
+      moments = λ tells. subst (λ cs. EachMoment (Stands log_layout c.args.self.now.node log_changes s cs)
+          (g.D.Disk.told c.args.self.now.device) (g.D.Disk.told c.settle_log.new.self.device))
+          (refused_changes _ w new _ c.in_err-settle_log.ensures.only c.in_err-settle_log.ensures.picked
+          c.in_err-settle_log.ensures.refused) (c.in_err-settle_log.ensures.moments tells);
     })
 
 pub returns-in_err-start-clause-changes : goal.returns-in_err-start-clause-changes
@@ -52,12 +61,18 @@ returns-in_err-start-clause-changes g c =
       bounded = job_bounded _ 0 [];
       job = refl;
       at = none_refused (log_job c.args.self.now.node None (contents (g.D.Disk.told c.args.self.now.device)).now c.args.uid body);
-      ran = subst (λ d. Ran {T = Unit {0}} (settling_calls w) 4 (Err Full) (g.D.Disk.counts c.args.self.now.device) (g.D.Disk.counts d)) (sym c.in_err-start.ensures.device) (full_ran w 4 _ _ c.in_ok-settle_log.ensures.ran);
-      work = c.in_err-start.ensures.work ∙ idle_then _ w _ c.requires.idle c.in_ok-settle_log.ensures.picked c.in_ok-settle_log.ensures.work;
-      kept = λ tells. c.in_err-start.ensures.kept tells ∙ c.in_ok-settle_log.ensures.kept tells ∙ ap (λ x. settled x w s) (sym c.in_err-start.ensures.picked);
+      ran = subst (λ d. Ran {T = Unit {0}} (settling_calls w) 4 (Err Full) (g.D.Disk.counts c.args.self.now.device) (g.D.Disk.counts d))
+          (sym c.in_err-start.ensures.device) (full_ran w 4 _ _ c.in_ok-settle_log.ensures.ran);
+      work = c.in_err-start.ensures.work ∙ idle_then _ w _ c.requires.idle c.in_ok-settle_log.ensures.picked
+          c.in_ok-settle_log.ensures.work;
+      kept = λ tells. c.in_err-start.ensures.kept tells ∙ c.in_ok-settle_log.ensures.kept tells ∙ ap (λ x. settled x w s)
+          (sym c.in_err-start.ensures.picked);
       by_layout = λ tells. refl;
-      order = λ tells. subst (λ d. AllTold (settling_of w) (g.D.Disk.told c.args.self.now.device) (g.D.Disk.told d)) (sym c.in_err-start.ensures.device) (c.in_ok-settle_log.ensures.order tells);
-      moments = λ tells. subst (λ d. EachMoment (Stands log_layout c.args.self.now.node log_changes s (changes_in (doubt_in w))) (g.D.Disk.told c.args.self.now.device) (g.D.Disk.told d)) (sym c.in_err-start.ensures.device) (c.in_ok-settle_log.ensures.moments tells);
+      order = λ tells. subst (λ d. AllTold (settling_of w) (g.D.Disk.told c.args.self.now.device) (g.D.Disk.told d))
+          (sym c.in_err-start.ensures.device) (c.in_ok-settle_log.ensures.order tells);
+      moments = λ tells. subst (λ d. EachMoment (Stands log_layout c.args.self.now.node log_changes s (changes_in (doubt_in w)))
+          (g.D.Disk.told c.args.self.now.device) (g.D.Disk.told d)) (sym c.in_err-start.ensures.device)
+          (c.in_ok-settle_log.ensures.moments tells);
     })
 
 pub returns-clause-changes : goal.returns-clause-changes
@@ -73,8 +88,11 @@ returns-clause-changes g c =
     let only = match_disk c.finish_job.result c.finish_job.ensures.only in
     let P : List ℕ → Type 0 = Stands log_layout c.args.self.now.node log_changes s (changes_in (doubt_in w) ++ new ∷ []) in
     let moments_of = λ (each : EachMoment P (g.D.Disk.told c.args.self.now.device) (g.D.Disk.told c.finish_job.new.self.device)).
-    subst (λ x. EachMoment (Stands log_layout c.args.self.now.node log_changes s (changes_begun {T = Unit {0}} x new w c.finish_job.result)) (g.D.Disk.told c.args.self.now.device) (g.D.Disk.told c.finish_job.new.self.device)) (sym pk)
-    (begun_moments log_layout c.args.self.now.node log_changes s c.settle_log.new.self.picked w new c.finish_job.result _ _ only c.in_ok-settle_log.ensures.picked each) in
+    subst (λ x. EachMoment (Stands log_layout c.args.self.now.node log_changes s
+    (changes_begun {T = Unit {0}} x new w c.finish_job.result)) (g.D.Disk.told c.args.self.now.device)
+    (g.D.Disk.told c.finish_job.new.self.device)) (sym pk)
+    (begun_moments log_layout c.args.self.now.node log_changes s c.settle_log.new.self.picked w new c.finish_job.result _ _ only
+    c.in_ok-settle_log.ensures.picked each) in
     record {
       mark = c.settle_log.new.self.tail;
       calls = job;
@@ -82,47 +100,70 @@ returns-clause-changes g c =
       job = refl;
       at = none_refused job;
       ran = done_ran w 4 c.finish_job.result _ _ _ only c.in_ok-settle_log.ensures.ran
-          (subst (λ d. Ran {T = Unit {0}} 0 4 c.finish_job.result (g.D.Disk.counts d) (g.D.Disk.counts c.finish_job.new.self.device)) c.in_ok-start.ensures.device
-          (subst (λ n. Ran {T = Unit {0}} 0 n c.finish_job.result (g.D.Disk.counts c.start.new.self.device) (g.D.Disk.counts c.finish_job.new.self.device)) (ap calls_left busy) c.finish_job.ensures.ran));
+          (subst (λ d. Ran {T = Unit {0}} 0 4 c.finish_job.result (g.D.Disk.counts d) (g.D.Disk.counts c.finish_job.new.self.device))
+          c.in_ok-start.ensures.device
+          (subst (λ n. Ran {T = Unit {0}} 0 n c.finish_job.result (g.D.Disk.counts c.start.new.self.device)
+          (g.D.Disk.counts c.finish_job.new.self.device)) (ap calls_left busy) c.finish_job.ensures.ran));
       work = subst (λ x. c.finish_job.new.self.work ≡ work_changed x new w c.finish_job.result) (sym pk)
-          (work_then c.settle_log.new.self.picked w c.finish_job.new.self.work new job c.finish_job.result c.requires.idle c.in_ok-settle_log.ensures.picked only (c.finish_job.ensures.work ∙ ap (λ x. work_finished x c.finish_job.result) busy));
+          (work_then c.settle_log.new.self.picked w c.finish_job.new.self.work new job c.finish_job.result c.requires.idle
+          c.in_ok-settle_log.ensures.picked only (c.finish_job.ensures.work ∙ ap (λ x. work_finished x c.finish_job.result) busy));
       kept = λ tells. subst (λ x. state_kept g.D.Disk.told c.finish_job.new.self ≡ kept_changed x new w s c.finish_job.result) (sym pk)
-          (shown_then c.settle_log.new.self.picked w s (state_kept g.D.Disk.told c.finish_job.new.self) mid new job c.finish_job.result (c.in_ok-settle_log.ensures.kept tells)
-          (c.finish_job.ensures.kept tells ∙ ap (λ x. kept_finished x (state_kept g.D.Disk.told c.start.new.self) c.finish_job.result) busy ∙ ap (λ (x : Kept). kept_finished (Busy new 0 job) x c.finish_job.result) (c.in_ok-start.ensures.kept tells)));
-      by_layout = λ tells. log_job_is c.args.self.now.node c.settle_log.new.self.node c.settle_log.new.self.tail (contents (g.D.Disk.told c.args.self.now.device)).now (contents (g.D.Disk.told c.settle_log.new.self.device)).now c.args.record_bytes.items c.args.uid body
-          c.in_ok-settle_log.ensures.node (settled_now w _ _ (c.in_ok-settle_log.ensures.order tells)) (c.in_ok-start.ensures.tail tells) c.requires.written;
+          (shown_then c.settle_log.new.self.picked w s (state_kept g.D.Disk.told c.finish_job.new.self) mid new job c.finish_job.result
+          (c.in_ok-settle_log.ensures.kept tells)
+          (c.finish_job.ensures.kept tells ∙ ap (λ x. kept_finished x (state_kept g.D.Disk.told c.start.new.self) c.finish_job.result)
+          busy ∙ ap (λ (x : Kept). kept_finished (Busy new 0 job) x c.finish_job.result) (c.in_ok-start.ensures.kept tells)));
+      by_layout = λ tells. log_job_is c.args.self.now.node c.settle_log.new.self.node c.settle_log.new.self.tail
+          (contents (g.D.Disk.told c.args.self.now.device)).now
+          (contents (g.D.Disk.told c.settle_log.new.self.device)).now c.args.record_bytes.items c.args.uid body
+          c.in_ok-settle_log.ensures.node (settled_now w _ _ (c.in_ok-settle_log.ensures.order tells))
+          (c.in_ok-start.ensures.tail tells) c.requires.written;
       order = λ tells. begun_order w job c.finish_job.result _ _ only
           (calls_told_more (settling_of w) job _ _ _ _ (c.in_ok-settle_log.ensures.order tells)
-          (subst (λ d. CallsTold job (g.D.Disk.told d) (g.D.Disk.told c.finish_job.new.self.device) (end_of_store c.finish_job.result)) c.in_ok-start.ensures.device
-          (subst (λ l. CallsTold l (g.D.Disk.told c.start.new.self.device) (g.D.Disk.told c.finish_job.new.self.device) (end_of_store c.finish_job.result)) (ap job_left busy) (c.finish_job.ensures.order tells))));
+          (subst (λ d. CallsTold job (g.D.Disk.told d) (g.D.Disk.told c.finish_job.new.self.device) (end_of_store c.finish_job.result))
+          c.in_ok-start.ensures.device
+          (subst (λ l. CallsTold l (g.D.Disk.told c.start.new.self.device) (g.D.Disk.told c.finish_job.new.self.device)
+          (end_of_store c.finish_job.result)) (ap job_left busy) (c.finish_job.ensures.order tells))));
       moments = λ tells.
-          moments_of (moments_join P (g.D.Disk.told c.args.self.now.device) (g.D.Disk.told c.settle_log.new.self.device) (g.D.Disk.told c.finish_job.new.self.device)
-          (moments_more log_layout c.args.self.now.node log_changes s (changes_in (doubt_in w)) new _ _ (c.in_ok-settle_log.ensures.moments tells))
+          moments_of (moments_join P (g.D.Disk.told c.args.self.now.device) (g.D.Disk.told c.settle_log.new.self.device)
+          (g.D.Disk.told c.finish_job.new.self.device)
+          (moments_more log_layout c.args.self.now.node log_changes s (changes_in (doubt_in w)) new _ _
+          (c.in_ok-settle_log.ensures.moments tells))
           (moments_weaker (Stands log_layout c.args.self.now.node log_changes mid (new ∷ [])) P _ _
           (λ image h. stands_weaker log_layout c.args.self.now.node log_changes mid s (new ∷ []) (changes_in (doubt_in w) ++ new ∷ []) image
-          (λ is. settled_then c.settle_log.new.self.picked w s new (log_map c.args.self.now.node image) c.requires.idle c.in_ok-settle_log.ensures.picked (c.in_ok-settle_log.ensures.fresh tells)
+          (λ is. settled_then c.settle_log.new.self.picked w s new
+          (log_map c.args.self.now.node image) c.requires.idle c.in_ok-settle_log.ensures.picked
+          (c.in_ok-settle_log.ensures.fresh tells)
           (subst (λ (x : Kept). IsAnyOf x (new ∷ []) (log_map c.args.self.now.node image)) (c.in_ok-settle_log.ensures.kept tells) is)) h)
-          (subst (λ d. EachMoment (Stands log_layout c.args.self.now.node log_changes mid (new ∷ [])) (g.D.Disk.told d) (g.D.Disk.told c.finish_job.new.self.device)) c.in_ok-start.ensures.device
-          (as_before log_layout c.args.self.now.node c.start.new.self.node log_changes log_changes mid (state_kept g.D.Disk.told c.start.new.self) (Some new) (change_in c.start.new.self.work) _ _
-          (c.in_ok-start.ensures.node ∙ c.in_ok-settle_log.ensures.node) refl (c.in_ok-start.ensures.kept tells) (ap change_in busy) (c.finish_job.ensures.moments tells)))));
+          (subst (λ d. EachMoment (Stands log_layout c.args.self.now.node log_changes mid (new ∷ [])) (g.D.Disk.told d)
+          (g.D.Disk.told c.finish_job.new.self.device)) c.in_ok-start.ensures.device
+          (as_before log_layout c.args.self.now.node c.start.new.self.node log_changes log_changes mid
+          (state_kept g.D.Disk.told c.start.new.self) (Some new) (change_in c.start.new.self.work) _ _
+          (c.in_ok-start.ensures.node ∙ c.in_ok-settle_log.ensures.node) refl (c.in_ok-start.ensures.kept tells) (ap change_in busy)
+          (c.finish_job.ensures.moments tells)))));
     }
 
 pub returns-clause-timed : goal.returns-clause-timed
 returns-clause-timed g c = λ tells.
     timed_join _ _ _ _ _ _ (c.in_ok-settle_log.ensures.timed tells)
-    (subst (λ d. Timed (g.D.Disk.counts d).clock (g.D.Disk.told d) (g.D.Disk.counts c.finish_job.new.self.device).clock (g.D.Disk.told c.finish_job.new.self.device)) c.in_ok-start.ensures.device (c.finish_job.ensures.goes.timed tells))
+    (subst (λ d. Timed (g.D.Disk.counts d).clock (g.D.Disk.told d) (g.D.Disk.counts c.finish_job.new.self.device).clock
+    (g.D.Disk.told c.finish_job.new.self.device)) c.in_ok-start.ensures.device (c.finish_job.ensures.goes.timed tells))
 
 pub returns-in_err-settle_log-clause-fresh : goal.returns-in_err-settle_log-clause-fresh
-returns-in_err-settle_log-clause-fresh g c = λ tells. fresh_settled _ c.args.self.now.work _ (state_kept g.D.Disk.told c.args.self.now) _ c.in_err-settle_log.ensures.work (c.in_err-settle_log.ensures.kept tells) (c.in_err-settle_log.ensures.fresh tells)
+returns-in_err-settle_log-clause-fresh g c = λ tells. fresh_settled _ c.args.self.now.work _
+    (state_kept g.D.Disk.told c.args.self.now) _ c.in_err-settle_log.ensures.work (c.in_err-settle_log.ensures.kept tells)
+    (c.in_err-settle_log.ensures.fresh tells)
 
 pub returns-in_err-start-clause-fresh : goal.returns-in_err-start-clause-fresh
 returns-in_err-start-clause-fresh g c = λ tells.
     let w = c.args.self.now.work in
-    fresh_idle _ (state_kept g.D.Disk.told c.start.new.self) (c.in_err-start.ensures.work ∙ idle_then _ w _ c.requires.idle c.in_ok-settle_log.ensures.picked c.in_ok-settle_log.ensures.work)
+    fresh_idle _ (state_kept g.D.Disk.told c.start.new.self)
+    (c.in_err-start.ensures.work ∙ idle_then _ w _ c.requires.idle c.in_ok-settle_log.ensures.picked c.in_ok-settle_log.ensures.work)
 
 pub returns-clause-fresh : goal.returns-clause-fresh
 returns-clause-fresh g c = λ tells.
-    fresh_finished (Unit {0}) c.start.new.self.work _ (state_kept g.D.Disk.told c.start.new.self) _ c.finish_job.result c.finish_job.ensures.work (c.finish_job.ensures.kept tells) (c.in_ok-start.ensures.fresh tells)
+    fresh_finished (Unit {0}) c.start.new.self.work _
+    (state_kept g.D.Disk.told c.start.new.self) _ c.finish_job.result c.finish_job.ensures.work (c.finish_job.ensures.kept tells)
+    (c.in_ok-start.ensures.fresh tells)
 
 pub returns-clause-obeyed : goal.returns-clause-obeyed
 returns-clause-obeyed g c = λ so.
@@ -131,5 +172,6 @@ returns-clause-obeyed g c = λ so.
     let last = c.finish_job.new.self.device in
     let end : End = end_of_store c.finish_job.result in
     let began = c.in_ok-start.ensures.device in
-    obeyed_more e.ran.made f.ran.made _ _ _ _ _ _ end e.ran.counts (subst (λ d. DeviceCalls f.ran.made (g.D.Disk.counts d) (g.D.Disk.counts last) end) began f.ran.counts) (e.obeyed so)
+    obeyed_more e.ran.made f.ran.made _ _ _ _ _ _ end e.ran.counts
+    (subst (λ d. DeviceCalls f.ran.made (g.D.Disk.counts d) (g.D.Disk.counts last) end) began f.ran.counts) (e.obeyed so)
     (subst (λ d. Obeyed (g.D.Disk.due d) (g.D.Disk.due last) (g.D.Disk.counts d) (g.D.Disk.counts last) end) began (f.goes.obeyed so))

@@ -1,6 +1,6 @@
-use Rattle.std.proofs.Common.{IsTrue, Option, refl, sym, subst, ◌∙◌, arith}
+use Rattle.std.proofs.Common.{ℕ, IsTrue, Option, refl, sym, subst, ◌∙◌, arith}
 use Rattle.eden_disk.proofs.Timed.{timed_read}
-use Rattle.capability.specs.declared.lists.Body.{Body}
+use Rattle.capability.specs.declared.lists.Seq.{Seq}
 use Rattle.passive_store.proofs.Joining.{timed_still, read_stopped, call_done}
 use Rattle.passive_store.specs.Acts.{Read}
 use Rattle.eden_disk.proofs.Held.{calls_none, calls_one}
@@ -99,7 +99,7 @@ returns-in_err-read-clause-ran g c =
         λ tells. sym
             (reads_some c.self.inside.index _ _ _ c.args.uid c.in-Some.slot (c.self.invariant.1 tells).indexed
             (sym c.find_slot.ensures ∙ c.in-Some.is)).0,
-        λ tells. read_stopped (Unit {0}) (Option Body) (g.D.Disk.counts c.read.new.self).clock
+        λ tells. read_stopped (Unit {0}) (Option (Seq ℕ)) (g.D.Disk.counts c.read.new.self).clock
             _ (g.D.Disk.told c.self.inside.disk) (g.D.Disk.told c.read.new.self) (c.in_err-read.ensures.told tells),
       ),
     )

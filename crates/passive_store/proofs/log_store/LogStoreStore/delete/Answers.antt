@@ -10,7 +10,8 @@ use Rattle.passive_store.specs.LogState.{pending_work, log_seen}
 use Rattle.passive_store.proofs.Tails.{log_stands}
 use Rattle.passive_store.proofs.Getting.{still_moments}
 use Rattle.passive_store.proofs.Pendings.{doubt_fresh}
-use Rattle.passive_store.proofs.Changing.{memory_is_not_room, never_full, after_memory, unless_memory, undamaged_whole, changes_anew, settles_anew, on_done}
+use Rattle.passive_store.proofs.Changing.{memory_is_not_room, never_full, after_memory, unless_memory, undamaged_whole, changes_anew}
+use Rattle.passive_store.proofs.Changing.{settles_anew, on_done}
 use Rattle.passive_store.proofs.Spelling.{record_of_removal}
 use Rattle.passive_store.proofs.log_store.LogStoreStore.delete.Goals as goal
 

@@ -6,7 +6,7 @@ use Rattle.eden_disk.proofs.Held.{moments_join, moments_weaker, obeyed_more}
 use Rattle.passive_store.proofs.Changing.{first_refused, picked_first}
 use Rattle.passive_store.specs.Kept.{Kept, body_at, Stands, changes_in, doubt_in, settled, work_settled, IsAnyOf}
 use Rattle.std.proofs.lemmas.Result.{err_from_is_err_and}
-use Rattle.capability.specs.declared.lists.Body.{Body}
+use Rattle.capability.specs.declared.lists.Seq.{Seq}
 use Rattle.passive_store.specs.Log.{log_map}
 use Rattle.passive_store.specs.LogLayout.{log_layout, log_changes, reads_for}
 use Rattle.passive_store.specs.LogState.{state_kept}
@@ -73,19 +73,19 @@ returns-in_err-settle_log g c =
     rw (p.1, p.2) (record {
       goes = record {
         node = e.node;
-        obeyed = λ so. obeyed_alike (Unit {0}) (Option Body) _ _ _ _ _ (e.obeyed so);
+        obeyed = λ so. obeyed_alike (Unit {0}) (Option (Seq ℕ)) _ _ _ _ _ (e.obeyed so);
         timed =
             e.timed;
         stands = e.stands;
       };
       only = inl e.only;
       calls = calls;
-      ran = ran_refused_more (Unit {0}) (Option Body) _ calls _ _ _ e.only e.ran;
+      ran = ran_refused_more (Unit {0}) (Option (Seq ℕ)) _ calls _ _ _ e.only e.ran;
       found = tt;
       by_layout = λ tells. refl;
-      order = λ tells. reads_refused (Unit {0}) (Option Body) c.args.self.now.work calls _ _ _ e.only (e.order tells);
+      order = λ tells. reads_refused (Unit {0}) (Option (Seq ℕ)) c.args.self.now.work calls _ _ _ e.only (e.order tells);
       reads = λ tells refusal settled. absurd (false≢true (sym e.picked ∙ settled ∙ e.refused));
-      picked = first_refused (Option Body) _ c.args.self.now.work _ e.only e.picked;
+      picked = first_refused (Option (Seq ℕ)) _ c.args.self.now.work _ e.only e.picked;
       work = e.work;
       more = refl;
       at = refl;
