@@ -1,7 +1,7 @@
 -- What a node knows of an Eject's changes, and what ties it to the entries: the law by which each start is whole.
-use Rattle.std.specs.Prelude.{◌≡◌, ℕ, nat_lt, true, cond, ◌&&◌, List, [], ◌∷◌, Option, None, Some, is_some}
+use Rattle.std.specs.Prelude.{◌≡◌, ℕ, nat_lt, cond, ◌&&◌, List, Option, None, Some}
 use Rattle.capability.specs.declared.Uid.{Uid}
-use Rattle.eden_model.specs.Map.{with_item, or_else, first, rest, value_at, uid_cmp, same_uid}
+use Rattle.eden_model.specs.Map.{with_item, or_else, first, rest, same_uid}
 use Rattle.journal.specs.Change.{Change}
 use Rattle.journal.specs.World.{World, Node, Site, Eject, StoreRequest, node_at, eject_at, eject_in}
 use Rattle.journal.specs.Run.{Step}

@@ -58,7 +58,7 @@ use Rattle.journal.proofs.Down.{Rests, Calm, not-active}
 use Rattle.journal.proofs.DownRuns.{false-true, node-up, up-next, DownWorld, down-next, down-looked_up, calm-opening}
 use Rattle.journal.proofs.SiteWorlds.{traffic-tells}
 use Rattle.journal.proofs.SiteRuns.{KnownWorld, is-known, known-next, known-looked_up, known-opening}
-use Rattle.journal.proofs.Falling.{Quiet, quiet-before, falls-turn}
+use Rattle.journal.proofs.Falling.{quiet-before, falls-turn}
 use Rattle.journal.proofs.CallsKeep.{IsKnown}
 use Rattle.journal.proofs.Goings.{on-same, on-received, on-without_link, GoFrom, from-on, from-around, from-call}
 use Rattle.journal.proofs.EventCalls.{IsNoTurn, event-on, calls-around, boot-on, crashed-on, born-on, same-on}

@@ -13,10 +13,8 @@ use Rattle.eden_model.specs.Traffic.{asked, done as over, Traffic, Call, call_at
 use Rattle.eden_model.specs.Traffic.{in_transit, touches, crashed_call, without_node, processes_of, broken_by_node}
 use Rattle.passive_store.specs.declared.store.Pick.{Pick}
 use Rattle.passive_store.specs.Kept.{Layout}
-use Rattle.passive_store.specs.Layout.{IsLayout}
 use Rattle.journal.specs.declared.command.Command.{Command}
 use Rattle.journal.specs.declared.command.Command.TheVariants as command
-use Rattle.journal.specs.declared.command.Script.{Script}
 use Rattle.journal.specs.declared.event.BootEnd.{BootEnd}
 use Rattle.journal.specs.declared.event.BootEnd.TheVariants as boot_end
 use Rattle.journal.specs.declared.event.StartEnd.TheVariants as start_end
@@ -39,19 +37,15 @@ use Rattle.journal.specs.Kept.{crashes}
 use Rattle.journal.specs.Opening.{node_of, node_from, found_in, passive, passive_entry}
 use Rattle.journal.specs.Step.{AllowsAt, AllowsInTurn, AllowsEvent, Allows, next, after_turn, after_command, happened, at_site}
 use Rattle.journal.specs.Step.{stopped_at, site_turn, clocked, key_of}
-use Rattle.journal.specs.Run.{AllowsLookUp, looked_up, beginning}
-use Rattle.journal.specs.Standing.{DiskRun}
-use Rattle.journal.specs.LegalRun.{AreHandedIn, numbered, images, opening_world, last_world}
-use Rattle.journal.specs.Laws.{Begins, IsAtRest}
+use Rattle.journal.specs.Run.{AllowsLookUp, looked_up}
 use Rattle.journal.specs.Sites.{AskedAll, SoundWorld}
 use Rattle.journal.proofs.Lifts.{traffic-after}
 use Rattle.journal.proofs.SafeRuns.{same-number}
-use Rattle.journal.proofs.Runs.{Any, of-any, no-turn, end-keeps, world-booting, nodes-looked_up}
+use Rattle.journal.proofs.Runs.{no-turn, nodes-looked_up}
 use Rattle.journal.proofs.EveryNode.{IsKeptAt, IsAt, all-next, all-same_nodes}
 use Rattle.journal.proofs.Messages.{value-calls}
 use Rattle.journal.proofs.SoundWorld.{ask-tells_each, ask-counted, ask-happened, ask-looked_up, sound-next, sound-looked_up}
 use Rattle.journal.proofs.EntryLists.{first-passes}
-use Rattle.journal.proofs.EnabledRuns.{sound-opening-world}
 use Rattle.journal.proofs.StaysUp.{IsUp, up-on_node, up-settled, up-requested, up-heard, up-start, up-process_turn, up-store_turn}
 use Rattle.journal.proofs.StaysUp.{up-activation, up-tells, up-born}
 use Rattle.journal.proofs.Down.{IsIdle, Rests, Calm, rest-crashed, rest-tells, ComesUp, calm-site_turn}

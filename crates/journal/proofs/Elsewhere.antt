@@ -1,5 +1,5 @@
 -- An entry that touches another disk, or none, leaves what is kept on a node, and what is in doubt there.
-use Rattle.std.proofs.Common.{◌≡◌, ◌==◌, ℕ, Bool, true, false, cond, ◌&&◌, T, List, [], ◌∷◌, ◌++◌, Option, None, Some, Ok, is_some, refl}
+use Rattle.std.proofs.Common.{◌≡◌, ◌==◌, ℕ, Bool, true, false, cond, ◌&&◌, T, List, [], ◌∷◌, ◌++◌, Option, None, Some, is_some, refl}
 use Rattle.std.proofs.Common.{sym, ◌∙◌, ap, subst}
 use Rattle.std.specs.Prelude.{IsSomeAnd}
 use Rattle.std.specs.List.{filter_map, cons_option}
@@ -20,7 +20,6 @@ use Rattle.epl_syntax.specs.Meaning.{first_values}
 use Rattle.passive_store.specs.declared.store.Pick.{Pick}
 use Rattle.passive_store.specs.Kept.{Layout}
 use Rattle.passive_store.specs.Layout.{IsLayout}
-use Rattle.journal.specs.Change.{Change}
 use Rattle.journal.specs.declared.command.Command.{Command}
 use Rattle.journal.specs.declared.command.Script.{Script}
 use Rattle.journal.specs.declared.event.StartEnd.{StartEnd}
@@ -29,31 +28,29 @@ use Rattle.journal.specs.declared.event.RequestEnd.{RequestEnd}
 use Rattle.journal.specs.declared.event.Event.{Event}
 use Rattle.journal.specs.declared.event.Event.TheVariants as event
 use Rattle.journal.specs.declared.event.Entry.{Entry}
-use Rattle.journal.specs.World.{World, Site, Node, Active, Eject, StoreRequest, node_at, site_of, site_at, eject_in, on_eject, on_node}
+use Rattle.journal.specs.World.{World, Site, Node, Active, Eject, StoreRequest, node_at, site_of, eject_in, on_eject, on_node}
 use Rattle.journal.specs.World.{reaches}
-use Rattle.journal.specs.Ejects.{with_active, on_active, told, tells, fresh, newborn, next_uid, born}
-use Rattle.journal.specs.Settling.{first_request, doubts, kept_map, to_settle, epoch_entries, epoch_doubts, kept_entry, doubt_entry}
-use Rattle.journal.specs.Settling.{settled, unsynced}
-use Rattle.journal.specs.Crashes.{crashed}
-use Rattle.journal.specs.Stores.{Work, syncs, reads, unkept, without_room, calls, work_of, makes_call, done, request_ended, worked}
+use Rattle.journal.specs.Ejects.{with_active, on_active, told, tells, fresh, newborn, born}
+use Rattle.journal.specs.Settling.{first_request, doubts, to_settle, epoch_entries, epoch_doubts, kept_entry, doubt_entry}
+use Rattle.journal.specs.Stores.{Work, syncs, reads, unkept, without_room, calls, work_of, makes_call, worked}
 use Rattle.journal.specs.Stores.{store_turn, AllowsStore}
 use Rattle.journal.specs.Starts.{StartsFrom, StartsSo, AllowsActivate, activated, start_settled, activation_turn}
 use Rattle.journal.specs.Step.{AllowsAt, Allows, next, touched, touches_start, touches_store, node_if, site_turn}
-use Rattle.journal.specs.Run.{Step, EachStep, AllowsLookUp, looked_up, beginning, IsPlain}
+use Rattle.journal.specs.Run.{EachStep, beginning}
 use Rattle.journal.specs.Standing.{DiskRun, Standing, state, kept_of_node, nothing_stands}
 use Rattle.journal.specs.LegalRun.{AreHandedIn, opening_world, run_of}
 use Rattle.journal.specs.Laws.{Begins}
-use Rattle.journal.specs.Sites.{InOrder, Sound, Everywhere, SoundWorld, KeepsSite}
+use Rattle.journal.specs.Sites.{InOrder, Sound, Everywhere, SoundWorld}
 use Rattle.journal.proofs.Frame.{eject-on_eject}
 use Rattle.journal.proofs.NoneRolledBack.{with_clock}
-use Rattle.journal.proofs.Changes.{Facts, facts_of, facts_in, Queue}
+use Rattle.journal.proofs.Changes.{Facts, facts_of, Queue}
 use Rattle.journal.proofs.ChangeLaw.{keeps-requested, keeps-heard, keeps-start, keeps-process_turn, keeps-turned_away}
 use Rattle.journal.proofs.StoreLaw.{comes-ended, comes-done}
 use Rattle.journal.proofs.EveryNode.{IsAt, IsKeptAt, all-next}
 use Rattle.journal.proofs.SoundWorld.{sound-next, sound-looked_up}
 use Rattle.journal.proofs.EnabledRuns.{sound-opening-world}
 use Rattle.journal.proofs.Runs.{Any, of-any, each-step, world-booting, nodes-looked_up}
-use Rattle.journal.proofs.SiteFrames.{Leaves, leaves-turned_away, leaves-done, leaves-ended, keeps-site}
+use Rattle.journal.proofs.SiteFrames.{leaves-turned_away, leaves-done, leaves-ended, keeps-site}
 
 -- 1. What is picked out of a list in order: the same by every uid is the same list
 

@@ -1,7 +1,7 @@
 -- The stored epoch of a node, and the one in doubt, are at most 4,294,967,295 in every world of a history.
-use Rattle.std.proofs.Common.{◌≡◌, ◌==◌, ◌+◌, ◌*◌, ◌≤◌, ◌<◌, ℕ, Bool, true, false, cond, List, [], ◌∷◌, map, Option, None, Some, Result}
+use Rattle.std.proofs.Common.{◌≡◌, ◌≤◌, ◌<◌, ℕ, Bool, true, false, cond, List, [], ◌∷◌, map, Option, None, Some, Result}
 use Rattle.std.proofs.Common.{Ok, Err, length, refl, sym, ◌∙◌, ap, subst, arith, inl, inr}
-use Rattle.std.specs.Prelude.{IsSomeAnd, IfSome, ◌⊎◌, ◌^◌}
+use Rattle.std.specs.Prelude.{IsSomeAnd, IfSome, ◌⊎◌}
 use Rattle.std.specs.List.{All}
 use Rattle.std.proofs.lemmas.List.Elements.{All-head, All-tail}
 use Rattle.std.specs.Ordering.{nat_cmp}
@@ -10,7 +10,7 @@ use Rattle.capability.specs.declared.Uid.{Uid}
 use Rattle.eden_value.specs.declared.status.Status.{Status}
 use Rattle.eden_value.specs.declared.status.Status.TheVariants as status
 use Rattle.eden_disk.specs.Told.{contents}
-use Rattle.eden_model.specs.Map.{with_item, value_at, uid_cmp}
+use Rattle.eden_model.specs.Map.{with_item, value_at}
 use Rattle.passive_store.specs.declared.store.Pick.{Pick}
 use Rattle.passive_store.specs.declared.store.Pick.TheVariants as pick
 use Rattle.passive_store.specs.Kept.{Layout, Kept, IsOwn}
@@ -27,16 +27,15 @@ use Rattle.journal.specs.declared.event.Event.{Event}
 use Rattle.journal.specs.declared.event.Event.TheVariants as event
 use Rattle.journal.specs.declared.event.Entry.{Entry}
 use Rattle.journal.specs.World.{World, Site, Node, StoreRequest, site_of, on_eject, on_node, reaches}
-use Rattle.journal.specs.Ejects.{tells, stored_epoch}
 use Rattle.journal.specs.Settling.{epoch_uid, first_request, settled, unsynced, to_settle, written_with}
 use Rattle.journal.specs.Crashes.{crashed}
 use Rattle.journal.specs.Stores.{Work, syncs, reads, unkept, without_room, calls, work_of, more_made, doubted, request_ended, stored}
 use Rattle.journal.specs.Stores.{done, worked, store_turn}
-use Rattle.journal.specs.Starts.{activated, start_settled, activation_turn}
+use Rattle.journal.specs.Starts.{activated, start_settled}
 use Rattle.journal.specs.Boots.{last_epoch, BootsSo, BeganNext, booted_node, boot_turn}
 use Rattle.journal.specs.Opening.{number_from, epoch_in, entries_of, found_in, node_of, node_from}
-use Rattle.journal.specs.Step.{AllowsAt, Allows, next, site_turn}
-use Rattle.journal.specs.Run.{AllowsLookUp, looked_up, beginning}
+use Rattle.journal.specs.Step.{AllowsAt, site_turn}
+use Rattle.journal.specs.Run.{looked_up, beginning}
 use Rattle.journal.specs.Standing.{DiskRun}
 use Rattle.journal.specs.LegalRun.{IsHandedIn, AreHandedIn, numbered, images, opening_world, last_world}
 use Rattle.journal.specs.Laws.{Begins}

@@ -1,11 +1,10 @@
 -- An event that crashes its node changes what it did before the node fell, and then the node falls.
-use Rattle.std.proofs.Common.{◌≡◌, ℕ, Bool, true, false, cond, List, Option, None, Some, refl, sym, ◌∙◌, ap}
+use Rattle.std.proofs.Common.{◌≡◌, ℕ, Bool, true, false, cond, Option, None, Some, refl, sym, ◌∙◌, ap}
 use Rattle.std.specs.Prelude.{IsSomeAnd}
-use Rattle.std.specs.Ordering.{nat_cmp, eq_by_cmp}
+use Rattle.std.specs.Ordering.{nat_cmp}
 use Rattle.std.specs.Cmp.{nat_cmp_total}
 use Rattle.std.specs.FinMap.Entries.{find-put}
 use Rattle.std.proofs.lemmas.Cmp.{tied_itself}
-use Rattle.capability.specs.declared.Uid.{Uid}
 use Rattle.eden_model.specs.Map.{with_item, put_at}
 use Rattle.eden_model.proofs.Laws.{put-put}
 use Rattle.eden_model.specs.Traffic.{processes_of, broken_by_node}
@@ -18,7 +17,6 @@ use Rattle.journal.specs.World.{World, Node, Site, StoreRequest, node_at, site_o
 use Rattle.journal.specs.Settling.{first_request, settled, unsynced, to_settle}
 use Rattle.journal.specs.Crashes.{crashed, crash_by, tells_each}
 use Rattle.journal.specs.Stores.{Work, syncs, reads, unkept, without_room, calls, work_of, EndsSo, AllowsStore, doubted, worked}
-use Rattle.journal.specs.Starts.{start_settled}
 use Rattle.journal.specs.Step.{AllowsAt, site_turn, stopped_at}
 use Rattle.journal.specs.Falls.{begun_by_call, before_fall}
 use Rattle.journal.specs.Kept.{crashes}

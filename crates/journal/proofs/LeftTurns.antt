@@ -1,26 +1,31 @@
--- What is left to do of a process fits its type: as it begins, and after each turn; and the effect of a turn fits as well.
-use Rattle.std.proofs.Common.{◌≡◌, ℕ, Bool, true, false, cond, List, [], ◌∷◌, map, Option, None, Some, refl, sym, ◌∙◌, subst}
+-- What is left to do of a process fits its type: as it begins, and after each turn; and the effect of a turn fits as well. There are as
+-- many values as variables: as an Eject begins, and after each turn.
+use Rattle.std.proofs.Common.{◌≡◌, ℕ, suc, Bool, true, false, cond, List, [], ◌∷◌, map, length, Option, None, Some, refl, sym, ◌∙◌, ap}
+use Rattle.std.proofs.Common.{subst}
 use Rattle.std.specs.List.{AllByRecursion, find}
 use Rattle.std.specs.Option.{option_map}
 use Rattle.capability.specs.declared.Uid.{Uid}
 use Rattle.eden_value.specs.Datum.{Datum}
 use Rattle.eden_value.specs.declared.status.Status.TheVariants as status
-use Rattle.eden_model.specs.Map.{with_item, same_text}
+use Rattle.eden_model.specs.Map.{with_item, same_text, first, rest}
 use Rattle.eden_model.specs.Traffic.{Call}
 use Rattle.epl_syntax.specs.declared.effect.Answer.{Answer}
 use Rattle.epl_syntax.specs.declared.effect.Effect.{Effect}
 use Rattle.epl_syntax.specs.declared.effect.Effect.TheVariants as effect
 use Rattle.epl_syntax.specs.declared.tree.ClassDecl.{ClassDecl}
-use Rattle.epl_syntax.specs.Edentype.{Edentype, native, declared, declared_operation}
-use Rattle.epl_syntax.specs.Tree.{TypeTree, Operation, Process}
+use Rattle.epl_syntax.specs.Edentype.{Edentype, native, declared, declared_operation, slots_of}
+use Rattle.epl_syntax.specs.Outline.{starts, with_kept}
+use Rattle.epl_syntax.specs.Memory.{value_of_constant}
+use Rattle.epl_syntax.specs.Tree.{TypeTree, Variable, Operation, Process}
 use Rattle.epl_syntax.specs.Natives.{native_turn}
 use Rattle.epl_syntax.specs.Turns.{Left, left_of, nothing_left, operation_left, process_left, process_turn}
-use Rattle.epl_syntax.specs.Meaning.{Rest, of_native, of_declared, begin, turn}
-use Rattle.epl_syntax.specs.Monitors.{IsGuardedOf, IsAllowed}
+use Rattle.epl_syntax.specs.Meaning.{Rest, of_native, of_declared, begin, turn, first_values, values_from}
+use Rattle.epl_syntax.specs.Monitors.{IsGuardedOf, IsAllowed, SameWhere, inside, is_shut}
 use Rattle.epl_syntax.proofs.GuardedBegins.{operations_begin_guarded, processes_begin_guarded}
 use Rattle.epl_syntax.proofs.GuardedSteps.{turn_stays_guarded}
+use Rattle.epl_syntax.proofs.GuardedTurns.{turn_keeps_monitors}
 use Rattle.journal.specs.Deliveries.{misfit_of, misfit}
-use Rattle.journal.proofs.Tasks.{AreKnown, IsRuled, IsRuledType, IsTask, FitsRest, FitsEffect}
+use Rattle.journal.proofs.Tasks.{AreKnown, IsRuled, IsRuledType, IsTask, FitsRest, FitsEffect, HasValues}
 use Rattle.journal.proofs.NativeTurns.{IsPlain, plain-native}
 
 -- 1. Of declared types
@@ -112,3 +117,48 @@ pub rest-begin : (types : List Edentype) (t : Edentype) (c : Call) → IsRuledTy
     → FitsRest types t true (begin t c.operation c.args)
 rest-begin types (native n) c ruled fits = tt
 rest-begin types (declared t) c ruled fits = begin-declared types t c ruled fits
+
+-- 3. Values
+
+-- as many as there are variables
+pub as-many : (test : Variable → Bool) (vs : List Variable) (xs ys : List Datum) → SameWhere test vs xs ys → length ys ≡ length vs
+as-many test [] [] [] h = refl
+as-many test (v ∷ vs) (a ∷ xs) (b ∷ ys) h = ap suc (as-many test vs xs ys h.1)
+as-many test [] (a ∷ xs) ys h = absurd h
+as-many test [] [] (b ∷ ys) h = absurd h
+as-many test (v ∷ vs) [] ys h = absurd h
+as-many test (v ∷ vs) (a ∷ xs) [] h = absurd h
+
+pub values-turn : (types : List Edentype) (t : Edentype) (serves : Bool) (vars : List Datum) (rest : Rest) (told : Answer) (me : Uid)
+    → FitsRest types t serves rest → HasValues t vars → HasValues t (turn t vars rest told me).vars
+values-turn types (native n) serves vars (of_native stage) told me h many = tt
+values-turn types (declared t) serves vars (of_declared left) told me h many =
+    as-many (is_shut (inside left.steps)) t.vars vars (process_turn t vars left told me).0
+    (turn_keeps_monitors h.earlier t left vars told me h.guarded many).changes_no_other
+values-turn types (native n) serves vars (of_declared left) told me h many = absurd h
+values-turn types (declared t) serves vars (of_native stage) told me h many = absurd h
+
+start-values : (vs : List Variable) → length (starts (slots_of vs)) ≡ length vs
+start-values [] = refl
+start-values (v ∷ vs) = ap suc (start-values vs)
+
+kept-values : (vs : List Variable) (durable : List Datum) → length (with_kept (slots_of vs) durable) ≡ length vs
+kept-values [] durable = refl
+kept-values (v ∷ vs) durable = go v.durable (kept-values vs (rest durable)) (kept-values vs durable)
+  where
+    start : Datum
+    start = value_of_constant v.start.value
+
+    go : (b : Bool) → length (with_kept (slots_of vs) (rest durable)) ≡ length vs → length (with_kept (slots_of vs) durable) ≡ length vs
+        → length (cond b (with_item (first durable) (λ d. d) start ∷ with_kept (slots_of vs) (rest durable))
+        (start ∷ with_kept (slots_of vs) durable)) ≡ suc (length vs)
+    go true later same = ap suc later
+    go false later same = ap suc same
+
+pub values-first : (t : Edentype) → HasValues t (first_values t)
+values-first (native n) = tt
+values-first (declared t) = start-values t.vars
+
+pub values-kept : (t : Edentype) (durable : List Datum) → HasValues t (values_from t durable)
+values-kept (native n) durable = tt
+values-kept (declared t) durable = kept-values t.vars durable

@@ -21,7 +21,7 @@ use Rattle.epl_syntax.specs.Edentype.{native, declared as declared_type}
 use Rattle.epl_syntax.specs.Tree.{Process as Body}
 use Rattle.epl_syntax.specs.Turns.{process_left}
 use Rattle.epl_syntax.specs.declared.effect.Answer.TheVariants.{Go}
-use Rattle.epl_syntax.specs.Meaning.{Rest, of_declared, Turned, begin}
+use Rattle.epl_syntax.specs.Meaning.{of_declared, Turned, begin}
 use Rattle.eden_value.specs.declared.status.Status.{Status}
 use Rattle.journal.specs.World.{Task, Active}
 use Rattle.journal.specs.Ejects.{on_crew, told, fresh, tasks_from}

@@ -1,5 +1,5 @@
 -- Without an upgrade from the version that is kept, nothing is started.
-use Rattle.std.proofs.Common.{◌≡◌, ℕ, List, [], ◌∷◌, None, true, false, take, refl, codes, map}
+use Rattle.std.proofs.Common.{◌≡◌, ℕ, List, [], ◌∷◌, None, true, take, refl, codes, map}
 use Rattle.std.specs.Fmt.{digits}
 use Rattle.capability.specs.declared.Uid.{Uid}
 use Rattle.eden_value.specs.declared.status.Status.TheVariants as status

@@ -130,10 +130,10 @@ part-steps types later queued v p it t is h = go (value_at nat_cmp p it.tasks) r
 
 -- 2. Worlds
 
-abbrev NodeSeats : Node → Type 0
+abbrev pub NodeSeats : Node → Type 0
 NodeSeats it = (u : Uid) (e : Eject) → value_at uid_cmp u it.ejects ≡ Some e → IfSome e.active (PartSeated (settled_so u))
 
-abbrev SeatsWorld : World → Type 0
+abbrev pub SeatsWorld : World → Type 0
 SeatsWorld w = Everywhere (λ n it. NodeSeats it) w
 
 all-step : (H : ℕ → Bool) (w : World) → SiteWorld H w → (n : ℕ) (it : Node) → node_at w n ≡ Some it → AllStep (site_of w n it)
@@ -289,11 +289,11 @@ seats-counted : (k : Option Key) (w : World) → SeatsWorld w → SeatsWorld (co
 seats-counted None w seats = seats
 seats-counted (Some k) w seats = seats
 
-record SeatWorld (H : ℕ → Bool) (w : World) : Type 0 where
-  site : SiteWorld H w
-  seats : SeatsWorld w
+pub record SeatWorld (H : ℕ → Bool) (w : World) : Type 0 where
+  pub site : SiteWorld H w
+  pub seats : SeatsWorld w
 
-seat-next : (H : ℕ → Bool) (w : World) (c : Option Command) (e : Entry) → Allows w c e → SeatWorld H w → SeatWorld H (next w c e)
+pub seat-next : (H : ℕ → Bool) (w : World) (c : Option Command) (e : Entry) → Allows w c e → SeatWorld H w → SeatWorld H (next w c e)
 seat-next H w c e allowed h = record {
   site = site-next H w c e allowed h.site;
   seats = seats-counted (key_of e.event) (clocked e.node e.clock (happened w c e.event))
@@ -301,11 +301,19 @@ seat-next H w c e allowed h = record {
       (seats-happened H w c e.event h.site allowed.event h.seats));
 }
 
-seat-looked_up : (H : ℕ → Bool) (w : World) (name : List ℕ) (target : Option Cap) (path : List (List ℕ)) (e : Event)
+pub seat-looked_up : (H : ℕ → Bool) (w : World) (name : List ℕ) (target : Option Cap) (path : List (List ℕ)) (e : Event)
     → AllowsLookUp w name target path e → SeatWorld H w → SeatWorld H (looked_up w name target path e)
 seat-looked_up H w name target path e allowed h = record {
   site = site-looked_up H w name target path e allowed h.site;
   seats = all-same_nodes (λ n it. NodeSeats it) w (looked_up w name target path e) (nodes-looked_up w name target path e) h.seats;
+}
+
+pub seat-opening : (layout : Layout) (script : Script) (disks : List DiskRun) → IsLayout layout → AreHandedIn layout disks
+    → KeepRules script.types → HaveMonitors script.types
+    → SeatWorld (λ n. is_some (node_at (opening_world layout script disks) n)) (opening_world layout script disks)
+seat-opening layout script disks lays fits rules monitors = record {
+  site = site-opening layout script disks lays fits rules monitors;
+  seats = λ n it at u e is. rw ((rests-opening layout (images (numbered disks)) n it at).idle u e is).no_active tt;
 }
 
 -- 5. The law
@@ -410,15 +418,10 @@ monitors-are-held layout script disks history lays fits rules monitors begins = 
     here : ℕ → Bool
     here n = is_some (node_at w n)
 
-    opening : SeatWorld here w
-    opening = record {
-      site = site-opening layout script disks lays fits rules monitors;
-      seats = λ n it at u e is. rw ((rests-opening layout (images (numbered disks)) n it at).idle u e is).no_active tt;
-    }
-
     last : SeatWorld here (last_world w script history)
     last = end-keeps Any (SeatWorld here) (record {
       entries = λ past w c e any allowed i. (tt, seat-next here w c e allowed i);
       look_ups = λ past w name target path e any allowed plain i. (tt, seat-looked_up here w name target path e.event allowed i);
     }) (beginning w script.nodes script.commands) [] history (of-any 1 script.nodes w script.commands)
-        (subst (SeatWorld here) (sym (world-booting 1 script.nodes w script.commands)) opening) begins
+        (subst (SeatWorld here) (sym (world-booting 1 script.nodes w script.commands))
+        (seat-opening layout script disks lays fits rules monitors)) begins

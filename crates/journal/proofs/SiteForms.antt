@@ -1,5 +1,5 @@
 -- Soundness in words that are free of counting: all that an Eject has to do is held at it, and is distinct.
-use Rattle.std.proofs.Common.{◌≡◌, ◌+◌, ◌≤◌, ℕ, Bool, true, false, cond, ◌||◌, List, [], ◌∷◌, ◌++◌, Option, Some, is_some, refl, ap}
+use Rattle.std.proofs.Common.{◌≡◌, ◌+◌, ◌≤◌, ℕ, Bool, true, false, cond, ◌||◌, List, [], ◌∷◌, Option, Some, is_some, refl, ap}
 use Rattle.std.proofs.Common.{subst, arith}
 use Rattle.std.specs.List.{AllByRecursion}
 use Rattle.std.specs.Ordering.{nat_cmp, eq_by_cmp}

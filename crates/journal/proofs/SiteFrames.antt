@@ -1,8 +1,6 @@
 -- What each event at a node leaves of its site: the number, the types and the layout, most fields of the node; and each call goes on.
-use Rattle.std.proofs.Common.{◌≡◌, ◌==◌, ◌+◌, ℕ, nat_le, Bool, true, false, cond, not, List, [], ◌∷◌, ◌++◌, Option, None, Some, Result}
-use Rattle.std.proofs.Common.{Ok, Err, length, refl, sym, ◌∙◌, ap, subst}
-use Rattle.std.specs.Prelude.{IsSomeAnd}
-use Rattle.std.specs.List.{filter}
+use Rattle.std.proofs.Common.{◌≡◌, ℕ, nat_le, Bool, true, false, cond, List, [], ◌∷◌, ◌++◌, Option, None, Some, Result}
+use Rattle.std.proofs.Common.{Ok, Err, length, refl, sym, ◌∙◌, ap}
 use Rattle.capability.specs.declared.Uid.{Uid}
 use Rattle.capability.specs.declared.TheConstants.{BODY_LIMIT}
 use Rattle.capability.specs.Capability.{full}
@@ -14,8 +12,8 @@ use Rattle.eden_model.specs.Map.{with_item, rest}
 use Rattle.eden_model.specs.Crew.{Invocation, outside, set_waits, locked, left, waited, signalled, running}
 use Rattle.eden_model.specs.declared.Asker.{Asker}
 use Rattle.eden_model.specs.declared.Asker.TheVariants.{Shell, Eject as Process}
-use Rattle.eden_model.specs.Traffic.{Traffic, asked, held, call_at, changed_call, at_place, taken, replied, all_replied, orphaned}
-use Rattle.eden_model.specs.Traffic.{next_call, with_call, without_node}
+use Rattle.eden_model.specs.Traffic.{Traffic, held, call_at, changed_call, at_place, taken, replied, all_replied, orphaned}
+use Rattle.eden_model.specs.Traffic.{without_node}
 use Rattle.epl_syntax.specs.declared.effect.Answer.{Answer}
 use Rattle.epl_syntax.specs.declared.effect.Answer.TheVariants.{Code, Reply as Told, Created as Made}
 use Rattle.epl_syntax.specs.declared.effect.Effect.{Effect}
@@ -23,7 +21,6 @@ use Rattle.epl_syntax.specs.declared.effect.Effect.TheVariants as effect
 use Rattle.epl_syntax.specs.Edentype.{Edentype}
 use Rattle.epl_syntax.specs.Meaning.{rep_of, type_of, first_values}
 use Rattle.passive_store.specs.declared.store.Pick.{Pick}
-use Rattle.passive_store.specs.declared.store.Pick.TheVariants as pick
 use Rattle.journal.specs.Change.{Change, body, removal, kept_of}
 use Rattle.journal.specs.declared.event.BootEnd.{BootEnd}
 use Rattle.journal.specs.declared.event.BootEnd.TheVariants as boot_end
@@ -37,8 +34,8 @@ use Rattle.journal.specs.World.{Active, Eject, StoreRequest, Node, Site, eject_i
 use Rattle.journal.specs.Ejects.{with_active, with_queued, on_active, on_crew, is_there, told, tells, without_requests, deactivated}
 use Rattle.journal.specs.Ejects.{turned_away, gone_if_unkept, fresh, next_uid, born_in, born}
 use Rattle.journal.specs.Deliveries.{requested, tells_asker, received, heard}
-use Rattle.journal.specs.Processes.{turn_of, turned, serving, with_start as starting, start, without_process, asks_store, answers}
-use Rattle.journal.specs.Processes.{refused_at_once, waits_or_told, creates, checkpoints, effected, process_turn}
+use Rattle.journal.specs.Processes.{turn_of, turned, serving, start, without_process, asks_store, answers}
+use Rattle.journal.specs.Processes.{creates, checkpoints, effected, process_turn}
 use Rattle.journal.specs.Settling.{first_request, settled_node, settled, unsynced, written_with, to_settle}
 use Rattle.journal.specs.Crashes.{down, crashed}
 use Rattle.journal.specs.Stores.{Work, syncs, reads, unkept, without_room, calls, work_of, more_made, doubted, tells_code, request_ended}

@@ -74,6 +74,7 @@ use Rattle.journal.proofs.SiteCalls.{open-more}
 use Rattle.journal.proofs.SiteForms.{sound-site}
 use Rattle.journal.proofs.Tasks.{IsRuledType, AreRuled, NodeFits, EffectsFit, CallsKept}
 use Rattle.journal.proofs.RuledTypes.{types-ruled}
+use Rattle.journal.proofs.LeftTurns.{values-first}
 use Rattle.journal.proofs.TaskTurns.{tasks-site_turn, tasks-born, tasks-told, tasks-fallen, effect-fits}
 use Rattle.journal.proofs.CallsKeep.{IsKnown, kept-itself, kept-then, keeps-next, keeps-looked_up}
 use Rattle.journal.proofs.SiteTurns.{IsNew, nothing-born}
@@ -590,7 +591,8 @@ kept-tasks w e later ruled kept = let fits = kept-fit (CreatedIn []) w e in reco
   tellings = λ u p a s x. (fits.tellings u p a s x.0, tasks-told w.types later u p a s x.1);
   births = λ u t s is on known x. (
     fits.births u t s is on known x.0,
-    tasks-born w.types later u t (first_values t) s (new-by s x.0 u is) (ruled known.0 t known.1) x.1,
+    tasks-born w.types later u t (first_values t) s (new-by s x.0 u is) (ruled known.0 t known.1)
+        (values-first t) x.1,
   );
   clocks = λ n c it x. (fits.clocks n c it x.0, x.1);
 }

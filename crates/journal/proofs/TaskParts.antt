@@ -32,8 +32,8 @@ use Rattle.journal.proofs.Fits.{times}
 use Rattle.journal.proofs.Times.{times-filter}
 use Rattle.journal.proofs.Manned.{other-key}
 use Rattle.journal.proofs.SiteCrews.{by-left, by-held, serves_at, serves-with_waits}
-use Rattle.journal.proofs.Tasks.{IsRuledType, IsTask, FitsRest, FitsEffect, FitsCall, FitsActive}
-use Rattle.journal.proofs.LeftTurns.{declared-tasks, rest-turn, rest-effect, rest-begin}
+use Rattle.journal.proofs.Tasks.{IsRuledType, IsTask, FitsRest, FitsEffect, FitsCall, HasValues, FitsActive}
+use Rattle.journal.proofs.LeftTurns.{declared-tasks, rest-turn, rest-effect, rest-begin, values-turn}
 
 -- 1. Which call a process serves
 
@@ -110,6 +110,7 @@ module _ (types : List Edentype) (calls : Traffic) (queued : List ℕ) where
       → FitsActive types calls queued (on_crew f it)
   fits-crew f same it h = record {
     kind = h.kind;
+    values = h.values;
     tasks = λ q t is. subst (λ i. FitsRest types it.kind (is_some i) t.rest) (sym (same q it.crew)) (h.tasks q t is);
     waiting = h.waiting;
   }
@@ -117,6 +118,7 @@ module _ (types : List Edentype) (calls : Traffic) (queued : List ℕ) where
   pub fits-told : (p : ℕ) (a : Answer) (it : Active) → FitsActive types calls queued it → FitsActive types calls queued (told p a it)
   fits-told p a it h = record {
     kind = h.kind;
+    values = h.values;
     tasks = λ q t is. subst (λ i. FitsRest types it.kind (is_some i) t.rest) (sym (serves-set p nothing q it.crew))
         (task-changed p (λ t. record t { answer = a }) it.tasks
         (λ q t. FitsRest types it.kind (is_some (serves_at q it.crew.processes)) t.rest)
@@ -136,10 +138,21 @@ module _ (types : List Edentype) (calls : Traffic) (queued : List ℕ) where
       let same : Some (turn it.kind it.vars x.rest x.answer v) ≡ Some t =
       subst (λ o. with_item o (λ x. Some (turn it.kind it.vars x.rest x.answer v)) None ≡ Some t) at is in cc same
 
+  turned-values : (v : Uid) (p : ℕ) (it : Active) (t : Turned) → turn_of v it p ≡ Some t → FitsActive types calls queued it
+      → HasValues it.kind t.vars
+  turned-values v p it t is h = go (value_at nat_cmp p it.tasks) refl is
+    where
+      go : (o : Option Task) → value_at nat_cmp p it.tasks ≡ o
+          → with_item o (λ x. Some (turn it.kind it.vars x.rest x.answer v)) None ≡ Some t → HasValues it.kind t.vars
+      go None at same = absurd (cc same)
+      go (Some x) at same = subst (λ o. IfSome o (λ (y : Turned). HasValues it.kind y.vars)) same
+          (values-turn types it.kind (is_some (serves_at p it.crew.processes)) it.vars x.rest x.answer v (h.tasks p x at) h.values)
+
   pub fits-turned : (v : Uid) (p : ℕ) (it : Active) (t : Turned) → turn_of v it p ≡ Some t → FitsActive types calls queued it
       → FitsActive types calls queued (turned p t it)
   fits-turned v p it t is h = record {
     kind = h.kind;
+    values = turned-values v p it t is h;
     tasks = task-changed p (λ old. record { rest = t.rest; answer = Go }) it.tasks
         (λ q t. FitsRest types it.kind (is_some (serves_at q it.crew.processes)) t.rest) h.tasks (λ x at f.
         subst (λ (y : Turned). FitsRest types it.kind (is_some (serves_at p it.crew.processes)) y.rest) (turn-is v p it t is x at)
@@ -162,6 +175,7 @@ module _ (types : List Edentype) (calls : Traffic) (queued : List ℕ) where
   pub fits-without : (p : ℕ) (it : Active) → FitsActive types calls queued it → FitsActive types calls queued (without_process p it)
   fits-without p it h = record {
     kind = h.kind;
+    values = h.values;
     tasks = λ q t is. go q t (not (q == p)) refl (sym (other-key p q it.tasks) ∙ is);
     waiting = h.waiting;
   }
@@ -189,6 +203,7 @@ pub fits-start : (types : List Edentype) (calls traffic : Traffic) (queued : Lis
     → FitsActive types calls (filter (λ j. not (j == k)) queued) (with_start traffic k p c it)
 fits-start types calls traffic queued k p c it number fits h = record {
   kind = h.kind;
+  values = h.values;
   tasks = λ q t is. go q t (eq_by_cmp nat_cmp q p) refl (sym (find-put nat_cmp nat_cmp_total q p task it.tasks) ∙ is);
   waiting = λ j has. h.waiting j (omega (arith, has, times-filter j (λ j. not (j == k)) queued));
 }
@@ -242,10 +257,12 @@ tasks-declared types t k (b ∷ ps) all p x is = go (eq_by_cmp nat_cmp p k) is (
     go false is later = later is
 
 pub fits-fresh : (types : List Edentype) (calls : Traffic) (queued : List ℕ) (t : Edentype) (vars : List Datum) → IsRuledType types t
-    → ((k : ℕ) → 1 ≤ times k queued → FitsCall t (call_at calls k)) → FitsActive types calls queued (fresh t vars)
-fits-fresh types calls queued (native n) vars ruled fits = record { kind = ruled; tasks = λ p x is. absurd (cc is); waiting = fits }
-fits-fresh types calls queued (declared_type t) vars ruled fits = record {
+    → HasValues t vars → ((k : ℕ) → 1 ≤ times k queued → FitsCall t (call_at calls k)) → FitsActive types calls queued (fresh t vars)
+fits-fresh types calls queued (native n) vars ruled many fits =
+    record { kind = ruled; values = many; tasks = λ p x is. absurd (cc is); waiting = fits }
+fits-fresh types calls queued (declared_type t) vars ruled many fits = record {
   kind = ruled;
+  values = many;
   tasks = λ p x is. subst (λ i. FitsRest types (declared_type t) (is_some i) x.rest) (sym (no-services 1 (length t.processes) p))
       (tasks-declared types t 1 t.processes (declared-tasks types t ruled) p x is);
   waiting = fits;

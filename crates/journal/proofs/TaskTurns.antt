@@ -60,7 +60,8 @@ use Rattle.journal.proofs.Frame.{eject-on_eject, eject-on_traffic}
 use Rattle.journal.proofs.KeptTurns.{value-each}
 use Rattle.journal.proofs.Fits.{times}
 use Rattle.journal.proofs.Times.{times-append, times-gone}
-use Rattle.journal.proofs.Tasks.{IsRuledType, Ruling, FitsCall, FitsActive, FitsEject, AllFitIn, EffectFits, CallsKept}
+use Rattle.journal.proofs.Tasks.{IsRuledType, Ruling, FitsCall, HasValues, FitsActive, FitsEject, AllFitIn, EffectFits, CallsKept}
+use Rattle.journal.proofs.LeftTurns.{values-first, values-kept}
 use Rattle.journal.proofs.TaskParts.{fits-crew, fits-told, fits-waits_or_told, fits-turned, fits-effect, fits-without, fits-start}
 use Rattle.journal.proofs.TaskParts.{fits-fresh, serves-set, serves-left, serves-locked, serves-waited, serves-signalled}
 use Rattle.journal.proofs.SiteTurns.{IsNew}
@@ -131,7 +132,8 @@ module _ (types : List Edentype) (later : Traffic) where
 
   fits-fewer : (queued less : List ℕ) (it : Active) → ((k : ℕ) → 1 ≤ times k less → 1 ≤ times k queued) → FitsActive types later queued it
       → FitsActive types later less it
-  fits-fewer queued less it among h = record { kind = h.kind; tasks = h.tasks; waiting = λ k has. h.waiting k (among k has) }
+  fits-fewer queued less it among h =
+      record { kind = h.kind; values = h.values; tasks = h.tasks; waiting = λ k has. h.waiting k (among k has) }
 
   tasks-on_eject : (v : Uid) (f : Eject → Eject) (s : Site)
       → ((e : Eject) → eject_in s v ≡ Some e → FitsEject types later e → FitsEject types later (f e))
@@ -231,17 +233,17 @@ module _ (types : List Edentype) (later : Traffic) where
       (tasks-asks v p (body bytes) s h) (tasks-tells v p (Code status.TooLarge) s h)
 
   pub tasks-born : (v : Uid) (t : Edentype) (vars : List Datum) (s : Site) → eject_in s v ≡ None → IsRuledType types t
-      → AllFitIn types later s
+      → HasValues t vars → AllFitIn types later s
       → AllFitIn types later (born v (fresh t vars) s)
   unfolding on_node
-  tasks-born v t vars s absent ruled h = λ u e is. go u e (eq_by_cmp uid_cmp u v) refl
+  tasks-born v t vars s absent ruled many h = λ u e is. go u e (eq_by_cmp uid_cmp u v) refl
       (sym (find-put uid_cmp uid_cmp_total u v (grown (eject_in s v)) s.node.ejects) ∙ is)
     where
       grown : Option Eject → Eject
       grown o = with_item o (with_active (Some (fresh t vars))) (newborn (fresh t vars))
 
       fits-grown : (o : Option Eject) → o ≡ None → FitsEject types later (grown o)
-      fits-grown None at = fits-fresh types later [] t vars ruled (λ k has. absurd (omega (arith, has)))
+      fits-grown None at = fits-fresh types later [] t vars ruled many (λ k has. absurd (omega (arith, has)))
       fits-grown (Some e) at = absurd (cc at)
 
       go : (u : Uid) (e : Eject) (b : Bool) → eq_by_cmp uid_cmp u v ≡ b → cond b (Some (grown (eject_in s v))) (eject_in s u) ≡ Some e
@@ -254,7 +256,7 @@ module _ (types : List Edentype) (later : Traffic) where
   tasks-creates v p None made s is new ruled h = h
   tasks-creates v p (Some t) (Ok u) s is new ruled h =
       tasks-tells v p (Made status.Ok (Some (full u))) (born u (fresh t (first_values t)) s)
-      (tasks-born u t (first_values t) s (new u is) (ruled t refl) h)
+      (tasks-born u t (first_values t) s (new u is) (ruled t refl) (values-first t) h)
   tasks-creates v p (Some t) (Err why) s is new ruled h = tasks-tells v p (Made why None) s h
 
   -- 4. A turn of a process
@@ -333,6 +335,7 @@ module _ (types : List Edentype) (later : Traffic) where
           go None active h = tt
           go (Some it) active h = record {
             kind = h.kind;
+            values = h.values;
             tasks = h.tasks;
             waiting = λ j has. by j (eq_by_cmp nat_cmp j k) refl (omega (arith, has, times-append j e.queued (k ∷ [])));
           }
@@ -446,7 +449,7 @@ module _ (types : List Edentype) (later : Traffic) where
       tasks-item s (start_of s.types bytes v) _ (λ start is_s. tasks-on_traffic (misfits_answered start.0 e.queued) _
       (tasks-on_eject v _ s
       (λ old at fits. fits-fresh types later (filter (fits_at start.0 s.traffic) e.queued) start.0 (values_from start.0 start.1)
-      (ruled-start types s ruled bytes v start is_s) (λ k has. fits-kept start.0 s.traffic later k kept
+      (ruled-start types s ruled bytes v start is_s) (values-kept start.0 start.1) (λ k has. fits-kept start.0 s.traffic later k kept
       (fits-passed start.0 s.traffic k (times-passed k (fits_at start.0 s.traffic) e.queued has)))) h)) h) h) h
   tasks-activated v start_end.Gone s ruled kept h = tasks-turned_away v status.Gone s h
   tasks-activated v start_end.Fault s ruled kept h = tasks-turned_away v status.StoreFault s h

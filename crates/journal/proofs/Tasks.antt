@@ -1,10 +1,11 @@
--- What each active part keeps to: its type is one of the script's, each task is one of that type, and returns exactly where its process
--- serves a call; and each queued call fits the type.
+-- What each active part keeps to: its type is one of the script's, it has as many values as that has variables, each task is one of that
+-- type, and returns exactly where its process serves a call; and each queued call fits the type.
 use Rattle.std.proofs.Common.{◌≡◌, ◌≤◌, ℕ, Bool, true, false, List, [], ◌∷◌, length, Option, None, Some, is_some}
 use Rattle.std.specs.Prelude.{IsSomeAnd, IfSome}
 use Rattle.std.specs.List.{AllByRecursion, list_any}
 use Rattle.std.specs.Ordering.{nat_cmp}
 use Rattle.capability.specs.declared.Uid.{Uid}
+use Rattle.eden_value.specs.Datum.{Datum}
 use Rattle.eden_model.specs.Map.{same_text, value_at, uid_cmp}
 use Rattle.eden_model.specs.Traffic.{Traffic, Call, call_at}
 use Rattle.epl_syntax.specs.declared.effect.Effect.{Effect}
@@ -72,8 +73,14 @@ FitsEffect types serves _ = Unit {0}
 abbrev pub FitsCall : Edentype → Option Call → Type 0
 FitsCall t o = IsSomeAnd o (λ c. misfit t c ≡ None)
 
+-- as many values as a declared type has variables
+abbrev pub HasValues : Edentype → List Datum → Type 0
+HasValues (native n) vars = Unit {0}
+HasValues (declared t) vars = length vars ≡ length t.vars
+
 pub record FitsActive (types : List Edentype) (calls : Traffic) (queued : List ℕ) (it : Active) : Type 0 where
   pub kind : IsRuledType types it.kind
+  pub values : HasValues it.kind it.vars
   pub tasks : (p : ℕ) (t : Task) → value_at nat_cmp p it.tasks ≡ Some t
       → FitsRest types it.kind (is_some (serves_at p it.crew.processes)) t.rest
   pub waiting : (k : ℕ) → 1 ≤ times k queued → FitsCall it.kind (call_at calls k)

@@ -1,6 +1,6 @@
 -- Types of worked histories, as the trees of their texts. No meaning looks at a place, so all places are 0.
-use Rattle.std.proofs.Common.{ℕ, pos, Bool, true, false, List, [], ◌∷◌, map, Option, None, Some, codes}
-use Rattle.eden_value.specs.Shape.{Shape, ints, truths, texts, caps, lists}
+use Rattle.std.proofs.Common.{ℕ, pos, true, false, List, [], ◌∷◌, map, None, Some, codes}
+use Rattle.eden_value.specs.Shape.{Shape, ints, truths, caps}
 use Rattle.epl_syntax.specs.declared.tree.Name.{Name}
 use Rattle.epl_syntax.specs.declared.tree.Number.{Number}
 use Rattle.epl_syntax.specs.declared.tree.Prefix.TheVariants.{Not}
@@ -10,9 +10,9 @@ use Rattle.epl_syntax.specs.declared.tree.Builtin.TheVariants.{Restrict}
 use Rattle.epl_syntax.specs.declared.tree.ClassDecl.{ClassDecl}
 use Rattle.epl_syntax.specs.declared.tree.CondDecl.{CondDecl}
 use Rattle.epl_syntax.specs.declared.tree.Target.TheVariants as target
-use Rattle.epl_syntax.specs.Tree.{TypeTree, Operation, Process, Upgrade, Change, Variable, Local, Parameter, PlacedShape, Beginning}
+use Rattle.epl_syntax.specs.Tree.{TypeTree, Operation, Process, Upgrade, Variable, Local, Parameter, PlacedShape, Beginning}
 use Rattle.epl_syntax.specs.Tree.{Constant, integer, truth, absent, Expression, Const_, Name_, Unary, Binary, Apply, in_order}
-use Rattle.epl_syntax.specs.Tree.{Statement, Assign, If, While, With, Wait, Signal, Checkpoint, Invoke, Return, block_of}
+use Rattle.epl_syntax.specs.Tree.{Statement, Assign, While, With, Wait, Signal, Checkpoint, Invoke, Return, block_of}
 
 -- 1. Words for them
 

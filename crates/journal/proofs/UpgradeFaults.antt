@@ -1,5 +1,5 @@
 -- An upgrade that faults starts nothing.
-use Rattle.std.proofs.Common.{◌≡◌, ℕ, List, [], ◌∷◌, None, true, false, take, refl, codes, map}
+use Rattle.std.proofs.Common.{◌≡◌, ℕ, List, [], ◌∷◌, None, true, take, refl, codes, map}
 use Rattle.std.specs.Fmt.{digits}
 use Rattle.capability.specs.declared.Uid.{Uid}
 use Rattle.eden_value.specs.declared.status.Status.TheVariants as status

@@ -1,5 +1,4 @@
 -- An event that crashes a node, as a stop or a power cut: what it changed before the node fell.
-use Rattle.std.specs.Prelude.{Option}
 use Rattle.eden_model.specs.Map.{with_item}
 use Rattle.journal.specs.declared.event.Event.{Event}
 use Rattle.journal.specs.declared.event.Event.TheVariants as event

@@ -1,11 +1,22 @@
 -- Each process is in the monitor that it is inside of: it holds it, or waits to enter it, or waits on a condition of it. No other does.
-use Rattle.std.specs.Prelude.{◌≡◌, ℕ, suc, List, [], ◌∷◌, Option, None, Some, cond, slice_get, IfSome}
+-- And a turn touches no variable of a monitor that its process does not hold.
+use Rattle.std.specs.Prelude.{◌≡◌, ℕ, suc, ◌-◌, ◌==◌, Bool, false, not, ◌||◌, List, [], ◌∷◌, Option, None, Some, cond, slice_get}
+use Rattle.std.specs.Prelude.{IsSomeAnd, IfSome}
 use Rattle.std.specs.Ordering.{nat_cmp}
 use Rattle.capability.specs.declared.Uid.{Uid}
-use Rattle.eden_model.specs.Map.{with_item, value_at}
-use Rattle.eden_model.specs.Crew.{Waiting, nothing, outside, entry, condition, Monitor, Crew, Process as Worker, is_held_by, Holds}
-use Rattle.epl_syntax.specs.Monitors.{inside_rest}
+use Rattle.eden_value.specs.Datum.{Datum}
+use Rattle.eden_model.specs.Map.{with_item, value_at, same_uid}
+use Rattle.eden_model.specs.Crew.{Waiting, entry, condition, Monitor, Crew, Process as Worker, is_held_by, Holds}
+use Rattle.epl_syntax.specs.Edentype.{declared}
+use Rattle.epl_syntax.specs.Tree.{TypeTree, Variable}
+use Rattle.epl_syntax.specs.Meaning.{Turned}
+use Rattle.epl_syntax.specs.Monitors.{inside_rest, SameWhere}
+use Rattle.journal.specs.declared.event.Event.{Event}
+use Rattle.journal.specs.declared.event.Event.TheVariants as event
 use Rattle.journal.specs.World.{World, Active, Task, eject_at}
+use Rattle.journal.specs.Processes.{turn_of}
+
+-- 1. Places
 
 -- the first monitor that the process holds, counted from the first of these with the number n
 abbrev pub held_from : ℕ → ℕ → List Monitor → Option ℕ
@@ -27,3 +38,67 @@ pub record IsInItsMonitor (it : Active) : Type 0 where
 -- of all active parts of a world
 abbrev pub AreInTheirMonitors : World → Type 0
 AreInTheirMonitors w = (u : Uid) → IfSome (eject_at w u) (λ e. IfSome e.active IsInItsMonitor)
+
+-- 2. Turns
+
+-- whether a process holds this monitor, of those that are counted from 1
+abbrev pub holds : Crew → ℕ → ℕ → Bool
+holds crew p m = with_item (slice_get crew.monitors (m - 1)) (λ it. is_held_by p it.holder) false
+
+-- whether a process may touch a variable: it is of no monitor, or of one that the process holds
+abbrev pub may_touch : Crew → ℕ → Variable → Bool
+may_touch crew p v = (v.monitor == 0) || holds crew p v.monitor
+
+-- whether it may not: it is of a monitor that the process does not hold
+abbrev pub may_not_touch : Crew → ℕ → Variable → Bool
+may_not_touch crew p v = not (may_touch crew p v)
+
+-- the same active part with other values of its variables
+abbrev pub with_vars : List Datum → Active → Active
+with_vars vars it = record it { vars = vars }
+
+-- From these other values of variables that it may not touch, a process comes to the same: the same rest and the same effect, the same
+-- values of the variables that it may touch, and the others as they were.
+pub record ComesToTheSame (crew : Crew) (p : ℕ) (t : TypeTree) (now : Turned) (others : List Datum) (instead : Turned) : Type 0 where
+  pub touched : SameWhere (may_touch crew p) t.vars now.vars instead.vars
+  pub untouched : SameWhere (may_not_touch crew p) t.vars others instead.vars
+  pub rest : instead.rest ≡ now.rest
+  pub effect : instead.effect ≡ now.effect
+
+-- What this process of an active part comes to in its turn: each variable of a monitor that it does not hold is as it was, and was not
+-- read, since from other values of such variables the process comes to the same.
+pub record TouchesItsOwn (u : Uid) (p : ℕ) (it : Active) (t : TypeTree) (now : Turned) : Type 0 where
+  pub changes_no_other : SameWhere (may_not_touch it.crew p) t.vars it.vars now.vars
+  pub reads_no_other : (others : List Datum) → SameWhere (may_touch it.crew p) t.vars it.vars others
+      → IsSomeAnd (turn_of u (with_vars others it) p) (ComesToTheSame it.crew p t now others)
+
+-- the turn of this process of an active part, where that is of a declared type
+abbrev pub KeepsMonitors : Uid → ℕ → Active → Type 0
+KeepsMonitors u p it = (t : TypeTree) → it.kind ≡ declared t → IsSomeAnd (turn_of u it p) (TouchesItsOwn u p it t)
+
+-- the active part of an Eject of a world, if it has one
+abbrev pub active_at : World → Uid → Option Active
+active_at w u = with_item (eject_at w u) (λ e. e.active) None
+
+-- the turn that an event is, in the world before it
+abbrev pub EventKeepsMonitors : World → Event → Type 0
+EventKeepsMonitors w (event.Process u p said) = IsSomeAnd (active_at w u) (KeepsMonitors u p)
+EventKeepsMonitors w _ = Unit {0}
+
+-- 3. Entries
+
+-- the process of this Eject whose turn an event is, if it is one
+abbrev pub whose_turn : Uid → Event → Option ℕ
+whose_turn u (event.Process v p said) = cond (same_uid u v) (Some p) None
+whose_turn u _ = None
+
+-- What stays of the values of an active part: all of them, and in the turn of one of its processes those of the variables of monitors that
+-- the process does not hold.
+abbrev pub Leaves : Option ℕ → Active → List Datum → Type 0
+Leaves None it later = later ≡ it.vars
+Leaves (Some p) it later = (t : TypeTree) → it.kind ≡ declared t → SameWhere (may_not_touch it.crew p) t.vars it.vars later
+
+-- of each Eject that is active before an event and after it
+abbrev pub LeavesVariables : World → Event → World → Type 0
+LeavesVariables w e later = (u : Uid) (it after : Active) → active_at w u ≡ Some it → active_at later u ≡ Some after
+    → Leaves (whose_turn u e) it after.vars

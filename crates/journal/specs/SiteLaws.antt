@@ -15,7 +15,7 @@ use Rattle.journal.specs.Run.{EachStep}
 use Rattle.journal.specs.Standing.{DiskRun, state}
 use Rattle.journal.specs.LegalRun.{AreHandedIn, opening_world, last_world, run_of}
 use Rattle.journal.specs.Laws.{Begins}
-use Rattle.journal.specs.Monitors.{AreInTheirMonitors}
+use Rattle.journal.specs.Monitors.{AreInTheirMonitors, EventKeepsMonitors, LeavesVariables}
 use Rattle.journal.specs.Sites.{Everywhere, HasEpochs, SoundWorld, AllSound, IsSoundSite, HoldsItsWork, CallsGoOn, KeepsSite}
 
 -- 1. Every world that is reached
@@ -82,3 +82,17 @@ StatesStayElsewhere = (layout : Layout) (script : Script) (disks : List DiskRun)
     → AreHandedIn layout disks → Begins layout script disks history
     → EachStep (λ past s. (n : ℕ) → (s.entry.node == n) ≡ false → state s.later n ≡ state s.world n) []
     (run_of (opening_world layout script disks) script history)
+
+-- 5. In each turn of a process of a declared type each variable of a monitor that the process does not hold stays as it was, and is not
+-- read, where the types of the script keep the rules.
+abbrev pub MonitorsKeepVariables : Type 0
+MonitorsKeepVariables = (layout : Layout) (script : Script) (disks : List DiskRun) (history : List Entry) → IsLayout layout
+    → AreHandedIn layout disks → KeepRules script.types → HaveMonitors script.types → Begins layout script disks history
+    → EachStep (λ past s. EventKeepsMonitors s.world s.entry.event) [] (run_of (opening_world layout script disks) script history)
+
+-- No entry changes a variable of an active part but the turn of one of its processes, and that none of a monitor that the process does not
+-- hold. So a variable of a monitor changes in turns of its holder alone, until the active part ends.
+abbrev pub VariablesStay : Type 0
+VariablesStay = (layout : Layout) (script : Script) (disks : List DiskRun) (history : List Entry) → IsLayout layout
+    → AreHandedIn layout disks → KeepRules script.types → HaveMonitors script.types → Begins layout script disks history
+    → EachStep (λ past s. LeavesVariables s.world s.entry.event s.later) [] (run_of (opening_world layout script disks) script history)

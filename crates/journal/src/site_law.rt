@@ -1,6 +1,7 @@
 //! What holds of every node of every world that a history reaches, and of every event at a node.
 ghost use Rattle.journal.specs.SiteLaws.{WorldsAreSound, SitesAreSound, HeldCallsAreWork, MonitorsAreHeld, EpochsAreBounded};
 ghost use Rattle.journal.specs.SiteLaws.{StopsAreFalls, FallsAreLast, EventsKeepSites, EventsKeepCalls, StatesStayElsewhere};
+ghost use Rattle.journal.specs.SiteLaws.{MonitorsKeepVariables, VariablesStay};
 
 /// Every world at the end of a history so far, over disks that are handed in as they have to be, is sound:
 /// its nodes and their Ejects are in order, each process has a task, only the first of a node's requests
@@ -25,6 +26,14 @@ pub fn a_held_call_is_run_or_queued()
 /// conditions, with such types; and no other does.
 pub fn every_monitor_is_held()
     ensures { MonitorsAreHeld }
+{}
+
+/// A process of a declared type touches in its turn no variable of a monitor that it does not hold, with such
+/// types: it neither changes one nor depends on one. And no entry changes a variable of an active part but a
+/// turn of one of its processes.
+pub fn monitors_keep_their_variables()
+    ensures turns { MonitorsKeepVariables }
+    ensures entries { VariablesStay }
 {}
 
 /// The stored epoch of each of its nodes, and the one in doubt, are at most 4,294,967,295.
