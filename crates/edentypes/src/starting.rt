@@ -1,0 +1,191 @@
+//! The values with which an Eject starts, and what is kept of them.
+ghost use Rattle.std.specs.Prelude.{◌≡◌, IfOk, map};
+ghost use Rattle.std.specs.Option.{option_map};
+ghost use Rattle.epl_syntax.specs.Meaning as meaning;
+ghost use Rattle.epl_syntax.specs.Natives as natives;
+ghost use Rattle.epl_syntax.specs.Edentype.{declared as declared_type, declared_outline};
+ghost use Rattle.epl_syntax.specs.Tree.{type_tree};
+ghost use Rattle.edentypes.specs.Forms.{slot_of_variable};
+ghost use Rattle.edentypes.specs.View.{kind_in};
+
+use crate::form::{Form, form_at};
+use crate::native::{NATIVE_VERSION, name_of, slots_of};
+use crate::variables::{fit_kept, only_kept, with_kept};
+use crate::{Kind, find};
+use capability::Uid;
+use eden_codec::Rep;
+use eden_value::{Items, Txt, copy_items};
+use epl_syntax::{Native, Program, Types, VarDecl};
+use std::alloc::{AllocError, Global};
+
+/// The variables of a declared type, in order.
+fn variables_of(program: &Program) -> &[VarDecl]
+    ensures { map slot_of_variable result.now ≡ (declared_outline (type_tree program.now)).slots }
+{
+    &program.vars
+}
+
+/// The values of all variables of a new Eject.
+pub fn first_values(alloc: Global, types: &Types, kind: Kind) -> Result<Items, AllocError>
+    ensures { IfOk result (λ vars. vars ≡ meaning.first_values (kind_in types.now kind)) }
+{
+    let none = Items {
+        values: Vec::new(alloc),
+    };
+    start(alloc, types, kind, &none)
+}
+
+/// The values of all variables of an Eject that starts from durable ones: the working ones begin anew.
+pub fn start(alloc: Global, types: &Types, kind: Kind, durable: &Items) -> Result<Items, AllocError>
+    ensures { IfOk result (λ vars. vars ≡ meaning.values_from (kind_in types.now kind) durable.now) }
+{
+    match form_at(types, kind) {
+        Form::Native { native } => {
+            let values = with_kept(alloc, slots_of(native), &durable.values)?;
+            Ok(Items { values })
+        }
+        Form::Declared { program } => {
+            let values = with_kept(alloc, variables_of(program), &durable.values)?;
+            Ok(Items { values })
+        }
+    }
+}
+
+/// The values of the durable variables, in order.
+fn durable_of(alloc: Global, types: &Types, kind: Kind, vars: &Items) -> Result<Items, AllocError>
+    ensures { IfOk result (λ kept. kept ≡ meaning.durable_of (kind_in types.now kind) vars.now) }
+{
+    match form_at(types, kind) {
+        Form::Native { native } => {
+            let values = only_kept(alloc, slots_of(native), &vars.values)?;
+            Ok(Items { values })
+        }
+        Form::Declared { program } => {
+            let values = only_kept(alloc, variables_of(program), &vars.values)?;
+            Ok(Items { values })
+        }
+    }
+}
+
+/// The version of a declared type.
+fn declared_version(program: &Program) -> u64
+    ensures { result ≡ meaning.version_of (declared_type (type_tree program.now)) }
+{
+    match program.version {
+        Some(version) => version.n,
+        None => 1,
+    }
+}
+
+/// The version of a type.
+fn version_of(types: &Types, kind: Kind) -> u64
+    ensures { result ≡ meaning.version_of (kind_in types.now kind) }
+{
+    match form_at(types, kind) {
+        Form::Native { .. } => NATIVE_VERSION as u64,
+        Form::Declared { program } => declared_version(program),
+    }
+}
+
+/// The name of a type.
+fn name_in(alloc: Global, types: &Types, kind: Kind) -> Result<Txt, AllocError>
+    ensures { IfOk result (λ name. name ≡ meaning.name_of (kind_in types.now kind)) }
+{
+    let bytes = match form_at(types, kind) {
+        Form::Native { native } => Vec::from_slice(alloc, name_of(native))?,
+        Form::Declared { program } => Vec::from_slice(alloc, &program.name.text.bytes)?,
+    };
+    Ok(Txt { bytes })
+}
+
+/// What is kept of an Eject with these values.
+pub fn rep(alloc: Global, types: &Types, kind: Kind, vars: &Items) -> Result<Rep, AllocError>
+    ensures { IfOk result (λ rep. rep ≡ meaning.rep_of (kind_in types.now kind) vars.now) }
+{
+    let version = version_of(types, kind);
+    if version > u16::MAX as u64 {
+        return Err(AllocError);
+    }
+    let type_name = name_in(alloc, types, kind)?;
+    let values = durable_of(alloc, types, kind, vars)?;
+    Ok(Rep {
+        type_name,
+        version: version as u16,
+        values,
+    })
+}
+
+/// Whether stored values meet the condition of a native type. Those of the types that do not run yet are not tested here.
+fn meets_condition(native: Native, _durable: &Items) -> Result<bool, AllocError>
+    ensures { IfOk result (λ met. met ≡ natives.native_condition native _durable.now) }
+{
+    match native {
+        Native::Cell | Native::Lines | Native::Sink => Ok(true),
+        _ => Err(AllocError),
+    }
+}
+
+/// Whether a representation is of this version of the type.
+fn is_current(types: &Types, kind: Kind, rep: &Rep) -> Result<bool, AllocError>
+    ensures { IfOk result (λ is. is ≡ meaning.is_current (kind_in types.now kind) rep.now) }
+{
+    if u64::from(rep.version) != version_of(types, kind) {
+        return Ok(false);
+    }
+    match form_at(types, kind) {
+        Form::Native { native } => {
+            if !fit_kept(slots_of(native), &rep.values.values) {
+                return Ok(false);
+            }
+            meets_condition(native, &rep.values)
+        }
+        Form::Declared { program } => Ok(fit_kept(variables_of(program), &rep.values.values)),
+    }
+}
+
+/// The durable values that an upgrade from an earlier version gives. Upgrades do not run yet.
+fn upgraded(types: &Types, kind: Kind, _rep: &Rep, _me: Uid) -> Result<Option<Items>, AllocError>
+    ensures { IfOk result (λ made. made ≡ meaning.upgraded (kind_in types.now kind) _rep.now _me) }
+{
+    match form_at(types, kind) {
+        Form::Native { .. } => Ok(None),
+        Form::Declared { program } if program.upgrades.is_empty() => Ok(None),
+        Form::Declared { .. } => Err(AllocError),
+    }
+}
+
+/// The durable values with which an Eject of a type starts.
+fn durable_from(
+    alloc: Global,
+    types: &Types,
+    kind: Kind,
+    rep: &Rep,
+    me: Uid,
+) -> Result<Option<Items>, AllocError>
+    ensures { IfOk result (λ found. found ≡ meaning.durable_from (kind_in types.now kind) rep.now me) }
+{
+    if is_current(types, kind, rep)? {
+        return Ok(Some(copy_items(alloc, &rep.values)?));
+    }
+    upgraded(types, kind, rep, me)
+}
+
+/// The type of a representation, and the durable values with which the Eject `me` starts. None exactly where it fits none
+/// of the types.
+pub fn start_from(
+    alloc: Global,
+    types: &Types,
+    rep: &Rep,
+    me: Uid,
+) -> Result<Option<(Kind, Items)>, AllocError>
+    ensures { IfOk result (λ found. option_map (λ p. (kind_in types.now p.0, p.1)) found
+        ≡ meaning.started_from (meaning.types_in types.now) rep.now me) }
+{
+    let Some(kind) = find(types, &rep.type_name) else {
+        return Ok(None);
+    };
+    match durable_from(alloc, types, kind, rep, me)? {
+        Some(durable) => Ok(Some((kind, durable))),
+        None => Ok(None),
+    }
+}
