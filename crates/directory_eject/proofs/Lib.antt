@@ -1,0 +1,5 @@
+pub mod Begins
+pub mod Turns
+pub mod Compared
+pub mod Stored
+pub mod Stays

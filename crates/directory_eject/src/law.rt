@@ -1,0 +1,12 @@
+//! What is promised of definitions, apart from any code.
+ghost use Rattle.epl_syntax.specs.declared.types.Native.TheVariants as types;
+ghost use Rattle.epl_syntax.specs.Edentype.{native};
+ghost use Rattle.epl_syntax.specs.Meaning.{first_values};
+ghost use Rattle.directory_eject.specs.Kept.{IsDirectory, TurnsStay};
+
+/// A directory may start again from whatever values it comes to: they are of the kinds of the variables, with as many
+/// capabilities as names, no name twice, and at most 256 names. So it is at first, and so after each turn.
+pub fn directories_may_start_again()
+    ensures first { IsDirectory (first_values (native types.Directory)) }
+    ensures turns { TurnsStay }
+{}

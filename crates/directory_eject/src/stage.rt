@@ -1,0 +1,79 @@
+//! What is left to do of an operation, and how one begins.
+ghost use Rattle.std.specs.Prelude.{◌≡◌, IfOk, true};
+ghost use Rattle.eden_value.specs.View.{datums};
+ghost use Rattle.eden_model.specs.Map.{same_text};
+ghost use Rattle.epl_syntax.specs.declared.types.Native.TheVariants as types;
+ghost use Rattle.epl_syntax.specs.Natives.{first_stage};
+ghost use Rattle.epl_syntax.specs.Simple.{argument, text_in, cap_in};
+ghost use Rattle.directory_eject.specs.Stages.{stage_of, are_taken};
+
+use capability::Cap;
+use eden_value::{Items, Txt, Value};
+use std::alloc::{AllocError, Global};
+
+/// What is left to do of an operation of a directory.
+#[derive(Drop)]
+pub enum Stage {
+    /// It adds a name and a capability.
+    Adds { name: Txt, held: Option<Cap> },
+    /// It looks up a name.
+    Looks { name: Txt },
+    /// It takes a name away.
+    Deletes { name: Txt },
+    /// It returns the names.
+    Tells,
+    /// The operation returned, or the checkpoint of a change was asked for.
+    Changed,
+}
+
+fn is_called(operation: &Txt, name: &[u8]) -> bool
+    ensures { result ≡ same_text operation.now name.now }
+{
+    operation.bytes.as_slice() == name
+}
+
+/// The text that stands at a place, the empty one where none does.
+pub(crate) fn text_at(alloc: Global, values: &[Value], place: usize) -> Result<Txt, AllocError>
+    ensures { IfOk result (λ text. text ≡ text_in (argument place (datums values.now))) }
+{
+    match values.get(place) {
+        Some(Value::Text { text }) => {
+            let bytes = Vec::from_slice(alloc, &text.bytes)?;
+            Ok(Txt { bytes })
+        }
+        _ => Ok(Txt {
+            bytes: Vec::new(alloc),
+        }),
+    }
+}
+
+/// The capability that stands at a place, the absent one where none does.
+pub(crate) fn cap_at(values: &[Value], place: usize) -> Option<Cap>
+    ensures { result ≡ cap_in (argument place (datums values.now)) }
+{
+    match values.get(place) {
+        Some(Value::Cap { cap }) => *cap,
+        _ => None,
+    }
+}
+
+/// An operation begins, with arguments of the kinds that it takes.
+pub fn native_begin(alloc: Global, operation: &Txt, args: &Items) -> Result<Stage, AllocError>
+    requires { are_taken operation.now args.now ≡ true }
+    ensures { IfOk result (λ stage. stage_of stage ≡ first_stage types.Directory operation.now args.now) }
+{
+    if is_called(operation, b"AddEntry") {
+        let name = text_at(alloc, &args.values, 0)?;
+        let held = cap_at(&args.values, 1);
+        return Ok(Stage::Adds { name, held });
+    }
+    if is_called(operation, b"LookUp") {
+        let name = text_at(alloc, &args.values, 0)?;
+        return Ok(Stage::Looks { name });
+    }
+    if is_called(operation, b"DeleteEntry") {
+        let name = text_at(alloc, &args.values, 0)?;
+        return Ok(Stage::Deletes { name });
+    }
+    Ok(Stage::Tells)
+}

@@ -1,0 +1,4 @@
+mod SameText
+mod Places
+mod Filters
+mod Keeping

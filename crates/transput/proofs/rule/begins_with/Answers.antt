@@ -1,0 +1,9 @@
+use Rattle.std.proofs.Common.{sym, ◌∙◌, take, length}
+use Rattle.transput.proofs.SameText.{same_as_pointwise, pointwise_swapped}
+use Rattle.transput.proofs.rule.begins_with.Goals as goal
+
+pub returns : goal.returns
+returns c =
+    let front = c.args.front.now in
+    let item = take (length front) c.args.item.now in
+    c.starts_with.ensures.value ∙ pointwise_swapped front item ∙ sym (same_as_pointwise item front)
