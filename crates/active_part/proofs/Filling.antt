@@ -1,0 +1,89 @@
+-- The tasks of declared processes, which stand under the numbers 1 upward.
+use Rattle.std.proofs.Common.{◌≡◌, ◌<◌, ℕ, suc, ◌+◌, List, [], ◌∷◌, ◌++◌, map, length, length-append, refl, sym, ◌∙◌, ap, subst, arith}
+use Rattle.std.specs.declared.cmp.Ordering.TheVariants.{Less}
+use Rattle.std.specs.Ordering.{nat_cmp}
+use Rattle.std.specs.Cmp.{nat_cmp_is}
+use Rattle.std.specs.BTreeMap.{insert_entry}
+use Rattle.std.specs.FinMap.Entries.{by_order}
+use Rattle.coordinator.specs.View.{setup_of as layout_of}
+use Rattle.coordinator.specs.declared.parts.Setup.{Setup as Layout}
+use Rattle.eden_model.specs.Crew.{Coordination, fresh_crew, fresh as fresh_coordination}
+use Rattle.eden_model.specs.Map.{put_at, each_value}
+use Rattle.epl_syntax.specs.Meaning.{declared, setup_of}
+use Rattle.epl_syntax.specs.Rules.OfTypes.{TypeList}
+use Rattle.epl_syntax.specs.Edentype.{Edentype}
+use Rattle.epl_syntax.specs.declared.effect.Answer.TheVariants.{Go}
+use Rattle.edentypes.specs.View.{kind_in, rest_of}
+use Rattle.edentypes.specs.declared.Rest.{Rest}
+use Rattle.journal.specs.World.{Task}
+use Rattle.journal.specs.Ejects.{fresh, tasks_from}
+use Rattle.active_part.specs.Body.{active_of}
+use Rattle.active_part.specs.View.{body_of, task_of}
+use Rattle.active_part.specs.declared.Doing.{Doing}
+use Rattle.active_part.specs.declared.Part.{Part}
+use Rattle.active_part.proofs.Tasks.{inserted-each}
+
+-- those behind what is left have their tasks
+pub record IsFilling (all left : List Rest) (es : List (ℕ × Doing)) : Type 0 where
+  pub done : List Rest
+  pub split : all ≡ left ++ done
+  pub tasks : (t : Edentype) → each_value (task_of t) es ≡ tasks_from (length left + 1) (map (rest_of t) done)
+
+append-nothing : {X : Type 0} (xs : List X) → xs ++ [] ≡ xs
+append-nothing [] = refl
+append-nothing (x ∷ xs) = ap (λ l. x ∷ l) (append-nothing xs)
+
+append-more : {X : Type 0} (xs : List X) (x : X) (ys : List X) → (xs ++ x ∷ []) ++ ys ≡ xs ++ x ∷ ys
+append-more [] x ys = refl
+append-more (y ∷ xs) x ys = ap (λ l. y ∷ l) (append-more xs x ys)
+
+pub filling-start : (all : List Rest) → IsFilling all all []
+filling-start all = record { done = []; split = sym (append-nothing all); tasks = λ t. refl }
+
+below-next : (k : ℕ) → nat_cmp k (k + 1) ≡ Less
+below-next k = let below : k < k + 1 = omega arith in sym (nat_cmp_is k (k + 1) Less below)
+
+-- a task of a number below all others stands first
+put-first : (t : Edentype) (k : ℕ) (x : Task) (rs : List Rest)
+    → put_at nat_cmp k x (tasks_from (k + 1) (map (rest_of t) rs)) ≡ (k, x) ∷ tasks_from (k + 1) (map (rest_of t) rs)
+put-first t k x [] = refl
+put-first t k x (r ∷ rs) =
+    let next : ℕ × Task = (k + 1, record { rest = rest_of t r; answer = Go }) in
+    let others : List (ℕ × Task) = tasks_from (k + 1 + 1) (map (rest_of t) rs) in
+    ap (λ o. by_order o ((k, x) ∷ next ∷ others) ((k + 1, x) ∷ others) (next ∷ put_at nat_cmp k x others)) (below-next k)
+
+pub filling-on : (all left now : List Rest) (r : Rest) (es new : List (ℕ × Doing)) → IsFilling all left es → left ≡ now ++ r ∷ []
+    → new ≡ insert_entry nat_cmp es (length now + 1) (record { rest = r; answer = Go }) → IsFilling all now new
+filling-on all left now r es new h popped put = record {
+  done = r ∷ h.done;
+  split = h.split ∙ ap (λ l. l ++ h.done) popped ∙ append-more now r h.done;
+  tasks = λ t. ap (each_value (task_of t)) put
+      ∙ inserted-each (task_of t) (length now + 1) (record { rest = r; answer = Go }) es
+      ∙ ap (put_at nat_cmp (length now + 1) (record { rest = rest_of t r; answer = Go }))
+      (h.tasks t ∙ ap (λ k. tasks_from (k + 1) (map (rest_of t) h.done)) many)
+      ∙ put-first t (length now + 1) (record { rest = rest_of t r; answer = Go }) h.done;
+}
+  where
+    many : length left ≡ length now + 1
+    many = ap length popped ∙ length-append now (r ∷ [])
+
+pub filling-end : (all : List Rest) (es : List (ℕ × Doing)) (t : Edentype) → IsFilling all [] es
+    → each_value (task_of t) es ≡ tasks_from 1 (map (rest_of t) all)
+filling-end all es t h = h.tasks t ∙ ap (λ l. tasks_from 1 (map (rest_of t) l)) (sym h.split)
+
+-- the whole of a fresh part
+pub fresh-body : (ts : TypeList) (a : Part) (setup : Layout) (rests : List Rest) → a.crew ≡ fresh_coordination (layout_of setup)
+    → layout_of setup ≡ setup_of (kind_in ts a.kind)
+    → ((t : Edentype) → each_value (task_of t) a.tasks.entries ≡ tasks_from 1 (map (rest_of t) rests))
+    → map (rest_of (kind_in ts a.kind)) rests ≡ declared (kind_in ts a.kind)
+    → active_of (body_of ts a) ≡ fresh (kind_in ts a.kind) a.vars
+fresh-body ts a setup rests crew laid tasks are = λ i. record {
+  kind = kind_in ts a.kind;
+  vars = a.vars;
+  tasks = (tasks (kind_in ts a.kind) ∙ ap (tasks_from 1) are) i;
+  crew = (ap (λ (c : Coordination). c.crew) crew ∙ ap fresh_crew laid) i;
+}
+
+pub fresh-queue : (ts : TypeList) (a : Part) (setup : Layout) → a.crew ≡ fresh_coordination (layout_of setup)
+    → (body_of ts a).crew.queued ≡ []
+fresh-queue ts a setup crew = ap (λ (c : Coordination). c.queued) crew

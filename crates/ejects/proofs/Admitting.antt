@@ -1,0 +1,87 @@
+-- What comes of a request, by how its target stands.
+use Rattle.std.proofs.Common.{◌≡◌, ◌≤◌, ◌<◌, ℕ, nat_lt, Bool, true, false, cond, not, length, Option, None, Some, refl, sym, ◌∙◌, ap, arith}
+use Rattle.std.specs.Prelude.{is_some, Result, Ok, Err}
+use Rattle.std.proofs.lemmas.List.{length-map}
+use Rattle.std.proofs.lemmas.Bool.Decides.{nat_tests}
+use Rattle.capability.specs.Rights.{is_within}
+use Rattle.capability.specs.declared.Uid.{Uid}
+use Rattle.eden_value.specs.declared.status.Status.{Status}
+use Rattle.eden_value.specs.declared.status.Status.TheVariants as status
+use Rattle.eden_model.specs.Map.{value_at, uid_cmp, with_item}
+use Rattle.eden_model.specs.Traffic.{Call}
+use Rattle.epl_syntax.specs.Edentype.{Edentype}
+use Rattle.epl_syntax.specs.Kinds.{have_shapes}
+use Rattle.epl_syntax.specs.Meaning.{Operation, operation_of}
+use Rattle.edentypes.specs.View.{fit_of, fit_in}
+use Rattle.eject_table.specs.Table.{standing_of}
+use Rattle.eject_table.specs.declared.Standing.TheVariants as standing
+use Rattle.journal.specs.Deliveries.{misfit}
+use Rattle.journal.specs.Processes.{class_of}
+use Rattle.active_part.specs.Body.{Body}
+use Rattle.ejects.specs.Parts.{Parts, body_at, queue_in, held_of}
+use Rattle.ejects.specs.Refusals.{refusal_of}
+use Rattle.ejects.proofs.Delivered.{there-body}
+
+pub refusal-active : (n : Parts) (u : Uid) (b : Body) (c : Call) → body_at n u ≡ Some b
+    → refusal_of c (held_of n u) ≡ cond (not (nat_lt (length b.crew.queued) 64)) (Some status.Busy) (misfit b.kind c)
+refusal-active n u b c is = rw (there-body n u b is, is, length-map) refl
+
+pub refusal-passive : (n : Parts) (u : Uid) (c : Call) → body_at n u ≡ None → is_some (n.standing u) ≡ true
+    → refusal_of c (held_of n u) ≡ cond (not (nat_lt (length (queue_in (value_at uid_cmp u n.waiting))) 64)) (Some status.Busy) None
+refusal-passive n u c is there = rw (there, is) refl
+
+pub refusal-absent : (n : Parts) (u : Uid) (c : Call) → n.standing u ≡ None → refusal_of c (held_of n u) ≡ Some status.Gone
+refusal-absent n u c is = rw is refl
+
+-- how an Eject stands
+pub stands-absent : (o : Option (Option Body)) → standing_of o ≡ standing.Absent → o ≡ None
+stands-absent None e = refl
+stands-absent (Some None) e = absurd (cc e)
+stands-absent (Some (Some b)) e = absurd (cc e)
+
+pub stands-passive : (o : Option (Option Body)) → standing_of o ≡ standing.Passive → o ≡ Some None
+stands-passive None e = absurd (cc e)
+stands-passive (Some None) e = refl
+stands-passive (Some (Some b)) e = absurd (cc e)
+
+-- 2. What an operation asks
+
+abbrev errs : Status → Result ℕ Status
+errs why = Err why
+
+pub fits-class : (t : Edentype) (c : Call) (class : ℕ) → Ok class ≡ fit_in t c.target.rights c.operation c.args → (misfit t c ≡ None)
+    × (class ≡ class_of t c)
+fits-class t c class is = go (operation_of t c.operation) refl is
+  where
+    by : (o : Operation) (a b : Bool) → Ok class ≡ cond (not a) (Err status.NoRight) (cond (not b) (Err status.BadArguments) (Ok o.class))
+        → (cond (not a) (Some status.NoRight) (cond (not b) (Some status.BadArguments) None) ≡ None) × (class ≡ o.class)
+    by o false b is = absurd (cc is)
+    by o true false is = absurd (cc is)
+    by o true true is = (refl, cc is)
+
+    go : (o : Option Operation) → operation_of t c.operation ≡ o
+        → Ok class ≡ with_item o (fit_of c.target.rights c.args) (Err status.NoOperation) → (misfit t c ≡ None) × (class ≡ class_of t c)
+    go None at is = absurd (cc is)
+    go (Some o) at is = rw at (by o (is_within (record { bits = o.needs }) c.target.rights) (have_shapes c.args o.params) is)
+
+pub misfits-why : (t : Edentype) (c : Call) (why : Status) → Err why ≡ fit_in t c.target.rights c.operation c.args → misfit t c ≡ Some why
+misfits-why t c why is = go (operation_of t c.operation) refl is
+  where
+    by : (o : Operation) (a b : Bool) → errs why ≡ cond (not a) (Err status.NoRight) (cond (not b) (Err status.BadArguments) (Ok o.class))
+        → cond (not a) (Some status.NoRight) (cond (not b) (Some status.BadArguments) None) ≡ Some why
+    by o false b is = let e : status.NoRight ≡ why = (let s : errs why ≡ Err status.NoRight = is in cc) in ap (λ x. Some x) e
+    by o true false is = let e : status.BadArguments ≡ why = (let s : errs why ≡ Err status.BadArguments = is in cc) in ap (λ x. Some x) e
+    by o true true is = absurd (cc is)
+
+    go : (o : Option Operation) → operation_of t c.operation ≡ o
+        → errs why ≡ with_item o (fit_of c.target.rights c.args) (Err status.NoOperation) → misfit t c ≡ Some why
+    go None at is = rw at (let e : status.NoOperation ≡ why = (let s : errs why ≡ Err status.NoOperation = is in cc) in ap (λ x. Some x) e)
+    go (Some o) at is = rw at (by o (is_within (record { bits = o.needs }) c.target.rights) (have_shapes c.args o.params) is)
+
+-- a queue that is not full
+pub few-full : (b : Bool) (len : ℕ) → (64 ≤ len → b ≡ true) → b ≡ false → len < 64
+few-full b len full is = go (nat_lt len 64) refl
+  where
+    go : (x : Bool) → nat_lt len 64 ≡ x → len < 64
+    go true e = grind (arith, nat_tests, e)
+    go false e = let more : 64 ≤ len = grind (arith, nat_tests, e) in absurd (let bad : true ≡ false = sym (full more) ∙ is in cc bad)

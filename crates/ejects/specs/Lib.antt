@@ -1,0 +1,12 @@
+pub mod Parts
+pub mod Refusals
+pub mod View
+pub mod Passive
+pub mod Replies
+pub mod Asking
+pub mod Creations
+pub mod Activations
+pub mod StoreEnds
+pub mod Events
+pub mod Boots
+pub mod Marks

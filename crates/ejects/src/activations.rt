@@ -1,0 +1,133 @@
+//! Passive Ejects are activated.
+ghost use Rattle.std.specs.Prelude.{◌≡◌, ◌∷◌, [], ℕ, Bool};
+ghost use Rattle.std.specs.Prelude.{OnOk, Some};
+ghost use Rattle.epl_syntax.specs.Rules.OfTypes.{TypeList};
+ghost use Rattle.passive_store.specs.declared.store.Pick.{Pick};
+ghost use Rattle.std.specs.Prelude.{Option};
+ghost use Rattle.edentypes.specs.View.{kind_in};
+ghost use Rattle.journal.specs.declared.event.Event.TheVariants.{Activate};
+ghost use Rattle.journal.specs.declared.event.StartEnd.{StartEnd};
+ghost use Rattle.journal.specs.declared.event.StartEnd.TheVariants as end;
+ghost use Rattle.journal.specs.World.{Site};
+ghost use Rattle.journal.specs.Sites.{IsSoundSite};
+ghost use Rattle.journal.specs.Starts.{start_settled};
+ghost use Rattle.journal.specs.Step.{AllowsAt, site_turn};
+ghost use Rattle.checkpoint.specs.Starting.{StartsWith};
+ghost use Rattle.active_part.specs.View.{body_of};
+ghost use Rattle.ejects.specs.Activations.{JoinsAll, IsWoken, answer_of};
+ghost use Rattle.ejects.specs.Parts.{IsAt};
+ghost use Rattle.ejects.specs.View.{parts_of};
+
+use crate::replies::{reply, reply_all};
+use crate::{Ejects, take_waiting};
+use active_part::{Part, no_items};
+use capability::{CallNumbers, Uid};
+use eden_value::{Items, Status};
+use edentypes::{Fit, Kind, fit_call};
+use eject_table::Standing;
+use epl_syntax::Types;
+use invocation::Calls;
+use std::alloc::{AllocError, Global};
+
+// A call that was queued joins the active part, or is answered where it does not fit.
+fn join_or_answer(
+    alloc: Global,
+    types: &Types,
+    calls: &mut Calls,
+    part: &mut Part,
+    number: u32,
+) -> Result<(), AllocError>
+    ensures { OnOk result (JoinsAll (body_of types.now part.old) (body_of types.now part.new) (number ∷ []) calls.old calls.new) }
+{
+    let Some(asked) = calls.call(number) else {
+        return Err(AllocError);
+    };
+    match fit_call(
+        alloc,
+        types,
+        part.kind(),
+        asked.target,
+        &asked.operation,
+        &asked.args,
+    )? {
+        Fit::Fits { class } => part.offer(number, class)?,
+        Fit::Misfits { status } => reply(alloc, calls, number, status, no_items(alloc))?,
+    }
+    Ok(())
+}
+
+// Each of these calls, in order.
+fn join_all(
+    alloc: Global,
+    types: &Types,
+    calls: &mut Calls,
+    part: &mut Part,
+    numbers: &CallNumbers,
+) -> Result<(), AllocError>
+    ensures { OnOk result (JoinsAll (body_of types.now part.old) (body_of types.now part.new) numbers.now calls.old calls.new) }
+{
+    for number in &numbers.items {
+        join_or_answer(alloc, types, calls, part, *number)?;
+    }
+    Ok(())
+}
+
+impl Ejects {
+    // A passive Eject has this active part.
+    fn enter(&mut self, alloc: Global, uid: Uid, part: Part) -> Result<(), AllocError>
+        ensures { OnOk result ((ts : TypeList) → IsWoken uid (body_of ts part) (parts_of ts self.old) (parts_of ts self.new)) }
+    {
+        match self.table.find(uid) {
+            Standing::Passive => match self.table.wake(alloc, uid, part) {
+                Ok(()) => Ok(()),
+                Err(_) => Err(AllocError),
+            },
+            Standing::Active => Err(AllocError),
+            Standing::Absent => Err(AllocError),
+        }
+    }
+
+    /// A passive Eject starts with these values of its durable variables, behind the settling of its activation. The
+    /// calls of its queue that fit its type join the active part, and the others are answered, both in order.
+    ///
+    /// For want of memory the queue may have left the node.
+    pub fn wake(
+        &mut self,
+        alloc: Global,
+        types: &Types,
+        calls: &mut Calls,
+        uid: Uid,
+        kind: Kind,
+        durable: &Items,
+    ) -> Result<(), AllocError>
+        ensures { OnOk result ((reach : ℕ → Bool) (s : Site) (p : Option Pick) → IsSoundSite s
+            → AllowsAt s (Activate uid end.Ok p) → StartsWith s uid p (kind_in types.now kind, durable.now)
+            → IsAt (parts_of types.now self.old) calls.old (start_settled p s)
+            → IsAt (parts_of types.now self.new) calls.new (site_turn reach (Activate uid end.Ok p) s)) }
+    {
+        let vars = edentypes::start(alloc, types, kind, durable)?;
+        let mut part = Part::fresh(alloc, types, kind, vars)?;
+        let queued = take_waiting(alloc, &mut self.waiting, uid);
+        join_all(alloc, types, calls, &mut part, &queued)?;
+        self.enter(alloc, uid, part)?;
+        Ok(())
+    }
+
+    /// The queue of an Eject that does not start is answered, in order, behind the settling of its activation.
+    pub fn turn_away(
+        &mut self,
+        alloc: Global,
+        calls: &mut Calls,
+        uid: Uid,
+        status: Status,
+    ) -> Result<(), AllocError>
+        ensures { OnOk result ((ts : TypeList) (reach : ℕ → Bool) (s : Site) (how : StartEnd) (p : Option Pick) → IsSoundSite s
+            → AllowsAt s (Activate uid how p) → answer_of how ≡ Some status
+            → IsAt (parts_of ts self.old) calls.old (start_settled p s)
+            → IsAt (parts_of ts self.new) calls.new (site_turn reach (Activate uid how p) s)) }
+    {
+        let queued = take_waiting(alloc, &mut self.waiting, uid);
+        reply_all(alloc, calls, &queued, status)?;
+        Ok(())
+    }
+}

@@ -1,0 +1,59 @@
+//! Which turns of its own an Eject may take.
+ghost use Rattle.std.specs.Prelude.{◌≡◌, IfSome, None};
+ghost use Rattle.coordinator.specs.Ready.{AscendPast, next_ready};
+ghost use Rattle.eden_model.specs.Map.{with_item};
+ghost use Rattle.epl_syntax.specs.Rules.OfTypes.{TypeList};
+ghost use Rattle.ejects.specs.Marks.{may_wake, may_start, may_run};
+ghost use Rattle.ejects.specs.Parts.{body_at};
+ghost use Rattle.ejects.specs.View.{parts_of, number_of};
+
+use crate::Ejects;
+use capability::Uid;
+
+impl Ejects {
+    /// The number of the node.
+    pub fn number(&self) -> u8
+        ensures { result ≡ number_of self.now }
+    {
+        self.table.node()
+    }
+
+    /// Whether the Eject is passive and has a queued call.
+    pub fn may_wake(&self, uid: Uid) -> bool
+        ensures { (ts : TypeList) → result ≡ may_wake (parts_of ts self.now) uid }
+    {
+        match self.table.active(uid) {
+            Some(_) => false,
+            None => self.count_waiting(uid) > 0,
+        }
+    }
+
+    /// Whether the Eject is active and an invocation may start.
+    pub fn may_start(&self, uid: Uid) -> bool
+        ensures { (ts : TypeList) → result ≡ may_start (body_at (parts_of ts self.now) uid) }
+    {
+        match self.table.active(uid) {
+            Some(part) => part.startable().is_some(),
+            None => false,
+        }
+    }
+
+    /// The first process of the Eject past a number that waits for nothing.
+    pub fn next_ready(&self, uid: Uid, after: u8) -> Option<u8>
+        ensures next { (ts : TypeList) → result
+            ≡ with_item (body_at (parts_of ts self.now) uid) (λ b. next_ready after b.crew.crew.processes) None }
+        ensures ascend { (ts : TypeList) → IfSome (body_at (parts_of ts self.now) uid) (λ b. AscendPast 0 b.crew.crew.processes) }
+    {
+        match self.table.active(uid) {
+            Some(part) => part.next_ready(after),
+            None => None,
+        }
+    }
+
+    /// Whether the Eject is active and a process waits for nothing.
+    pub fn may_run(&self, uid: Uid) -> bool
+        ensures { (ts : TypeList) → result ≡ may_run (body_at (parts_of ts self.now) uid) }
+    {
+        self.next_ready(uid, 0).is_some()
+    }
+}

@@ -1,0 +1,310 @@
+//! Turns of processes.
+ghost use Rattle.std.specs.Prelude.{◌≡◌, IsSomeAnd, true, false, ◌<◌, ℕ, Bool};
+ghost use Rattle.std.specs.Prelude.{IfOk, OnOk, Some, None, length};
+ghost use Rattle.std.specs.Option.{option_map};
+ghost use Rattle.eden_model.specs.Crew.{Runs};
+ghost use Rattle.epl_syntax.specs.Meaning.{Turned};
+ghost use Rattle.journal.specs.Processes.{turn_of};
+ghost use Rattle.journal.specs.World.{Site};
+ghost use Rattle.journal.specs.Sites.{IsSoundSite};
+ghost use Rattle.epl_syntax.specs.Rules.OfTypes.{TypeList};
+ghost use Rattle.active_part.specs.Body.{Body, active_of};
+ghost use Rattle.ejects.specs.Parts.{body_at, IsAt, IsStep};
+ghost use Rattle.active_part.specs.View.{stepped};
+ghost use Rattle.ejects.specs.Replies.{Returned, Invoked, Reaches};
+ghost use Rattle.passive_store.specs.Kept.{Work, IsEject};
+ghost use Rattle.journal.specs.Step.{site_turn};
+ghost use Rattle.checkpoint.specs.Asked.{requests_of, AllOfNode};
+ghost use Rattle.ejects.specs.Asking.{RequestsAre};
+ghost use Rattle.ejects.specs.Creations.{HasNewUid};
+ghost use Rattle.ejects.specs.Events.{IsTurnOf};
+ghost use Rattle.ejects.specs.Passive.{IsKeptIn};
+ghost use Rattle.active_part.specs.Bodies.{turned_body, ended_body, asking_body, crewed_body, serves_of};
+ghost use Rattle.ejects.specs.View.{parts_of, with_body};
+
+use crate::Ejects;
+use crate::replies::send_results;
+use active_part::Step;
+use capability::{Cap, Uid};
+use checkpoint::Worker;
+use eden_value::{Items, Status, Txt};
+use epl_syntax::{Effect, Types};
+use invocation::{Asker, Calls};
+use journal::{Event, Shown};
+use locator::Places;
+use std::alloc::{AllocError, Global};
+
+impl Ejects {
+    // Whether a process of an Eject waits for nothing.
+    fn runs_at(&self, uid: Uid, process: u8) -> bool
+        ensures { (ts : TypeList) → result ≡ true → IsSomeAnd (body_at (parts_of ts self.now) uid) (λ b. Runs b.crew.crew process) }
+    {
+        match self.table.active(uid) {
+            Some(part) => part.runs(process),
+            None => false,
+        }
+    }
+
+    // A process takes its turn, up to its effect.
+    fn turn_at(
+        &mut self,
+        alloc: Global,
+        types: &Types,
+        uid: Uid,
+        process: u8,
+    ) -> Result<Effect, AllocError>
+        ensures { IfOk result (λ e. (b : Body) (t : Turned) → body_at (parts_of types.now self.old) uid ≡ Some b
+            → turn_of uid (active_of b) process ≡ Some t
+            → (e ≡ t.effect) × (parts_of types.now self.new ≡ with_body uid (turned_body process t b) (parts_of types.now self.old))) }
+    {
+        match self.table.active_mut(uid) {
+            Some(part) => {
+                let effect = part.turn(alloc, types, process, uid)?;
+                Ok(effect)
+            }
+            None => Err(AllocError),
+        }
+    }
+
+    // A process ends; the call that it served.
+    pub(crate) fn end_at(&mut self, uid: Uid, process: u8) -> Result<Option<u32>, AllocError>
+        ensures { IfOk result (λ call. (ts : TypeList) (b : Body) → body_at (parts_of ts self.old) uid ≡ Some b
+            → (call ≡ option_map (λ i. i.call) (serves_of b process))
+            × (parts_of ts self.new ≡ with_body uid (ended_body process b) (parts_of ts self.old))) }
+    {
+        match self.table.active_mut(uid) {
+            Some(part) => {
+                let call = part.end(process)?;
+                Ok(call)
+            }
+            None => Err(AllocError),
+        }
+    }
+
+    // A process returns: it ends, and the call that it served is answered.
+    fn returns(
+        &mut self,
+        alloc: Global,
+        calls: &mut Calls,
+        uid: Uid,
+        process: u8,
+        results: Items,
+    ) -> Result<Shown, AllocError>
+        ensures { IfOk result (λ said. (ts : TypeList) (b : Body) → body_at (parts_of ts self.old) uid ≡ Some b
+            → Returned uid process results b (parts_of ts self.old) (parts_of ts self.new) calls.old calls.new said) }
+    {
+        match self.end_at(uid, process)? {
+            Some(call) => {
+                send_results(alloc, calls, call, results)?;
+                Ok(Shown::Return { call })
+            }
+            None => Ok(Shown::End),
+        }
+    }
+
+    // A process does something at its monitors.
+    pub(crate) fn coordinate_at(
+        &mut self,
+        uid: Uid,
+        process: u8,
+        step: Step,
+    ) -> Result<(), AllocError>
+        ensures { OnOk result ((ts : TypeList) (b : Body) → body_at (parts_of ts self.old) uid ≡ Some b
+            → parts_of ts self.new ≡ with_body uid (crewed_body (stepped step process) b) (parts_of ts self.old)) }
+    {
+        match self.table.active_mut(uid) {
+            Some(part) => {
+                part.coordinate(process, step)?;
+                Ok(())
+            }
+            None => Err(AllocError),
+        }
+    }
+
+    // A process waits for the call that it made, or is told at once.
+    fn ask_at(
+        &mut self,
+        alloc: Global,
+        uid: Uid,
+        process: u8,
+        at_once: Option<Status>,
+    ) -> Result<(), AllocError>
+        ensures { OnOk result ((ts : TypeList) (b : Body) → body_at (parts_of ts self.old) uid ≡ Some b
+            → parts_of ts self.new ≡ with_body uid (asking_body process at_once b) (parts_of ts self.old)) }
+    {
+        match self.table.active_mut(uid) {
+            Some(part) => {
+                part.ask(alloc, process, at_once)?;
+                Ok(())
+            }
+            None => Err(AllocError),
+        }
+    }
+
+    // A process asks an operation of an Eject.
+    fn invokes(
+        &mut self,
+        alloc: Global,
+        calls: &mut Calls,
+        places: &Places,
+        uid: Uid,
+        process: u8,
+        target: Cap,
+        operation: Txt,
+        args: Items,
+    ) -> Result<Shown, AllocError>
+        requires { length calls.old.calls < 4294967295 }
+        ensures { IfOk result (λ said. (ts : TypeList) (b : Body) → body_at (parts_of ts self.old) uid ≡ Some b
+            → Invoked places.now uid process target operation args b (parts_of ts self.old) (parts_of ts self.new)
+            calls.old calls.new said) }
+    {
+        if uid.node > 8 {
+            return Err(AllocError);
+        }
+        let asker = Asker::Eject { uid, process };
+        let asked = calls.ask(alloc, asker, target, operation, args, places)?;
+        self.ask_at(alloc, uid, process, asked.at_once)?;
+        Ok(Shown::Invoke { call: asked.call })
+    }
+
+    /// A process that is not blocked takes its turn. `stays` says whether something is kept of its Eject, or may be.
+    ///
+    /// The requests of `worker` go on to be those of the node.
+    pub fn process(
+        &mut self,
+        alloc: Global,
+        types: &Types,
+        calls: &mut Calls,
+        places: &Places,
+        worker: &mut Worker,
+        uid: Uid,
+        process: u8,
+        stays: bool,
+    ) -> Result<Event, AllocError>
+        requires { length calls.old.calls < 4294967295 }
+        ensures event { IfOk result (IsTurnOf uid process) }
+        ensures parts { IfOk result (λ e. (reach : ℕ → Bool) (s : Site) → IsSoundSite s → IsAt (parts_of types.now self.old) calls.old s
+            → IsKeptIn s uid stays → Reaches reach places.now uid.node → HasNewUid s
+            → IsStep reach (parts_of types.now self.new) calls.new s e) }
+        ensures requests { IfOk result (λ e. (reach : ℕ → Bool) (s : Site) (work : Work) (size : ℕ) → IsSoundSite s
+            → IsAt (parts_of types.now self.old) calls.old s → IsKeptIn s uid stays → RequestsAre work size worker.old s
+            → (site_turn reach e s).node.requests ≡ requests_of work worker.new.requests.items) }
+        ensures begun { worker.new.begun ≡ worker.old.begun }
+        ensures of_node { (k : ℕ) → IsEject k uid → AllOfNode k worker.old.requests.items → AllOfNode k worker.new.requests.items }
+    {
+        if !self.runs_at(uid, process) {
+            return Err(AllocError);
+        }
+        match self.turn_at(alloc, types, uid, process)? {
+            Effect::Return { results } => {
+                let shown = self.returns(alloc, calls, uid, process, results)?;
+                Ok(Event::Process {
+                    uid,
+                    process,
+                    shown,
+                })
+            }
+            Effect::Invoke {
+                target,
+                operation,
+                args,
+            } => {
+                let shown = self.invokes(
+                    alloc, calls, places, uid, process, target, operation, args,
+                )?;
+                Ok(Event::Process {
+                    uid,
+                    process,
+                    shown,
+                })
+            }
+            Effect::Fault { cause } => {
+                self.faults(alloc, calls, uid, stays)?;
+                worker.drop_requests(uid);
+                Ok(Event::Process {
+                    uid,
+                    process,
+                    shown: Shown::Fault { cause },
+                })
+            }
+            Effect::Deactivate => {
+                self.sleeps(alloc, calls, uid, stays)?;
+                worker.drop_requests(uid);
+                Ok(Event::Process {
+                    uid,
+                    process,
+                    shown: Shown::Deactivate,
+                })
+            }
+            Effect::End => {
+                let _served = self.end_at(uid, process)?;
+                Ok(Event::Process {
+                    uid,
+                    process,
+                    shown: Shown::End,
+                })
+            }
+            Effect::Lock { monitor } => {
+                self.coordinate_at(uid, process, Step::Lock { monitor })?;
+                Ok(Event::Process {
+                    uid,
+                    process,
+                    shown: Shown::Lock,
+                })
+            }
+            Effect::Leave { monitor } => {
+                self.coordinate_at(uid, process, Step::Leave { monitor })?;
+                Ok(Event::Process {
+                    uid,
+                    process,
+                    shown: Shown::Leave,
+                })
+            }
+            Effect::Wait { condition } => {
+                self.coordinate_at(uid, process, Step::Wait { condition })?;
+                Ok(Event::Process {
+                    uid,
+                    process,
+                    shown: Shown::Wait,
+                })
+            }
+            Effect::Signal { condition } => {
+                self.coordinate_at(uid, process, Step::Signal { condition })?;
+                Ok(Event::Process {
+                    uid,
+                    process,
+                    shown: Shown::Signal,
+                })
+            }
+            Effect::Yield => Ok(Event::Process {
+                uid,
+                process,
+                shown: Shown::Yield,
+            }),
+            Effect::Checkpoint => {
+                self.checkpoints(alloc, types, worker, uid, process)?;
+                Ok(Event::Process {
+                    uid,
+                    process,
+                    shown: Shown::Checkpoint,
+                })
+            }
+            Effect::Destroy => {
+                self.destroys(worker, uid, process)?;
+                Ok(Event::Process {
+                    uid,
+                    process,
+                    shown: Shown::Destroy,
+                })
+            }
+            Effect::Create { type_name } => {
+                let shown = self.creates(alloc, types, uid, process, &type_name)?;
+                Ok(Event::Process {
+                    uid,
+                    process,
+                    shown,
+                })
+            }
+        }
+    }
+}

@@ -1,0 +1,77 @@
+//! Invocations start.
+ghost use Rattle.std.specs.Prelude.{◌≡◌, IfSome, ◌<◌, ℕ, Bool};
+ghost use Rattle.std.specs.Prelude.{IfOk, Some, None};
+ghost use Rattle.epl_syntax.specs.Rules.OfTypes.{TypeList};
+ghost use Rattle.active_part.specs.Body.{Body};
+ghost use Rattle.ejects.specs.Events.{IsStartOf};
+ghost use Rattle.ejects.specs.Parts.{body_at, Steps};
+ghost use Rattle.active_part.specs.View.{IsStarted};
+ghost use Rattle.ejects.specs.Replies.{StartsAt};
+ghost use Rattle.ejects.specs.View.{parts_of, with_body};
+
+use crate::Ejects;
+use capability::Uid;
+use coordinator::Started;
+use epl_syntax::Types;
+use invocation::{Call, Calls};
+use journal::Event;
+use std::alloc::{AllocError, Global};
+
+impl Ejects {
+    // The call that may start at an Eject.
+    fn startable_at(&self, uid: Uid) -> Option<u32>
+        ensures { IfSome result (λ call. (ts : TypeList) → StartsAt (body_at (parts_of ts self.now) uid) call) }
+    {
+        match self.table.active(uid) {
+            Some(part) => part.startable(),
+            None => None,
+        }
+    }
+
+    // The invocation that may start begins; the process that serves it.
+    fn begin_at(
+        &mut self,
+        alloc: Global,
+        types: &Types,
+        uid: Uid,
+        asked: &Call,
+    ) -> Result<Started, AllocError>
+        ensures { IfOk result (λ st. (b : Body) → body_at (parts_of types.now self.old) uid ≡ Some b
+            → (now : Body) × IsStarted b now asked.now st
+            × (parts_of types.now self.new ≡ with_body uid now (parts_of types.now self.old))) }
+    {
+        match self.table.active_mut(uid) {
+            Some(part) => {
+                let started = part.start(alloc, types, asked)?;
+                Ok(started)
+            }
+            None => Err(AllocError),
+        }
+    }
+
+    /// An invocation that may start at an Eject starts.
+    pub fn start(
+        &mut self,
+        alloc: Global,
+        types: &Types,
+        calls: &Calls,
+        uid: Uid,
+    ) -> Result<Event, AllocError>
+        ensures event { IfOk result (IsStartOf uid) }
+        ensures steps { IfOk result (λ e. (reach : ℕ → Bool)
+            → Steps reach (parts_of types.now self.old) calls.now (parts_of types.now self.new) calls.now e) }
+    {
+        let Some(call) = self.startable_at(uid) else {
+            return Err(AllocError);
+        };
+        let Some(asked) = calls.call(call) else {
+            return Err(AllocError);
+        };
+        let started = self.begin_at(alloc, types, uid, asked)?;
+        Ok(Event::Start {
+            call,
+            uid,
+            process: started.process,
+        })
+    }
+}

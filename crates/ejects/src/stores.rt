@@ -1,0 +1,172 @@
+//! What turns of the store change: processes are told how their requests ended, and Ejects of which nothing is kept go.
+ghost use Rattle.std.specs.Prelude.{◌≡◌, ◌<◌, ℕ, Bool, IsSomeAnd};
+ghost use Rattle.std.specs.Prelude.{OnOk, Option, Some, None, is_some};
+ghost use Rattle.passive_store.specs.declared.store.Pick.{Pick};
+ghost use Rattle.epl_syntax.specs.Rules.OfTypes.{TypeList};
+ghost use Rattle.epl_syntax.specs.declared.effect.Answer.TheVariants.{Code};
+ghost use Rattle.invocation.specs.Mail.{Mail};
+ghost use Rattle.journal.specs.World.{Site};
+ghost use Rattle.journal.specs.declared.event.Event.TheVariants as event;
+ghost use Rattle.journal.specs.declared.event.RequestEnd.{RequestEnd};
+ghost use Rattle.journal.specs.declared.event.RequestEnd.TheVariants as how_ended;
+ghost use Rattle.journal.specs.Settling.{settled};
+ghost use Rattle.journal.specs.Sites.{IsSoundSite};
+ghost use Rattle.journal.specs.Step.{AllowsAt, site_turn};
+ghost use Rattle.active_part.specs.Bodies.{told_body};
+ghost use Rattle.ejects.specs.Parts.{body_at, Stands, IsAt};
+ghost use Rattle.ejects.specs.StoreEnds.{code_of_end, IsShownAs, takes_eject, IsFirstOf, IsFirst, Told, Went, SettlesAt};
+ghost use Rattle.ejects.specs.View.{parts_of, with_body};
+
+use crate::replies::reply_all;
+use crate::{Ejects, take_waiting};
+use capability::Uid;
+use checkpoint::StoreEnd;
+use eden_value::Status;
+use eject_table::Standing;
+use epl_syntax::Answer;
+use invocation::Calls;
+use std::alloc::{AllocError, Global};
+
+// What a process is told of a request that ended so. None where its node stopped.
+fn code_of(end: StoreEnd) -> Option<Status>
+    ensures { result ≡ code_of_end end }
+{
+    match end {
+        StoreEnd::Done => Some(Status::Ok),
+        StoreEnd::Full => Some(Status::Full),
+        StoreEnd::Fault => Some(Status::StoreFault),
+        StoreEnd::Stopped => None,
+    }
+}
+
+// Whether the end takes the Eject with it.
+fn takes_away(removal: bool, end: StoreEnd) -> bool
+    ensures { result ≡ takes_eject removal end }
+{
+    match end {
+        StoreEnd::Done => removal,
+        StoreEnd::Full => false,
+        StoreEnd::Fault => false,
+        StoreEnd::Stopped => false,
+    }
+}
+
+impl Ejects {
+    // Whether the Eject is active or passive.
+    fn is_there(&self, uid: Uid) -> bool
+        ensures { (ts : TypeList) → result ≡ is_some ((parts_of ts self.now).standing uid) }
+    {
+        match self.table.find(uid) {
+            Standing::Active => true,
+            Standing::Passive => true,
+            Standing::Absent => false,
+        }
+    }
+
+    // A process is told how its request ended.
+    fn tell_code(&mut self, uid: Uid, process: u8, status: Status) -> Result<(), AllocError>
+        ensures { OnOk result ((ts : TypeList) → IsSomeAnd (body_at (parts_of ts self.old) uid)
+            (λ b. parts_of ts self.new ≡ with_body uid (told_body process (Code status) b) (parts_of ts self.old))) }
+    {
+        match self.table.active_mut(uid) {
+            Some(part) => {
+                part.tell(process, Answer::Code { status })?;
+                Ok(())
+            }
+            None => Err(AllocError),
+        }
+    }
+
+    // The process that waits for a request, if there is one still, is told how it ended.
+    fn tell_end(&mut self, uid: Uid, process: Option<u8>, status: Status) -> Result<(), AllocError>
+        ensures { OnOk result ((ts : TypeList) → Told uid process status (parts_of ts self.old) (parts_of ts self.new)) }
+    {
+        match process {
+            Some(process) => {
+                self.tell_code(uid, process, status)?;
+                Ok(())
+            }
+            None => Ok(()),
+        }
+    }
+
+    // Nothing is kept of an Eject any more: it goes, what ran there is answered, and then what was queued.
+    fn removes(&mut self, alloc: Global, calls: &mut Calls, uid: Uid) -> Result<(), AllocError>
+        ensures { OnOk result ((ts : TypeList) → Went uid (parts_of ts self.old) (parts_of ts self.new) calls.old calls.new) }
+    {
+        match self.table.find(uid) {
+            Standing::Active => {
+                self.sleeps(alloc, calls, uid, false)?;
+                Ok(())
+            }
+            Standing::Passive => {
+                self.table.forget(uid);
+                let queued = take_waiting(alloc, &mut self.waiting, uid);
+                reply_all(alloc, calls, &queued, Status::Gone)?;
+                Ok(())
+            }
+            Standing::Absent => Err(AllocError),
+        }
+    }
+
+    /// The first request of the store, which is of this Eject, ended so, and its node goes on: the process that waits for it,
+    /// if there is one still, is told; a removal that is done takes the Eject with its calls.
+    pub fn store_ends(
+        &mut self,
+        alloc: Global,
+        calls: &mut Calls,
+        uid: Uid,
+        process: Option<u8>,
+        removal: bool,
+        end: StoreEnd,
+    ) -> Result<(), AllocError>
+        ensures { OnOk result ((ts : TypeList) (reach : ℕ → Bool) (clock : ℕ) (how : RequestEnd) (p : Option Pick) (s : Site)
+            → IsSoundSite s → IsAt (parts_of ts self.old) calls.old s → IsFirst uid process removal s → IsShownAs end how
+            → AllowsAt s (event.Store uid clock how p)
+            → IsAt (parts_of ts self.new) calls.new (site_turn reach (event.Store uid clock how p) s)) }
+    {
+        if !self.is_there(uid) {
+            return Err(AllocError);
+        }
+        let Some(status) = code_of(end) else {
+            return Ok(());
+        };
+        self.tell_end(uid, process, status)?;
+        if takes_away(removal, end) {
+            self.removes(alloc, calls, uid)?;
+        }
+        Ok(())
+    }
+
+    /// The first request of the store, which is of this Eject, goes on without a pick: nothing changes here.
+    pub fn store_goes(&self, uid: Uid) -> Result<(), AllocError>
+        ensures { OnOk result ((ts : TypeList) (m : Mail) (reach : ℕ → Bool) (clock : ℕ) (s : Site)
+            → IsAt (parts_of ts self.now) m s → IsFirstOf uid s → AllowsAt s (event.Store uid clock how_ended.Part None)
+            → IsAt (parts_of ts self.now) m (site_turn reach (event.Store uid clock how_ended.Part None) s)) }
+    {
+        if !self.is_there(uid) {
+            return Err(AllocError);
+        }
+        Ok(())
+    }
+
+    /// A settling has found which state holds: of this Eject, which was in doubt, something is kept from now on, or nothing.
+    ///
+    /// An Eject that is not active goes with the last that was kept of it. Its queue stays until its activation finds nothing.
+    pub fn settles(&mut self, uid: Uid, stays: bool)
+        ensures stands { (ts : TypeList) (p : Pick) (s : Site) → Stands (parts_of ts self.old) s → SettlesAt uid stays p s
+            → Stands (parts_of ts self.new) (settled (Some p) s) }
+        ensures turn { (ts : TypeList) (m : Mail) (reach : ℕ → Bool) (clock : ℕ) (first : Uid) (p : Pick) (s : Site)
+            → IsAt (parts_of ts self.old) m s → SettlesAt uid stays p s → AllowsAt s (event.Store first clock how_ended.Part (Some p))
+            → IsAt (parts_of ts self.new) m (site_turn reach (event.Store first clock how_ended.Part (Some p)) s) }
+    {
+        if stays {
+            return;
+        }
+        match self.table.find(uid) {
+            Standing::Active => {}
+            Standing::Passive => self.table.forget(uid),
+            Standing::Absent => {}
+        }
+    }
+}
