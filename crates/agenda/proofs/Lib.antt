@@ -1,0 +1,9 @@
+pub mod Past
+pub mod Ranges
+pub mod RunPast
+pub mod Listing
+pub mod Listed
+pub mod Comes
+pub mod Runs
+pub mod Noted
+pub mod Nexts
