@@ -1,0 +1,23 @@
+//! A node: its Ejects, its store with the requests that wait for it, and the turns that it takes.
+#![tactic(auto)]
+
+mod deliveries;
+mod down;
+mod processes;
+mod starts;
+#[cfg(test)]
+mod tests;
+mod up;
+
+use checkpoint::Worker;
+use ejects::Ejects;
+use passive_store::Store;
+
+/// A node that is up.
+#[derive(Drop)]
+pub struct Node<St: Store> {
+    number: u8,
+    ejects: Ejects,
+    worker: Worker,
+    store: St,
+}
