@@ -25,3 +25,5 @@ pub mod WholeBoots
 pub mod BarredBoots
 pub mod FirstSites
 pub mod WorldTurns
+pub mod Touching
+pub mod Placing

@@ -14,11 +14,12 @@ use Rattle.checkpoint.specs.declared.worker.StepEnd.TheVariants.{Going, Ended}
 use Rattle.checkpoint.specs.StoreCalls.{end_of_refusal}
 use Rattle.checkpoint.specs.Asked.{EndsFirst, OneCall, call_end, end_of_step}
 
-ended-call : (old new : List Request) (how : StoreEnd) (result : StepEnd) → EndsFirst old new how result → end_of_step result ≡ call_end how
+pub ended-call : (old new : List Request) (how : StoreEnd) (result : StepEnd) → EndsFirst old new how result
+    → end_of_step result ≡ call_end how
 ended-call old new how (Going p) ends = absurd ends
 ended-call old new how (Ended q e) ends = ap call_end ends.1
 
-refused-end : (e : StoreRefusal) → IsDiskRefusal e → call_end (end_of_refusal e) ≡ end_of_store {T = Progress} (Err e)
+pub refused-end : (e : StoreRefusal) → IsDiskRefusal e → call_end (end_of_refusal e) ≡ end_of_store {T = Progress} (Err e)
 refused-end refusal.Failed only = refl
 refused-end refusal.Stopped only = refl
 refused-end refusal.Full only = absurd (elim only [ inl bad ↦ cc bad | inr bad ↦ cc bad ])

@@ -13,3 +13,4 @@ pub mod Booting
 pub mod Boots
 pub mod HandedIn
 pub mod BarredBoots
+pub mod Touches

@@ -1,6 +1,6 @@
 //! A node goes down, and its disk is armed.
 ghost use Rattle.std.specs.Prelude.{◌≡◌, ◌≤◌, [], List, Bool, IsTrue};
-ghost use Rattle.eden_disk.specs.Calls.{calls_until};
+ghost use Rattle.eden_disk.specs.Calls.{armed, calls_until};
 ghost use Rattle.passive_store.specs.Kept.{doubt_in};
 ghost use Rattle.passive_store.specs.Seen.{DiskSeen, disk_seen};
 ghost use Rattle.journal.specs.World.{Site, StoreRequest};
@@ -28,6 +28,9 @@ pub fn noted<St: Store>(store: &St) -> Option<Doubt>
 /// The node crashes: its disk loses its power, and what was in doubt is noted.
 pub fn crash<St: Store>(store: St, mode: ImageMode) -> (St::Device, Option<Doubt>)
     ensures counts { St.Device.counts result.0 ≡ record (St.seen store).disk.counts { power = Bool.false } }
+
+    // What falls due is not forgotten.
+    ensures due { St.Device.due result.0 ≡ (St.seen store).disk.due }
     ensures rests { IsTrue St.Device.tells → (s : Site) (requests : List StoreRequest)
         → StandsNow St.layout (St.seen store).node s requests (St.seen store)
         → RestStands St.layout (St.seen store).node (St.seen store).more (with_clock (St.Device.counts result.0).clock (crashed s)) result.1
@@ -50,6 +53,10 @@ pub fn arm<St: Store>(store: &mut St, what: Arm)
     ensures more { (St.seen store.new).more ≡ (St.seen store.old).more }
     ensures work { (St.seen store.new).work ≡ (St.seen store.old).work }
     ensures counts { (St.seen store.new).disk.counts ≡ (St.seen store.old).disk.counts }
+
+    // It falls due so many calls later.
+    ensures due { IsTrue St.Device.obeys
+        → (St.seen store.new).disk.due ≡ armed what (St.seen store.old).disk.counts.clock (St.seen store.old).disk.due }
     ensures stands { IsTrue St.Device.tells → (s : Site) (requests : List StoreRequest)
         → StandsNow St.layout (St.seen store.old).node s requests (St.seen store.old)
         → StandsNow St.layout (St.seen store.new).node s requests (St.seen store.new) }

@@ -10,7 +10,7 @@ mod up;
 mod worker;
 
 pub use down::{arm, crash, noted};
-pub use law::runs_stand;
+pub use law::{log_reads_by_calls, runs_stand};
 pub use start::{Start, Starter, start_from};
 pub use up::{BootFall, BootNote, boot};
 pub use worker::{Request, StepEnd, StoreEnd, Wish, Worker};

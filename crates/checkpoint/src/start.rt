@@ -1,19 +1,21 @@
 //! An activation: what is kept of an Eject is read, and an Eject starts from it.
-ghost use Rattle.std.specs.Prelude.{◌≡◌, ◌≢◌, ◌⊎◌, List, Bool, Option, IsTrue, IfOk, IfErr, IfSome, OnOk};
+ghost use Rattle.std.specs.Prelude.{◌≡◌, ◌≢◌, ◌⊎◌, List, Bool, Option, IsTrue, IfOk, IfErr, IfSome, OnOk, is_some, Err};
 ghost use Rattle.std.specs.Option.{option_map};
 ghost use Rattle.eden_value.specs.Datum.{Datum};
 ghost use Rattle.eden_codec.specs.Form.{IsRep};
 ghost use Rattle.epl_syntax.specs.Edentype.{Edentype};
 ghost use Rattle.epl_syntax.specs.Meaning.{started_from};
 ghost use Rattle.passive_store.specs.declared.store.StoreRefusal.TheVariants.{OutOfMemory};
-ghost use Rattle.passive_store.specs.Kept.{is_unsettled, is_busy, worked_on, end_of_store, IsDiskRefusal};
+ghost use Rattle.passive_store.specs.Kept.{is_unsettled, is_busy, worked_on, end_of_store, IsDiskRefusal, body_at};
 ghost use Rattle.passive_store.specs.Layout.{IsLayout};
 ghost use Rattle.journal.specs.World.{Site, StoreRequest};
 ghost use Rattle.journal.specs.Settling.{epoch_uid};
 ghost use Rattle.journal.specs.Starts.{start_of};
 ghost use Rattle.checkpoint.specs.Asked.{StandsNow};
 ghost use Rattle.checkpoint.specs.Calls.{MakesCalls};
+ghost use Rattle.checkpoint.specs.Touches.{Touches, ReadsByCalls, calls_to_start, StartTouches, ObeyedIn, RaisesClock};
 ghost use Rattle.checkpoint.specs.Starting.{SettlesTo, ReadsTo, FindsTo, IsShort, FindsShort, call_of_finding, StartsTo, StartsNot};
+ghost use Rattle.checkpoint.specs.Starting.{call_of_find, call_of_start};
 ghost use Rattle.checkpoint.specs.Starting.{end_of_start, values_of, call_of_starting};
 
 use capability::{Body, Uid};
@@ -29,14 +31,14 @@ pub trait Starter {
     /// The types, in order.
     ghost types: { Self → List Edentype };
 
-    /// What is seen of an Eject that starts.
-    ghost started: { Self.Started → Edentype × List Datum };
+    /// What is seen of an Eject that starts, by these types.
+    ghost started: { Self → Self.Started → Edentype × List Datum };
 
     /// The type and the durable values with which an Eject starts from a representation, or None where it fits none of
     /// the types.
     fn start(&self, alloc: Global, rep: Rep, me: Uid) -> Result<Option<Self::Started>, AllocError>
         requires { IsRep rep }
-        ensures { IfOk result (λ found. option_map started found ≡ started_from (types self.now) rep me) };
+        ensures { IfOk result (λ found. option_map (started self.now) found ≡ started_from (types self.now) rep me) };
 }
 
 /// How an activation ended.
@@ -73,6 +75,12 @@ fn settle_first<St: Store>(store: &mut St) -> Result<Option<Pick>, StoreRefusal>
     ensures busy { is_busy (St.seen store.new).work ≡ is_busy (St.seen store.old).work }
     ensures other { worked_on (St.seen store.new).work ≡ worked_on (St.seen store.old).work }
     ensures calls { MakesCalls (St.seen store.old).disk.counts (St.seen store.new).disk.counts (end_of_store result) }
+    ensures touches { Touches (is_unsettled (St.seen store.old).work) (St.seen store.old).disk.counts (St.seen store.new).disk.counts
+        (end_of_store result) }
+    ensures obeyed { ObeyedIn St.Device.obeys (St.seen store.old).disk (St.seen store.new).disk (end_of_store result) }
+    ensures raises { RaisesClock (end_of_store result) (St.seen store.old).disk.counts.clock (St.seen store.new).disk.counts.clock }
+    ensures still { IsTrue St.Device.tells → is_unsettled (St.seen store.old).work ≡ Bool.false
+        → (St.seen store.new).kept ≡ (St.seen store.old).kept }
     ensures settles { IsTrue St.Device.tells → (s : Site) (requests : List StoreRequest)
         → StandsNow St.layout (St.seen store.old).node s requests (St.seen store.old)
         → SettlesTo St.layout (St.seen store.old).node s requests (St.seen store.old) result (St.seen store.new) }
@@ -97,6 +105,11 @@ fn read_kept<St: Store>(
     ensures only { IfErr result (λ e. IsDiskRefusal e ⊎ (e ≡ OutOfMemory)) }
     ensures work { (St.seen store.new).work ≡ (St.seen store.old).work }
     ensures calls { MakesCalls (St.seen store.old).disk.counts (St.seen store.new).disk.counts (end_of_store result) }
+    ensures touches { IsTrue St.Device.tells → ReadsByCalls St.layout → result ≢ Err OutOfMemory
+        → Touches (is_some (body_at (St.seen store.old).kept uid)) (St.seen store.old).disk.counts (St.seen store.new).disk.counts
+        (end_of_store result) }
+    ensures obeyed { ObeyedIn St.Device.obeys (St.seen store.old).disk (St.seen store.new).disk (end_of_store result) }
+    ensures raises { RaisesClock (end_of_store result) (St.seen store.old).disk.counts.clock (St.seen store.new).disk.counts.clock }
     ensures short { IsTrue St.Device.tells → IsLayout St.layout → IfOk result (λ found. (t : Site) (requests : List StoreRequest)
         → StandsNow St.layout (St.seen store.old).node t requests (St.seen store.old) → IfSome found IsShort) }
     ensures reads { IsTrue St.Device.tells → uid ≢ epoch_uid (St.seen store.old).node → (t : Site) (requests : List StoreRequest)
@@ -125,6 +138,11 @@ fn find_kept<St: Store>(
     ensures busy { is_busy (St.seen store.new).work ≡ is_busy (St.seen store.old).work }
     ensures worked { worked_on (St.seen store.new).work ≡ worked_on (St.seen store.old).work }
     ensures calls { MakesCalls (St.seen store.old).disk.counts (St.seen store.new).disk.counts (call_of_finding result) }
+    ensures touches { IsTrue St.Device.tells → ReadsByCalls St.layout → IfOk result (λ r.
+        Touches (calls_to_start (St.seen store.old).work (St.seen store.old).kept uid)
+        (St.seen store.old).disk.counts (St.seen store.new).disk.counts (call_of_find r.0)) }
+    ensures obeyed { ObeyedIn St.Device.obeys (St.seen store.old).disk (St.seen store.new).disk (call_of_finding result) }
+    ensures raises { RaisesClock (call_of_finding result) (St.seen store.old).disk.counts.clock (St.seen store.new).disk.counts.clock }
     ensures short { IsTrue St.Device.tells → IsLayout St.layout → IfOk result (λ r. (s : Site) (requests : List StoreRequest)
         → StandsNow St.layout (St.seen store.old).node s requests (St.seen store.old) → FindsShort r.0) }
     ensures finds { IsTrue St.Device.tells → uid ≢ epoch_uid (St.seen store.old).node
@@ -158,7 +176,7 @@ fn start_kept<T: Starter>(
     body: Body,
     me: Uid,
 ) -> Result<Option<T::Started>, AllocError>
-    ensures { IsShort body → IfOk result (λ found. option_map T.started found ≡ start_of (T.types types.now) body me) }
+    ensures { IsShort body → IfOk result (λ found. option_map (T.started types.now) found ≡ start_of (T.types types.now) body me) }
 {
     match decode_rep(alloc, body.as_slice()) {
         Ok(rep) => types.start(alloc, rep, me),
@@ -189,11 +207,19 @@ pub fn start_from<St: Store, T: Starter>(
     ensures busy { is_busy (St.seen store.new).work ≡ is_busy (St.seen store.old).work }
     ensures worked { worked_on (St.seen store.new).work ≡ worked_on (St.seen store.old).work }
     ensures calls { MakesCalls (St.seen store.old).disk.counts (St.seen store.new).disk.counts (call_of_starting result) }
+
+    // It makes device calls exactly where that activation does.
+    ensures touches { IsTrue St.Device.tells → ReadsByCalls St.layout → uid ≢ epoch_uid (St.seen store.old).node
+        → IfOk result (λ r. StartTouches St.layout uid (St.seen store.old) (St.seen store.new) (call_of_start (end_of_start r.0))) }
+
+    // Where the disk obeys, what it was refused was due.
+    ensures obeyed { ObeyedIn St.Device.obeys (St.seen store.old).disk (St.seen store.new).disk (call_of_starting result) }
+    ensures raises { RaisesClock (call_of_starting result) (St.seen store.old).disk.counts.clock (St.seen store.new).disk.counts.clock }
     ensures starts { IsTrue St.Device.tells → IsLayout St.layout → uid ≢ epoch_uid (St.seen store.old).node
         → IfOk result (λ r. (s : Site) (requests : List StoreRequest) → s.types ≡ T.types types.now
         → StandsNow St.layout (St.seen store.old).node s requests (St.seen store.old)
-        → StartsTo St.layout (St.seen store.old).node s requests uid (St.seen store.old) (end_of_start r.0) (values_of T.started r.0) r.1
-        (St.seen store.new)) }
+        → StartsTo St.layout (St.seen store.old).node s requests uid (St.seen store.old) (end_of_start r.0)
+        (values_of (T.started types.now) r.0) r.1 (St.seen store.new)) }
     ensures none { IsTrue St.Device.tells → uid ≢ epoch_uid (St.seen store.old).node
         → IfErr result (λ r. (s : Site) (requests : List StoreRequest)
         → StandsNow St.layout (St.seen store.old).node s requests (St.seen store.old)

@@ -77,7 +77,7 @@ impl Starter for Cells {
 
     ghost types = { λ _. native Cell ∷ [] };
 
-    ghost started = { λ durable. (native Cell, durable) };
+    ghost started = { λ _ durable. (native Cell, durable) };
 
     fn start(&self, alloc: Global, rep: Rep, _me: Uid) -> Result<Option<Items>, AllocError> {
         let Rep {

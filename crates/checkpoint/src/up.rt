@@ -15,6 +15,7 @@ ghost use Rattle.journal.specs.World.{Site};
 ghost use Rattle.checkpoint.specs.Turns.{RestStands};
 ghost use Rattle.checkpoint.specs.Asked.{noted_in};
 ghost use Rattle.checkpoint.specs.Calls.{MakesCalls, powered, call_of_refusal, call_of_fall};
+ghost use Rattle.checkpoint.specs.Touches.{ObeyedIn, RaisesClock};
 ghost use Rattle.checkpoint.specs.Booting.{PicksBy, OpensTo, RefusedTo, PutsTo};
 ghost use Rattle.checkpoint.specs.Boots.{end_of_boot, BootsUp, FallsTo, IsDownSite};
 ghost use Rattle.checkpoint.specs.BarredBoots.{Bar, BarStands, nothing_begun, FallsBarred};
@@ -75,6 +76,11 @@ fn open_store<St: Store>(
     ensures power { IfOk result (λ p. IsTrue (St.seen p.0).disk.counts.power) }
     ensures calls { MatchResult result (λ p. MakesCalls (St.Device.counts disk) (St.seen p.0).disk.counts Fine)
         (λ r. MakesCalls (St.Device.counts disk) (St.Device.counts r.0) (call_of_refusal r.1)) }
+    ensures obeyed { let of = disk_seen St.Device.counts St.Device.told St.Device.due in
+        MatchResult result (λ p. ObeyedIn St.Device.obeys (of disk) (St.seen p.0).disk Fine)
+        (λ r. ObeyedIn St.Device.obeys (of disk) (of r.0) (call_of_refusal r.1)) }
+    ensures raises { IsTrue St.Device.tells → IfErr result (λ r.
+        RaisesClock (call_of_refusal r.1) (St.Device.counts disk).clock (St.Device.counts r.0).clock) }
     ensures opened { IsTrue St.Device.tells → IfOk result (λ p. (s : Site)
         → IsLayout St.layout → (more : ℕ)
         → RestStands St.layout node more s noted (St.Device.counts disk).size (St.Device.counts disk).clock (St.Device.told disk)
@@ -134,6 +140,8 @@ fn read_epoch<St: Store>(alloc: Global, store: &mut St, node: u8) -> Result<u32,
     ensures only { IfErr result (λ e. IsDiskRefusal e ⊎ (e ≡ OutOfMemory)) }
     ensures power { OnOk result (IsTrue (St.seen store.new).disk.counts.power) }
     ensures calls { MakesCalls (St.seen store.old).disk.counts (St.seen store.new).disk.counts (end_of_store result) }
+    ensures obeyed { ObeyedIn St.Device.obeys (St.seen store.old).disk (St.seen store.new).disk (end_of_store result) }
+    ensures raises { RaisesClock (end_of_store result) (St.seen store.old).disk.counts.clock (St.seen store.new).disk.counts.clock }
     ensures reads { IsTrue St.Device.tells → (more : ℕ) (s : Site) (told : Told) (clock : ℕ) (p : Option Pick)
         → OpensTo St.layout node more s told clock p (St.seen store.old) → OpensTo St.layout node more s told clock p (St.seen store.new) }
     ensures epoch { IsTrue St.Device.tells → IfOk result (λ e. (more : ℕ) (s : Site) (told : Told) (clock : ℕ) (p : Option Pick)
@@ -172,6 +180,8 @@ fn put_epoch<St: Store>(
     ensures power { OnOk result (IsTrue (St.seen store.new).disk.counts.power) }
     ensures only { IfErr result (λ e. IsDiskRefusal e ⊎ IsEarlyRefusal e) }
     ensures calls { MakesCalls (St.seen store.old).disk.counts (St.seen store.new).disk.counts (end_of_store result) }
+    ensures obeyed { ObeyedIn St.Device.obeys (St.seen store.old).disk (St.seen store.new).disk (end_of_store result) }
+    ensures raises { RaisesClock (end_of_store result) (St.seen store.old).disk.counts.clock (St.seen store.new).disk.counts.clock }
     ensures puts { IsTrue St.Device.tells → (more : ℕ) (s : Site) (told : Told) (clock : ℕ) (p : Option Pick) → 1 ≤ more
         → s.number ≡ node → s.layout ≡ St.layout → OpensTo St.layout node more s told clock p (St.seen store.old)
         → PutsTo St.layout node more s told clock p epoch (St.seen store.old) result (St.seen store.new) }
@@ -227,6 +237,11 @@ fn boot_opened<St: Store>(
     ensures power { IfOk result (λ r. IsTrue (St.seen r.0).disk.counts.power) }
     ensures calls { MatchResult result (λ r. MakesCalls (St.seen store).disk.counts (St.seen r.0).disk.counts Fine)
         (λ r. MakesCalls (St.seen store).disk.counts (St.Device.counts r.0) (call_of_fall r.1.end)) }
+    ensures obeyed { let of = disk_seen St.Device.counts St.Device.told St.Device.due in
+        MatchResult result (λ r. ObeyedIn St.Device.obeys (St.seen store).disk (St.seen r.0).disk Fine)
+        (λ r. ObeyedIn St.Device.obeys (St.seen store).disk (of r.0) (call_of_fall r.1.end)) }
+    ensures raises { IfErr result (λ r.
+        RaisesClock (call_of_fall r.1.end) (St.seen store).disk.counts.clock (St.Device.counts r.0).clock) }
     ensures up { IsTrue St.Device.tells → IfOk result (λ r. (more : ℕ) (s : Site) (told : Told) (clock : ℕ) → 1 ≤ more
         → IsDownSite St.layout node s → OpensTo St.layout node more s told clock pick (St.seen store)
         → BootsUp St.layout node more s told clock r.1 (St.seen r.0)) }
@@ -275,6 +290,13 @@ pub fn boot<St: Store>(
     ensures power { IfOk result (λ r. IsTrue (St.seen r.0).disk.counts.power) }
     ensures calls { MatchResult result (λ r. MakesCalls (powered (St.Device.counts disk)) (St.seen r.0).disk.counts Fine)
         (λ r. MakesCalls (powered (St.Device.counts disk)) (St.Device.counts r.0) (call_of_fall r.1.end)) }
+
+    // Where the disk obeys, what it was refused was due.
+    ensures obeyed { let of = disk_seen St.Device.counts St.Device.told St.Device.due in
+        MatchResult result (λ r. ObeyedIn St.Device.obeys (of disk) (St.seen r.0).disk Fine)
+        (λ r. ObeyedIn St.Device.obeys (of disk) (of r.0) (call_of_fall r.1.end)) }
+    ensures raises { IsTrue St.Device.tells → IfErr result (λ r.
+        RaisesClock (call_of_fall r.1.end) (St.Device.counts disk).clock (St.Device.counts r.0).clock) }
     ensures up { IsTrue St.Device.tells → IfOk result (λ r. (s : Site)
         → IsLayout St.layout → HasEpochs s.node → (more : ℕ) → 1 ≤ more
         → RestStands St.layout node more s noted (St.Device.counts disk).size (St.Device.counts disk).clock (St.Device.told disk)

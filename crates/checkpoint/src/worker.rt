@@ -1,11 +1,13 @@
 //! The requests of a node that wait for its store, and the steps by which they are carried out.
 ghost use Rattle.std.specs.Prelude.{◌≡◌, ◌≤◌, ◌↔◌, ◌++◌, ◌∷◌, [], ℕ, Bool, IsTrue, IfOk, IfErr, OnErr, MatchResult, length, is_some, ◌||◌};
+ghost use Rattle.eden_disk.specs.Calls.{DeviceCalls};
 ghost use Rattle.passive_store.specs.Kept.{is_busy, is_unsettled, body_at, Idle, IsDiskRefusal};
 ghost use Rattle.passive_store.specs.Seen.{Begins};
 ghost use Rattle.checkpoint.specs.Queues.{put_of, removal_of, left_in};
 ghost use Rattle.checkpoint.specs.StoreCalls.{end_of_refusal, Stays};
 ghost use Rattle.checkpoint.specs.Asked.{ask_of, body_asked, IsOfNode, AllOfNode, TakesStep, MakesCall, EndsFirst, EndsJob, QueueGoes};
-ghost use Rattle.checkpoint.specs.Asked.{KeepsPower, OneCall};
+ghost use Rattle.checkpoint.specs.Asked.{KeepsPower, OneCall, end_of_step};
+ghost use Rattle.checkpoint.specs.Touches.{StepTouches, ObeyedIn, RaisesClock};
 
 use capability::{Body, Uid};
 use eden_disk::Disk;
@@ -174,6 +176,8 @@ impl Worker {
         ensures ended { EndsJob (is_busy (St.seen store.new).work) result }
         ensures power { KeepsPower (St.seen store.new).disk.counts result }
         ensures calls { OneCall (St.seen store.old).disk.counts (St.seen store.new).disk.counts result }
+        ensures one { DeviceCalls 1 (St.seen store.old).disk.counts (St.seen store.new).disk.counts (end_of_step result) }
+        ensures obeyed { ObeyedIn St.Device.obeys (St.seen store.old).disk (St.seen store.new).disk (end_of_step result) }
     {
         match store.settle_step() {
             Ok(Progress::Going) => StepEnd::Going { pick: None },
@@ -198,6 +202,8 @@ impl Worker {
         ensures ended { EndsJob (is_busy (St.seen store.new).work) result }
         ensures power { KeepsPower (St.seen store.new).disk.counts result }
         ensures calls { OneCall (St.seen store.old).disk.counts (St.seen store.new).disk.counts result }
+        ensures one { DeviceCalls 1 (St.seen store.old).disk.counts (St.seen store.new).disk.counts (end_of_step result) }
+        ensures obeyed { ObeyedIn St.Device.obeys (St.seen store.old).disk (St.seen store.new).disk (end_of_step result) }
     {
         match store.advance() {
             Ok(Progress::Going) => {
@@ -224,6 +230,11 @@ impl Worker {
         ensures ended { IfOk result (λ e. EndsJob (is_busy (St.seen store.new).work) e) }
         ensures power { IfOk result (λ e. KeepsPower (St.seen store.new).disk.counts e) }
         ensures calls { IfOk result (λ e. OneCall (St.seen store.old).disk.counts (St.seen store.new).disk.counts e) }
+        ensures touches { IsTrue St.Device.tells → IfOk result (λ e.
+            StepTouches St.layout self.old.requests.items (St.seen store.old) (St.seen store.new) e) }
+        ensures obeyed { IfOk result (λ e. ObeyedIn St.Device.obeys (St.seen store.old).disk (St.seen store.new).disk (end_of_step e)) }
+        ensures raises { IfOk result (λ e.
+            RaisesClock (end_of_step e) (St.seen store.old).disk.counts.clock (St.seen store.new).disk.counts.clock) }
         ensures unchanged { OnErr result ((self.new.requests.items ≡ self.old.requests.items)
             × Stays St.Device.tells (St.seen store.old) (St.seen store.new)) }
     {
@@ -262,6 +273,15 @@ impl Worker {
         ensures ended { IfOk result (λ e. EndsJob (is_busy (St.seen store.new).work) e) }
         ensures power { IfOk result (λ e. KeepsPower (St.seen store.new).disk.counts e) }
         ensures calls { IfOk result (λ e. OneCall (St.seen store.old).disk.counts (St.seen store.new).disk.counts e) }
+
+        // It makes its device call exactly where that turn does.
+        ensures touches { IsTrue St.Device.tells → IfOk result (λ e.
+            StepTouches St.layout self.old.requests.items (St.seen store.old) (St.seen store.new) e) }
+
+        // Where the disk obeys, what it was refused was due.
+        ensures obeyed { IfOk result (λ e. ObeyedIn St.Device.obeys (St.seen store.old).disk (St.seen store.new).disk (end_of_step e)) }
+        ensures raises { IfOk result (λ e.
+            RaisesClock (end_of_step e) (St.seen store.old).disk.counts.clock (St.seen store.new).disk.counts.clock) }
         ensures unchanged { OnErr result ((self.new.requests.items ≡ self.old.requests.items)
             × Stays St.Device.tells (St.seen store.old) (St.seen store.new)) }
     {

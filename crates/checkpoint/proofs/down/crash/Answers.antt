@@ -33,3 +33,6 @@ returns-clause-disk g c = λ so s requests h.
     } in
     crash-on-disk-so g.St.Store.layout x.node s requests x (g.St.Device.Disk.counts c.cut_power.new.self)
     (g.St.Device.Disk.told c.cut_power.new.self) h cut
+
+pub returns-clause-due : goal.returns-clause-due
+returns-clause-due g c = c.cut_power.ensures.due ∙ ap (λ (d : DiskSeen). d.due) c.close-disk.ensures

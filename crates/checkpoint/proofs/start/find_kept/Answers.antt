@@ -1,4 +1,5 @@
 use Rattle.std.proofs.Common.{ℕ, List, Option, subst, Ok, Err, Some, None}
+use Rattle.passive_store.specs.declared.store.Pick.{Pick}
 use Rattle.passive_store.specs.declared.store.StoreRefusal.TheVariants as refusal
 use Rattle.passive_store.specs.Seen.{Seen}
 use Rattle.journal.specs.Starts.{start_settled}
@@ -8,6 +9,12 @@ use Rattle.checkpoint.specs.Starting.{SettlesTo, ReadsTo, IsShort}
 use Rattle.checkpoint.proofs.SomeCalls.{calls-then, calls-refused}
 use Rattle.checkpoint.proofs.Activations.{short-at}
 use Rattle.checkpoint.proofs.Starting.{read-at, starts-kept, starts-gone, starts-unread, starts-stopped-later, starts-not}
+use Rattle.std.proofs.Common.{ap}
+use Rattle.std.specs.Prelude.{is_some}
+use Rattle.eden_disk.specs.Calls.{Fine, AtFault, AtStop}
+use Rattle.passive_store.specs.Kept.{Kept, body_at}
+use Rattle.checkpoint.proofs.Touching.{touches-then, touches-refused, touches-as, obeyed-then, obeyed-as, raises-as, raises-behind}
+use Rattle.checkpoint.proofs.Touching.{not-memory}
 use Rattle.checkpoint.proofs.start.find_kept.Goals as goal
 
 pub returns-in-Ok-Some-clause-finds : goal.returns-in-Ok-Some-clause-finds
@@ -101,3 +108,94 @@ returns-in-Err-Failed-read_kept-clause-calls g c = calls-then _ _ _ _ c.in-Ok.en
 pub returns-in-Err-OutOfMemory-clause-calls : goal.returns-in-Err-OutOfMemory-clause-calls
 returns-in-Err-OutOfMemory-clause-calls g c = calls-then _ _ _ _ c.in-Ok.ensures.calls
     (calls-refused (Option (List ℕ)) _ refusal.OutOfMemory _ _ c.in-Err-OutOfMemory.field-0-is c.in-Err-OutOfMemory.ensures.calls)
+
+-- where device calls are made
+
+pub returns-in-Ok-Some-clause-touches : goal.returns-in-Ok-Some-clause-touches
+returns-in-Ok-Some-clause-touches g c = λ so reads.
+    touches-then _ _ _ _ _ _ _ c.in-Ok.ensures.touches (c.in-Ok-Some.ensures.touches so reads (λ bad. cc bad))
+    (λ settled. ap (λ (k : Kept). is_some (body_at k c.args.uid)) (c.in-Ok.ensures.still so settled))
+
+pub returns-in-Ok-Some-clause-obeyed : goal.returns-in-Ok-Some-clause-obeyed
+returns-in-Ok-Some-clause-obeyed g c = obeyed-then _ _ _ _ _ _ _ Fine c.in-Ok.ensures.calls c.in-Ok-Some.ensures.calls
+    c.in-Ok.ensures.obeyed
+    c.in-Ok-Some.ensures.obeyed
+
+pub returns-in-Ok-None-clause-touches : goal.returns-in-Ok-None-clause-touches
+returns-in-Ok-None-clause-touches g c = λ so reads.
+    touches-then _ _ _ _ _ _ _ c.in-Ok.ensures.touches (c.in-Ok-None.ensures.touches so reads (λ bad. cc bad))
+    (λ settled. ap (λ (k : Kept). is_some (body_at k c.args.uid)) (c.in-Ok.ensures.still so settled))
+
+pub returns-in-Ok-None-clause-obeyed : goal.returns-in-Ok-None-clause-obeyed
+returns-in-Ok-None-clause-obeyed g c = obeyed-then _ _ _ _ _ _ _ Fine c.in-Ok.ensures.calls c.in-Ok-None.ensures.calls
+    c.in-Ok.ensures.obeyed
+    c.in-Ok-None.ensures.obeyed
+
+pub returns-in-Err-Failed-read_kept-clause-touches : goal.returns-in-Err-Failed-read_kept-clause-touches
+returns-in-Err-Failed-read_kept-clause-touches g c = λ so reads.
+    touches-then _ _ _ _ _ _ AtFault c.in-Ok.ensures.touches
+    (touches-as (Option (List ℕ)) _ _ _ _ refusal.Failed c.in-Err-Failed-read_kept.field-0-is
+    (c.in-Err-Failed-read_kept.ensures.touches so reads (not-memory (Option
+    (List ℕ)) _ refusal.Failed c.in-Err-Failed-read_kept.field-0-is (λ bad. cc bad))))
+    (λ settled. ap (λ (k : Kept). is_some (body_at k c.args.uid)) (c.in-Ok.ensures.still so settled))
+
+pub returns-in-Err-Failed-read_kept-clause-obeyed : goal.returns-in-Err-Failed-read_kept-clause-obeyed
+returns-in-Err-Failed-read_kept-clause-obeyed g c = obeyed-then _ _ _ _ _ _ _ AtFault c.in-Ok.ensures.calls
+    (calls-refused (Option (List ℕ)) _ refusal.Failed _ _ c.in-Err-Failed-read_kept.field-0-is c.in-Err-Failed-read_kept.ensures.calls)
+    c.in-Ok.ensures.obeyed
+    (obeyed-as (Option (List ℕ)) _ _ _ _ _ _ refusal.Failed c.in-Err-Failed-read_kept.field-0-is c.in-Err-Failed-read_kept.ensures.obeyed)
+
+pub returns-in-Err-Failed-read_kept-clause-raises : goal.returns-in-Err-Failed-read_kept-clause-raises
+returns-in-Err-Failed-read_kept-clause-raises g c = raises-behind _ _ _ AtFault c.in-Ok.ensures.calls
+    (raises-as (Option (List ℕ)) _ _ _ refusal.Failed c.in-Err-Failed-read_kept.field-0-is c.in-Err-Failed-read_kept.ensures.raises)
+
+pub returns-in-Err-Failed-clause-touches : goal.returns-in-Err-Failed-clause-touches
+returns-in-Err-Failed-clause-touches g c = λ so reads.
+    touches-refused _ _ _ _ AtFault (λ bad. cc bad)
+    (touches-as (Option Pick) _ _ _ _ refusal.Failed c.in-Err-Failed.field-0-is c.in-Err-Failed.ensures.touches)
+
+pub returns-in-Err-Failed-clause-obeyed : goal.returns-in-Err-Failed-clause-obeyed
+returns-in-Err-Failed-clause-obeyed g c = obeyed-as
+    (Option Pick) _ _ _ _ _ _ refusal.Failed c.in-Err-Failed.field-0-is c.in-Err-Failed.ensures.obeyed
+
+pub returns-in-Err-Failed-clause-raises : goal.returns-in-Err-Failed-clause-raises
+returns-in-Err-Failed-clause-raises g c = raises-as
+    (Option Pick) _ _ _ refusal.Failed c.in-Err-Failed.field-0-is c.in-Err-Failed.ensures.raises
+
+pub returns-in-Err-Stopped-read_kept-clause-touches : goal.returns-in-Err-Stopped-read_kept-clause-touches
+returns-in-Err-Stopped-read_kept-clause-touches g c = λ so reads.
+    touches-then _ _ _ _ _ _ AtStop c.in-Ok.ensures.touches
+    (touches-as (Option (List ℕ)) _ _ _ _ refusal.Stopped c.in-Err-Stopped-read_kept.field-0-is
+    (c.in-Err-Stopped-read_kept.ensures.touches so reads (not-memory (Option
+    (List ℕ)) _ refusal.Stopped c.in-Err-Stopped-read_kept.field-0-is (λ bad. cc bad))))
+    (λ settled. ap (λ (k : Kept). is_some (body_at k c.args.uid)) (c.in-Ok.ensures.still so settled))
+
+pub returns-in-Err-Stopped-read_kept-clause-obeyed : goal.returns-in-Err-Stopped-read_kept-clause-obeyed
+returns-in-Err-Stopped-read_kept-clause-obeyed g c = obeyed-then _ _ _ _ _ _ _ AtStop c.in-Ok.ensures.calls
+    (calls-refused (Option (List ℕ)) _ refusal.Stopped _ _ c.in-Err-Stopped-read_kept.field-0-is
+    c.in-Err-Stopped-read_kept.ensures.calls) c.in-Ok.ensures.obeyed
+    (obeyed-as (Option (List ℕ)) _ _ _ _ _ _ refusal.Stopped c.in-Err-Stopped-read_kept.field-0-is
+    c.in-Err-Stopped-read_kept.ensures.obeyed)
+
+pub returns-in-Err-Stopped-read_kept-clause-raises : goal.returns-in-Err-Stopped-read_kept-clause-raises
+returns-in-Err-Stopped-read_kept-clause-raises g c = raises-behind _ _ _ AtStop c.in-Ok.ensures.calls
+    (raises-as (Option (List ℕ)) _ _ _ refusal.Stopped c.in-Err-Stopped-read_kept.field-0-is c.in-Err-Stopped-read_kept.ensures.raises)
+
+pub returns-in-Err-Stopped-clause-touches : goal.returns-in-Err-Stopped-clause-touches
+returns-in-Err-Stopped-clause-touches g c = λ so reads.
+    touches-refused _ _ _ _ AtStop (λ bad. cc bad)
+    (touches-as (Option Pick) _ _ _ _ refusal.Stopped c.in-Err-Stopped.field-0-is c.in-Err-Stopped.ensures.touches)
+
+pub returns-in-Err-Stopped-clause-obeyed : goal.returns-in-Err-Stopped-clause-obeyed
+returns-in-Err-Stopped-clause-obeyed g c = obeyed-as
+    (Option Pick) _ _ _ _ _ _ refusal.Stopped c.in-Err-Stopped.field-0-is c.in-Err-Stopped.ensures.obeyed
+
+pub returns-in-Err-Stopped-clause-raises : goal.returns-in-Err-Stopped-clause-raises
+returns-in-Err-Stopped-clause-raises g c = raises-as
+    (Option Pick) _ _ _ refusal.Stopped c.in-Err-Stopped.field-0-is c.in-Err-Stopped.ensures.raises
+
+pub returns-in-Err-OutOfMemory-clause-obeyed : goal.returns-in-Err-OutOfMemory-clause-obeyed
+returns-in-Err-OutOfMemory-clause-obeyed g c = obeyed-then _ _ _ _ _ _ _ Fine c.in-Ok.ensures.calls
+    (calls-refused (Option (List ℕ)) _ refusal.OutOfMemory _ _ c.in-Err-OutOfMemory.field-0-is c.in-Err-OutOfMemory.ensures.calls)
+    c.in-Ok.ensures.obeyed
+    (obeyed-as (Option (List ℕ)) _ _ _ _ _ _ refusal.OutOfMemory c.in-Err-OutOfMemory.field-0-is c.in-Err-OutOfMemory.ensures.obeyed)

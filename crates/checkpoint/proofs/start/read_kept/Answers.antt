@@ -3,6 +3,9 @@ use Rattle.passive_store.specs.Kept.{Kept, body_at}
 use Rattle.checkpoint.proofs.Activations.{found-short}
 use Rattle.checkpoint.proofs.StoreCalls.{reads-once}
 use Rattle.checkpoint.proofs.Starting.{reads-found, reads-not, reads-none, same-sight}
+use Rattle.std.proofs.Common.{ℕ, List, Option, refl}
+use Rattle.checkpoint.proofs.Touching.{read-touches, raises-ran, none-touched, obeyed-none}
+use Rattle.passive_store.specs.Seen.{Seen}
 use Rattle.checkpoint.proofs.start.read_kept.Goals as goal
 
 pub returns-then-not-holds-clause-reads : goal.returns-then-not-holds-clause-reads
@@ -30,3 +33,23 @@ returns-in-Ok-clause-short g c = λ so law t requests h.
     found-short g.St.Store.layout _ t requests
     (g.St.Store.seen c.args.store.now) c.args.uid c.in-Ok.found law h c.requires.settled c.requires.other
     (c.in-Ok.ensures.body so ∙ ap (λ (k : Kept). body_at k c.args.uid) (c.in-Ok.ensures.kept so ∙ same-sight _ _ _ c.requires.settled))
+
+pub returns-then-not-holds-clause-touches : goal.returns-then-not-holds-clause-touches
+returns-then-not-holds-clause-touches g c = λ so reads other.
+    none-touched _ _ (sym (c.if-not-holds.ensures so)) c.requires.power
+
+pub returns-in-Ok-clause-touches : goal.returns-in-Ok-clause-touches
+returns-in-Ok-clause-touches g c = λ so reads other.
+    let x : Seen = g.St.Store.seen c.args.store.now in
+    read-touches _ _ g.St.Store.layout c.args.uid _ x _ so reads c.requires.settled (sym (c.if-not-holds.ensures so)) c.in-Ok.ensures other
+
+pub returns-in-Err-clause-touches : goal.returns-in-Err-clause-touches
+returns-in-Err-clause-touches g c = λ so reads other.
+    let x : Seen = g.St.Store.seen c.args.store.now in
+    read-touches _ _ g.St.Store.layout c.args.uid _ x _ so reads c.requires.settled (sym (c.if-not-holds.ensures so)) c.in-Err.ensures other
+
+pub returns-then-not-holds-clause-obeyed : goal.returns-then-not-holds-clause-obeyed
+returns-then-not-holds-clause-obeyed g c = obeyed-none _ (g.St.Store.seen c.args.store.now).disk _ _ refl refl
+
+pub returns-in-Err-clause-raises : goal.returns-in-Err-clause-raises
+returns-in-Err-clause-raises g c = raises-ran (Option (List ℕ)) _ _ _ _ _ c.in-Err.ensures.ran

@@ -6,6 +6,9 @@ use Rattle.checkpoint.specs.Calls.{call_of_fall}
 use Rattle.checkpoint.proofs.SomeCalls.{calls-then, calls-refused, fall-call, calls-fell}
 use Rattle.checkpoint.proofs.WholeBoots.{fall-as, noted-idle, below-last, epochs-fit, boots-up, falls-unread, falls-spent, falls-full}
 use Rattle.checkpoint.proofs.WholeBoots.{falls-unmade, falls-put}
+use Rattle.eden_disk.specs.Calls.{Fine}
+use Rattle.checkpoint.specs.Calls.{call_of_refusal}
+use Rattle.checkpoint.proofs.Touching.{obeyed-fell, obeyed-as, obeyed-then, raises-fell, raises-as, raises-none, raises-behind}
 use Rattle.checkpoint.proofs.up.boot_opened.Goals as goal
 
 pub put_epoch-requires-clause-power : goal.put_epoch-requires-clause-power
@@ -147,3 +150,70 @@ pub returns-in-Err-Stopped-clause-calls : goal.returns-in-Err-Stopped-clause-cal
 returns-in-Err-Stopped-clause-calls g c = calls-fell _ _ _ _ _ (ap (λ (d : DiskSeen). d.counts) c.fall-in-Err-Stopped.ensures.disk)
     (ap call_of_fall c.fall-in-Err-Stopped.ensures.end) (calls-then _ _ _ _ c.in-Ok.ensures.calls
     (calls-refused (Unit {0}) _ refusal.Stopped _ _ c.in-Err-Stopped.field-0-is c.in-Err-Stopped.ensures.calls))
+
+-- what was due
+pub returns-in-Err-clause-obeyed : goal.returns-in-Err-clause-obeyed
+returns-in-Err-clause-obeyed g c = obeyed-fell _ _ _ _ _ _ _ c.fall.ensures.disk
+    (ap call_of_fall (c.fall.ensures.end ∙ c.end_of.ensures) ∙ fall-call c.in-Err.refusal)
+    (obeyed-as ℕ _ _ _ _ _ c.in-Err.refusal c.in-Err.refusal refl c.in-Err.ensures.obeyed)
+
+pub returns-in-Err-clause-raises : goal.returns-in-Err-clause-raises
+returns-in-Err-clause-raises g c = raises-fell _ _ _ _ _ c.fall.ensures.disk
+    (ap call_of_fall (c.fall.ensures.end ∙ c.end_of.ensures) ∙ fall-call c.in-Err.refusal)
+    (raises-as ℕ _ _ c.in-Err.refusal c.in-Err.refusal refl c.in-Err.ensures.raises)
+
+pub returns-then-epoch-clause-obeyed : goal.returns-then-epoch-clause-obeyed
+returns-then-epoch-clause-obeyed g c = obeyed-fell _ _ _ _ _ _ Fine c.fall-then-epoch.ensures.disk
+    (ap call_of_fall c.fall-then-epoch.ensures.end)
+    c.in-Ok.ensures.obeyed
+
+pub returns-then-epoch-clause-raises : goal.returns-then-epoch-clause-raises
+returns-then-epoch-clause-raises g c = raises-none _ _ _ (ap call_of_fall c.fall-then-epoch.ensures.end)
+
+pub returns-in-Ok-put_epoch-clause-obeyed : goal.returns-in-Ok-put_epoch-clause-obeyed
+returns-in-Ok-put_epoch-clause-obeyed g c = obeyed-then _ _ _ _ _ _ _ Fine c.in-Ok.ensures.calls c.in-Ok-put_epoch.ensures.calls
+    c.in-Ok.ensures.obeyed
+    c.in-Ok-put_epoch.ensures.obeyed
+
+pub returns-in-Err-Full-clause-obeyed : goal.returns-in-Err-Full-clause-obeyed
+returns-in-Err-Full-clause-obeyed g c = obeyed-fell _ _ _ _ _ _ (call_of_refusal refusal.Full) c.fall-in-Err-Full.ensures.disk
+    (ap call_of_fall c.fall-in-Err-Full.ensures.end) (obeyed-then _ _ _ _ _ _ _ (call_of_refusal refusal.Full) c.in-Ok.ensures.calls
+    (calls-refused (Unit {0}) _ refusal.Full _ _ c.in-Err-Full.field-0-is c.in-Err-Full.ensures.calls) c.in-Ok.ensures.obeyed
+    (obeyed-as (Unit {0}) _ _ _ _ _ _ refusal.Full c.in-Err-Full.field-0-is c.in-Err-Full.ensures.obeyed))
+
+pub returns-in-Err-Full-clause-raises : goal.returns-in-Err-Full-clause-raises
+returns-in-Err-Full-clause-raises g c = raises-none _ _ _ (ap call_of_fall c.fall-in-Err-Full.ensures.end)
+
+pub returns-in-Err-OutOfMemory-clause-obeyed : goal.returns-in-Err-OutOfMemory-clause-obeyed
+returns-in-Err-OutOfMemory-clause-obeyed g c = obeyed-fell _ _ _ _ _ _
+    (call_of_refusal refusal.OutOfMemory) c.fall-in-Err-OutOfMemory.ensures.disk
+    (ap call_of_fall c.fall-in-Err-OutOfMemory.ensures.end) (obeyed-then _ _ _ _ _ _ _
+    (call_of_refusal refusal.OutOfMemory) c.in-Ok.ensures.calls
+    (calls-refused (Unit {0}) _ refusal.OutOfMemory _ _ c.in-Err-OutOfMemory.field-0-is c.in-Err-OutOfMemory.ensures.calls)
+    c.in-Ok.ensures.obeyed
+    (obeyed-as (Unit {0}) _ _ _ _ _ _ refusal.OutOfMemory c.in-Err-OutOfMemory.field-0-is c.in-Err-OutOfMemory.ensures.obeyed))
+
+pub returns-in-Err-OutOfMemory-clause-raises : goal.returns-in-Err-OutOfMemory-clause-raises
+returns-in-Err-OutOfMemory-clause-raises g c = raises-none _ _ _ (ap call_of_fall c.fall-in-Err-OutOfMemory.ensures.end)
+
+pub returns-in-Err-Failed-clause-obeyed : goal.returns-in-Err-Failed-clause-obeyed
+returns-in-Err-Failed-clause-obeyed g c = obeyed-fell _ _ _ _ _ _ (call_of_refusal refusal.Failed) c.fall-in-Err-Failed.ensures.disk
+    (ap call_of_fall c.fall-in-Err-Failed.ensures.end) (obeyed-then _ _ _ _ _ _ _ (call_of_refusal refusal.Failed) c.in-Ok.ensures.calls
+    (calls-refused (Unit {0}) _ refusal.Failed _ _ c.in-Err-Failed.field-0-is c.in-Err-Failed.ensures.calls) c.in-Ok.ensures.obeyed
+    (obeyed-as (Unit {0}) _ _ _ _ _ _ refusal.Failed c.in-Err-Failed.field-0-is c.in-Err-Failed.ensures.obeyed))
+
+pub returns-in-Err-Failed-clause-raises : goal.returns-in-Err-Failed-clause-raises
+returns-in-Err-Failed-clause-raises g c = raises-fell _ _ _ _ (call_of_refusal refusal.Failed) c.fall-in-Err-Failed.ensures.disk
+    (ap call_of_fall c.fall-in-Err-Failed.ensures.end) (raises-behind _ _ _ (call_of_refusal refusal.Failed) c.in-Ok.ensures.calls
+    (raises-as (Unit {0}) _ _ _ refusal.Failed c.in-Err-Failed.field-0-is c.in-Err-Failed.ensures.raises))
+
+pub returns-in-Err-Stopped-clause-obeyed : goal.returns-in-Err-Stopped-clause-obeyed
+returns-in-Err-Stopped-clause-obeyed g c = obeyed-fell _ _ _ _ _ _ (call_of_refusal refusal.Stopped) c.fall-in-Err-Stopped.ensures.disk
+    (ap call_of_fall c.fall-in-Err-Stopped.ensures.end) (obeyed-then _ _ _ _ _ _ _ (call_of_refusal refusal.Stopped) c.in-Ok.ensures.calls
+    (calls-refused (Unit {0}) _ refusal.Stopped _ _ c.in-Err-Stopped.field-0-is c.in-Err-Stopped.ensures.calls) c.in-Ok.ensures.obeyed
+    (obeyed-as (Unit {0}) _ _ _ _ _ _ refusal.Stopped c.in-Err-Stopped.field-0-is c.in-Err-Stopped.ensures.obeyed))
+
+pub returns-in-Err-Stopped-clause-raises : goal.returns-in-Err-Stopped-clause-raises
+returns-in-Err-Stopped-clause-raises g c = raises-fell _ _ _ _ (call_of_refusal refusal.Stopped) c.fall-in-Err-Stopped.ensures.disk
+    (ap call_of_fall c.fall-in-Err-Stopped.ensures.end) (raises-behind _ _ _ (call_of_refusal refusal.Stopped) c.in-Ok.ensures.calls
+    (raises-as (Unit {0}) _ _ _ refusal.Stopped c.in-Err-Stopped.field-0-is c.in-Err-Stopped.ensures.raises))

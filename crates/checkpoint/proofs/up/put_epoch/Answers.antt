@@ -3,6 +3,8 @@ use Rattle.passive_store.specs.Seen.{Seen, DiskSeen, Begins}
 use Rattle.passive_store.specs.Kept.{finds_room}
 use Rattle.journal.specs.Settling.{epoch_uid}
 use Rattle.checkpoint.proofs.Epochs.{puts-from, puts-to, no-room, settled-number, settled-layout, settled-size}
+use Rattle.std.proofs.Common.{refl}
+use Rattle.checkpoint.proofs.Touching.{obeyed-none, obeyed-from, raises-from, raises-ran}
 use Rattle.checkpoint.proofs.up.put_epoch.Goals as goal
 
 pub returns-in-Ok-clause-puts : goal.returns-in-Ok-clause-puts
@@ -34,3 +36,15 @@ returns-in-Err-Full-clause-puts g c = λ so more s told clock p some number its_
           c.epoch_bytes.ensures
           (b.full so (omega (arith, some, o.told)) c.in-Err-Full.field-0-is)),
     )
+
+pub returns-in-Ok-clause-obeyed : goal.returns-in-Ok-clause-obeyed
+returns-in-Ok-clause-obeyed g c = obeyed-from _ _ _ _ _ _ c.in-Ok.ensures.disk c.finish.ensures.goes.obeyed
+
+pub returns-in-Ok-clause-raises : goal.returns-in-Ok-clause-raises
+returns-in-Ok-clause-raises g c = raises-from _ _ _ _ c.in-Ok.ensures.disk (raises-ran (Unit {0}) _ _ _ _ _ c.finish.ensures.ran)
+
+pub returns-in-Err-Full-clause-obeyed : goal.returns-in-Err-Full-clause-obeyed
+returns-in-Err-Full-clause-obeyed g c = obeyed-none _ _ _ _ c.in-Err-Full.ensures.disk refl
+
+pub returns-in-Err-OutOfMemory-clause-obeyed : goal.returns-in-Err-OutOfMemory-clause-obeyed
+returns-in-Err-OutOfMemory-clause-obeyed g c = obeyed-none _ _ _ _ c.in-Err-OutOfMemory.ensures.disk refl

@@ -3,6 +3,7 @@ use Rattle.checkpoint.proofs.OneCalls.{one-going, one-fine, one-refused}
 use Rattle.checkpoint.proofs.StoreCalls.{advances-once}
 use Rattle.checkpoint.proofs.WorkerSteps.{advance-goes-on, advance-ends, advance-refused, busy-advanced, done-advanced, refused-advanced}
 use Rattle.checkpoint.specs.Asked.{EndsFirst}
+use Rattle.checkpoint.proofs.Touching.{one-refused-so, one-ended-so, obeyed-refused, obeyed-ended}
 use Rattle.checkpoint.proofs.worker.Worker.advance.Goals as goal
 
 pub returns-in-Ok-Going-clause-steps : goal.returns-in-Ok-Going-clause-steps
@@ -39,3 +40,18 @@ returns-in-Ok-Done-clause-calls g c = one-fine _ _ _ _ _ _ 1 refl refl c.end.ens
 pub returns-in-Err-clause-calls : goal.returns-in-Err-clause-calls
 returns-in-Err-clause-calls g c = one-refused _ _ c.in-Err.refusal _ _ _ _ c.end_of.ensures c.in-Err.ensures.only c.end-in-Err.ensures.ended
     c.in-Err.ensures.counts
+
+pub returns-in-Ok-Done-clause-one : goal.returns-in-Ok-Done-clause-one
+returns-in-Ok-Done-clause-one g c = one-ended-so _ _ _ _ _ _ refl c.end.ensures.ended c.in-Ok-Done.ensures.counts
+
+pub returns-in-Err-clause-one : goal.returns-in-Err-clause-one
+returns-in-Err-clause-one g c = one-refused-so _ _ _ _ c.in-Err.refusal _ _ c.end_of.ensures c.in-Err.ensures.only
+    c.end-in-Err.ensures.ended
+    c.in-Err.ensures.counts
+
+pub returns-in-Ok-Done-clause-obeyed : goal.returns-in-Ok-Done-clause-obeyed
+returns-in-Ok-Done-clause-obeyed g c = obeyed-ended _ _ _ _ _ _ _ _ _ refl c.end.ensures.ended c.in-Ok-Done.ensures.goes.obeyed
+
+pub returns-in-Err-clause-obeyed : goal.returns-in-Err-clause-obeyed
+returns-in-Err-clause-obeyed g c = obeyed-refused _ _ _ _ _ c.in-Err.refusal _ _ _ _ c.end_of.ensures c.in-Err.ensures.only
+    c.end-in-Err.ensures.ended c.in-Err.ensures.goes.obeyed

@@ -1,9 +1,12 @@
 use Rattle.std.proofs.Common.{refl, sym, subst, ◌∙◌, ap, arith, ◌≤◌, ◌+◌}
 use Rattle.passive_store.specs.Kept.{Idle}
 use Rattle.passive_store.specs.Seen.{Seen, DiskSeen}
-use Rattle.checkpoint.specs.Asked.{body_asked, IsUnderJob, StepsTo}
+use Rattle.checkpoint.specs.Asked.{body_asked, IsUnderJob, StepsTo, end_of_step}
+use Rattle.eden_disk.specs.Calls.{DeviceCalls}
 use Rattle.checkpoint.proofs.WorkerSteps.{quiet-done, quiet-full, tells-behind, head-needs, head-room, head-begun, steps-from, made-none}
 use Rattle.checkpoint.proofs.OneCalls.{no-calls, one-from}
+use Rattle.checkpoint.proofs.Touching.{none-ended, once-made, touched-unkept, touched-full, touched-job, obeyed-still, obeyed-from}
+use Rattle.checkpoint.proofs.Touching.{raises-ended, raises-one}
 use Rattle.checkpoint.proofs.worker.Worker.begin.Goals as goal
 
 pub returns-then-not-needs_calls-clause-steps : goal.returns-then-not-needs_calls-clause-steps
@@ -61,3 +64,54 @@ returns-in-Err-Full-clause-calls g c = no-calls _ _ _ _ _ _ refl
 
 pub returns-in-Ok-clause-calls : goal.returns-in-Ok-clause-calls
 returns-in-Ok-clause-calls g c = one-from _ _ _ _ (ap (λ (d : DiskSeen). d.counts) c.in-Ok.ensures.disk) c.advance.ensures.calls
+
+pub returns-then-not-needs_calls-clause-touches : goal.returns-then-not-needs_calls-clause-touches
+returns-then-not-needs_calls-clause-touches g c = λ so s told h.
+    let x : Seen = g.St.Store.seen c.args.store.now in
+    none-ended _ _ _ _ _ _ _
+    (touched-unkept g.St.Store.layout x.node s c.args.self.now.requests.items c.in-Some.request.now x c.requires.some
+    c.in-Some.ensures.lookup c.requires.idle (sym (c.if-not-needs_calls.ensures so)) h)
+    refl c.end.ensures.ended refl c.requires.power
+
+pub returns-in-Err-Full-clause-touches : goal.returns-in-Err-Full-clause-touches
+returns-in-Err-Full-clause-touches g c = λ so s told h.
+    let x : Seen = g.St.Store.seen c.args.store.now in
+    let b = c.in-Err-Full.ensures in
+    none-ended _ _ _ _ _ _ _
+    (touched-full g.St.Store.layout x.node s c.args.self.now.requests.items c.in-Some.request.now x c.requires.some
+    c.in-Some.ensures.lookup c.requires.idle (sym (c.if-not-needs_calls.ensures so)) (b.full so told c.in-Err-Full.field-0-is) h)
+    refl c.end-in-Err-Full.ensures.ended (ap (λ (d : DiskSeen). d.counts) b.disk) c.requires.power
+
+pub returns-in-Ok-clause-touches : goal.returns-in-Ok-clause-touches
+returns-in-Ok-clause-touches g c = λ so s told h.
+    let x : Seen = g.St.Store.seen c.args.store.now in
+    let y : Seen = g.St.Store.seen c.begin_job.new.store in
+    let z : Seen = g.St.Store.seen c.advance.new.store in
+    let b = c.in-Ok.ensures in
+    let before : IsUnderJob g.St.Store.layout x.node s c.args.self.now.requests.items y Idle x.more =
+    head-begun _ g.St.Store.layout x.node s c.args.self.now.requests.items c.in-Some.request.now _ x y so c.requires.some
+    c.in-Some.ensures.lookup c.requires.idle h told b
+    (sym (c.if-not-needs_calls.ensures so)) in
+    once-made _ _ _ _ (touched-job g.St.Store.layout x.node s c.args.self.now.requests.items y Idle x.more before)
+    (subst (λ (d : DiskSeen). DeviceCalls 1 d.counts z.disk.counts (end_of_step c.advance.result)) b.disk c.advance.ensures.one)
+
+pub returns-then-not-needs_calls-clause-obeyed : goal.returns-then-not-needs_calls-clause-obeyed
+returns-then-not-needs_calls-clause-obeyed g c = obeyed-still _ _ _ _ _
+    (g.St.Store.seen c.args.store.now).disk _ refl c.end.ensures.ended refl
+
+pub returns-in-Err-Full-clause-obeyed : goal.returns-in-Err-Full-clause-obeyed
+returns-in-Err-Full-clause-obeyed g c = obeyed-still _ _ _ _ _ _ _ refl c.end-in-Err-Full.ensures.ended c.in-Err-Full.ensures.disk
+
+pub returns-in-Ok-clause-obeyed : goal.returns-in-Ok-clause-obeyed
+returns-in-Ok-clause-obeyed g c = obeyed-from _ _ _ _ _ _ c.in-Ok.ensures.disk c.advance.ensures.obeyed
+
+pub returns-then-not-needs_calls-clause-raises : goal.returns-then-not-needs_calls-clause-raises
+returns-then-not-needs_calls-clause-raises g c = raises-ended _ _ _ _ _ _ refl c.end.ensures.ended
+
+pub returns-in-Err-Full-clause-raises : goal.returns-in-Err-Full-clause-raises
+returns-in-Err-Full-clause-raises g c = raises-ended _ _ _ _ _ _ refl c.end-in-Err-Full.ensures.ended
+
+pub returns-in-Ok-clause-raises : goal.returns-in-Ok-clause-raises
+returns-in-Ok-clause-raises g c = raises-one _ _ _
+    (subst (λ (d : DiskSeen). DeviceCalls 1 d.counts (g.St.Store.seen c.advance.new.store).disk.counts (end_of_step c.advance.result))
+    c.in-Ok.ensures.disk c.advance.ensures.one)

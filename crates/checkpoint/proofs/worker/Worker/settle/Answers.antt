@@ -3,6 +3,7 @@ use Rattle.checkpoint.proofs.OneCalls.{one-going, one-refused}
 use Rattle.checkpoint.proofs.StoreCalls.{settles-once}
 use Rattle.checkpoint.proofs.WorkerSteps.{settle-goes-on, settle-picks, settle-refused}
 use Rattle.checkpoint.specs.Asked.{EndsFirst}
+use Rattle.checkpoint.proofs.Touching.{one-refused-so, obeyed-refused}
 use Rattle.checkpoint.proofs.worker.Worker.settle.Goals as goal
 
 pub returns-in-Ok-Going-clause-steps : goal.returns-in-Ok-Going-clause-steps
@@ -37,3 +38,11 @@ returns-in-Ok-Done-clause-calls g c = one-going _ _ _ refl c.in-Ok-Done.ensures.
 pub returns-in-Err-clause-calls : goal.returns-in-Err-clause-calls
 returns-in-Err-clause-calls g c = one-refused _ _ c.in-Err.refusal _ _ _ _ c.end_of.ensures c.in-Err.ensures.only c.end.ensures.ended
     c.in-Err.ensures.counts
+
+pub returns-in-Err-clause-one : goal.returns-in-Err-clause-one
+returns-in-Err-clause-one g c = one-refused-so _ _ _ _ c.in-Err.refusal _ _ c.end_of.ensures c.in-Err.ensures.only c.end.ensures.ended
+    c.in-Err.ensures.counts
+
+pub returns-in-Err-clause-obeyed : goal.returns-in-Err-clause-obeyed
+returns-in-Err-clause-obeyed g c = obeyed-refused _ _ _ _ _ c.in-Err.refusal _ _ _ _ c.end_of.ensures c.in-Err.ensures.only
+    c.end.ensures.ended c.in-Err.ensures.goes.obeyed
