@@ -7,3 +7,6 @@ pub mod Comes
 pub mod Runs
 pub mod Noted
 pub mod Nexts
+pub mod Marked
+pub mod Appended
+pub mod Whole

@@ -17,11 +17,11 @@ use std::ops::Bound;
 /// The uids of Ejects that may take a turn of one kind, in order.
 #[derive(Drop)]
 pub struct Index {
-    uids: BTreeMap<Uid, bool>,
+    pub(crate) uids: BTreeMap<Uid, bool>,
 }
 
 // Whether it is this Eject.
-fn is_it(it: Option<Uid>, uid: Uid) -> bool
+pub(crate) fn is_it(it: Option<Uid>, uid: Uid) -> bool
     ensures { result ≡ is_it it uid }
 {
     match it {

@@ -3,6 +3,8 @@
 
 mod behind;
 mod index;
+mod lists;
+mod noting;
 #[cfg(test)]
 mod tests;
 

@@ -33,6 +33,7 @@ use Rattle.journal.specs.Processes.{turn_of, refused_at_once, process_turn, show
 use Rattle.journal.specs.Step.{AllowsAt}
 use Rattle.journal.specs.Sites.{IsSoundSite, IsManned, IsHeldAt, runs_of}
 use Rattle.active_part.specs.Body.{Body, active_of, calls_of}
+use Rattle.ejects.specs.Turned.{shown_step}
 use Rattle.ejects.specs.Parts.{Parts, SameNode, known, body_at, Stands, IsAt, IsStep}
 use Rattle.active_part.specs.Bodies.{turned_body, ended_body, asking_body, crewed_body, serves_of}
 use Rattle.active_part.specs.View.{stepped}
@@ -358,13 +359,6 @@ module _ (reach : ℕ → Bool) (n mid new : Parts) (m later : Mail) (s : Site) 
       (ended (turned_body p t.turn b) (mid-body b is t mid_is))
       (ends-stands n s u p b at.parts is reach t.turn t.is_turn (sym (sym is_end ∙ same)))
       (ends-traffic n s u p b at.parts is reach t.turn t.is_turn (sym (sym is_end ∙ same))) carries)
-
-  -- what is shown of a step at the monitors
-  abbrev pub shown_step : Step → Shown
-  shown_step (Lock k) = shown.Lock
-  shown_step (Leave k) = shown.Leave
-  shown_step (Wait k) = shown.Wait
-  shown_step (Signal k) = shown.Signal
 
   step-known : (step : Step) → CreatesKnown s.types (effect_of step)
   step-known (Lock k) = tt

@@ -8,5 +8,6 @@ pub mod Creations
 pub mod Activations
 pub mod StoreEnds
 pub mod Events
+pub mod Turned
 pub mod Boots
 pub mod Marks

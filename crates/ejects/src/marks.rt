@@ -1,5 +1,5 @@
 //! Which turns of its own an Eject may take.
-ghost use Rattle.std.specs.Prelude.{◌≡◌, IfSome, None};
+ghost use Rattle.std.specs.Prelude.{◌≡◌, IfSome, None, is_some};
 ghost use Rattle.coordinator.specs.Ready.{AscendPast, next_ready};
 ghost use Rattle.eden_model.specs.Map.{with_item};
 ghost use Rattle.epl_syntax.specs.Rules.OfTypes.{TypeList};
@@ -9,6 +9,7 @@ ghost use Rattle.ejects.specs.View.{parts_of, number_of};
 
 use crate::Ejects;
 use capability::Uid;
+use eject_table::Standing;
 
 impl Ejects {
     /// The number of the node.
@@ -16,6 +17,17 @@ impl Ejects {
         ensures { result ≡ number_of self.now }
     {
         self.table.node()
+    }
+
+    /// Whether the Eject is active.
+    pub fn is_active(&self, uid: Uid) -> bool
+        ensures { (ts : TypeList) → result ≡ is_some (body_at (parts_of ts self.now) uid) }
+    {
+        match self.table.find(uid) {
+            Standing::Active => true,
+            Standing::Passive => false,
+            Standing::Absent => false,
+        }
     }
 
     /// Whether the Eject is passive and has a queued call.

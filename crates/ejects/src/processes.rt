@@ -9,7 +9,7 @@ ghost use Rattle.journal.specs.World.{Site};
 ghost use Rattle.journal.specs.Sites.{IsSoundSite};
 ghost use Rattle.epl_syntax.specs.Rules.OfTypes.{TypeList};
 ghost use Rattle.active_part.specs.Body.{Body, active_of};
-ghost use Rattle.ejects.specs.Parts.{body_at, IsAt, IsStep};
+ghost use Rattle.ejects.specs.Parts.{Parts, body_at, IsAt, IsStep};
 ghost use Rattle.active_part.specs.View.{stepped};
 ghost use Rattle.ejects.specs.Replies.{Returned, Invoked, Reaches};
 ghost use Rattle.passive_store.specs.Kept.{Work, IsEject};
@@ -18,6 +18,8 @@ ghost use Rattle.checkpoint.specs.Asked.{requests_of, AllOfNode};
 ghost use Rattle.ejects.specs.Asking.{RequestsAre};
 ghost use Rattle.ejects.specs.Creations.{HasNewUid};
 ghost use Rattle.ejects.specs.Events.{IsTurnOf};
+ghost use Rattle.ejects.specs.Turned.{HasTurned, shown_step};
+ghost use Rattle.journal.specs.declared.event.Event.TheVariants as event;
 ghost use Rattle.ejects.specs.Passive.{IsKeptIn};
 ghost use Rattle.active_part.specs.Bodies.{turned_body, ended_body, asking_body, crewed_body, serves_of};
 ghost use Rattle.ejects.specs.View.{parts_of, with_body};
@@ -121,6 +123,22 @@ impl Ejects {
         }
     }
 
+    // The same, and what is shown of it.
+    fn coordinates(&mut self, uid: Uid, process: u8, step: Step) -> Result<Shown, AllocError>
+        ensures { IfOk result (λ said. (said ≡ shown_step step) × ((ts : TypeList) (b : Body)
+            → body_at (parts_of ts self.old) uid ≡ Some b
+            → parts_of ts self.new ≡ with_body uid (crewed_body (stepped step process) b) (parts_of ts self.old))) }
+    {
+        let shown = match step {
+            Step::Lock { .. } => Shown::Lock,
+            Step::Leave { .. } => Shown::Leave,
+            Step::Wait { .. } => Shown::Wait,
+            Step::Signal { .. } => Shown::Signal,
+        };
+        self.coordinate_at(uid, process, step)?;
+        Ok(shown)
+    }
+
     // A process waits for the call that it made, or is told at once.
     fn ask_at(
         &mut self,
@@ -167,6 +185,73 @@ impl Ejects {
         Ok(Shown::Invoke { call: asked.call })
     }
 
+    // What a process asks for in its turn is carried out, and shown.
+    fn carry_out(
+        &mut self,
+        alloc: Global,
+        types: &Types,
+        calls: &mut Calls,
+        places: &Places,
+        worker: &mut Worker,
+        uid: Uid,
+        process: u8,
+        stays: bool,
+        effect: Effect,
+    ) -> Result<Shown, AllocError>
+        requires { length calls.old.calls < 4294967295 }
+        ensures parts { IfOk result (λ said. (reach : ℕ → Bool) (n : Parts) (s : Site) → IsSoundSite s → IsAt n calls.old s
+            → HasTurned uid process effect n (parts_of types.now self.old)
+            → IsKeptIn s uid stays → Reaches reach places.now uid.node → HasNewUid s
+            → IsStep reach (parts_of types.now self.new) calls.new s (event.Process uid process said)) }
+        ensures requests { IfOk result (λ said. (reach : ℕ → Bool) (n : Parts) (s : Site) (work : Work) (size : ℕ) → IsSoundSite s
+            → IsAt n calls.old s → HasTurned uid process effect n (parts_of types.now self.old)
+            → IsKeptIn s uid stays → RequestsAre work size worker.old s
+            → (site_turn reach (event.Process uid process said) s).node.requests ≡ requests_of work worker.new.requests.items) }
+        ensures begun { worker.new.begun ≡ worker.old.begun }
+        ensures of_node { (k : ℕ) → IsEject k uid → AllOfNode k worker.old.requests.items → AllOfNode k worker.new.requests.items }
+    {
+        match effect {
+            Effect::Return { results } => self.returns(alloc, calls, uid, process, results),
+            Effect::Invoke {
+                target,
+                operation,
+                args,
+            } => self.invokes(alloc, calls, places, uid, process, target, operation, args),
+            Effect::Create { type_name } => self.creates(alloc, types, uid, process, &type_name),
+            Effect::Checkpoint => {
+                self.checkpoints(alloc, types, worker, uid, process)?;
+                Ok(Shown::Checkpoint)
+            }
+            Effect::Destroy => {
+                self.destroys(worker, uid, process)?;
+                Ok(Shown::Destroy)
+            }
+            Effect::Fault { cause } => {
+                self.faults(alloc, calls, uid, stays)?;
+                worker.drop_requests(uid);
+                Ok(Shown::Fault { cause })
+            }
+            Effect::Deactivate => {
+                self.sleeps(alloc, calls, uid, stays)?;
+                worker.drop_requests(uid);
+                Ok(Shown::Deactivate)
+            }
+            Effect::End => {
+                let _served = self.end_at(uid, process)?;
+                Ok(Shown::End)
+            }
+            Effect::Lock { monitor } => self.coordinates(uid, process, Step::Lock { monitor }),
+            Effect::Leave { monitor } => self.coordinates(uid, process, Step::Leave { monitor }),
+            Effect::Wait { condition } => self.coordinates(uid, process, Step::Wait { condition }),
+            Effect::Signal { condition } => self.coordinates(
+                uid,
+                process,
+                Step::Signal { condition },
+            ),
+            Effect::Yield => Ok(Shown::Yield),
+        }
+    }
+
     /// A process that is not blocked takes its turn. `stays` says whether something is kept of its Eject, or may be.
     ///
     /// The requests of `worker` go on to be those of the node.
@@ -195,116 +280,14 @@ impl Ejects {
         if !self.runs_at(uid, process) {
             return Err(AllocError);
         }
-        match self.turn_at(alloc, types, uid, process)? {
-            Effect::Return { results } => {
-                let shown = self.returns(alloc, calls, uid, process, results)?;
-                Ok(Event::Process {
-                    uid,
-                    process,
-                    shown,
-                })
-            }
-            Effect::Invoke {
-                target,
-                operation,
-                args,
-            } => {
-                let shown = self.invokes(
-                    alloc, calls, places, uid, process, target, operation, args,
-                )?;
-                Ok(Event::Process {
-                    uid,
-                    process,
-                    shown,
-                })
-            }
-            Effect::Fault { cause } => {
-                self.faults(alloc, calls, uid, stays)?;
-                worker.drop_requests(uid);
-                Ok(Event::Process {
-                    uid,
-                    process,
-                    shown: Shown::Fault { cause },
-                })
-            }
-            Effect::Deactivate => {
-                self.sleeps(alloc, calls, uid, stays)?;
-                worker.drop_requests(uid);
-                Ok(Event::Process {
-                    uid,
-                    process,
-                    shown: Shown::Deactivate,
-                })
-            }
-            Effect::End => {
-                let _served = self.end_at(uid, process)?;
-                Ok(Event::Process {
-                    uid,
-                    process,
-                    shown: Shown::End,
-                })
-            }
-            Effect::Lock { monitor } => {
-                self.coordinate_at(uid, process, Step::Lock { monitor })?;
-                Ok(Event::Process {
-                    uid,
-                    process,
-                    shown: Shown::Lock,
-                })
-            }
-            Effect::Leave { monitor } => {
-                self.coordinate_at(uid, process, Step::Leave { monitor })?;
-                Ok(Event::Process {
-                    uid,
-                    process,
-                    shown: Shown::Leave,
-                })
-            }
-            Effect::Wait { condition } => {
-                self.coordinate_at(uid, process, Step::Wait { condition })?;
-                Ok(Event::Process {
-                    uid,
-                    process,
-                    shown: Shown::Wait,
-                })
-            }
-            Effect::Signal { condition } => {
-                self.coordinate_at(uid, process, Step::Signal { condition })?;
-                Ok(Event::Process {
-                    uid,
-                    process,
-                    shown: Shown::Signal,
-                })
-            }
-            Effect::Yield => Ok(Event::Process {
-                uid,
-                process,
-                shown: Shown::Yield,
-            }),
-            Effect::Checkpoint => {
-                self.checkpoints(alloc, types, worker, uid, process)?;
-                Ok(Event::Process {
-                    uid,
-                    process,
-                    shown: Shown::Checkpoint,
-                })
-            }
-            Effect::Destroy => {
-                self.destroys(worker, uid, process)?;
-                Ok(Event::Process {
-                    uid,
-                    process,
-                    shown: Shown::Destroy,
-                })
-            }
-            Effect::Create { type_name } => {
-                let shown = self.creates(alloc, types, uid, process, &type_name)?;
-                Ok(Event::Process {
-                    uid,
-                    process,
-                    shown,
-                })
-            }
-        }
+        let effect = self.turn_at(alloc, types, uid, process)?;
+        let shown = self.carry_out(
+            alloc, types, calls, places, worker, uid, process, stays, effect,
+        )?;
+        Ok(Event::Process {
+            uid,
+            process,
+            shown,
+        })
     }
 }
