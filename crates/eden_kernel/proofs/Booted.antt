@@ -1,5 +1,5 @@
 -- A node that has come up: its passive Ejects stand for those of the site.
-use Rattle.std.proofs.Common.{◌≡◌, ◌≢◌, ◌≤◌, ◌+◌, ℕ, Bool, true, false, cond, ◌||◌, List, [], Option, None, Some, refl, sym, ap, subst, ◌∙◌}
+use Rattle.std.proofs.Common.{◌≡◌, ◌≢◌, ℕ, Bool, true, false, cond, ◌||◌, List, [], Option, None, Some, refl, sym, ap, subst, ◌∙◌}
 use Rattle.std.specs.Prelude.{is_some}
 use Rattle.std.specs.Ordering.{is_eq}
 use Rattle.std.specs.Option.{option_map}
@@ -18,7 +18,7 @@ use Rattle.invocation.specs.Mail.{Mail}
 use Rattle.invocation.specs.Carries.{Carries}
 use Rattle.passive_store.specs.declared.store.Pick.{Pick}
 use Rattle.passive_store.specs.declared.store.Pick.TheVariants as pick
-use Rattle.passive_store.specs.Kept.{Layout, Kept, Work, Idle, body_at as kept_at, doubt_in}
+use Rattle.passive_store.specs.Kept.{Layout, Kept, Idle, body_at as kept_at, doubt_in}
 use Rattle.passive_store.specs.Seen.{Seen}
 use Rattle.journal.specs.declared.event.BootEnd.TheVariants as end
 use Rattle.journal.specs.World.{Active, Eject, Site, eject_in, on_node, on_traffic}
@@ -30,8 +30,8 @@ use Rattle.journal.specs.Settling.{epoch_uid, settled, settled_eject}
 use Rattle.journal.proofs.KeptTurns.{value-each}
 use Rattle.checkpoint.specs.Asked.{StandsNow, requests_of}
 use Rattle.checkpoint.specs.Boots.{BootsUp, put_after}
-use Rattle.checkpoint.specs.Changes.{Facts, facts_of, facts_in, no_facts}
-use Rattle.checkpoint.specs.StoreStands.{MapStands, doubt_of, state_of}
+use Rattle.checkpoint.specs.Changes.{Facts, facts_of}
+use Rattle.checkpoint.specs.StoreStands.{MapStands, state_of}
 use Rattle.checkpoint.specs.Turns.{with_clock}
 use Rattle.checkpoint.specs.declared.up.BootNote.{BootNote}
 use Rattle.checkpoint.specs.declared.worker.Worker.{Worker}
@@ -41,8 +41,7 @@ use Rattle.ejects.specs.Parts.{Parts, Known, known, body_at, queue_of, held_of, 
 use Rattle.ejects.specs.Parts.{Stands as StandsFor}
 use Rattle.ejects.specs.View.{parts_of}
 use Rattle.ejects.specs.declared.Ejects.{Ejects}
-use Rattle.eden_kernel.specs.Boots.{IsIdle, IsAsleep, standing_as, HasNoted, NodeBoots, BootsPut}
-use Rattle.eden_kernel.specs.Stands.{NodeStands}
+use Rattle.eden_kernel.specs.Boots.{IsIdle, IsAsleep, HasNoted, NodeBoots, BootsPut}
 
 -- 1. No Eject is active behind a settling, nor behind the boot
 

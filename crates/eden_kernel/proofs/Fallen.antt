@@ -6,7 +6,7 @@ use Rattle.invocation.specs.Mail.{Mail}
 use Rattle.invocation.specs.Carries.{Carries}
 use Rattle.passive_store.specs.Kept.{Layout, Work}
 use Rattle.passive_store.specs.Seen.{Seen}
-use Rattle.journal.specs.World.{Site, StoreRequest, on_eject}
+use Rattle.journal.specs.World.{Site, on_eject}
 use Rattle.checkpoint.specs.Asked.{StandsNow, requests_of}
 use Rattle.checkpoint.specs.declared.worker.Request.{Request}
 use Rattle.checkpoint.specs.declared.worker.Worker.{Worker}

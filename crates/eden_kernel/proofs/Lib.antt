@@ -5,3 +5,9 @@ pub mod Booted
 pub mod Noted
 pub mod Outcomes
 pub mod StoreLeaves
+pub mod StoreTurn
+pub mod Activating
+pub mod Starving
+pub mod Showing
+pub mod Created
+pub mod Looking

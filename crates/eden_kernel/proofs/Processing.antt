@@ -3,7 +3,6 @@ use Rattle.std.proofs.Common.{◌≡◌, ◌≢◌, ◌≤◌, ◌+◌, ℕ, nat
 use Rattle.std.proofs.Common.{Result, Ok, Err, refl, sym, ap, subst, ◌∙◌, arith}
 use Rattle.std.specs.Prelude.{is_some, IsSomeAnd}
 use Rattle.std.specs.Option.{option_map}
-use Rattle.std.specs.FinMap as finite
 use Rattle.std.specs.FinMap.Entries.{find-put}
 use Rattle.std.specs.Ordering.{eq_by_cmp}
 use Rattle.capability.specs.declared.Uid.{Uid}
@@ -13,7 +12,7 @@ use Rattle.capability.specs.declared.TheConstants.{BODY_LIMIT}
 use Rattle.eden_value.specs.declared.status.Status.{Status}
 use Rattle.eden_value.specs.declared.status.Status.TheVariants as status
 use Rattle.eden_codec.specs.Spelling.{spelling}
-use Rattle.eden_model.specs.Map.{value_at, put_at, uid_cmp, same_uid, with_item}
+use Rattle.eden_model.specs.Map.{value_at, uid_cmp, with_item}
 use Rattle.eden_model.specs.Crew.{Process}
 use Rattle.eden_model.proofs.Laws.{eq-same}
 use Rattle.epl_syntax.specs.Rules.OfTypes.{TypeList}
@@ -23,29 +22,26 @@ use Rattle.epl_syntax.specs.declared.effect.Answer.TheVariants.{Created as Made}
 use Rattle.epl_syntax.specs.declared.effect.Effect.{Effect}
 use Rattle.epl_syntax.specs.declared.effect.Effect.TheVariants as effect
 use Rattle.invocation.specs.Mail.{Mail}
-use Rattle.passive_store.specs.Kept.{Layout, Kept, body_at as kept_at, doubt_in}
-use Rattle.passive_store.specs.Kept.{Change as StoreChange}
+use Rattle.passive_store.specs.Kept.{Layout, body_at as kept_at, doubt_in}
 use Rattle.passive_store.specs.Seen.{Seen}
 use Rattle.journal.specs.Change.{Change, body, removal}
 use Rattle.journal.specs.declared.event.Event.{Event}
 use Rattle.journal.specs.declared.event.Event.TheVariants as event
 use Rattle.journal.specs.declared.event.Shown.{Shown}
-use Rattle.journal.specs.World.{Active, Eject, Node, Site, StoreRequest, eject_in, on_eject, on_node}
-use Rattle.journal.specs.Ejects.{with_active, on_active, newborn, born, fresh, next_uid, stored_epoch, is_kept, tells}
-use Rattle.journal.specs.Processes.{turn_of, turned, process_turn, worker_at, serving, effected, creates, AllowsTurn, CreatesKnown}
-use Rattle.journal.specs.Processes.{shown_of}
+use Rattle.journal.specs.World.{Active, Eject, Site, StoreRequest, eject_in, on_eject, on_node}
+use Rattle.journal.specs.Ejects.{with_active, on_active, newborn, born, fresh, next_uid, stored_epoch, tells}
+use Rattle.journal.specs.Processes.{turn_of, turned, process_turn, worker_at, creates, AllowsTurn, CreatesKnown}
 use Rattle.journal.specs.Settling.{epoch_uid}
-use Rattle.journal.specs.Sites.{AllThere}
 use Rattle.journal.specs.Step.{AllowsAt, site_turn}
 use Rattle.journal.proofs.Ordered.{order-put}
 use Rattle.checkpoint.specs.Asked.{StandsNow}
 use Rattle.checkpoint.specs.Changes.{Facts, facts_of, facts_in}
-use Rattle.checkpoint.specs.StoreStands.{MapStands, IsOrdered, doubt_of}
-use Rattle.checkpoint.proofs.Dropped.{stands-shift, stands-same, stands-dropped, stands-asked}
+use Rattle.checkpoint.specs.StoreStands.{IsOrdered, doubt_of}
+use Rattle.checkpoint.proofs.Dropped.{stands-same, stands-dropped, stands-asked}
 use Rattle.checkpoint.proofs.Frames.{all-there}
-use Rattle.checkpoint.proofs.Shifts.{Shift, same_facts, same_requests, shift-then, shift-on_eject, shift-tells}
+use Rattle.checkpoint.proofs.Shifts.{Shift, same_facts, same_requests, shift-on_eject, shift-tells}
 use Rattle.active_part.specs.Body.{Body, active_of}
-use Rattle.ejects.specs.Parts.{Parts, Known, known, body_at, held_of, Stands}
+use Rattle.ejects.specs.Parts.{Parts, Known, known, body_at, Stands}
 use Rattle.ejects.proofs.Delivered.{found-active}
 use Rattle.ejects.proofs.Turns.{effect-is}
 use Rattle.ejects.proofs.Shifting.{wished, asked_after, CreatesNone, process-shift}
@@ -196,7 +192,7 @@ next-is false false why who v w is = let e : ◌≡◌ {A = Result Uid Status} (
 abbrev next-uid : Site → Uid
 next-uid s = record { node = s.number; epoch = stored_epoch s.node; serial = s.node.last_serial + 1 }
 
-uid-is : (s : Site) (v : Uid) → next_uid s ≡ Ok v → next-uid s ≡ v
+pub uid-is : (s : Site) (v : Uid) → next_uid s ≡ Ok v → next-uid s ≡ v
 uid-is s v is = next-is (nat_le 4096 (count s.node)) (nat_le 4294967295 s.node.last_serial) status.TooMany status.SerialsSpent v
     (next-uid s) is
 

@@ -7,7 +7,7 @@ use Rattle.eden_value.specs.declared.status.Status.{Status}
 use Rattle.eden_model.specs.Map.{with_item}
 use Rattle.eden_model.specs.declared.Asker.{Asker}
 use Rattle.eden_model.specs.declared.Asker.TheVariants.{Shell, Eject as Process}
-use Rattle.eden_model.specs.Traffic.{Call, call_at, replied, taken, changed_call, at_place, held}
+use Rattle.eden_model.specs.Traffic.{call_at, replied, taken, changed_call, at_place, held}
 use Rattle.epl_syntax.specs.Rules.OfTypes.{TypeList}
 use Rattle.epl_syntax.specs.declared.effect.Answer.TheVariants.{Reply as Told}
 use Rattle.invocation.specs.Mail.{Mail}
@@ -15,7 +15,7 @@ use Rattle.passive_store.specs.Kept.{Layout}
 use Rattle.passive_store.specs.Seen.{Seen}
 use Rattle.journal.specs.declared.event.Event.{Event}
 use Rattle.journal.specs.declared.event.Event.TheVariants as event
-use Rattle.journal.specs.World.{Active, Eject, Site, StoreRequest, on_eject, on_node, on_traffic}
+use Rattle.journal.specs.World.{Active, Eject, Site, on_node, on_traffic}
 use Rattle.journal.specs.Ejects.{with_active, on_active}
 use Rattle.journal.specs.Deliveries.{requested, received, tells_asker, heard}
 use Rattle.journal.specs.Processes.{start, with_start}
@@ -25,14 +25,14 @@ use Rattle.checkpoint.specs.Changes.{facts_of}
 use Rattle.checkpoint.specs.Turns.{with_clock}
 use Rattle.checkpoint.specs.declared.worker.Worker.{Worker}
 use Rattle.checkpoint.proofs.Dropped.{stands-same}
-use Rattle.checkpoint.proofs.Shifts.{Shift, same_facts, same_requests, shift-same, shift-then, shift-on_traffic, shift-on_eject}
+use Rattle.checkpoint.proofs.Shifts.{Shift, same_facts, same_requests, shift-then, shift-on_traffic, shift-on_eject}
 use Rattle.checkpoint.proofs.Shifts.{shift-item, shift-tells}
 use Rattle.checkpoint.proofs.StoreTurns.{node-quiet}
 use Rattle.ejects.specs.Events.{IsDelivery, IsStartOf}
-use Rattle.ejects.specs.Parts.{Parts, IsAt, IsStep}
+use Rattle.ejects.specs.Parts.{IsAt, IsStep}
 use Rattle.ejects.specs.View.{parts_of}
 use Rattle.ejects.specs.declared.Ejects.{Ejects}
-use Rattle.eden_kernel.specs.Stands.{Held, requests_in, NodeStands}
+use Rattle.eden_kernel.specs.Stands.{requests_in, NodeStands}
 use Rattle.eden_kernel.specs.Turns.{Turns}
 
 -- 1. What the turns of calls do to what the disk knows

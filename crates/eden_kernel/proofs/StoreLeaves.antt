@@ -5,20 +5,18 @@ use Rattle.std.specs.List.{filter_map}
 use Rattle.std.specs.Option.{option_map}
 use Rattle.std.specs.Ordering.{eq_by_cmp}
 use Rattle.capability.specs.declared.Uid.{Uid}
-use Rattle.eden_disk.specs.Told.{Told}
 use Rattle.eden_model.specs.Map.{with_item, rest, uid_cmp}
 use Rattle.eden_value.specs.declared.status.Status.{Status}
 use Rattle.eden_value.specs.declared.status.Status.TheVariants as status
-use Rattle.epl_syntax.specs.declared.effect.Answer.{Answer}
 use Rattle.epl_syntax.specs.declared.effect.Answer.TheVariants.{Code}
 use Rattle.passive_store.specs.declared.store.Pick.{Pick}
 use Rattle.passive_store.specs.Kept.{Layout, Work, Idle, Busy, Unsettled, doubt_in, is_busy}
 use Rattle.passive_store.specs.Seen.{Seen}
-use Rattle.journal.specs.Change.{Change, body, removal, kept_of}
+use Rattle.journal.specs.Change.{removal, kept_of}
 use Rattle.journal.specs.declared.event.RequestEnd.{RequestEnd}
 use Rattle.journal.specs.declared.event.RequestEnd.TheVariants as end
-use Rattle.journal.specs.World.{Active, Eject, Node, Site, StoreRequest, eject_in, on_eject, on_node}
-use Rattle.journal.specs.Ejects.{with_active, on_active, told, tells, dropped_of}
+use Rattle.journal.specs.World.{Active, Eject, Site, StoreRequest, eject_in, on_eject, on_node}
+use Rattle.journal.specs.Ejects.{with_active, on_active, told, dropped_of}
 use Rattle.journal.specs.Settling.{first_request}
 use Rattle.journal.specs.Stores.{syncs, reads, unkept, without_room, calls, work_of, EndsSo, store_turn, worked, stored, done, removed}
 use Rattle.journal.specs.Stores.{tells_code, request_ended}
@@ -61,7 +59,7 @@ after-removal layout n k end.Full r next rs y h = own-queue layout n k next rs y
 after-removal layout n k end.Fault r next rs y h = own-queue layout n k next rs y h
 after-removal layout n k end.Stop r next rs y h = own-queue layout n k next rs y h
 
-state-clocked : (n k : ℕ) (t : Site) → state_of n (with_clock k t).node ≡ state_of n t.node
+pub state-clocked : (n k : ℕ) (t : Site) → state_of n (with_clock k t).node ≡ state_of n t.node
 unfolding on_node
 state-clocked n k t = refl
 
@@ -199,7 +197,7 @@ dropped-requests v u qs h = still-idle v (left_in false u qs) h ∙ left-waiting
 -- 4. The turn of a node that goes on
 
 -- the calls know no clock
-is-at-clocked : (n : Parts) (m : Mail) (c : ℕ) (t : Site) → IsAt n m t → IsAt n m (with_clock c t)
+pub is-at-clocked : (n : Parts) (m : Mail) (c : ℕ) (t : Site) → IsAt n m t → IsAt n m (with_clock c t)
 unfolding on_node
 is-at-clocked n m c t h = record {
   parts = record {

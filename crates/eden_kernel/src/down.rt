@@ -2,7 +2,7 @@
 ghost use Rattle.std.specs.Prelude.{◌≡◌, ◌≤◌, ℕ, Bool, IsSome, IsTrue, OnOk};
 ghost use Rattle.epl_syntax.specs.Rules.OfTypes.{TypeList};
 ghost use Rattle.invocation.specs.Mail.{Mail};
-ghost use Rattle.eden_disk.specs.Calls.{calls_until};
+ghost use Rattle.eden_disk.specs.Calls.{armed, calls_until};
 ghost use Rattle.passive_store.specs.Kept.{doubt_in};
 ghost use Rattle.passive_store.specs.Seen.{disk_seen};
 ghost use Rattle.journal.specs.World.{Site};
@@ -11,7 +11,9 @@ ghost use Rattle.checkpoint.specs.Asked.{noted_in};
 ghost use Rattle.checkpoint.specs.Turns.{with_clock};
 ghost use Rattle.ejects.specs.Parts.{body_at};
 ghost use Rattle.ejects.specs.View.{parts_of};
+ghost use Rattle.journal.specs.declared.event.Event.TheVariants.{Armed, Crash};
 ghost use Rattle.eden_kernel.specs.Boots.{IsAsleep};
+ghost use Rattle.disk_faults.specs.Shows.{ShowsCounts};
 ghost use Rattle.eden_kernel.specs.Stands.{held, IsWhole, NodeStands};
 ghost use Rattle.eden_kernel.specs.Turns.{Crashes, OnDisk, told_broken};
 
@@ -26,6 +28,11 @@ impl<St: Store> Node<St> {
     /// The node crashes. Its disk is left, without power, and what was in doubt there.
     pub fn crash(self, mode: ImageMode) -> (St::Device, Option<Doubt>)
         ensures counts { St.Device.counts result.0 ≡ record (St.seen self.store).disk.counts { power = Bool.false } }
+
+        // What falls due is not forgotten.
+        ensures due { St.Device.due result.0 ≡ (St.seen self.store).disk.due }
+        ensures shows { ShowsCounts St.Device.obeys self.number (Crash self.number) (St.seen self.store).disk
+            (disk_seen St.Device.counts St.Device.told St.Device.due result.0) }
         ensures asleep { (s : Site) (clock : ℕ) → IsAsleep (with_clock clock (crashed s)) }
         ensures turn { IsTrue St.Device.tells → (ts : TypeList) (m : Mail) (s : Site) → NodeStands St.layout ts (held St.seen self) m s
             → Crashes St.layout (held St.seen self) s result.1 (St.Device.counts result.0) (St.Device.told result.0) }
@@ -48,7 +55,14 @@ impl<St: Store> Node<St> {
         requires calls { 1 ≤ calls_until what }
         requires whole { IsWhole (held St.seen self.old) }
         ensures whole { IsWhole (held St.seen self.new) }
+        ensures more { (St.seen self.new.store).more ≡ (St.seen self.old.store).more }
         ensures counts { (St.seen self.new.store).disk.counts ≡ (St.seen self.old.store).disk.counts }
+
+        // It falls due so many calls later.
+        ensures due { IsTrue St.Device.obeys → (St.seen self.new.store).disk.due
+            ≡ armed what (St.seen self.old.store).disk.counts.clock (St.seen self.old.store).disk.due }
+        ensures shows { ShowsCounts St.Device.obeys self.old.number (Armed self.old.number what) (St.seen self.old.store).disk
+            (St.seen self.new.store).disk }
         ensures stands { IsTrue St.Device.tells → (ts : TypeList) (m : Mail) (s : Site)
             → NodeStands St.layout ts (held St.seen self.old) m s → NodeStands St.layout ts (held St.seen self.new) m s }
         ensures disk { IsTrue St.Device.tells → (ts : TypeList) (m : Mail) (s : Site) → NodeStands St.layout ts (held St.seen self.old) m s

@@ -1,10 +1,16 @@
 //! A node: its Ejects, its store with the requests that wait for it, and the turns that it takes.
 #![tactic(auto)]
 
+mod activations;
+mod creations;
 mod deliveries;
 mod down;
+#[cfg(test)]
+mod end_tests;
+mod looks;
 mod processes;
 mod starts;
+mod stores;
 #[cfg(test)]
 mod tests;
 mod up;
@@ -12,6 +18,7 @@ mod up;
 use checkpoint::Worker;
 use ejects::Ejects;
 use passive_store::Store;
+pub use stores::TurnEnd;
 
 /// A node that is up.
 #[derive(Drop)]

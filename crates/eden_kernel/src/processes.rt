@@ -34,7 +34,7 @@ fn is_kept<St: Store>(store: &St, uid: Uid) -> bool
 }
 
 // Whether the uid is that of an Eject of this node.
-fn is_eject(number: u8, uid: Uid) -> bool
+pub(crate) fn is_eject(number: u8, uid: Uid) -> bool
     ensures { IsTrue result → IsEject number uid }
 {
     uid.node == number && uid.epoch >= 1 && uid.serial >= 1

@@ -7,6 +7,8 @@ ghost use Rattle.invocation.specs.Carries.{Carries};
 ghost use Rattle.eden_disk.specs.Calls.{Fine};
 ghost use Rattle.passive_store.specs.Kept.{IsEject, IsNextKept};
 ghost use Rattle.passive_store.specs.Layout.{IsLayout};
+ghost use Rattle.passive_store.specs.Seen.{disk_seen};
+ghost use Rattle.journal.specs.declared.event.BootEnd.TheVariants.{Up};
 ghost use Rattle.journal.specs.World.{Site};
 ghost use Rattle.journal.specs.Sites.{HasEpochs};
 ghost use Rattle.checkpoint.specs.Boots.{FallsTo};
@@ -15,6 +17,8 @@ ghost use Rattle.checkpoint.specs.Calls.{MakesCalls, powered, call_of_fall};
 ghost use Rattle.checkpoint.specs.Turns.{RestStands};
 ghost use Rattle.ejects.specs.View.{parts_of};
 ghost use Rattle.eden_kernel.specs.Boots.{HasNoted, IsLater, rank_of, IsAsleep, NodeBoots, BootsPut};
+ghost use Rattle.disk_faults.specs.Shows.{ShowsCounts};
+ghost use Rattle.eden_kernel.specs.Shows.{FallShows, boot_event};
 ghost use Rattle.eden_kernel.specs.Stands.{held, IsWhole};
 
 use crate::Node;
@@ -83,6 +87,11 @@ impl<St: Store> Node<St> {
         ensures calls { MatchResult result
             (λ r. MakesCalls (powered (St.Device.counts disk)) (St.seen r.0.store).disk.counts Fine)
             (λ r. MakesCalls (powered (St.Device.counts disk)) (St.Device.counts r.0) (call_of_fall r.1.end)) }
+
+        // What the event of the boot shows of the disk was due, where that obeys.
+        ensures shows { IsTrue St.Device.tells → let of = disk_seen St.Device.counts St.Device.told St.Device.due in
+            MatchResult result (λ r. ShowsCounts St.Device.obeys number (boot_event number Up r.1) (of disk) (St.seen r.0.store).disk)
+            (λ r. FallShows St.Device.obeys number r.1.end r.1.note (of disk) (of r.0)) }
         ensures up { IsTrue St.Device.tells → IfOk result (λ r. (ts : TypeList) (m : Mail) (s : Site)
             → IsLayout St.layout → HasEpochs s.node → (more : ℕ) → 1 ≤ more → s.types ≡ types_in ts → IsAsleep s → Carries m s.traffic
             → RestStands St.layout number more s doubt (St.Device.counts disk).size (St.Device.counts disk).clock (St.Device.told disk)

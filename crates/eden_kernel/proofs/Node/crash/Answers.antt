@@ -1,6 +1,8 @@
 use Rattle.passive_store.specs.Seen.{Seen}
 use Rattle.checkpoint.specs.Asked.{requests_of}
 use Rattle.eden_kernel.proofs.Booted.{asleep-crashed}
+use Rattle.passive_store.specs.Seen.{disk_seen}
+use Rattle.eden_kernel.proofs.Showing.{shows-crash}
 use Rattle.eden_kernel.proofs.Node.crash.Goals as goal
 
 pub returns-clause-asleep : goal.returns-clause-asleep
@@ -14,3 +16,8 @@ returns-clause-turn g c = λ so ts m s h.
       allowed = h.disk.up;
       falls = record { rests = c.crash.ensures.rests so s asked h.disk; disk = c.crash.ensures.disk so s asked h.disk };
     }
+
+pub returns-clause-shows : goal.returns-clause-shows
+returns-clause-shows g c = shows-crash g.St.Device.Disk.obeys c.args.self.number (g.St.Store.seen c.args.self.store).disk
+    (disk_seen g.St.Device.Disk.counts g.St.Device.Disk.told g.St.Device.Disk.due c.crash.result.0) c.crash.ensures.counts
+    c.crash.ensures.due

@@ -1,9 +1,5 @@
-use Rattle.std.proofs.Common.{◌-◌, ℕ}
-use Rattle.std.specs.Prelude.{IfSome, IsTrue}
+use Rattle.std.proofs.Common.{◌-◌}
 use Rattle.std.specs.Option.{option_map_or}
-use Rattle.passive_store.specs.Kept.{IsEject}
-use Rattle.epl_syntax.specs.Rules.OfTypes.{TypeList}
-use Rattle.ejects.specs.View.{parts_of}
 use Rattle.eden_kernel.proofs.Noted.{IsListing}
 use Rattle.eden_kernel.specs.Boots.{rank_of}
 use Rattle.eden_kernel.proofs.up.passive_ejects.Given as goal

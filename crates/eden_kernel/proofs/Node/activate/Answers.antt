@@ -1,0 +1,134 @@
+use Rattle.std.proofs.Common.{List, Option, refl, sym, subst, ◌∙◌}
+use Rattle.eden_value.specs.Datum.{Datum}
+use Rattle.epl_syntax.specs.Edentype.{Edentype}
+use Rattle.passive_store.specs.Seen.{Seen}
+use Rattle.journal.specs.World.{StoreRequest}
+use Rattle.journal.specs.declared.event.Event.TheVariants as event
+use Rattle.checkpoint.specs.Asked.{requests_of}
+use Rattle.checkpoint.specs.Starting.{StartsTo, end_of_start, values_of}
+use Rattle.checkpoint.proofs.Activations.{any-err}
+use Rattle.eden_kernel.specs.DiskTurns.{EndsTurn, begun_as}
+use Rattle.eden_kernel.proofs.Activating.{turn-activates, apart-of}
+use Rattle.eden_kernel.proofs.Starving.{starves-still, starves-started}
+use Rattle.journal.specs.Step.{touches_start}
+use Rattle.checkpoint.specs.Calls.{MakesCalls}
+use Rattle.checkpoint.specs.Starting.{call_of_start}
+use Rattle.checkpoint.specs.Touches.{Touches, ObeyedIn, RaisesClock}
+use Rattle.eden_kernel.proofs.Showing.{shows-start, none-falls, none-fell}
+use Rattle.eden_kernel.proofs.Node.activate.Goals as goal
+
+pub returns-clause-turn : goal.returns-clause-turn
+returns-clause-turn g c = λ so law reach s sound h.
+    let n = c.args.self.now in
+    let ts = c.args.types.now in
+    let new = c.activation_ends.new.ejects in
+    let p = c.in_ok-start.pick in
+    let how = c.in_ok-end.end in
+    let x : Seen = g.St.Store.seen n.store in
+    let y : Seen = g.St.Store.seen c.start_from.new.store in
+    let rs : List StoreRequest = requests_of x.work n.worker.requests.items in
+    let start : Option (Edentype × List Datum) = values_of (begun_as ts) c.in_ok-start.start in
+    subst (λ b. EndsTurn b g.St.Store.layout ts (record { number = n.number; ejects = new; worker = n.worker; seen = y })
+    c.activation_ends.new.calls reach (record { number = n.number; ejects = n.ejects; worker = n.worker; seen = x }) s
+    (event.Activate c.args.uid how p)) (sym c.end_behind.ensures)
+    (turn-activates g.St.Store.layout ts n.number x y n.ejects c.settle_ejects.new.ejects new n.worker c.args.calls.now
+    c.activation_ends.new.calls reach s c.start_from.ensures.node h c.args.uid p start
+    (sym (c.may_wake.ensures ts) ∙ c.if-not-may_wake.false) how
+    (subst (λ e. StartsTo g.St.Store.layout x.node s rs c.args.uid x e start p y) (sym c.in_ok-end.ensures.how)
+    (c.in_ok-start.ensures.starts so law (apart-of n.number x.node c.args.uid (c.is_eject.ensures c.if-not-is_eject.false)) s rs
+    h.calls.parts.types h.disk))
+    (λ z stands settles. c.in_ok-settle_ejects.ensures so ts z stands
+    (λ v q doubts picked. settles v q (sym c.unsure-doubted.ensures ∙ doubts) picked))
+    (λ up allowed values at. c.in_ok-end.ensures.turn reach s p sound up allowed values at))
+
+pub returns-then-not-is_eject-clause-starves : goal.returns-then-not-is_eject-clause-starves
+returns-then-not-is_eject-clause-starves g c = λ so law s h.
+    let n = c.args.self.now in
+    let x : Seen = g.St.Store.seen n.store in
+    starves-still g.St.Store.layout s (requests_of x.work n.worker.requests.items) x x h.disk refl
+
+pub returns-then-not-may_wake-clause-starves : goal.returns-then-not-may_wake-clause-starves
+returns-then-not-may_wake-clause-starves g c = λ so law s h.
+    let n = c.args.self.now in
+    let x : Seen = g.St.Store.seen n.store in
+    starves-still g.St.Store.layout s (requests_of x.work n.worker.requests.items) x x h.disk refl
+
+pub returns-then-is_worked_on-clause-starves : goal.returns-then-is_worked_on-clause-starves
+returns-then-is_worked_on-clause-starves g c = λ so law s h.
+    let n = c.args.self.now in
+    let x : Seen = g.St.Store.seen n.store in
+    starves-still g.St.Store.layout s (requests_of x.work n.worker.requests.items) x x h.disk refl
+
+pub returns-in_err-settle_ejects-clause-starves : goal.returns-in_err-settle_ejects-clause-starves
+returns-in_err-settle_ejects-clause-starves g c = λ so law.
+    let n = c.args.self.now in
+    let ts = c.args.types.now in
+    let p = c.in_ok-start.pick in
+    let x : Seen = g.St.Store.seen n.store in
+    let y : Seen = g.St.Store.seen c.start_from.new.store in
+    let rs : List StoreRequest = requests_of x.work n.worker.requests.items in
+    any-err c.from_residual-in_err-settle_ejects.result _ (λ s h.
+    starves-started g.St.Store.layout s rs c.args.uid x y (end_of_start c.in_ok-start.start) (values_of (begun_as ts) c.in_ok-start.start) p
+    (c.in_ok-start.ensures.starts so law (apart-of n.number x.node c.args.uid (c.is_eject.ensures c.if-not-is_eject.false)) s rs
+    h.calls.parts.types h.disk))
+
+-- what it shows of the disk
+pub returns-clause-shows : goal.returns-clause-shows
+returns-clause-shows g c =
+    let n = c.args.self.now in
+    let x : Seen = g.St.Store.seen n.store in
+    let y : Seen = g.St.Store.seen c.start_from.new.store in
+    shows-start g.St.Device.Disk.obeys n.number c.args.uid c.in_ok-end.end c.in_ok-start.pick x.disk y.disk
+    ((c.is_eject.ensures c.if-not-is_eject.false).0)
+    (subst (λ e. MakesCalls x.disk.counts y.disk.counts (call_of_start e)) (sym c.in_ok-end.ensures.how) c.in_ok-start.ensures.calls)
+    (subst (λ e. ObeyedIn g.St.Device.Disk.obeys x.disk y.disk (call_of_start e))
+    (sym c.in_ok-end.ensures.how) c.in_ok-start.ensures.obeyed)
+    (subst (λ e. RaisesClock (call_of_start e) x.disk.counts.clock y.disk.counts.clock) (sym c.in_ok-end.ensures.how)
+    c.in_ok-start.ensures.raises)
+
+pub returns-clause-touches : goal.returns-clause-touches
+returns-clause-touches g c = λ so law s h.
+    let n = c.args.self.now in
+    let x : Seen = g.St.Store.seen n.store in
+    let y : Seen = g.St.Store.seen c.start_from.new.store in
+    subst (λ e. Touches (touches_start s c.args.uid) x.disk.counts y.disk.counts (call_of_start e)) (sym c.in_ok-end.ensures.how)
+    (c.in_ok-start.ensures.touches so law (apart-of n.number x.node c.args.uid (c.is_eject.ensures c.if-not-is_eject.false)) s
+    (requests_of x.work n.worker.requests.items) h.disk)
+
+-- where there was no memory
+pub returns-then-not-is_eject-clause-counts : goal.returns-then-not-is_eject-clause-counts
+returns-then-not-is_eject-clause-counts g c = none-fell _ _ refl
+
+pub returns-then-not-may_wake-clause-counts : goal.returns-then-not-may_wake-clause-counts
+returns-then-not-may_wake-clause-counts g c = none-fell _ _ refl
+
+pub returns-then-is_worked_on-clause-counts : goal.returns-then-is_worked_on-clause-counts
+returns-then-is_worked_on-clause-counts g c = none-fell _ _ refl
+
+pub returns-in_err-start-clause-counts : goal.returns-in_err-start-clause-counts
+returns-in_err-start-clause-counts g c = any-err c.from_residual.result _
+    (let m = c.start_from.ensures.calls in none-falls m.made (g.St.Store.seen c.args.self.now.store).disk.counts
+    (g.St.Store.seen c.start_from.new.store).disk.counts _ m.counts)
+
+pub returns-in_err-settle_ejects-clause-counts : goal.returns-in_err-settle_ejects-clause-counts
+returns-in_err-settle_ejects-clause-counts g c = any-err c.from_residual-in_err-settle_ejects.result _
+    (let m = c.start_from.ensures.calls in none-falls m.made (g.St.Store.seen c.args.self.now.store).disk.counts
+    (g.St.Store.seen c.start_from.new.store).disk.counts _ m.counts)
+
+pub returns-in_err-end-clause-counts : goal.returns-in_err-end-clause-counts
+returns-in_err-end-clause-counts g c = any-err c.from_residual-in_err-end.result _
+    (let m = c.start_from.ensures.calls in none-falls m.made (g.St.Store.seen c.args.self.now.store).disk.counts
+    (g.St.Store.seen c.start_from.new.store).disk.counts _ m.counts)
+
+pub returns-in_err-end-clause-starves : goal.returns-in_err-end-clause-starves
+returns-in_err-end-clause-starves g c = λ so law.
+    let n = c.args.self.now in
+    let ts = c.args.types.now in
+    let p = c.in_ok-start.pick in
+    let x : Seen = g.St.Store.seen n.store in
+    let y : Seen = g.St.Store.seen c.start_from.new.store in
+    let rs : List StoreRequest = requests_of x.work n.worker.requests.items in
+    any-err c.from_residual-in_err-end.result _ (λ s h.
+    starves-started g.St.Store.layout s rs c.args.uid x y (end_of_start c.in_ok-start.start) (values_of (begun_as ts) c.in_ok-start.start) p
+    (c.in_ok-start.ensures.starts so law (apart-of n.number x.node c.args.uid (c.is_eject.ensures c.if-not-is_eject.false)) s rs
+    h.calls.parts.types h.disk))

@@ -1,0 +1,206 @@
+//! Passive Ejects are activated.
+ghost use Rattle.std.specs.Prelude.{◌≡◌, ◌≢◌, ℕ, Bool, Option, Some, false, IfOk, IfErr, IfSome, IsTrue, OnOk, OnErr, is_some};
+ghost use Rattle.epl_syntax.specs.Meaning.{types_in};
+ghost use Rattle.epl_syntax.specs.Rules.OfTypes.{TypeList};
+ghost use Rattle.passive_store.specs.Kept.{body_at, worked_on};
+ghost use Rattle.passive_store.specs.Layout.{IsLayout};
+ghost use Rattle.journal.specs.Settling.{settled};
+ghost use Rattle.journal.specs.Sites.{IsSoundSite};
+ghost use Rattle.journal.specs.Starts.{start_settled};
+ghost use Rattle.journal.specs.Step.{AllowsAt, site_turn, touches_start};
+ghost use Rattle.journal.specs.World.{Site};
+ghost use Rattle.journal.specs.declared.event.Event.TheVariants as event;
+ghost use Rattle.checkpoint.specs.Starting.{StartsWith, end_of_start, values_of};
+ghost use Rattle.checkpoint.specs.Touches.{Touches, ReadsByCalls};
+ghost use Rattle.ejects.specs.Parts.{IsAt, Stands};
+ghost use Rattle.ejects.specs.StoreEnds.{SettlesAt};
+ghost use Rattle.ejects.specs.View.{parts_of};
+ghost use Rattle.eden_kernel.specs.DiskTurns.{EndsTurn, IsWholeBehind, IsActivation, Starves, behind_start, begun_as};
+ghost use Rattle.disk_faults.specs.Shows.{ShowsCounts, NoneFalls};
+ghost use Rattle.eden_kernel.specs.Shows.{call_of_event};
+ghost use Rattle.eden_kernel.specs.Stands.{held, IsWhole, NodeStands};
+ghost use Rattle.eden_kernel.specs.declared.stores.TurnEnd.TheVariants.{Up, Down};
+
+use crate::processes::is_eject;
+use crate::{Node, TurnEnd};
+use capability::Uid;
+use checkpoint::{Start, Starter, start_from};
+use eden_codec::Rep;
+use eden_value::{Items, Status};
+use edentypes::Kind;
+use ejects::Ejects;
+use epl_syntax::Types;
+use invocation::Calls;
+use journal::{Event, StartEnd};
+use passive_store::{Pick, Store};
+use std::alloc::{AllocError, Global};
+
+/// The types of a script, as what starts an Eject from a representation.
+#[derive(Drop)]
+struct Kinds<'a> {
+    types: &'a Types,
+}
+
+/// An Eject that starts: its type and its durable values.
+#[derive(Drop)]
+struct Begun {
+    kind: Kind,
+    durable: Items,
+}
+
+impl Starter for Kinds<'_> {
+    type Started = Begun;
+
+    ghost types = { λ kinds. types_in kinds.types.now };
+
+    ghost started = { λ kinds. begun_as kinds.types.now };
+
+    fn start(&self, alloc: Global, rep: Rep, me: Uid) -> Result<Option<Begun>, AllocError> {
+        match edentypes::start_from(alloc, self.types, &rep, me)? {
+            Some((kind, durable)) => Ok(Some(Begun { kind, durable })),
+            None => Ok(None),
+        }
+    }
+}
+
+// Whether a job of the store is about the Eject.
+fn is_worked_on<St: Store>(store: &St, uid: Uid) -> bool
+    ensures { result ≡ false → worked_on (St.seen store.now).work ≢ Some uid }
+{
+    match store.working_on() {
+        Some(other) => other == uid,
+        None => false,
+    }
+}
+
+// Whether the node goes on behind an activation.
+fn end_behind(end: StartEnd) -> TurnEnd
+    ensures { result ≡ behind_start end }
+{
+    match end {
+        StartEnd::Ok => TurnEnd::Up,
+        StartEnd::Gone => TurnEnd::Up,
+        StartEnd::Fault => TurnEnd::Up,
+        StartEnd::Damaged => TurnEnd::Up,
+        StartEnd::Stop => TurnEnd::Down,
+    }
+}
+
+// The Ejects behind a settling, by what is kept then of the one that was in doubt.
+fn settle_ejects<St: Store>(
+    ejects: &mut Ejects,
+    store: &St,
+    doubted: Option<Uid>,
+    pick: Option<Pick>,
+) -> Result<(), AllocError>
+    ensures { IsTrue St.Device.tells → OnOk result ((ts : TypeList) (s : Site) → Stands (parts_of ts ejects.old) s
+        → ((v : Uid) (p : Pick) → doubted ≡ Some v → pick ≡ Some p → SettlesAt v (is_some (body_at (St.seen store.now).kept v)) p s)
+        → Stands (parts_of ts ejects.new) (settled pick s)) }
+{
+    match pick {
+        None => Ok(()),
+        Some(_) => {
+            let Some(uncertain) = doubted else {
+                return Err(AllocError);
+            };
+            ejects.settles(uncertain, store.holds(uncertain));
+            Ok(())
+        }
+    }
+}
+
+// The Eject starts, or its queue is answered, behind the settling.
+fn activation_ends(
+    alloc: Global,
+    types: &Types,
+    calls: &mut Calls,
+    ejects: &mut Ejects,
+    uid: Uid,
+    start: Start<Begun>,
+) -> Result<StartEnd, AllocError>
+    ensures how { IfOk result (λ how. how ≡ end_of_start start) }
+    ensures calls { IfOk result (λ how. behind_start how ≡ Down → calls.new ≡ calls.old) }
+    ensures turn { IfOk result (λ how. (reach : ℕ → Bool) (s : Site) (p : Option Pick) → IsSoundSite s → behind_start how ≡ Up
+        → AllowsAt s (event.Activate uid how p) → IfSome (values_of (begun_as types.now) start) (StartsWith s uid p)
+        → IsAt (parts_of types.now ejects.old) calls.old (start_settled p s)
+        → IsAt (parts_of types.now ejects.new) calls.new (site_turn reach (event.Activate uid how p) s)) }
+{
+    match start {
+        Start::Values { start } => {
+            let Begun { kind, durable } = start;
+            ejects.wake(alloc, types, calls, uid, kind, &durable)?;
+            Ok(StartEnd::Ok)
+        }
+        Start::Gone => {
+            ejects.turn_away(alloc, calls, uid, Status::Gone)?;
+            Ok(StartEnd::Gone)
+        }
+        Start::Fault => {
+            ejects.turn_away(alloc, calls, uid, Status::StoreFault)?;
+            Ok(StartEnd::Fault)
+        }
+        Start::Damaged => {
+            ejects.turn_away(alloc, calls, uid, Status::Damaged)?;
+            Ok(StartEnd::Damaged)
+        }
+        Start::Stopped => Ok(StartEnd::Stop),
+    }
+}
+
+impl<St: Store> Node<St> {
+    /// A passive Eject that has queued calls, and on which the store does not work, is activated: a doubt whose request has ended is
+    /// settled, what is kept is read, and the Eject starts from it, or its queue is answered. Where the disk stops the node is down,
+    /// and is to be closed.
+    ///
+    /// For want of memory the device calls may have been made, and the node is not to go on.
+    pub fn activate(
+        &mut self,
+        alloc: Global,
+        types: &Types,
+        calls: &mut Calls,
+        uid: Uid,
+    ) -> Result<(Event, TurnEnd), AllocError>
+        requires whole { IsWhole (held St.seen self.old) }
+        ensures whole { IfOk result (λ r. IsWholeBehind r.1 (held St.seen self.new)) }
+
+        // No call knows yet of a disk that stopped.
+        ensures calls { IfOk result (λ r. r.1 ≡ Down → calls.new ≡ calls.old) }
+        ensures event { IfOk result (λ r.
+            IsActivation uid (St.seen self.old.store).disk.counts (St.seen self.new.store).disk.counts r.0) }
+
+        // It makes device calls exactly where the activation of the node does.
+        ensures touches { IsTrue St.Device.tells → ReadsByCalls St.layout → IfOk result (λ r. (s : Site)
+            → NodeStands St.layout types.now (held St.seen self.old) calls.old s
+            → Touches (touches_start s uid) (St.seen self.old.store).disk.counts (St.seen self.new.store).disk.counts (call_of_event r.0)) }
+
+        // What it shows of the disk was due, where that obeys.
+        ensures shows { IfOk result (λ r.
+            ShowsCounts St.Device.obeys self.old.number r.0 (St.seen self.old.store).disk (St.seen self.new.store).disk) }
+        ensures counts { OnErr result (NoneFalls (St.seen self.old.store).disk.counts (St.seen self.new.store).disk.counts) }
+
+        // The room is told for as many changes as before.
+        ensures more { (St.seen self.new.store).more ≡ (St.seen self.old.store).more }
+        ensures turn { IsTrue St.Device.tells → IsLayout St.layout → IfOk result (λ r. (reach : ℕ → Bool) (s : Site) → IsSoundSite s
+            → NodeStands St.layout types.now (held St.seen self.old) calls.old s
+            → EndsTurn r.1 St.layout types.now (held St.seen self.new) calls.new reach (held St.seen self.old) s r.0) }
+        ensures starves { IsTrue St.Device.tells → IsLayout St.layout → IfErr result (λ _. (s : Site)
+            → NodeStands St.layout types.now (held St.seen self.old) calls.old s
+            → Starves St.layout s (St.seen self.old.store) (St.seen self.new.store)) }
+    {
+        if !is_eject(self.number, uid) {
+            return Err(AllocError);
+        }
+        if !self.ejects.may_wake(uid) {
+            return Err(AllocError);
+        }
+        if is_worked_on(&self.store, uid) {
+            return Err(AllocError);
+        }
+        let doubted = self.store.unsure();
+        let kinds = Kinds { types };
+        let (start, pick) = start_from(alloc, &mut self.store, &kinds, uid)?;
+        settle_ejects(&mut self.ejects, &self.store, doubted, pick)?;
+        let end = activation_ends(alloc, types, calls, &mut self.ejects, uid, start)?;
+        Ok((Event::Activate { uid, end, pick }, end_behind(end)))
+    }
+}
