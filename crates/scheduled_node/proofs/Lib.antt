@@ -1,0 +1,6 @@
+pub mod Others
+pub mod Deciding
+pub mod Turning
+pub mod Standing
+pub mod KeysOf
+pub mod Touched

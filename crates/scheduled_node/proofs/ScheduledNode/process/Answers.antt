@@ -1,0 +1,10 @@
+use Rattle.eden_kernel.specs.Stands.{held}
+use Rattle.agenda.specs.Indexed.{indices_of}
+use Rattle.scheduled_node.proofs.Standing.{scheduled-turns}
+use Rattle.scheduled_node.proofs.ScheduledNode.process.Goals as goal
+
+pub returns-clause-turn : goal.returns-clause-turn
+returns-clause-turn g c = λ so reach s reached sound fresh h.
+    scheduled-turns g.St.Store.layout c.args.types.now (held g.St.Store.seen c.args.self.now.node) (held g.St.Store.seen c.process.new.self)
+    (indices_of c.args.self.now.agenda) (indices_of c.note.new.agenda) c.args.calls.now c.process.new.calls reach s c.in_ok-event.event
+    c.ejects.result.now c.ejects.ensures sound h (c.in_ok-event.ensures.turn so reach s reached sound fresh h.node) c.in_ok-note.ensures

@@ -1,0 +1,83 @@
+use Rattle.std.proofs.Common.{refl, sym, subst, arith}
+use Rattle.ejects.specs.Events.{IsDelivery}
+use Rattle.ejects.specs.Replies.{Reaches}
+use Rattle.checkpoint.proofs.Activations.{any-err}
+use Rattle.checkpoint.proofs.WholeBoots.{map-err}
+use Rattle.eden_kernel.specs.Stands.{held}
+use Rattle.eden_kernel.proofs.Outcomes.{both-ok}
+use Rattle.scheduled_node.specs.Scheduled.{manned}
+use Rattle.scheduled_node.proofs.KeysOf.{key-delivered, key-activated, key-started, key-turned, key-stored, node-of}
+use Rattle.scheduled_node.proofs.Standing.{allowed-by}
+use Rattle.scheduled_node.proofs.Touched.{starves-same, touches-stored}
+use Rattle.scheduled_node.proofs.ScheduledNode.turn.Goals as goal
+
+pub returns-in-1-clause-turn : goal.returns-in-1-clause-turn
+returns-in-1-clause-turn g c = λ so law.
+    both-ok _ _ _ c.delivery.result c.delivery.ensures.event (c.delivery.ensures.turn so) (λ r is turn reach s fits reached sound fresh some h.
+    record {
+      turn = turn reach s sound h;
+      key = key-delivered s.number c.args.key r.0 c.in-1.is (subst (λ n. IsDelivery c.args.key.sender n r.0)
+          (sym h.node.calls.parts.number) is) fits;
+    })
+
+pub returns-in-2-clause-turn : goal.returns-in-2-clause-turn
+returns-in-2-clause-turn g c = λ so law.
+    both-ok _ _ _ c.activate.result c.activate.ensures.event (c.activate.ensures.turn so law) (λ r is turn reach s fits reached sound fresh
+    some h. record { turn = turn reach s sound h; key = key-activated s.number c.args.key _ _ r.0 c.in-2.is is fits })
+
+pub returns-in_ok-event-in-3-clause-turn : goal.returns-in_ok-event-in-3-clause-turn
+returns-in_ok-event-in-3-clause-turn g c = λ so law reach s fits reached sound fresh some h. record {
+  turn = c.in_ok-event-in-3.ensures.turn so reach s sound h;
+  key = key-started s.number c.args.key c.in_ok-event-in-3.event c.in-3.is c.in_ok-event-in-3.ensures.event fits;
+}
+
+pub returns-in_ok-event-in-4-clause-turn : goal.returns-in_ok-event-in-4-clause-turn
+returns-in_ok-event-in-4-clause-turn g c = λ so law reach s fits reached sound fresh some h.
+    let four = c.in-4.is in
+    record {
+      turn = c.in_ok-event-in-4.ensures.turn so reach s (subst (λ n. Reaches reach c.args.places.now n)
+          (sym (node-of s.number c.args.key (omega (arith, four)) (omega (arith, four)) fits)) reached) sound fresh h;
+      key = key-turned s.number c.args.key c.in_ok-event-in-4.event four c.in_ok-event-in-4.ensures.event fits;
+    }
+
+pub returns-in-5-clause-turn : goal.returns-in-5-clause-turn
+returns-in-5-clause-turn g c = λ so law.
+    both-ok _ _ _ c.store_turn.result c.store_turn.ensures.event (c.store_turn.ensures.turn so) (λ r is turn reach s fits reached sound fresh
+    some h.
+    let ends = turn c.args.types.now reach s sound some h in
+    record {
+      turn = ends;
+      key = key-stored s c.args.key _ _ r.0 sound
+          (allowed-by r.1 g.St.Store.layout c.args.types.now (manned g.St.Store.seen c.store_turn.new.self) c.store_turn.new.calls reach
+          (manned g.St.Store.seen c.args.self.now) s r.0 ends) c.in-5.is is fits;
+    })
+
+pub returns-in-1-clause-starves : goal.returns-in-1-clause-starves
+returns-in-1-clause-starves g c = λ so law. any-err c.delivery.result _ (λ s sound some h.
+    starves-same g.St.Store.layout c.args.types.now c.args.calls.now s (held g.St.Store.seen c.args.self.now.node)
+    (g.St.Store.seen c.delivery.new.self.node.store) h c.delivery.ensures.store)
+
+pub returns-in_err-event-in-3-clause-starves : goal.returns-in_err-event-in-3-clause-starves
+returns-in_err-event-in-3-clause-starves g c = λ so law. any-err c.from_residual.result _ (λ s sound some h.
+    starves-same g.St.Store.layout c.args.types.now c.args.calls.now s (held g.St.Store.seen c.args.self.now.node)
+    (g.St.Store.seen c.start.new.self.node.store) h c.start.ensures.store)
+
+pub returns-in_err-event-in-4-clause-starves : goal.returns-in_err-event-in-4-clause-starves
+returns-in_err-event-in-4-clause-starves g c = λ so law. any-err c.from_residual-in_err-event-in-4.result _ (λ s sound some h.
+    starves-same g.St.Store.layout c.args.types.now c.args.calls.now s (held g.St.Store.seen c.args.self.now.node)
+    (g.St.Store.seen c.process.new.self.node.store) h c.process.ensures.store)
+
+pub returns-in_default-clause-starves : goal.returns-in_default-clause-starves
+returns-in_default-clause-starves g c = λ so law s sound some h.
+    starves-same g.St.Store.layout c.args.types.now c.args.calls.now s (held g.St.Store.seen c.args.self.now.node)
+    (g.St.Store.seen c.args.self.now.node.store) h refl
+
+pub returns-in-5-clause-starves : goal.returns-in-5-clause-starves
+returns-in-5-clause-starves g c = λ so law.
+    map-err _ _ c.store_turn.result (λ e starves. starves c.args.types.now) (c.store_turn.ensures.starves so)
+
+pub returns-in-5-clause-touches : goal.returns-in-5-clause-touches
+returns-in-5-clause-touches g c = λ so reads.
+    both-ok _ _ _ c.store_turn.result c.store_turn.ensures.event (c.store_turn.ensures.touches so) (λ r is touches s some h.
+    touches-stored s r.0 (g.St.Store.seen c.args.self.now.node.store).disk (g.St.Store.seen c.store_turn.new.self.node.store).disk is
+    (touches c.args.types.now s some h))

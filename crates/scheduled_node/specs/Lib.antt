@@ -1,0 +1,4 @@
+pub mod Others
+pub mod Scheduled
+pub mod Keys
+pub mod Touched

@@ -1,0 +1,24 @@
+//! A node with the agenda of its turns, so that its next turn is found among its busy Ejects alone.
+#![tactic(auto)]
+
+mod boots;
+mod creations;
+mod deliveries;
+mod down;
+mod looks;
+mod noting;
+mod steps;
+#[cfg(test)]
+mod tests;
+mod turns;
+
+use agenda::Agenda;
+use eden_kernel::Node;
+use passive_store::Store;
+
+/// A node that is up, with the agenda of its turns.
+#[derive(Drop)]
+pub struct ScheduledNode<St: Store> {
+    node: Node<St>,
+    agenda: Agenda,
+}

@@ -1,0 +1,113 @@
+//! The turn of a key.
+ghost use Rattle.std.specs.Prelude.{◌≡◌, ◌≤◌, ◌<◌, ◌+◌, ℕ, Bool, IfErr, IfOk, IsTrue, OnErr, length};
+ghost use Rattle.passive_store.specs.Layout.{IsLayout};
+ghost use Rattle.journal.specs.Sites.{IsSoundSite};
+ghost use Rattle.journal.specs.World.{Site};
+ghost use Rattle.checkpoint.specs.Touches.{ReadsByCalls};
+ghost use Rattle.disk_faults.specs.Shows.{NoneFalls, ShowsCounts};
+ghost use Rattle.ejects.specs.Creations.{HasNewUid};
+ghost use Rattle.ejects.specs.Events.{IsDelivery};
+ghost use Rattle.ejects.specs.Replies.{Reaches};
+ghost use Rattle.ejects.specs.View.{number_of};
+ghost use Rattle.eden_kernel.specs.DiskTurns.{IsWholeBehind, Starves};
+ghost use Rattle.eden_kernel.specs.Stands.{held, IsWhole, NodeStands};
+ghost use Rattle.eden_kernel.specs.declared.stores.TurnEnd.TheVariants.{Up, Down};
+ghost use Rattle.scheduled_node.specs.Keys.{IsKeyOf};
+ghost use Rattle.scheduled_node.specs.Scheduled.{manned, ScheduledStands, EndsScheduledTurn, KeyTurns};
+ghost use Rattle.scheduled_node.specs.Touched.{TurnTouches};
+
+use crate::ScheduledNode;
+use eden_kernel::TurnEnd;
+use epl_syntax::Types;
+use invocation::Calls;
+use journal::{Event, Key};
+use locator::Places;
+use passive_store::Store;
+use std::alloc::{AllocError, Global};
+
+impl<St: Store> ScheduledNode<St> {
+    /// The turn of a key of the node: a delivery, an activation, a start, or a turn of a process or of the store. Where the disk stops
+    /// the node is down, and is to be closed. It gives up where the key is not enabled.
+    ///
+    /// For want of memory a device call may have been made, and the node is not to go on.
+    pub fn turn(
+        &mut self,
+        alloc: Global,
+        types: &Types,
+        calls: &mut Calls,
+        places: &Places,
+        key: Key,
+    ) -> Result<(Event, TurnEnd), AllocError>
+        requires calls { length calls.old.calls < 4294967295 }
+        requires whole { IsWhole (held St.seen self.old.node) }
+        ensures whole { IfOk result (λ r. IsWholeBehind r.1 (held St.seen self.new.node)) }
+
+        // No call knows yet of a disk that stopped.
+        ensures calls { IfOk result (λ r. r.1 ≡ Down → calls.new ≡ calls.old) }
+
+        // It makes device calls exactly where that turn of the node does.
+        ensures touches { IsTrue St.Device.tells → ReadsByCalls St.layout → IfOk result (λ r. (s : Site)
+            → 1 ≤ (St.seen self.old.node.store).more → NodeStands St.layout types.now (held St.seen self.old.node) calls.old s
+            → TurnTouches s r.0 (St.seen self.old.node.store).disk (St.seen self.new.node.store).disk) }
+
+        // What it shows of the disk was due, where that obeys.
+        ensures shows { IfOk result (λ r. ShowsCounts St.Device.obeys self.old.node.number r.0
+            (St.seen self.old.node.store).disk (St.seen self.new.node.store).disk) }
+        ensures counts { OnErr result
+            (NoneFalls (St.seen self.old.node.store).disk.counts (St.seen self.new.node.store).disk.counts) }
+
+        // Of the changes for which the room is told it takes one at most.
+        ensures more { IsTrue St.Device.tells → IfOk result (λ r. (s : Site) → 1 ≤ (St.seen self.old.node.store).more
+            → NodeStands St.layout types.now (held St.seen self.old.node) calls.old s
+            → (St.seen self.old.node.store).more ≤ (St.seen self.new.node.store).more + 1) }
+        ensures turn { IsTrue St.Device.tells → IsLayout St.layout → IfOk result (λ r. (reach : ℕ → Bool) (s : Site)
+            → IsKeyOf s.number key → Reaches reach places.now s.number → IsSoundSite s → HasNewUid s
+            → 1 ≤ (St.seen self.old.node.store).more
+            → ScheduledStands St.layout types.now (manned St.seen self.old) calls.old s
+            → KeyTurns r.1 St.layout types.now (manned St.seen self.new) calls.new reach (manned St.seen self.old) s r.0 key) }
+        ensures starves { IsTrue St.Device.tells → IsLayout St.layout → IfErr result (λ _. (s : Site) → IsSoundSite s
+            → 1 ≤ (St.seen self.old.node.store).more → NodeStands St.layout types.now (held St.seen self.old.node) calls.old s
+            → Starves St.layout s (St.seen self.old.node.store) (St.seen self.new.node.store)) }
+    {
+        match key.kind {
+            1 => self.delivery(alloc, types, calls, key),
+            2 => self.activate(alloc, types, calls, key.uid),
+            3 => {
+                let event = self.start(alloc, types, calls, key.uid)?;
+                Ok((event, TurnEnd::Up))
+            }
+            4 => {
+                let event = self.process(alloc, types, calls, places, key.uid, key.process)?;
+                Ok((event, TurnEnd::Up))
+            }
+            5 => self.store_turn(alloc, calls),
+            _ => Err(AllocError),
+        }
+    }
+
+    // A message is delivered, which is there.
+    fn delivery(
+        &mut self,
+        alloc: Global,
+        types: &Types,
+        calls: &mut Calls,
+        key: Key,
+    ) -> Result<(Event, TurnEnd), AllocError>
+        requires whole { IsWhole (held St.seen self.old.node) }
+        ensures whole { IfOk result (λ r. IsWholeBehind r.1 (held St.seen self.new.node)) }
+        ensures up { IfOk result (λ r. r.1 ≡ Up) }
+        ensures store { St.seen self.new.node.store ≡ St.seen self.old.node.store }
+        ensures event { IfOk result (λ r. IsDelivery key.sender (number_of self.old.node.ejects) r.0) }
+        ensures turn { IsTrue St.Device.tells → IfOk result (λ r. (reach : ℕ → Bool) (s : Site) → IsSoundSite s
+            → ScheduledStands St.layout types.now (manned St.seen self.old) calls.old s
+            → EndsScheduledTurn r.1 St.layout types.now (manned St.seen self.new) calls.new reach (manned St.seen self.old) s r.0) }
+    {
+        if key.sender > 8 {
+            return Err(AllocError);
+        }
+        match self.deliver(alloc, types, calls, key.sender)? {
+            Some(event) => Ok((event, TurnEnd::Up)),
+            None => Err(AllocError),
+        }
+    }
+}
