@@ -1,0 +1,24 @@
+//! The components of a path.
+ghost use Rattle.std.specs.Prelude.{◌≡◌, IfOk};
+ghost use Rattle.journal.specs.Run.{components};
+
+use eden_value::Txt;
+use std::alloc::{AllocError, Global};
+
+/// The components of a path, which slashes part. There is one at least.
+pub fn components(alloc: Global, path: &[u8]) -> Result<Vec<Txt>, AllocError>
+    ensures { IfOk result (λ parts. parts.items ≡ components path.now) }
+{
+    let mut parts = Vec::new(alloc);
+    let mut part = Vec::new(alloc);
+    for byte in path {
+        if *byte == b'/' {
+            parts.push(Txt { bytes: part })?;
+            part = Vec::new(alloc);
+        } else {
+            part.push(*byte)?;
+        }
+    }
+    parts.push(Txt { bytes: part })?;
+    Ok(parts)
+}

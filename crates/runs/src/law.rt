@@ -1,0 +1,14 @@
+//! What holds of every run, apart from any code.
+ghost use Rattle.runs.specs.Laws.{RunsMayBegin, EntriesAreFew};
+
+/// Each world on the way of a fit script, over disks that are handed in as they have to be, is as machines take
+/// it: its sites are sound, its next uids are new, its epochs are bounded. It offers the types of the script and
+/// the nodes that it boots, where there is a disk for each.
+pub fn a_run_may_begin()
+    ensures { RunsMayBegin }
+{}
+
+/// Fit commands give at most 1,025 entries each besides those of turns.
+pub fn entries_are_few()
+    ensures { EntriesAreFew }
+{}

@@ -1,0 +1,14 @@
+//! Runs of a script by any machine: the turns and commands that follow the script, and the history of what happened.
+#![tactic(auto)]
+
+mod components;
+mod law;
+mod machine;
+mod run;
+#[cfg(test)]
+mod tests;
+mod walk;
+
+pub use law::{a_run_may_begin, entries_are_few};
+pub use machine::Machine;
+pub use run::Run;

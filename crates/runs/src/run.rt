@@ -1,0 +1,228 @@
+//! A run: a machine that takes turns and carries commands out, and the history so far.
+ghost use Rattle.std.specs.Prelude.{◌≡◌, ◌<◌, ◌≤◌, ◌+◌, [], ℕ, List, None, IfOk, OnOk, OnErr, IsTrue};
+ghost use Rattle.std.specs.List.{All, Contains};
+ghost use Rattle.journal.specs.World.{World};
+ghost use Rattle.journal.specs.Run.{turn_is, turns};
+ghost use Rattle.journal.specs.Enabled.{enabled};
+ghost use Rattle.runs.specs.Reached.{IsReached};
+ghost use Rattle.runs.specs.Machines.{plain};
+ghost use Rattle.runs.specs.Room.{is_single};
+
+use crate::machine::Machine;
+use journal::{Command, Entry, Event, Key, Names};
+use std::alloc::{AllocError, Global};
+
+// The greatest number of turns of a script.
+const MOST_TURNS: u32 = 100_000;
+
+/// A run in progress.
+#[derive(Drop)]
+pub struct Run<M> {
+    pub machine: M,
+    /// What happened, entry by entry.
+    pub history: Vec<Entry>,
+    /// How many turns were taken.
+    pub turns: u32,
+    /// The key of the last of them.
+    pub last: Option<Key>,
+}
+
+// An entry that touches no disk and breaks no call.
+pub fn plain(alloc: Global, event: Event) -> Entry
+    ensures { result ≡ plain event }
+{
+    Entry {
+        event,
+        node: 0,
+        clock: 0,
+        broken: Names {
+            items: Vec::new(alloc),
+        },
+    }
+}
+
+/// How a turn chooses among the enabled keys.
+#[derive(Clone, Copy)]
+pub enum Choice {
+    /// The least past the last one, or the least of all.
+    Following,
+    /// The one at this place, counted round.
+    Item { i: u32 },
+}
+
+// Whether a command gives one entry.
+pub fn is_single(command: &Command) -> bool
+    ensures { result ≡ is_single command.now }
+{
+    match command {
+        Command::Go { .. } => false,
+        Command::Turn { .. } => false,
+        Command::Walk { .. } => false,
+        _ => true,
+    }
+}
+
+impl<M: Machine> Run<M> {
+    ghost use Rattle.runs.specs.Runs.{TakesTurn, TurnFails, TakesCommand, CommandFails, DoesDue, PartOfDue, CarriesCommand, PartOfCommand};
+    ghost use Rattle.runs.specs.Runs.{KeepsShown, KeepsShownSoFar, CarriesAll, CarriesPart, chosen_by};
+
+    /// A run of which nothing has happened yet.
+    pub fn new(alloc: Global, machine: M) -> Run<M>
+        ensures machine { result.machine ≡ machine }
+        ensures history { result.history.items ≡ [] }
+        ensures turns { result.turns ≡ 0 }
+        ensures last { result.last ≡ None }
+    {
+        Run {
+            machine,
+            history: Vec::new(alloc),
+            turns: 0,
+            last: None,
+        }
+    }
+
+    /// The machine and the history, once the run is over.
+    pub fn into_parts(self) -> (M, Vec<Entry>)
+        ensures machine { result.0 ≡ self.machine }
+        ensures history { result.1 ≡ self.history }
+    {
+        let Run {
+            machine,
+            history,
+            turns: _,
+            last: _,
+        } = self;
+        (machine, history)
+    }
+
+    fn choose(&self, alloc: Global, choice: Choice) -> Result<Option<Key>, AllocError>
+        requires whole { M.whole self.now.machine }
+        ensures { IfOk result (λ key. (more : ℕ) (w : World) → IsReached w → M.stands self.now.machine more w → w.last ≡ self.now.last
+            → key ≡ chosen_by choice w (enabled w)) }
+    {
+        match choice {
+            Choice::Following => Ok(self.machine.following(self.last)),
+            Choice::Item { i } => self.machine.item(alloc, i),
+        }
+    }
+
+    /// Takes a turn, and tells whether it took a key. Room for the entry is taken before the turn.
+    pub fn take_turn(&mut self, alloc: Global, choice: Choice) -> Result<bool, AllocError>
+        requires whole { M.whole self.old.machine }
+        ensures done { IfOk result (TakesTurn M.stands M.did self.old self.new choice) }
+        ensures fails { OnErr result (TurnFails M.stands M.did M.starved self.old self.new) }
+        ensures history { OnErr result (self.new.history.items ≡ self.old.history.items) }
+        ensures shown { OnOk result (KeepsShown M.shows self.old self.new) }
+        ensures whole { OnOk result (M.whole self.new.machine) }
+        // a turn that takes a key is counted
+        ensures counted { IfOk result (λ went. IsTrue went → (self.old.turns < 100000) × (self.new.turns ≡ self.old.turns + 1)) }
+    {
+        self.history.reserve(1)?;
+        if self.turns >= MOST_TURNS {
+            self.history.push_reserved(plain(alloc, Event::Spent));
+            return Ok(false);
+        }
+        match self.choose(alloc, choice)? {
+            Some(key) => {
+                let entry = self.machine.take(alloc, key)?;
+                self.history.push_reserved(entry);
+                self.turns += 1;
+                self.last = Some(key);
+                Ok(true)
+            }
+            None => {
+                self.history.push_reserved(plain(alloc, Event::Quiet));
+                Ok(false)
+            }
+        }
+    }
+
+    /// Takes up to n turns, in the order of keys.
+    fn go(&mut self, alloc: Global, n: u32) -> Result<(), AllocError>
+        requires whole { M.whole self.old.machine }
+        ensures done { OnOk result (1 ≤ n → DoesDue M.stands M.did self.old self.new (turns n)) }
+        ensures part { OnErr result (1 ≤ n → PartOfDue M.stands M.did M.starved self.old self.new (turns n)) }
+        ensures shown { OnOk result (KeepsShown M.shows self.old self.new) }
+        ensures whole { OnOk result (M.whole self.new.machine) }
+        ensures shown_part { OnErr result (KeepsShownSoFar M.shows self.old self.new) }
+    {
+        for _ in 0..n {
+            if !self.take_turn(alloc, Choice::Following)? {
+                return Ok(());
+            }
+        }
+        Ok(())
+    }
+
+    /// Takes the turn of the enabled key at a place.
+    fn turn(&mut self, alloc: Global, i: u32) -> Result<(), AllocError>
+        requires whole { M.whole self.old.machine }
+        ensures done { OnOk result (DoesDue M.stands M.did self.old self.new (turn_is i)) }
+        ensures part { OnErr result (PartOfDue M.stands M.did M.starved self.old self.new (turn_is i)) }
+        ensures shown { OnOk result (KeepsShown M.shows self.old self.new) }
+        ensures whole { OnOk result (M.whole self.new.machine) }
+        ensures shown_part { OnErr result (KeepsShownSoFar M.shows self.old self.new) }
+    {
+        let _took = self.take_turn(alloc, Choice::Item { i })?;
+        Ok(())
+    }
+
+    // A command that gives one entry.
+    fn command(&mut self, alloc: Global, command: &Command) -> Result<(), AllocError>
+        requires single { IsTrue (is_single command.now) }
+        requires whole { M.whole self.old.machine }
+        ensures done { OnOk result (TakesCommand M.stands M.did self.old self.new command.now) }
+        ensures fails { OnErr result (CommandFails M.stands M.did M.starved self.old self.new command.now) }
+        ensures history { OnErr result (self.new.history.items ≡ self.old.history.items) }
+        ensures shown { OnOk result (KeepsShown M.shows self.old self.new) }
+        ensures whole { OnOk result (M.whole self.new.machine) }
+    {
+        self.history.reserve(1)?;
+        let entry = self.machine.carry_out(alloc, command)?;
+        self.history.push_reserved(entry);
+        Ok(())
+    }
+
+    // Any command.
+    fn carry_out(&mut self, alloc: Global, command: &Command) -> Result<(), AllocError>
+        requires whole { M.whole self.old.machine }
+        ensures done { OnOk result (CarriesCommand M.stands M.did self.old self.new command.now) }
+        ensures part { OnErr result (PartOfCommand M.stands M.did M.starved self.old self.new command.now) }
+        ensures shown { OnOk result (KeepsShown M.shows self.old self.new) }
+        ensures whole { OnOk result (M.whole self.new.machine) }
+        ensures shown_part { OnErr result (KeepsShownSoFar M.shows self.old self.new) }
+    {
+        if is_single(command) {
+            return self.command(alloc, command);
+        }
+        match command {
+            Command::Go { n } => self.go(alloc, *n),
+            Command::Turn { i } => self.turn(alloc, *i),
+            Command::Walk { name, target, path } => self.walk(alloc, name, target, path),
+            _ => unreachable!(),
+        }
+    }
+
+    /// Boots the nodes and carries all commands out.
+    pub fn carry_all(
+        &mut self,
+        alloc: Global,
+        nodes: u8,
+        commands: &[Command],
+    ) -> Result<(), AllocError>
+        requires whole { M.whole self.old.machine }
+        ensures done { OnOk result (CarriesAll M.stands M.did self.old self.new nodes commands.now) }
+        ensures part { OnErr result (CarriesPart M.stands M.did M.starved self.old self.new nodes commands.now) }
+        ensures shown { OnOk result (KeepsShown M.shows self.old self.new) }
+        ensures whole { OnOk result (M.whole self.new.machine) }
+        ensures shown_part { OnErr result (KeepsShownSoFar M.shows self.old self.new) }
+    {
+        for node in 0..nodes {
+            self.command(alloc, &Command::Restart { node: node + 1 })?;
+        }
+        for command in commands {
+            self.carry_out(alloc, command)?;
+        }
+        Ok(())
+    }
+}

@@ -1,0 +1,6 @@
+mod Tables
+mod Depths
+mod Within
+mod Results
+pub mod Worlds
+pub mod Others
