@@ -1,0 +1,10 @@
+//! A script for each number: Cells on three nodes, calls of them, crashes and restarts.
+#![tactic(auto)]
+
+mod draws;
+mod lines;
+mod script;
+#[cfg(test)]
+mod tests;
+
+pub use script::gen_script;

@@ -1,0 +1,78 @@
+use crate::{FileDisk, OpenRefusal, open_disks};
+use eden_disk::{Arm, Disk, ImageMode};
+use std::fs;
+use std::test::Fail;
+
+const FOLDER: &str = "file_disk_test";
+
+const SIZE: u32 = 70_000;
+
+// A folder of no files.
+fn make_folder(rt: &HostRuntime) -> Result<(), Fail> {
+    let _ = fs::remove_dir_all(rt, FOLDER);
+    fs::create_dir(rt, FOLDER)?;
+    Ok(())
+}
+
+// What was written and synced is read again by the disks that are opened next, and by them alone.
+#[test]
+fn files_keep_what_was_written(rt: HostRuntime) -> Result<(), Fail> {
+    make_folder(&rt)?;
+    let Ok(mut disks) = open_disks(rt.alloc(), &rt, FOLDER, SIZE) else {
+        assert!(rt; false);
+        return Ok(());
+    };
+    assert_eq!(rt; disks.len(), 8);
+    let Some(disk) = disks.get_mut(2) else {
+        assert!(rt; false);
+        return Ok(());
+    };
+    disk.restart();
+    assert_eq!(rt; disk.size(), SIZE);
+    assert!(rt; disk.write(SIZE - 3, b"abc").is_ok());
+    assert!(rt; disk.sync().is_ok());
+    disk.cut_power(ImageMode::Lose);
+    disk.restart();
+    disk.arm(Arm::Fail { after: 1 });
+    let mut bytes = [9u8; 4];
+    assert!(rt; disk.read(SIZE - 4, &mut bytes).is_ok());
+    assert_eq!(rt; bytes, *b"\0abc");
+    assert_eq!(rt; disk.clock(), 3);
+    assert_eq!(rt; disk.faults(), 0);
+    assert_eq!(rt; disk.stops(), 0);
+    assert_eq!(rt; disk.wants(), 0);
+    drop(disks);
+    let Ok(mut again) = open_disks(rt.alloc(), &rt, FOLDER, SIZE) else {
+        assert!(rt; false);
+        return Ok(());
+    };
+    for (index, wanted) in [(2, *b"c"), (3, *b"\0")] {
+        let Some(disk) = again.get_mut(index) else {
+            assert!(rt; false);
+            return Ok(());
+        };
+        disk.restart();
+        assert_eq!(rt; disk.size(), SIZE);
+        let mut last = [9u8; 1];
+        assert!(rt; disk.read(SIZE - 1, &mut last).is_ok());
+        assert_eq!(rt; last, wanted);
+    }
+    fs::remove_dir_all(&rt, FOLDER)?;
+    Ok(())
+}
+
+// A file of another size is refused, and no file is made beside it; nor in a folder that is none.
+#[test]
+fn another_size_is_refused(rt: HostRuntime) -> Result<(), Fail> {
+    let _ = fs::remove_dir_all(&rt, "file_disk_sizes");
+    fs::create_dir(&rt, "file_disk_sizes")?;
+    fs::write(&rt, "file_disk_sizes/disk5", b"short".as_slice())?;
+    let opened = open_disks(rt.alloc(), &rt, "file_disk_sizes", SIZE);
+    assert!(rt; matches!(opened, Err(OpenRefusal::Cannot)));
+    assert!(rt; !fs::exists(&rt, "file_disk_sizes/disk1")?);
+    assert_eq!(rt; fs::metadata(&rt, "file_disk_sizes/disk5")?.len(), 5);
+    fs::remove_dir_all(&rt, "file_disk_sizes")?;
+    let opened = open_disks(rt.alloc(), &rt, "file_disk_sizes", SIZE);
+    assert!(rt; matches!(opened, Err(OpenRefusal::Cannot)));
+    Ok(())
+}
