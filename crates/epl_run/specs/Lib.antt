@@ -1,0 +1,4 @@
+pub mod Blocks
+pub mod Acts
+pub mod Begins
+pub mod Upgraded

@@ -1,0 +1,258 @@
+//! What a step does.
+ghost use Rattle.std.specs.Prelude.{◌≡◌, List, map, IfOk};
+ghost use Rattle.eden_value.specs.View.{datum};
+ghost use Rattle.epl_syntax.specs.Tree as tree;
+ghost use Rattle.epl_syntax.specs.Tree.{type_tree};
+ghost use Rattle.epl_syntax.specs.Operators.{found};
+ghost use Rattle.epl_syntax.specs.Expressions as expressions;
+ghost use Rattle.epl_syntax.specs.Statements as meaning;
+ghost use Rattle.epl_syntax.specs.Statements.{Step, does};
+ghost use Rattle.epl_values.specs.Comes.{Comes};
+ghost use Rattle.epl_values.specs.Variables.{memory};
+ghost use Rattle.epl_run.specs.Acts as spec;
+ghost use Rattle.epl_syntax.specs.declared.effect.Effect.TheVariants.{Create};
+ghost use Rattle.epl_run.specs.declared.act.Act.TheVariants.{Enter, End};
+ghost use Rattle.epl_run.specs.declared.rest.Awaits.TheVariants.{Code, Creation};
+ghost use Rattle.epl_run.specs.Acts.{Behind};
+ghost use Rattle.epl_run.specs.Blocks.{IsCounted};
+ghost use Rattle.capability.specs.declared.Cap.{Cap as Capability};
+ghost use Rattle.epl_syntax.specs.declared.effect.Effect.{Effect as Happening};
+
+use crate::block::{condition_number, monitor_number};
+use crate::rest::{Awaits, Branch};
+use capability::{Cap, mint};
+use eden_value::{Items, Txt, Value};
+use epl_syntax::{Effect, Expr, FaultCause, Name, Program, Stmt, Target};
+use epl_values::{Stop, Variables, assign, value_named, value_of, values_of};
+use std::alloc::{AllocError, Global};
+
+/// What comes of a step: the next one; a branch first, and then this step again or the next one; or an
+/// effect, which of a `with` is the lock of its monitor, with its branch before the rest.
+#[derive(Drop)]
+pub(crate) enum Act {
+    Next,
+    Enter { branch: Branch, again: bool },
+    End { effect: Effect, awaits: Awaits },
+    Lock { monitor: u8 },
+}
+
+/// The value of a test.
+pub(crate) fn tested(
+    alloc: Global,
+    program: &Program,
+    vars: &Variables,
+    e: &Expr,
+) -> Result<bool, Stop>
+    ensures { Comes (λ b. b) result
+        (found (expressions.value_of (memory (type_tree program.now) vars.now) (tree.expression e.now)) spec.truth_in) }
+{
+    match value_of(alloc, program, vars, e)? {
+        Value::Bool { b } => Ok(b),
+        _ => Err(Stop::Fault {
+            cause: FaultCause::BadKind,
+        }),
+    }
+}
+
+/// The capability of the Eject that is invoked.
+fn target_of(program: &Program, vars: &Variables, target: &Target) -> Result<Cap, Stop>
+    ensures { Comes (λ (c : Capability). c) result (meaning.target_of (memory (type_tree program.now) vars.now) target.now) }
+{
+    match target {
+        Target::Me { .. } => Ok(mint(vars.me)),
+        Target::Name { name } => match value_named(program, vars, &name.text) {
+            None => Err(Stop::Fault {
+                cause: FaultCause::BadKind,
+            }),
+            Some(Value::Cap { cap: Some(cap) }) => Ok(*cap),
+            Some(_) => Err(Stop::Fault {
+                cause: FaultCause::NoCapability,
+            }),
+        },
+    }
+}
+
+fn copy_text(alloc: Global, text: &Txt) -> Result<Txt, AllocError>
+    ensures { IfOk result (λ copied. copied ≡ text.now) }
+{
+    let bytes = Vec::from_slice(alloc, &text.bytes)?;
+    Ok(Txt { bytes })
+}
+
+fn copy_names(alloc: Global, names: &[Name]) -> Result<Vec<Txt>, AllocError>
+    ensures { IfOk result (λ copied. copied.items ≡ map (λ n. n.text) names.now) }
+{
+    let mut copied = Vec::with_capacity(alloc, names.len())?;
+    for name in names {
+        copied.push(copy_text(alloc, &name.text)?)?;
+    }
+    Ok(copied)
+}
+
+/// An invocation: its target is looked at first, then its arguments.
+fn invoked(
+    alloc: Global,
+    program: &Program,
+    vars: &Variables,
+    target: &Target,
+    operation: &Txt,
+    args: &[Expr],
+) -> Result<Effect, Stop>
+    ensures { Comes (λ (e : Happening). e) result
+        (spec.invocation (memory (type_tree program.now) vars.now) target.now operation.now (tree.expressions args.now)) }
+{
+    let target = target_of(program, vars, target)?;
+    let values = values_of(alloc, program, vars, args)?;
+    Ok(Effect::Invoke {
+        target,
+        operation: copy_text(alloc, operation)?,
+        args: Items { values },
+    })
+}
+
+/// The end of a turn, where no answer is awaited.
+fn ends(effect: Effect) -> Act
+    ensures { result ≡ spec.ending effect }
+{
+    Act::End {
+        effect,
+        awaits: Awaits::Nothing,
+    }
+}
+
+/// A branch of a step first, and then this step again or the next one.
+fn enters(branch: Branch, again: bool) -> Act
+    ensures { result ≡ Enter branch again }
+{
+    Act::Enter { branch, again }
+}
+
+/// What a return gives.
+fn returned(
+    alloc: Global,
+    program: &Program,
+    vars: &Variables,
+    results: &[Expr],
+) -> Result<Effect, Stop>
+    ensures { Comes (λ (e : Happening). e) result
+        (spec.returned (memory (type_tree program.now) vars.now) (tree.expressions results.now)) }
+{
+    let values = values_of(alloc, program, vars, results)?;
+    Ok(Effect::Return {
+        results: Items { values },
+    })
+}
+
+/// An effect whose answer is a code.
+fn awaits_code(alloc: Global, effect: Effect, status: &Txt) -> Result<Act, AllocError>
+    ensures { IfOk result (λ act. act ≡ End effect (Code status.now)) }
+{
+    let status = copy_text(alloc, status)?;
+    Ok(Act::End {
+        effect,
+        awaits: Awaits::Code { status },
+    })
+}
+
+/// A creation.
+fn creates(alloc: Global, type_name: &Txt, status: &Txt, gives: &Txt) -> Result<Act, AllocError>
+    ensures { IfOk result (λ act. act ≡ End (Create type_name.now) (Creation status.now gives.now)) }
+{
+    let type_name = copy_text(alloc, type_name)?;
+    let status = copy_text(alloc, status)?;
+    let gives = copy_text(alloc, gives)?;
+    Ok(Act::End {
+        effect: Effect::Create { type_name },
+        awaits: Awaits::Creation { status, gives },
+    })
+}
+
+/// An effect whose answer sets variables.
+fn awaiting(alloc: Global, program: &Program, vars: &Variables, s: &Stmt) -> Result<Act, Stop>
+    ensures { (rest : List Step) → spec.NeedsAnswer (tree.statement s.now)
+        → Behind (type_tree program.now) vars.now (does (tree.statement s.now)) rest result
+        (meaning.came_of (type_tree program.now) (memory (type_tree program.now) vars.now) (does (tree.statement s.now)) rest) }
+{
+    match s {
+        Stmt::Checkpoint { status, .. } => Ok(awaits_code(
+            alloc,
+            Effect::Checkpoint,
+            &status.text,
+        )?),
+        Stmt::Destroy { status, .. } => Ok(awaits_code(alloc, Effect::Destroy, &status.text)?),
+        Stmt::Create {
+            type_name,
+            status,
+            gives,
+            ..
+        } => Ok(creates(alloc, &type_name.text, &status.text, &gives.text)?),
+        Stmt::Invoke {
+            target,
+            operation,
+            args,
+            status,
+            gives,
+            ..
+        } => {
+            let effect = invoked(alloc, program, vars, target, &operation.text, args)?;
+            Ok(Act::End {
+                effect,
+                awaits: Awaits::Reply {
+                    status: copy_text(alloc, &status.text)?,
+                    gives: copy_names(alloc, gives)?,
+                },
+            })
+        }
+        _ => Ok(Act::Next),
+    }
+}
+
+/// A step that is a statement.
+pub(crate) fn made_of(
+    alloc: Global,
+    program: &Program,
+    vars: &mut Variables,
+    s: &Stmt,
+) -> Result<Act, Stop>
+    requires { IsCounted program.now }
+    ensures behind { (rest : List Step) → Behind (type_tree program.now) vars.new (does (tree.statement s.now)) rest result
+        (meaning.came_of (type_tree program.now) (memory (type_tree program.now) vars.old) (does (tree.statement s.now)) rest) }
+    ensures owner { vars.new.owner ≡ vars.old.owner }
+{
+    match s {
+        Stmt::Assign { name, value } => {
+            assign(alloc, program, vars, &name.text, value)?;
+            Ok(Act::Next)
+        }
+        Stmt::If { test: asked, .. } => {
+            if tested(alloc, program, vars, asked)? {
+                Ok(enters(Branch::So, false))
+            } else {
+                Ok(enters(Branch::Otherwise, false))
+            }
+        }
+        Stmt::While { test: asked, .. } => {
+            if tested(alloc, program, vars, asked)? {
+                Ok(enters(Branch::Body, true))
+            } else {
+                Ok(Act::Next)
+            }
+        }
+        Stmt::With { monitor, .. } => Ok(Act::Lock {
+            monitor: monitor_number(program, &monitor.text),
+        }),
+        Stmt::Wait { condition, .. } => Ok(ends(Effect::Wait {
+            condition: condition_number(program, &condition.text),
+        })),
+        Stmt::Signal { condition, .. } => Ok(ends(Effect::Signal {
+            condition: condition_number(program, &condition.text),
+        })),
+        Stmt::Yield { .. } => Ok(ends(Effect::Yield)),
+        Stmt::Deactivate { .. } => Ok(ends(Effect::Deactivate)),
+        Stmt::Return { results, .. } => Ok(ends(returned(alloc, program, vars, results)?)),
+        Stmt::Checkpoint { .. }
+        | Stmt::Destroy { .. }
+        | Stmt::Create { .. }
+        | Stmt::Invoke { .. } => { awaiting(alloc, program, vars, s) }
+    }
+}

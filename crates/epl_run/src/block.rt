@@ -1,0 +1,126 @@
+//! Blocks of steps, and the places in them.
+ghost use Rattle.std.specs.Prelude.{◌≡◌, ◌↔◌, length, IsTrue};
+ghost use Rattle.epl_syntax.specs.Tree.{type_tree, statement};
+ghost use Rattle.epl_syntax.specs.Statements as meaning;
+ghost use Rattle.epl_run.specs.Blocks as spec;
+ghost use Rattle.epl_run.specs.Blocks.{IsCounted};
+
+use crate::rest::{Branch, Frame};
+use eden_value::Txt;
+use epl_syntax::{Program, Stmt};
+use epl_values::place_of;
+
+/// The steps of a block: its statements, and behind them the end of a `with` that leaves a monitor.
+#[derive(Clone, Copy)]
+pub(crate) struct Block<'p> {
+    pub statements: &'p [Stmt],
+    pub leaves: Option<u8>,
+}
+
+/// Whether monitors and conditions are few enough to be numbered by a byte.
+pub fn is_counted(program: &Program) -> bool
+    ensures { IsTrue result ↔ IsCounted program.now }
+{
+    program.monitors.len() <= u8::MAX as usize && program.conditions.len() <= u8::MAX as usize
+}
+
+/// The number of the monitor of a name, counted from 1.
+#[tactic(auto, using(crate::proofs::Counted::monitor_is, crate::proofs::Counted::place_in))]
+pub(crate) fn monitor_number(program: &Program, text: &Txt) -> u8
+    requires { IsCounted program.now }
+    ensures { result ≡ meaning.monitor_number (type_tree program.now) text.now }
+{
+    match place_of(&program.monitors, text) {
+        Some(place) => place as u8 + 1,
+        None => 0,
+    }
+}
+
+/// The number of the condition of a name, counted from 0.
+#[tactic(auto, using(crate::proofs::Counted::condition_is, crate::proofs::Counted::place_in))]
+pub(crate) fn condition_number(program: &Program, text: &Txt) -> u8
+    requires { IsCounted program.now }
+    ensures { result ≡ meaning.condition_number (type_tree program.now) text.now }
+{
+    match place_of(&program.conditions, text) {
+        Some(place) => place as u8,
+        None => 0,
+    }
+}
+
+fn of(statements: &[Stmt]) -> Block<'_>
+    ensures { spec.steps_in result ≡ spec.steps_of statements.now }
+{
+    Block {
+        statements,
+        leaves: None,
+    }
+}
+
+/// The steps of a branch of a statement, none where it has no such branch.
+#[tactic(auto, using(crate::proofs::Rows::row_steps))]
+fn branch_of<'p>(program: &Program, branch: Branch, s: &'p Stmt) -> Block<'p>
+    requires { IsCounted program.now }
+    ensures { spec.steps_in result ≡ spec.branch_steps (type_tree program.now) branch (meaning.does (statement s.now)) }
+{
+    match s {
+        Stmt::If { so, otherwise, .. } => match branch {
+            Branch::So => of(so),
+            Branch::Otherwise => of(otherwise),
+            _ => of(&[]),
+        },
+        Stmt::While { body, .. } => match branch {
+            Branch::Body => of(body),
+            _ => of(&[]),
+        },
+        Stmt::With { monitor, body, .. } => match branch {
+            Branch::Held => Block {
+                statements: body,
+                leaves: Some(monitor_number(program, &monitor.text)),
+            },
+            _ => of(&[]),
+        },
+        _ => of(&[]),
+    }
+}
+
+/// The steps of a branch of a block's statement, or the block itself.
+fn inner<'p>(program: &Program, block: Block<'p>, at: usize, branch: Branch) -> Block<'p>
+    requires { IsCounted program.now }
+    ensures { spec.steps_in result ≡ spec.inner (type_tree program.now) (spec.steps_in block.entry) at branch }
+{
+    match branch {
+        Branch::Whole => block,
+        _ => match block.statements.get(at) {
+            Some(s) => branch_of(program, branch, s),
+            None => of(&[]),
+        },
+    }
+}
+
+/// The innermost block of the frames.
+pub(crate) fn block_at<'p>(program: &Program, body: &'p [Stmt], frames: &[Frame]) -> Block<'p>
+    requires { IsCounted program.now }
+    ensures { spec.steps_in result ≡ spec.block_at (type_tree program.now) (spec.steps_of body.now) frames.now }
+{
+    let mut block = of(body);
+    for frame in frames {
+        block = inner(program, block, frame.entered, frame.branch);
+    }
+    block
+}
+
+/// The block of one more frame, behind others.
+pub(crate) fn block_of<'p>(
+    program: &Program,
+    body: &'p [Stmt],
+    frames: &[Frame],
+    frame: Frame,
+) -> Block<'p>
+    requires { IsCounted program.now }
+    ensures { spec.steps_in result ≡ spec.own (type_tree program.now)
+        (spec.block_at (type_tree program.now) (spec.steps_of body.now) frames.now) frame }
+{
+    let around = block_at(program, body, frames);
+    inner(program, around, frame.entered, frame.branch)
+}

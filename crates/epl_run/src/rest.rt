@@ -1,0 +1,43 @@
+//! What is left to do of a process.
+use eden_value::Txt;
+use epl_values::Variables;
+use smallvec::SmallVec;
+
+/// Which steps of a statement a block is: all of the body, those of an `if` where the test is true or
+/// not, those of a `while`, or those of a `with` and the step that leaves its monitor.
+#[derive(Clone, Copy, Debug, Default, PartialEq, Eq)]
+pub enum Branch {
+    #[default]
+    Whole,
+    So,
+    Otherwise,
+    Body,
+    Held,
+}
+
+/// A block that has been entered, at a statement of the block around it, and the place of its next
+/// step, both counted from 0.
+#[derive(Clone, Copy, Debug, Default)]
+pub struct Frame {
+    pub entered: usize,
+    pub branch: Branch,
+    pub next: usize,
+}
+
+/// The names of the variables that the answer of the last effect sets.
+#[derive(Drop)]
+pub enum Awaits {
+    Nothing,
+    Code { status: Txt },
+    Creation { status: Txt, gives: Txt },
+    Reply { status: Txt, gives: Vec<Txt> },
+}
+
+/// What is left to do of a process: the frames from the outermost block to the innermost, and its own
+/// variables. It holds none of the Eject's between turns.
+#[derive(Drop)]
+pub struct Rest {
+    pub variables: Variables,
+    pub frames: SmallVec<Frame, 8>,
+    pub awaits: Awaits,
+}

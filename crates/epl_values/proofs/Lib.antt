@@ -1,0 +1,4 @@
+pub mod Applied
+pub mod Growth
+pub mod Operands
+pub mod Places

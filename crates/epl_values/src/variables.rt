@@ -1,0 +1,240 @@
+//! The variables that a process sees.
+ghost use Rattle.std.specs.Prelude.{◌≡◌, map, is_some};
+ghost use Rattle.std.specs.Option.{option_map};
+ghost use Rattle.epl_syntax.specs.Tree.{type_tree, parameter, local_of};
+ghost use Rattle.eden_value.specs.Shape.{shape};
+ghost use Rattle.eden_value.specs.View.{datum};
+ghost use Rattle.epl_syntax.specs.Memory as meaning;
+ghost use Rattle.epl_values.specs.Variables as spec;
+
+use crate::named::{Kinded, Named, place_of};
+use capability::Uid;
+use eden_value::{Items, Kind, Txt, Value};
+use epl_syntax::{LocalDecl, ParDecl, Program};
+use std::mem;
+
+/// Whose body runs: nobody's, or that of the operation, process or upgrade at this place in its list.
+#[derive(Clone, Copy, Debug, PartialEq, Eq)]
+pub enum Owner {
+    Nothing,
+    Operation { at: usize },
+    Process { at: usize },
+    Upgrade { at: usize },
+}
+
+/// The values of the variables that a body sees: its parameters and its own variables, then those of
+/// its Eject, each in order of declaration. `me` is the Eject.
+#[derive(Drop)]
+pub struct Variables {
+    pub owner: Owner,
+    pub params: Items,
+    pub locals: Items,
+    pub vars: Items,
+    pub me: Uid,
+}
+
+fn params_of(program: &Program, owner: Owner) -> &[ParDecl]
+    ensures { map parameter result.now ≡ spec.parameters_of (type_tree program.now) owner }
+{
+    match owner {
+        Owner::Operation { at } => match program.operations.get(at) {
+            Some(operation) => &operation.params,
+            None => &[],
+        },
+        Owner::Upgrade { at } => match program.upgrades.get(at) {
+            Some(upgrade) => &upgrade.params,
+            None => &[],
+        },
+        Owner::Process { .. } | Owner::Nothing => &[],
+    }
+}
+
+fn locals_of(program: &Program, owner: Owner) -> &[LocalDecl]
+    ensures { map local_of result.now ≡ spec.locals_of (type_tree program.now) owner }
+{
+    match owner {
+        Owner::Operation { at } => match program.operations.get(at) {
+            Some(operation) => &operation.locals,
+            None => &[],
+        },
+        Owner::Process { at } => match program.processes.get(at) {
+            Some(process) => &process.locals,
+            None => &[],
+        },
+        Owner::Upgrade { .. } | Owner::Nothing => &[],
+    }
+}
+
+/// The value of a name among these.
+fn value_in<'a, T: Named>(declared: &[T], values: &'a Items, text: &Txt) -> Option<&'a Value>
+    ensures { spec.lent result ≡ spec.value_in (map T.named declared.now) values.now text.now }
+{
+    let place = place_of(declared, text)?;
+    values.values.get(place)
+}
+
+#[tactic(auto, using(crate::proofs::Places::param_names))]
+fn param_named<'a>(program: &Program, vars: &'a Variables, text: &Txt) -> Option<&'a Value>
+    ensures { spec.lent result
+        ≡ spec.value_in (map (λ p. p.name) (spec.parameters_of (type_tree program.now) vars.now.owner)) vars.now.params text.now }
+{
+    value_in(params_of(program, vars.owner), &vars.params, text)
+}
+
+#[tactic(auto, using(crate::proofs::Places::local_names))]
+fn local_named<'a>(program: &Program, vars: &'a Variables, text: &Txt) -> Option<&'a Value>
+    ensures { spec.lent result
+        ≡ spec.value_in (map (λ v. v.name) (spec.locals_of (type_tree program.now) vars.now.owner)) vars.now.locals text.now }
+{
+    value_in(locals_of(program, vars.owner), &vars.locals, text)
+}
+
+#[tactic(auto, using(crate::proofs::Places::var_names))]
+fn var_named<'a>(program: &Program, vars: &'a Variables, text: &Txt) -> Option<&'a Value>
+    ensures { spec.lent result ≡ spec.value_in (map (λ v. v.name) (type_tree program.now).vars) vars.now.vars text.now }
+{
+    value_in(&program.vars, &vars.vars, text)
+}
+
+/// The value of a variable: a parameter, one of the body, or one of the Eject.
+#[tactic(auto, using(crate::proofs::Places::named_is))]
+pub fn value_named<'a>(program: &Program, vars: &'a Variables, text: &Txt) -> Option<&'a Value>
+    ensures { spec.lent result ≡ spec.value_as_named (spec.memory (type_tree program.now) vars.now) text.now }
+{
+    if let Some(value) = param_named(program, vars, text) {
+        return Some(value);
+    }
+    if let Some(value) = local_named(program, vars, text) {
+        return Some(value);
+    }
+    var_named(program, vars, text)
+}
+
+fn has_param(program: &Program, vars: &Variables, text: &Txt) -> bool
+    ensures { result ≡ is_some
+        (spec.value_in (map (λ p. p.name) (spec.parameters_of (type_tree program.now) vars.now.owner)) vars.now.params text.now) }
+{
+    match param_named(program, vars, text) {
+        Some(_) => true,
+        None => false,
+    }
+}
+
+fn has_local(program: &Program, vars: &Variables, text: &Txt) -> bool
+    ensures { result ≡ is_some
+        (spec.value_in (map (λ v. v.name) (spec.locals_of (type_tree program.now) vars.now.owner)) vars.now.locals text.now) }
+{
+    match local_named(program, vars, text) {
+        Some(_) => true,
+        None => false,
+    }
+}
+
+/// Another value at the place of a name among these, and the one before.
+#[tactic(auto, using(crate::proofs::Operands::set_datums, crate::proofs::Places::put_past))]
+fn put<T: Named>(declared: &[T], values: &mut Items, text: &Txt, value: Value) -> Option<Value>
+    ensures new { values.new ≡ spec.values_with (map T.named declared.now) text.now (datum value) values.old }
+    ensures old { option_map datum result ≡ spec.value_in (map T.named declared.now) values.old text.now }
+{
+    match place_of(declared, text) {
+        Some(place) => {
+            if place < values.values.len() {
+                Some(mem::replace(&mut values.values[place], value))
+            } else {
+                None
+            }
+        }
+        None => None,
+    }
+}
+
+/// A variable gets a value: a parameter before one of the body, and that before one of the Eject. The value before.
+pub(crate) fn replace(
+    program: &Program,
+    vars: &mut Variables,
+    text: &Txt,
+    value: Value,
+) -> Option<Value>
+    ensures memory { spec.memory (type_tree program.now) vars.new
+        ≡ meaning.set text.now (datum value) (spec.memory (type_tree program.now) vars.old) }
+    ensures before { option_map datum result ≡ spec.value_as_named (spec.memory (type_tree program.now) vars.old) text.now }
+    ensures owner { vars.new.owner ≡ vars.old.owner }
+{
+    if has_param(program, vars, text) {
+        put(
+            params_of(program, vars.owner),
+            &mut vars.params,
+            text,
+            value,
+        )
+    } else if has_local(program, vars, text) {
+        put(
+            locals_of(program, vars.owner),
+            &mut vars.locals,
+            text,
+            value,
+        )
+    } else {
+        put(&program.vars, &mut vars.vars, text, value)
+    }
+}
+
+/// A variable gets a value.
+pub fn set(program: &Program, vars: &mut Variables, text: &Txt, value: Value)
+    ensures memory { spec.memory (type_tree program.now) vars.new
+        ≡ meaning.set text.now (datum value) (spec.memory (type_tree program.now) vars.old) }
+    ensures owner { vars.new.owner ≡ vars.old.owner }
+{
+    replace(program, vars, text, value);
+}
+
+/// The kind of what has a value among these.
+fn kind_in<'a, T: Kinded>(declared: &'a [T], values: &Items, text: &Txt) -> Option<&'a Kind>
+    ensures { spec.lent_kind result
+        ≡ spec.kind_in (map T.named declared.now) (map (λ x. shape (T.kinded x)) declared.now) values.now text.now }
+{
+    let place = place_of(declared, text)?;
+    if place < values.values.len() {
+        Some(declared.get(place)?.kind())
+    } else {
+        None
+    }
+}
+
+#[tactic(auto, using(crate::proofs::Places::param_names, crate::proofs::Places::param_kinds))]
+fn param_kind<'a>(program: &'a Program, vars: &Variables, text: &Txt) -> Option<&'a Kind>
+    ensures { spec.lent_kind result ≡ spec.kind_in (map (λ p. p.name) (spec.parameters_of (type_tree program.now) vars.now.owner))
+        (map (λ p. p.kind.shape) (spec.parameters_of (type_tree program.now) vars.now.owner)) vars.now.params text.now }
+{
+    kind_in(params_of(program, vars.owner), &vars.params, text)
+}
+
+#[tactic(auto, using(crate::proofs::Places::local_names, crate::proofs::Places::local_kinds))]
+fn local_kind<'a>(program: &'a Program, vars: &Variables, text: &Txt) -> Option<&'a Kind>
+    ensures { spec.lent_kind result ≡ spec.kind_in (map (λ v. v.name) (spec.locals_of (type_tree program.now) vars.now.owner))
+        (map (λ v. v.kind.shape) (spec.locals_of (type_tree program.now) vars.now.owner)) vars.now.locals text.now }
+{
+    kind_in(locals_of(program, vars.owner), &vars.locals, text)
+}
+
+#[tactic(auto, using(crate::proofs::Places::var_names, crate::proofs::Places::var_kinds))]
+fn var_kind<'a>(program: &'a Program, vars: &Variables, text: &Txt) -> Option<&'a Kind>
+    ensures { spec.lent_kind result ≡ spec.kind_in (map (λ v. v.name) (type_tree program.now).vars)
+        (map (λ v. v.kind.shape) (type_tree program.now).vars) vars.now.vars text.now }
+{
+    kind_in(&program.vars, &vars.vars, text)
+}
+
+/// The kind of a variable.
+#[tactic(auto, using(crate::proofs::Places::kind_named_is))]
+pub fn kind_named<'a>(program: &'a Program, vars: &Variables, text: &Txt) -> Option<&'a Kind>
+    ensures { spec.lent_kind result ≡ spec.kind_as_named (spec.memory (type_tree program.now) vars.now) text.now }
+{
+    if let Some(kind) = param_kind(program, vars, text) {
+        return Some(kind);
+    }
+    if let Some(kind) = local_kind(program, vars, text) {
+        return Some(kind);
+    }
+    var_kind(program, vars, text)
+}
