@@ -1,7 +1,7 @@
 -- What a disk in memory keeps after each change.
 use Rattle.std.proofs.Common.{◌≡◌, ◌⊎◌, ℕ, ◌+◌, ◌-◌, suc, ◌≤◌, ◌<◌, Bool, false, List, [], ◌∷◌, ◌++◌, length, take, drop, get_or}
 use Rattle.std.proofs.Common.{slice_range, map, reverse, replicate, refl, sym, ap, subst, ◌∙◌, inl, inr, arith}
-use Rattle.std.specs.Prelude.{◌||◌}
+use Rattle.std.specs.Prelude.{◌||◌, ◌^◌}
 use Rattle.std.proofs.lemmas.List.{ext_get_or, map-append, reverse-append, length-take-le, take_all, length-drop, length-replicate}
 use Rattle.std.proofs.lemmas.List.{get_or-take, get_or-drop}
 use Rattle.std.proofs.lemmas.List.Elements.{All-push}
@@ -13,8 +13,10 @@ use Rattle.eden_disk.specs.declared.medium.Span.{Span}
 use Rattle.eden_disk.specs.Told.{Contents, Range, Told, Wrote, Synced, Cut, at_rest, after_act, contents, overlay, noted, Left}
 use Rattle.eden_disk.specs.Told.{is_unsynced, in_range}
 use Rattle.eden_disk.specs.Images.{garbled, image_left}
-use Rattle.eden_disk.specs.Spans.{range_of, AllFit, copied, AgreeElsewhere, IsKeptBy}
+use Rattle.eden_disk.specs.SimDisk.{zeros}
+use Rattle.eden_disk.specs.Spans.{range_of, AllFit, copied, AgreeElsewhere, IsKeptBy, AreHeld}
 use Rattle.eden_disk.proofs.Overlay.{length-overlay, overlay_inside, overlay_outside}
+use Rattle.eden_disk.proofs.SimDiskLaws.{length-zeros}
 
 synced_by : (k : ℕ) (r : Range) (b : Bool) → (in_range k r || b) ≡ false → ((k < r.at) ⊎ (r.at + r.len ≤ k)) × (b ≡ false)
 synced_by k r b h = grind (arith, nat_tests)
@@ -138,19 +140,30 @@ pub kept_elsewhere : (c : Contents) (now stable : List ℕ) (spans : List Span) 
     → AgreeElsewhere (map range_of (reverse spans)) now stable
 kept_elsewhere c now stable spans k = subst (λ (d : Contents). AgreeElsewhere d.unsynced d.now d.stable) k.holds k.left.outside
 
+-- one span more, and memory for it
+pub fits_pushed : (few many at len : ℕ) (spans spans1 spans2 : List Span) → spans1 ≡ spans
+    → spans2 ≡ spans1 ++ record { at = at; len = len } ∷ [] → few ≤ many → at + len ≤ many → AllFit few spans → AllFit many spans2
+fits_pushed few many at len spans spans1 spans2 m1 m2 le room fit =
+    subst (AllFit many) (sym (m2 ∙ ap (λ l. l ++ record { at = at; len = len } ∷ []) m1))
+    (All-push (λ (s : Span). s.at + s.len ≤ many) spans (record { at = at; len = len }) (λ k d h. omega (arith, fit k d h, le)) room)
+
+none_held : (now stable : ℕ) → AreHeld now stable []
+none_held now stable = record { now_held = λ k d h. absurd (omega arith); stable_held = λ k d h. absurd (omega arith) }
+
 -- what is kept after a write
-pub write_kept : (t t2 : Told) (spans spans1 spans2 : List Span) (now now2 stable bytes : List ℕ) (clock at len : ℕ) →
+pub write_kept : (t t2 : Told) (spans spans1 spans2 : List Span) (now now2 stable stable2 bytes : List ℕ) (clock at len : ℕ) →
     t2 ≡ noted (Wrote clock at bytes) t → spans1 ≡ spans → spans2 ≡ spans1 ++ record { at = at; len = len } ∷ [] → len ≡ length bytes →
-    now2 ≡ overlay at bytes now → at + length bytes ≤ length now → IsKeptBy (contents t) now stable spans
-    → IsKeptBy (contents t2) now2 stable spans2
-write_kept t t2 spans spans1 spans2 now now2 stable bytes clock at len told m1 m2 size is fits k =
+    now2 ≡ overlay at bytes now → stable2 ≡ stable → at + length bytes ≤ length now → IsKeptBy (contents t) now stable spans
+    → IsKeptBy (contents t2) now2 stable2 spans2
+write_kept t t2 spans spans1 spans2 now now2 stable stable2 bytes clock at len told m1 m2 size is same fits k =
     let s : Span = record { at = at; len = length bytes } in
     let ends : spans2 ≡ spans ++ s ∷ [] =
     m2 ∙ ap (λ l. l ++ record { at = at; len = len } ∷ []) m1 ∙ ap (λ n. spans ++ record { at = at; len = n } ∷ []) size in
-    subst (λ u. IsKeptBy (contents u) now2 stable spans2) (sym told)
-    (subst (λ ms. IsKeptBy (after_act (Wrote clock at bytes) (contents t)) now2 stable ms) (sym ends)
+    subst (λ u. IsKeptBy (contents u) now2 stable2 spans2) (sym told)
+    (subst (λ ms. IsKeptBy (after_act (Wrote clock at bytes) (contents t)) now2 stable2 ms) (sym ends)
+    (subst (λ y. IsKeptBy (after_act (Wrote clock at bytes) (contents t)) now2 y (spans ++ s ∷ [])) (sym same)
     (subst (λ x. IsKeptBy (after_act (Wrote clock at bytes) (contents t)) x stable (spans ++ s ∷ [])) (sym is)
-    (kept_written clock at bytes (contents t) now stable spans fits k)))
+    (kept_written clock at bytes (contents t) now stable spans fits k))))
 
 -- nothing is unsynced, and both images are the same
 pub rest_kept : (t : Told) (now stable : List ℕ) → contents t ≡ at_rest now → stable ≡ now → IsKeptBy (contents t) now stable []
@@ -160,6 +173,16 @@ rest_kept t now stable at same = record {
   same_size = ap length (sym same);
   fit = λ j d h. absurd (omega arith);
 }
+
+-- a blank disk
+pub blank_kept : (t : Told) (size : ℕ) (now stable : List ℕ) (spans : List Span) (now_reach stable_reach : ℕ)
+    → t ≡ record { image = zeros size; acts = [] } → now ≡ zeros size → stable ≡ zeros size → spans ≡ [] → size < 2 ^ 32
+    → IsKeptBy (contents t) now stable spans × (length now < 2 ^ 32) × AreHeld now_reach stable_reach spans
+blank_kept t size now stable spans now_reach stable_reach told a b none small = (
+  subst (IsKeptBy (contents t) now stable) (sym none) (rest_kept t now stable (ap contents told ∙ ap at_rest (sym a)) (b ∙ sym a)),
+  omega (arith, ap length a, length-zeros size, small),
+  subst (AreHeld now_reach stable_reach) (sym none) (none_held now_reach stable_reach),
+)
 
 -- what is kept after a sync
 pub sync_kept : (t t2 : Told) (spans : List Span) (now stable stable2 : List ℕ) (clock : ℕ) → t2 ≡ noted (Synced clock) t → stable2 ≡ now

@@ -26,3 +26,8 @@ pub record IsKeptBy (c : Contents) (now stable : List ℕ) (spans : List Span) :
   pub left : Left c c.now
   pub same_size : length now ≡ length stable
   pub fit : AllFit (length now) spans
+
+-- Memory holds both images at each of these places.
+pub record AreHeld (now stable : ℕ) (spans : List Span) : Type 0 where
+  pub now_held : AllFit now spans
+  pub stable_held : AllFit stable spans

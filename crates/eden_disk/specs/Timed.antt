@@ -1,5 +1,5 @@
 -- When the contents of a disk changed, and that no later call changes what a crash may have left up to an earlier one.
-use Rattle.std.specs.Prelude.{◌≡◌, ℕ, ◌+◌, ◌-◌, ◌≤◌, List, [], ◌∷◌, ◌++◌}
+use Rattle.std.specs.Prelude.{◌≡◌, ℕ, ◌-◌, ◌≤◌, List, [], ◌∷◌, ◌++◌}
 use Rattle.eden_disk.specs.Told.{Contents, Act, Wrote, Synced, Cut, Told, contents, contents_from, Left}
 use Rattle.eden_disk.specs.Moments.{clock_of}
 

@@ -1,12 +1,13 @@
 //! What a disk in memory holds.
-ghost use Rattle.std.specs.Prelude.{◌≡◌, ◌+◌, ◌≤◌, ◌<◌, ◌^◌, ℕ, length, List, [], ◌∷◌, ◌++◌, IfOk, OnOk, OnErr, slice_range, replicate};
+ghost use Rattle.std.specs.Prelude.{◌≡◌, ◌+◌, ◌≤◌, ◌<◌, ◌^◌, length, [], ◌∷◌, ◌++◌, IfOk, OnOk, OnErr, slice_range};
 ghost use Rattle.std.specs.Prelude.{map, reverse, vec_len, vec_capacity};
-ghost use Rattle.eden_disk.specs.Told.{overlay, is_unsynced};
 ghost use Rattle.eden_disk.specs.Images.{garbled, image_left, half_written, after_cut};
+ghost use Rattle.eden_disk.specs.SimDisk.{zeros};
 ghost use Rattle.eden_disk.specs.Telling.{told_with};
-ghost use Rattle.eden_disk.specs.Spans.{range_of, AllFit, copied, AgreeElsewhere};
+ghost use Rattle.eden_disk.specs.Spans.{range_of, AllFit, AreHeld, AgreeElsewhere};
 
 use crate::disk::ImageMode;
+use crate::image::Image;
 use crate::telling::{Change, Telling};
 use std::alloc::{AllocError, Global};
 use std::marker::Model;
@@ -19,14 +20,15 @@ pub struct Span {
 }
 
 /// The bytes as a read sees them and as of the last sync, which differ at most at the unsynced places. A call costs
-/// time in the bytes that it is given, a sync and a cut in those that were written since the last one.
+/// time in the bytes that it is given, a sync and a cut in those that were written since the last one. Memory holds both
+/// up to the last place that was given: so a sync and a cut take none.
 ///
 /// Contracts see what it tells, of which only what code reads takes memory.
 #[derive(Drop)]
 pub struct Medium {
     alloc: Global,
-    seen: Vec<u8>,
-    stable: Vec<u8>,
+    seen: Image,
+    stable: Image,
     unsynced: Vec<Span>,
     telling: Telling,
 }
@@ -34,19 +36,32 @@ pub struct Medium {
 impl Model for Medium {
     ghost use Rattle.std.specs.Prelude.{◌<◌, ◌^◌, length};
     ghost use Rattle.eden_disk.specs.Told.{Told, contents};
-    ghost use Rattle.eden_disk.specs.Spans.{IsKeptBy};
+    ghost use Rattle.eden_disk.specs.Spans.{IsKeptBy, AreHeld};
 
     ghost Value = { Told };
 
     ghost view = { λ p. p.telling.told };
 
-    ghost invariant = { λ p. IsKeptBy (contents p.telling.told) p.seen.items p.stable.items p.unsynced.items
-        × (length p.seen.items < 2 ^ 32) };
+    ghost invariant = { λ p. IsKeptBy (contents p.telling.told) p.seen.bytes p.stable.bytes p.unsynced.items
+        × (length p.seen.bytes < 2 ^ 32) × AreHeld p.seen.reach p.stable.reach p.unsynced.items };
 }
 
 impl Medium {
     ghost use Rattle.eden_disk.specs.Told.{Told, contents, noted, Left, Wrote, Synced};
     ghost use Rattle.eden_disk.specs.Calls.{IsCut};
+
+    /// A medium of zeros, which takes no memory.
+    pub fn blank(alloc: Global, size: u32) -> Medium
+        ensures { result ≡ record { image = zeros size; acts = [] } }
+    {
+        Medium {
+            alloc,
+            seen: Image::blank(alloc, size),
+            stable: Image::blank(alloc, size),
+            unsynced: Vec::new(alloc),
+            telling: tell(&Telling::new(), Change::Blank { size }),
+        }
+    }
 
     /// A medium that holds this image, with nothing unsynced.
     pub fn of(alloc: Global, image: Vec<u8>) -> Result<Medium, AllocError>
@@ -57,8 +72,8 @@ impl Medium {
         let telling = tell(&Telling::new(), Change::Begun { image: &image });
         Ok(Medium {
             alloc,
-            seen: image,
-            stable,
+            seen: Image::of(image),
+            stable: Image::of(stable),
             unsynced: Vec::new(alloc),
             telling,
         })
@@ -68,21 +83,23 @@ impl Medium {
         ensures size { result ≡ length (contents self.now).now }
         ensures whole { Left (contents self.now) (contents self.now).now }
     {
-        self.seen.len() as u32
+        self.seen.size()
     }
 
-    pub fn image(&self) -> &[u8]
-        ensures { result.now ≡ (contents self.now).now }
+    /// A copy of all bytes as a read sees them.
+    pub fn image(&self, alloc: Global) -> Result<Vec<u8>, AllocError>
+        ensures { IfOk result (λ bytes. bytes.items ≡ (contents self.now).now) }
     {
-        &self.seen
+        let mut bytes = vec![in alloc; 0u8; self.seen.size() as usize]?;
+        self.seen.read(0, &mut bytes);
+        Ok(bytes)
     }
 
     pub fn read(&self, at: u32, out: &mut [u8])
         requires { at + length out.old ≤ length (contents self.now).now }
         ensures { out.new ≡ slice_range (contents self.now).now at (at + length out.old) }
     {
-        let from = at as usize;
-        out.copy_from_slice(&self.seen[from..from + out.len()]);
+        self.seen.read(at, out);
     }
 
     /// Makes all bytes stable.
@@ -102,7 +119,9 @@ impl Medium {
     {
         self.unsynced.reserve(1)?;
         let len = bytes.len() as u32;
-        put(&mut self.seen, at as usize, bytes);
+        self.stable.reach(at + len)?;
+        self.seen.reach(at + len)?;
+        self.seen.put(at, bytes);
         push_within(&mut self.unsynced, Span { at, len });
         self.telling = tell(&self.telling, Change::Written { clock, at, bytes });
         Ok(())
@@ -115,10 +134,9 @@ impl Medium {
         ensures ok { OnOk result (self.new ≡ noted (Wrote clock at (half_written at bytes.now (contents self.old).now)) self.old) }
         ensures err { OnErr result (self.new ≡ self.old) }
     {
-        let from = at as usize;
         let half = bytes.len() / 2;
-        let mut left = Vec::from_slice(self.alloc, &bytes[..half])?;
-        left.extend_from_slice(&self.seen[from + half..from + bytes.len()])?;
+        let mut left = Vec::from_slice(self.alloc, bytes)?;
+        self.read(at + half as u32, &mut left[half..]);
         self.write(clock, at, &left)
     }
 
@@ -155,19 +173,20 @@ fn push_within<T: Drop>(items: &mut Vec<T>, item: T)
     let _ = items.push(item);
 }
 
-/// Makes both lists the image that a power cut leaves.
-fn leave(seen: &mut Vec<u8>, stable: &mut Vec<u8>, unsynced: &Vec<Span>, mode: ImageMode)
-    requires same { length seen.old.items ≡ length stable.old.items }
-    requires fit { AllFit (length seen.old.items) unsynced.now.items }
-    requires elsewhere { AgreeElsewhere (map range_of (reverse unsynced.now.items)) seen.old.items stable.old.items }
-    ensures seen { seen.new.items
+/// Makes both the image that a power cut leaves.
+fn leave(seen: &mut Image, stable: &mut Image, unsynced: &Vec<Span>, mode: ImageMode)
+    requires same { length seen.old.bytes ≡ length stable.old.bytes }
+    requires fit { AllFit (length seen.old.bytes) unsynced.now.items }
+    requires held { AreHeld seen.old.reach stable.old.reach unsynced.now.items }
+    requires elsewhere { AgreeElsewhere (map range_of (reverse unsynced.now.items)) seen.old.bytes stable.old.bytes }
+    ensures seen { seen.new.bytes
         ≡ image_left mode (record {
-          now = seen.old.items;
-          stable = stable.old.items;
+          now = seen.old.bytes;
+          stable = stable.old.bytes;
           unsynced = map range_of (reverse unsynced.now.items);
         }) }
-    ensures stable { stable.new.items ≡ seen.new.items }
-    ensures len { length seen.new.items ≡ length seen.old.items }
+    ensures stable { stable.new.bytes ≡ seen.new.bytes }
+    ensures len { length seen.new.bytes ≡ length seen.old.bytes }
 {
     match mode {
         ImageMode::Keep => copy_spans(stable, seen, unsynced),
@@ -179,41 +198,29 @@ fn leave(seen: &mut Vec<u8>, stable: &mut Vec<u8>, unsynced: &Vec<Span>, mode: I
     }
 }
 
-/// Writes bytes over those at a place.
-fn put(into: &mut Vec<u8>, at: usize, bytes: &[u8])
-    requires { at + length bytes.now ≤ length into.old.items }
-    ensures { into.new.items ≡ overlay at bytes.now into.old.items }
-{
-    into[at..at + bytes.len()].copy_from_slice(bytes);
-}
-
-fn fill(into: &mut Vec<u8>, at: usize, len: usize, byte: u8)
-    requires { at + len ≤ length into.old.items }
-    ensures { into.new.items ≡ overlay at (replicate len byte) into.old.items }
-{
-    into[at..at + len].fill(byte);
-}
-
 /// Writes one byte at each of these places.
-fn garble(into: &mut Vec<u8>, spans: &Vec<Span>, byte: u8)
-    requires { AllFit (length into.old.items) spans.now.items }
-    ensures after { into.new.items ≡ garbled byte (map range_of (reverse spans.now.items)) into.old.items }
-    ensures len { length into.new.items ≡ length into.old.items }
+fn garble(into: &mut Image, spans: &Vec<Span>, byte: u8)
+    requires fit { AllFit (length into.old.bytes) spans.now.items }
+    requires held { AllFit into.old.reach spans.now.items }
+    ensures after { into.new.bytes ≡ garbled byte (map range_of (reverse spans.now.items)) into.old.bytes }
+    ensures len { length into.new.bytes ≡ length into.old.bytes }
+    ensures reach { into.new.reach ≡ into.old.reach }
 {
     for span in spans {
-        fill(into, span.at as usize, span.len as usize, byte);
+        into.fill(span.at, span.len, byte);
     }
 }
 
-/// Makes `into` equal to `from`, where it differs at these places alone.
-fn copy_spans(into: &mut Vec<u8>, from: &Vec<u8>, spans: &Vec<Span>)
-    requires same { length into.old.items ≡ length from.now.items }
-    requires fit { AllFit (length into.old.items) spans.now.items }
-    requires elsewhere { AgreeElsewhere (map range_of (reverse spans.now.items)) into.old.items from.now.items }
-    ensures { into.new.items ≡ from.now.items }
+/// Makes the bytes of `into` those of `from`, from which they differ at these places alone.
+fn copy_spans(into: &mut Image, from: &Image, spans: &Vec<Span>)
+    requires same { length into.old.bytes ≡ length from.now.bytes }
+    requires fit { AllFit (length into.old.bytes) spans.now.items }
+    requires into_held { AllFit into.old.reach spans.now.items }
+    requires from_held { AllFit from.now.reach spans.now.items }
+    requires elsewhere { AgreeElsewhere (map range_of (reverse spans.now.items)) into.old.bytes from.now.bytes }
+    ensures { into.new.bytes ≡ from.now.bytes }
 {
     for span in spans {
-        let at = span.at as usize;
-        put(into, at, &from[at..at + span.len as usize]);
+        into.copy_from(from, span.at, span.len);
     }
 }

@@ -1,5 +1,5 @@
 // A disk in memory that tells all that it holds, and fails and stops exactly as it is armed.
-ghost use Rattle.std.specs.Prelude.{◌≡◌, ◌+◌, ◌≤◌, ◌<◌, ◌-◌, ◌^◌, ℕ, Bool, true, IsTrue, length, replicate, slice_range, IfOk, OnOk};
+ghost use Rattle.std.specs.Prelude.{◌≡◌, ◌+◌, ◌≤◌, ◌<◌, ◌-◌, ◌^◌, ℕ, Bool, true, IsTrue, length, [], slice_range, IfOk, OnOk};
 ghost use Rattle.std.specs.Prelude.{OnErr, Err, Some, None};
 ghost use Rattle.eden_disk.specs.Told.{contents, Left};
 ghost use Rattle.eden_disk.specs.Calls.{end_of, calls_until, one_more, DeviceCall, Obeys, IsSpent, ReadTold, SyncTold, WriteTold, IsCut};
@@ -25,8 +25,12 @@ pub struct ArmedStop {
 /// written all its bytes when the power goes. The image that a power cut leaves has, at the unsynced places, the bytes
 /// of its mode, and elsewhere what was synced.
 ///
-/// Beside the two images it holds where it is unsynced. Only `write` takes memory, before it does anything else. Where
-/// there is none it changes nothing but the clock and the counts of faults and wants, and answers `Failed`.
+/// Beside the two images, as of now and as of the last sync, it holds where it is unsynced. Of an image it holds the bytes
+/// up to the last one that was ever given, and none of the zeros behind it. So a blank disk takes no memory for its bytes,
+/// and a write takes it up to its place.
+///
+/// Of the device calls only `write` takes memory, before it does anything else. Where there is none it changes nothing but
+/// the clock and the counts of faults and wants, and answers `Failed`.
 #[derive(Drop)]
 pub struct SimDisk {
     medium: Medium,
@@ -65,12 +69,11 @@ impl Model for SimDisk {
 }
 
 impl SimDisk {
-    /// A disk of zero bytes, with power and no faults.
+    /// A disk of zero bytes, with power and no faults. It takes no memory for them.
     pub fn new(alloc: Global, size: u32) -> Result<SimDisk, AllocError>
         ensures { IfOk result (λ d. d ≡ blank_of size) }
     {
-        let image = vec![in alloc; 0u8; size as usize]?;
-        SimDisk::of(alloc, image)
+        Ok(SimDisk::begin(Medium::blank(alloc, size)))
     }
 
     /// A disk that holds this image, with power and no faults.
@@ -79,8 +82,16 @@ impl SimDisk {
         ensures { IfOk result (λ d. d ≡ begun_with image.items) }
     {
         let medium = Medium::of(alloc, image)?;
+        Ok(SimDisk::begin(medium))
+    }
+
+    /// A disk over a medium that has told no change.
+    fn begin(medium: Medium) -> SimDisk
+        requires { medium.acts ≡ [] }
+        ensures { result ≡ begun_with medium.image }
+    {
         let size = medium.size();
-        Ok(SimDisk {
+        SimDisk {
             medium,
             size,
             power: true,
@@ -90,14 +101,14 @@ impl SimDisk {
             wants: 0,
             failure: None,
             stop: None,
-        })
+        }
     }
 
-    /// The bytes as a read sees them.
-    pub fn image(&self) -> &[u8]
-        ensures { result.now ≡ (contents self.now.told).now }
+    /// A copy of all bytes as a read sees them.
+    pub fn image(&self, alloc: Global) -> Result<Vec<u8>, AllocError>
+        ensures { IfOk result (λ bytes. bytes.items ≡ (contents self.now.told).now) }
     {
-        self.medium.image()
+        self.medium.image(alloc)
     }
 
     /// Counts a device call, and says how it is to end.

@@ -16,11 +16,15 @@ impl Model for Telling {
     ghost also_owns = { λ _. ftrue };
 }
 
-/// What is told next: the image of a disk that begins, or a change of its contents with the clock after it.
+/// What is told next: the image of a disk that begins, or that it is blank, or a change of its contents with the clock
+/// after it.
 #[derive(Clone, Copy, Drop)]
 pub enum Change<'a> {
     Begun {
         image: &'a [u8],
+    },
+    Blank {
+        size: u32,
     },
     Written {
         clock: u64,

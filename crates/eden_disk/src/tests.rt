@@ -21,7 +21,7 @@ fn a_cut_leaves_what_its_mode_says(rt: HostRuntime) -> Result<(), Fail> {
         let mut disk = SimDisk::new(alloc, 1024)?;
         assert_eq!(rt; disk.write(10, &[255]), Ok(()));
         disk.cut_power(mode);
-        let image = disk.image();
+        let image = disk.image(alloc)?;
         assert_eq!(rt; image.len(), 1024);
         for (place, byte) in image.iter().enumerate() {
             assert_eq!(rt; *byte, if place == 10 { left } else { 0 });
@@ -36,6 +36,12 @@ fn dots(alloc: Global) -> Result<SimDisk, AllocError>
 {
     let image = Vec::from_slice(alloc, b"........")?;
     SimDisk::of(alloc, image)
+}
+
+/// Whether these are its bytes.
+fn shows(alloc: Global, disk: &SimDisk, bytes: &[u8]) -> Result<bool, AllocError> {
+    let image = disk.image(alloc)?;
+    Ok(image.as_slice() == bytes)
 }
 
 /// Clock, faults, stops and wants.
@@ -57,13 +63,14 @@ fn run<D: Disk>(disk: &mut D, out: &mut [u8]) -> Result<(), DiskRefusal>
 
 #[test]
 fn a_run_without_faults(rt: HostRuntime) -> Result<(), Fail> {
-    let mut disk = dots(rt.alloc())?;
-    assert!(rt; disk.image() == b"........".as_slice());
+    let alloc = rt.alloc();
+    let mut disk = dots(alloc)?;
+    assert!(rt; shows(alloc, &disk, b"........")?);
     assert_eq!(rt; disk.size(), 8);
     let mut out = [0; 2];
     assert_eq!(rt; run(&mut disk, &mut out), Ok(()));
     assert!(rt; out.as_slice() == b"xy".as_slice());
-    assert!(rt; disk.image() == b"..axyz..".as_slice());
+    assert!(rt; shows(alloc, &disk, b"..axyz..")?);
     assert!(rt; counts(&disk) == [4, 0, 0, 0]);
     Ok(())
 }
@@ -80,7 +87,7 @@ fn stop_behind(
     let mut out = [0; 2];
     disk.arm(Arm::Stop { after, mode });
     assert_eq!(rt; run(&mut disk, &mut out), Err(DiskRefusal::Stopped));
-    assert!(rt; disk.image() == image.as_bytes());
+    assert!(rt; shows(alloc, &disk, image.as_bytes())?);
     assert!(rt; counts(&disk) == [after as u64, 0, 1, 0]);
     disk.restart();
     assert_eq!(rt; disk.sync(), Ok(()));
@@ -102,7 +109,7 @@ fn fail_behind(
     assert!(rt; out == [0; 2]);
     assert!(rt; counts(&disk) == [after as u64, 1, 0, 0]);
     disk.cut_power(mode);
-    assert!(rt; disk.image() == image.as_bytes());
+    assert!(rt; shows(alloc, &disk, image.as_bytes())?);
     Ok(())
 }
 
@@ -149,12 +156,13 @@ fn a_stop_goes_before_a_failure(rt: HostRuntime) -> Result<(), Fail> {
 
 #[test]
 fn a_failed_write_of_one_byte_leaves_its_place_unsynced(rt: HostRuntime) -> Result<(), Fail> {
-    let mut disk = dots(rt.alloc())?;
+    let alloc = rt.alloc();
+    let mut disk = dots(alloc)?;
     disk.arm(Arm::Fail { after: 1 });
     assert_eq!(rt; disk.write(0, b"a"), Err(DiskRefusal::Failed));
-    assert!(rt; disk.image() == b"........".as_slice());
+    assert!(rt; shows(alloc, &disk, b"........")?);
     disk.cut_power(GARBLE);
-    assert!(rt; disk.image() == b"#.......".as_slice());
+    assert!(rt; shows(alloc, &disk, b"#.......")?);
     Ok(())
 }
 
@@ -168,6 +176,21 @@ fn a_large_disk_takes_time_in_what_is_written(rt: HostRuntime) -> Result<(), Fai
         disk.cut_power(ImageMode::Keep);
     }
     assert_eq!(rt; disk.clock(), 8192);
+    Ok(())
+}
+
+/// A thousand disks of 64 MiB. To write them with zeros would take 128 GiB of writes, more than a test has time for.
+#[test]
+fn a_blank_disk_takes_time_and_memory_in_what_is_written(rt: HostRuntime) -> Result<(), Fail> {
+    for _ in 0..1024 {
+        let mut disk = SimDisk::new(rt.alloc(), 67_108_864)?;
+        let mut out = [7; 4];
+        assert_eq!(rt; disk.read(67_108_860, &mut out), Ok(()));
+        assert!(rt; out == [0; 4]);
+        assert_eq!(rt; disk.write(0, b"abc"), Ok(()));
+        assert_eq!(rt; disk.read(1, &mut out), Ok(()));
+        assert!(rt; out.as_slice() == b"bc\0\0".as_slice());
+    }
     Ok(())
 }
 

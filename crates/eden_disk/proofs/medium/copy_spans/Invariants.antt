@@ -3,5 +3,8 @@ use Rattle.eden_disk.specs.Spans.{range_of, copied}
 use Rattle.eden_disk.proofs.medium.copy_spans.Given as goal
 
 abbrev pub invariant-loop-span : goal.invariant-loop-span
-invariant-loop-span l = (l.into.items ≡ copied l.from.items
-    (map range_of (reverse (take l.span-index l.spans.items))) l.initial.into.items) × (length l.into.items ≡ length l.initial.into.items)
+invariant-loop-span l = record {
+  after : l.into.bytes ≡ copied l.from.bytes (map range_of (reverse (take l.span-index l.spans.items))) l.initial.into.bytes;
+  len : length l.into.bytes ≡ length l.initial.into.bytes;
+  reach : l.into.reach ≡ l.initial.into.reach;
+}
