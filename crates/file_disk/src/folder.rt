@@ -1,10 +1,13 @@
 //! The eight files of a folder.
-ghost use Rattle.std.specs.Prelude.{◌≡◌, IfOk, length};
+ghost use Rattle.std.specs.Prelude.{◌≡◌, ◌↔◌, IfOk, IsTrue, length};
+ghost use Rattle.std.specs.Fs.{IsFile, file_type, metadata_len};
+ghost use Rattle.std.specs.List.{All};
+ghost use Rattle.file_disk.specs.Counted.{counts_of, first_counts};
 
 use crate::FileDisk;
 use std::alloc::{AllocError, AllocFailed, Global};
 use std::fmt::Write as _;
-use std::fs::{self, File};
+use std::fs::{self, File, Metadata};
 use std::io;
 use std::os::unix::fs::FileExt;
 use std::rt::HostRuntime;
@@ -44,6 +47,13 @@ fn path_of(alloc: Global, folder: &str, disk: u8) -> Result<String, AllocError> 
     format!(in alloc; "{folder}/disk{disk}")
 }
 
+// Whether this is an ordinary file of this size.
+fn has_size(seen: &Metadata, size: u32) -> bool
+    ensures { IsTrue result ↔ (IsFile (file_type seen.now) × (metadata_len seen.now ≡ size)) }
+{
+    seen.is_file() && seen.len() == u64::from(size)
+}
+
 // The file of a disk, or None where there is none. One of another size is refused.
 fn find(rt: &HostRuntime, path: &str, size: u32) -> Result<Option<File>, OpenRefusal> {
     let opened = File::options().read(true).write(true).open(rt, path);
@@ -53,7 +63,7 @@ fn find(rt: &HostRuntime, path: &str, size: u32) -> Result<Option<File>, OpenRef
         Err(_) => return Err(OpenRefusal::Cannot),
     };
     let seen = file.metadata()?;
-    if !seen.is_file() || seen.len() != u64::from(size) {
+    if !has_size(&seen, size) {
         return Err(OpenRefusal::Cannot);
     }
     Ok(Some(file))
@@ -99,7 +109,9 @@ fn open_all(
     size: u32,
     made: &mut Vec<String>,
 ) -> Result<Vec<FileDisk>, OpenRefusal>
-    ensures { IfOk result (λ disks. length disks.items ≡ 8) }
+    ensures eight { IfOk result (λ disks. length disks.items ≡ 8) }
+    ensures sizes { IfOk result (λ disks. All (λ d. (counts_of d).size ≡ size) disks.items) }
+    ensures fresh { IfOk result (λ disks. All (λ d. counts_of d ≡ first_counts size) disks.items) }
 {
     let mut disks = Vec::new(alloc);
     for disk in 0..DISKS {
@@ -123,7 +135,9 @@ pub fn open_disks(
     folder: &str,
     size: u32,
 ) -> Result<Vec<FileDisk>, OpenRefusal>
-    ensures { IfOk result (λ disks. length disks.items ≡ 8) }
+    ensures eight { IfOk result (λ disks. length disks.items ≡ 8) }
+    ensures sizes { IfOk result (λ disks. All (λ d. (counts_of d).size ≡ size) disks.items) }
+    ensures fresh { IfOk result (λ disks. All (λ d. counts_of d ≡ first_counts size) disks.items) }
 {
     check_all(alloc, rt, folder, size)?;
     let mut made = Vec::new(alloc);

@@ -1,7 +1,7 @@
 //! A disk that is a file. It tells nothing of its contents, and is never armed.
 ghost use Rattle.std.specs.Prelude.{◌≡◌, IsTrue, None, [], false, true};
 ghost use Rattle.eden_disk.specs.Calls.{DeviceCall, end_of};
-ghost use Rattle.file_disk.specs.Counted.{counts_of};
+ghost use Rattle.file_disk.specs.Counted.{counts_of, first_counts};
 
 use eden_disk::{Arm, Disk, DiskRefusal, ImageMode};
 use std::fs::File;
@@ -23,7 +23,9 @@ pub struct FileDisk {
 
 impl FileDisk {
     /// A file of this size as a disk, with power and no faults.
-    pub(crate) fn new(file: File, size: u32) -> FileDisk {
+    pub(crate) fn new(file: File, size: u32) -> FileDisk
+        ensures { counts_of result ≡ first_counts size }
+    {
         FileDisk {
             file,
             size,

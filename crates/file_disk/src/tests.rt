@@ -1,6 +1,7 @@
 use crate::{FileDisk, OpenRefusal, open_disks};
 use eden_disk::{Arm, Disk, ImageMode};
 use std::fs;
+use std::os::unix::fs::symlink;
 use std::test::Fail;
 
 const FOLDER: &str = "file_disk_test";
@@ -74,5 +75,20 @@ fn another_size_is_refused(rt: HostRuntime) -> Result<(), Fail> {
     fs::remove_dir_all(&rt, "file_disk_sizes")?;
     let opened = open_disks(rt.alloc(), &rt, "file_disk_sizes", SIZE);
     assert!(rt; matches!(opened, Err(OpenRefusal::Cannot)));
+    Ok(())
+}
+
+// Where a file cannot be made, those that were made before it are removed again.
+#[test]
+fn files_that_were_made_are_removed_again(rt: HostRuntime) -> Result<(), Fail> {
+    let _ = fs::remove_dir_all(&rt, "file_disk_made");
+    fs::create_dir(&rt, "file_disk_made")?;
+    // nothing is found behind the link, and nothing can be made in its place
+    symlink(&rt, "nowhere/disk", "file_disk_made/disk5")?;
+    let opened = open_disks(rt.alloc(), &rt, "file_disk_made", SIZE);
+    assert!(rt; matches!(opened, Err(OpenRefusal::Cannot)));
+    assert!(rt; !fs::exists(&rt, "file_disk_made/disk1")?);
+    assert!(rt; !fs::exists(&rt, "file_disk_made/disk4")?);
+    fs::remove_dir_all(&rt, "file_disk_made")?;
     Ok(())
 }
