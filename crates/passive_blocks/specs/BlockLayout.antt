@@ -1,0 +1,153 @@
+-- The layout of blocks: which images there are, what each keeps, its room, and the device calls of changes and openings.
+use Rattle.std.specs.Prelude.{◌≡◌, ℕ, ◌+◌, ◌-◌, ◌*◌, ◌/◌, ◌^◌, ◌==◌, ◌&&◌, ◌||◌, nat_le, Bool, false, is_some, List, [], ◌∷◌}
+use Rattle.std.specs.Prelude.{◌++◌, length, replicate, map, sum_by, slice_index, slice_range, Option, None, Some, Result, Ok, Err}
+use Rattle.std.specs.Prelude.{if◌then◌else◌}
+use Rattle.std.specs.FinMap as finite
+use Rattle.std.specs.FinMap.{FinMap}
+use Rattle.capability.specs.declared.Uid.{Uid}
+use Rattle.capability.specs.Uids.{uid_cmp}
+use Rattle.passive_store.specs.Acts.{DiskCall, Write, Sync, Read}
+use Rattle.passive_store.specs.Kept.{Kept, Layout, nothing_kept, reserved_uid}
+use Rattle.passive_store.specs.Log.{log_map, records_of}
+use Rattle.passive_store.specs.LogLayout.{records_up_to, within_room}
+use Rattle.passive_blocks.specs.Blocks.{Head, numbers, is_block_size, data_count, blocks_of, blocks_for, heads_of, heads_or_none}
+use Rattle.passive_blocks.specs.Blocks.{greatest, chains_of, taken_by, blocks_map}
+use Rattle.passive_blocks.specs.Changes.{free_head, blocks_job, is_removal, size_of}
+use Rattle.passive_blocks.specs.Conversion.{old_log, finished, moved_map, moved_heads, is_too_much, staged_bytes, staging_calls}
+use Rattle.passive_blocks.specs.Conversion.{finishing_calls, blocks_moved}
+
+-- what stands on a disk
+pub data Format : Type 0 where
+  -- blocks
+  Blocks : Format
+  -- a log whose values are copied, with their heads staged
+  Staged : Format
+  -- a log on a disk with room for its conversion
+  OldLog : Format
+  -- a log on another disk
+  Foreign : Format
+  Blank : Format
+
+abbrev pub format_of : List ℕ → Format
+format_of image =
+    if slice_index image 1 == 235 then Blocks
+    else (if slice_index image 0 == 237
+    then (if length image == 4194304 then (if slice_index image 2 == 234 then Staged else OldLog) else Foreign)
+    else Blank)
+
+-- what an image keeps, or its first damaged place
+abbrev pub map_by : Format → ℕ → List ℕ → Result Kept ℕ
+map_by Blocks node image = blocks_map node image
+map_by Staged node image = blocks_map node (finished image)
+map_by OldLog node image = moved_map (log_map node (old_log image))
+map_by Foreign node image = Err 0
+map_by Blank node image = Ok nothing_kept
+
+abbrev pub block_map : ℕ → List ℕ → Result Kept ℕ
+block_map node image = if is_block_size (length image) then map_by (format_of image) node image else Err 0
+
+abbrev pub overfull_by : Format → ℕ → List ℕ → Bool
+overfull_by Blocks node image = false
+overfull_by Staged node image = false
+overfull_by OldLog node image = is_too_much (log_map node (old_log image))
+overfull_by Foreign node image = false
+overfull_by Blank node image = false
+
+-- the open heads, of a log those that its conversion gives
+abbrev pub heads_moved : Result Kept ℕ → List Head
+heads_moved (Ok kept) = moved_heads kept
+heads_moved (Err place) = []
+
+abbrev pub heads_by : Format → ℕ → List ℕ → List Head
+heads_by Blocks node image = heads_or_none (heads_of node image)
+heads_by Staged node image = heads_or_none (heads_of node (finished image))
+heads_by OldLog node image = heads_moved (log_map node (old_log image))
+heads_by Foreign node image = []
+heads_by Blank node image = []
+
+-- the blocks that these values need, and those that they leave free on a disk of this size
+abbrev pub blocks_needed : FinMap uid_cmp (List ℕ) → ℕ
+blocks_needed bodies = sum_by (λ (entry : Uid × List ℕ). blocks_of (length entry.1)) (finite.entries bodies)
+
+abbrev pub blocks_left : ℕ → FinMap uid_cmp (List ℕ) → ℕ
+blocks_left size bodies = data_count size - blocks_needed bodies
+
+-- A body has room where its blocks and one more are free.
+abbrev pub block_room : ℕ → FinMap uid_cmp (List ℕ) → Option ℕ
+block_room size bodies = if nat_le 2 (blocks_left size bodies) then Some (1022 * (blocks_left size bodies - 1)) else None
+
+-- A removal has room, and so has the value under the reserved uid, which takes the block that all others leave.
+abbrev pub block_has_room : Option ℕ → Uid → Option (List ℕ) → Bool
+block_has_room room uid body = is_removal body || (uid.epoch == 0 || within_room room (size_of body))
+
+-- Nothing is kept, or the value under the reserved uid is.
+abbrev pub has_first : ℕ → FinMap uid_cmp (List ℕ) → Bool
+has_first node bodies = finite.len bodies == 0 || is_some (finite.get bodies (reserved_uid node))
+
+-- For so many more changes the room is what is said above: a head and a block are free, and the sequences reach. Of an image
+-- that is not opened there is nothing to say.
+abbrev pub changes_left : ℕ → ℕ → List Head → Result Kept ℕ → ℕ
+changes_left node size heads (Ok kept) =
+    if is_some (free_head size heads) && (nat_le 1 (blocks_left size kept.bodies) && has_first node kept.bodies)
+    then 2 ^ 63 - greatest heads
+    else 0
+changes_left node size heads (Err place) = 2 ^ 63
+
+abbrev pub block_changes : ℕ → List ℕ → ℕ
+block_changes node image =
+    if overfull_by (format_of image) node image then 2 ^ 63
+    else changes_left node (length image) (heads_by (format_of image) node image) (block_map node image)
+
+-- the reads of an image of blocks: its heads up to the first that is damaged, and then the chains, likewise
+abbrev pub reads_of_blocks : List ℕ → Result (List Head) ℕ → ℕ
+reads_of_blocks image (Ok heads) = length image / 1024 + length (taken_by (chains_of image heads))
+reads_of_blocks image (Err place) = (place - 1024) / 32 + 1
+
+-- the calls that make blocks on a blank disk: all heads are closed before a byte says that blocks stand there
+abbrev pub format_calls : ℕ → List DiskCall
+format_calls size =
+    map (λ block. Write (block * 1024) (replicate 1024 0)) (numbers 1 (size / 32768)) ++ (Sync ∷ Write 1 (235 ∷ []) ∷ Sync ∷ [])
+
+-- the reads of a walk over a log
+abbrev pub walk_reads : ℕ → List ℕ → List DiskCall
+walk_reads node log = replicate (length (records_up_to node log (records_of node log)) + 1) Read
+
+-- a log is read, and converted where it has a map and is not overfull
+abbrev pub conversion_calls : Result Kept ℕ → List DiskCall
+conversion_calls (Ok kept) =
+    if is_too_much (Ok kept) then []
+    else (staging_calls kept ++ (finishing_calls (staged_bytes kept) ++ replicate (4096 + blocks_moved kept) Read))
+conversion_calls (Err place) = []
+
+abbrev pub opening_by : Format → ℕ → List ℕ → List DiskCall
+opening_by Blocks node image = replicate (reads_of_blocks image (heads_of node image)) Read
+opening_by Staged node image =
+    finishing_calls (slice_range image 4063232 4194304)
+    ++ replicate (reads_of_blocks (finished image) (heads_of node (finished image))) Read
+opening_by OldLog node image = walk_reads node (old_log image) ++ conversion_calls (log_map node (old_log image))
+opening_by Foreign node image = []
+opening_by Blank node image = format_calls (length image) ++ replicate (length image / 1024) Read
+
+abbrev pub block_opening : ℕ → List ℕ → List DiskCall
+block_opening node image = if is_block_size (length image) then Sync ∷ Read ∷ opening_by (format_of image) node image else []
+
+abbrev pub block_layout : Layout
+block_layout = record {
+  allows = is_block_size;
+  map_of = block_map;
+  is_overfull = λ node image. is_block_size (length image) && overfull_by (format_of image) node image;
+  grows = λ body. [];
+  room_of = λ size bodies ledger. block_room size bodies;
+  has_room = block_has_room;
+  changes_told = block_changes;
+  job_calls = blocks_job;
+  is_job = λ body calls. nat_le 4 calls;
+  opening_calls = block_opening;
+  reading_calls = blocks_for;
+}
+
+-- What is found of an image on which a log stands that is to be converted, by what is found of the log: the same bodies, or the
+-- same damaged place.
+abbrev pub KeepsAsLog : Result Kept ℕ → Result Kept ℕ → Type 0
+KeepsAsLog (Ok log) found = (kept : Kept) × (found ≡ Ok kept) × (kept.bodies ≡ log.bodies)
+KeepsAsLog (Err place) found = found ≡ Err place

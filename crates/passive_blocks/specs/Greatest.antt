@@ -1,0 +1,6 @@
+-- The greatest of some numbers, 0 where there are none.
+use Rattle.std.specs.Prelude.{ℕ, max, List, [], ◌∷◌}
+
+unfoldable pub peak : List ℕ → ℕ
+peak [] = 0
+peak (n ∷ ns) = max n (peak ns)
