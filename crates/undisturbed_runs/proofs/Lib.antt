@@ -1,0 +1,11 @@
+pub mod Disks
+pub mod Laters
+pub mod Requests
+pub mod Activations
+pub mod Booting
+pub mod Steps
+pub mod Puts
+pub mod Awaiting
+pub mod PutEnds
+pub mod Checkpoints
+pub mod SavedCell
