@@ -36,30 +36,28 @@ whole_left t o params values r h =
     ap (λ w. record {
       steps = rest_of t (body_steps t w) r.frames.items;
       own = own_of t w r.variables.params r.variables.locals;
-      awaits = awaited r.awaits;
+      awaits = awaited t (body_steps t w) r.frames.items;
       returns = has_to_return w;
     }) h.owner
     ∙ ap (λ fs. record {
       steps = rest_of t (body_steps t o) fs;
       own = own_of t o r.variables.params r.variables.locals;
-      awaits = awaited r.awaits;
+      awaits = awaited t (body_steps t o) fs;
       returns = has_to_return o;
     }) h.frames
     ∙ ap (λ ss. record {
       steps = ss;
       own = own_of t o r.variables.params r.variables.locals;
-      awaits = awaited r.awaits;
+      awaits = no_answer;
       returns = has_to_return o;
     }) (drop_none (body_steps t o))
     ∙ ap (λ ds. record {
       steps = body_steps t o;
       own = own_of t o ds r.variables.locals;
-      awaits = awaited r.awaits;
+      awaits = no_answer;
       returns = has_to_return o;
     }) h.params
-    ∙ ap (λ ds. record { steps = body_steps t o; own = own_of t o params ds; awaits = awaited r.awaits; returns = has_to_return o })
-    h.locals
-    ∙ ap (λ a. record { steps = body_steps t o; own = own_of t o params values; awaits = awaited a; returns = has_to_return o }) h.awaits
+    ∙ ap (λ ds. record { steps = body_steps t o; own = own_of t o params ds; awaits = no_answer; returns = has_to_return o }) h.locals
 
 -- the operation of a name is the one at its place
 found_at : (os : List OpDecl) (text : List ℕ) (n at : ℕ) → position_from (λ m. same_text m.text text) n (map (λ o. o.name) os) ≡ Some at

@@ -1,7 +1,7 @@
 -- What is left at the frames, and one turn of the loop that makes steps.
 use Rattle.std.proofs.Common.{◌≡◌, ℕ, zero, suc, ◌+◌, ◌-◌, ◌<◌, ◌≤◌, ◌≢◌, List, [], ◌∷◌, ◌++◌, length, drop}
-use Rattle.std.proofs.Common.{Some, None, Bool, true, false}
-use Rattle.std.proofs.Common.{refl, sym, ap, ◌∙◌, subst, arith, append_assoc, Ok, Err}
+use Rattle.std.proofs.Common.{Some, Bool, true, false}
+use Rattle.std.proofs.Common.{refl, sym, ap, ◌∙◌, arith, append_assoc, Result, Ok, Err}
 use Rattle.std.specs.Prelude.{slice_get}
 use Rattle.eden_model.specs.Map.{with_item}
 use Rattle.epl_syntax.specs.declared.effect.Effect.{Effect}
@@ -10,20 +10,20 @@ use Rattle.epl_syntax.specs.declared.effect.FaultCause.{FaultCause}
 use Rattle.epl_syntax.specs.declared.effect.FaultCause.TheVariants.{Budget}
 use Rattle.epl_syntax.specs.Tree.{TypeTree}
 use Rattle.epl_syntax.specs.Memory.{Memory}
-use Rattle.epl_syntax.specs.Statements.{Step, Came as Outcome, goes_on, ends, ends_in, faults, no_answer, came_of}
+use Rattle.epl_syntax.specs.Statements.{Step, Came as Outcome, Awaited, goes_on, ends, ends_in, faults, no_answer, came_of}
 use Rattle.epl_syntax.specs.Turns.{run as meant, onward}
+use Rattle.epl_values.specs.declared.stop.Stop.{Stop}
 use Rattle.epl_values.specs.declared.stop.Stop.TheVariants as stop
 use Rattle.epl_values.specs.declared.variables.Variables.{Variables}
 use Rattle.epl_values.specs.Variables.{memory}
 use Rattle.epl_run.specs.declared.act.Act.{Act}
 use Rattle.epl_run.specs.declared.act.Act.TheVariants as act
-use Rattle.epl_run.specs.declared.rest.Awaits.{Awaits}
-use Rattle.epl_run.specs.declared.rest.Awaits.TheVariants as awaits
 use Rattle.epl_run.specs.declared.rest.Branch.{Branch}
 use Rattle.epl_run.specs.declared.rest.Branch.TheVariants as branch
 use Rattle.epl_run.specs.declared.rest.Frame.{Frame}
-use Rattle.epl_run.specs.Acts.{Behind, again_before, frames_behind, ended}
-use Rattle.epl_run.specs.Blocks.{branch_steps, inner, own, block_at, rest_of, kept, entered, IsBranch, awaited, Came, last_effect}
+use Rattle.epl_run.specs.Acts.{Behind, again_before}
+use Rattle.epl_run.specs.Blocks.{branch_steps, inner, own, block_at, rest_of, kept, entered, IsBranch, Came, last_effect}
+use Rattle.epl_run.specs.Blocks.{awaited, awaited_of, awaited_before, awaited_from}
 
 append_nil : (ss : List Step) → ss ++ [] ≡ ss
 append_nil [] = refl
@@ -41,6 +41,33 @@ pub block_last : (t : TypeTree) (block : List Step) (fs : List Frame) (f : Frame
     → block_at t block (fs ++ (f ∷ [])) ≡ own t (block_at t block fs) f
 block_last t block [] f = refl
 block_last t block (g ∷ fs) f = block_last t (own t block g) fs f
+
+-- what is awaited is what the step before the place of the innermost frame awaits
+awaited_last : (t : TypeTree) (block : List Step) (a : Awaited) (fs : List Frame) (f : Frame)
+    → awaited_from t block a (fs ++ (f ∷ [])) ≡ awaited_before (own t (block_at t block fs) f) f.next
+awaited_last t block a [] f = refl
+awaited_last t block a (g ∷ fs) f = awaited_last t (own t block g) (awaited_before (own t block g) g.next) fs f
+
+before_next : (block : List Step) (i : ℕ) (s : Step) → slice_get block i ≡ Some s → awaited_before block (i + 1) ≡ awaited_of s
+before_next block i s h =
+    let e : i + 1 ≡ suc i = omega arith in
+    ap (awaited_before block) e ∙ ap (λ o. with_item o awaited_of no_answer) h
+
+-- one more frame
+pub one_behind : (fs : List Frame) (f : Frame) → length (fs ++ (f ∷ [])) ≡ length fs + 1
+one_behind [] f = refl
+one_behind (g ∷ fs) f = let e = one_behind fs f in omega (arith, e)
+
+-- a number that is not 0
+pub some_left : (n : ℕ) → n ≢ 0 → 0 < n
+some_left zero h = absurd (h refl)
+some_left (suc n) h = omega arith
+
+-- what a step came to, taken apart
+pub enter_is : (r : Result Act Stop) (a : Act) (b : Branch) (again : Bool) (x : Branch) (y : Bool) → r ≡ Ok a → a ≡ act.Enter x y
+    → b ≡ x → again ≡ y → r ≡ Ok (act.Enter b again)
+enter_is r a b again x y is parts first second =
+    is ∙ ap Ok parts ∙ ap (λ z. Ok (act.Enter z y)) (sym first) ∙ ap (λ z. Ok (act.Enter b z)) (sym second)
 
 -- what stands at a place, and what is behind it
 drop_at : (ss : List Step) (i : ℕ) (s : Step) → slice_get ss i ≡ Some s → drop i ss ≡ s ∷ drop (i + 1) ss
@@ -94,11 +121,11 @@ nothing_left (suc n) t false m = refl
 -- where the process has passed its last step
 pub over : (n : ℕ) (t : TypeTree) (returns : Bool) (body : List Step) (frames new : List Frame) (v : Variables) (e : Effect)
     (whole : Outcome) → frames ≡ [] → new ≡ [] → e ≡ last_effect returns
-    → meant n t returns (memory t v) (rest_of t body frames) ≡ whole → Came t body e awaits.Nothing v new whole
+    → meant n t returns (memory t v) (rest_of t body frames) ≡ whole → Came t body e v new whole
 over n t returns body frames new v e whole none gone is so_far =
     sym so_far ∙ ap (λ fs. meant n t returns (memory t v) (rest_of t body fs)) none ∙ nothing_left n t returns (memory t v)
-    ∙ ap (λ fs. ends (last_effect returns) (memory t v) no_answer (rest_of t body fs)) (sym gone)
-    ∙ ap (λ x. ends x (memory t v) no_answer (rest_of t body new)) (sym is)
+    ∙ ap (λ fs. ends (last_effect returns) (memory t v) (awaited t body fs) (rest_of t body fs)) (sym gone)
+    ∙ ap (λ x. ends x (memory t v) (awaited t body new) (rest_of t body new)) (sym is)
 
 -- ---- a frame f behind others, at a step s of its block
 module _ (t : TypeTree) (body : List Step) (fs : List Frame) (f : Frame) (all : List Frame) (block : List Step) (n : ℕ) (returns : Bool)
@@ -115,6 +142,22 @@ module _ (t : TypeTree) (body : List Step) (fs : List Frame) (f : Frame) (all : 
       ∙ ap (λ k. drop g.next (inner t (block_at t body fs) k g.branch) ++ rest_of t body fs) e
       ∙ ap (λ k. drop g.next (inner t (block_at t body fs) f.entered k) ++ rest_of t body fs) b
       ∙ ap (λ k. drop g.next k ++ rest_of t body fs) (sym is)
+
+  same_own : (again : Bool) → own t (block_at t body fs) (kept f again) ≡ own t (block_at t body fs) f
+  same_own true = refl
+  same_own false = refl
+
+  -- the block stays that of the frame, or is that of a branch
+  pub kept_block : (again : Bool) (g : Frame) → g ≡ kept f again → block ≡ own t (block_at t body fs) g
+  kept_block again g same = is ∙ sym (same_own again) ∙ ap (own t (block_at t body fs)) (sym same)
+
+  pub entered_block : (again : Bool) (b : Branch) (mid : List Frame) (g : Frame) (inside : List Step)
+      → mid ≡ fs ++ (kept f again ∷ []) → g ≡ entered f b → inside ≡ inner t block f.next b → inside ≡ own t (block_at t body mid) g
+  entered_block again b mid g inside made same steps =
+      steps
+      ∙ ap (λ ss. inner t ss f.next b) (is ∙ sym (same_own again) ∙ sym (block_last t body fs (kept f again))
+      ∙ ap (block_at t body) (sym made))
+      ∙ ap (own t (block_at t body mid)) (sym same)
 
   -- a block that is over leaves what is around it
   pub block_over : length block ≤ f.next → meant n t returns (memory t v) (rest_of t body fs) ≡ whole
@@ -141,10 +184,6 @@ module _ (t : TypeTree) (body : List Step) (fs : List Frame) (f : Frame) (all : 
         ∙ ap (λ ss. drop 0 ss ++ rest_of t body (fs ++ (kept f again ∷ []))) (inner_branch t block f.next b h
         ∙ ap (λ o. with_item o (branch_steps t b) []) item)
         ∙ ap (λ ss. branch_steps t b s ++ ss) (left_kept again)
-      where
-        same_own : (again : Bool) → own t (block_at t body fs) (kept f again) ≡ own t (block_at t body fs) f
-        same_own true = refl
-        same_own false = refl
 
     pub spent : n ≡ 0 → whole ≡ faults (memory t v) Budget
     spent none = sym so_far ∙ ap (meant n t returns (memory t v)) all_left ∙ no_budget n t returns (memory t v) s behind none
@@ -157,71 +196,57 @@ module _ (t : TypeTree) (body : List Step) (fs : List Frame) (f : Frame) (all : 
         so_far_is = ap (meant n t returns (memory t v)) all_left ∙ one_step n t returns (memory t v) s behind some
 
     -- the next step
-    pub next_turn : (new : List Frame) (w : Variables) → n ≢ 0 → Behind t w s behind (Ok act.Next) (came_of t (memory t v) s behind)
-        → new ≡ fs ++ (kept f false ∷ []) → meant (n - 1) t returns (memory t w) (rest_of t body new) ≡ whole
-    next_turn new w some does made =
-        ap (meant (n - 1) t returns (memory t w)) (ap (rest_of t body) made ∙ left_kept false)
+    pub next_turn : (g : Frame) (w : Variables) → n ≢ 0 → Behind t w s behind (Ok act.Next) (came_of t (memory t v) s behind)
+        → g ≡ kept f false → meant (n - 1) t returns (memory t w) (rest_of t body (fs ++ (g ∷ []))) ≡ whole
+    next_turn g w some does same =
+        ap (meant (n - 1) t returns (memory t w)) (ap (λ h. rest_of t body (fs ++ (h ∷ []))) same ∙ left_kept false)
         ∙ stepped (goes_on (memory t w) behind) some does
 
     -- a branch
-    pub enter_turn : (new mid : List Frame) (w : Variables) (b : Branch) (again : Bool) → n ≢ 0
+    pub enter_turn : (mid : List Frame) (g : Frame) (w : Variables) (b : Branch) (again : Bool) → n ≢ 0
         → Behind t w s behind (Ok (act.Enter b again)) (came_of t (memory t v) s behind)
-        → mid ≡ fs ++ (kept f again ∷ []) → new ≡ mid ++ (entered f b ∷ [])
-        → meant (n - 1) t returns (memory t w) (rest_of t body new) ≡ whole
-    enter_turn new mid w b again some does made made_new =
+        → mid ≡ fs ++ (kept f again ∷ []) → g ≡ entered f b
+        → meant (n - 1) t returns (memory t w) (rest_of t body (mid ++ (g ∷ []))) ≡ whole
+    enter_turn mid g w b again some does made same =
         ap (meant (n - 1) t returns (memory t w))
-        (ap (rest_of t body) (made_new ∙ ap (λ gs. gs ++ (entered f b ∷ [])) made) ∙ left_entered b again does.0)
+        (ap (λ gs. rest_of t body (gs ++ (g ∷ []))) made
+        ∙ ap (λ h. rest_of t body ((fs ++ (kept f again ∷ [])) ++ (h ∷ []))) same ∙ left_entered b again does.0)
         ∙ stepped (goes_on (memory t w) (branch_steps t b s ++ again_before again s behind)) some does.1
 
+    awaits_kept : awaited t body (fs ++ (kept f false ∷ [])) ≡ awaited_of s
+    awaits_kept =
+        awaited_last t body no_answer fs (kept f false)
+        ∙ ap (λ ss. awaited_before ss (f.next + 1)) (same_own false ∙ sym is) ∙ before_next block f.next s item
+
     -- an effect
-    pub end_turn : (new : List Frame) (w : Variables) (e : Effect) (a : Awaits) → n ≢ 0
-        → Behind t w s behind (Ok (act.End e a)) (came_of t (memory t v) s behind)
-        → new ≡ fs ++ (kept f false ∷ []) → Came t body e a w new whole
-    end_turn new w e a some does made =
-        sym (stepped (ends e (memory t w) (awaited a) behind) some does)
-        ∙ ap (ends e (memory t w) (awaited a)) (sym (ap (rest_of t body) made ∙ left_kept false))
+    pub end_turn : (new : List Frame) (w : Variables) (e : Effect) → n ≢ 0
+        → Behind t w s behind (Ok (act.End e)) (came_of t (memory t v) s behind)
+        → new ≡ fs ++ (kept f false ∷ []) → Came t body e w new whole
+    end_turn new w e some does made =
+        sym (stepped (ends e (memory t w) (awaited_of s) behind) some does)
+        ∙ ap (λ a. ends e (memory t w) a behind) (sym (ap (awaited t body) made ∙ awaits_kept))
+        ∙ ap (ends e (memory t w) (awaited t body new)) (sym (ap (rest_of t body) made ∙ left_kept false))
 
     -- the lock of a monitor
     pub lock_turn : (new mid : List Frame) (w : Variables) (k : ℕ) → n ≢ 0
         → Behind t w s behind (Ok (act.Lock k)) (came_of t (memory t v) s behind)
-        → mid ≡ fs ++ (kept f false ∷ []) → new ≡ mid ++ (entered f branch.Held ∷ [])
-        → Came t body (effect.Lock k) awaits.Nothing w new whole
+        → mid ≡ fs ++ (kept f false ∷ []) → new ≡ mid ++ (entered f branch.Held ∷ []) → Came t body (effect.Lock k) w new whole
     lock_turn new mid w k some does made made_new =
         sym (stepped (ends (effect.Lock k) (memory t w) no_answer (branch_steps t branch.Held s ++ behind)) some does)
-        ∙ ap (ends (effect.Lock k) (memory t w) no_answer)
+        ∙ ap (λ a. ends (effect.Lock k) (memory t w) a (branch_steps t branch.Held s ++ behind))
+        (sym (ap (awaited t body) made_new ∙ awaited_last t body no_answer mid (entered f branch.Held)))
+        ∙ ap (ends (effect.Lock k) (memory t w) (awaited t body new))
         (sym (ap (rest_of t body) (made_new ∙ ap (λ gs. gs ++ (entered f branch.Held ∷ [])) made) ∙ left_entered branch.Held false tt))
 
     -- a fault
     pub fault_turn : (new : List Frame) (w : Variables) (cause : FaultCause) → n ≢ 0
         → Behind t w s behind (Err (stop.Fault cause)) (came_of t (memory t v) s behind)
-        → new ≡ [] → Came t body (effect.Fault cause) awaits.Nothing w new whole
+        → new ≡ [] → Came t body (effect.Fault cause) w new whole
     fault_turn new w cause some does none =
         sym (stepped (faults (memory t w) cause) some does)
-        ∙ ap (λ gs. ends (effect.Fault cause) (memory t w) no_answer (rest_of t body gs)) (sym none)
+        ∙ ap (λ gs. ends (effect.Fault cause) (memory t w) (awaited t body gs) (rest_of t body gs)) (sym none)
 
     -- no budget
-    pub spent_turn : (new : List Frame) → n ≡ 0 → new ≡ [] → Came t body (effect.Fault Budget) awaits.Nothing v new whole
+    pub spent_turn : (new : List Frame) → n ≡ 0 → new ≡ [] → Came t body (effect.Fault Budget) v new whole
     spent_turn new zero_left none =
-        spent zero_left ∙ ap (λ gs. ends (effect.Fault Budget) (memory t v) no_answer (rest_of t body gs)) (sym none)
-
-    -- a step that does not end the turn
-    pub went_on : (new : List Frame) (w : Variables) (a : Act) → n ≢ 0 → Behind t w s behind (Ok a) (came_of t (memory t v) s behind)
-        → new ≡ frames_behind fs f a → ended a ≡ None → meant (n - 1) t returns (memory t w) (rest_of t body new) ≡ whole
-    went_on new w act.Next some does made none = next_turn new w some does made
-    went_on new w (act.Enter b again) some does made none =
-        enter_turn new (fs ++ (kept f again ∷ [])) w b again some does refl made
-    went_on new w (act.End e a) some does made none = absurd cc
-    went_on new w (act.Lock k) some does made none = absurd cc
-
-    -- and one that ends it
-    pub came_out : (new : List Frame) (w : Variables) (a : Act) (p : Effect × Awaits) → n ≢ 0
-        → Behind t w s behind (Ok a) (came_of t (memory t v) s behind)
-        → new ≡ frames_behind fs f a → ended a ≡ Some p → Came t body p.0 p.1 w new whole
-    came_out new w act.Next p some does made is = absurd cc
-    came_out new w (act.Enter b again) p some does made is = absurd cc
-    came_out new w (act.End e a) p some does made is =
-        subst (λ (z : Effect × Awaits). Came t body z.0 z.1 w new whole) (ap (λ o. with_item o (λ z. z) p) is)
-        (end_turn new w e a some does made)
-    came_out new w (act.Lock k) p some does made is =
-        subst (λ (z : Effect × Awaits). Came t body z.0 z.1 w new whole) (ap (λ o. with_item o (λ z. z) p) is)
-        (lock_turn new (fs ++ (kept f false ∷ [])) w k some does refl made)
+        spent zero_left ∙ ap (λ gs. ends (effect.Fault Budget) (memory t v) (awaited t body gs) (rest_of t body gs)) (sym none)

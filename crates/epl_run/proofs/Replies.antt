@@ -1,5 +1,5 @@
 -- The results of an invocation, and the variables that take them.
-use Rattle.std.proofs.Common.{◌≡◌, ℕ, zero, suc, ◌+◌, ◌<◌, ◌≤◌, Bool, true, false, cond, ◌&&◌, ◌++◌, List, [], ◌∷◌, length, drop}
+use Rattle.std.proofs.Common.{◌≡◌, ℕ, zero, suc, ◌+◌, ◌<◌, ◌≤◌, Bool, true, false, cond, ◌&&◌, ◌++◌, List, [], ◌∷◌, length, drop, map}
 use Rattle.std.proofs.Common.{Option, Ok, Err, not}
 use Rattle.std.proofs.Common.{Some, refl, ap, sym, ◌∙◌, arith, nat_le, get_or}
 use Rattle.std.specs.Prelude.{slice_get}
@@ -14,6 +14,7 @@ use Rattle.eden_value.specs.View.{datum, datums}
 use Rattle.epl_syntax.specs.declared.effect.FaultCause.TheVariants.{BadKind}
 use Rattle.eden_value.specs.Shape.{Shape, has_shape}
 use Rattle.epl_syntax.specs.Kinds.{have_shapes}
+use Rattle.epl_syntax.specs.declared.tree.Name.{Name}
 use Rattle.epl_syntax.specs.Memory.{Memory, Held, is_called, put_into, set, set_each}
 use Rattle.epl_syntax.specs.Turns.{kinds_as, taken}
 use Rattle.epl_values.specs.Variables.{kind_as_named}
@@ -130,18 +131,18 @@ one_more vs rs i m name names v k b is kind within at fits =
     ∙ shapes_at rs i (datum v) k (kinds_as m names) (ap (λ ds. slice_get ds i) (sym is) ∙ value_at vs i v within at)
     ∙ ap (λ c. c && have_shapes (drop (i + 1) rs) (kinds_as m names)) (sym fits)
 
-names_past : (names : List (List ℕ)) (j : ℕ) → length names ≤ j → drop j names ≡ []
+names_past : (names : List Name) (j : ℕ) → length names ≤ j → drop j names ≡ []
 names_past [] zero h = refl
 names_past [] (suc j) h = refl
 names_past (n ∷ names) zero h = absurd (omega arith)
 names_past (n ∷ names) (suc j) h = names_past names j (omega arith)
 
 -- no name is left
-pub all_fit : (vs : List Value) (rs : List Datum) (i n : ℕ) (m : Memory) (names : List (List ℕ)) (j : ℕ) → datums vs ≡ rs → n ≡ length vs
-    → length names ≤ j → nat_le n i ≡ have_shapes (drop i rs) (kinds_as m (drop j names))
+pub all_fit : (vs : List Value) (rs : List Datum) (i n : ℕ) (m : Memory) (names : List Name) (j : ℕ) → datums vs ≡ rs → n ≡ length vs
+    → length names ≤ j → nat_le n i ≡ have_shapes (drop i rs) (kinds_as m (map (λ x. x.text) (drop j names)))
 all_fit vs rs i n m names j is size past =
     ap (λ k. nat_le k i) (size ∙ sym (datums_length vs) ∙ ap length is) ∙ sym (shapes_end rs i)
-    ∙ ap (λ ns. have_shapes (drop i rs) (kinds_as m ns)) (sym (names_past names j past))
+    ∙ ap (λ ns. have_shapes (drop i rs) (kinds_as m (map (λ (x : Name). x.text) ns))) (sym (names_past names j past))
 
 -- ---- a reply
 pub not_false : (b : Bool) → false ≡ not b → b ≡ true

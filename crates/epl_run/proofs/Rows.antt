@@ -6,9 +6,9 @@ use Rattle.eden_model.specs.Map.{with_item}
 use Rattle.epl_syntax.specs.declared.tree.Stmt.{Stmt, items-the_row-Stmt}
 use Rattle.epl_syntax.specs.declared.tree.Stmt as stmt
 use Rattle.epl_syntax.specs.Tree.{TypeTree, statement, statement_row, statements}
-use Rattle.epl_syntax.specs.Statements.{Step, does, leaves, steps}
+use Rattle.epl_syntax.specs.Statements.{Step, does, leaves, steps, no_answer}
 use Rattle.epl_syntax.proofs.TreeRows.{statement_items}
-use Rattle.epl_run.specs.Blocks.{steps_of, end_of, branch_steps}
+use Rattle.epl_run.specs.Blocks.{steps_of, end_of, branch_steps, awaited_of, awaited_before}
 use Rattle.epl_run.specs.declared.rest.Branch.{Branch}
 use Rattle.epl_run.specs.declared.rest.Branch.TheVariants.{Whole, So, Otherwise, Body, Held}
 use mathlib.Core.Former.{Count}
@@ -69,3 +69,27 @@ steps_length (s ∷ ss) k = omega (arith, steps_length ss k)
 pub steps_map : (ss : List Stmt) → steps_of ss ≡ map does (map statement ss)
 steps_map [] = refl
 steps_map (s ∷ ss) = ap (λ xs. does (statement s) ∷ xs) (steps_map ss)
+
+-- what is awaited before a place: behind the first step, what its statement awaits, and nothing behind the end of a `with`
+pub before_first : (block : List Step) (place : ℕ) → place ≡ 0 → no_answer ≡ awaited_before block place
+before_first block place e = ap (awaited_before block) (sym e)
+
+pub before_statement : (ss : List Stmt) (k : Option ℕ) (place i : ℕ) (s : Stmt) → place ≡ i + 1 → i < length ss → s ≡ get_or ss i s
+    → awaited_of (does (statement s)) ≡ awaited_before (steps_of ss ++ end_of k) place
+before_statement ss k place i s e within at =
+    let next : place ≡ suc i = omega (arith, e) in
+    sym (ap (awaited_before (steps_of ss ++ end_of k)) next ∙ ap (λ o. with_item o awaited_of no_answer) (get_step ss k i s within at))
+
+none_at : (ss : List Stmt) (k : Option ℕ) (i : ℕ) → length ss ≤ i
+    → with_item (slice_get (steps_of ss ++ end_of k) i) awaited_of no_answer ≡ no_answer
+none_at [] None i h = refl
+none_at [] (Some k) zero h = refl
+none_at [] (Some k) (suc i) h = refl
+none_at (x ∷ ss) k zero h = absurd (omega arith)
+none_at (x ∷ ss) k (suc i) h = none_at ss k i (omega arith)
+
+pub before_none : (ss : List Stmt) (k : Option ℕ) (place i : ℕ) → place ≡ i + 1 → length ss ≤ i
+    → no_answer ≡ awaited_before (steps_of ss ++ end_of k) place
+before_none ss k place i e past =
+    let next : place ≡ suc i = omega (arith, e) in
+    sym (ap (awaited_before (steps_of ss ++ end_of k)) next ∙ none_at ss k i past)

@@ -4,7 +4,6 @@ use Rattle.eden_value.specs.Datum.{Datum}
 use Rattle.epl_syntax.specs.Tree.{Local}
 use Rattle.epl_syntax.specs.Memory.{value_of_constant}
 use Rattle.epl_values.specs.declared.variables.Owner.{Owner}
-use Rattle.epl_run.specs.declared.rest.Awaits.TheVariants.{Nothing}
 use Rattle.epl_run.specs.declared.rest.Branch.TheVariants.{Whole}
 use Rattle.epl_run.specs.declared.rest.Rest.{Rest}
 
@@ -18,4 +17,3 @@ pub record IsWhole (o : Owner) (args values : List Datum) (r : Rest) : Type 0 wh
   pub params : r.variables.params ≡ args
   pub locals : r.variables.locals ≡ values
   pub frames : r.frames.items ≡ record { entered = 0; branch = Whole; next = 0 } ∷ []
-  pub awaits : r.awaits ≡ Nothing

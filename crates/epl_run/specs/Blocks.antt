@@ -1,10 +1,11 @@
 -- Blocks of steps, and what is left of them at the frames of a process.
-use Rattle.std.specs.Prelude.{◌≡◌, ℕ, ◌+◌, ◌^◌, ◌<◌, Bool, true, false, List, [], ◌∷◌, ◌++◌, length, map, drop, slice_get}
+use Rattle.std.specs.Prelude.{◌≡◌, ℕ, zero, suc, ◌+◌, ◌^◌, ◌<◌, Bool, true, false, List, [], ◌∷◌, ◌++◌, length, map, drop, slice_get}
 use Rattle.std.specs.Prelude.{Option, None, Some, Result, Ok, Err}
+use Rattle.std.specs.Borrow.{Bor}
 use Rattle.eden_model.specs.Map.{with_item}
 use Rattle.epl_syntax.specs.declared.tree.Program.{Program}
 use Rattle.epl_syntax.specs.declared.tree.Stmt.{Stmt}
-use Rattle.epl_syntax.specs.Tree.{TypeTree, Statement, statement, If, While, With}
+use Rattle.epl_syntax.specs.Tree.{TypeTree, Statement, statement, If, While, With, Checkpoint, Destroy, Create, Invoke}
 use Rattle.epl_syntax.specs.Statements.{Came as Outcome, ends, faults, Step, does, leaves, steps}
 use Rattle.epl_syntax.specs.Statements.{monitor_number, Awaited, no_answer, a_code, a_creation, a_reply}
 use Rattle.epl_syntax.specs.Memory.{Memory}
@@ -18,8 +19,6 @@ use Rattle.epl_syntax.specs.declared.effect.Effect.TheVariants as effect
 use Rattle.epl_syntax.specs.declared.effect.FaultCause.{FaultCause}
 use Rattle.epl_syntax.specs.declared.effect.FaultCause.TheVariants.{NoReturn}
 use Rattle.epl_run.specs.declared.block.Block.{Block}
-use Rattle.epl_run.specs.declared.rest.Awaits.{Awaits}
-use Rattle.epl_run.specs.declared.rest.Awaits.TheVariants as awaits
 use Rattle.epl_run.specs.declared.rest.Branch.{Branch}
 use Rattle.epl_run.specs.declared.rest.Branch.TheVariants.{Whole, So, Otherwise, Body, Held}
 use Rattle.epl_run.specs.declared.rest.Frame.{Frame}
@@ -104,27 +103,56 @@ abbrev pub has_to_return : Owner → Bool
 has_to_return (Operation at) = true
 has_to_return _ = false
 
--- what the answer of the last effect sets
-abbrev pub awaited : Awaits → Awaited
-awaited awaits.Nothing = no_answer
-awaited (awaits.Code status) = a_code status
-awaited (awaits.Creation status gives) = a_creation status gives
-awaited (awaits.Reply status gives) = a_reply status gives.items
+-- what the answer to a step's effect sets
+abbrev pub awaited_of : Step → Awaited
+awaited_of (does (Checkpoint status place)) = a_code status.text
+awaited_of (does (Destroy status place)) = a_code status.text
+awaited_of (does (Create type_name status gives place)) = a_creation status.text gives.text
+awaited_of (does (Invoke to operation args status gives place)) = a_reply status.text (map (λ n. n.text) gives)
+awaited_of _ = no_answer
+
+-- the step before a place of a block
+abbrev pub step_before : List Step → ℕ → Option Step
+step_before block zero = None
+step_before block (suc i) = slice_get block i
+
+-- what the answer to that step's effect sets
+abbrev pub awaited_before : List Step → ℕ → Awaited
+awaited_before block place = with_item (step_before block place) awaited_of no_answer
+
+-- the same of the innermost of these frames, or this where there is none
+abbrev pub awaited_from : TypeTree → List Step → Awaited → List Frame → Awaited
+awaited_from t block a [] = a
+awaited_from t block a (f ∷ fs) = awaited_from t (own t block f) (awaited_before (own t block f) f.next) fs
+
+-- what the answer sets that is awaited at the frames
+abbrev pub awaited : TypeTree → List Step → List Frame → Awaited
+awaited t block fs = awaited_from t block no_answer fs
 
 -- what is left to do of a process
 abbrev pub left_of : TypeTree → Rest → Left
 left_of t r = record {
   steps = rest_of t (body_steps t r.variables.owner) r.frames.items;
   own = own_of t r.variables.owner r.variables.params r.variables.locals;
-  awaits = awaited r.awaits;
+  awaits = awaited t (body_steps t r.variables.owner) r.frames.items;
   returns = has_to_return r.variables.owner;
 }
 
 -- a turn came to this effect, and left these variables and frames
-abbrev pub Came : TypeTree → List Step → Effect → Awaits → Variables → List Frame → Outcome → Type 0
-Came t body e a v frames came = came ≡ ends e (memory t v) (awaited a) (rest_of t body frames)
+abbrev pub Came : TypeTree → List Step → Effect → Variables → List Frame → Outcome → Type 0
+Came t body e v frames came = came ≡ ends e (memory t v) (awaited t body frames) (rest_of t body frames)
+
+-- the turn came to an effect, or goes on at these frames with so many steps at most
+abbrev pub Went : TypeTree → List Step → Bool → Option Effect → Variables → List Frame → ℕ → Outcome → Type 0
+Went t body returns (Some e) v frames left whole = Came t body e v frames whole
+Went t body returns None v frames left whole = run left t returns (memory t v) (rest_of t body frames) ≡ whole
 
 -- steps are made where the answer could be taken
 abbrev pub came_to : TypeTree → Bool → List Step → Memory → Result Memory FaultCause → Outcome
 came_to t returns left before (Ok m) = run budget t returns m left
 came_to t returns left before (Err cause) = faults before cause
+
+-- what the answer to the effect of a statement that was made sets
+abbrev pub awaited_at : Option (Bor Stmt) → Awaited
+awaited_at None = no_answer
+awaited_at (Some s) = awaited_of (does (statement s.now))

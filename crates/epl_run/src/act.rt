@@ -1,5 +1,5 @@
 //! What a step does.
-ghost use Rattle.std.specs.Prelude.{◌≡◌, List, map, IfOk};
+ghost use Rattle.std.specs.Prelude.{◌≡◌, List, IfOk};
 ghost use Rattle.eden_value.specs.View.{datum};
 ghost use Rattle.epl_syntax.specs.Tree as tree;
 ghost use Rattle.epl_syntax.specs.Tree.{type_tree};
@@ -10,19 +10,17 @@ ghost use Rattle.epl_syntax.specs.Statements.{Step, does};
 ghost use Rattle.epl_values.specs.Comes.{Comes};
 ghost use Rattle.epl_values.specs.Variables.{memory};
 ghost use Rattle.epl_run.specs.Acts as spec;
-ghost use Rattle.epl_syntax.specs.declared.effect.Effect.TheVariants.{Create};
 ghost use Rattle.epl_run.specs.declared.act.Act.TheVariants.{Enter, End};
-ghost use Rattle.epl_run.specs.declared.rest.Awaits.TheVariants.{Code, Creation};
 ghost use Rattle.epl_run.specs.Acts.{Behind};
 ghost use Rattle.epl_run.specs.Blocks.{IsCounted};
 ghost use Rattle.capability.specs.declared.Cap.{Cap as Capability};
 ghost use Rattle.epl_syntax.specs.declared.effect.Effect.{Effect as Happening};
 
 use crate::block::{condition_number, monitor_number};
-use crate::rest::{Awaits, Branch};
+use crate::rest::Branch;
 use capability::{Cap, mint};
 use eden_value::{Items, Txt, Value};
-use epl_syntax::{Effect, Expr, FaultCause, Name, Program, Stmt, Target};
+use epl_syntax::{Effect, Expr, FaultCause, Program, Stmt, Target};
 use epl_values::{Stop, Variables, assign, value_named, value_of, values_of};
 use std::alloc::{AllocError, Global};
 
@@ -32,7 +30,7 @@ use std::alloc::{AllocError, Global};
 pub(crate) enum Act {
     Next,
     Enter { branch: Branch, again: bool },
-    End { effect: Effect, awaits: Awaits },
+    End { effect: Effect },
     Lock { monitor: u8 },
 }
 
@@ -79,16 +77,6 @@ fn copy_text(alloc: Global, text: &Txt) -> Result<Txt, AllocError>
     Ok(Txt { bytes })
 }
 
-fn copy_names(alloc: Global, names: &[Name]) -> Result<Vec<Txt>, AllocError>
-    ensures { IfOk result (λ copied. copied.items ≡ map (λ n. n.text) names.now) }
-{
-    let mut copied = Vec::with_capacity(alloc, names.len())?;
-    for name in names {
-        copied.push(copy_text(alloc, &name.text)?)?;
-    }
-    Ok(copied)
-}
-
 /// An invocation: its target is looked at first, then its arguments.
 fn invoked(
     alloc: Global,
@@ -110,14 +98,11 @@ fn invoked(
     })
 }
 
-/// The end of a turn, where no answer is awaited.
+/// The end of a turn.
 fn ends(effect: Effect) -> Act
-    ensures { result ≡ spec.ending effect }
+    ensures { result ≡ End effect }
 {
-    Act::End {
-        effect,
-        awaits: Awaits::Nothing,
-    }
+    Act::End { effect }
 }
 
 /// A branch of a step first, and then this step again or the next one.
@@ -143,30 +128,6 @@ fn returned(
     })
 }
 
-/// An effect whose answer is a code.
-fn awaits_code(alloc: Global, effect: Effect, status: &Txt) -> Result<Act, AllocError>
-    ensures { IfOk result (λ act. act ≡ End effect (Code status.now)) }
-{
-    let status = copy_text(alloc, status)?;
-    Ok(Act::End {
-        effect,
-        awaits: Awaits::Code { status },
-    })
-}
-
-/// A creation.
-fn creates(alloc: Global, type_name: &Txt, status: &Txt, gives: &Txt) -> Result<Act, AllocError>
-    ensures { IfOk result (λ act. act ≡ End (Create type_name.now) (Creation status.now gives.now)) }
-{
-    let type_name = copy_text(alloc, type_name)?;
-    let status = copy_text(alloc, status)?;
-    let gives = copy_text(alloc, gives)?;
-    Ok(Act::End {
-        effect: Effect::Create { type_name },
-        awaits: Awaits::Creation { status, gives },
-    })
-}
-
 /// An effect whose answer sets variables.
 fn awaiting(alloc: Global, program: &Program, vars: &Variables, s: &Stmt) -> Result<Act, Stop>
     ensures { (rest : List Step) → spec.NeedsAnswer (tree.statement s.now)
@@ -174,35 +135,17 @@ fn awaiting(alloc: Global, program: &Program, vars: &Variables, s: &Stmt) -> Res
         (meaning.came_of (type_tree program.now) (memory (type_tree program.now) vars.now) (does (tree.statement s.now)) rest) }
 {
     match s {
-        Stmt::Checkpoint { status, .. } => Ok(awaits_code(
-            alloc,
-            Effect::Checkpoint,
-            &status.text,
-        )?),
-        Stmt::Destroy { status, .. } => Ok(awaits_code(alloc, Effect::Destroy, &status.text)?),
-        Stmt::Create {
-            type_name,
-            status,
-            gives,
-            ..
-        } => Ok(creates(alloc, &type_name.text, &status.text, &gives.text)?),
+        Stmt::Checkpoint { .. } => Ok(ends(Effect::Checkpoint)),
+        Stmt::Destroy { .. } => Ok(ends(Effect::Destroy)),
+        Stmt::Create { type_name, .. } => Ok(ends(Effect::Create {
+            type_name: copy_text(alloc, &type_name.text)?,
+        })),
         Stmt::Invoke {
             target,
             operation,
             args,
-            status,
-            gives,
             ..
-        } => {
-            let effect = invoked(alloc, program, vars, target, &operation.text, args)?;
-            Ok(Act::End {
-                effect,
-                awaits: Awaits::Reply {
-                    status: copy_text(alloc, &status.text)?,
-                    gives: copy_names(alloc, gives)?,
-                },
-            })
-        }
+        } => Ok(ends(invoked(alloc, program, vars, target, &operation.text, args)?)),
         _ => Ok(Act::Next),
     }
 }

@@ -1,5 +1,5 @@
 //! The answer of the last effect.
-ghost use Rattle.std.specs.Prelude.{◌≡◌, ◌∷◌, ℕ, List, drop, false};
+ghost use Rattle.std.specs.Prelude.{◌≡◌, ◌∷◌, ℕ, List, drop, map, false};
 ghost use Rattle.eden_value.specs.View.{datum};
 ghost use Rattle.eden_model.specs.Map.{with_item};
 ghost use Rattle.epl_syntax.specs.Kinds.{have_shapes};
@@ -10,9 +10,8 @@ ghost use Rattle.epl_values.specs.Variables.{memory};
 ghost use Rattle.epl_values.specs.Comes.{Moves};
 ghost use Rattle.epl_run.specs.Blocks as blocks;
 
-use crate::rest::Awaits;
 use eden_value::{Items, Status, Txt, Value, has_kind};
-use epl_syntax::{Answer, FaultCause, Program};
+use epl_syntax::{Answer, FaultCause, Name, Program, Stmt};
 use epl_values::{Stop, Variables, kind_named, set};
 
 /// A status, as a number, in a variable.
@@ -55,12 +54,12 @@ fn place_after(
 
 /// Whether there are as many results as variables that take them, each of its variable's kind.
 #[tactic(auto, using(crate::proofs::Replies::shapes_end))]
-fn are_fit(program: &Program, vars: &Variables, gives: &[Txt], results: &Items) -> bool
-    ensures { result ≡ have_shapes results.now (turns.kinds_as (memory (type_tree program.now) vars.now) gives.now) }
+fn are_fit(program: &Program, vars: &Variables, gives: &[Name], results: &Items) -> bool
+    ensures { result ≡ have_shapes results.now (turns.kinds_as (memory (type_tree program.now) vars.now) (map (λ n. n.text) gives.now)) }
 {
     let mut next = 0;
     for name in gives {
-        match place_after(program, vars, name, results, next) {
+        match place_after(program, vars, &name.text, results, next) {
             Some(behind) => next = behind,
             None => return false,
         }
@@ -69,9 +68,9 @@ fn are_fit(program: &Program, vars: &Variables, gives: &[Txt], results: &Items) 
 }
 
 /// Each variable gets its value.
-fn set_each(program: &Program, vars: &mut Variables, names: &[Txt], values: Items)
+fn set_each(program: &Program, vars: &mut Variables, names: &[Name], values: Items)
     ensures memory { memory (type_tree program.now) vars.new
-        ≡ variables.set_each names.now values (memory (type_tree program.now) vars.old) }
+        ≡ variables.set_each (map (λ n. n.text) names.now) values (memory (type_tree program.now) vars.old) }
     ensures owner { vars.new.owner ≡ vars.old.owner }
 {
     let mut values = values.values;
@@ -79,7 +78,7 @@ fn set_each(program: &Program, vars: &mut Variables, names: &[Txt], values: Item
         if values.is_empty() {
             return;
         }
-        set(program, vars, name, values.remove(0));
+        set(program, vars, &name.text, values.remove(0));
     }
 }
 
@@ -89,12 +88,13 @@ fn take_reply(
     program: &Program,
     vars: &mut Variables,
     status: &Txt,
-    gives: &[Txt],
+    gives: &[Name],
     code: Status,
     results: Items,
 ) -> Result<(), Stop>
     ensures told { Moves result (memory (type_tree program.now) vars.new) (memory (type_tree program.now) vars.old)
-        (turns.taken gives.now code results (variables.set status.now (turns.code code) (memory (type_tree program.now) vars.old))) }
+        (turns.taken (map (λ n. n.text) gives.now) code results
+        (variables.set status.now (turns.code code) (memory (type_tree program.now) vars.old))) }
     ensures owner { vars.new.owner ≡ vars.old.owner }
 {
     if code != Status::Ok {
@@ -111,34 +111,35 @@ fn take_reply(
     Ok(())
 }
 
-/// The variables that the answer sets have its values. An answer that is not awaited sets none.
+/// The variables that the answer to the effect of a statement sets have its values. An answer that is not awaited sets none.
 pub(crate) fn take_answer(
     program: &Program,
     vars: &mut Variables,
-    awaits: &Awaits,
+    made: Option<&Stmt>,
     answer: Answer,
 ) -> Result<(), Stop>
     ensures told { Moves result (memory (type_tree program.now) vars.new) (memory (type_tree program.now) vars.old)
-        (turns.told (blocks.awaited awaits.now) answer (memory (type_tree program.now) vars.old)) }
+        (turns.told (blocks.awaited_at made.entry) answer (memory (type_tree program.now) vars.old)) }
     ensures owner { vars.new.owner ≡ vars.old.owner }
 {
-    match (awaits, answer) {
-        (Awaits::Code { status }, Answer::Code { status: code }) => {
-            set_code(program, vars, status, code);
+    match (made, answer) {
+        (Some(Stmt::Checkpoint { status, .. }), Answer::Code { status: code })
+        | (Some(Stmt::Destroy { status, .. }), Answer::Code { status: code }) => {
+            set_code(program, vars, &status.text, code);
             Ok(())
         }
-        (Awaits::Creation { status, gives }, Answer::Created { status: code, cap }) => {
-            set_code(program, vars, status, code);
-            set(program, vars, gives, Value::Cap { cap });
+        (Some(Stmt::Create { status, gives, .. }), Answer::Created { status: code, cap }) => {
+            set_code(program, vars, &status.text, code);
+            set(program, vars, &gives.text, Value::Cap { cap });
             Ok(())
         }
         (
-            Awaits::Reply { status, gives },
+            Some(Stmt::Invoke { status, gives, .. }),
             Answer::Reply {
                 status: code,
                 results,
             },
-        ) => { take_reply(program, vars, status, gives, code, results) }
+        ) => { take_reply(program, vars, &status.text, gives, code, results) }
         _ => Ok(()),
     }
 }

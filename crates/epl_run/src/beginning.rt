@@ -6,7 +6,7 @@ ghost use Rattle.epl_syntax.specs.Turns as turns;
 ghost use Rattle.epl_run.specs.Begins as spec;
 ghost use Rattle.epl_run.specs.Blocks as blocks;
 
-use crate::rest::{Awaits, Frame, Rest};
+use crate::rest::{Frame, Rest};
 use capability::Uid;
 use eden_value::{Items, Txt, copy_items};
 use epl_syntax::{LocalDecl, Program};
@@ -46,7 +46,6 @@ fn whole(alloc: Global, owner: Owner, params: Items, locals: Items) -> Result<Re
             },
         },
         frames,
-        awaits: Awaits::Nothing,
     })
 }
 

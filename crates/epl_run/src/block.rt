@@ -85,7 +85,7 @@ fn branch_of<'p>(program: &Program, branch: Branch, s: &'p Stmt) -> Block<'p>
 }
 
 /// The steps of a branch of a block's statement, or the block itself.
-fn inner<'p>(program: &Program, block: Block<'p>, at: usize, branch: Branch) -> Block<'p>
+pub(crate) fn inner<'p>(program: &Program, block: Block<'p>, at: usize, branch: Branch) -> Block<'p>
     requires { IsCounted program.now }
     ensures { spec.steps_in result ≡ spec.inner (type_tree program.now) (spec.steps_in block.entry) at branch }
 {
@@ -123,4 +123,36 @@ pub(crate) fn block_of<'p>(
 {
     let around = block_at(program, body, frames);
     inner(program, around, frame.entered, frame.branch)
+}
+
+/// The statement before a place of a block.
+#[tactic(auto, using(crate::proofs::Rows::before_first, crate::proofs::Rows::before_statement, crate::proofs::Rows::before_none))]
+fn before<'p>(block: Block<'p>, place: usize) -> Option<&'p Stmt>
+    ensures { spec.awaited_at result ≡ spec.awaited_before (spec.steps_in block.entry) place }
+{
+    if place == 0 {
+        return None;
+    }
+    match block.statements.get(place - 1) {
+        Some(s) => Some(s),
+        None => None,
+    }
+}
+
+/// The statement that was made last: that before the place of the innermost frame.
+pub(crate) fn last_made<'p>(
+    program: &Program,
+    body: &'p [Stmt],
+    frames: &[Frame],
+) -> Option<&'p Stmt>
+    requires { IsCounted program.now }
+    ensures { spec.awaited_at result ≡ spec.awaited (type_tree program.now) (spec.steps_of body.now) frames.now }
+{
+    let mut block = of(body);
+    let mut made = None;
+    for frame in frames {
+        block = inner(program, block, frame.entered, frame.branch);
+        made = before(block, frame.next);
+    }
+    made
 }

@@ -17,5 +17,5 @@ mod upgrade;
 pub use beginning::{begin, processes};
 pub use block::is_counted;
 pub use process::turn;
-pub use rest::{Awaits, Branch, Frame, Rest};
+pub use rest::{Branch, Frame, Rest};
 pub use upgrade::upgraded;

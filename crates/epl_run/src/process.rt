@@ -3,12 +3,14 @@ ghost use Rattle.std.specs.Prelude.{◌≡◌, IfOk, map};
 ghost use Rattle.epl_syntax.specs.Memory.{variables};
 ghost use Rattle.epl_syntax.specs.Tree.{type_tree, statement};
 ghost use Rattle.epl_syntax.specs.Turns as turns;
+ghost use Rattle.epl_values.specs.Comes.{Moves};
 ghost use Rattle.epl_values.specs.Variables.{memory};
 ghost use Rattle.epl_run.specs.Blocks as blocks;
 ghost use Rattle.epl_run.specs.Blocks.{IsCounted};
 
 use crate::answer::take_answer;
-use crate::rest::{Awaits, Frame, Rest};
+use crate::block::last_made;
+use crate::rest::{Frame, Rest};
 use crate::run::run;
 use capability::Uid;
 use eden_value::Items;
@@ -45,6 +47,30 @@ fn has_to_return(owner: Owner) -> bool
     }
 }
 
+/// The answer is taken.
+#[tactic(auto, using(crate::proofs::Rows::steps_map, crate::proofs::Turned::told_go))]
+fn told(
+    program: &Program,
+    vars: &mut Variables,
+    frames: &[Frame],
+    answer: Answer,
+) -> Result<(), Stop>
+    requires { IsCounted program.now }
+    ensures told { Moves result (memory (type_tree program.now) vars.new) (memory (type_tree program.now) vars.old)
+        (turns.told (blocks.awaited (type_tree program.now) (blocks.body_steps (type_tree program.now) vars.old.owner) frames.now)
+        answer (memory (type_tree program.now) vars.old)) }
+    ensures owner { vars.new.owner ≡ vars.old.owner }
+{
+    match answer {
+        Answer::Go => Ok(()),
+        _ => {
+            let body = body_of(program, vars.owner);
+            let made = last_made(program, body, frames);
+            take_answer(program, vars, made, answer)
+        }
+    }
+}
+
 /// The answer is taken, and then steps are made up to the next effect.
 #[tactic(auto, using(crate::proofs::Rows::steps_map))]
 fn go_on(
@@ -52,19 +78,19 @@ fn go_on(
     program: &Program,
     vars: &mut Variables,
     frames: &mut SmallVec<Frame, 8>,
-    awaits: &Awaits,
     answer: Answer,
-) -> Result<(Effect, Awaits), AllocError>
+) -> Result<Effect, AllocError>
     requires { IsCounted program.now }
-    ensures came { IfOk result (λ r. blocks.Came (type_tree program.now) (blocks.body_steps (type_tree program.now) vars.old.owner)
-        r.0 r.1 vars.new frames.new.items
+    ensures came { IfOk result (λ e. blocks.Came (type_tree program.now) (blocks.body_steps (type_tree program.now) vars.old.owner)
+        e vars.new frames.new.items
         (blocks.came_to (type_tree program.now) (blocks.has_to_return vars.old.owner)
         (blocks.rest_of (type_tree program.now) (blocks.body_steps (type_tree program.now) vars.old.owner) frames.old.items)
         (memory (type_tree program.now) vars.old)
-        (turns.told (blocks.awaited awaits.now) answer (memory (type_tree program.now) vars.old)))) }
+        (turns.told (blocks.awaited (type_tree program.now) (blocks.body_steps (type_tree program.now) vars.old.owner) frames.old.items)
+        answer (memory (type_tree program.now) vars.old)))) }
     ensures owner { vars.new.owner ≡ vars.old.owner }
 {
-    match take_answer(program, vars, awaits, answer) {
+    match told(program, vars, frames.as_slice(), answer) {
         Ok(()) => {
             let body = body_of(program, vars.owner);
             let returns = has_to_return(vars.owner);
@@ -72,7 +98,7 @@ fn go_on(
         }
         Err(Stop::Fault { cause }) => {
             frames.clear();
-            Ok((Effect::Fault { cause }, Awaits::Nothing))
+            Ok(Effect::Fault { cause })
         }
         Err(Stop::Memory) => Err(AllocError),
     }
@@ -110,12 +136,9 @@ pub fn turn(
         program,
         &mut rest.variables,
         &mut rest.frames,
-        &rest.awaits,
         answer,
     );
     mem::swap(&mut rest.variables.vars, vars);
     keep_declared(program, vars);
-    let (effect, awaits) = came?;
-    rest.awaits = awaits;
-    Ok(effect)
+    came
 }

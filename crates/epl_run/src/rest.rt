@@ -1,5 +1,4 @@
 //! What is left to do of a process.
-use eden_value::Txt;
 use epl_values::Variables;
 use smallvec::SmallVec;
 
@@ -24,20 +23,11 @@ pub struct Frame {
     pub next: usize,
 }
 
-/// The names of the variables that the answer of the last effect sets.
-#[derive(Drop)]
-pub enum Awaits {
-    Nothing,
-    Code { status: Txt },
-    Creation { status: Txt, gives: Txt },
-    Reply { status: Txt, gives: Vec<Txt> },
-}
-
 /// What is left to do of a process: the frames from the outermost block to the innermost, and its own
-/// variables. It holds none of the Eject's between turns.
+/// variables. It holds none of the Eject's between turns. The answer that is awaited is that of the step
+/// before the place of the innermost frame.
 #[derive(Drop)]
 pub struct Rest {
     pub variables: Variables,
     pub frames: SmallVec<Frame, 8>,
-    pub awaits: Awaits,
 }

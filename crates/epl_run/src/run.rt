@@ -1,17 +1,17 @@
 //! Steps until the next effect.
-ghost use Rattle.std.specs.Prelude.{◌≡◌, ◌<◌, ◌^◌, ◌-◌, ℕ, List, IfOk, OnOk, Some, length, slice_get};
+ghost use Rattle.std.specs.Prelude.{◌≡◌, ◌<◌, ◌≤◌, ◌^◌, ◌-◌, ◌+◌, ◌*◌, ◌++◌, ◌∷◌, [], ℕ, Bool, List, IfOk, Some, length, slice_get};
 ghost use Rattle.epl_syntax.specs.Tree.{type_tree, statement};
 ghost use Rattle.epl_syntax.specs.Statements as meaning;
 ghost use Rattle.epl_syntax.specs.Statements.{Step};
 ghost use Rattle.epl_syntax.specs.Turns as turns;
 ghost use Rattle.epl_values.specs.Variables.{memory};
-ghost use Rattle.epl_run.specs.Acts.{Behind, frames_behind, ended};
+ghost use Rattle.epl_run.specs.Acts.{Behind};
 ghost use Rattle.epl_run.specs.Blocks as blocks;
 ghost use Rattle.epl_run.specs.Blocks.{IsCounted};
 
 use crate::act::{Act, made_of};
-use crate::block::{Block, block_of};
-use crate::rest::{Awaits, Branch, Frame};
+use crate::block::{Block, block_of, inner};
+use crate::rest::{Branch, Frame};
 use epl_syntax::{Effect, FaultCause, Program, Stmt};
 use epl_values::{Stop, Variables};
 use smallvec::SmallVec;
@@ -53,7 +53,6 @@ fn step(
             effect: Effect::Leave {
                 monitor: block.leaves.unwrap_or(0),
             },
-            awaits: Awaits::Nothing,
         }),
     }
 }
@@ -84,36 +83,6 @@ fn entered(frame: Frame, branch: Branch) -> Frame
     }
 }
 
-/// The frames behind a step of which this comes: the frame goes behind it or stays, and a branch is entered.
-fn place_behind(frames: &mut SmallVec<Frame, 8>, frame: Frame, act: &Act) -> Result<(), AllocError>
-    requires { frame.next < 2 ^ 64 - 1 }
-    ensures { OnOk result (frames.new.items ≡ frames_behind frames.old.items frame act.now) }
-{
-    match act {
-        Act::Next | Act::End { .. } => frames.push(kept(frame, false))?,
-        Act::Enter { branch, again } => {
-            frames.push(kept(frame, *again))?;
-            frames.push(entered(frame, *branch))?;
-        }
-        Act::Lock { .. } => {
-            frames.push(kept(frame, false))?;
-            frames.push(entered(frame, Branch::Held))?;
-        }
-    }
-    Ok(())
-}
-
-/// The effect that ends the turn, if there is one, and the variables that its answer sets.
-fn ended(act: Act) -> Option<(Effect, Awaits)>
-    ensures { result ≡ ended act }
-{
-    match act {
-        Act::Next | Act::Enter { .. } => None,
-        Act::End { effect, awaits } => Some((effect, awaits)),
-        Act::Lock { monitor } => Some((Effect::Lock { monitor }, Awaits::Nothing)),
-    }
-}
-
 /// How a process ends where nothing is left.
 fn end(returns: bool) -> Effect
     ensures { result ≡ blocks.last_effect returns }
@@ -127,7 +96,62 @@ fn end(returns: bool) -> Effect
     }
 }
 
-/// Makes the steps behind the frames up to an effect, and the variables that its answer sets.
+/// Makes the steps of a block from a frame on, and of the blocks that it enters, up to an effect or to the end of the innermost of
+/// them. So many steps may be made, and `left` is how many are left.
+fn run_block(
+    alloc: Global,
+    program: &Program,
+    body: &[Stmt],
+    vars: &mut Variables,
+    frames: &mut SmallVec<Frame, 8>,
+    at: (Frame, Block<'_>),
+    left: &mut u32,
+) -> Result<Option<Effect>, AllocError>
+    requires counted { IsCounted program.now }
+    requires block { blocks.steps_in at.1 ≡ blocks.own (type_tree program.now)
+        (blocks.block_at (type_tree program.now) (blocks.steps_of body.now) frames.old.items) at.0 }
+    ensures went { (returns : Bool) → IfOk result (λ r. blocks.Went (type_tree program.now) (blocks.steps_of body.now) returns r vars.new
+        frames.new.items left.new (turns.run left.old (type_tree program.now) returns (memory (type_tree program.now) vars.old)
+        (blocks.rest_of (type_tree program.now) (blocks.steps_of body.now) (frames.old.items ++ at.entry.0 ∷ [])))) }
+    ensures fewer { 2 * left.new + length frames.new.items ≤ 2 * left.old + length frames.old.items }
+    ensures owner { vars.new.owner ≡ vars.old.owner }
+{
+    let (mut frame, mut block) = at;
+    while frame.next < steps_of(block) {
+        if *left == 0 {
+            frames.clear();
+            return Ok(Some(Effect::Fault {
+                cause: FaultCause::Budget,
+            }));
+        }
+        *left -= 1;
+        match step(alloc, program, vars, block, frame.next) {
+            Ok(Act::Next) => frame = kept(frame, false),
+            Ok(Act::Enter { branch, again }) => {
+                block = inner(program, block, frame.next, branch);
+                frames.push(kept(frame, again))?;
+                frame = entered(frame, branch);
+            }
+            Ok(Act::End { effect }) => {
+                frames.push(kept(frame, false))?;
+                return Ok(Some(effect));
+            }
+            Ok(Act::Lock { monitor }) => {
+                frames.push(kept(frame, false))?;
+                frames.push(entered(frame, Branch::Held))?;
+                return Ok(Some(Effect::Lock { monitor }));
+            }
+            Err(Stop::Fault { cause }) => {
+                frames.clear();
+                return Ok(Some(Effect::Fault { cause }));
+            }
+            Err(Stop::Memory) => return Err(AllocError),
+        }
+    }
+    Ok(None)
+}
+
+/// Makes the steps behind the frames up to an effect.
 pub(crate) fn run(
     alloc: Global,
     program: &Program,
@@ -135,9 +159,9 @@ pub(crate) fn run(
     returns: bool,
     vars: &mut Variables,
     frames: &mut SmallVec<Frame, 8>,
-) -> Result<(Effect, Awaits), AllocError>
+) -> Result<Effect, AllocError>
     requires { IsCounted program.now }
-    ensures came { IfOk result (λ r. blocks.Came (type_tree program.now) (blocks.steps_of body.now) r.0 r.1 vars.new frames.new.items
+    ensures came { IfOk result (λ e. blocks.Came (type_tree program.now) (blocks.steps_of body.now) e vars.new frames.new.items
         (turns.run turns.budget (type_tree program.now) returns (memory (type_tree program.now) vars.old)
         (blocks.rest_of (type_tree program.now) (blocks.steps_of body.now) frames.old.items))) }
     ensures owner { vars.new.owner ≡ vars.old.owner }
@@ -145,31 +169,17 @@ pub(crate) fn run(
     let mut left = BUDGET;
     while let Some(frame) = frames.pop() {
         let block = block_of(program, body, frames.as_slice(), frame);
-        if frame.next < steps_of(block) {
-            if left == 0 {
-                frames.clear();
-                return Ok((
-                    Effect::Fault {
-                        cause: FaultCause::Budget,
-                    },
-                    Awaits::Nothing,
-                ));
-            }
-            left -= 1;
-            match step(alloc, program, vars, block, frame.next) {
-                Ok(act) => {
-                    place_behind(frames, frame, &act)?;
-                    if let Some(came) = ended(act) {
-                        return Ok(came);
-                    }
-                }
-                Err(Stop::Fault { cause }) => {
-                    frames.clear();
-                    return Ok((Effect::Fault { cause }, Awaits::Nothing));
-                }
-                Err(Stop::Memory) => return Err(AllocError),
-            }
+        if let Some(effect) = run_block(
+            alloc,
+            program,
+            body,
+            vars,
+            frames,
+            (frame, block),
+            &mut left,
+        )? {
+            return Ok(effect);
         }
     }
-    Ok((end(returns), Awaits::Nothing))
+    Ok(end(returns))
 }

@@ -333,6 +333,32 @@ set_var t v text d vs new is h k e =
     (sym (put_is (λ (x : Variable). x.name) (λ x. x.kind.shape) t.vars v.vars text d))
     ∙ sym (set_memory t v text d false false h k)
 
+-- ---- a place that was found
+pub put_there : {X : Type 0} (n : X → Name) (xs : List X) (ds : List Datum) (text : List ℕ) (d : Datum) (i : ℕ)
+    → place_of (map n xs) text ≡ Some i → slice_set ds i d ≡ values_with (map n xs) text d ds
+put_there n xs ds text d i h = sym (ap (λ o. with_item o (λ j. slice_set ds j d) ds) h)
+
+pub value_there : {X : Type 0} (n : X → Name) (xs : List X) (ds : List Datum) (text : List ℕ) (i : ℕ)
+    → place_of (map n xs) text ≡ Some i → slice_get ds i ≡ value_in (map n xs) ds text
+value_there n xs ds text i h = sym (ap (λ o. with_item o (slice_get ds) None) h)
+
+-- a value in a declared list is one in the list of the tree
+pub in_params : (t : TypeTree) (v : Seen) (text : List ℕ) (ps : List ParDecl) (o : Option Datum)
+    → map parameter ps ≡ parameters_of t v.owner → o ≡ value_in (map (λ p. p.name) ps) v.params text
+    → is_some (value_in (map (λ p. p.name) (parameters_of t v.owner)) v.params text) ≡ is_some o
+in_params t v text ps o is h =
+    let names : map (λ p. p.name) ps ≡ map (λ p. p.name) (parameters_of t v.owner) =
+    sym (param_names ps) ∙ ap (λ (l : List Parameter). map (λ p. p.name) l) is in
+    ap is_some (sym (h ∙ ap (λ ns. value_in ns v.params text) names))
+
+pub in_locals : (t : TypeTree) (v : Seen) (text : List ℕ) (ls : List LocalDecl) (o : Option Datum) → map local_of ls ≡ locals_of t v.owner
+    → o ≡ value_in (map (λ l. l.name) ls) v.locals text
+    → is_some (value_in (map (λ l. l.name) (locals_of t v.owner)) v.locals text) ≡ is_some o
+in_locals t v text ls o is h =
+    let names : map (λ l. l.name) ls ≡ map (λ l. l.name) (locals_of t v.owner) =
+    sym (local_names ls) ∙ ap (λ (l : List Local). map (λ p. p.name) l) is in
+    ap is_some (sym (h ∙ ap (λ ns. value_in ns v.locals text) names))
+
 -- ---- the value before
 or_some : (a b : Option Datum) → is_some a ≡ true → or_else a b ≡ a
 or_some None b h = absurd cc

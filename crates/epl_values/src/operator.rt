@@ -1,6 +1,6 @@
 //! What operators give of values.
 ghost use Rattle.std.specs.Prelude.{◌≡◌};
-ghost use Rattle.eden_value.specs.Datum.{text, list, data_of};
+ghost use Rattle.eden_value.specs.Datum.{number, text, list, data_of};
 ghost use Rattle.eden_value.specs.View.{datum, datums};
 ghost use Rattle.epl_syntax.specs.Operators as meaning;
 ghost use Rattle.epl_values.specs.Comes.{Comes};
@@ -78,11 +78,37 @@ fn between_numbers(operator: Operator, a: Value, b: Value) -> Result<Value, Stop
     }
 }
 
+/// An operator between two numbers.
+fn of_integers(operator: Operator, a: i64, b: i64) -> Result<Value, Stop>
+    ensures { Comes datum result (meaning.of_both operator (number a) (number b)) }
+{
+    match operator {
+        Operator::Or | Operator::And => Ok(Value::Int { n: b }),
+        Operator::Equal => Ok(Value::Bool { b: a == b }),
+        Operator::Different => Ok(Value::Bool { b: a != b }),
+        Operator::Join => Err(Stop::Fault {
+            cause: FaultCause::BadKind,
+        }),
+        Operator::Less
+        | Operator::LessEqual
+        | Operator::Greater
+        | Operator::GreaterEqual
+        | Operator::Add
+        | Operator::Subtract
+        | Operator::Multiply
+        | Operator::Divide
+        | Operator::Modulo => of_numbers(operator, a, b),
+    }
+}
+
 /// An operator between two values.
 #[tactic(auto, using(crate::proofs::Operands::compared))]
 pub(crate) fn of_both(operator: Operator, a: Value, b: Value) -> Result<Value, Stop>
     ensures { Comes datum result (meaning.of_both operator (datum a) (datum b)) }
 {
+    if let (Value::Int { n: a }, Value::Int { n: b }) = (&a, &b) {
+        return of_integers(operator, *a, *b);
+    }
     match operator {
         Operator::Or | Operator::And => Ok(b),
         Operator::Equal => Ok(Value::Bool { b: equal(&a, &b) }),

@@ -1,5 +1,5 @@
 //! The variables that a process sees.
-ghost use Rattle.std.specs.Prelude.{◌≡◌, map, is_some};
+ghost use Rattle.std.specs.Prelude.{◌≡◌, ◌<◌, map, length, slice_get, slice_set, Some, None, IfSome};
 ghost use Rattle.std.specs.Option.{option_map};
 ghost use Rattle.epl_syntax.specs.Tree.{type_tree, parameter, local_of};
 ghost use Rattle.eden_value.specs.Shape.{shape};
@@ -110,24 +110,28 @@ pub fn value_named<'a>(program: &Program, vars: &'a Variables, text: &Txt) -> Op
     var_named(program, vars, text)
 }
 
-fn has_param(program: &Program, vars: &Variables, text: &Txt) -> bool
-    ensures { result ≡ is_some
-        (spec.value_in (map (λ p. p.name) (spec.parameters_of (type_tree program.now) vars.now.owner)) vars.now.params text.now) }
+/// The place of the value of a name among these.
+fn held_at<T: Named>(declared: &[T], values: &Items, text: &Txt) -> Option<usize>
+    ensures place { IfSome result (λ i. spec.place_of (map T.named declared.now) text.now ≡ Some i) }
+    ensures within { IfSome result (λ i. i < length values.now) }
+    ensures none { (result ≡ None) → spec.value_in (map T.named declared.now) values.now text.now ≡ None }
 {
-    match param_named(program, vars, text) {
-        Some(_) => true,
-        None => false,
+    let place = place_of(declared, text)?;
+    if place < values.values.len() {
+        Some(place)
+    } else {
+        None
     }
 }
 
-fn has_local(program: &Program, vars: &Variables, text: &Txt) -> bool
-    ensures { result ≡ is_some
-        (spec.value_in (map (λ v. v.name) (spec.locals_of (type_tree program.now) vars.now.owner)) vars.now.locals text.now) }
+/// Another value at a place, and the one before.
+#[tactic(auto, using(crate::proofs::Operands::set_datums, crate::proofs::Operands::get_datums))]
+fn swap_in(values: &mut Items, at: usize, value: Value) -> Value
+    requires { at < length values.old }
+    ensures new { values.new ≡ slice_set values.old at (datum value) }
+    ensures old { Some (datum result) ≡ slice_get values.old at }
 {
-    match local_named(program, vars, text) {
-        Some(_) => true,
-        None => false,
-    }
+    mem::replace(&mut values.values[at], value)
 }
 
 /// Another value at the place of a name among these, and the one before.
@@ -160,23 +164,15 @@ pub(crate) fn replace(
     ensures before { option_map datum result ≡ spec.value_as_named (spec.memory (type_tree program.now) vars.old) text.now }
     ensures owner { vars.new.owner ≡ vars.old.owner }
 {
-    if has_param(program, vars, text) {
-        put(
-            params_of(program, vars.owner),
-            &mut vars.params,
-            text,
-            value,
-        )
-    } else if has_local(program, vars, text) {
-        put(
-            locals_of(program, vars.owner),
-            &mut vars.locals,
-            text,
-            value,
-        )
-    } else {
-        put(&program.vars, &mut vars.vars, text, value)
+    let params = params_of(program, vars.owner);
+    if let Some(at) = held_at(params, &vars.params, text) {
+        return Some(swap_in(&mut vars.params, at, value));
     }
+    let locals = locals_of(program, vars.owner);
+    if let Some(at) = held_at(locals, &vars.locals, text) {
+        return Some(swap_in(&mut vars.locals, at, value));
+    }
+    put(&program.vars, &mut vars.vars, text, value)
 }
 
 /// A variable gets a value.

@@ -1,4 +1,4 @@
-use Rattle.std.proofs.Common.{◌≡◌, drop}
+use Rattle.std.proofs.Common.{◌≡◌, drop, map}
 use Rattle.epl_syntax.specs.Kinds.{have_shapes}
 use Rattle.epl_syntax.specs.Tree.{type_tree}
 use Rattle.epl_syntax.specs.Turns.{kinds_as}
@@ -7,5 +7,5 @@ use Rattle.epl_run.proofs.answer.are_fit.Given as goal
 
 abbrev pub invariant-loop-name : goal.invariant-loop-name
 invariant-loop-name l =
-    have_shapes (drop l.next l.results) (kinds_as (memory (type_tree l.program) l.vars) (drop l.name-index l.gives))
-    ≡ have_shapes l.results (kinds_as (memory (type_tree l.program) l.vars) l.gives)
+    have_shapes (drop l.next l.results) (kinds_as (memory (type_tree l.program) l.vars) (map (λ n. n.text) (drop l.name-index l.gives)))
+    ≡ have_shapes l.results (kinds_as (memory (type_tree l.program) l.vars) (map (λ n. n.text) l.gives))
