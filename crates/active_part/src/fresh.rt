@@ -9,8 +9,7 @@ ghost use Rattle.active_part.specs.View.{body_of, task_of};
 
 use crate::{Doing, Part};
 use coordinator::Coordinator;
-use eden_value::Items;
-use edentypes::{Kind, Rest};
+use edentypes::{Kind, Rest, Values};
 use epl_syntax::{Answer, Types};
 use std::alloc::{AllocError, Global};
 use std::collections::BTreeMap;
@@ -40,7 +39,7 @@ fn first_tasks(alloc: Global, rests: Vec<Rest>) -> Result<BTreeMap<u8, Doing>, A
 impl Part {
     /// An active part that has these values of all its variables and starts anew: its declared processes run, its
     /// monitors are free, and nothing is queued.
-    pub fn fresh(alloc: Global, types: &Types, kind: Kind, vars: Items) -> Result<Part, AllocError>
+    pub fn fresh(alloc: Global, types: &Types, kind: Kind, vars: Values) -> Result<Part, AllocError>
         ensures active { IfOk result (λ part. active_of (body_of types.now part) ≡ fresh (kind_in types.now kind) vars) }
         ensures queued { IfOk result (λ part. (body_of types.now part).crew.queued ≡ []) }
     {

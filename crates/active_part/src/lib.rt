@@ -27,7 +27,7 @@ use capability::{Body, Uid};
 use coordinator::{Coordinator, Parts, Started};
 use eden_codec::{EncodeRefusal, encode_rep};
 use eden_value::{Items, Status};
-use edentypes::{Kind, Rest, begin, rep};
+use edentypes::{Kind, Rest, Values, begin, rep};
 use epl_syntax::{Answer, Effect, Types};
 use invocation::Call;
 use std::alloc::{AllocError, Global};
@@ -56,7 +56,7 @@ pub enum Step {
 #[derive(Drop)]
 pub struct Part {
     kind: Kind,
-    vars: Items,
+    vars: Values,
     tasks: BTreeMap<u8, Doing>,
     crew: Coordinator,
 }
@@ -111,7 +111,7 @@ fn take_turn(
     alloc: Global,
     types: &Types,
     kind: Kind,
-    vars: &mut Items,
+    vars: &mut Values,
     doing: &mut Doing,
     me: Uid,
 ) -> Result<Effect, AllocError>

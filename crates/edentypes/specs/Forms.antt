@@ -1,15 +1,18 @@
 -- The code's tables of native types, and the parts of declared ones, as the outlines of the definitions.
-use Rattle.std.specs.Prelude.{◌≤◌, pos, true, false, map, [], ◌∷◌, None}
+use Rattle.std.specs.Prelude.{◌≡◌, ◌≤◌, pos, true, false, map, [], ◌∷◌, None}
 use Rattle.std.specs.List.{All}
 use Rattle.coordinator.specs.declared.parts.Setup.{Setup as Layout}
 use Rattle.eden_model.specs.Crew.{Setup}
 use Rattle.eden_value.specs.Datum.{Datum, number, truth, text, cap, list, no_data}
 use Rattle.eden_value.specs.Shape.{Shape, ints, truths, texts, caps, lists, shape}
 use Rattle.epl_syntax.specs.declared.tree.VarDecl.{VarDecl}
+use Rattle.epl_syntax.specs.declared.types.Native.{Native}
 use Rattle.epl_syntax.specs.Edentype.{Edentype, native, declared}
 use Rattle.epl_syntax.specs.Memory.{value_of_constant}
+use Rattle.epl_syntax.specs.Natives.{rule_of}
 use Rattle.epl_syntax.specs.Outline.{Slot, Operation}
 use Rattle.epl_syntax.specs.Tree.{type_tree, constant}
+use Rattle.transput.specs.View.{is_stream}
 use Rattle.edentypes.specs.declared.form.Form.{Form}
 use Rattle.edentypes.specs.declared.form.Form.TheVariants as form
 use Rattle.edentypes.specs.declared.kinds.Plain.{Plain}
@@ -61,3 +64,7 @@ native_setup = record { limits = 1 ∷ []; declared = 0; monitors = 0; condition
 -- at most 8 declared processes and 8 monitors, and each condition in one of them
 abbrev pub IsBounded : Layout → Type 0
 IsBounded s = (s.declared ≤ 8) × (s.monitors ≤ 8) × All (λ m. (1 ≤ m) × (m ≤ s.monitors)) s.conditions
+
+-- the one is the other where it is a stream type, and each has the rule of the other
+abbrev pub IsStreamOf : Native → Native → Type 0
+IsStreamOf n s = (is_stream n ≡ true → s ≡ n) × (rule_of s ≡ rule_of n)

@@ -9,11 +9,16 @@ use Rattle.eden_model.specs.Map.{with_item}
 use Rattle.epl_syntax.specs.declared.types.Native.TheVariants.{Cell}
 use Rattle.epl_syntax.specs.declared.effect.Effect.{Effect}
 use Rattle.epl_syntax.specs.Rules.OfTypes.{TypeList}
-use Rattle.epl_syntax.specs.Edentype.{Edentype, native}
+use Rattle.epl_syntax.specs.Edentype.{Edentype, native, declared}
 use Rattle.epl_syntax.specs.Kinds.{have_shapes}
 use Rattle.epl_syntax.specs.Cell as cell
 use Rattle.epl_syntax.specs.Natives.{in_cell}
-use Rattle.epl_syntax.specs.Meaning.{Rest as Meant, of_native, Turned, Operation, operation_of, types_in}
+use Rattle.epl_syntax.specs.Turns.{Left, nothing_left}
+use Rattle.epl_syntax.specs.Meaning.{Rest as Meant, of_native, of_declared, Turned, Operation, operation_of, types_in}
+use Rattle.directory_eject.specs.Stages as directories
+use Rattle.epl_run.specs.Blocks.{left_of}
+use Rattle.epl_run.specs.declared.rest.Rest.{Rest as LeftToDo}
+use Rattle.transput.specs.View as streams
 use Rattle.edentypes.specs.declared.Kind.{Kind}
 use Rattle.edentypes.specs.declared.Rest.{Rest}
 use Rattle.edentypes.specs.declared.Rest.TheVariants as rest
@@ -36,9 +41,17 @@ stage_of Sleeps = cell.sleeps
 stage_of Kills = cell.kills
 stage_of Killed = cell.killed
 
+-- what is left to do of a process of a declared type, by its tree; of a native type it is never looked at
+abbrev pub left_in : Edentype → LeftToDo → Left
+left_in (declared t) left = left_of t left
+left_in (native n) left = nothing_left
+
 -- what the code has left to do of a process of this type
 abbrev pub rest_of : Edentype → Rest → Meant
 rest_of t (rest.Cell stage) = of_native (in_cell (stage_of stage))
+rest_of t (rest.Directory stage) = of_native (directories.stage_of stage)
+rest_of t (rest.Stream stage) = of_native (streams.stage_of stage)
+rest_of t (rest.Declared left) = of_declared (left_in t left)
 
 -- what a turn came to
 abbrev pub turned_of : List Datum → Meant → Effect → Turned

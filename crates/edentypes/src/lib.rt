@@ -2,8 +2,10 @@
 //! of its processes.
 #![tactic(auto)]
 
+mod beginning;
 mod cell;
 mod form;
+mod held;
 mod kinds;
 mod layout;
 mod native;
@@ -11,23 +13,23 @@ mod operations;
 mod starting;
 #[cfg(test)]
 mod tests;
+mod turns;
 mod variables;
 
-ghost use Rattle.std.specs.Prelude.{◌≡◌, IfOk, map};
+ghost use Rattle.std.specs.Prelude.{◌≡◌};
 ghost use Rattle.std.specs.Option.{option_map};
-ghost use Rattle.epl_syntax.specs.Meaning as meaning;
 ghost use Rattle.epl_syntax.specs.Meaning.{type_of, types_in};
-ghost use Rattle.edentypes.specs.View.{kind_in, rest_of, turned_of};
+ghost use Rattle.edentypes.specs.View.{kind_in};
 
-use crate::form::{Form, form_at};
-use capability::Uid;
+pub use beginning::{begin, processes};
 pub use cell::CellStage;
-use eden_value::{Items, Txt};
-use epl_syntax::{Answer, Effect, Native, Types};
+use eden_value::Txt;
+use epl_syntax::Types;
+pub use held::Values;
 pub use layout::setup;
 pub use operations::{Fit, fit_call};
 pub use starting::{first_values, rep, start, start_from};
-use std::alloc::{AllocError, Global};
+pub use turns::turn;
 
 /// Which type an Eject is of: its place among the types of the script, as `find` tells it.
 #[derive(Clone, Copy, Debug, PartialEq, Eq)]
@@ -35,10 +37,13 @@ pub struct Kind {
     pub place: usize,
 }
 
-/// What is left to do of a process. So far those of a Cell are here.
+/// What is left to do of a process: of a native type, or of a declared one.
 #[derive(Drop)]
 pub enum Rest {
     Cell { stage: CellStage },
+    Directory { stage: directory_eject::Stage },
+    Stream { stage: transput::Stage },
+    Declared { rest: epl_run::Rest },
 }
 
 /// The type of this name. None exactly where the script has none.
@@ -48,59 +53,5 @@ pub fn find(types: &Types, name: &Txt) -> Option<Kind>
     match types.find(name) {
         Some(place) => Some(Kind { place }),
         None => None,
-    }
-}
-
-/// What the declared processes do, in order.
-pub fn processes(alloc: Global, types: &Types, kind: Kind) -> Result<Vec<Rest>, AllocError>
-    ensures { IfOk result (λ found. map (rest_of (kind_in types.now kind)) found.items ≡ meaning.declared (kind_in types.now kind)) }
-{
-    match form_at(types, kind) {
-        Form::Native { .. } => Ok(Vec::new(alloc)),
-        Form::Declared { program } if program.processes.is_empty() => Ok(Vec::new(alloc)),
-        Form::Declared { .. } => Err(AllocError),
-    }
-}
-
-/// An operation begins, with arguments of the kinds that it takes.
-pub fn begin(
-    _alloc: Global,
-    types: &Types,
-    kind: Kind,
-    operation: &Txt,
-    args: &Items,
-) -> Result<Rest, AllocError>
-    ensures { IfOk result (λ rest. rest_of (kind_in types.now kind) rest ≡ meaning.begin (kind_in types.now kind) operation.now args.now) }
-{
-    match form_at(types, kind) {
-        Form::Native {
-            native: Native::Cell,
-        } => Ok(Rest::Cell {
-            stage: cell::begin(operation, args),
-        }),
-        _ => Err(AllocError),
-    }
-}
-
-/// A process of the Eject `me` takes a turn, up to its effect.
-///
-/// Where memory runs out, values and what is left may have changed.
-pub fn turn(
-    alloc: Global,
-    types: &Types,
-    kind: Kind,
-    vars: &mut Items,
-    rest: &mut Rest,
-    answer: Answer,
-    _me: Uid,
-) -> Result<Effect, AllocError>
-    ensures { IfOk result (λ effect. turned_of vars.new (rest_of (kind_in types.now kind) rest.new) effect
-        ≡ meaning.turn (kind_in types.now kind) vars.old (rest_of (kind_in types.now kind) rest.old) answer _me) }
-{
-    match form_at(types, kind) {
-        Form::Native { .. } => match rest {
-            Rest::Cell { stage } => cell::turn(alloc, vars, stage, &answer),
-        },
-        Form::Declared { .. } => Ok(Effect::End),
     }
 }

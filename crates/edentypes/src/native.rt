@@ -1,10 +1,12 @@
 //! The native types as tables: their names, variables and operations.
 ghost use Rattle.std.specs.Prelude.{◌≡◌, map};
 ghost use Rattle.epl_syntax.specs.Natives as natives;
-ghost use Rattle.edentypes.specs.Forms.{slot_of, operation_of};
+ghost use Rattle.transput.specs.View.{native_of};
+ghost use Rattle.edentypes.specs.Forms.{slot_of, operation_of, IsStreamOf};
 
 use crate::kinds::Plain;
 use epl_syntax::Native;
+use transput::Stream;
 
 /// The version of each native type.
 pub(crate) const NATIVE_VERSION: u16 = 1;
@@ -258,5 +260,21 @@ pub(crate) fn operations_of(native: Native) -> &'static [Operation]
         Native::Only => &ONLY_OPERATIONS,
         Native::Number => &NUMBERING_OPERATIONS,
         Native::Sink => &SINK_OPERATIONS,
+    }
+}
+
+/// The stream type that a native type is. Of Cell and Directory, which are none, it is never asked.
+pub(crate) fn stream_of(native: Native) -> Stream
+    ensures { IsStreamOf native (native_of result) }
+{
+    match native {
+        Native::Cell => Stream::Take,
+        Native::Directory => Stream::Take,
+        Native::Lines => Stream::Lines,
+        Native::Take => Stream::Take,
+        Native::Skip => Stream::Skip,
+        Native::Only => Stream::Only,
+        Native::Number => Stream::Number,
+        Native::Sink => Stream::Sink,
     }
 }

@@ -5,16 +5,18 @@ ghost use Rattle.epl_syntax.specs.Meaning as meaning;
 ghost use Rattle.epl_syntax.specs.Natives as natives;
 ghost use Rattle.epl_syntax.specs.Edentype.{declared as declared_type, declared_outline};
 ghost use Rattle.epl_syntax.specs.Tree.{type_tree};
+ghost use Rattle.eden_value.specs.View.{datums};
 ghost use Rattle.edentypes.specs.Forms.{slot_of_variable};
 ghost use Rattle.edentypes.specs.View.{kind_in};
 
 use crate::form::{Form, form_at};
-use crate::native::{NATIVE_VERSION, name_of, slots_of};
+use crate::held::Values;
+use crate::native::{NATIVE_VERSION, name_of, slots_of, stream_of};
 use crate::variables::{fit_kept, only_kept, with_kept};
 use crate::{Kind, find};
 use capability::Uid;
 use eden_codec::Rep;
-use eden_value::{Items, Txt, copy_items};
+use eden_value::{Items, Txt, Value, copy_items};
 use epl_syntax::{Native, Program, Types, VarDecl};
 use std::alloc::{AllocError, Global};
 
@@ -26,7 +28,7 @@ fn variables_of(program: &Program) -> &[VarDecl]
 }
 
 /// The values of all variables of a new Eject.
-pub fn first_values(alloc: Global, types: &Types, kind: Kind) -> Result<Items, AllocError>
+pub fn first_values(alloc: Global, types: &Types, kind: Kind) -> Result<Values, AllocError>
     ensures { IfOk result (λ vars. vars ≡ meaning.first_values (kind_in types.now kind)) }
 {
     let none = Items {
@@ -36,35 +38,30 @@ pub fn first_values(alloc: Global, types: &Types, kind: Kind) -> Result<Items, A
 }
 
 /// The values of all variables of an Eject that starts from durable ones: the working ones begin anew.
-pub fn start(alloc: Global, types: &Types, kind: Kind, durable: &Items) -> Result<Items, AllocError>
+pub fn start(
+    alloc: Global,
+    types: &Types,
+    kind: Kind,
+    durable: &Items,
+) -> Result<Values, AllocError>
     ensures { IfOk result (λ vars. vars ≡ meaning.values_from (kind_in types.now kind) durable.now) }
 {
-    match form_at(types, kind) {
-        Form::Native { native } => {
-            let values = with_kept(alloc, slots_of(native), &durable.values)?;
-            Ok(Items { values })
-        }
-        Form::Declared { program } => {
-            let values = with_kept(alloc, variables_of(program), &durable.values)?;
-            Ok(Items { values })
-        }
-    }
+    let values = match form_at(types, kind) {
+        Form::Native { native } => with_kept(alloc, slots_of(native), &durable.values)?,
+        Form::Declared { program } => with_kept(alloc, variables_of(program), &durable.values)?,
+    };
+    Ok(Values::plain(Items { values }))
 }
 
 /// The values of the durable variables, in order.
-fn durable_of(alloc: Global, types: &Types, kind: Kind, vars: &Items) -> Result<Items, AllocError>
-    ensures { IfOk result (λ kept. kept ≡ meaning.durable_of (kind_in types.now kind) vars.now) }
+fn durable_of(alloc: Global, types: &Types, kind: Kind, vars: &[Value]) -> Result<Items, AllocError>
+    ensures { IfOk result (λ kept. kept ≡ meaning.durable_of (kind_in types.now kind) (datums vars.now)) }
 {
-    match form_at(types, kind) {
-        Form::Native { native } => {
-            let values = only_kept(alloc, slots_of(native), &vars.values)?;
-            Ok(Items { values })
-        }
-        Form::Declared { program } => {
-            let values = only_kept(alloc, variables_of(program), &vars.values)?;
-            Ok(Items { values })
-        }
-    }
+    let values = match form_at(types, kind) {
+        Form::Native { native } => only_kept(alloc, slots_of(native), vars)?,
+        Form::Declared { program } => only_kept(alloc, variables_of(program), vars)?,
+    };
+    Ok(Items { values })
 }
 
 /// The version of a declared type.
@@ -99,7 +96,7 @@ fn name_in(alloc: Global, types: &Types, kind: Kind) -> Result<Txt, AllocError>
 }
 
 /// What is kept of an Eject with these values.
-pub fn rep(alloc: Global, types: &Types, kind: Kind, vars: &Items) -> Result<Rep, AllocError>
+pub fn rep(alloc: Global, types: &Types, kind: Kind, vars: &Values) -> Result<Rep, AllocError>
     ensures { IfOk result (λ rep. rep ≡ meaning.rep_of (kind_in types.now kind) vars.now) }
 {
     let version = version_of(types, kind);
@@ -107,7 +104,8 @@ pub fn rep(alloc: Global, types: &Types, kind: Kind, vars: &Items) -> Result<Rep
         return Err(AllocError);
     }
     let type_name = name_in(alloc, types, kind)?;
-    let values = durable_of(alloc, types, kind, vars)?;
+    let all = vars.items(alloc)?;
+    let values = durable_of(alloc, types, kind, &all.values)?;
     Ok(Rep {
         type_name,
         version: version as u16,
@@ -115,42 +113,64 @@ pub fn rep(alloc: Global, types: &Types, kind: Kind, vars: &Items) -> Result<Rep
     })
 }
 
-/// Whether stored values meet the condition of a native type. Those of the types that do not run yet are not tested here.
-fn meets_condition(native: Native, _durable: &Items) -> Result<bool, AllocError>
-    ensures { IfOk result (λ met. met ≡ natives.native_condition native _durable.now) }
+/// Whether stored values meet the condition of a native type.
+fn meets_condition(native: Native, durable: &Items) -> bool
+    ensures { result ≡ natives.native_condition native durable.now }
 {
     match native {
-        Native::Cell | Native::Lines | Native::Sink => Ok(true),
-        _ => Err(AllocError),
+        Native::Cell => true,
+        Native::Directory => directory_eject::native_start(durable),
+        _ => transput::native_start(stream_of(native), durable),
     }
 }
 
 /// Whether a representation is of this version of the type.
-fn is_current(types: &Types, kind: Kind, rep: &Rep) -> Result<bool, AllocError>
-    ensures { IfOk result (λ is. is ≡ meaning.is_current (kind_in types.now kind) rep.now) }
+fn is_current(types: &Types, kind: Kind, rep: &Rep) -> bool
+    ensures { result ≡ meaning.is_current (kind_in types.now kind) rep.now }
 {
     if u64::from(rep.version) != version_of(types, kind) {
-        return Ok(false);
+        return false;
     }
     match form_at(types, kind) {
         Form::Native { native } => {
-            if !fit_kept(slots_of(native), &rep.values.values) {
-                return Ok(false);
-            }
-            meets_condition(native, &rep.values)
+            fit_kept(slots_of(native), &rep.values.values) && meets_condition(native, &rep.values)
         }
-        Form::Declared { program } => Ok(fit_kept(variables_of(program), &rep.values.values)),
+        Form::Declared { program } => fit_kept(variables_of(program), &rep.values.values),
     }
 }
 
-/// The durable values that an upgrade from an earlier version gives. Upgrades do not run yet.
-fn upgraded(types: &Types, kind: Kind, _rep: &Rep, _me: Uid) -> Result<Option<Items>, AllocError>
-    ensures { IfOk result (λ made. made ≡ meaning.upgraded (kind_in types.now kind) _rep.now _me) }
+/// The durable values that an upgrade of a declared type gives.
+fn declared_upgraded(
+    alloc: Global,
+    program: &Program,
+    rep: &Rep,
+    me: Uid,
+) -> Result<Option<Items>, AllocError>
+    ensures { IfOk result (λ made. made ≡ meaning.upgraded (declared_type (type_tree program.now)) rep.now me) }
+{
+    match epl_run::upgraded(alloc, program, rep, me)? {
+        Some(vars) => {
+            let values = only_kept(alloc, variables_of(program), &vars.values)?;
+            Ok(Some(Items { values }))
+        }
+        None => Ok(None),
+    }
+}
+
+/// The durable values that an upgrade from an earlier version gives. None exactly where there is none that takes the
+/// values, or where it faults.
+fn upgraded(
+    alloc: Global,
+    types: &Types,
+    kind: Kind,
+    rep: &Rep,
+    me: Uid,
+) -> Result<Option<Items>, AllocError>
+    ensures { IfOk result (λ made. made ≡ meaning.upgraded (kind_in types.now kind) rep.now me) }
 {
     match form_at(types, kind) {
         Form::Native { .. } => Ok(None),
-        Form::Declared { program } if program.upgrades.is_empty() => Ok(None),
-        Form::Declared { .. } => Err(AllocError),
+        Form::Declared { program } => declared_upgraded(alloc, program, rep, me),
     }
 }
 
@@ -164,10 +184,10 @@ fn durable_from(
 ) -> Result<Option<Items>, AllocError>
     ensures { IfOk result (λ found. found ≡ meaning.durable_from (kind_in types.now kind) rep.now me) }
 {
-    if is_current(types, kind, rep)? {
+    if is_current(types, kind, rep) {
         return Ok(Some(copy_items(alloc, &rep.values)?));
     }
-    upgraded(types, kind, rep, me)
+    upgraded(alloc, types, kind, rep, me)
 }
 
 /// The type of a representation, and the durable values with which the Eject `me` starts. None exactly where it fits none

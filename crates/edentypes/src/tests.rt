@@ -1,8 +1,9 @@
 use super::*;
-use capability::{Cap, Rights};
+use capability::{Cap, Rights, Uid};
 use coordinator::Coordinator;
 use eden_codec::Rep;
-use eden_value::{Status, Value, equal};
+use eden_value::{Items, Status, Value, equal, print};
+use epl_syntax::{Answer, Effect};
 use std::alloc::{AllocError, Global};
 
 const ME: Uid = Uid {
@@ -57,13 +58,14 @@ fn every_native_type_starts(rt: HostRuntime) -> Result<(), AllocError> {
         let found = find(&types, &name);
         assert_eq!(rt; found.map(|kind| kind.place), place);
         if let Some(kind) = found {
-            let vars = first_values(rt.alloc(), &types, kind)?;
+            let new = first_values(rt.alloc(), &types, kind)?;
+            let vars = new.items(rt.alloc())?;
             assert_eq!(rt; vars.values.len(), variables);
-            let kept = rep(rt.alloc(), &types, kind, &vars)?;
+            let kept = rep(rt.alloc(), &types, kind, &new)?;
             assert!(rt; kept.type_name.bytes == name.bytes);
             assert_eq!(rt; kept.version, 1);
             assert_eq!(rt; kept.values.values.len(), durable);
-            let again = start(rt.alloc(), &types, kind, &kept.values)?;
+            let again = start(rt.alloc(), &types, kind, &kept.values)?.items(rt.alloc())?;
             assert_eq!(rt; again.values.len(), variables);
             for i in 0..variables {
                 assert!(rt; equal(&again.values[i], &vars.values[i]), "variable {i}");
@@ -164,7 +166,7 @@ fn a_cell_takes_its_turns(rt: HostRuntime) -> Result<(), AllocError> {
     let types = Types::native(rt.alloc())?;
     let kind = Kind { place: 0 };
     for (operation, args, after, returned) in TURNS {
-        let mut vars = numbers(rt.alloc(), &[3])?;
+        let mut vars = Values::plain(numbers(rt.alloc(), &[3])?);
         let operation = text(rt.alloc(), operation)?;
         let args = numbers(rt.alloc(), args)?;
         let mut rest = begin(rt.alloc(), &types, kind, &operation, &args)?;
@@ -183,7 +185,7 @@ fn a_cell_takes_its_turns(rt: HostRuntime) -> Result<(), AllocError> {
             };
             effect = turn(rt.alloc(), &types, kind, &mut vars, &mut rest, answer, ME)?;
         }
-        assert!(rt; are_numbers(&vars, after));
+        assert!(rt; are_numbers(&vars.items(rt.alloc())?, after));
         match (effect, returned) {
             (Effect::Return { results }, Some(wanted)) => assert!(rt;
                 are_numbers(&results, wanted)
@@ -191,6 +193,208 @@ fn a_cell_takes_its_turns(rt: HostRuntime) -> Result<(), AllocError> {
             (Effect::Deactivate, None) => {}
             _ => panic!(rt; "another effect"),
         }
+    }
+    Ok(())
+}
+
+/// An argument of a call.
+#[derive(Clone, Copy)]
+enum Given {
+    Name { bytes: &'static [u8] },
+    NoCap,
+    OneText { bytes: &'static [u8] },
+    Number { n: i64 },
+}
+
+fn value_of(alloc: Global, given: Given) -> Result<Value, AllocError> {
+    match given {
+        Given::Name { bytes } => Ok(Value::Text {
+            text: text(alloc, bytes)?,
+        }),
+        Given::NoCap => Ok(Value::Cap { cap: None }),
+        Given::OneText { bytes } => {
+            let item = Value::Text {
+                text: text(alloc, bytes)?,
+            };
+            let values = vec![in alloc; item]?;
+            Ok(Value::List {
+                items: Items { values },
+            })
+        }
+        Given::Number { n } => Ok(Value::Int { n }),
+    }
+}
+
+/// What an operation returns, as the text of a list. A checkpoint is answered with the status.
+fn returned(
+    alloc: Global,
+    types: &Types,
+    kind: Kind,
+    vars: &mut Values,
+    rest: &mut Rest,
+    status: Status,
+) -> Result<Vec<u8>, AllocError> {
+    let mut effect = turn(alloc, types, kind, vars, rest, Answer::Go, ME)?;
+    if matches!(effect, Effect::Checkpoint) {
+        effect = turn(alloc, types, kind, vars, rest, Answer::Code { status }, ME)?;
+    }
+    let mut out = Vec::new(alloc);
+    match effect {
+        Effect::Return { results } => print(alloc, &Value::List { items: results }, &mut out)?,
+        _ => {}
+    }
+    Ok(out)
+}
+
+/// The place of a type, an operation of its Eject with arguments, the status of a checkpoint, and what is returned.
+type Row = (
+    usize,
+    &'static [u8],
+    &'static [Given],
+    Status,
+    &'static [u8],
+);
+
+const CARRIED: [Row; 8] = [
+    (
+        1,
+        b"AddEntry",
+        &[Given::Name { bytes: b"a" }, Given::NoCap],
+        Status::Ok,
+        b"[0]",
+    ),
+    (
+        1,
+        b"AddEntry",
+        &[Given::Name { bytes: b"a" }, Given::NoCap],
+        Status::Ok,
+        b"[1]",
+    ),
+    (
+        1,
+        b"AddEntry",
+        &[Given::Name { bytes: b"b" }, Given::NoCap],
+        Status::Full,
+        b"[3]",
+    ),
+    (1, b"List", &[], Status::Ok, b"[[\"a\", \"b\"]]"),
+    (
+        2,
+        b"Transfer",
+        &[Given::Number { n: 0 }],
+        Status::Ok,
+        b"[3, \"\"]",
+    ),
+    (
+        2,
+        b"Fill",
+        &[Given::OneText { bytes: b"x" }],
+        Status::Ok,
+        b"[0]",
+    ),
+    (
+        2,
+        b"Transfer",
+        &[Given::Number { n: 0 }],
+        Status::Ok,
+        b"[0, \"x\"]",
+    ),
+    (7, b"Read", &[], Status::Ok, b"[[]]"),
+];
+
+/// The arguments of a call.
+fn items_of(alloc: Global, args: &[Given]) -> Result<Items, AllocError> {
+    let mut values = Vec::new(alloc);
+    for given in args {
+        values.push(value_of(alloc, *given)?)?;
+    }
+    Ok(Items { values })
+}
+
+/// What an operation with these arguments returns.
+fn carried_out(
+    alloc: Global,
+    types: &Types,
+    kind: Kind,
+    vars: &mut Values,
+    operation: &[u8],
+    args: &Items,
+    status: Status,
+) -> Result<Vec<u8>, AllocError> {
+    let operation = text(alloc, operation)?;
+    let mut rest = begin(alloc, types, kind, &operation, args)?;
+    returned(alloc, types, kind, vars, &mut rest, status)
+}
+
+/// Whether an Eject starts from what is kept of these values.
+fn starts_again(
+    alloc: Global,
+    types: &Types,
+    kind: Kind,
+    vars: &Values,
+) -> Result<bool, AllocError> {
+    let kept = rep(alloc, types, kind, vars)?;
+    Ok(start_from(alloc, types, &kept, ME)?.is_some())
+}
+
+#[test]
+fn native_types_carry_out_operations(rt: HostRuntime) -> Result<(), AllocError> {
+    let alloc = rt.alloc();
+    let types = Types::native(alloc)?;
+    let mut kind = Kind { place: 0 };
+    let mut vars = first_values(alloc, &types, kind)?;
+    for (place, operation, args, status, wanted) in CARRIED {
+        if kind.place != place {
+            kind = Kind { place };
+            vars = first_values(alloc, &types, kind)?;
+        }
+        let args = items_of(alloc, args)?;
+        let answer = carried_out(alloc, &types, kind, &mut vars, operation, &args, status)?;
+        assert_eq!(rt; answer.as_slice(), wanted);
+        assert!(rt; starts_again(alloc, &types, kind, &vars)?);
+    }
+    Ok(())
+}
+
+/// Names of a stored directory, and whether an Eject starts from them, where it has as many capabilities.
+const ENTRIES: [(&[u8], &[u8], bool); 2] = [(b"a", b"b", true), (b"a", b"a", false)];
+
+/// Two values as a list.
+fn pair(alloc: Global, first: Value, second: Value) -> Result<Value, AllocError> {
+    let values = vec![in alloc; first, second]?;
+    Ok(Value::List {
+        items: Items { values },
+    })
+}
+
+/// A stored directory of two names without capabilities.
+fn directory(
+    alloc: Global,
+    first: &'static [u8],
+    second: &'static [u8],
+) -> Result<Rep, AllocError> {
+    let first = value_of(alloc, Given::Name { bytes: first })?;
+    let second = value_of(alloc, Given::Name { bytes: second })?;
+    let names = pair(alloc, first, second)?;
+    let held = pair(alloc, Value::Cap { cap: None }, Value::Cap { cap: None })?;
+    Ok(Rep {
+        type_name: text(alloc, b"Directory")?,
+        version: 1,
+        values: Items {
+            values: vec![in alloc; names, held]?,
+        },
+    })
+}
+
+#[test]
+fn directories_start_from_different_names(rt: HostRuntime) -> Result<(), AllocError> {
+    let types = Types::native(rt.alloc())?;
+    for (first, second, starts) in ENTRIES {
+        let kept = directory(rt.alloc(), first, second)?;
+        assert_eq!(rt;
+            start_from(rt.alloc(), &types, &kept, ME)?.is_some(),
+            starts
+        );
     }
     Ok(())
 }
