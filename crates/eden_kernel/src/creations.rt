@@ -25,6 +25,7 @@ impl<St: Store> Node<St> {
     ) -> Result<Result<Uid, Status>, AllocError>
         requires whole { IsWhole (held St.seen self.old) }
         ensures whole { OnOk result (IsWhole (held St.seen self.new)) }
+        ensures number { self.new.number ≡ self.old.number }
         ensures store { St.seen self.new.store ≡ St.seen self.old.store }
         ensures made { IsTrue St.Device.tells → IfOk result (λ made. (m : Mail) (s : Site) → HasNewUid s
             → NodeStands St.layout types.now (held St.seen self.old) m s

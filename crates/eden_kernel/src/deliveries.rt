@@ -24,6 +24,7 @@ impl<St: Store> Node<St> {
         requires from { from ≤ 8 }
         requires whole { IsWhole (held St.seen self.old) }
         ensures whole { OnOk result (IsWhole (held St.seen self.new)) }
+        ensures number { self.new.number ≡ self.old.number }
         ensures event { IfOk result (λ it. IfSome it (IsDelivery from (number_of self.old.ejects))) }
         ensures store { St.seen self.new.store ≡ St.seen self.old.store }
         ensures turn { IsTrue St.Device.tells → IfOk result (λ it. IfSome it (λ e.

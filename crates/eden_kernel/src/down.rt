@@ -55,6 +55,7 @@ impl<St: Store> Node<St> {
         requires calls { 1 ≤ calls_until what }
         requires whole { IsWhole (held St.seen self.old) }
         ensures whole { IsWhole (held St.seen self.new) }
+        ensures number { self.new.number ≡ self.old.number }
         ensures more { (St.seen self.new.store).more ≡ (St.seen self.old.store).more }
         ensures counts { (St.seen self.new.store).disk.counts ≡ (St.seen self.old.store).disk.counts }
 
@@ -90,6 +91,7 @@ impl<St: Store> Node<St> {
     pub fn broken(&mut self, alloc: Global, uid: Uid, process: u8) -> Result<(), AllocError>
         requires whole { IsWhole (held St.seen self.old) }
         ensures whole { OnOk result (IsWhole (held St.seen self.new)) }
+        ensures number { self.new.number ≡ self.old.number }
         ensures store { St.seen self.new.store ≡ St.seen self.old.store }
         ensures told { IsTrue St.Device.tells → OnOk result ((ts : TypeList) (m : Mail) (s : Site)
             → IsSome (body_at (parts_of ts self.old.ejects) uid) → NodeStands St.layout ts (held St.seen self.old) m s

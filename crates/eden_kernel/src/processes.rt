@@ -54,6 +54,7 @@ impl<St: Store> Node<St> {
         requires calls { length calls.old.calls < 4294967295 }
         requires whole { IsWhole (held St.seen self.old) }
         ensures whole { OnOk result (IsWhole (held St.seen self.new)) }
+        ensures number { self.new.number ≡ self.old.number }
         ensures event { IfOk result (IsTurnOf uid process) }
         ensures store { St.seen self.new.store ≡ St.seen self.old.store }
         ensures turn { IsTrue St.Device.tells → IfOk result (λ e. (reach : ℕ → Bool) (s : Site) → Reaches reach places.now uid.node

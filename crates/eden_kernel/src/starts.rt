@@ -23,6 +23,7 @@ impl<St: Store> Node<St> {
     ) -> Result<Event, AllocError>
         requires whole { IsWhole (held St.seen self.old) }
         ensures whole { OnOk result (IsWhole (held St.seen self.new)) }
+        ensures number { self.new.number ≡ self.old.number }
         ensures event { IfOk result (IsStartOf uid) }
         ensures store { St.seen self.new.store ≡ St.seen self.old.store }
         ensures turn { IsTrue St.Device.tells → IfOk result (λ e.

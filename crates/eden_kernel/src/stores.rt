@@ -16,6 +16,7 @@ ghost use Rattle.ejects.specs.StoreEnds.{IsShownAs, IsFirstOf, IsFirst, SettlesA
 ghost use Rattle.ejects.specs.View.{parts_of};
 ghost use Rattle.eden_kernel.specs.DiskTurns.{EndsTurn, IsWholeBehind, IsStoreTurn, shown_as, goes_on, asks_removal, IsFirstAsked};
 ghost use Rattle.eden_kernel.specs.DiskTurns.{left_behind, Starves};
+ghost use Rattle.disk_faults.specs.Elsewhere.{shown_of};
 ghost use Rattle.disk_faults.specs.Shows.{ShowsCounts, NoneFalls};
 ghost use Rattle.eden_kernel.specs.Shows.{call_of_event};
 ghost use Rattle.eden_kernel.specs.declared.stores.TurnEnd.TheVariants.{Down};
@@ -184,11 +185,13 @@ impl<St: Store> Node<St> {
     ) -> Result<(Event, TurnEnd), AllocError>
         requires whole { IsWhole (held St.seen self.old) }
         ensures whole { IfOk result (λ r. IsWholeBehind r.1 (held St.seen self.new)) }
+        ensures number { self.new.number ≡ self.old.number }
 
         // No call knows yet of a disk that stopped.
         ensures calls { IfOk result (λ r. r.1 ≡ Down → calls.new ≡ calls.old) }
         ensures event { IfOk result (λ r.
             IsStoreTurn (St.seen self.old.store).disk.counts (St.seen self.new.store).disk.counts r.0) }
+        ensures of_node { IfOk result (λ r. shown_of r.0 ≡ self.old.number) }
 
         // It makes its device call exactly where the turn of the node's store does.
         ensures touches { IsTrue St.Device.tells → IfOk result (λ r. (ts : TypeList) (s : Site) → 1 ≤ (St.seen self.old.store).more

@@ -4,3 +4,5 @@ pub mod Turning
 pub mod Standing
 pub mod KeysOf
 pub mod Touched
+pub mod Clocks
+pub mod NodeEvents

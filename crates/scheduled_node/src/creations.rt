@@ -35,6 +35,7 @@ impl<St: Store> ScheduledNode<St> {
     ) -> Result<Result<Uid, Status>, AllocError>
         requires whole { IsWhole (held St.seen self.old.node) }
         ensures whole { OnOk result (IsWhole (held St.seen self.new.node)) }
+        ensures number { self.new.node.number ≡ self.old.node.number }
         ensures store { St.seen self.new.node.store ≡ St.seen self.old.node.store }
         ensures made { IsTrue St.Device.tells → IfOk result (λ made. (m : Mail) (s : Site) → HasNewUid s
             → ScheduledStands St.layout types.now (manned St.seen self.old) m s

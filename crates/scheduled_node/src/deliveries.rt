@@ -25,6 +25,7 @@ impl<St: Store> ScheduledNode<St> {
         requires from { from ≤ 8 }
         requires whole { IsWhole (held St.seen self.old.node) }
         ensures whole { OnOk result (IsWhole (held St.seen self.new.node)) }
+        ensures number { self.new.node.number ≡ self.old.node.number }
         ensures event { IfOk result (λ it. IfSome it (IsDelivery from (number_of self.old.node.ejects))) }
         ensures store { St.seen self.new.node.store ≡ St.seen self.old.node.store }
         ensures turn { IsTrue St.Device.tells → IfOk result (λ it. IfSome it (λ e.

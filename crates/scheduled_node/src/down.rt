@@ -55,6 +55,7 @@ impl<St: Store> ScheduledNode<St> {
         requires calls { 1 ≤ calls_until what }
         requires whole { IsWhole (held St.seen self.old.node) }
         ensures whole { IsWhole (held St.seen self.new.node) }
+        ensures number { self.new.node.number ≡ self.old.node.number }
         ensures more { (St.seen self.new.node.store).more ≡ (St.seen self.old.node.store).more }
         ensures counts { (St.seen self.new.node.store).disk.counts ≡ (St.seen self.old.node.store).disk.counts }
 
@@ -91,7 +92,11 @@ impl<St: Store> ScheduledNode<St> {
     pub fn broken(&mut self, alloc: Global, uid: Uid, process: u8) -> Result<(), AllocError>
         requires whole { IsWhole (held St.seen self.old.node) }
         ensures whole { OnOk result (IsWhole (held St.seen self.new.node)) }
+        ensures number { self.new.node.number ≡ self.old.node.number }
         ensures store { St.seen self.new.node.store ≡ St.seen self.old.node.store }
+        ensures stands { IsTrue St.Device.tells → OnOk result ((ts : TypeList) (m : Mail) (s : Site)
+            → IsSome (body_at (parts_of ts self.old.node.ejects) uid) → NodeStands St.layout ts (held St.seen self.old.node) m s
+            → NodeStands St.layout ts (held St.seen self.new.node) m (told_broken uid process s)) }
         ensures told { IsTrue St.Device.tells → OnOk result ((ts : TypeList) (m : Mail) (s : Site)
             → IsSome (body_at (parts_of ts self.old.node.ejects) uid) → ScheduledStands St.layout ts (manned St.seen self.old) m s
             → ScheduledStands St.layout ts (manned St.seen self.new) m (told_broken uid process s)) }

@@ -14,7 +14,7 @@ ghost use Rattle.eden_kernel.specs.Stands.{held, IsWhole, NodeStands};
 ghost use Rattle.eden_kernel.specs.declared.stores.TurnEnd.TheVariants.{Up, Down};
 ghost use Rattle.scheduled_node.specs.Keys.{IsKeyOf};
 ghost use Rattle.scheduled_node.specs.Scheduled.{manned, ScheduledStands, EndsScheduledTurn, KeyTurns};
-ghost use Rattle.scheduled_node.specs.Touched.{TurnTouches};
+ghost use Rattle.scheduled_node.specs.Touched.{IsNodeTurn, ShowsClock, TurnTouches};
 
 use crate::ScheduledNode;
 use eden_kernel::TurnEnd;
@@ -41,6 +41,10 @@ impl<St: Store> ScheduledNode<St> {
         requires calls { length calls.old.calls < 4294967295 }
         requires whole { IsWhole (held St.seen self.old.node) }
         ensures whole { IfOk result (λ r. IsWholeBehind r.1 (held St.seen self.new.node)) }
+        ensures number { self.new.node.number ≡ self.old.node.number }
+
+        // Its event is a turn's, and shows of no other node's disk.
+        ensures event { IfOk result (λ r. IsNodeTurn self.old.node.number r.0) }
 
         // No call knows yet of a disk that stopped.
         ensures calls { IfOk result (λ r. r.1 ≡ Down → calls.new ≡ calls.old) }
@@ -49,6 +53,8 @@ impl<St: Store> ScheduledNode<St> {
         ensures touches { IsTrue St.Device.tells → ReadsByCalls St.layout → IfOk result (λ r. (s : Site)
             → 1 ≤ (St.seen self.old.node.store).more → NodeStands St.layout types.now (held St.seen self.old.node) calls.old s
             → TurnTouches s r.0 (St.seen self.old.node.store).disk (St.seen self.new.node.store).disk) }
+
+        ensures clock { IfOk result (λ r. ShowsClock r.0 (St.seen self.new.node.store).disk.counts.clock) }
 
         // What it shows of the disk was due, where that obeys.
         ensures shows { IfOk result (λ r. ShowsCounts St.Device.obeys self.old.node.number r.0
@@ -95,6 +101,7 @@ impl<St: Store> ScheduledNode<St> {
     ) -> Result<(Event, TurnEnd), AllocError>
         requires whole { IsWhole (held St.seen self.old.node) }
         ensures whole { IfOk result (λ r. IsWholeBehind r.1 (held St.seen self.new.node)) }
+        ensures number { self.new.node.number ≡ self.old.node.number }
         ensures up { IfOk result (λ r. r.1 ≡ Up) }
         ensures store { St.seen self.new.node.store ≡ St.seen self.old.node.store }
         ensures event { IfOk result (λ r. IsDelivery key.sender (number_of self.old.node.ejects) r.0) }

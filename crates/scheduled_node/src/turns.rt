@@ -6,6 +6,7 @@ ghost use Rattle.journal.specs.Sites.{IsSoundSite};
 ghost use Rattle.journal.specs.Step.{touches_start, touches_store};
 ghost use Rattle.journal.specs.World.{Site};
 ghost use Rattle.checkpoint.specs.Touches.{ReadsByCalls, Touches, TouchesOnce};
+ghost use Rattle.disk_faults.specs.Elsewhere.{shown_of};
 ghost use Rattle.disk_faults.specs.Shows.{NoneFalls, ShowsCounts};
 ghost use Rattle.ejects.specs.Creations.{HasNewUid};
 ghost use Rattle.ejects.specs.Events.{IsStartOf, IsTurnOf};
@@ -38,6 +39,7 @@ impl<St: Store> ScheduledNode<St> {
     ) -> Result<Event, AllocError>
         requires whole { IsWhole (held St.seen self.old.node) }
         ensures whole { OnOk result (IsWhole (held St.seen self.new.node)) }
+        ensures number { self.new.node.number ≡ self.old.node.number }
         ensures event { IfOk result (IsStartOf uid) }
         ensures store { St.seen self.new.node.store ≡ St.seen self.old.node.store }
         ensures turn { IsTrue St.Device.tells → IfOk result (λ e.
@@ -61,6 +63,7 @@ impl<St: Store> ScheduledNode<St> {
         requires calls { length calls.old.calls < 4294967295 }
         requires whole { IsWhole (held St.seen self.old.node) }
         ensures whole { OnOk result (IsWhole (held St.seen self.new.node)) }
+        ensures number { self.new.node.number ≡ self.old.node.number }
         ensures event { IfOk result (IsTurnOf uid process) }
         ensures store { St.seen self.new.node.store ≡ St.seen self.old.node.store }
         ensures turn { IsTrue St.Device.tells → IfOk result (λ e. (reach : ℕ → Bool) (s : Site) → Reaches reach places.now uid.node
@@ -87,11 +90,13 @@ impl<St: Store> ScheduledNode<St> {
     ) -> Result<(Event, TurnEnd), AllocError>
         requires whole { IsWhole (held St.seen self.old.node) }
         ensures whole { IfOk result (λ r. IsWholeBehind r.1 (held St.seen self.new.node)) }
+        ensures number { self.new.node.number ≡ self.old.node.number }
 
         // No call knows yet of a disk that stopped.
         ensures calls { IfOk result (λ r. r.1 ≡ Down → calls.new ≡ calls.old) }
         ensures event { IfOk result (λ r. IsActivation uid (St.seen self.old.node.store).disk.counts
             (St.seen self.new.node.store).disk.counts r.0) }
+        ensures of_node { IfOk result (λ r. shown_of r.0 ≡ self.old.node.number) }
 
         // It makes device calls exactly where the activation of the node does.
         ensures touches { IsTrue St.Device.tells → ReadsByCalls St.layout → IfOk result (λ r. (s : Site)
@@ -129,11 +134,13 @@ impl<St: Store> ScheduledNode<St> {
     ) -> Result<(Event, TurnEnd), AllocError>
         requires whole { IsWhole (held St.seen self.old.node) }
         ensures whole { IfOk result (λ r. IsWholeBehind r.1 (held St.seen self.new.node)) }
+        ensures number { self.new.node.number ≡ self.old.node.number }
 
         // No call knows yet of a disk that stopped.
         ensures calls { IfOk result (λ r. r.1 ≡ Down → calls.new ≡ calls.old) }
         ensures event { IfOk result (λ r.
             IsStoreTurn (St.seen self.old.node.store).disk.counts (St.seen self.new.node.store).disk.counts r.0) }
+        ensures of_node { IfOk result (λ r. shown_of r.0 ≡ self.old.node.number) }
 
         // It makes its device call exactly where the turn of the node's store does.
         ensures touches { IsTrue St.Device.tells → IfOk result (λ r. (ts : TypeList) (s : Site)

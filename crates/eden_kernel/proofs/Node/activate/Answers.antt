@@ -86,6 +86,10 @@ returns-clause-shows g c =
     (subst (λ e. RaisesClock (call_of_start e) x.disk.counts.clock y.disk.counts.clock) (sym c.in_ok-end.ensures.how)
     c.in_ok-start.ensures.raises)
 
+-- its event is of the node
+pub returns-clause-of_node : goal.returns-clause-of_node
+returns-clause-of_node g c = (c.is_eject.ensures c.if-not-is_eject.false).0
+
 pub returns-clause-touches : goal.returns-clause-touches
 returns-clause-touches g c = λ so law s h.
     let n = c.args.self.now in

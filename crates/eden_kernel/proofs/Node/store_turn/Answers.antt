@@ -17,6 +17,7 @@ use Rattle.journal.specs.declared.event.RequestEnd.TheVariants as end
 use Rattle.checkpoint.specs.Asked.{end_of_step, call_end}
 use Rattle.eden_disk.specs.Calls.{DeviceCalls}
 use Rattle.checkpoint.specs.Touches.{TouchesOnce, ObeyedIn, RaisesClock}
+use Rattle.disk_faults.specs.Elsewhere.{shown_of}
 use Rattle.disk_faults.specs.Shows.{ShowsCounts}
 use Rattle.eden_kernel.specs.DiskTurns.{shown_as, call_of_request}
 use Rattle.eden_kernel.specs.Shows.{call_of_event}
@@ -128,6 +129,32 @@ returns-in_err-request_ends-in-Ended-clause-starves g c = λ so.
     any-err c.from_residual-in_err-request_ends-in-Ended.result _ (λ ts s more h.
     starves-stepped g.St.Store.layout s n.worker.requests.items c.step.new.self.requests.items x y c.in-Some.uid c.in_ok-pick.field-0
     c.in-Some.ensures (c.in_ok-pick.ensures.steps so s more h.disk).0)
+
+-- its event is of the node
+pub returns-in_ok-request_goes-in-Going-clause-of_node : goal.returns-in_ok-request_goes-in-Going-clause-of_node
+returns-in_ok-request_goes-in-Going-clause-of_node g c =
+    let n = c.args.self.now in
+    let x : Seen = g.St.Store.seen n.store in
+    ap shown_of c.turn_of-event.ensures
+    ∙ first-own x.node n.worker.requests.items c.in-Some.uid c.requires.whole.of_node c.in-Some.ensures ∙ sym c.requires.whole.number
+
+pub returns-then-not-is_up_behind-clause-of_node : goal.returns-then-not-is_up_behind-clause-of_node
+returns-then-not-is_up_behind-clause-of_node g c =
+    let n = c.args.self.now in
+    let x : Seen = g.St.Store.seen n.store in
+    ap shown_of c.turn_of-event-then-not-is_up_behind.ensures
+    ∙ ended-own x.node n.worker.requests.items c.step.new.self.requests.items c.in-Ended.request c.requires.whole.of_node
+    (subst (λ r. QueueGoes n.worker.requests.items c.step.new.self.requests.items r) c.in-Ended.is c.in_ok-pick.ensures.queue)
+    ∙ sym c.requires.whole.number
+
+pub returns-in_ok-request_ends-in-Ended-clause-of_node : goal.returns-in_ok-request_ends-in-Ended-clause-of_node
+returns-in_ok-request_ends-in-Ended-clause-of_node g c =
+    let n = c.args.self.now in
+    let x : Seen = g.St.Store.seen n.store in
+    ap shown_of c.turn_of-event-in-Ended.ensures
+    ∙ ended-own x.node n.worker.requests.items c.step.new.self.requests.items c.in-Ended.request c.requires.whole.of_node
+    (subst (λ r. QueueGoes n.worker.requests.items c.step.new.self.requests.items r) c.in-Ended.is c.in_ok-pick.ensures.queue)
+    ∙ sym c.requires.whole.number
 
 -- what it shows of the disk
 pub returns-in_ok-request_goes-in-Going-clause-shows : goal.returns-in_ok-request_goes-in-Going-clause-shows

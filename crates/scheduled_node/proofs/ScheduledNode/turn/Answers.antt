@@ -6,6 +6,8 @@ use Rattle.checkpoint.proofs.WholeBoots.{map-err}
 use Rattle.eden_kernel.specs.Stands.{held}
 use Rattle.eden_kernel.proofs.Outcomes.{both-ok}
 use Rattle.scheduled_node.specs.Scheduled.{manned}
+use Rattle.scheduled_node.proofs.Clocks.{any-ok, clock-delivered, clock-started, clock-turned, clock-activated, clock-stored}
+use Rattle.scheduled_node.proofs.NodeEvents.{turn-delivered, turn-started, turn-of-process, turn-activated, turn-stored}
 use Rattle.scheduled_node.proofs.KeysOf.{key-delivered, key-activated, key-started, key-turned, key-stored, node-of}
 use Rattle.scheduled_node.proofs.Standing.{allowed-by}
 use Rattle.scheduled_node.proofs.Touched.{starves-same, touches-stored}
@@ -81,3 +83,35 @@ returns-in-5-clause-touches g c = λ so reads.
     both-ok _ _ _ c.store_turn.result c.store_turn.ensures.event (c.store_turn.ensures.touches so) (λ r is touches s some h.
     touches-stored s r.0 (g.St.Store.seen c.args.self.now.node.store).disk (g.St.Store.seen c.store_turn.new.self.node.store).disk is
     (touches c.args.types.now s some h))
+
+pub returns-in-1-clause-clock : goal.returns-in-1-clause-clock
+returns-in-1-clause-clock g c = any-ok c.delivery.result _ _ (λ r is. clock-delivered _ _ _ r.0 is) c.delivery.ensures.event
+
+pub returns-in-2-clause-clock : goal.returns-in-2-clause-clock
+returns-in-2-clause-clock g c = any-ok c.activate.result _ _ (λ r is. clock-activated _ _ _ _ r.0 is) c.activate.ensures.event
+
+pub returns-in_ok-event-in-3-clause-clock : goal.returns-in_ok-event-in-3-clause-clock
+returns-in_ok-event-in-3-clause-clock g c = clock-started _ _ c.in_ok-event-in-3.event c.in_ok-event-in-3.ensures.event
+
+pub returns-in_ok-event-in-4-clause-clock : goal.returns-in_ok-event-in-4-clause-clock
+returns-in_ok-event-in-4-clause-clock g c = clock-turned _ _ _ c.in_ok-event-in-4.event c.in_ok-event-in-4.ensures.event
+
+pub returns-in-5-clause-clock : goal.returns-in-5-clause-clock
+returns-in-5-clause-clock g c = any-ok c.store_turn.result _ _ (λ r is. clock-stored _ _ r.0 is) c.store_turn.ensures.event
+
+pub returns-in-1-clause-event : goal.returns-in-1-clause-event
+returns-in-1-clause-event g c = any-ok c.delivery.result _ _ (λ r is. turn-delivered _ _ _ r.0 is) c.delivery.ensures.event
+
+pub returns-in-2-clause-event : goal.returns-in-2-clause-event
+returns-in-2-clause-event g c = both-ok _ _ _ c.activate.result c.activate.ensures.event c.activate.ensures.of_node
+    (λ r is own. turn-activated _ _ _ _ r.0 is own)
+
+pub returns-in_ok-event-in-3-clause-event : goal.returns-in_ok-event-in-3-clause-event
+returns-in_ok-event-in-3-clause-event g c = turn-started _ _ c.in_ok-event-in-3.event c.in_ok-event-in-3.ensures.event
+
+pub returns-in_ok-event-in-4-clause-event : goal.returns-in_ok-event-in-4-clause-event
+returns-in_ok-event-in-4-clause-event g c = turn-of-process _ _ _ c.in_ok-event-in-4.event c.in_ok-event-in-4.ensures.event
+
+pub returns-in-5-clause-event : goal.returns-in-5-clause-event
+returns-in-5-clause-event g c = both-ok _ _ _ c.store_turn.result c.store_turn.ensures.event c.store_turn.ensures.of_node
+    (λ r is own. turn-stored _ _ _ r.0 is own)
