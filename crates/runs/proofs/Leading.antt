@@ -18,8 +18,8 @@ use Rattle.journal.specs.Enabled.{enabled, following, is_past}
 use Rattle.journal.specs.Fit.{IsFitCommand}
 use Rattle.journal.specs.Run.{Position, Step, IdleIf, idle, IsDue, Leads, end_of, lead, steps, is_spent, taken_key, most_turns}
 use Rattle.runs.specs.Reached.{IsReached, IsFitIn}
-use Rattle.runs.specs.Machines.{Stands, Did, Starved, Shows}
-use Rattle.runs.specs.Machines.{step, plain, TakesKey, CarriesOut, StandsWith, DidStep, DidAll, DidPart, ShowsOne, ShowsAll}
+use Rattle.runs.specs.Machines.{Stands, Did, Starved, Shows, Whole, Leaves}
+use Rattle.runs.specs.Machines.{step, plain, TakesKey, CarriesOut, StandsWith, DidStep, DidAll, DidPart, ShowsOne, ShowsAll, IsLeft}
 use Rattle.runs.specs.Runs.{Origin, room, IsOn, chosen_by, Took, TookCommand, Failed, EndsShort, KeepsShown, KeepsShownSoFar}
 use Rattle.runs.specs.declared.run.Choice.{Choice}
 use Rattle.runs.specs.declared.run.Choice.TheVariants.{Following, Item}
@@ -317,11 +317,19 @@ module _ {M : Type 0} (shows : Shows M) where
   pub shown-then : (old mid new : Run M) → KeepsShown shows old mid → KeepsShown shows mid new → KeepsShown shows old new
   shown-then old mid new a b first all = b first (a first all)
 
-  pub shown-same : (old new : Run M) → new.history.items ≡ old.history.items → KeepsShownSoFar shows old new
-  shown-same old new same first all = (old.machine, subst (λ h. ShowsAll shows first h old.machine) (sym same) all)
+-- where memory was wanting no entry was added
+module _ {M : Type 0} (shows : Shows M) (whole : Whole M) (leaves : Leaves M) where
+  pub shown-left : (old new : Run M) → new.history.items ≡ old.history.items → IsLeft whole leaves old.machine new.machine
+      → KeepsShownSoFar shows whole leaves old new
+  shown-left old new same left first all = (old.machine, subst (λ h. ShowsAll shows first h old.machine) (sym same) all, left)
 
-  pub shown-part : (old mid new : Run M) → KeepsShown shows old mid → KeepsShownSoFar shows mid new → KeepsShownSoFar shows old new
+  pub shown-part : (old mid new : Run M) → KeepsShown shows old mid → KeepsShownSoFar shows whole leaves mid new
+      → KeepsShownSoFar shows whole leaves old new
   shown-part old mid new a b first all = b first (a first all)
+
+  pub shown-fails : (old mid new : Run M) → KeepsShown shows old mid → new.history.items ≡ mid.history.items
+      → IsLeft whole leaves mid.machine new.machine → KeepsShownSoFar shows whole leaves old new
+  shown-fails old mid new shown same left = shown-part old mid new shown (shown-left mid new same left)
 
 -- what holds anyway holds where memory was wanting, and where it was not
 pub on-err : {T E : Type 0} (r : Result T E) (P : Type 0) → P → OnErr r P

@@ -4,5 +4,6 @@ pub mod Going
 pub mod Carrying
 pub mod Walking
 pub mod Parts
+pub mod Epochs
 pub mod Reaching
 pub mod Few

@@ -39,6 +39,7 @@ use Rattle.runs.specs.Runs.{MayBegin}
 use Rattle.runs.specs.declared.run.Run.{Run}
 use Rattle.runs.specs.Laws.{RunsMayBegin}
 use Rattle.runs.proofs.Counted.{types-next, look-up-kept}
+use Rattle.runs.proofs.Epochs.{next-is-in-doubt}
 
 -- 1. Types
 
@@ -142,6 +143,7 @@ runs-may-begin layout script disks lays fits fit enough = record {
     sites = sites-are-sound layout script disks h lays fits fit.keep_rules fit.have_monitors leads;
     new_uids = λ n it at. new-by (site_of (last_world w script h) n it) (known.fit n it at);
     epochs = epochs-are-bounded layout script disks h lays fits leads;
+    doubts = next-is-in-doubt layout script disks h lays fits leads;
   };
   offers = λ h leads. let known = reached-world layout script disks h lays fits leads in record {
     known = λ name has. subst (λ ts. is_some (type_of ts name) ≡ true) (sym (types-stay layout script disks h leads))

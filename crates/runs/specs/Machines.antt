@@ -28,6 +28,14 @@ Starved M = M → World → M → Type 0
 abbrev pub Shows : Type 0 → Type 1
 Shows M = M → Entry → M → Type 0
 
+-- its parts fit together
+abbrev pub Whole : Type 0 → Type 1
+Whole M = M → Type 0
+
+-- what a call that found no memory leaves of it
+abbrev pub Leaves : Type 0 → Type 1
+Leaves M = M → M → Type 0
+
 -- 2. One step
 
 abbrev pub step : World → Entry → World → Step
@@ -95,6 +103,10 @@ abbrev pub ShowsAll : {M : Type 0} → Shows M → M → List Entry → M → Ty
 ShowsAll shows first [] last = last ≡ first
 ShowsAll shows first (e ∷ history) last = (between : _) × ShowsOne shows first e between × ShowsAll shows between history last
 
--- the entries show what became of the first machine, up to a state of it
-abbrev pub ShowsPart : {M : Type 0} → Shows M → M → List Entry → Type 0
-ShowsPart shows first history = (between : _) × ShowsAll shows first history between
+-- No memory was found: in a call of the machine, or before one, and then it is as it was.
+abbrev pub IsLeft : {M : Type 0} → Whole M → Leaves M → M → M → Type 0
+IsLeft whole leaves old new = leaves old new ⊎ ((new ≡ old) × whole new)
+
+-- the entries show what became of the first machine, up to where no memory was found
+abbrev pub ShowsPart : {M : Type 0} → Shows M → Whole M → Leaves M → M → List Entry → M → Type 0
+ShowsPart shows whole leaves first history last = (between : _) × ShowsAll shows first history between × IsLeft whole leaves between last

@@ -1,13 +1,13 @@
 -- What a machine may rely on of each world that a history reaches, and of each command that is carried out there.
-use Rattle.std.specs.Prelude.{◌≡◌, ◌≤◌, ℕ, Bool, List, None, Some, Ok, is_some, IsTrue}
+use Rattle.std.specs.Prelude.{◌≡◌, ◌≤◌, ◌+◌, ℕ, Bool, List, None, Some, Ok, is_some, IsTrue, IfSome}
 use Rattle.std.specs.List.{Contains}
 use Rattle.capability.specs.declared.Uid.{Uid}
 use Rattle.capability.specs.declared.Cap.{Cap}
 use Rattle.eden_model.specs.Map.{with_item}
 use Rattle.epl_syntax.specs.Meaning.{type_of}
 use Rattle.journal.specs.declared.command.Command.{Command}
-use Rattle.journal.specs.World.{World, Site, node_at, site_of, eject_in}
-use Rattle.journal.specs.Ejects.{next_uid}
+use Rattle.journal.specs.World.{World, Site, Node, node_at, site_of, eject_in}
+use Rattle.journal.specs.Ejects.{next_uid, stored_epoch}
 use Rattle.journal.specs.References.{value_at_name, present_cap}
 use Rattle.journal.specs.Sites.{Everywhere, HasEpochs, SoundWorld, AllSound}
 use Rattle.journal.specs.Fit.{IsFitCommand}
@@ -21,6 +21,10 @@ is_node w n = is_some (node_at w n)
 abbrev pub NextIsNew : Site → Type 0
 NextIsNew s = (u : Uid) → next_uid s ≡ Ok u → eject_in s u ≡ None
 
+-- an epoch that is in doubt is the next one behind the stored one
+abbrev pub NextInDoubt : Node → Type 0
+NextInDoubt it = IfSome it.epoch_doubt (λ e. e ≡ stored_epoch it + 1)
+
 pub record IsReached (w : World) : Type 0 where
   -- its nodes stand in order, and a call on its way goes to one of them
   pub sound : SoundWorld (is_node w) w
@@ -28,8 +32,10 @@ pub record IsReached (w : World) : Type 0 where
   pub sites : AllSound w
   -- an Eject that is created there is new
   pub new_uids : Everywhere (λ n it. NextIsNew (site_of w n it)) w
-  -- and its epochs are numbers of 32 bits
+  -- its epochs are numbers of 32 bits
   pub epochs : Everywhere (λ n it. HasEpochs it) w
+  -- and one that is in doubt is the next
+  pub doubts : Everywhere (λ n it. NextInDoubt it) w
 
 -- 2. Commands
 

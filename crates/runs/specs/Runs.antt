@@ -11,7 +11,7 @@ use Rattle.journal.specs.Step.{Allows, next, key_of}
 use Rattle.journal.specs.Run.{Position, Due, turns, Leads, end_of, steps, at_commands, IsTurn, beginning, Follows, FollowsSoFar}
 use Rattle.journal.specs.Run.{most_turns, world_after}
 use Rattle.runs.specs.Reached.{IsReached, Offers}
-use Rattle.runs.specs.Machines.{Stands, Did, Starved, Shows}
+use Rattle.runs.specs.Machines.{Stands, Did, Starved, Shows, Whole, Leaves}
 use Rattle.runs.specs.Machines.{step, StandsWith, DidStep, DidAll, DidPart, ShowsAll, ShowsPart}
 use Rattle.runs.specs.Room.{entries_of, most_entries}
 use Rattle.runs.specs.declared.run.Run.{Run}
@@ -137,8 +137,9 @@ abbrev pub KeepsShown : {M : Type 0} → Shows M → Run M → Run M → Type 0
 KeepsShown shows old new = (first : _) → ShowsAll shows first old.history.items old.machine
     → ShowsAll shows first new.history.items new.machine
 
-abbrev pub KeepsShownSoFar : {M : Type 0} → Shows M → Run M → Run M → Type 0
-KeepsShownSoFar shows old new = (first : _) → ShowsAll shows first old.history.items old.machine → ShowsPart shows first new.history.items
+abbrev pub KeepsShownSoFar : {M : Type 0} → Shows M → Whole M → Leaves M → Run M → Run M → Type 0
+KeepsShownSoFar shows whole leaves old new = (first : _) → ShowsAll shows first old.history.items old.machine
+    → ShowsPart shows whole leaves first new.history.items new.machine
 
 -- 6. The whole
 

@@ -1,5 +1,5 @@
 //! What takes turns and carries commands out.
-ghost use Rattle.std.specs.Prelude.{◌≡◌, ℕ, suc, IfOk, IfErr, OnOk, IfSome, IsTrue};
+ghost use Rattle.std.specs.Prelude.{◌≡◌, ℕ, suc, IfOk, IfErr, OnOk, OnErr, IfSome, IsTrue};
 ghost use Rattle.std.specs.List.{Contains};
 ghost use Rattle.eden_value.specs.Limits.{IsText};
 ghost use Rattle.journal.specs.World.{World};
@@ -34,6 +34,9 @@ pub trait Machine {
     /// What an entry shows of it, for whatever world it stands or for none.
     ghost shows: { Self → Entry → Self → Type 0 };
 
+    /// What a call that found no memory leaves of it, for whatever world it stood or for none.
+    ghost leaves: { Self → Self → Type 0 };
+
     /// The least enabled key past the last one, or the least of all.
     fn following(&self, last: Option<Key>) -> Option<Key>
         requires whole { whole self.now }
@@ -52,6 +55,7 @@ pub trait Machine {
         ensures starved { IfErr result (λ e. (more : ℕ) (w : World) → IsReached w → stands self.old (suc more) w
             → Contains (enabled w) key → starved self.old w self.new) }
         ensures shows { IfOk result (λ e. shows self.old e self.new) }
+        ensures leaves { OnErr result (leaves self.old self.new) }
         ensures whole { OnOk result (whole self.new) };
 
     /// A command that gives one entry, where it is fit.
@@ -63,6 +67,7 @@ pub trait Machine {
         ensures starved { IfErr result (λ e. (more : ℕ) (w : World) → IsReached w → stands self.old (suc more) w
             → IsFitIn w command.now → starved self.old w self.new) }
         ensures shows { IfOk result (λ e. shows self.old e self.new) }
+        ensures leaves { OnErr result (leaves self.old self.new) }
         ensures whole { OnOk result (whole self.new) };
 
     /// The call of a walk under this name: this directory, if it is one, is asked for this component.
@@ -80,6 +85,7 @@ pub trait Machine {
         ensures starved { IfErr result (λ e. (more : ℕ) (w : World) → IsReached w → stands self.old (suc more) w
             → IfSome directory (IsNamed w) → IsText component.now → starved self.old w self.new) }
         ensures shows { IfOk result (λ e. shows self.old e self.new) }
+        ensures leaves { OnErr result (leaves self.old self.new) }
         ensures whole { OnOk result (whole self.new) };
 
     /// The capability for which a name stands, or one of its results.

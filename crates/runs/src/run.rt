@@ -5,7 +5,7 @@ ghost use Rattle.journal.specs.World.{World};
 ghost use Rattle.journal.specs.Run.{turn_is, turns};
 ghost use Rattle.journal.specs.Enabled.{enabled};
 ghost use Rattle.runs.specs.Reached.{IsReached};
-ghost use Rattle.runs.specs.Machines.{plain};
+ghost use Rattle.runs.specs.Machines.{plain, IsLeft};
 ghost use Rattle.runs.specs.Room.{is_single};
 
 use crate::machine::Machine;
@@ -112,6 +112,7 @@ impl<M: Machine> Run<M> {
         ensures done { IfOk result (TakesTurn M.stands M.did self.old self.new choice) }
         ensures fails { OnErr result (TurnFails M.stands M.did M.starved self.old self.new) }
         ensures history { OnErr result (self.new.history.items ≡ self.old.history.items) }
+        ensures left { OnErr result (IsLeft M.whole M.leaves self.old.machine self.new.machine) }
         ensures shown { OnOk result (KeepsShown M.shows self.old self.new) }
         ensures whole { OnOk result (M.whole self.new.machine) }
         // a turn that takes a key is counted
@@ -144,7 +145,7 @@ impl<M: Machine> Run<M> {
         ensures part { OnErr result (1 ≤ n → PartOfDue M.stands M.did M.starved self.old self.new (turns n)) }
         ensures shown { OnOk result (KeepsShown M.shows self.old self.new) }
         ensures whole { OnOk result (M.whole self.new.machine) }
-        ensures shown_part { OnErr result (KeepsShownSoFar M.shows self.old self.new) }
+        ensures shown_part { OnErr result (KeepsShownSoFar M.shows M.whole M.leaves self.old self.new) }
     {
         for _ in 0..n {
             if !self.take_turn(alloc, Choice::Following)? {
@@ -161,7 +162,7 @@ impl<M: Machine> Run<M> {
         ensures part { OnErr result (PartOfDue M.stands M.did M.starved self.old self.new (turn_is i)) }
         ensures shown { OnOk result (KeepsShown M.shows self.old self.new) }
         ensures whole { OnOk result (M.whole self.new.machine) }
-        ensures shown_part { OnErr result (KeepsShownSoFar M.shows self.old self.new) }
+        ensures shown_part { OnErr result (KeepsShownSoFar M.shows M.whole M.leaves self.old self.new) }
     {
         let _took = self.take_turn(alloc, Choice::Item { i })?;
         Ok(())
@@ -174,6 +175,7 @@ impl<M: Machine> Run<M> {
         ensures done { OnOk result (TakesCommand M.stands M.did self.old self.new command.now) }
         ensures fails { OnErr result (CommandFails M.stands M.did M.starved self.old self.new command.now) }
         ensures history { OnErr result (self.new.history.items ≡ self.old.history.items) }
+        ensures left { OnErr result (IsLeft M.whole M.leaves self.old.machine self.new.machine) }
         ensures shown { OnOk result (KeepsShown M.shows self.old self.new) }
         ensures whole { OnOk result (M.whole self.new.machine) }
     {
@@ -190,7 +192,7 @@ impl<M: Machine> Run<M> {
         ensures part { OnErr result (PartOfCommand M.stands M.did M.starved self.old self.new command.now) }
         ensures shown { OnOk result (KeepsShown M.shows self.old self.new) }
         ensures whole { OnOk result (M.whole self.new.machine) }
-        ensures shown_part { OnErr result (KeepsShownSoFar M.shows self.old self.new) }
+        ensures shown_part { OnErr result (KeepsShownSoFar M.shows M.whole M.leaves self.old self.new) }
     {
         if is_single(command) {
             return self.command(alloc, command);
@@ -215,7 +217,7 @@ impl<M: Machine> Run<M> {
         ensures part { OnErr result (CarriesPart M.stands M.did M.starved self.old self.new nodes commands.now) }
         ensures shown { OnOk result (KeepsShown M.shows self.old self.new) }
         ensures whole { OnOk result (M.whole self.new.machine) }
-        ensures shown_part { OnErr result (KeepsShownSoFar M.shows self.old self.new) }
+        ensures shown_part { OnErr result (KeepsShownSoFar M.shows M.whole M.leaves self.old self.new) }
     {
         for node in 0..nodes {
             self.command(alloc, &Command::Restart { node: node + 1 })?;

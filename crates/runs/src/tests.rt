@@ -63,6 +63,8 @@ impl Machine for Keys {
 
     ghost shows = { λ m e n. Unit {0} };
 
+    ghost leaves = { λ m n. Unit {0} };
+
     fn following(&self, last: Option<Key>) -> Option<Key> {
         let first = self.keys.first().copied();
         let Some(last) = last else {

@@ -1,6 +1,7 @@
 //! Walks: one call for each component of a path, and turns in between.
 ghost use Rattle.std.specs.Prelude.{◌≡◌, ◌<◌, ◌+◌, ℕ, IfOk, OnOk, OnErr};
 ghost use Rattle.journal.specs.declared.command.Command.TheVariants as command;
+ghost use Rattle.runs.specs.Machines.{IsLeft};
 ghost use Rattle.runs.specs.Walks.{sent};
 
 use crate::components::components;
@@ -41,6 +42,7 @@ impl<M: Machine> Run<M> {
         ensures done { IfOk result (Asks M.stands M.did self.old self.new name.now directory component.now) }
         ensures fails { OnErr result (AskFails M.stands M.did M.starved self.old self.new name.now directory component.now) }
         ensures history { OnErr result (self.new.history.items ≡ self.old.history.items) }
+        ensures left { OnErr result (IsLeft M.whole M.leaves self.old.machine self.new.machine) }
         ensures shown { OnOk result (KeepsShown M.shows self.old self.new) }
         ensures whole { OnOk result (M.whole self.new.machine) }
     {
@@ -58,7 +60,7 @@ impl<M: Machine> Run<M> {
         ensures part { OnErr result (PartOfWait M.stands M.did M.starved self.old self.new name.now call) }
         ensures shown { OnOk result (KeepsShown M.shows self.old self.new) }
         ensures whole { OnOk result (M.whole self.new.machine) }
-        ensures shown_part { OnErr result (KeepsShownSoFar M.shows self.old self.new) }
+        ensures shown_part { OnErr result (KeepsShownSoFar M.shows M.whole M.leaves self.old self.new) }
     {
         while self.take_turn(alloc, Choice::Following)? {
             if !self.machine.is_open(call) {
@@ -81,7 +83,7 @@ impl<M: Machine> Run<M> {
         ensures part { OnErr result (PartOfCommand M.stands M.did M.starved self.old self.new (command.Walk name.now target.now path.now)) }
         ensures shown { OnOk result (KeepsShown M.shows self.old self.new) }
         ensures whole { OnOk result (M.whole self.new.machine) }
-        ensures shown_part { OnErr result (KeepsShownSoFar M.shows self.old self.new) }
+        ensures shown_part { OnErr result (KeepsShownSoFar M.shows M.whole M.leaves self.old self.new) }
     {
         let parts = components(alloc, &path.bytes)?;
         let mut directory = self.machine.capability(target);

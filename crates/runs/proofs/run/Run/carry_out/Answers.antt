@@ -1,7 +1,8 @@
 use Rattle.std.proofs.Common.{◌≡◌, subst, sym, ◌∙◌}
 use Rattle.std.specs.Prelude.{Result, Ok, Err, OnOk, OnErr}
+use Rattle.runs.specs.Machines.{IsLeft}
 use Rattle.runs.specs.Runs.{TakesCommand, CommandFails, CarriesCommand, PartOfCommand, KeepsShownSoFar}
-use Rattle.runs.proofs.Leading.{shown-same}
+use Rattle.runs.proofs.Leading.{shown-left}
 use Rattle.runs.proofs.Going.{go-command, go-part, turn-command, turn-part}
 use Rattle.runs.proofs.Carrying.{carries-single, fails-single}
 use Rattle.runs.proofs.run.Run.carry_out.Goals as goal
@@ -29,12 +30,13 @@ returns-then-is_single-clause-part g c = go c.command.result c.command.ensures.f
         (sym c.is_single.ensures ∙ c.if-is_single.true) g.M.Machine.starved fails same
 
 pub returns-then-is_single-clause-shown_part : goal.returns-then-is_single-clause-shown_part
-returns-then-is_single-clause-shown_part g c = go c.command.result c.command.ensures.history
+returns-then-is_single-clause-shown_part g c = go c.command.result c.command.ensures.history c.command.ensures.left
   where
     go : {T E : Type 0} (r : Result T E) → OnErr r (c.command.new.self.history.items ≡ c.args.self.now.history.items)
-        → OnErr r (KeepsShownSoFar g.M.Machine.shows c.args.self.now c.command.new.self)
-    go (Ok x) none = none
-    go (Err x) same = shown-same g.M.Machine.shows c.args.self.now c.command.new.self same
+        → OnErr r (IsLeft g.M.Machine.whole g.M.Machine.leaves c.args.self.now.machine c.command.new.self.machine)
+        → OnErr r (KeepsShownSoFar g.M.Machine.shows g.M.Machine.whole g.M.Machine.leaves c.args.self.now c.command.new.self)
+    go (Ok x) none left = none
+    go (Err x) same left = shown-left g.M.Machine.shows g.M.Machine.whole g.M.Machine.leaves c.args.self.now c.command.new.self same left
 
 pub returns-in-Go-clause-done : goal.returns-in-Go-clause-done
 returns-in-Go-clause-done g c = subst (λ x. OnOk c.go.result

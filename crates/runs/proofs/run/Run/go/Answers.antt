@@ -1,7 +1,7 @@
 use Rattle.std.proofs.Common.{◌≡◌, ◌-◌, ◌+◌, suc, subst, arith}
 use Rattle.runs.specs.Runs.{TakesTurn}
 use Rattle.runs.specs.declared.run.Choice.TheVariants.{Following}
-use Rattle.runs.proofs.Leading.{on-err, shown-then, shown-part, shown-same}
+use Rattle.runs.proofs.Leading.{on-err, shown-then, shown-fails}
 use Rattle.runs.proofs.Going.{IsGoing, going-start, going-on, going-stop, going-end, going-fails}
 use Rattle.runs.proofs.run.Run.go.Goals as goal
 
@@ -23,8 +23,8 @@ returns-in_err-take_turn-clause-part g c = on-err c.from_residual.result _ (λ s
 
 pub returns-in_err-take_turn-clause-shown_part : goal.returns-in_err-take_turn-clause-shown_part
 returns-in_err-take_turn-clause-shown_part g c = on-err c.from_residual.result _
-    (shown-part g.M.Machine.shows c.args.self.now c.loop.self c.take_turn.new.self c.loop.invariant.shown
-    (shown-same g.M.Machine.shows c.loop.self c.take_turn.new.self c.in_err-take_turn.ensures.history))
+    (shown-fails g.M.Machine.shows g.M.Machine.whole g.M.Machine.leaves c.args.self.now c.loop.self c.take_turn.new.self
+    c.loop.invariant.shown c.in_err-take_turn.ensures.history c.in_err-take_turn.ensures.left)
 
 pub returns-then-not-branch-clause-done : goal.returns-then-not-branch-clause-done
 returns-then-not-branch-clause-done g c some =
