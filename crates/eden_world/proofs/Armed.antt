@@ -40,7 +40,7 @@ use Rattle.eden_world.proofs.Numbers.{no-shell}
 use Rattle.eden_world.proofs.InWorld.{IsThere, is-there, with_node, node-with, with-itself, same-links, links-of, seat-in-world}
 use Rattle.eden_world.proofs.Sites.{clocked_as, clocked-already, clocked-here}
 use Rattle.eden_world.proofs.Disks.{each-disk, state-same}
-use Rattle.eden_world.proofs.Turns.{IsUp, is-up, no-names}
+use Rattle.eden_world.proofs.TurnEntries.{IsUp, is-up, no-names}
 
 -- 1. In the world
 

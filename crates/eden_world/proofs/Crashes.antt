@@ -253,10 +253,11 @@ stops-in w n (event.Activate u start_end.Stop p) it is falls at allowed =
 stops-in w n (event.Crash m) it is falls at allowed = absurd is
 stops-in w n _ it is falls at allowed = absurd (let bad : false ≡ true = falls in cc bad)
 
--- What a turn of the kernel that stopped leaves: the node is to be closed, and took one at most of the changes for which the room is told.
-abbrev pub StopsSo : Layout → TypeList → Mail → Held → Held → Event → Type 0
-StopsSo layout ts m a b e = (reach : ℕ → Bool) (s : Site) → IsSoundSite s → 1 ≤ a.seen.more → NodeStands layout ts a m s
-    → Stops layout b reach a s e × (a.seen.more ≤ b.seen.more + 1)
+-- What a turn of the kernel that stopped leaves, at the site of the node: the node is to be closed, and took one at most of the changes for
+-- which the room is told.
+abbrev pub StopsSo : Layout → TypeList → Mail → World → ℕ → Held → Held → Event → Type 0
+StopsSo layout ts m w n a b e = (it : Node) → node_at w n ≡ Some it → IsSoundSite (site_of w n it) → 1 ≤ a.seen.more
+    → NodeStands layout ts a m (site_of w n it) → Stops layout b (reaches w n) a (site_of w n it) e × (a.seen.more ≤ b.seen.more + 1)
 
 -- what is noted of its doubt as it is closed
 abbrev pub noted_of : Held → Option Doubt
@@ -264,12 +265,12 @@ noted_of b = noted_in (doubt_in b.seen.work) b.seen.kept
 
 module _ (layout : Layout) (more : ℕ) (old mid : InHand) (w : World) (n : ℕ) (it : Node) (e : Event) (a b : Held) (numbers : List ℕ)
     (is : WorldStands layout (suc more) old w) (sound : AllSound w) (at : node_at w n ≡ Some it) (turn : IsDiskTurn e)
-    (fell : Fell n a (noted_of b) b.seen.disk numbers old mid) (kernel : StopsSo layout old.types old.mail a b e) where
+    (fell : Fell n a (noted_of b) b.seen.disk numbers old mid) (kernel : StopsSo layout old.types old.mail w n a b e) where
   here : UpStands layout old.types old.mail (suc more) (site_of w n it) a
   here = up-at layout (suc more) old w n it a is at fell.was_up
 
   behind : Stops layout b (reaches w n) a (site_of w n it) e × (a.seen.more ≤ b.seen.more + 1)
-  behind = kernel (reaches w n) (site_of w n it) (sound n it at) (omega (arith, here.told)) here.stands
+  behind = kernel it at (sound n it at) (omega (arith, here.told)) here.stands
 
   rests : RestStands layout n b.seen.more (with_clock (clock_of b) (site_turn (reaches w n) e (site_of w n it)))
       (noted_of b) b.seen.disk.counts.size b.seen.disk.counts.clock b.seen.disk.told
@@ -303,7 +304,7 @@ module _ (layout : Layout) (more : ℕ) (old mid : InHand) (w : World) (n : ℕ)
 -- a stop begins: of the store, or of an activation
 pub stop-begins : (layout : Layout) (more : ℕ) (old mid : InHand) (w : World) (n : ℕ) (e : Event) (a b : Held) (numbers : List ℕ)
     → WorldStands layout (suc more) old w → AllSound w → IsNumber n → IsDiskTurn e
-    → Fell n a (noted_of b) b.seen.disk numbers old mid → StopsSo layout old.types old.mail a b e
+    → Fell n a (noted_of b) b.seen.disk numbers old mid → StopsSo layout old.types old.mail w n a b e
     → IsTelling layout more (key_of e) n (clock_of b) (stopped_at w n e) mid numbers
 stop-begins layout more old mid w n e a b numbers is sound number turn fell kernel =
     let y = node-of layout (suc more) old w n is number in
@@ -337,7 +338,7 @@ store-stops-at : (layout : Layout) (more : ℕ) (old mid new : InHand) (w : Worl
     (how : RequestEnd)
     (p : Option Pick) (a b : Held) (numbers : List ℕ) → WorldStands layout (suc more) old w → AllSound w → IsNumber n
     → node_at w n ≡ Some it
-    → Fell n a (noted_of b) b.seen.disk numbers old mid → StopsSo layout old.types old.mail a b (event.Store u (clock_of b) how p)
+    → Fell n a (noted_of b) b.seen.disk numbers old mid → StopsSo layout old.types old.mail w n a b (event.Store u (clock_of b) how p)
     → ((s : Site) → IsSoundSite s → NodeStands layout old.types a old.mail s → CallsAsDue s how a.seen.disk.counts b.seen.disk.counts)
     → entry.event ≡ event.Store u (clock_of b) how p → EntryShows n (clock_of b) (filter_map (name_at mid.mail) numbers) entry → SameDisks
     mid new
@@ -356,7 +357,7 @@ store-stops-at layout more old mid new w n it entry u how p a b numbers is sound
 -- The end of a stop in a turn of the store, whose device call was made where the work of the site's store makes one.
 pub store-stops : (layout : Layout) (more : ℕ) (old mid new : InHand) (w : World) (n : ℕ) (entry : Entry) (u : Uid) (how : RequestEnd)
     (p : Option Pick) (a b : Held) (numbers : List ℕ) → WorldStands layout (suc more) old w → AllSound w → IsNumber n
-    → Fell n a (noted_of b) b.seen.disk numbers old mid → StopsSo layout old.types old.mail a b (event.Store u (clock_of b) how p)
+    → Fell n a (noted_of b) b.seen.disk numbers old mid → StopsSo layout old.types old.mail w n a b (event.Store u (clock_of b) how p)
     → ((s : Site) → IsSoundSite s → NodeStands layout old.types a old.mail s → CallsAsDue s how a.seen.disk.counts b.seen.disk.counts)
     → entry.event ≡ event.Store u (clock_of b) how p → EntryShows n (clock_of b) (filter_map (name_at mid.mail) numbers) entry → SameDisks
     mid new
@@ -371,7 +372,7 @@ store-stops layout more old mid new w n entry u how p a b numbers is sound numbe
 -- The end of a stop in an activation.
 pub start-stops : (layout : Layout) (more : ℕ) (old mid new : InHand) (w : World) (n : ℕ) (entry : Entry) (u : Uid) (how : StartEnd)
     (p : Option Pick) (a b : Held) (numbers : List ℕ) → WorldStands layout (suc more) old w → AllSound w → IsNumber n
-    → Fell n a (noted_of b) b.seen.disk numbers old mid → StopsSo layout old.types old.mail a b (event.Activate u how p)
+    → Fell n a (noted_of b) b.seen.disk numbers old mid → StopsSo layout old.types old.mail w n a b (event.Activate u how p)
     → entry.event ≡ event.Activate u how p → EntryShows n (clock_of b) (filter_map (name_at mid.mail) numbers) entry → SameDisks mid new
     → IsTelling layout more (key_of (event.Activate u how p)) n (clock_of b) (stopped_at w n (event.Activate u how p)) new []
     → Goes layout more w None entry old new
@@ -383,13 +384,14 @@ start-stops layout more old mid new w n entry u how p a b numbers is sound numbe
 
 -- There was no memory behind the stop: the run ends.
 pub stop-starves : (layout : Layout) (more : ℕ) (old mid new : InHand) (w : World) (n : ℕ) (e : Event) (a b : Held)
-    → WorldStands layout (suc more) old w → AllSound w → IsNumber n → old.seats n ≡ Some (up a) → StopsSo layout old.types old.mail a b e
+    → WorldStands layout (suc more) old w → AllSound w → IsNumber n → old.seats n ≡ Some (up a) → StopsSo layout old.types old.mail w n a
+    b e
     → Reseats n (down (noted_of b) b.seen.disk) old mid → SameDisks mid new → EachEnds layout w old new
 stop-starves layout more old mid new w n e a b is sound number was kernel seats same =
     let y = node-of layout (suc more) old w n is number in
     let here : UpStands layout old.types old.mail (suc more) (site_of w n y.0) a = up-at layout (suc more) old w n y.0 a is y.1 was in
     let x : Stops layout b (reaches w n) a (site_of w n y.0) e =
-    (kernel (reaches w n) (site_of w n y.0) (sound n y.0 y.1) (omega (arith, here.told)) here.stands).0 in
+    (kernel y.0 y.1 (sound n y.0 y.1) (omega (arith, here.told)) here.stands).0 in
     fallen-ends layout (suc more) n old new w y.0 (site_turn (reaches w n) e (site_of w n y.0)).node a b.seen.disk is y.1
     here.stands.disk.its_clock was
     (subst (λ k. NodeOnDisk layout k y.0 [] (site_turn (reaches w n) e (site_of w n y.0)).node a.seen.disk.told (clock_of a)

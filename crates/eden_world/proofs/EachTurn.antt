@@ -1,4 +1,4 @@
--- The turns of a node, kind by kind: deliveries, starts, turns of processes, activations, and turns of the store.
+-- Turns of a node that may touch its disk: activations, and turns of the store; and a reply that comes to a node.
 use Rattle.std.proofs.Common.{◌≡◌, inl, inr, ℕ, zero, suc, ◌+◌, ◌≤◌, ◌==◌, Bool, true, false, cond, not}
 use Rattle.std.proofs.Common.{List, []}
 use Rattle.std.proofs.Common.{◌∷◌, Option, None, Some, is_some, refl, sym, ◌∙◌, ap, subst, arith}
@@ -14,10 +14,8 @@ use Rattle.eden_model.specs.Traffic.{Traffic, Call, call_at, asking_station, tar
 use Rattle.eden_model.specs.declared.Asker.{Asker}
 use Rattle.eden_model.specs.declared.Asker.TheVariants.{Shell, Eject as Process}
 use Rattle.invocation.specs.Mail.{Mail}
-use Rattle.locator.specs.Reach.{reaches as reached}
 use Rattle.passive_store.specs.Kept.{Layout}
 use Rattle.passive_store.specs.declared.store.Pick.{Pick}
-use Rattle.journal.specs.declared.event.Event.{Event}
 use Rattle.journal.specs.declared.event.Event.TheVariants as event
 use Rattle.journal.specs.declared.event.Entry.{Entry}
 use Rattle.journal.specs.declared.event.StartEnd.{StartEnd}
@@ -28,117 +26,28 @@ use Rattle.journal.specs.Deliveries.{AllowsReply}
 use Rattle.journal.specs.Settling.{to_settle, first_request}
 use Rattle.journal.specs.Starts.{AllowsActivate, StartsFrom, StartsSo}
 use Rattle.journal.specs.Stores.{AllowsStore, Work, syncs, reads, unkept, without_room, calls, EndsSo, makes_call, work_of}
-use Rattle.journal.specs.World.{World, Site, Node, Eject, StoreRequest, node_at, site_of, site_at, eject_in, reaches}
+use Rattle.journal.specs.World.{World, Site, Node, Eject, StoreRequest, node_at, site_of, site_at, eject_in}
 use Rattle.journal.specs.Step.{AllowsAt, StoreClock, StoreClockFits, clock_before, one_more, touched, touches_start}
 use Rattle.journal.specs.Step.{touches_store, node_if}
-use Rattle.journal.specs.Sites.{AllSound, AllThere, Everywhere, IsSoundSite}
+use Rattle.journal.specs.Sites.{AllSound, AllThere, IsSoundSite}
 use Rattle.journal.proofs.EntryLists.{first-passes}
 use Rattle.journal.proofs.SiteRuns.{both-true, on-call}
-use Rattle.journal.proofs.SiteTurns.{IsNew}
-use Rattle.ejects.specs.Creations.{HasNewUid}
-use Rattle.ejects.specs.Events.{IsDelivery, IsStartOf, IsTurnOf}
-use Rattle.ejects.specs.Replies.{Reaches}
 use Rattle.eden_kernel.specs.DiskTurns.{call_of_request}
 use Rattle.eden_kernel.specs.Stands.{Held, IsWhole, NodeStands}
-use Rattle.eden_kernel.specs.Turns.{Turns, clock_of}
+use Rattle.eden_kernel.specs.Turns.{clock_of}
 use Rattle.eden_world.specs.Worlds.{up, InHand, IsNumber, WorldStands}
-use Rattle.eden_world.specs.Steps.{GoesOnFrom, GoesOnBy, IsTurnAt, TurnsIn, TakesSeat, TouchesNone, Shows, start_touches, store_touches}
+use Rattle.eden_world.specs.Steps.{GoesOnFrom, GoesOnBy, IsTurnAt, TurnsIn, TakesSeat, Shows, start_touches, store_touches}
 use Rattle.eden_world.specs.Steps.{CallsSo, CallsAsDue, Goes, ShowsIf}
-use Rattle.eden_world.proofs.InWorld.{reach-of}
-use Rattle.eden_world.proofs.Turns.{IsUp, is-up, turn-goes}
+use Rattle.eden_world.proofs.TurnEntries.{IsUp, is-up, turn-goes}
 
--- 1. Turns that touch no disk
-
-abbrev IsStill : Event → Type 0
-IsStill (event.Request k a b refused) = Unit {0}
-IsStill (event.Reply k a b name why values) = Unit {0}
-IsStill (event.Start k u p) = Unit {0}
-IsStill (event.Process u p said) = Unit {0}
-IsStill _ = ⊥
-
-still-touches : (w : World) (e : Event) → IsStill e → touched w e ≡ 0
-still-touches w (event.Request k a b refused) is = refl
-still-touches w (event.Reply k a b name why values) is = refl
-still-touches w (event.Start k u p) is = refl
-still-touches w (event.Process u p said) is = refl
-still-touches w _ is = absurd is
-
-still-clock : (w : World) (e : Event) (c : ℕ) → IsStill e → StoreClock w e c
-still-clock w (event.Request k a b refused) c is = tt
-still-clock w (event.Reply k a b name why values) c is = tt
-still-clock w (event.Start k u p) c is = tt
-still-clock w (event.Process u p said) c is = tt
-still-clock w _ c is = absurd is
-
--- what all of them have in hand
-record Still (layout : Layout) (more : ℕ) (old new : InHand) (w : World) (n : ℕ) (h x : Held) (later : Mail) (e : Entry) : Type 0 where
-  takes : TakesSeat n (up x) later old new
-  whole : IsWhole x
-  seen : x.seen ≡ h.seen
-  entry : TouchesNone e
-
-still-goes : (layout : Layout) (more : ℕ) (old new : InHand) (w : World) (n : ℕ) (h x : Held) (later : Mail) (e : Entry) → AllSound w
-    → WorldStands layout (suc more) old w → IsNumber n → old.seats n ≡ Some (up h) → Still layout more old new w n h x later e
-    → TurnsIn layout old w n h x later e.event → IsTurnAt n e.event → IsStill e.event → Goes layout more w None e old new
-still-goes layout more old new w n h x later e sound stands number sits still turns is quiet =
-    turn-goes layout more old new w n h x later e sound stands number sits still.takes still.whole
-    (subst (λ y. h.seen.more ≤ y.more + 1) (sym still.seen) (omega arith)) turns is
-    (inr (still.entry.disk, still.entry.clock, ap (λ y. y.disk.counts.clock) still.seen)) still.entry.broken
-    (still.entry.disk ∙ sym (still-touches w e.event quiet)) (still-clock w e.event e.clock quiet)
-
--- a start
-pub start-goes : (layout : Layout) (more : ℕ) (old new : InHand) (w : World) (n : ℕ) (h x : Held) (later : Mail) (e : Entry) (u : Uid)
-    → AllSound w → WorldStands layout (suc more) old w → IsNumber n → old.seats n ≡ Some (up h) → TakesSeat n (up x) later old new
-    → IsWhole x → x.seen ≡ h.seen → TouchesNone e → TurnsIn layout old w n h x later e.event
-    → IsStartOf u e.event → u.node ≡ n → Goes layout more w None e old new
-start-goes layout more old new w n h x later e u sound stands number sits takes whole seen entry turns is of_node =
-    still-goes layout more old new w n h x later e sound stands number sits
-    (record { takes = takes; whole = whole; seen = seen; entry = entry }) turns (at e.event is) (quiet e.event is)
-  where
-    at : (ev : Event) → IsStartOf u ev → IsTurnAt n ev
-    at (event.Start k v p) same = ap (λ (z : Uid). z.node) same ∙ of_node
-    at _ same = absurd same
-
-    quiet : (ev : Event) → IsStartOf u ev → IsStill ev
-    quiet (event.Start k v p) same = tt
-    quiet _ same = absurd same
-
--- the turn of a process, at a site whose next uid is new; what it reaches is told by the links in hand
-pub process-goes : (layout : Layout) (more : ℕ) (old new : InHand) (w : World) (n : ℕ) (h x : Held) (later : Mail) (e : Entry) (u : Uid)
-    (p : ℕ) → AllSound w → Everywhere (λ m it. IsNew (site_of w m it)) w
-    → WorldStands layout (suc more) old w → IsNumber n → old.seats n ≡ Some (up h) → TakesSeat n (up x) later old new
-    → IsWhole x → x.seen ≡ h.seen → TouchesNone e
-    → ((reach : ℕ → Bool) (s : Site) → Reaches reach old.places u.node → IsSoundSite s → HasNewUid s
-    → NodeStands layout old.types h old.mail s
-    → Turns layout old.types x later reach h s e.event)
-    → IsTurnOf u p e.event → u.node ≡ n → Goes layout more w None e old new
-process-goes layout more old new w n h x later e u p sound ready stands number sits takes whole seen entry turns is of_node =
-    still-goes layout more old new w n h x later e sound stands number sits
-    (record { takes = takes; whole = whole; seen = seen; entry = entry })
-    (λ it at sound_here stood. turns (reaches w n) (site_of w n it) by_links sound_here
-    (record { in_order = sound_here.node.in_order; is_new = ready n it at }) stood) (its_turn e.event is) (quiet e.event is)
-  where
-    by_links : Reaches (reaches w n) old.places u.node
-    by_links = record {
-      at = λ b. reach-of layout (suc more) old w stands n b number.last ∙ ap (λ j. reached old.places j b) (sym of_node);
-    }
-
-    its_turn : (ev : Event) → IsTurnOf u p ev → IsTurnAt n ev
-    its_turn (event.Process v q said) same = ap (λ (z : Uid). z.node) same.0 ∙ of_node
-    its_turn _ same = absurd same
-
-    quiet : (ev : Event) → IsTurnOf u p ev → IsStill ev
-    quiet (event.Process v q said) same = tt
-    quiet _ same = absurd same
-
--- 2. A delivery
+-- 1. A delivery
 
 -- a reply that comes to a node is for a process
 asker-there : (a : Asker) (n : ℕ) → IsNumber n → asking_station a ≡ n → shell_name a ≡ None
 asker-there (Shell name) n number at = absurd (omega (arith, number.first, at))
 asker-there (Process u p) n number at = refl
 
-no-name : (t : Traffic) (k a b n : ℕ) (name : Option (List ℕ)) (why : Status) (values : List Datum) → b ≡ n → IsNumber n
+pub no-name : (t : Traffic) (k a b n : ℕ) (name : Option (List ℕ)) (why : Status) (values : List Datum) → b ≡ n → IsNumber n
     → AllowsReply t k a b name why values → name ≡ None
 no-name t k a b n name why values is number allowed = out (call_at t k) (on-call (call_at t k)
     (λ c. goes_by c.place (asking_station c.asker) (target_station c) a b)
@@ -151,32 +60,7 @@ no-name t k a b n name why values is number allowed = out (call_at t k) (on-call
     out None h = absurd h
     out (Some c) h = h
 
-pub delivery-goes : (layout : Layout) (more : ℕ) (old new : InHand) (w : World) (n : ℕ) (h x : Held) (later : Mail) (e : Entry) (from : ℕ)
-    → AllSound w → WorldStands layout (suc more) old w → IsNumber n → old.seats n ≡ Some (up h) → TakesSeat n (up x) later old new
-    → IsWhole x → x.seen ≡ h.seen → TouchesNone e → TurnsIn layout old w n h x later e.event
-    → IsDelivery from n e.event → Goes layout more w None e old new
-delivery-goes layout more old new w n h x later e from sound stands number sits takes whole seen entry turns is =
-    still-goes layout more old new w n h x later e sound stands number sits
-    (record { takes = takes; whole = whole; seen = seen; entry = entry }) turns (at e.event is allowed)
-    (quiet e.event is)
-  where
-    was : IsUp layout (suc more) old w n h
-    was = is-up layout (suc more) old w n h stands number sits
-
-    allowed : AllowsAt (site_of w n was.it) e.event
-    allowed = (turns was.it was.at (sound n was.it was.at) was.stands.stands).allowed
-
-    at : (ev : Event) → IsDelivery from n ev → AllowsAt (site_of w n was.it) ev → IsTurnAt n ev
-    at (event.Request k a b refused) to h = to.1
-    at (event.Reply k a b name why values) to h = (to.1, no-name w.traffic k a b n name why values to.1 number h)
-    at _ to h = absurd to
-
-    quiet : (ev : Event) → IsDelivery from n ev → IsStill ev
-    quiet (event.Request k a b refused) to = tt
-    quiet (event.Reply k a b name why values) to = tt
-    quiet _ to = absurd to
-
--- 3. An activation
+-- 2. An activation
 
 abbrev touches_kept : Option Eject → Bool
 touches_kept o = with_item o (λ e. is_some e.kept) false
@@ -244,14 +128,14 @@ node-if false n clock e h = h.0
 -- where the activation at its site touches no disk, the clock stays
 pub activation-goes : (layout : Layout) (more : ℕ) (old new : InHand) (w : World) (n : ℕ) (h x : Held) (later : Mail) (e : Entry) (u : Uid)
     (how : StartEnd) (p : Option Pick) → AllSound w → WorldStands layout (suc more) old w → IsNumber n → old.seats n ≡ Some (up h)
-    → TakesSeat n (up x) later old new → IsWhole x → x.seen.more ≡ h.seen.more → GoesOnFrom how
+    → TakesSeat n (up x) later old new → IsWhole x → h.seen.more ≤ x.seen.more + 1 → GoesOnFrom how
     → ((s : Site) → NodeStands layout old.types h old.mail s → touches_start s u ≡ false → clock_of x ≡ clock_of h)
     → TurnsIn layout old w n h x later (event.Activate u how p) → u.node ≡ n
     → e.event ≡ event.Activate u how p → e.broken ≡ [] → ShowsIf (start_touches how p) n (clock_of x) e → Goes layout more w None e old new
 activation-goes layout more old new w n h x later e u how p sound stands number sits takes whole told goes level turns of_node
     its_event broken shows =
-    turn-goes layout more old new w n h x later e sound stands number sits takes whole
-    (subst (λ m. h.seen.more ≤ m + 1) (sym told) (omega arith)) (subst (TurnsIn layout old w n h x later) (sym its_event) turns)
+    turn-goes layout more old new w n h x later e sound stands number sits takes whole told
+    (subst (TurnsIn layout old w n h x later) (sym its_event) turns)
     (subst (IsTurnAt n) (sym its_event) (of_node, goes)) (shows-if (start_touches how p) n (clock_of h) (clock_of x) e shows
     (λ none. level (site_of w n was.it) was.stands.stands (touches ∙ none))) broken
     (node-if (start_touches how p) n (clock_of x) e shows ∙ sym (ap (λ b. node_if b n) touches) ∙ sym (ap (touched w) its_event
@@ -265,7 +149,7 @@ activation-goes layout more old new w n h x later e u how p sound stands number 
     touches = start-touches (site_of w n was.it) u how p goes
         (turns was.it was.at (sound n was.it was.at) was.stands.stands).allowed
 
--- 4. A turn of the store
+-- 3. A turn of the store
 
 counted-rises : (before after : Counts) → DeviceCalls 1 before after (call_of_request request_end.Done)
     → (before.clock == after.clock) ≡ false
@@ -315,7 +199,7 @@ fits-called m o before after how at true so = (
 )
 fits-called m o before after how at false so = subst (λ z. IfSome z (λ c. after.clock ≡ c)) (sym at) so
 
-store-touched : (s : Site) (u : Uid) (clock : ℕ) (how : RequestEnd) (p : Option Pick) (before after : Counts) → GoesOnBy how
+pub store-touched : (s : Site) (u : Uid) (clock : ℕ) (how : RequestEnd) (p : Option Pick) (before after : Counts) → GoesOnBy how
     → AllowsAt s (event.Store u clock how p) → CallsAsDue s how before after → touches_store s ≡ store_touches how before.clock after.clock
 store-touched s u clock how p before after goes allowed so = go (first_request s.node) allowed so
   where
@@ -335,7 +219,7 @@ store-of-node s u clock how p sound allowed = go s.node.requests sound.node.ther
     go [] there h = absurd h
     go (r ∷ rs) there h = ap (λ (v : Uid). v.node) h.of_uid ∙ sound.node.of_node r.uid there.0
 
-level-untouched : (b : Bool) (how : RequestEnd) (before after : Counts) → CallsSo b how before after → b ≡ false
+pub level-untouched : (b : Bool) (how : RequestEnd) (before after : Counts) → CallsSo b how before after → b ≡ false
     → after.clock ≡ before.clock
 level-untouched true how before after so is = absurd (cc is)
 level-untouched false how before after so is = so
@@ -345,16 +229,14 @@ pub store-goes : (layout : Layout) (more : ℕ) (old new : InHand) (w : World) (
     (how : RequestEnd) (p : Option Pick) → AllSound w → WorldStands layout (suc more) old w → IsNumber n → old.seats n ≡ Some (up h)
     → TakesSeat n (up x) later old new → IsWhole x → GoesOnBy how
     → ((s : Site) → 1 ≤ h.seen.more → NodeStands layout old.types h old.mail s → h.seen.more ≤ x.seen.more + 1)
-    → ((reach : ℕ → Bool) (s : Site) → IsSoundSite s → 1 ≤ h.seen.more → NodeStands layout old.types h old.mail s
-    → Turns layout old.types x later reach h s (event.Store u (clock_of x) how p))
+    → TurnsIn layout old w n h x later (event.Store u (clock_of x) how p)
     → ((s : Site) → IsSoundSite s → NodeStands layout old.types h old.mail s → CallsAsDue s how h.seen.disk.counts x.seen.disk.counts)
     → e.event ≡ event.Store u (clock_of x) how p → e.broken ≡ []
     → ShowsIf (store_touches how (clock_of h) (clock_of x)) n (clock_of x) e → Goes layout more w None e old new
 store-goes layout more old new w n h x later e u how p sound stands number sits takes whole goes told turns due its_event broken
     shows =
     turn-goes layout more old new w n h x later e sound stands number sits takes whole (told site some was.stands.stands)
-    (λ it at sound_here stood. subst (λ ev. Turns layout old.types x later (reaches w n) h (site_of w n it) ev) (sym its_event)
-    (turns (reaches w n) (site_of w n it) sound_here some stood))
+    (subst (TurnsIn layout old w n h x later) (sym its_event) turns)
     (subst (IsTurnAt n) (sym its_event) (of_node, goes))
     (shows-if (store_touches how (clock_of h) (clock_of x)) n (clock_of h) (clock_of x) e shows
     (λ none. level-untouched (touches_store site) how h.seen.disk.counts x.seen.disk.counts so (touches ∙ none))) broken
@@ -373,7 +255,7 @@ store-goes layout more old new w n h x later e u how p sound stands number sits 
     some = omega (arith, was.stands.told)
 
     allowed : AllowsAt site (event.Store u (clock_of x) how p)
-    allowed = (turns (reaches w n) site (sound n was.it was.at) some was.stands.stands).allowed
+    allowed = (turns was.it was.at (sound n was.it was.at) was.stands.stands).allowed
 
     of_node : u.node ≡ n
     of_node = store-of-node site u (clock_of x) how p (sound n was.it was.at) allowed

@@ -54,7 +54,7 @@ crash-entry layout more old mid new w n mode e a noted d numbers names is sound 
 pub store-stop-entry : (layout : Layout) (more : ℕ) (old mid new : InHand) (w : World) (n : ℕ) (e : Entry) (u : Uid) (how : RequestEnd)
     (p : Option Pick) (a b : Held) (numbers : List ℕ) (names : List (List ℕ)) → WorldStands layout (suc more) old w → AllSound w
     → IsNumber n → Fell n a (noted_of b) b.seen.disk numbers old mid
-    → StopsSo layout old.types old.mail a b (event.Store u (clock_of b) how p)
+    → StopsSo layout old.types old.mail w n a b (event.Store u (clock_of b) how p)
     → ((s : Site) → IsSoundSite s → NodeStands layout old.types a old.mail s → CallsAsDue s how a.seen.disk.counts b.seen.disk.counts)
     → Tells layout mid new numbers [] names → e.event ≡ event.Store u (clock_of b) how p → EntryShows n (clock_of b) names e
     → Goes layout more w None e old new
@@ -67,7 +67,7 @@ store-stop-entry layout more old mid new w n e u how p a b numbers names is soun
 -- A stop in an activation.
 pub start-stop-entry : (layout : Layout) (more : ℕ) (old mid new : InHand) (w : World) (n : ℕ) (e : Entry) (u : Uid) (how : StartEnd)
     (p : Option Pick) (a b : Held) (numbers : List ℕ) (names : List (List ℕ)) → WorldStands layout (suc more) old w → AllSound w
-    → IsNumber n → Fell n a (noted_of b) b.seen.disk numbers old mid → StopsSo layout old.types old.mail a b (event.Activate u how p)
+    → IsNumber n → Fell n a (noted_of b) b.seen.disk numbers old mid → StopsSo layout old.types old.mail w n a b (event.Activate u how p)
     → Tells layout mid new numbers [] names → e.event ≡ event.Activate u how p → EntryShows n (clock_of b) names e
     → Goes layout more w None e old new
 start-stop-entry layout more old mid new w n e u how p a b numbers names is sound number fell kernel told its_event shows =

@@ -44,7 +44,7 @@ use Rattle.eden_world.specs.Steps.{disk_of, step_by, SeatStep, EachDisk, Goes, S
 use Rattle.eden_world.specs.Told.{Fell, EntryShows, SameDisks, waiting_at, name_at, CanBeTold, marked, IsTelling}
 use Rattle.eden_world.proofs.Alike.{Alike, rest-alike, asleep-alike}
 use Rattle.eden_world.proofs.Broken.{broken-names, broken-processes, askers-without_node, can-fall}
-use Rattle.eden_world.proofs.Keys.{number-of, node-there, keys-at_node}
+use Rattle.eden_world.proofs.EightKeys.{number-of, node-there, keys-at_node}
 use Rattle.eden_world.proofs.Reach.{ups-set}
 use Rattle.eden_world.proofs.Reseating.{Renodes, renodes-turn, with_time, traffic-marked, traffic-at_node, node-marked_other}
 use Rattle.eden_world.proofs.Reseating.{reseated}

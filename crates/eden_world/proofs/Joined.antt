@@ -18,7 +18,7 @@ use Rattle.eden_world.specs.Worlds.{InHand, WorldStands}
 use Rattle.eden_world.specs.Steps.{SameNames, TouchesNone, Goes, step_by}
 use Rattle.eden_world.proofs.InWorld.{seat-moves}
 use Rattle.eden_world.proofs.Disks.{no-disk}
-use Rattle.eden_world.proofs.Turns.{no-names}
+use Rattle.eden_world.proofs.TurnEntries.{no-names}
 
 -- the link is joined in hand, and nothing else changed there
 pub record TakesLink (a b : ℕ) (old new : InHand) : Type 0 where

@@ -27,7 +27,7 @@ use Rattle.eden_world.specs.Steps.{disk_of, step_by, Goes}
 use Rattle.eden_world.specs.Told.{Cuts, SameDisks, waiting_at, name_at, CanBeTold, marked, IsTelling}
 use Rattle.eden_world.proofs.Alike.{seat-alike}
 use Rattle.eden_world.proofs.Broken.{broken-names, broken-processes, askers-without_link, can-cut}
-use Rattle.eden_world.proofs.Keys.{number-of}
+use Rattle.eden_world.proofs.EightKeys.{number-of}
 use Rattle.eden_world.proofs.Falls.{some-number, disk-there, seat-step}
 use Rattle.eden_world.proofs.States.{states-told}
 use Rattle.eden_world.proofs.Telling.{telling-done}

@@ -40,7 +40,7 @@ use Rattle.eden_world.specs.Worlds.{InHand, WorldStands}
 use Rattle.eden_world.specs.Steps.{TakesMail, TakesNames, SameNames, Names, TouchesNone, Goes, LooksUp, step_by}
 use Rattle.eden_world.proofs.InWorld.{with_mail, mail-in-world, counted-stands, reach-of}
 use Rattle.eden_world.proofs.Disks.{no-disk}
-use Rattle.eden_world.proofs.Turns.{no-names}
+use Rattle.eden_world.proofs.TurnEntries.{no-names}
 
 -- 1. An entry that leaves all nodes
 

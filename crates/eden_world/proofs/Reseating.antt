@@ -22,7 +22,7 @@ use Rattle.ejects.proofs.KeptClasses.{Keeps}
 use Rattle.eden_world.specs.Worlds.{Seat, InHand, WorldStands, SeatStands, eight}
 use Rattle.eden_world.specs.Told.{Reseats, marked}
 use Rattle.eden_world.proofs.Alike.{seat-alike}
-use Rattle.eden_world.proofs.Keys.{keys-at_node, keys-marked}
+use Rattle.eden_world.proofs.EightKeys.{keys-at_node, keys-marked}
 
 -- 1. Worlds
 

@@ -38,6 +38,7 @@ use Rattle.ejects.specs.Creations.{HasNewUid, born_as}
 use Rattle.ejects.proofs.Keeping.{keeps-same}
 use Rattle.eden_kernel.specs.Stands.{Held, IsWhole, NodeStands}
 use Rattle.eden_world.specs.Worlds.{Seat, up, InHand, SeatStands, IsNumber, WorldStands}
+use Rattle.eden_world.specs.Creating.{status_of, uid_made}
 use Rattle.eden_world.specs.Steps.{TakesNames, Names, TouchesNone, Goes, step_by}
 use Rattle.eden_world.proofs.Messages.{carrying}
 use Rattle.eden_world.proofs.Numbers.{not-zero}
@@ -45,7 +46,7 @@ use Rattle.eden_world.proofs.InWorld.{with_node, node-with, with-itself, links-o
 use Rattle.eden_world.proofs.InWorld.{reach-of}
 use Rattle.eden_world.proofs.Sites.{SamePlace, site-is, at-node-is}
 use Rattle.eden_world.proofs.Disks.{each-disk, state-same}
-use Rattle.eden_world.proofs.Turns.{IsUp, is-up, no-names}
+use Rattle.eden_world.proofs.TurnEntries.{IsUp, is-up, no-names}
 use Rattle.eden_world.proofs.Named.{newest, name-goes}
 
 -- 1. A creation
@@ -63,14 +64,6 @@ pub record TakesBorn (n : ℕ) (seat : Seat) (name : List ℕ) (m : Meaning) (ol
 pub record CreatesAt (layout : Layout) (t : Edentype) (made : Result Uid Status) (old : InHand) (x : Held) (s : Site) : Type 0 where
   pub next : next_uid s ≡ made
   pub stands : NodeStands layout old.types x old.mail (born_as made t s)
-
-abbrev pub status_of : Result Uid Status → Status
-status_of (Ok u) = status.Ok
-status_of (Err why) = why
-
-abbrev pub uid_made : Result Uid Status → Option Uid
-uid_made (Ok u) = Some u
-uid_made (Err why) = None
 
 abbrev pub meaning_made : Option Uid → Meaning
 meaning_made (Some u) = capability (full u)

@@ -35,7 +35,7 @@ use Rattle.checkpoint.proofs.Lifts.{ends-unfinished, past-last}
 use Rattle.checkpoint.proofs.MapStands.{doubts-are}
 use Rattle.checkpoint.proofs.Throughout.{stands-more}
 use Rattle.eden_kernel.specs.Boots.{BootsPut}
-use Rattle.eden_world.specs.Told.{NextInDoubt}
+use Rattle.runs.specs.Reached.{NextInDoubt}
 
 -- 1. A change that is made twice is made once
 

@@ -41,7 +41,7 @@ use Rattle.eden_world.specs.Worlds.{Seat, up, down, InHand, WorldStands, SeatSta
 use Rattle.eden_world.specs.Steps.{disk_of, TakesSeat}
 use Rattle.eden_world.specs.Told.{Reseats, waiting_at, name_at, CanBeTold, IsToldNode, marked, IsTelling, Tells}
 use Rattle.eden_world.proofs.Alike.{Alike, node-alike}
-use Rattle.eden_world.proofs.Keys.{keys-at_node}
+use Rattle.eden_world.proofs.EightKeys.{keys-at_node}
 use Rattle.eden_world.proofs.Reseating.{Renodes, renodes-other, traffic-marked}
 use Rattle.eden_world.proofs.Reseating.{node-marked_other}
 use Rattle.eden_world.proofs.Reseating.{node-marked_none}
@@ -104,7 +104,7 @@ all-behind n w q (r ∷ qs) all = (can-behind n w q r all.0, all-behind n w q qs
 
 -- 2. An Eject that is active has its active part in hand
 
-body-there : (p : Parts) (s : Site) (u : Uid) → Stands p s → IsSome (active_in (eject_in s u)) → IsSome (body_at p u)
+pub body-there : (p : Parts) (s : Site) (u : Uid) → Stands p s → IsSome (active_in (eject_in s u)) → IsSome (body_at p u)
 body-there p s u h active = sym (mapped active_of (body_at p u)) ∙ sym (ap (λ (k : Known). is_some k.active) (h.ejects u)) ∙ shown
     (eject_in s u) active
   where

@@ -1,11 +1,11 @@
 -- Want of memory in a turn: there is no entry, and each disk stands for the last world at each moment behind its last entry.
-use Rattle.std.proofs.Common.{◌≡◌, ℕ, ◌==◌, Bool, true, false, List, [], Option, Some, refl, sym, ◌∙◌, subst}
+use Rattle.std.proofs.Common.{◌≡◌, ℕ, suc, ◌==◌, ◌≤◌, Bool, true, false, List, [], Option, Some, refl, sym, ◌∙◌, subst, arith}
 use Rattle.std.proofs.lemmas.Bool.{eqb-true}
 use Rattle.std.proofs.lemmas.List.{append-nil}
 use Rattle.eden_disk.specs.Told.{EachMoment}
 use Rattle.eden_disk.proofs.Held.{moments_weaker}
 use Rattle.passive_store.specs.Kept.{Layout}
-use Rattle.journal.specs.World.{World, Site, site_of}
+use Rattle.journal.specs.World.{World, Node, node_at, site_of}
 use Rattle.journal.specs.Standing.{Standing, Stands, with_changes, unfinished, unfinished_at}
 use Rattle.checkpoint.specs.StoreStands.{state_of}
 use Rattle.checkpoint.specs.Throughout.{EndsOnDisk}
@@ -18,7 +18,7 @@ use Rattle.eden_kernel.specs.Turns.{clock_of}
 use Rattle.eden_world.specs.Worlds.{Seat, up, InHand, IsNumber, WorldStands}
 use Rattle.eden_world.specs.Steps.{disk_of, SeatEnds, EachEnds}
 use Rattle.eden_world.proofs.InWorld.{IsThere, is-there}
-use Rattle.eden_world.proofs.Turns.{IsUp, is-up}
+use Rattle.eden_world.proofs.TurnEntries.{IsUp, is-up}
 
 none-added : (layout : Layout) (n : ℕ) (st : Standing) (image : List ℕ) → Stands layout n (with_changes [] st) image
     → Stands layout n st image
@@ -51,16 +51,17 @@ nothing-starves layout more old new w n h x stands sits here others same m numbe
         (ends-whole layout n w (unfinished w) h.seen.disk.told (clock_of h))))
 
 -- in an activation, or in a turn of the store
-pub turn-starves : (layout : Layout) (more : ℕ) (old new : InHand) (w : World) (n : ℕ) (h x : Held) → WorldStands layout more old w
+pub turn-starves : (layout : Layout) (more : ℕ) (old new : InHand) (w : World) (n : ℕ) (h x : Held) → WorldStands layout (suc more) old w
     → IsNumber n → old.seats n ≡ Some (up h) → new.seats n ≡ Some (up x) → ((m : ℕ) → (m == n) ≡ false → new.seats m ≡ old.seats m)
-    → ((s : Site) → NodeStands layout old.types h old.mail s → Starves layout s h.seen x.seen) → EachEnds layout w old new
+    → ((it : Node) → node_at w n ≡ Some it → 1 ≤ h.seen.more → NodeStands layout old.types h old.mail (site_of w n it)
+    → Starves layout (site_of w n it) h.seen x.seen) → EachEnds layout w old new
 turn-starves layout more old new w n h x stands is_number sits here others starves m number = go (m == n) refl
   where
-    was : IsUp layout more old w n h
-    was = is-up layout more old w n h stands is_number sits
+    was : IsUp layout (suc more) old w n h
+    was = is-up layout (suc more) old w n h stands is_number sits
 
     its : Starves layout (site_of w n was.it) h.seen x.seen
-    its = starves (site_of w n was.it) was.stands.stands
+    its = starves was.it was.at (omega (arith, was.stands.told)) was.stands.stands
 
     node_is : h.seen.node ≡ n
     node_is = sym was.stands.whole.number ∙ was.stands.number
@@ -81,6 +82,6 @@ turn-starves layout more old new w n h x stands is_number sits here others starv
         (none-added layout n (state_of n was.it) image stood)) moments)
 
     go : (b : Bool) → (m == n) ≡ b → SeatEnds layout m w (old.seats m) (new.seats m)
-    go false apart = still-ends layout more old new w m stands number (others m apart)
+    go false apart = still-ends layout (suc more) old new w m stands number (others m apart)
     go true is = subst (λ j. SeatEnds layout j w (old.seats j) (new.seats j)) (sym (eqb-true m n is))
         (both-ends layout n w (old.seats n) (new.seats n) (up h) (up x) sits here ends)

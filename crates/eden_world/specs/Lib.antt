@@ -2,4 +2,14 @@ pub mod Worlds
 pub mod Steps
 pub mod Told
 pub mod Openings
-pub mod NodeTurns
+pub mod InHand
+pub mod Seated
+pub mod Opened
+pub mod Listed
+pub mod Carried
+pub mod Breaking
+pub mod Taken
+pub mod Legal
+pub mod Creating
+pub mod Unanswered
+pub mod Arming

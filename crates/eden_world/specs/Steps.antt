@@ -1,5 +1,5 @@
 -- What an entry does to what a program has in hand: it stands for the world after it, and each disk did what it may.
-use Rattle.std.specs.Prelude.{◌≡◌, ◌⊎◌, ◌≤◌, ◌==◌, ◌+◌, ℕ, suc, Bool, true, false, cond, not, List, []}
+use Rattle.std.specs.Prelude.{◌≡◌, ◌⊎◌, ◌≤◌, ◌==◌, ◌+◌, ◌||◌, ℕ, suc, Bool, true, false, cond, not, List, []}
 use Rattle.std.specs.Prelude.{Option, None, Some, is_some, IsSomeAnd}
 use Rattle.capability.specs.declared.Cap.{Cap}
 use Rattle.eden_disk.specs.Calls.{Counts, DeviceCalls}
@@ -88,11 +88,15 @@ store_touches request_end.Done before after = not (before == after)
 store_touches request_end.Full before after = false
 store_touches _ before after = true
 
--- whether a turn touched the disk, by its event and the clocks of the disk
+-- whether a turn touched the disk, by its event
+abbrev pub event_touches : Event → ℕ → ℕ → Bool
+event_touches (event.Activate u how p) before after = start_touches how p
+event_touches (event.Store u clock how p) before after = store_touches how before after
+event_touches _ before after = false
+
+-- by its event and the clocks of the disk: whose clock rose was touched
 abbrev pub turn_touches : Event → ℕ → ℕ → Bool
-turn_touches (event.Activate u how p) before after = start_touches how p
-turn_touches (event.Store u clock how p) before after = store_touches how before after
-turn_touches _ before after = false
+turn_touches e before after = not (before == after) || event_touches e before after
 
 -- The entry shows the node of a disk that was touched, and its clock.
 abbrev pub ShowsIf : Bool → ℕ → ℕ → Entry → Type 0

@@ -1,5 +1,5 @@
 -- A node fell, or a link was cut: the processes elsewhere whose calls broke are told, one behind the other.
-use Rattle.std.specs.Prelude.{◌≡◌, ◌==◌, ◌≤◌, ℕ, Bool, false, cond, List, ◌++◌, map, Option, None, Some, IsSome, IfSome, ◌+◌}
+use Rattle.std.specs.Prelude.{◌≡◌, ◌==◌, ◌≤◌, ℕ, Bool, false, cond, List, ◌++◌, map, Option, None, Some, IsSome}
 use Rattle.std.specs.List.{filter_map, AllByRecursion}
 use Rattle.std.specs.Option.{option_map}
 use Rattle.capability.specs.declared.Uid.{Uid}
@@ -18,7 +18,6 @@ use Rattle.journal.specs.declared.event.Entry.{Entry}
 use Rattle.journal.specs.declared.event.Key.{Key}
 use Rattle.journal.specs.World.{World, Site, Node, node_at, site_of, eject_in}
 use Rattle.journal.specs.Crashes.{tells_each}
-use Rattle.journal.specs.Ejects.{stored_epoch}
 use Rattle.journal.specs.Sites.{active_in}
 use Rattle.journal.specs.Step.{counted, clocked}
 use Rattle.ejects.specs.Parts.{body_at}
@@ -121,9 +120,3 @@ pub record Tells (layout : Layout) (start now : InHand) (numbers left : List ℕ
   pub mail : now.mail ≡ start.mail
   pub disks : SameDisks start now
   pub listed : names ++ filter_map (name_at start.mail) left ≡ filter_map (name_at start.mail) numbers
-
--- 6. Boots
-
--- an epoch that is in doubt is the next one behind the stored one
-abbrev pub NextInDoubt : Node → Type 0
-NextInDoubt it = IfSome it.epoch_doubt (λ e. e ≡ stored_epoch it + 1)

@@ -1,6 +1,6 @@
 //! The entry of a turn.
 ghost use Rattle.std.specs.Prelude.{◌≡◌, []};
-ghost use Rattle.eden_world.specs.Steps.{ShowsIf, TouchesNone, start_touches, store_touches, turn_touches};
+ghost use Rattle.eden_world.specs.Steps.{ShowsIf, TouchesNone, event_touches, start_touches, store_touches, turn_touches};
 
 use capability::Seq;
 use journal::{Entry, Event, RequestEnd, StartEnd};
@@ -28,9 +28,9 @@ fn is_store_touched(end: RequestEnd, before: u64, after: u64) -> bool
     }
 }
 
-// Whether a turn touched the disk of its node, whose clock was read before and after it.
-fn is_touched(event: &Event, before: u64, after: u64) -> bool
-    ensures { result ≡ turn_touches event.now before after }
+// Whether the event of a turn shows that it touched the disk of its node.
+fn is_touch_shown(event: &Event, before: u64, after: u64) -> bool
+    ensures { result ≡ event_touches event.now before after }
 {
     match event {
         Event::Activate { end, pick, .. } => is_start_touched(*end, *pick),
@@ -39,8 +39,15 @@ fn is_touched(event: &Event, before: u64, after: u64) -> bool
     }
 }
 
+// Whether a turn touched the disk of its node, whose clock was read before and after it.
+fn is_touched(event: &Event, before: u64, after: u64) -> bool
+    ensures { result ≡ turn_touches event.now before after }
+{
+    before != after || is_touch_shown(event, before, after)
+}
+
 // An entry that answers no call of the shell `broken`.
-fn entry(alloc: Global, event: Event, node: u8, clock: u64) -> Entry
+pub(crate) fn entry(alloc: Global, event: Event, node: u8, clock: u64) -> Entry
     ensures event { result.event ≡ event }
     ensures node { result.node ≡ node }
     ensures clock { result.clock ≡ clock }

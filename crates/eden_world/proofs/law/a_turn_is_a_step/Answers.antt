@@ -1,4 +1,4 @@
-use Rattle.eden_world.proofs.Turns.{turns-go}
+use Rattle.eden_world.proofs.TurnEntries.{turns-go}
 use Rattle.eden_world.proofs.law.a_turn_is_a_step.Goals as goal
 
 pub returns : goal.returns

@@ -1,0 +1,122 @@
+-- A program that began over disks that were handed in, and carried a fit script: its run is legal, and so far where memory was wanting.
+use Rattle.std.proofs.Common.{◌≡◌, ◌≤◌, inl, inr, ℕ, Bool, true, false, List, [], length, refl, sym, subst, arith}
+use Rattle.std.specs.Prelude.{IsTrue}
+use Rattle.epl_syntax.specs.Rules.OfTypes.{names_of}
+use Rattle.passive_store.specs.Kept.{Layout}
+use Rattle.passive_store.specs.Seen.{Seen, DiskSeen}
+use Rattle.journal.specs.declared.command.Script.{Script}
+use Rattle.journal.specs.declared.event.Entry.{Entry}
+use Rattle.journal.specs.Faults.{ShowsEach, ShowsNoMore}
+use Rattle.journal.specs.LegalRun.{EachDisk, IsLegalRun, IsLegalSoFar, opening_world}
+use Rattle.journal.specs.Standing.{DiskRun}
+use Rattle.runs.specs.Machines.{IsLeft, ShowsAll}
+use Rattle.runs.specs.Room.{most_entries}
+use Rattle.runs.specs.Runs.{CarriesAll, CarriesPart, KeepsShown, KeepsShownSoFar, MayBegin}
+use Rattle.runs.specs.declared.run.Run.{Run}
+use Rattle.runs.proofs.Reaching.{may-begin}
+use Rattle.eden_world.specs.InHand.{Did, Ends, Stands}
+use Rattle.eden_world.specs.Legal.{IsAtStart, IsInOrder, disk_runs}
+use Rattle.eden_world.specs.Opened.{IsOpened}
+use Rattle.eden_world.specs.Seated.{AreGiven, EachShows, FitsTogether, IsSeated, KeepsDisks, heeds}
+use Rattle.eden_world.specs.declared.World.{World as Program}
+use Rattle.eden_world.proofs.Beginnings.{begins-stands}
+use Rattle.eden_world.proofs.Legal.{faults-shown, faults-shown_so_far, legal-part, legal-run}
+use Rattle.eden_world.proofs.OpenedRuns.{opened-runs}
+
+-- 1. The run may begin
+
+may-carry : {T D : Type 0} (tells obeys : Bool) (layout : Layout) (seen : T → Seen) (look : D → DiskSeen) (script : Script)
+    (before after : List D) (run : Run (Program T D)) → IsInOrder tells obeys layout look script before after → IsAtStart script before run
+    → MayBegin (Stands tells layout seen look) run (opening_world layout script (disk_runs obeys look before after))
+    (names_of script.types) script.nodes script.commands
+may-carry tells obeys layout seen look script before after run order new =
+    may-begin (Stands tells layout seen look) run layout script runs order.its_layout order.handed_in order.fit
+    (let nodes : script.nodes ≤ 8 = order.fit.nodes.1 in omega (arith, nodes, opened.eight)) new.history new.turns new.last (
+      most,
+      omega arith,
+      begins-stands tells layout seen look script.types before run.machine new.begins script runs most order.telling refl
+          opened order.few,
+    )
+  where
+    runs : List DiskRun
+    runs = disk_runs obeys look before after
+
+    most : ℕ
+    most = most_entries script.nodes script.commands
+
+    opened : IsOpened layout look before runs
+    opened = opened-runs obeys layout look before after order.its_layout order.reads order.handed_in order.eight order.given order.sized
+
+-- nothing was shown before it
+none-shown : {T D : Type 0} (obeys : Bool) (seen : T → Seen) (look : D → DiskSeen) (run : Run (Program T D)) → run.history.items ≡ []
+    → ShowsAll (EachShows obeys seen look) run.machine run.history.items run.machine
+none-shown obeys seen look run none =
+    subst (λ (h : List Entry). ShowsAll (EachShows obeys seen look) run.machine h run.machine) (sym none) refl
+
+-- over disks that tell, what is shown was due if they obey
+heeds-telling : (tells obeys : Bool) → IsTrue tells → heeds tells obeys ≡ obeys
+heeds-telling true obeys telling = refl
+heeds-telling false obeys telling = absurd (let bad : false ≡ true = telling in cc bad)
+
+-- 2. It came to its end
+
+pub carried-legal : {T D : Type 0} (tells obeys : Bool) (layout : Layout) (seen : T → Seen) (look : D → DiskSeen) (script : Script)
+    (before after : List D) (old new : Run (Program T D)) → IsInOrder tells obeys layout look script before after
+    → IsAtStart script before old → CarriesAll (Stands tells layout seen look) (Did layout seen look) old new script.nodes script.commands
+    → KeepsShown (EachShows (heeds tells obeys) seen look) old new → AreGiven seen look new.machine after
+    → IsLegalRun layout script (disk_runs obeys look before after) new.history.items
+carried-legal tells obeys layout seen look script before after old new order first carries shows given =
+    legal-run tells obeys layout seen look script script.types before after old.machine new order.its_layout order.fit order.handed_in
+    order.eight first.begins
+    (carries (opening_world layout script (disk_runs obeys look before after)) (names_of script.types)
+    (may-carry tells obeys layout seen look script before after old order first))
+    (subst (λ b. KeepsShown (EachShows b seen look) old new) (heeds-telling tells obeys order.telling) shows old.machine
+    (none-shown obeys seen look old first.history)) given
+
+-- its faults are shown over disks that need not tell as well
+pub carried-shows : {T D : Type 0} (obeys told : Bool) (seen : T → Seen) (look : D → DiskSeen) (script : Script) (before after : List D)
+    (old new : Run (Program T D)) → length before ≡ 8 → IsAtStart script before old → KeepsShown (EachShows obeys seen look) old new
+    → AreGiven seen look new.machine after → EachDisk (disk_runs told look before after) (ShowsEach new.history.items)
+carried-shows obeys told seen look script before after old new eight first shows given =
+    faults-shown obeys told seen look script.types before after old.machine new.machine new.history.items (omega (arith, eight))
+    first.begins given (shows old.machine (none-shown obeys seen look old first.history))
+
+-- 3. Want of memory ended it
+
+pub carried-part : {T D : Type 0} (tells obeys : Bool) (layout : Layout) (seen : T → Seen) (look : D → DiskSeen) (script : Script)
+    (before after : List D) (old new : Run (Program T D)) → IsInOrder tells obeys layout look script before after
+    → IsAtStart script before old
+    → CarriesPart (Stands tells layout seen look) (Did layout seen look) (Ends layout seen look) old new script.nodes script.commands
+    → KeepsShownSoFar (EachShows (heeds tells obeys) seen look) (FitsTogether seen) (KeepsDisks seen look) old new
+    → AreGiven seen look new.machine after → IsLegalSoFar layout script (disk_runs obeys look before after) new.history.items
+carried-part tells obeys layout seen look script before after old new order first carries shows given =
+    legal-part obeys layout seen look script script.types before after old.machine new order.its_layout order.fit order.handed_in
+    order.eight first.begins
+    (carries (opening_world layout script (disk_runs obeys look before after)) (names_of script.types)
+    (may-carry tells obeys layout seen look script before after old order first))
+    (subst (λ b. KeepsShownSoFar (EachShows b seen look) (FitsTogether seen) (KeepsDisks seen look) old new)
+    (heeds-telling tells obeys order.telling) shows old.machine (none-shown obeys seen look old first.history)) given
+
+pub carried-shows_so_far : {T D : Type 0} (obeys told : Bool) (seen : T → Seen) (look : D → DiskSeen) (script : Script)
+    (before after : List D) (old new : Run (Program T D)) → length before ≡ 8 → IsAtStart script before old
+    → KeepsShownSoFar (EachShows obeys seen look) (FitsTogether seen) (KeepsDisks seen look) old new
+    → AreGiven seen look new.machine after → EachDisk (disk_runs told look before after) (ShowsNoMore new.history.items)
+carried-shows_so_far obeys told seen look script before after old new eight first shows given =
+    faults-shown_so_far obeys told seen look script.types before after old.machine new.machine new.history.items (omega (arith, eight))
+    first.begins given (shows old.machine (none-shown obeys seen look old first.history))
+
+-- each disk is at its place then, so that they can be given back
+left-seated : {T D : Type 0} (seen : T → Seen) (look : D → DiskSeen) (old new : Program T D)
+    → IsLeft (FitsTogether seen) (KeepsDisks seen look) old new → IsSeated new
+left-seated seen look old new (inl left) = record { eight = left.eight; seated = left.seated }
+left-seated seen look old new (inr same) = record { eight = same.1.eight; seated = same.1.seated }
+
+pub carried-seated : {T D : Type 0} (obeys : Bool) (seen : T → Seen) (look : D → DiskSeen) (old new : Run (Program T D))
+    → old.history.items ≡ [] → KeepsShownSoFar (EachShows obeys seen look) (FitsTogether seen) (KeepsDisks seen look) old new
+    → IsSeated new.machine
+carried-seated obeys seen look old new none shows =
+    let part = shows old.machine (none-shown obeys seen look old none) in left-seated seen look part.0 new.machine part.2
+
+-- and so it is where the run came to its end
+pub whole-seated : {T D : Type 0} (seen : T → Seen) (p : Program T D) → FitsTogether seen p → IsSeated p
+whole-seated seen p whole = record { eight = whole.eight; seated = whole.seated }

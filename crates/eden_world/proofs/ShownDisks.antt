@@ -1,0 +1,200 @@
+-- What an entry shows of the disks at the eight places, and what a call that found no memory leaves of them.
+use Rattle.std.proofs.Common.{◌≡◌, ◌⊎◌, inl, inr, ◌==◌, ◌||◌, ◌≤◌, ℕ, Bool, true, false, not, List, Option, None, Some}
+use Rattle.std.proofs.Common.{refl, sym, ◌∙◌, ap, subst, arith}
+use Rattle.std.specs.Prelude.{IfSome, IsSomeAnd, IsTrue}
+use Rattle.std.specs.Option.{option_map}
+use Rattle.std.proofs.lemmas.Bool.{eqb-true, eq-eqb}
+use Rattle.std.proofs.lemmas.Bool.Decides.{nat_tests}
+use Rattle.eden_disk.specs.Calls.{Counts}
+use Rattle.passive_store.specs.Seen.{Seen, DiskSeen}
+use Rattle.journal.specs.declared.event.Entry.{Entry}
+use Rattle.journal.specs.declared.event.Event.{Event}
+use Rattle.journal.specs.declared.event.Event.TheVariants as event
+use Rattle.disk_faults.specs.Elsewhere.{shown_of}
+use Rattle.disk_faults.specs.Runs.{EntryShows}
+use Rattle.disk_faults.specs.Shows.{ShowsCounts, NoneFalls, arms, count_behind}
+use Rattle.disk_faults.proofs.Entries.{entry-here, entry-elsewhere}
+use Rattle.scheduled_node.specs.Touched.{IsNodeTurn}
+use Rattle.eden_world.specs.InHand.{place_at, seen_at, in_hand}
+use Rattle.eden_world.specs.Seated.{EachShows, HasEight, AreSeated, KeepsDisks, heeds}
+use Rattle.eden_world.specs.Steps.{ShowsIf, disk_of, turn_touches, event_touches}
+use Rattle.eden_world.specs.Told.{SameDisks}
+use Rattle.eden_world.specs.Worlds.{Seat, IsNumber}
+use Rattle.eden_world.specs.declared.World.{World as Program}
+
+-- 1. Disks that tell and obey
+
+heeds-obeys : (tells obeys : Bool) → IsTrue (heeds tells obeys) → IsTrue obeys
+heeds-obeys true obeys h = h
+heeds-obeys false obeys h = absurd (cc h)
+
+-- what was due of a disk that obeys was due of one that tells besides
+pub heeded : (tells obeys : Bool) (n : ℕ) (v : Event) (old new : DiskSeen) → ShowsCounts obeys n v old new
+    → ShowsCounts (heeds tells obeys) n v old new
+heeded tells obeys n v old new s = record {
+  faults = s.faults;
+  stops = s.stops;
+  clock = s.clock;
+  wants = s.wants;
+  due = λ both. s.due (heeds-obeys tells obeys both);
+  fault_due = λ both. s.fault_due (heeds-obeys tells obeys both);
+  stop_due = λ both. s.stop_due (heeds-obeys tells obeys both);
+}
+
+-- no count of it falls
+more-behind : (b : Bool) (n : ℕ) → n ≤ count_behind b n
+more-behind true n = grind (arith, nat_tests)
+more-behind false n = omega arith
+
+pub none-falls : (obeys : Bool) (n : ℕ) (v : Event) (old new : DiskSeen) → ShowsCounts obeys n v old new → NoneFalls old.counts new.counts
+none-falls obeys n v old new s = record {
+  clock = s.clock;
+  faults = subst (λ k. old.counts.faults ≤ k) (sym s.faults) (more-behind _ old.counts.faults);
+  stops = subst (λ k. old.counts.stops ≤ k) (sym s.stops) (more-behind _ old.counts.stops);
+  wants = s.wants;
+}
+
+none-fell : (c : Counts) → NoneFalls c c
+none-fell c = record { clock = omega arith; faults = omega arith; stops = omega arith; wants = omega arith }
+
+-- 2. The entry of a node's turn
+
+not-arming : (m n : ℕ) (v : Event) → IsNodeTurn n v → arms m v ≡ false
+not-arming m n (event.Request k a b refused) is = refl
+not-arming m n (event.Reply k a b name why values) is = refl
+not-arming m n (event.Start k u p) is = refl
+not-arming m n (event.Process u p said) is = refl
+not-arming m n (event.Activate u how p) is = refl
+not-arming m n (event.Store u clock how p) is = refl
+not-arming m n _ is = absurd is
+
+not-true : {A : Type 0} (b : Bool) → b ≡ false → IsTrue b → A
+not-true b off on = absurd (let bad : false ≡ true = sym off ∙ on in cc bad)
+
+level-clock : (before after : ℕ) (t : Bool) → (not (before == after) || t) ≡ false → after ≡ before
+level-clock before after t off = go (before == after) refl off
+  where
+    go : (b : Bool) → (before == after) ≡ b → (not b || t) ≡ false → after ≡ before
+    go true is h = sym (eqb-true before after is)
+    go false is h = absurd (cc h)
+
+-- on its node's disk
+pub turn-shows : (obeys : Bool) (n : ℕ) (v : Event) (e : Entry) (old new : DiskSeen) → 1 ≤ n → IsNodeTurn n v → ShowsCounts obeys n v old
+    new
+    → e.event ≡ v → ShowsIf (turn_touches v old.counts.clock new.counts.clock) n new.counts.clock e → EntryShows obeys n e old new
+turn-shows obeys n v e old new some turn counts is shows =
+    entry-here obeys n e old new some (subst (λ z. ShowsCounts obeys n z old new) (sym is) counts)
+    (go (turn_touches v old.counts.clock new.counts.clock) refl shows)
+    (λ arming. not-true (arms n e.event) (ap (arms n) is ∙ not-arming n n v turn) arming)
+  where
+    go : (b : Bool) → turn_touches v old.counts.clock new.counts.clock ≡ b → ShowsIf b n new.counts.clock e
+        → ((e.node ≡ n) × (e.clock ≡ new.counts.clock)) ⊎ ((e.node ≡ 0) × (new.counts.clock ≡ old.counts.clock))
+    go true at h = inl (h.0, h.1)
+    go false at h = inr (h.0, level-clock old.counts.clock new.counts.clock (event_touches v old.counts.clock new.counts.clock) at)
+
+-- whatever calls it breaks
+pub still-shown : (b : Bool) (n clock : ℕ) (e : Entry) (names : List (List ℕ)) → ShowsIf b n clock e
+    → ShowsIf b n clock (record e { broken = names })
+still-shown true n clock e names h = h
+still-shown false n clock e names h = h
+
+-- and on any other
+apart : (m n : ℕ) → (m == n) ≡ false → (n == m) ≡ false
+apart m n h = go (n == m) refl
+  where
+    go : (b : Bool) → (n == m) ≡ b → b ≡ false
+    go false is = refl
+    go true is = absurd (let bad : true ≡ false = sym (eq-eqb m n (sym (eqb-true n m is))) ∙ h in cc bad)
+
+none-there : (m k : ℕ) → 1 ≤ m → k ≡ 0 → (k == m) ≡ false
+none-there m k some none = grind (arith, nat_tests)
+
+shown-elsewhere : (m n : ℕ) (v : Event) → 1 ≤ m → (m == n) ≡ false → IsNodeTurn n v → (shown_of v == m) ≡ false
+shown-elsewhere m n (event.Request k a b refused) some other is = none-there m 0 some refl
+shown-elsewhere m n (event.Reply k a b name why values) some other is = none-there m 0 some refl
+shown-elsewhere m n (event.Start k u p) some other is = none-there m 0 some refl
+shown-elsewhere m n (event.Process u p said) some other is = none-there m 0 some refl
+shown-elsewhere m n (event.Activate u how p) some other is = ap (λ k. k == m) is ∙ apart m n other
+shown-elsewhere m n (event.Store u clock how p) some other is = ap (λ k. k == m) is ∙ apart m n other
+shown-elsewhere m n _ some other is = absurd is
+
+elsewhere-by : (b : Bool) (m n clock : ℕ) (e : Entry) → 1 ≤ m → (m == n) ≡ false → ShowsIf b n clock e → (e.node == m) ≡ false
+elsewhere-by true m n clock e some other h = ap (λ k. k == m) h.0 ∙ apart m n other
+elsewhere-by false m n clock e some other h = none-there m e.node some h.0
+
+pub turn-elsewhere : (obeys b : Bool) (m n clock : ℕ) (v : Event) (e : Entry) (d : DiskSeen) → 1 ≤ m → (m == n) ≡ false → IsNodeTurn n v
+    → e.event ≡ v → ShowsIf b n clock e → EntryShows obeys m e d d
+turn-elsewhere obeys b m n clock v e d some other turn is shows = entry-elsewhere obeys m e d
+    (ap (λ z. shown_of z == m) is ∙ shown-elsewhere m n v some other turn) (elsewhere-by b m n clock e some other shows)
+
+-- 3. All places
+
+-- of one place, by its disk before and behind
+of-place : (m : ℕ) (P : DiskSeen → DiskSeen → Type 0) (o p : Option Seat) (x y : DiskSeen) → option_map disk_of o ≡ Some x
+    → option_map disk_of p ≡ Some y → P x y → IfSome o (λ a. IsSomeAnd p (λ b. P (disk_of a) (disk_of b)))
+of-place m P None p x y was now h = tt
+of-place m P (Some a) None x y was now h = absurd (cc now)
+of-place m P (Some a) (Some b) x y was now h =
+    let old : disk_of a ≡ x = cc was in
+    let new : disk_of b ≡ y = cc now in
+    subst (λ d. P d (disk_of b)) (sym old) (subst (P x) (sym new) h)
+
+same-place : (P : DiskSeen → DiskSeen → Type 0) (o p : Option Seat) → option_map disk_of p ≡ option_map disk_of o → ((d : DiskSeen) → P d d)
+    → IfSome o (λ a. IsSomeAnd p (λ b. P (disk_of a) (disk_of b)))
+same-place P None p same each = tt
+same-place P (Some a) None same each = absurd (cc same)
+same-place P (Some a) (Some b) same each =
+    let is : disk_of b ≡ disk_of a = cc same in
+    subst (P (disk_of a)) (sym is) (each (disk_of a))
+
+if-there : (P : Seat → Type 0) (p : Option Seat) → IsSomeAnd p P → IfSome p P
+if-there P None h = tt
+if-there P (Some b) h = h
+
+each-if : (P : Seat → Seat → Type 0) (o p : Option Seat) → IfSome o (λ a. IsSomeAnd p (P a)) → IfSome o (λ a. IfSome p (P a))
+each-if P None p h = tt
+each-if P (Some a) p h = if-there (P a) p h
+
+module _ {T D : Type 0} (seen : T → Seen) (look : D → DiskSeen) (old new : Program T D) where
+  abbrev before : ℕ → Option DiskSeen
+  before m = option_map disk_of (seen_at seen look (place_at old m))
+
+  abbrev behind : ℕ → Option DiskSeen
+  behind m = option_map disk_of (seen_at seen look (place_at new m))
+
+  -- one disk was called, at most
+  pub each-shows : (obeys : Bool) (e : Entry) (n : ℕ) (x y : DiskSeen) → before n ≡ Some x → behind n ≡ Some y → EntryShows obeys n e x y
+      → ((m : ℕ) → (m == n) ≡ false → behind m ≡ before m)
+      → ((m : ℕ) (d : DiskSeen) → IsNumber m → (m == n) ≡ false → EntryShows obeys m e d d) → EachShows obeys seen look old e new
+  each-shows obeys e n x y was now here same others m number = go (m == n) refl
+    where
+      go : (b : Bool) → (m == n) ≡ b → IfSome (seen_at seen look (place_at old m)) (λ a.
+          IsSomeAnd (seen_at seen look (place_at new m)) (λ b. EntryShows obeys m e (disk_of a) (disk_of b)))
+      go true is = let at : m ≡ n = eqb-true m n is in
+          of-place m (EntryShows obeys m e) _ _ x y (ap before at ∙ was) (ap behind at ∙ now)
+          (subst (λ k. EntryShows obeys k e x y) (sym at) here)
+      go false is = same-place (EntryShows obeys m e) _ _ (same m is) (λ d. others m d number is)
+
+  pub keeps-besides : (n : ℕ) (x y : DiskSeen) → HasEight new → AreSeated new → before n ≡ Some x → behind n ≡ Some y
+      → NoneFalls x.counts y.counts → ((m : ℕ) → (m == n) ≡ false → behind m ≡ before m) → KeepsDisks seen look old new
+  keeps-besides n x y eight seated was now here same = record { eight = eight; seated = seated; counts = each }
+    where
+      each : (m : ℕ) → IsNumber m → IfSome (seen_at seen look (place_at old m)) (λ a.
+          IfSome (seen_at seen look (place_at new m)) (λ b. NoneFalls (disk_of a).counts (disk_of b).counts))
+      each m number = each-if (λ a b. NoneFalls (disk_of a).counts (disk_of b).counts) (seen_at seen look (place_at old m))
+          (seen_at seen look (place_at new m)) (go (m == n) refl)
+        where
+          go : (b : Bool) → (m == n) ≡ b → IfSome (seen_at seen look (place_at old m)) (λ a.
+              IsSomeAnd (seen_at seen look (place_at new m)) (λ b. NoneFalls (disk_of a).counts (disk_of b).counts))
+          go true is = let at : m ≡ n = eqb-true m n is in
+              of-place m (λ d e. NoneFalls d.counts e.counts) _ _ x y (ap before at ∙ was) (ap behind at ∙ now) here
+          go false is = same-place (λ d e. NoneFalls d.counts e.counts) _ _ (same m is) (λ d. none-fell d.counts)
+
+  pub keeps-level : HasEight new → AreSeated new → SameDisks (in_hand seen look old) (in_hand seen look new) → KeepsDisks seen look old new
+  keeps-level eight seated same = record {
+    eight = eight;
+    seated = seated;
+    counts = λ m number. each-if (λ a b. NoneFalls (disk_of a).counts (disk_of b).counts) (seen_at seen look (place_at old m))
+        (seen_at seen look (place_at new m))
+        (same-place (λ d e. NoneFalls d.counts e.counts) _ _ (same m) (λ d. none-fell d.counts));
+  }

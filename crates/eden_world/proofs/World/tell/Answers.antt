@@ -1,0 +1,35 @@
+use Rattle.std.proofs.Common.{sym, ◌∙◌}
+use Rattle.std.proofs.lemmas.Result.{on_ok_weaker}
+use Rattle.passive_store.specs.Seen.{disk_seen}
+use Rattle.eden_world.specs.declared.seats.Seat.TheVariants as place
+use Rattle.eden_world.proofs.Placing.{was-up, swaps-still}
+use Rattle.eden_world.proofs.TellingOne.{both-on_ok, told-whole, told-at, told-agendas}
+use Rattle.eden_world.proofs.World.tell.Goals as goal
+
+pub returns-in-Up-clause-whole : goal.returns-in-Up-clause-whole
+returns-in-Up-clause-whole g c =
+    let look = disk_seen g.St.Device.Disk.counts g.St.Device.Disk.told g.St.Device.Disk.due in
+    let swapped = swaps-still c.args.uid.node (place.Up c.in-Up.station) (place.Up c.broken-told.new.self)
+    c.args.self.now c.unseat.new.self c.set_seat.new.self (was-up _ _ (sym c.in-Up.is ∙ c.unseat.ensures.old))
+    c.unseat.ensures.takes c.set_seat.ensures.takes in
+    on_ok_weaker c.broken-told.result (told-whole g.St.Store.layout g.St.Store.seen look c.args.uid c.args.process c.in-Up.station
+    c.broken-told.new.self c.args.self.now c.set_seat.new.self swapped c.broken-told.ensures.store c.requires.whole) c.broken-told.ensures.whole
+
+pub returns-in-Up-clause-told : goal.returns-in-Up-clause-told
+returns-in-Up-clause-told g c = λ so.
+    let look = disk_seen g.St.Device.Disk.counts g.St.Device.Disk.told g.St.Device.Disk.due in
+    let swapped = swaps-still c.args.uid.node (place.Up c.in-Up.station) (place.Up c.broken-told.new.self)
+    c.args.self.now c.unseat.new.self c.set_seat.new.self (was-up _ _ (sym c.in-Up.is ∙ c.unseat.ensures.old))
+    c.unseat.ensures.takes c.set_seat.ensures.takes in
+    both-on_ok c.broken-told.result (told-at g.St.Store.layout g.St.Store.seen look c.args.uid c.args.process c.in-Up.station
+    c.broken-told.new.self c.args.self.now c.set_seat.new.self swapped c.broken-told.ensures.store) c.broken-told.ensures.whole
+    (c.broken-told.ensures.stands so)
+
+pub returns-in-Up-clause-agendas : goal.returns-in-Up-clause-agendas
+returns-in-Up-clause-agendas g c = λ so.
+    let look = disk_seen g.St.Device.Disk.counts g.St.Device.Disk.told g.St.Device.Disk.due in
+    let swapped = swaps-still c.args.uid.node (place.Up c.in-Up.station) (place.Up c.broken-told.new.self)
+    c.args.self.now c.unseat.new.self c.set_seat.new.self (was-up _ _ (sym c.in-Up.is ∙ c.unseat.ensures.old))
+    c.unseat.ensures.takes c.set_seat.ensures.takes in
+    on_ok_weaker c.broken-told.result (told-agendas g.St.Store.layout g.St.Store.seen look c.args.uid c.args.process c.in-Up.station
+    c.broken-told.new.self c.args.self.now c.set_seat.new.self swapped c.broken-told.ensures.store) (c.broken-told.ensures.told so)

@@ -1,0 +1,40 @@
+use Rattle.std.proofs.Common.{refl}
+use Rattle.passive_store.specs.Seen.{disk_seen}
+use Rattle.checkpoint.proofs.Activations.{any-err}
+use Rattle.eden_world.specs.Seated.{heeds}
+use Rattle.eden_world.proofs.CarriedOut.{walk-looked, void-walked, ends-still}
+use Rattle.eden_world.proofs.Untouched.{still-keeps, still-shows}
+use Rattle.eden_world.proofs.World.walk.Goals as goal
+
+pub returns-in_err-operation-in-Some-clause-starved : goal.returns-in_err-operation-in-Some-clause-starved
+returns-in_err-operation-in-Some-clause-starved g c = any-err c.from_residual.result _ (ends-still g.St.Device.Disk.tells g.St.Store.layout g.St.Store.seen
+    (disk_seen g.St.Device.Disk.counts g.St.Device.Disk.told g.St.Device.Disk.due) c.args.self.now c.args.self.now (λ n. refl))
+
+pub returns-in_err-name-in-None-clause-starved : goal.returns-in_err-name-in-None-clause-starved
+returns-in_err-name-in-None-clause-starved g c = any-err c.from_residual-in_err-name-in-None.result _ (ends-still g.St.Device.Disk.tells g.St.Store.layout g.St.Store.seen
+    (disk_seen g.St.Device.Disk.counts g.St.Device.Disk.told g.St.Device.Disk.due) c.args.self.now c.args.self.now (λ n. refl))
+
+pub returns-in_ok-operation-in-Some-clause-looked : goal.returns-in_ok-operation-in-Some-clause-looked
+returns-in_ok-operation-in-Some-clause-looked g c = walk-looked g.St.Device.Disk.tells g.St.Store.layout g.St.Store.seen
+    (disk_seen g.St.Device.Disk.counts g.St.Device.Disk.told g.St.Device.Disk.due) c.args.self.now c.ask.new.self c.args.name.now c.args.component.now
+    c.in_ok-operation-in-Some.operation c.args.directory c.in-Some.cap c.in_ok-operation-in-Some.args c.ask.result c.ask.ensures.walked
+    c.in-Some.is c.in_ok-operation-in-Some.ensures.0 c.in_ok-operation-in-Some.ensures.1
+
+pub returns-in_ok-name-in-None-clause-looked : goal.returns-in_ok-name-in-None-clause-looked
+returns-in_ok-name-in-None-clause-looked g c = void-walked g.St.Device.Disk.tells g.St.Store.layout g.St.Store.seen
+    (disk_seen g.St.Device.Disk.counts g.St.Device.Disk.told g.St.Device.Disk.due) c.args.self.now c.args.name.now c.in_ok-name-in-None.name c.args.component.now
+    c.args.directory c.entry_of_none.result c.in-None.is c.in_ok-name-in-None.ensures c.entry_of_none.ensures.event
+    c.entry_of_none.ensures.none
+
+pub returns-in_err-operation-in-Some-clause-leaves : goal.returns-in_err-operation-in-Some-clause-leaves
+returns-in_err-operation-in-Some-clause-leaves g c = any-err c.from_residual.result _ (still-keeps g.St.Store.seen
+    (disk_seen g.St.Device.Disk.counts g.St.Device.Disk.told g.St.Device.Disk.due) c.args.self.now c.args.self.now c.requires refl refl)
+
+pub returns-in_err-name-in-None-clause-leaves : goal.returns-in_err-name-in-None-clause-leaves
+returns-in_err-name-in-None-clause-leaves g c = any-err c.from_residual-in_err-name-in-None.result _ (still-keeps g.St.Store.seen
+    (disk_seen g.St.Device.Disk.counts g.St.Device.Disk.told g.St.Device.Disk.due) c.args.self.now c.args.self.now c.requires refl refl)
+
+pub returns-in_ok-name-in-None-clause-shows : goal.returns-in_ok-name-in-None-clause-shows
+returns-in_ok-name-in-None-clause-shows g c = still-shows (heeds g.St.Device.Disk.tells g.St.Device.Disk.obeys) g.St.Store.seen
+    (disk_seen g.St.Device.Disk.counts g.St.Device.Disk.told g.St.Device.Disk.due) c.args.self.now c.args.self.now
+    c.entry_of_none.result _ refl c.entry_of_none.ensures.event refl c.entry_of_none.ensures.none

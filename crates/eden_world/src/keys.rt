@@ -1,0 +1,204 @@
+//! Which turn comes next.
+ghost use Rattle.std.specs.Prelude.{◌≡◌, ◌++◌, ◌≤◌, ◌∷◌, [], ℕ, false, IfOk, OnOk, IsTrue, None, Some};
+ghost use Rattle.std.specs.List.{find};
+ghost use Rattle.passive_store.specs.Seen.{disk_seen};
+ghost use Rattle.journal.specs.World.{World as Model};
+ghost use Rattle.journal.specs.Enabled as journal;
+ghost use Rattle.journal.specs.declared.event.Key.{Key as AnyKey};
+ghost use Rattle.runs.specs.Reached.{IsReached};
+ghost use Rattle.eden_world.specs.InHand.{Stands};
+ghost use Rattle.eden_world.specs.Listed.{mail_keys, keys_at, keys_from};
+
+use crate::World;
+use capability::Uid;
+use journal::Key;
+use passive_store::Store;
+use std::alloc::{AllocError, Global};
+
+// The number of stations: the shell and the nodes.
+const STATIONS: u8 = 9;
+
+// The uid in the keys of turns that are no Eject's.
+const NO_UID: Uid = Uid {
+    node: 0,
+    epoch: 0,
+    serial: 0,
+};
+
+// The key of a delivery.
+fn delivery(to: u8, from: u8) -> Key
+    ensures { result ≡ journal.delivery to from }
+{
+    Key {
+        station: to,
+        kind: 1,
+        sender: from,
+        uid: NO_UID,
+        process: 0,
+    }
+}
+
+// Whether a key comes past the last one.
+fn is_past(last: Option<Key>, key: Key) -> bool
+    ensures { result ≡ journal.is_past last key }
+{
+    match last {
+        Some(last) => last < key,
+        None => true,
+    }
+}
+
+// Whether the last key comes at a later station, so that no key of this one is past it.
+fn is_left(last: Option<Key>, number: u8) -> bool
+    ensures { IsTrue result → (key : AnyKey) → key.station ≡ number → journal.is_past last key ≡ false }
+{
+    match last {
+        Some(last) => number < last.station,
+        None => false,
+    }
+}
+
+// Whether the last key comes behind each delivery at a station.
+fn is_behind_mail(last: Option<Key>, to: u8) -> bool
+    ensures { IsTrue result → (from : ℕ) → journal.is_past last (journal.delivery to from) ≡ false }
+{
+    match last {
+        Some(last) => last.station == to && 1 < last.kind,
+        None => false,
+    }
+}
+
+// The key at this place, counted round.
+fn counted_round(keys: &[Key], i: u32) -> Option<Key>
+    ensures { result ≡ journal.item i keys.now }
+{
+    if keys.is_empty() {
+        return None;
+    }
+    keys.get(i as usize % keys.len()).copied()
+}
+
+impl<St: Store + Drop> World<St>
+where
+    St::Device: Drop,
+{
+    // The first delivery at a station past the last key.
+    fn next_delivery(&self, to: u8, last: Option<Key>) -> Option<Key>
+        requires { to ≤ 8 }
+        ensures { result ≡ find (journal.is_past last) (mail_keys self.now.calls to) }
+    {
+        if is_behind_mail(last, to) {
+            return None;
+        }
+        for from in 0..STATIONS {
+            let key = delivery(to, from);
+            if self.calls.waiting(from, to) && is_past(last, key) {
+                return Some(key);
+            }
+        }
+        None
+    }
+
+    // The first key of a station past the last one.
+    fn next_at(&self, number: u8, last: Option<Key>) -> Option<Key>
+        requires { number ≤ 8 }
+        ensures { (more : ℕ) (w : Model) → IsReached w
+            → Stands St.Device.tells St.layout St.seen (disk_seen St.Device.counts St.Device.told St.Device.due) self.now more w
+            → result ≡ find (journal.is_past last) (keys_at w number) }
+    {
+        if is_left(last, number) {
+            return None;
+        }
+        match self.next_delivery(number, last) {
+            Some(key) => Some(key),
+            None => self.station(number)?.next(last),
+        }
+    }
+
+    // The first key past the last one.
+    fn next(&self, last: Option<Key>) -> Option<Key>
+        ensures { (more : ℕ) (w : Model) → IsReached w
+            → Stands St.Device.tells St.layout St.seen (disk_seen St.Device.counts St.Device.told St.Device.due) self.now more w
+            → result ≡ find (journal.is_past last) (journal.enabled w) }
+    {
+        for number in 0..STATIONS {
+            if let Some(key) = self.next_at(number, last) {
+                return Some(key);
+            }
+        }
+        None
+    }
+
+    /// The least enabled key past the last one, or the least of all.
+    pub fn key_following(&self, last: Option<Key>) -> Option<Key>
+        ensures { (more : ℕ) (w : Model) → IsReached w
+            → Stands St.Device.tells St.layout St.seen (disk_seen St.Device.counts St.Device.told St.Device.due) self.now more w
+            → result ≡ journal.following last (journal.enabled w) }
+    {
+        match self.next(last) {
+            Some(key) => Some(key),
+            None => self.next(None),
+        }
+    }
+
+    // Appends the delivery from one station to another, if there is one.
+    fn list_delivery(&self, to: u8, from: u8, keys: &mut Vec<Key>) -> Result<(), AllocError>
+        requires to { to ≤ 8 }
+        requires from { from ≤ 8 }
+        ensures { OnOk result (keys.new.items ≡ keys.old.items ++ keys_from self.now.calls to (from ∷ [])) }
+    {
+        if !self.calls.waiting(from, to) {
+            return Ok(());
+        }
+        keys.push(delivery(to, from))?;
+        Ok(())
+    }
+
+    // Appends the deliveries at a station, in their order.
+    fn list_deliveries(&self, to: u8, keys: &mut Vec<Key>) -> Result<(), AllocError>
+        requires { to ≤ 8 }
+        ensures { OnOk result (keys.new.items ≡ keys.old.items ++ mail_keys self.now.calls to) }
+    {
+        for from in 0..STATIONS {
+            self.list_delivery(to, from, keys)?;
+        }
+        Ok(())
+    }
+
+    // Appends the keys of a station, in their order.
+    fn list_at(&self, number: u8, keys: &mut Vec<Key>) -> Result<(), AllocError>
+        requires { number ≤ 8 }
+        ensures { OnOk result ((more : ℕ) (w : Model) → IsReached w
+            → Stands St.Device.tells St.layout St.seen (disk_seen St.Device.counts St.Device.told St.Device.due) self.now more w
+            → keys.new.items ≡ keys.old.items ++ keys_at w number) }
+    {
+        self.list_deliveries(number, keys)?;
+        match self.station(number) {
+            Some(station) => station.list(keys),
+            None => Ok(()),
+        }
+    }
+
+    // All enabled keys, in their order.
+    fn list(&self, alloc: Global) -> Result<Vec<Key>, AllocError>
+        ensures { IfOk result (λ keys. (more : ℕ) (w : Model) → IsReached w
+            → Stands St.Device.tells St.layout St.seen (disk_seen St.Device.counts St.Device.told St.Device.due) self.now more w
+            → keys.items ≡ journal.enabled w) }
+    {
+        let mut keys = Vec::new(alloc);
+        for number in 0..STATIONS {
+            self.list_at(number, &mut keys)?;
+        }
+        Ok(keys)
+    }
+
+    /// The enabled key at this place, counted round.
+    pub fn key_at(&self, alloc: Global, i: u32) -> Result<Option<Key>, AllocError>
+        ensures { IfOk result (λ key. (more : ℕ) (w : Model) → IsReached w
+            → Stands St.Device.tells St.layout St.seen (disk_seen St.Device.counts St.Device.told St.Device.due) self.now more w
+            → key ≡ journal.item i (journal.enabled w)) }
+    {
+        let keys = self.list(alloc)?;
+        Ok(counted_round(&keys, i))
+    }
+}
