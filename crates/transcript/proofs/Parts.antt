@@ -1,8 +1,8 @@
--- A text that is written in parts.
-use Rattle.std.proofs.Common.{◌≡◌, ◌≤◌, ◌<◌, ℕ, zero, suc, ◌+◌, List, [], ◌∷◌, ◌++◌, length, take, drop, get_or, Option, sym, ◌∙◌, ap}
+-- A text that is gathered, and written in parts.
+use Rattle.std.proofs.Common.{◌≡◌, ◌≤◌, ◌<◌, ℕ, zero, suc, ◌+◌, List, [], ◌∷◌, ◌++◌, length, take, drop, get_or, Option, refl, sym, ◌∙◌, ap}
 use Rattle.std.proofs.Common.{subst, arith, append_assoc, append-nil, length-append, add-one}
 use Rattle.std.proofs.Math.Seq.{take-append_seam, take-append-add}
-use Rattle.std.proofs.lemmas.List.{take-append-le}
+use Rattle.std.proofs.lemmas.List.{take-append-le, drop_all}
 use Rattle.std.specs.Prelude.{Result, Ok, Err, OnErr}
 use Rattle.std.specs.List.{flat_map}
 use Rattle.std.specs.Io.KnownBytes.{Appends}
@@ -31,13 +31,12 @@ part-so-far old new before after h = record {
 
 -- the text of a list, cut at an item, and up to one more
 module _ {X : Type 0} (f : X → List ℕ) where
-  text-cut : (h : List X) (i : ℕ) (e : X) → i < length h → e ≡ get_or h i e
-      → flat_map f h ≡ flat_map f (take i h) ++ (f e ++ flat_map f (drop (suc i) h))
-  text-cut [] i e lt is = absurd (omega (arith, lt))
-  text-cut (x ∷ h) zero e lt is = ap (λ y. f y ++ flat_map f h) (sym is)
-  text-cut (x ∷ h) (suc i) e lt is =
-      ap (λ l. f x ++ l) (text-cut h i e (omega (arith, lt)) is)
-      ∙ sym (append_assoc (f x) (flat_map f (take i h)) (f e ++ flat_map f (drop (suc i) h)))
+  text-cut : (h : List X) (i : ℕ) → flat_map f h ≡ flat_map f (take i h) ++ flat_map f (drop i h)
+  text-cut [] zero = refl
+  text-cut [] (suc i) = refl
+  text-cut (x ∷ h) zero = refl
+  text-cut (x ∷ h) (suc i) =
+      ap (λ l. f x ++ l) (text-cut h i) ∙ sym (append_assoc (f x) (flat_map f (take i h)) (flat_map f (drop i h)))
 
   text-more : (h : List X) (i : ℕ) (e : X) → i < length h → e ≡ get_or h i e
       → flat_map f (take (suc i) h) ≡ flat_map f (take i h) ++ f e
@@ -46,36 +45,52 @@ module _ {X : Type 0} (f : X → List ℕ) where
   text-more (x ∷ h) (suc i) e lt is =
       ap (λ l. f x ++ l) (text-more h i e (omega (arith, lt)) is) ∙ sym (append_assoc (f x) (flat_map f (take i h)) (f e))
 
--- the first i items are written, and no count fell
-pub record IsWriting {X : Type 0} (f : X → List ℕ) (h : List X) (old now : Option (List ℕ)) (faults faults_now i : ℕ) : Type 0 where
-  pub so_far : Appends old now (flat_map f (take i h))
+-- the text of the first i items is written but for its end, which is gathered, and no count fell
+pub record IsWriting {X : Type 0} (f : X → List ℕ) (h : List X) (old now : Option (List ℕ)) (faults faults_now i : ℕ)
+    (gathered : List ℕ) : Type 0 where
+  pub done : List ℕ
+  pub so_far : Appends old now done
+  pub parts : flat_map f (take i h) ≡ done ++ gathered
   pub later : faults ≤ faults_now
 
-module _ {X : Type 0} (f : X → List ℕ) (h : List X) (old now : Option (List ℕ)) (faults faults_now i : ℕ) where
-  -- an item was written
-  pub writing-on : (new : Option (List ℕ)) (faults_new : ℕ) (e : X) → IsWriting f h old now faults faults_now i
-      → i < length h → e ≡ get_or h i e → Appends now new (f e) → faults_now ≤ faults_new
-      → IsWriting f h old new faults faults_new (i + 1)
-  writing-on new faults_new e w lt is more le =
-      let both = Appends-append old now new (flat_map f (take i h)) (f e) w.so_far more in
-      record {
-        so_far = rw add-one (subst (Appends old new) (sym (text-more f h i e lt is)) both);
-        later = omega (arith, le, w.later);
-      }
+module _ {X : Type 0} (f : X → List ℕ) (h : List X) (old now : Option (List ℕ)) (faults faults_now i : ℕ) (gathered : List ℕ)
+    (w : IsWriting f h old now faults faults_now i gathered) where
+  -- the whole, with what is gathered as one of its pieces
+  whole : flat_map f h ≡ w.done ++ (gathered ++ flat_map f (drop i h))
+  whole = text-cut f h i ∙ ap (λ l. l ++ flat_map f (drop i h)) w.parts ∙ append_assoc w.done gathered (flat_map f (drop i h))
 
-  -- it was written in part
-  pub writing-failed : (new : Option (List ℕ)) (e : X) → IsWriting f h old now faults faults_now i
-      → i < length h → e ≡ get_or h i e → AppendsPart now new (f e) → AppendsPart old new (flat_map f h)
-  writing-failed new e w lt is part =
-      subst (AppendsPart old new) (sym (text-cut f h i e lt is))
-      (part-more old now new (flat_map f (take i h)) (f e) (flat_map f (drop (suc i) h)) w.so_far part)
+  -- the text of an item is gathered
+  pub gathering : (e : X) → i < length h → e ≡ get_or h i e → IsWriting f h old now faults faults_now (i + 1) (gathered ++ f e)
+  gathering e lt is = record {
+    done = w.done;
+    so_far = w.so_far;
+    parts = rw add-one (text-more f h i e lt is ∙ ap (λ l. l ++ f e) w.parts ∙ append_assoc w.done gathered (f e));
+    later = w.later;
+  }
 
-  -- nothing of it was written
-  pub writing-stopped : (e : X) → IsWriting f h old now faults faults_now i
-      → i < length h → e ≡ get_or h i e → AppendsPart old now (flat_map f h)
-  writing-stopped e w lt is =
-      subst (AppendsPart old now) (sym (text-cut f h i e lt is))
-      (part-so-far old now (flat_map f (take i h)) (f e ++ flat_map f (drop (suc i) h)) w.so_far)
+  -- what was gathered is written
+  pub writing-on : (new : Option (List ℕ)) (faults_new : ℕ) → Appends now new gathered → faults_now ≤ faults_new
+      → IsWriting f h old new faults faults_new i []
+  writing-on new faults_new more le = record {
+    done = w.done ++ gathered;
+    so_far = Appends-append old now new w.done gathered w.so_far more;
+    parts = w.parts ∙ sym (append-nil (w.done ++ gathered));
+    later = omega (arith, le, w.later);
+  }
+
+  -- it is written, and it was the last
+  pub writing-ends : (new : Option (List ℕ)) → length h ≤ i → Appends now new gathered → Appends old new (flat_map f h)
+  writing-ends new last more = subst (Appends old new) (sym (whole ∙ ap (λ l. w.done ++ (gathered ++ flat_map f l)) (drop_all i h last)
+      ∙ ap (λ l. w.done ++ l) (append-nil gathered))) (Appends-append old now new w.done gathered w.so_far more)
+
+  -- it is written in part
+  pub writing-failed : (new : Option (List ℕ)) → AppendsPart now new gathered → AppendsPart old new (flat_map f h)
+  writing-failed new part =
+      subst (AppendsPart old new) (sym whole) (part-more old now new w.done gathered (flat_map f (drop i h)) w.so_far part)
+
+  -- nothing of it is written
+  pub writing-stopped : AppendsPart old now (flat_map f h)
+  writing-stopped = subst (AppendsPart old now) (sym whole) (part-so-far old now w.done (gathered ++ flat_map f (drop i h)) w.so_far)
 
 pub on_err : {T E P : Type 0} (r : Result T E) → P → OnErr r P
 on_err (Ok x) h = tt

@@ -1,4 +1,4 @@
-//! The text of a history, written to a sink entry by entry.
+//! The text of a history, written to a sink some entries at a time.
 #![tactic(auto)]
 
 #[cfg(test)]
@@ -16,13 +16,16 @@ use journal::{Entry, History, Mode, line, summary};
 use std::alloc::{AllocError, Global};
 use thiserror::Error;
 
+// So many bytes of lines are gathered before they are written.
+const GATHERED: usize = 65_536;
+
 /// Why a history was not written whole.
 #[derive(Clone, Copy, Debug, PartialEq, Eq, Error)]
 pub enum WriteRefusal {
     /// A write failed.
     #[error("a write failed")]
     Failed,
-    #[error("there is no memory for the lines of an entry")]
+    #[error("there is no memory for the lines")]
     OutOfMemory,
 }
 
@@ -60,11 +63,13 @@ fn write_entries<K: Sink>(
 {
     let mut lines = Vec::new(alloc);
     for entry in entries {
-        lines.clear();
         line(alloc, mode, entry, &mut lines)?;
-        write_all(sink, &lines)?;
+        if GATHERED <= lines.len() {
+            write_all(sink, &lines)?;
+            lines.clear();
+        }
     }
-    Ok(())
+    Ok(write_all(sink, &lines)?)
 }
 
 // The one line of the mode Summary.
@@ -86,7 +91,7 @@ fn write_summary<K: Sink>(
 
 /// Writes the text of a history: the lines of each entry, in order, or in the mode Summary its one line.
 ///
-/// It has room for the lines of one entry at a time. Where it is refused, a part of the text, from the front, was written.
+/// It gathers the lines of some entries at a time. Where it is refused, a part of the text, from the front, was written.
 pub fn write_history<K: Sink>(
     alloc: Global,
     mode: Mode,

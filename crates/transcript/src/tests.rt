@@ -85,21 +85,42 @@ fn a_history_is_written_in_each_mode(rt: HostRuntime) -> Result<(), Fail> {
 fn a_front_is_written_where_a_write_fails(rt: HostRuntime) -> Result<(), Fail> {
     let alloc = rt.alloc();
     let history = history(alloc)?;
-    // The room, the call that fails (0 for none), and how many bytes are written.
+    // The most bytes of a call, the room, the call that fails (0 for none), and how many bytes are written.
     let rows = [
-        (Mode::Plain, 1000, 1, PLAIN, 0),
-        (Mode::Trace, 1000, 3, TRACE, 29),
-        (Mode::Plain, 25, 0, PLAIN, 25),
-        (Mode::Full, 40, 0, FULL, 40),
-        (Mode::Summary, 37, 0, SUMMARY, 37),
+        (Mode::Plain, 100, 1000, 1, PLAIN, 0),
+        (Mode::Trace, 10, 1000, 3, TRACE, 20),
+        (Mode::Plain, 100, 25, 0, PLAIN, 25),
+        (Mode::Full, 100, 40, 0, FULL, 40),
+        (Mode::Summary, 100, 37, 0, SUMMARY, 37),
     ];
-    for (mode, room, failing, text, count) in rows {
-        let mut sink = MemSink::new(alloc, 100, room, vec![in alloc; failing]?)?;
+    for (mode, piece, room, failing, text, count) in rows {
+        let mut sink = MemSink::new(alloc, piece, room, vec![in alloc; failing]?)?;
         let written = write_history(alloc, mode, &history, &mut sink);
         assert_eq!(rt; written, Err(WriteRefusal::Failed));
         assert_eq!(rt; sink.written().len(), count);
         assert!(rt; text.starts_with(sink.written()));
         assert_eq!(rt; sink.faults(), 1);
+    }
+    Ok(())
+}
+
+#[test]
+fn a_long_text_is_written_in_pieces(rt: HostRuntime) -> Result<(), Fail> {
+    let alloc = rt.alloc();
+    let mut entries = Vec::new(alloc);
+    for _ in 0..4000 {
+        entries.push(entry(alloc, Event::Crash { node: 1 }, 1))?;
+    }
+    let history = History { entries };
+    // The calls that fail, what the call answers, and how many bytes are written: 18 for each entry.
+    let rows = [
+        (vec![in alloc]?, Ok(()), 72_000),
+        (vec![in alloc; 2]?, Err(WriteRefusal::Failed), 65_538),
+    ];
+    for (failing, answer, count) in rows {
+        let mut sink = MemSink::new(alloc, 100_000, 100_000, failing)?;
+        assert_eq!(rt; write_history(alloc, Mode::Plain, &history, &mut sink), answer);
+        assert_eq!(rt; sink.written().len(), count);
     }
     Ok(())
 }

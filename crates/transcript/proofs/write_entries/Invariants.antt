@@ -7,3 +7,4 @@ invariant-loop-entry g l =
     let written = g.K.Sink.written in
     let faults = g.K.Sink.faults in
     IsWriting (entry_text l.mode) l.entries (written l.fn.sink) (written l.sink) (faults l.fn.sink) (faults l.sink) l.entry-index
+    l.lines.items
