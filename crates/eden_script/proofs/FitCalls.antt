@@ -76,7 +76,7 @@ component_more : (c : Bool) (b : ℕ) (cs : List (List ℕ)) (n : ℕ) → lengt
 component_more true b cs n h = omega (arith, h)
 component_more false b cs n h = omega (arith, joined_short b cs n h)
 
-few_components : (path : List ℕ) → length (components path) ≤ suc (length path)
+pub few_components : (path : List ℕ) → length (components path) ≤ suc (length path)
 few_components [] = omega arith
 few_components (b ∷ path) = component_more (b == 47) b (components path) (length path) (few_components path)
 
@@ -89,10 +89,10 @@ quoted_grows [] = omega arith
 quoted_grows (b ∷ t) = quoted_more (b == 34 || b == 92) b (quoted t) (length t) (quoted_grows t)
 
 -- what stands behind is no longer
-behind_short : (P Q : List ℕ → Type 0) (bytes : List ℕ) (h : (P ⋅ Q) bytes) → length h.1 ≤ length bytes
+pub behind_short : (P Q : List ℕ → Type 0) (bytes : List ℕ) (h : (P ⋅ Q) bytes) → length h.1 ≤ length bytes
 behind_short P Q bytes h = omega (arith, ap (λ (l : List ℕ). length l) h.4, length-append h.0 h.1)
 
-quoted_long : (t bytes : List ℕ) → Quoted t bytes → suc (length t) ≤ length bytes
+pub quoted_long : (t bytes : List ℕ) → Quoted t bytes → suc (length t) ≤ length bytes
 quoted_long t bytes h = omega (arith, ap (λ (l : List ℕ). length l) h.0, length-append (quoted t) (34 ∷ []), quoted_grows t)
 
 call_long : (rest bytes : List ℕ) → bytes ≡ codes "call " ++ rest → 1 ≤ length bytes
@@ -120,7 +120,7 @@ calls_short (command.Fail n k) bytes h = omega arith
 calls_short (command.Stop n k how) bytes h = omega arith
 calls_short command.End bytes h = omega arith
 
--- ## The calls of all commands
+-- ## All commands
 
 abbrev is_command : Line → Bool
 is_command (does o) = true
@@ -129,55 +129,61 @@ is_command _ = false
 declares_nothing : (l : Line) (o : WrittenCommand) → is_command l ≡ false → l ≡ does o → ⊥
 declares_nothing l o e f = both (sym (ap is_command f) ∙ e)
 
-said_room : (seen : Seen) (p : Part) (l : Line) → IsSaid seen p l → (c : Command) → l ≡ does (written_command c) → calls_of c ≤ room p
-said_room seen (line bytes) l h c e = calls_short c bytes (subst (λ (k : Line). LineTells seen bytes k) e h.tells).0.0
-said_room seen (declaration text) l h c e = absurd (declares_nothing l (written_command c) (ap is_command h.tells.1) e)
-said_room seen (unclosed lines) l h c e = absurd (declares_nothing l (written_command c) (ap is_command h.tells) e)
+-- A weight of commands that is at most the length of the line of each: the calls, for one.
+module _ (weight : Command → ℕ) (short : (c : Command) (bytes : List ℕ) → grammar.Command (written_command c) bytes → weight c ≤ length bytes)
+  where
+    said_room : (seen : Seen) (p : Part) (l : Line) → IsSaid seen p l → (c : Command) → l ≡ does (written_command c) → weight c ≤ room p
+    said_room seen (line bytes) l h c e = short c bytes (subst (λ (k : Line). LineTells seen bytes k) e h.tells).0.0
+    said_room seen (declaration text) l h c e = absurd (declares_nothing l (written_command c) (ap is_command h.tells.1) e)
+    said_room seen (unclosed lines) l h c e = absurd (declares_nothing l (written_command c) (ap is_command h.tells) e)
 
--- of all commands behind some parts
-abbrev FewTo : List Part → Seen → Type 0
-FewTo ps end = (seen : Seen) (cs : List Command) → Says seen ps (map written_command cs) end → sum_by calls_of cs ≤ rooms ps
+    -- of all commands behind some parts
+    abbrev FewTo : List Part → Seen → Type 0
+    FewTo ps end = (seen : Seen) (cs : List Command) → Says seen ps (map written_command cs) end → sum_by weight cs ≤ rooms ps
 
-does_few : (ps : List Part) (end seen : Seen) (n : ℕ) → FewTo ps end → (o : WrittenCommand) (rest : List WrittenCommand)
-    → ((c : Command) → o ≡ written_command c → calls_of c ≤ n) → Says (after seen (does o)) ps rest end
-    → (cs : List Command) → map written_command cs ≡ o ∷ rest → sum_by calls_of cs ≤ n + rooms ps
-does_few ps end seen n few o rest room more [] e = absurd (none_here o rest e)
-does_few ps end seen n few o rest room more (c ∷ cs) e =
-    let this : o ≡ written_command c = sym (ap (head_or o) e) in
-    let those : rest ≡ map written_command cs = sym (ap tail_of e) in
-    omega (
-      arith,
-      sum_by-cons calls_of c cs,
-      room c this,
-      few (after seen (does o)) cs (subst (λ (os : List WrittenCommand). Says (after seen (does o)) ps os end) those more),
-    )
+    does_few : (ps : List Part) (end seen : Seen) (n : ℕ) → FewTo ps end → (o : WrittenCommand) (rest : List WrittenCommand)
+        → ((c : Command) → o ≡ written_command c → weight c ≤ n) → Says (after seen (does o)) ps rest end
+        → (cs : List Command) → map written_command cs ≡ o ∷ rest → sum_by weight cs ≤ n + rooms ps
+    does_few ps end seen n few o rest room more [] e = absurd (none_here o rest e)
+    does_few ps end seen n few o rest room more (c ∷ cs) e =
+        let this : o ≡ written_command c = sym (ap (head_or o) e) in
+        let those : rest ≡ map written_command cs = sym (ap tail_of e) in
+        omega (
+          arith,
+          sum_by-cons weight c cs,
+          room c this,
+          few (after seen (does o)) cs (subst (λ (os : List WrittenCommand). Says (after seen (does o)) ps os end) those more),
+        )
 
-line_few : (ps : List Part) (end seen : Seen) (n : ℕ) → FewTo ps end → (l : Line)
-    → ((c : Command) → l ≡ does (written_command c) → calls_of c ≤ n)
-    → (rest : List WrittenCommand) → Says (after seen l) ps rest end
-    → (cs : List Command) → map written_command cs ≡ commands_of l ++ rest → sum_by calls_of cs ≤ n + rooms ps
-line_few ps end seen n few idle room rest more cs e =
-    omega (arith, few seen cs (subst (λ (os : List WrittenCommand). Says seen ps os end) (sym e) more))
-line_few ps end seen n few (nodes m) room rest more cs e =
-    omega (arith, few (after seen (nodes m)) cs (subst (λ (os : List WrittenCommand). Says (after seen (nodes m)) ps os end) (sym e) more))
-line_few ps end seen n few (does o) room rest more cs e =
-    does_few ps end seen n few o rest (λ c f. room c (ap (λ (q : WrittenCommand). does q) f)) more cs e
-line_few ps end seen n few (declares u) room rest more cs e =
-    omega
-    (arith, few (after seen (declares u)) cs (subst (λ (os : List WrittenCommand). Says (after seen (declares u)) ps os end) (sym e) more))
-line_few ps end seen n few unended room rest more cs e =
-    omega (arith, few (after seen unended) cs (subst (λ (os : List WrittenCommand). Says (after seen unended) ps os end) (sym e) more))
+    line_few : (ps : List Part) (end seen : Seen) (n : ℕ) → FewTo ps end → (l : Line)
+        → ((c : Command) → l ≡ does (written_command c) → weight c ≤ n)
+        → (rest : List WrittenCommand) → Says (after seen l) ps rest end
+        → (cs : List Command) → map written_command cs ≡ commands_of l ++ rest → sum_by weight cs ≤ n + rooms ps
+    line_few ps end seen n few idle room rest more cs e =
+        omega (arith, few seen cs (subst (λ (os : List WrittenCommand). Says seen ps os end) (sym e) more))
+    line_few ps end seen n few (nodes m) room rest more cs e =
+        omega (arith, few (after seen (nodes m)) cs (subst (λ (os : List WrittenCommand). Says (after seen (nodes m)) ps os end) (sym e) more))
+    line_few ps end seen n few (does o) room rest more cs e =
+        does_few ps end seen n few o rest (λ c f. room c (ap (λ (q : WrittenCommand). does q) f)) more cs e
+    line_few ps end seen n few (declares u) room rest more cs e =
+        omega
+        (arith, few (after seen (declares u)) cs (subst (λ (os : List WrittenCommand). Says (after seen (declares u)) ps os end) (sym e) more))
+    line_few ps end seen n few unended room rest more cs e =
+        omega (arith, few (after seen unended) cs (subst (λ (os : List WrittenCommand). Says (after seen unended) ps os end) (sym e) more))
 
-no_calls : (cs : List Command) → map written_command cs ≡ [] → sum_by calls_of cs ≤ 0
-no_calls [] e = omega arith
-no_calls (c ∷ cs) e = absurd (none_here (written_command c) (map written_command cs) (sym e))
+    no_calls : (cs : List Command) → map written_command cs ≡ [] → sum_by weight cs ≤ 0
+    no_calls [] e = omega arith
+    no_calls (c ∷ cs) e = absurd (none_here (written_command c) (map written_command cs) (sym e))
 
-few_behind : (ps : List Part) (end : Seen) → FewTo ps end
-few_behind [] end seen cs says = no_calls cs says.0
-few_behind (p ∷ ps) end seen cs says =
-    line_few ps end seen (room p) (few_behind ps end) says.0 (said_room seen p says.0 says.2) says.1 says.4 cs says.3
+    few_behind : (ps : List Part) (end : Seen) → FewTo ps end
+    few_behind [] end seen cs says = no_calls cs says.0
+    few_behind (p ∷ ps) end seen cs says =
+        line_few ps end seen (room p) (few_behind ps end) says.0 (said_room seen p says.0 says.2) says.1 says.4 cs says.3
+
+    pub few_of : (bytes : List ℕ) (script : Script) → IsScript bytes script → sum_by weight script.commands ≤ length bytes
+    few_of bytes script s =
+        omega
+        (arith, few_behind (parts_of (lines_of bytes)) s.end at_first script.commands s.says, parts_room (lines_of bytes), lines_room bytes)
 
 pub few_calls : (bytes : List ℕ) (script : Script) → IsScript bytes script → sum_by calls_of script.commands ≤ length bytes
-few_calls bytes script s =
-    omega
-    (arith, few_behind (parts_of (lines_of bytes)) s.end at_first script.commands s.says, parts_room (lines_of bytes), lines_room bytes)
+few_calls = few_of calls_of calls_short

@@ -1,16 +1,11 @@
 -- Names that are known and names that are new, whatever the order in which they are kept.
 use Rattle.std.proofs.Common.{◌≡◌, ◌∙◌, ap, sym, refl, subst, ℕ, ◌≤◌, Bool, true, false, List, [], ◌∷◌, ◌++◌, length, inl, inr, arith}
-use Rattle.std.specs.Prelude.{◌||◌}
-use Rattle.std.specs.Cmp.Lexicographic.{slice_cmp}
+use Rattle.std.specs.Prelude.{◌||◌, if◌then◌else◌}
 use Rattle.std.specs.List.{All, Contains, list_all, list_any}
-use Rattle.std.specs.Ordering.{nat_cmp, match_ordering, is_eq}
-use Rattle.std.specs.declared.cmp.Ordering.{Ordering}
-use Rattle.std.specs.declared.cmp.Ordering.TheVariants.{Less, Equal, Greater}
 use Rattle.std.specs.Str.{bytes_eq}
 use Rattle.std.proofs.lemmas.Bool.{both_ways, and_parts, or_cases, or_parts, or_left, or_right}
 use Rattle.std.proofs.lemmas.List.Elements.{All-nil, All-cons, Contains-append_left, Contains-append_right, Contains-append_cases}
 use Rattle.std.proofs.lemmas.List.Elements.{Contains-push, Contains-push_cases}
-use Rattle.std.proofs.lemmas.Map.Text.{is_eq-slice_cmp}
 use Rattle.std.proofs.lemmas.Slice.Eq.{bytes_eq-Decides}
 use Rattle.eden_script.specs.Form.{is_among}
 use Rattle.eden_script.specs.Names.{with_name, with_names}
@@ -23,25 +18,22 @@ swapped true false c = refl
 swapped false true c = refl
 swapped false false c = refl
 
-twice : (a b c : Bool) → a ≡ b → (b || c) ≡ (a || (b || c))
-twice true true c e = refl
-twice false false c e = refl
-twice true false c e = absurd cc
-twice false true c e = absurd cc
-
-placed : (o : Ordering) (k name x : List ℕ) (ks more : List (List ℕ)) → (is_eq o ≡ true → name ≡ k)
-    → is_among more x ≡ (bytes_eq name x || is_among ks x)
-    → is_among (match_ordering o (name ∷ k ∷ ks) (k ∷ ks) (k ∷ more)) x ≡ (bytes_eq name x || is_among (k ∷ ks) x)
-placed Less k name x ks more same h = refl
-placed Equal k name x ks more same h =
-    twice (bytes_eq name x) (bytes_eq k x) (is_among ks x) (ap (λ (l : List ℕ). bytes_eq l x) (same refl))
-placed Greater k name x ks more same h = ap (λ (b : Bool). bytes_eq k x || b) h ∙ swapped (bytes_eq k x) (bytes_eq name x) (is_among ks x)
+appended : (names : List (List ℕ)) (name x : List ℕ) → is_among (names ++ name ∷ []) x ≡ (bytes_eq name x || is_among names x)
+appended [] name x = refl
+appended (k ∷ ks) name x =
+    ap (λ (b : Bool). bytes_eq k x || b) (appended ks name x) ∙ swapped (bytes_eq k x) (bytes_eq name x) (is_among ks x)
 
 one_more : (names : List (List ℕ)) (name x : List ℕ) → is_among (with_name names name) x ≡ (bytes_eq name x || is_among names x)
-one_more [] name x = refl
-one_more (k ∷ ks) name x =
-    placed (slice_cmp nat_cmp name k) k name x ks (with_name ks name) (λ e. (bytes_eq-Decides name k).0 (sym (is_eq-slice_cmp name k) ∙ e))
-    (one_more ks name x)
+one_more names name x = by_name (is_among names name) refl
+  where
+    there : (b : Bool) → bytes_eq name x ≡ b → is_among names name ≡ true → is_among names x ≡ (b || is_among names x)
+    there true same h = ap (is_among names) (sym ((bytes_eq-Decides name x).0 same)) ∙ h
+    there false other h = refl
+
+    by_name : (b : Bool) → is_among names name ≡ b
+        → is_among (if b then names else names ++ name ∷ []) x ≡ (bytes_eq name x || is_among names x)
+    by_name true h = there (bytes_eq name x) refl h
+    by_name false h = appended names name x
 
 -- ## The same names in another order
 

@@ -18,7 +18,7 @@ use Rattle.eden_script.specs.declared.cause.ScriptCause.TheVariants.{BadByte, Lo
 use Rattle.eden_script.specs.declared.cause.ScriptCause.TheVariants.{UnknownName, UnknownType, DoubledName, BadEdentype, NoEnd}
 
 -- What the parts so far leave: the types; the number of nodes, 0 before `nodes`; the names that were
--- introduced, in the order of their bytes; whether `end` stood.
+-- introduced, in the order in which they came; whether `end` stood.
 pub record Seen : Type 0 where
   pub types : Types
   pub nodes : ℕ

@@ -1,12 +1,10 @@
--- Names, in the order of their bytes.
-use Rattle.std.specs.Prelude.{ℕ, List, [], ◌∷◌}
-use Rattle.std.specs.BTreeSet.{insert_key}
-use Rattle.std.specs.Cmp.Lexicographic.{slice_cmp}
-use Rattle.std.specs.Ordering.{nat_cmp}
+-- Names, in the order in which they came.
+use Rattle.std.specs.Prelude.{ℕ, List, [], ◌∷◌, ◌++◌, if◌then◌else◌}
+use Rattle.eden_script.specs.Form.{is_among}
 
--- the names, and one more at its place
+-- the names, and behind them one more that is none of them
 abbrev pub with_name : List (List ℕ) → List ℕ → List (List ℕ)
-with_name names name = insert_key (slice_cmp nat_cmp) names name
+with_name names name = if is_among names name then names else names ++ name ∷ []
 
 -- and several more
 abbrev pub with_names : List (List ℕ) → List (List ℕ) → List (List ℕ)
