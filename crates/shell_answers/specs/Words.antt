@@ -1,0 +1,48 @@
+-- What the words of the command line ask for.
+use Rattle.std.specs.Prelude.{◌≡◌, ◌≢◌, ◌⊎◌, ◌≤◌, ◌<◌, ◌^◌, ◌+◌, ◌-◌, ◌*◌, ℕ, List, [], ◌∷◌, length, codes}
+use Rattle.std.specs.List.{All}
+use Rattle.journal.specs.declared.event.Mode.{Mode}
+use Rattle.journal.specs.declared.event.Mode.TheVariants as mode
+use Rattle.shell_answers.specs.declared.words.Job.{Job}
+use Rattle.shell_answers.specs.declared.words.Job.TheVariants.{Run, Gen}
+
+-- a directory: some bytes that do not begin with `-`
+abbrev pub IsDirectory : List ℕ → Type 0
+IsDirectory [] = ⊥
+IsDirectory (first ∷ more) = first ≢ 45
+
+abbrev pub IsDigit : ℕ → Type 0
+IsDigit byte = (48 ≤ byte) × (byte ≤ 57)
+
+abbrev pub number_from : ℕ → List ℕ → ℕ
+number_from value [] = value
+number_from value (digit ∷ digits) = number_from (value * 10 + (digit - 48)) digits
+
+-- 1 to 20 decimal digits that stand for this number
+pub record SpellsNumber (word : List ℕ) (number : ℕ) : Type 0 where
+  pub some : 1 ≤ length word
+  pub few : length word ≤ 20
+  pub digits : All IsDigit word
+  pub stands_for : number_from 0 word ≡ number
+  pub fits : number < 2 ^ 64
+
+-- `run` or `host DIR`, and `--trace` behind it for all events. Over which disks a script runs is the caller's choice.
+abbrev pub Asks : List (List ℕ) → Job → Type 0
+Asks words (Run mode.Plain) = (words ≡ codes "run" ∷ []) ⊎ ((dir : List ℕ) × IsDirectory dir × (words ≡ codes "host" ∷ dir ∷ []))
+Asks words (Run mode.Trace) = (words ≡ codes "run" ∷ codes "--trace" ∷ [])
+    ⊎ ((dir : List ℕ) × IsDirectory dir × (words ≡ codes "host" ∷ dir ∷ codes "--trace" ∷ []))
+-- no words ask for these
+Asks words (Run mode.Full) = ⊥
+Asks words (Run mode.Summary) = ⊥
+-- `gen N`
+Asks words (Gen number) = (word : List ℕ) × SpellsNumber word number × (words ≡ codes "gen" ∷ word ∷ [])
+
+-- in which mode the history of a job is written
+abbrev pub mode_of : Job → Mode
+mode_of (Run m) = m
+mode_of (Gen number) = mode.Summary
+
+-- the words are a line that names this directory
+abbrev pub NameDirectory : List (List ℕ) → List ℕ → Type 0
+NameDirectory words directory = IsDirectory directory
+    × ((words ≡ codes "host" ∷ directory ∷ []) ⊎ (words ≡ codes "host" ∷ directory ∷ codes "--trace" ∷ []))
