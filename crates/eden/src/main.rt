@@ -1,13 +1,24 @@
-//! Runs a script on standard input over a modelled Eden, and writes its transcript to standard output.
+//! Runs a script over a modelled Eden, and writes its transcript to standard output.
 #![tactic(auto)]
 
+mod blank;
 mod streams;
 
-use eden_shell::{eden, status};
+ghost use Rattle.std.specs.Prelude.{◌≡◌, length};
+ghost use Rattle.std.specs.List.{All};
+
+use blank::{DISK_SIZE, blank_disks};
+use eden_disk::Disk;
+use eden_io::write_all;
+use eden_shell::{Outcome, eden, host_dir, status};
+use file_disk::{OpenRefusal, open_disks};
 use std::alloc::AllocError;
 use std::env;
 use std::process::ExitCode;
 use streams::{StdSink, StdSource};
+
+// The status where the disks of a folder cannot be opened.
+const CANNOT_OPEN: u8 = 8;
 
 // The words of the command line, without the program's own name.
 fn words(rt: &HostRuntime) -> Result<Vec<String>, AllocError> {
@@ -20,12 +31,47 @@ fn words(rt: &HostRuntime) -> Result<Vec<String>, AllocError> {
     Ok(words)
 }
 
-fn main(rt: HostRuntime) -> ExitCode {
-    let Ok(words) = words(&rt) else {
-        return ExitCode::from(6);
-    };
+// Does what the words ask for over these disks, and gives the exit status.
+fn run<D: Disk + Drop>(rt: &HostRuntime, words: &Vec<String>, disks: &mut Vec<D>) -> u8
+    requires eight { length disks.old.items ≡ 8 }
+    requires sizes { All (λ d. (D.counts d).size ≡ 1048576) disks.old.items }
+{
     let mut source = StdSource::new(rt.stdin());
     let mut sink = StdSink::new(rt.stdout());
-    let report = eden(rt.alloc(), &words, &mut source, &mut sink);
-    ExitCode::from(status(&report.outcome))
+    let report = eden(rt.alloc(), words, &mut source, &mut sink, disks);
+    status(&report.outcome)
+}
+
+// Over the files of a folder; where they cannot be opened, with a line and a status of its own.
+fn run_in(rt: &HostRuntime, words: &Vec<String>, folder: &str) -> u8 {
+    match open_disks(rt.alloc(), rt, folder, DISK_SIZE) {
+        Ok(mut disks) => run(rt, words, &mut disks),
+        Err(OpenRefusal::Cannot) => {
+            let mut sink = StdSink::new(rt.stdout());
+            match write_all(&mut sink, b"cannot open disks\n") {
+                Ok(()) => CANNOT_OPEN,
+                Err(_) => status(&Outcome::WriteFault),
+            }
+        }
+        Err(OpenRefusal::OutOfMemory) => status(&Outcome::OutOfMemory),
+    }
+}
+
+// Over eight blank disks in memory.
+fn run_blank(rt: &HostRuntime, words: &Vec<String>) -> u8 {
+    match blank_disks(rt.alloc()) {
+        Ok(mut disks) => run(rt, words, &mut disks),
+        Err(_) => status(&Outcome::OutOfMemory),
+    }
+}
+
+fn main(rt: HostRuntime) -> ExitCode {
+    let Ok(words) = words(&rt) else {
+        return ExitCode::from(status(&Outcome::OutOfMemory));
+    };
+    let status = match host_dir(&words) {
+        Some(folder) => run_in(&rt, &words, folder.as_str()),
+        None => run_blank(&rt, &words),
+    };
+    ExitCode::from(status)
 }

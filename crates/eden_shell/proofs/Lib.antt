@@ -1,11 +1,3 @@
-pub mod Ways
-pub mod Cuts
-pub mod Numbers
-pub mod Unsaid
-pub mod Turns
-pub mod Grown
-pub mod Texts
-pub mod Sound
-pub mod Enabled
-pub mod Fitting
-pub mod Answering
+pub mod Wants
+pub mod Carrying
+pub mod Called

@@ -1,6 +1,9 @@
+ghost use Rattle.std.specs.Prelude.{◌≡◌, length, IfOk};
+
 use super::*;
-use crate::lines::{Mode, line};
+use eden_disk::SimDisk;
 use eden_io::{MemSink, MemSource};
+use eden_script::ScriptCause;
 use std::alloc::{AllocError, Global};
 use std::test::Fail;
 
@@ -9,148 +12,145 @@ const SCRIPT: &str =
 
 const TRANSCRIPT: &str = "node 1 up epoch 1\nc is 1.1.1\na ok ()\nquiet\nb ok (5)\nquiet\n";
 
-fn run_words(alloc: Global) -> Result<Vec<String>, AllocError> {
-    Ok(vec![in alloc; String::from_str(alloc, "run")?]?)
-}
-
-// The text of a history.
-fn text_of(alloc: Global, report: &Report) -> Result<Vec<u8>, AllocError> {
-    let mut text = Vec::new(alloc);
-    for entry in report.history.as_slice() {
-        line(alloc, Mode::Plain, entry, &mut text)?;
+fn words_of(alloc: Global, words: &[&str]) -> Result<Vec<String>, AllocError> {
+    let mut all = Vec::new(alloc);
+    for word in words {
+        all.push(String::from_str(alloc, word)?)?;
     }
-    Ok(text)
+    Ok(all)
 }
 
+// Eight disks of zero bytes.
+pub(crate) fn blank_disks(alloc: Global, size: u32) -> Result<Vec<SimDisk>, AllocError>
+    ensures { IfOk result (λ disks. length disks.items ≡ 8) }
+{
+    let mut disks = Vec::new(alloc);
+    for _ in 0..8u8 {
+        disks.push(SimDisk::new(alloc, size)?)?;
+    }
+    Ok(disks)
+}
+
+// What a call said.
+#[derive(Drop)]
+struct Said {
+    outcome: Outcome,
+    entries: usize,
+    text: Vec<u8>,
+}
+
+// What is said to these words over blank disks, where these reads and writes fail.
+fn call_of(
+    alloc: Global,
+    words: &[&str],
+    script: Vec<u8>,
+    reads: &[u32],
+    writes: &[u32],
+) -> Result<Said, AllocError> {
+    let words = words_of(alloc, words)?;
+    let mut source = MemSource::new(script, reads.to_vec(alloc)?);
+    let mut sink = MemSink::new(alloc, 4096, 1_048_576, writes.to_vec(alloc)?)?;
+    let mut disks = blank_disks(alloc, 1_048_576)?;
+    let report = eden(alloc, &words, &mut source, &mut sink, &mut disks);
+    Ok(Said {
+        outcome: report.outcome,
+        entries: report.history.entries.len(),
+        text: sink.written().to_vec(alloc)?,
+    })
+}
+
+const USAGE: &str = "usage: eden run [--trace] | host DIR [--trace] | gen N\n";
+
+const NO_COMMAND: Outcome = Outcome::BadScript {
+    line: 1,
+    cause: ScriptCause::NoCommand,
+};
+
+const BOOTS: &str = "nodes 1\nend\n";
+
+// The words, the script, the outcome and its status, and what is written.
+const CALLS: [(&[&str], &str, Outcome, u8, &str); 4] = [
+    (&["run"], SCRIPT, Outcome::Ran, 0, TRANSCRIPT),
+    (
+        &["run"],
+        "frob",
+        NO_COMMAND,
+        3,
+        "bad script line 1: no command\n",
+    ),
+    (&["walk"], SCRIPT, Outcome::BadWords, 2, USAGE),
+    (
+        &["host", "d"],
+        BOOTS,
+        Outcome::Ran,
+        0,
+        "node 1 up epoch 1\n",
+    ),
+];
+
+// How calls end, and what they write.
 #[test]
-fn scripts_of_the_form_run(rt: HostRuntime) -> Result<(), Fail> {
+fn outcomes(rt: HostRuntime) -> Result<(), Fail> {
     let alloc = rt.alloc();
-    let rows = [
-        // set_then_get
-        (SCRIPT, TRANSCRIPT),
-        // boot_alone
-        ("nodes 1\nend\n", "node 1 up epoch 1\n"),
-        ("nodes 01\nend", "node 1 up epoch 1\n"),
-        (
-            "nodes 1\ncreate c 1 Cell\ncall a c.Set(-9223372036854775808)\ngo 4\ncall b c.Get()\ngo 0004\ngo 1\nend",
-            "node 1 up epoch 1\nc is 1.1.1\na ok ()\nb ok (-9223372036854775808)\nquiet\n",
-        ),
-        (
-            "nodes 1\ncreate c 1 Cell\ncreate d 1 Cell\ncall a d.Set(-0)\ncall b c.Get()\ngo 1\nend\n",
-            "node 1 up epoch 1\nc is 1.1.1\nd is 1.1.2\nopen a\nopen b\n",
-        ),
-    ];
-    for (script, transcript) in rows {
-        let words = run_words(alloc)?;
-        let mut source = MemSource::new(script.as_bytes().to_vec(alloc)?, Vec::new(alloc));
-        let mut sink = MemSink::new(alloc, 7, 1000, Vec::new(alloc))?;
-        let report = eden(alloc, &words, &mut source, &mut sink);
-        assert_eq!(rt; report.outcome, Outcome::Ran);
-        assert_eq!(rt; status(&report.outcome), 0);
-        assert_eq!(rt; sink.written(), transcript.as_bytes());
+    for (words, script, outcome, code, text) in CALLS {
+        let said = call_of(alloc, words, script.as_bytes().to_vec(alloc)?, &[], &[])?;
+        assert_eq!(rt; said.outcome, outcome);
+        assert_eq!(rt; status(&said.outcome), code);
+        assert_eq!(rt; said.text.as_slice(), text.as_bytes());
+    }
+    Ok(())
+}
+
+const RUNS: [&[&str]; 4] = [
+    &["run"],
+    &["run", "--trace"],
+    &["host", "d", "--trace"],
+    &["gen", "7"],
+];
+
+// With ample memory what asks for a run comes to its end: a body that always answers OutOfMemory keeps each clause, and fails here.
+#[test]
+fn always_out_of_memory(rt: HostRuntime) -> Result<(), Fail> {
+    let alloc = rt.alloc();
+    for words in RUNS {
+        let said = call_of(alloc, words, SCRIPT.as_bytes().to_vec(alloc)?, &[], &[])?;
+        assert_eq!(rt; said.outcome, Outcome::Ran);
+        assert!(rt; said.entries > 0 && !said.text.is_empty());
+    }
+    Ok(())
+}
+
+// The reads and the writes that fail, counted from 1, the outcome, and the least number of entries.
+const FAULTS: [(&[u32], &[u32], Outcome, usize); 2] = [
+    (&[1], &[], Outcome::ReadFault, 0),
+    (&[], &[1], Outcome::WriteFault, 1),
+];
+
+// A read or a write that fails ends the call; the history is whole behind a write.
+#[test]
+fn faults(rt: HostRuntime) -> Result<(), Fail> {
+    let alloc = rt.alloc();
+    for (reads, writes, outcome, entries) in FAULTS {
+        let said = call_of(
+            alloc,
+            &["run"],
+            BOOTS.as_bytes().to_vec(alloc)?,
+            reads,
+            writes,
+        )?;
+        assert_eq!(rt; said.outcome, outcome);
+        assert!(rt; said.entries >= entries);
     }
     Ok(())
 }
 
 #[test]
-fn other_scripts_are_refused(rt: HostRuntime) -> Result<(), Fail> {
+fn a_script_may_be_too_long(rt: HostRuntime) -> Result<(), Fail> {
     let alloc = rt.alloc();
-    let scripts = [
-        "",
-        "\n",
-        "nodes 1\n",
-        "nodes 2\nend\n",
-        "nodes  1\nend\n",
-        "nodes 1\n\nend\n",
-        "nodes 1\n# a comment\nend\n",
-        "nodes 1\nend\nend\n",
-        "nodes 1\nturn 0\nend\n",
-        "nodes 1\ngo 0\nend\n",
-        "nodes 1\ngo 100001\nend\n",
-        "nodes 1\ngo 50000\ngo 50001\nend\n",
-        "nodes 1\ncreate C 1 Cell\nend\n",
-        "nodes 1\ncreate c 2 Cell\nend\n",
-        "nodes 1\ncreate c 1 Directory\nend\n",
-        "nodes 1\ncreate c 1 Cell\ncreate c 1 Cell\nend\n",
-        "nodes 1\ncreate abcdefghijklmnopqrstuvwxyzabcdefg 1 Cell\nend\n",
-        "nodes 1\ncall a c.Get()\ncreate c 1 Cell\nend\n",
-        "nodes 1\ncreate c 1 Cell\ncall a c.Get()\ncall b a.Get()\nend\n",
-        "nodes 1\ncreate c 1 Cell\ncall a c.Get(1)\nend\n",
-        "nodes 1\ncreate c 1 Cell\ncall a c.Set()\nend\n",
-        "nodes 1\ncreate c 1 Cell\ncall a c.Set(1, 2)\nend\n",
-        "nodes 1\ncreate c 1 Cell\ncall a c.Set(5))\nend\n",
-        "nodes 1\ncreate c 1 Cell\ncall a c.Set(9223372036854775808)\nend\n",
-        "nodes 1\ncreate c 1 Cell\ncall a c.Set(--1)\nend\n",
-    ];
-    for script in scripts {
-        let words = run_words(alloc)?;
-        let mut source = MemSource::new(script.as_bytes().to_vec(alloc)?, Vec::new(alloc));
-        let mut sink = MemSink::new(alloc, 1000, 1000, Vec::new(alloc))?;
-        let report = eden(alloc, &words, &mut source, &mut sink);
-        assert_eq!(rt; status(&report.outcome), 3, "{script}");
-        assert_eq!(rt; sink.written(), b"bad script line 1: bad form\n".as_slice());
-        assert_eq!(rt; report.history.as_slice().len(), 0);
-    }
-    Ok(())
-}
-
-#[test]
-fn a_script_has_a_greatest_length(rt: HostRuntime) -> Result<(), Fail> {
-    let alloc = rt.alloc();
-    for (length, wanted) in [(1_048_576, 3), (1_048_577, 7)] {
-        let words = run_words(alloc)?;
-        let mut source = MemSource::new(vec![in alloc; b'\n'; length]?, Vec::new(alloc));
-        let mut sink = MemSink::new(alloc, 1000, 1000, Vec::new(alloc))?;
-        let report = eden(alloc, &words, &mut source, &mut sink);
-        assert_eq!(rt; status(&report.outcome), wanted);
-        if wanted == 7 {
-            assert_eq!(rt; sink.written(), b"script too long\n".as_slice());
-        }
-    }
-    Ok(())
-}
-
-#[test]
-fn other_words_give_the_usage(rt: HostRuntime) -> Result<(), Fail> {
-    let alloc = rt.alloc();
-    let usage = b"usage: eden run [--trace] | host DIR [--trace] | gen N\n";
-    let mut none = Vec::new(alloc);
-    let mut two = run_words(alloc)?;
-    two.push(String::from_str(alloc, "--trace")?)?;
-    let mut other = Vec::new(alloc);
-    other.push(String::from_str(alloc, "--help")?)?;
-    for words in [&none, &two, &other] {
-        let mut source = MemSource::new(SCRIPT.as_bytes().to_vec(alloc)?, Vec::new(alloc));
-        let mut sink = MemSink::new(alloc, 1000, 1000, Vec::new(alloc))?;
-        let report = eden(alloc, words, &mut source, &mut sink);
-        assert_eq!(rt; status(&report.outcome), 2);
-        assert_eq!(rt; sink.written(), usage.as_slice());
-    }
-    none.clear();
-    Ok(())
-}
-
-#[test]
-fn a_sink_that_fails_is_a_write_fault(rt: HostRuntime) -> Result<(), Fail> {
-    let alloc = rt.alloc();
-    let words = run_words(alloc)?;
-    let mut source = MemSource::new(SCRIPT.as_bytes().to_vec(alloc)?, Vec::new(alloc));
-    let mut sink = MemSink::new(alloc, 7, 1000, vec![in alloc; 1]?)?;
-    let report = eden(alloc, &words, &mut source, &mut sink);
-    assert_eq!(rt; status(&report.outcome), 5);
-    assert_eq!(rt; text_of(alloc, &report)?.as_slice(), TRANSCRIPT.as_bytes());
-    Ok(())
-}
-
-#[test]
-fn a_source_that_fails_is_a_read_fault(rt: HostRuntime) -> Result<(), Fail> {
-    let alloc = rt.alloc();
-    let words = run_words(alloc)?;
-    let mut source = MemSource::new(SCRIPT.as_bytes().to_vec(alloc)?, vec![in alloc; 1]?);
-    let mut sink = MemSink::new(alloc, 7, 1000, Vec::new(alloc))?;
-    let report = eden(alloc, &words, &mut source, &mut sink);
-    assert_eq!(rt; status(&report.outcome), 4);
-    assert_eq!(rt; sink.written(), b"read fault\n".as_slice());
-    assert_eq!(rt; report.history.as_slice().len(), 0);
+    let mut script = BOOTS.as_bytes().to_vec(alloc)?;
+    script.resize(1_048_577, b'\n')?;
+    let said = call_of(alloc, &["run"], script, &[], &[])?;
+    assert_eq!(rt; said.outcome, Outcome::TooLong);
+    assert_eq!(rt; said.text.as_slice(), b"script too long\n".as_slice());
     Ok(())
 }
