@@ -733,7 +733,7 @@ fn booted_image(alloc: Global, from: usize, to: usize, byte: u8) -> Result<Vec<u
 {
     let (store, _) = boot_up::<Log>(alloc, SimDisk::new(alloc, SIZE)?, None)?;
     let disk = store.close();
-    let mut image = disk.image().to_vec(alloc)?;
+    let mut image = disk.image(alloc)?;
     for place in from..to {
         if let Some(found) = image.get_mut(place) {
             *found = byte;
