@@ -4,3 +4,4 @@ pub mod Boots
 pub mod DiskTurns
 pub mod Shows
 pub mod Creations
+pub mod Enabled

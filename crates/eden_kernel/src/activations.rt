@@ -1,8 +1,8 @@
 //! Passive Ejects are activated.
-ghost use Rattle.std.specs.Prelude.{◌≡◌, ◌≢◌, ℕ, Bool, Option, Some, false, IfOk, IfErr, IfSome, IsTrue, OnOk, OnErr, is_some};
+ghost use Rattle.std.specs.Prelude.{◌≡◌, ℕ, Bool, Option, Some, IfOk, IfErr, IfSome, IsTrue, OnOk, OnErr, is_some};
 ghost use Rattle.epl_syntax.specs.Meaning.{types_in};
 ghost use Rattle.epl_syntax.specs.Rules.OfTypes.{TypeList};
-ghost use Rattle.passive_store.specs.Kept.{body_at, worked_on};
+ghost use Rattle.passive_store.specs.Kept.{body_at};
 ghost use Rattle.passive_store.specs.Layout.{IsLayout};
 ghost use Rattle.journal.specs.Settling.{settled};
 ghost use Rattle.journal.specs.Sites.{IsSoundSite};
@@ -16,6 +16,7 @@ ghost use Rattle.ejects.specs.Parts.{IsAt, Stands};
 ghost use Rattle.ejects.specs.StoreEnds.{SettlesAt};
 ghost use Rattle.ejects.specs.View.{parts_of};
 ghost use Rattle.eden_kernel.specs.DiskTurns.{EndsTurn, IsWholeBehind, IsActivation, Starves, behind_start, begun_as};
+ghost use Rattle.eden_kernel.specs.Enabled.{MayActivate};
 ghost use Rattle.disk_faults.specs.Elsewhere.{shown_of};
 ghost use Rattle.disk_faults.specs.Shows.{ShowsCounts, NoneFalls};
 ghost use Rattle.eden_kernel.specs.Shows.{call_of_event};
@@ -61,16 +62,6 @@ impl Starter for Kinds<'_> {
             Some((kind, durable)) => Ok(Some(Begun { kind, durable })),
             None => Ok(None),
         }
-    }
-}
-
-// Whether a job of the store is about the Eject.
-fn is_worked_on<St: Store>(store: &St, uid: Uid) -> bool
-    ensures { result ≡ false → worked_on (St.seen store.now).work ≢ Some uid }
-{
-    match store.working_on() {
-        Some(other) => other == uid,
-        None => false,
     }
 }
 
@@ -162,6 +153,7 @@ impl<St: Store> Node<St> {
         uid: Uid,
     ) -> Result<(Event, TurnEnd), AllocError>
         requires whole { IsWhole (held St.seen self.old) }
+        requires may { MayActivate types.now (held St.seen self.old) uid }
         ensures whole { IfOk result (λ r. IsWholeBehind r.1 (held St.seen self.new)) }
         ensures number { self.new.number ≡ self.old.number }
 
@@ -191,12 +183,6 @@ impl<St: Store> Node<St> {
             → Starves St.layout s (St.seen self.old.store) (St.seen self.new.store)) }
     {
         if !is_eject(self.number, uid) {
-            return Err(AllocError);
-        }
-        if !self.ejects.may_wake(uid) {
-            return Err(AllocError);
-        }
-        if is_worked_on(&self.store, uid) {
             return Err(AllocError);
         }
         let doubted = self.store.unsure();

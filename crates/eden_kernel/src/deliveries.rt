@@ -1,6 +1,7 @@
 //! Messages are delivered.
-ghost use Rattle.std.specs.Prelude.{◌≡◌, ◌≤◌, IfOk, IfSome, IsTrue, OnOk};
+ghost use Rattle.std.specs.Prelude.{◌≡◌, ◌≤◌, is_some, IfOk, IfSome, IsTrue, OnOk};
 ghost use Rattle.ejects.specs.Events.{IsDelivery};
+ghost use Rattle.ejects.specs.Hears.{hears};
 ghost use Rattle.ejects.specs.View.{number_of};
 ghost use Rattle.eden_kernel.specs.Stands.{held, IsWhole};
 ghost use Rattle.eden_kernel.specs.Turns.{TurnsAt};
@@ -13,7 +14,8 @@ use passive_store::Store;
 use std::alloc::{AllocError, Global};
 
 impl<St: Store> Node<St> {
-    /// The first message from a station is delivered. None where none is on its way to an Eject of the node.
+    /// The first message from a station is delivered. None exactly where that is neither a request nor a reply to a process, or
+    /// where there is none.
     pub fn deliver(
         &mut self,
         alloc: Global,
@@ -25,6 +27,7 @@ impl<St: Store> Node<St> {
         requires whole { IsWhole (held St.seen self.old) }
         ensures whole { OnOk result (IsWhole (held St.seen self.new)) }
         ensures number { self.new.number ≡ self.old.number }
+        ensures hears { IfOk result (λ it. is_some it ≡ hears from (number_of self.old.ejects) calls.old) }
         ensures event { IfOk result (λ it. IfSome it (IsDelivery from (number_of self.old.ejects))) }
         ensures store { St.seen self.new.store ≡ St.seen self.old.store }
         ensures turn { IsTrue St.Device.tells → IfOk result (λ it. IfSome it (λ e.

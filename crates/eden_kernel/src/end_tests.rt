@@ -133,8 +133,11 @@ fn run<St: Store>(
     requires { IsWhole (held St.seen node.old) }
     ensures { OnOk result (IsWhole (held St.seen node.new)) }
 {
+    if !node.may_start(calls, KEPT) {
+        return Err(Amiss::Turn);
+    }
     let _start = node.start(alloc, types, calls, KEPT)?;
-    if !are_few(calls) {
+    if !are_few(calls) || !node.may_process(KEPT, 1) {
         return Err(Amiss::Turn);
     }
     let _turn = node.process(alloc, types, calls, &places(), KEPT, 1)?;
@@ -167,6 +170,9 @@ fn wake<St: Store>(
     requires { IsWhole (held St.seen node.old) }
     ensures { OnOk result (IsWhole (held St.seen node.new)) }
 {
+    if !node.may_activate(KEPT) {
+        return Err(Amiss::Turn);
+    }
     match node.activate(alloc, types, calls, KEPT)? {
         (_, TurnEnd::Up) => Ok(()),
         (_, TurnEnd::Down) => Err(Amiss::Turn),
@@ -236,6 +242,9 @@ fn store_turns<St: Store>(
     requires { IsWhole (held St.seen node.old) }
 {
     for taken in 0..most {
+        if !node.pending() {
+            return Err(Amiss::Turn);
+        }
         match node.store_turn(alloc, calls)? {
             (_, TurnEnd::Up) => {}
             (_, TurnEnd::Down) => return Ok((taken + 1, TurnEnd::Down)),
@@ -447,6 +456,9 @@ fn store_end<St: Store>(
     requires { IsWhole (held St.seen node.old) }
     ensures { OnOk result (IsWhole (held St.seen node.new)) }
 {
+    if !node.pending() {
+        return Err(Amiss::Turn);
+    }
     match node.store_turn(alloc, calls)? {
         (Event::Store { end, .. }, TurnEnd::Up) => Ok(end),
         _ => Err(Amiss::Turn),
@@ -464,7 +476,7 @@ fn a_save_ends_in_its_last_turn(rt: HostRuntime) -> Result<(), Fail> {
     assert_eq!(rt; store_end(alloc, &mut node, &mut calls)?, RequestEnd::Part);
     assert_eq!(rt; store_end(alloc, &mut node, &mut calls)?, RequestEnd::Part);
     assert_eq!(rt; store_end(alloc, &mut node, &mut calls)?, RequestEnd::Done);
-    assert!(rt; node.store_turn(alloc, &mut calls).is_err());
+    assert!(rt; !node.pending());
     Ok(())
 }
 
@@ -506,6 +518,9 @@ fn start_end<St: Store>(
     ask(alloc, calls, b"Get", None)?;
     let _request = node.deliver(alloc, types, calls, 0)?;
     arm(node, trouble);
+    if !node.may_activate(KEPT) {
+        return Err(Amiss::Turn);
+    }
     match node.activate(alloc, types, calls, KEPT)? {
         (Event::Activate { end, .. }, behind) => Ok((end, behind)),
         _ => Err(Amiss::Turn),
@@ -531,7 +546,7 @@ fn start_behind_a_settling(alloc: Global, trouble: Trouble) -> Result<(StartEnd,
     let mut node = saving::<Log>(alloc, &types, &mut calls, disk)?;
     arm(&mut node, Trouble::Fault { made: 0 });
     let _fault = store_end(alloc, &mut node, &mut calls)?;
-    if !are_few(&calls) {
+    if !are_few(&calls) || !node.may_process(KEPT, 1) {
         return Err(Amiss::Turn);
     }
     let _told = node.process(alloc, &types, &mut calls, &places(), KEPT, 1)?;

@@ -7,6 +7,7 @@ ghost use Rattle.checkpoint.specs.StoreStands.{doubt_of};
 ghost use Rattle.ejects.specs.Events.{IsTurnOf};
 ghost use Rattle.ejects.specs.Creations.{HasNewUid};
 ghost use Rattle.ejects.specs.Replies.{Reaches};
+ghost use Rattle.eden_kernel.specs.Enabled.{MayProcess};
 ghost use Rattle.eden_kernel.specs.Stands.{held, IsWhole, NodeStands};
 ghost use Rattle.eden_kernel.specs.Turns.{Turns};
 
@@ -53,6 +54,7 @@ impl<St: Store> Node<St> {
     ) -> Result<Event, AllocError>
         requires calls { length calls.old.calls < 4294967295 }
         requires whole { IsWhole (held St.seen self.old) }
+        requires may { MayProcess types.now (held St.seen self.old) uid process }
         ensures whole { OnOk result (IsWhole (held St.seen self.new)) }
         ensures number { self.new.number ≡ self.old.number }
         ensures event { IfOk result (IsTurnOf uid process) }

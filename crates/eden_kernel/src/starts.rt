@@ -1,6 +1,7 @@
 //! Invocations start.
 ghost use Rattle.std.specs.Prelude.{◌≡◌, IfOk, IsTrue, OnOk};
 ghost use Rattle.ejects.specs.Events.{IsStartOf};
+ghost use Rattle.eden_kernel.specs.Enabled.{MayStart};
 ghost use Rattle.eden_kernel.specs.Stands.{held, IsWhole};
 ghost use Rattle.eden_kernel.specs.Turns.{TurnsAt};
 
@@ -22,6 +23,7 @@ impl<St: Store> Node<St> {
         uid: Uid,
     ) -> Result<Event, AllocError>
         requires whole { IsWhole (held St.seen self.old) }
+        requires may { MayStart types.now (held St.seen self.old) calls.now uid }
         ensures whole { OnOk result (IsWhole (held St.seen self.new)) }
         ensures number { self.new.number ≡ self.old.number }
         ensures event { IfOk result (IsStartOf uid) }

@@ -1,5 +1,5 @@
 //! The store takes its turns.
-ghost use Rattle.std.specs.Prelude.{◌≡◌, ◌≤◌, ◌+◌, ◌&&◌, ℕ, Bool, Some, None, IfOk, IfErr, IfSome, IsTrue, OnOk, OnErr, is_some};
+ghost use Rattle.std.specs.Prelude.{◌≡◌, ◌≤◌, ◌+◌, ◌&&◌, ℕ, Bool, Some, None, IfOk, IfErr, IfSome, IsSome, IsTrue, OnOk, OnErr, is_some, length};
 ghost use Rattle.epl_syntax.specs.Rules.OfTypes.{TypeList};
 ghost use Rattle.invocation.specs.Mail.{Mail};
 ghost use Rattle.passive_store.specs.Kept.{body_at};
@@ -16,6 +16,7 @@ ghost use Rattle.ejects.specs.StoreEnds.{IsShownAs, IsFirstOf, IsFirst, SettlesA
 ghost use Rattle.ejects.specs.View.{parts_of};
 ghost use Rattle.eden_kernel.specs.DiskTurns.{EndsTurn, IsWholeBehind, IsStoreTurn, shown_as, goes_on, asks_removal, IsFirstAsked};
 ghost use Rattle.eden_kernel.specs.DiskTurns.{left_behind, Starves};
+ghost use Rattle.eden_kernel.specs.Enabled.{HasRequest};
 ghost use Rattle.disk_faults.specs.Elsewhere.{shown_of};
 ghost use Rattle.disk_faults.specs.Shows.{ShowsCounts, NoneFalls};
 ghost use Rattle.eden_kernel.specs.Shows.{call_of_event};
@@ -43,7 +44,8 @@ pub enum TurnEnd {
 
 // The Eject of the first request.
 fn first_uid(worker: &Worker) -> Option<Uid>
-    ensures { IfSome result (λ u. IsFirstAsked worker.now.requests.items u) }
+    ensures first { IfSome result (λ u. IsFirstAsked worker.now.requests.items u) }
+    ensures some { 1 ≤ length worker.now.requests.items → IsSome result }
 {
     match worker.requests.front() {
         Some(request) => Some(request.uid),
@@ -184,6 +186,7 @@ impl<St: Store> Node<St> {
         calls: &mut Calls,
     ) -> Result<(Event, TurnEnd), AllocError>
         requires whole { IsWhole (held St.seen self.old) }
+        requires pending { HasRequest (held St.seen self.old) }
         ensures whole { IfOk result (λ r. IsWholeBehind r.1 (held St.seen self.new)) }
         ensures number { self.new.number ≡ self.old.number }
 
@@ -213,7 +216,7 @@ impl<St: Store> Node<St> {
             → Starves St.layout s (St.seen self.old.store) (St.seen self.new.store)) }
     {
         let Some(uid) = first_uid(&self.worker) else {
-            return Err(AllocError);
+            unreachable!()
         };
         let doubted = self.store.unsure();
         match self.worker.step(alloc, &mut self.store)? {

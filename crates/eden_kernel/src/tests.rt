@@ -164,16 +164,11 @@ fn requests_of_passive_and_of_absent_ejects(rt: HostRuntime) -> Result<(), Fail>
 #[test]
 fn turns_of_what_is_not_there(rt: HostRuntime) -> Result<(), Fail> {
     let alloc = rt.alloc();
-    let types = Types::native(alloc)?;
-    let mut calls = Calls::new(alloc)?;
-    let (mut idle, _) = up::<Log>(alloc, seeded::<Log>(alloc, blank(alloc)?)?)?;
-    assert!(rt; idle.start(alloc, &types, &calls, KEPT).is_err());
-    let (mut asked, _) = up::<Log>(alloc, seeded::<Log>(alloc, blank(alloc)?)?)?;
-    assert!(rt;
-        asked
-            .process(alloc, &types, &mut calls, &places(), KEPT, 1)
-            .is_err()
-    );
+    let calls = Calls::new(alloc)?;
+    let (idle, _) = up::<Log>(alloc, seeded::<Log>(alloc, blank(alloc)?)?)?;
+    assert!(rt; !idle.may_start(&calls, KEPT));
+    assert!(rt; !idle.may_activate(KEPT));
+    assert!(rt; !idle.may_process(KEPT, 1));
     let (mut told, _) = up::<Log>(alloc, seeded::<Log>(alloc, blank(alloc)?)?)?;
     assert!(rt; told.broken(alloc, KEPT, 1).is_err());
     Ok(())

@@ -22,11 +22,11 @@ use Rattle.eden_world.proofs.EightKeys.{number-of}
 
 -- 1. Of each in a list
 
-append-all : {X : Type 0} (P : X → Type 0) (xs ys : List X) → AllByRecursion P xs → AllByRecursion P ys → AllByRecursion P (xs ++ ys)
+pub append-all : {X : Type 0} (P : X → Type 0) (xs ys : List X) → AllByRecursion P xs → AllByRecursion P ys → AllByRecursion P (xs ++ ys)
 append-all P [] ys a b = b
 append-all P (x ∷ xs) ys a b = (a.0, append-all P xs ys a.1 b)
 
-flat-all : {X A : Type 0} (P : A → Type 0) (Q : X → Type 0) (f : X → List A) (xs : List X) → ((x : X) → Q x → AllByRecursion P (f x))
+pub flat-all : {X A : Type 0} (P : A → Type 0) (Q : X → Type 0) (f : X → List A) (xs : List X) → ((x : X) → Q x → AllByRecursion P (f x))
     → AllByRecursion Q xs → AllByRecursion P (flat_map f xs)
 flat-all P Q f [] each all = tt
 flat-all P Q f (x ∷ xs) each all = append-all P (f x) (flat_map f xs) (each x all.0) (flat-all P Q f xs each all.1)
@@ -35,7 +35,7 @@ map-all : {X A : Type 0} (P : A → Type 0) (f : X → A) (xs : List X) → ((x 
 map-all P f [] each = tt
 map-all P f (x ∷ xs) each = (each x, map-all P f xs each)
 
-from-all : {X : Type 0} (P : X → Type 0) (xs : List X) (x : X) → Contains xs x → AllByRecursion P xs → P x
+pub from-all : {X : Type 0} (P : X → Type 0) (xs : List X) (x : X) → Contains xs x → AllByRecursion P xs → P x
 from-all P [] x (k, within, is) all = absurd (omega (arith, within))
 from-all P (y ∷ ys) x (zero, within, is) all = subst P is all.0
 from-all P (y ∷ ys) x (suc k, within, is) all = from-all P ys x (k, omega (arith, within), is) all.1
@@ -112,7 +112,7 @@ module _ (w : World) (reached : IsReached w) (n : ℕ) where
   fits-at m [] all = tt
   fits-at m (k ∷ ks) all = ((λ at. subst (λ j. IsKeyOf j k) (sym all.0.station ∙ at) all.0.key), fits-at m ks all.1)
 
-  deliveries-at : (m : ℕ) → AllByRecursion (IsAt m) (deliveries w m)
+  pub deliveries-at : (m : ℕ) → AllByRecursion (IsAt m) (deliveries w m)
   deliveries-at m = map-all (IsAt m) (delivery m) (filter (λ from. is_some (next_message w.traffic from m)) (stations w))
       (λ from. record { station = refl; key = inl refl })
 

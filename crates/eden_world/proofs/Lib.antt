@@ -66,3 +66,5 @@ pub mod Untouched
 pub mod OpenCalls
 pub mod Crashing
 pub mod Arming
+pub mod Due
+pub mod Places

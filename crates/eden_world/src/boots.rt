@@ -33,7 +33,9 @@ where
 {
     // A node is booted, unless it is up.
     pub(crate) fn restart(&mut self, alloc: Global, number: u8) -> Result<Entry, AllocError>
-        requires { FitsTogether St.seen self.old }
+        requires whole { FitsTogether St.seen self.old }
+        requires first { 1 ≤ number }
+        requires last { number ≤ 8 }
         ensures whole { OnOk result (FitsTogether St.seen self.new) }
         ensures carried { let look = disk_seen St.Device.counts St.Device.told St.Device.due in
             IfOk result (CarriesBy St.Device.tells St.layout St.seen look self.old self.new (commands.Restart number)) }
@@ -53,10 +55,7 @@ where
         }
         let (disk, doubt) = match self.unseat(number) {
             Seat::Down { disk, doubt } => (disk, doubt),
-            other => {
-                self.set_seat(number, other);
-                return Err(AllocError);
-            }
+            _ => unreachable!(),
         };
         match ScheduledNode::<St>::boot(alloc, disk, number, doubt) {
             Ok((station, note)) => {

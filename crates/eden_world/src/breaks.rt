@@ -91,10 +91,7 @@ where
                 self.set_seat(uid.node, Seat::Up { station });
                 told
             }
-            other => {
-                self.set_seat(uid.node, other);
-                Err(AllocError)
-            }
+            _ => unreachable!(),
         }
     }
 

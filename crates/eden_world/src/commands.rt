@@ -5,6 +5,7 @@ ghost use Rattle.invocation.specs.Carries.{Carries};
 ghost use Rattle.eden_disk.specs.Calls.{calls_until};
 ghost use Rattle.passive_store.specs.Seen.{disk_seen};
 ghost use Rattle.journal.specs.declared.command.Command.TheVariants as commands;
+ghost use Rattle.journal.specs.Fit.{NumbersFit};
 ghost use Rattle.runs.specs.Room.{is_single};
 ghost use Rattle.eden_kernel.specs.Stands.{held, IsWhole};
 ghost use Rattle.scheduled_node.specs.declared.ScheduledNode.{ScheduledNode};
@@ -16,7 +17,7 @@ ghost use Rattle.eden_world.specs.declared.seats.Seat.TheVariants as place;
 
 use crate::breaks::copy_name;
 use crate::entries::{entry, entry_of_none};
-use crate::{PLACES, Seat, World};
+use crate::{Seat, World};
 use eden_disk::{Arm, Disk, ImageMode};
 use eden_model::Asker;
 use eden_value::Txt;
@@ -25,15 +26,6 @@ use journal::{Command, Entry, Event, Names};
 use passive_store::Store;
 use scheduled_node::ScheduledNode;
 use std::alloc::{AllocError, Global};
-
-// How many device calls away a request falls due.
-fn calls_until_due(what: Arm) -> u32
-    ensures { result ≡ calls_until what }
-{
-    match what {
-        Arm::Fail { after } | Arm::Stop { after, .. } => after,
-    }
-}
 
 // What stands at a place, once this is asked of its disk.
 fn armed<St: Store + Drop>(seat: Seat<St>, what: Arm) -> Seat<St>
@@ -112,7 +104,9 @@ where
 
     // A link is cut, and its calls break.
     fn cut_link(&mut self, alloc: Global, a: u8, b: u8) -> Result<Entry, AllocError>
-        requires { FitsTogether St.seen self.old }
+        requires whole { FitsTogether St.seen self.old }
+        requires from { a ≤ 8 }
+        requires to { b ≤ 8 }
         ensures whole { OnOk result (FitsTogether St.seen self.new) }
         ensures carried { let look = disk_seen St.Device.counts St.Device.told St.Device.due in
             IfOk result (CarriesBy St.Device.tells St.layout St.seen look self.old self.new (commands.Cut a b)) }
@@ -123,9 +117,6 @@ where
         ensures leaves { let look = disk_seen St.Device.counts St.Device.told St.Device.due in
             OnErr result (KeepsDisks St.seen look self.old self.new) }
     {
-        if a > PLACES || b > PLACES {
-            return Err(AllocError);
-        }
         let broken = self.cut(alloc, a, b)?;
         Ok(Entry {
             event: Event::Link {
@@ -141,7 +132,9 @@ where
 
     // A link is joined again.
     fn join(&mut self, alloc: Global, a: u8, b: u8) -> Result<Entry, AllocError>
-        requires { FitsTogether St.seen self.old }
+        requires whole { FitsTogether St.seen self.old }
+        requires from { a ≤ 8 }
+        requires to { b ≤ 8 }
         ensures whole { OnOk result (FitsTogether St.seen self.new) }
         ensures carried { let look = disk_seen St.Device.counts St.Device.told St.Device.due in
             IfOk result (CarriesBy St.Device.tells St.layout St.seen look self.old self.new (commands.Join a b)) }
@@ -152,9 +145,6 @@ where
         ensures leaves { let look = disk_seen St.Device.counts St.Device.told St.Device.due in
             OnErr result (KeepsDisks St.seen look self.old self.new) }
     {
-        if a > PLACES || b > PLACES {
-            return Err(AllocError);
-        }
         self.places.set_link(a, b, true);
         let event = Event::Link { a, b, joined: true };
         Ok(entry_of_none(alloc, event))
@@ -162,7 +152,8 @@ where
 
     // A failure or a stop is asked of the disk of a node, for a device call to come.
     fn arm(&mut self, alloc: Global, node: u8, what: Arm) -> Result<Entry, AllocError>
-        requires { FitsTogether St.seen self.old }
+        requires whole { FitsTogether St.seen self.old }
+        requires calls { 1 ≤ calls_until what }
         ensures whole { OnOk result (FitsTogether St.seen self.new) }
         ensures carried { let look = disk_seen St.Device.counts St.Device.told St.Device.due in
             IfOk result (CarriesBy St.Device.tells St.layout St.seen look self.old self.new (arms_by what node)) }
@@ -173,9 +164,6 @@ where
         ensures leaves { let look = disk_seen St.Device.counts St.Device.told St.Device.due in
             OnErr result (KeepsDisks St.seen look self.old self.new) }
     {
-        if calls_until_due(what) == 0 {
-            return Err(AllocError);
-        }
         let seat = armed(self.unseat(node), what);
         self.set_seat(node, seat);
         let clock = self.clock_at(node);
@@ -214,6 +202,7 @@ where
     pub fn carry(&mut self, alloc: Global, command: &Command) -> Result<Entry, AllocError>
         requires whole { FitsTogether St.seen self.old }
         requires single { IsTrue (is_single command.now) }
+        requires numbers { NumbersFit 8 command.now }
         ensures whole { OnOk result (FitsTogether St.seen self.new) }
         ensures carried { let look = disk_seen St.Device.counts St.Device.told St.Device.due in
             IfOk result (CarriesBy St.Device.tells St.layout St.seen look self.old self.new command.now) }
@@ -253,7 +242,7 @@ where
                 self.arm(alloc, *node, what)
             }
             Command::End => self.end(alloc),
-            Command::Go { .. } | Command::Turn { .. } | Command::Walk { .. } => Err(AllocError),
+            Command::Go { .. } | Command::Turn { .. } | Command::Walk { .. } => unreachable!(),
         }
     }
 }

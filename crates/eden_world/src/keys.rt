@@ -1,13 +1,13 @@
 //! Which turn comes next.
-ghost use Rattle.std.specs.Prelude.{◌≡◌, ◌++◌, ◌≤◌, ◌∷◌, [], ℕ, false, IfOk, OnOk, IsTrue, None, Some};
-ghost use Rattle.std.specs.List.{find};
+ghost use Rattle.std.specs.Prelude.{◌≡◌, ◌↔◌, ◌++◌, ◌≤◌, ◌∷◌, [], ℕ, false, IfOk, IfSome, OnOk, IsTrue, None, Some};
+ghost use Rattle.std.specs.List.{Contains, find};
 ghost use Rattle.passive_store.specs.Seen.{disk_seen};
 ghost use Rattle.journal.specs.World.{World as Model};
 ghost use Rattle.journal.specs.Enabled as journal;
 ghost use Rattle.journal.specs.declared.event.Key.{Key as AnyKey};
 ghost use Rattle.runs.specs.Reached.{IsReached};
 ghost use Rattle.eden_world.specs.InHand.{Stands};
-ghost use Rattle.eden_world.specs.Listed.{mail_keys, keys_at, keys_from};
+ghost use Rattle.eden_world.specs.Listed.{HasTurn, mail_keys, keys_at, keys_from};
 
 use crate::World;
 use capability::Uid;
@@ -129,8 +129,45 @@ where
         None
     }
 
-    /// The least enabled key past the last one, or the least of all.
-    pub fn key_following(&self, last: Option<Key>) -> Option<Key>
+    // Whether it has the turn of this key.
+    fn has_turn(&self, key: Key) -> bool
+        ensures { IsTrue result ↔ HasTurn self.now key }
+    {
+        if key.station > 0 {
+            return true;
+        }
+        if key.sender > 8 {
+            return false;
+        }
+        self.calls.waiting(key.sender, 0)
+    }
+
+    // The key, if it has its turn.
+    fn if_turn(&self, key: Key) -> Option<Key>
+        ensures enabled { IfSome result (λ k. HasTurn self.now k) }
+        ensures same { HasTurn self.now key → result ≡ Some key }
+    {
+        if self.has_turn(key) {
+            return Some(key);
+        }
+        None
+    }
+
+    // The same, if there is a key. Each enabled key has its turn.
+    fn with_turn(&self, key: Option<Key>) -> Option<Key>
+        ensures enabled { IfSome result (λ k. HasTurn self.now k) }
+        ensures same { (more : ℕ) (w : Model) → IsReached w
+            → Stands St.Device.tells St.layout St.seen (disk_seen St.Device.counts St.Device.told St.Device.due) self.now more w
+            → IfSome key (λ k. Contains (journal.enabled w) k) → result ≡ key }
+    {
+        match key {
+            Some(key) => self.if_turn(key),
+            None => None,
+        }
+    }
+
+    // The least enabled key past the last one, or the least of all.
+    fn next_of_all(&self, last: Option<Key>) -> Option<Key>
         ensures { (more : ℕ) (w : Model) → IsReached w
             → Stands St.Device.tells St.layout St.seen (disk_seen St.Device.counts St.Device.told St.Device.due) self.now more w
             → result ≡ journal.following last (journal.enabled w) }
@@ -139,6 +176,16 @@ where
             Some(key) => Some(key),
             None => self.next(None),
         }
+    }
+
+    /// The least enabled key past the last one, or the least of all.
+    pub fn key_following(&self, last: Option<Key>) -> Option<Key>
+        ensures follows { (more : ℕ) (w : Model) → IsReached w
+            → Stands St.Device.tells St.layout St.seen (disk_seen St.Device.counts St.Device.told St.Device.due) self.now more w
+            → result ≡ journal.following last (journal.enabled w) }
+        ensures enabled { IfSome result (λ k. HasTurn self.now k) }
+    {
+        self.with_turn(self.next_of_all(last))
     }
 
     // Appends the delivery from one station to another, if there is one.
@@ -194,11 +241,12 @@ where
 
     /// The enabled key at this place, counted round.
     pub fn key_at(&self, alloc: Global, i: u32) -> Result<Option<Key>, AllocError>
-        ensures { IfOk result (λ key. (more : ℕ) (w : Model) → IsReached w
+        ensures chosen { IfOk result (λ key. (more : ℕ) (w : Model) → IsReached w
             → Stands St.Device.tells St.layout St.seen (disk_seen St.Device.counts St.Device.told St.Device.due) self.now more w
             → key ≡ journal.item i (journal.enabled w)) }
+        ensures enabled { IfOk result (λ it. IfSome it (λ k. HasTurn self.now k)) }
     {
         let keys = self.list(alloc)?;
-        Ok(counted_round(&keys, i))
+        Ok(self.with_turn(counted_round(&keys, i)))
     }
 }

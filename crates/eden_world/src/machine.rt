@@ -2,6 +2,7 @@
 ghost use Rattle.std.specs.Prelude.{ℕ};
 ghost use Rattle.passive_store.specs.Seen.{disk_seen};
 ghost use Rattle.eden_world.specs.InHand.{Did, Ends, Stands};
+ghost use Rattle.eden_world.specs.Listed.{HasTurn};
 ghost use Rattle.eden_world.specs.Seated.{EachShows, FitsTogether, KeepsDisks, heeds};
 
 use crate::World;
@@ -25,6 +26,8 @@ where
     ghost starved = { Ends St.layout St.seen (disk_seen St.Device.counts St.Device.told St.Device.due) };
 
     ghost shows = { EachShows (heeds St.Device.tells St.Device.obeys) St.seen (disk_seen St.Device.counts St.Device.told St.Device.due) };
+
+    ghost enables = { HasTurn };
 
     ghost leaves = { KeepsDisks St.seen (disk_seen St.Device.counts St.Device.told St.Device.due) };
 

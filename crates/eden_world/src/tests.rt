@@ -1,4 +1,7 @@
-ghost use Rattle.std.specs.Prelude.{IfOk, OnOk};
+ghost use Rattle.std.specs.Prelude.{IfOk, IfSome, IsTrue, OnOk};
+ghost use Rattle.std.specs.List.{All};
+ghost use Rattle.journal.specs.Fit.{NumbersFit};
+ghost use Rattle.eden_world.specs.Listed.{HasTurn};
 ghost use Rattle.eden_world.specs.Seated.{FitsTogether};
 
 use crate::{Seat, World};
@@ -271,6 +274,54 @@ where
     }
 }
 
+/// Whether the numbers of a command are in their ranges.
+fn fits(command: &Command) -> bool
+    ensures { IsTrue result → NumbersFit 8 command.now }
+{
+    match command {
+        Command::Create { node, .. } => 1 <= *node && *node <= 8,
+        Command::Hold { uid, .. } => {
+            1 <= uid.node && uid.node <= 8 && 1 <= uid.epoch && 1 <= uid.serial
+        }
+        Command::Call { target, .. } => target.result <= 8,
+        Command::Restrict { target, .. } => target.result <= 8,
+        Command::Walk { target, .. } => target.result <= 8,
+        Command::Go { n } => 1 <= *n && *n <= 1_000_000,
+        Command::Turn { i } => *i <= 1_000_000,
+        Command::Crash {
+            node,
+            mode: ImageMode::Lose,
+        } => 1 <= *node && *node <= 8,
+        Command::Restart { node } => 1 <= *node && *node <= 8,
+        Command::Cut { a, b } => *a <= 8 && *b <= 8,
+        Command::Join { a, b } => *a <= 8 && *b <= 8,
+        Command::Fail { node, after } => {
+            1 <= *node && *node <= 8 && 1 <= *after && *after <= 1_000_000
+        }
+        Command::Stop {
+            node,
+            after,
+            mode: ImageMode::Lose,
+        } => {
+            1 <= *node && *node <= 8 && 1 <= *after && *after <= 1_000_000
+        }
+        Command::End => true,
+        _ => false,
+    }
+}
+
+/// Whether those of all are.
+fn all_fit(commands: &[Command]) -> bool
+    ensures { IsTrue result → All (NumbersFit 8) commands.now }
+{
+    for command in commands {
+        if !fits(command) {
+            return false;
+        }
+    }
+    true
+}
+
 /// The lines of a script, and the disks that are given back.
 fn carried<St: Store + Drop>(
     alloc: Global,
@@ -280,6 +331,9 @@ fn carried<St: Store + Drop>(
 where
     St::Device: Drop,
 {
+    if !all_fit(commands) {
+        return Err(AllocError);
+    }
     let mut run = begun::<St>(alloc, disks)?;
     run.carry_all(alloc, 0, commands)?;
     let (world, history) = run.into_parts();
@@ -300,6 +354,9 @@ where
     ensures { OnOk result (FitsTogether St.seen run.new.machine) }
 {
     let (commands, _) = script(alloc, rows)?;
+    if !all_fit(&commands) {
+        return Err(AllocError);
+    }
     run.carry_all(alloc, 0, &commands)
 }
 
@@ -308,6 +365,7 @@ fn only_key<St: Store + Drop>(alloc: Global, world: &World<St>) -> Result<Option
 where
     St::Device: Drop,
     requires { FitsTogether St.seen world.now }
+    ensures { IfOk result (λ it. IfSome it (λ key. HasTurn world.now key)) }
 {
     let next = world.following(None);
     if world.item(alloc, 7)? != next {

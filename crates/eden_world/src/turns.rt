@@ -1,7 +1,9 @@
 //! Turns: of the shell, and of the nodes.
 ghost use Rattle.std.specs.Prelude.{◌≡◌, ◌<◌, ◌≤◌, IfErr, IfOk, IsTrue, OnOk, length, OnErr};
 ghost use Rattle.passive_store.specs.Seen.{disk_seen};
+ghost use Rattle.invocation.specs.Mail.{is_waiting};
 ghost use Rattle.journal.specs.Enabled as enabled;
+ghost use Rattle.eden_world.specs.Listed.{HasTurn};
 ghost use Rattle.eden_world.specs.Seated.{EachShows, FitsTogether, KeepsDisks, heeds};
 ghost use Rattle.eden_world.specs.Taken.{TakesAtEach, StarvesAtEach};
 
@@ -30,6 +32,8 @@ where
     // The shell hears the first message from a station.
     fn hear(&mut self, alloc: Global, from: u8) -> Result<Entry, AllocError>
         requires whole { FitsTogether St.seen self.old }
+        requires from { from ≤ 8 }
+        requires waits { IsTrue (is_waiting from 0 self.old.calls) }
         ensures whole { OnOk result (FitsTogether St.seen self.new) }
         ensures taken { IfOk result (λ e. TakesAtEach St.Device.tells St.layout St.seen
             (disk_seen St.Device.counts St.Device.told St.Device.due) self.old self.new (enabled.delivery 0 from) e) }
@@ -40,11 +44,8 @@ where
         ensures leaves { let look = disk_seen St.Device.counts St.Device.told St.Device.due in
             OnErr result (KeepsDisks St.seen look self.old self.new) }
     {
-        if from > 8 {
-            return Err(AllocError);
-        }
         let Some(number) = self.calls.next(from, 0) else {
-            return Err(AllocError);
+            unreachable!()
         };
         let Some(name) = name_of_call(alloc, &self.calls, number)? else {
             return Err(AllocError);
@@ -126,6 +127,7 @@ where
     /// The turn of an enabled key.
     pub fn take_key(&mut self, alloc: Global, key: Key) -> Result<Entry, AllocError>
         requires whole { FitsTogether St.seen self.old }
+        requires enabled { HasTurn self.old key }
         ensures whole { OnOk result (FitsTogether St.seen self.new) }
         ensures taken { IfOk result (λ e. TakesAtEach St.Device.tells St.layout St.seen
             (disk_seen St.Device.counts St.Device.told St.Device.due) self.old self.new key e) }

@@ -1,4 +1,5 @@
 pub mod Acting
+pub mod Active
 pub mod Admitting
 pub mod Askings
 pub mod Counted

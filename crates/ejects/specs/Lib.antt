@@ -11,3 +11,4 @@ pub mod Events
 pub mod Turned
 pub mod Boots
 pub mod Marks
+pub mod Hears

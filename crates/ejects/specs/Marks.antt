@@ -1,9 +1,11 @@
 -- Which turns of its own an Eject may take.
-use Rattle.std.specs.Prelude.{◌≡◌, Bool, false, not, ◌&&◌, Option, None, Some, is_some}
+use Rattle.std.specs.Prelude.{◌≡◌, ℕ, Bool, false, not, ◌&&◌, Option, None, Some, is_some, IsSome, IsSomeAnd}
 use Rattle.std.specs.List.{list_any}
 use Rattle.capability.specs.declared.Uid.{Uid}
 use Rattle.eden_model.specs.Map.{first, same_uid}
-use Rattle.eden_model.specs.Crew.{startable}
+use Rattle.eden_model.specs.Crew.{Runs, startable}
+use Rattle.invocation.specs.Mail.{Mail}
+use Rattle.invocation.specs.Numbers.{item_in}
 use Rattle.journal.specs.Enabled.{is_ready}
 use Rattle.active_part.specs.Body.{Body}
 use Rattle.ejects.specs.Parts.{Parts, body_at, queue_at}
@@ -21,6 +23,14 @@ may_start (Some b) = is_some (startable b.crew.crew b.crew.queued)
 abbrev pub may_run : Option Body → Bool
 may_run None = false
 may_run (Some b) = list_any (λ q. is_ready q.1.waits) b.crew.crew.processes
+
+-- it is active, and this process of it waits for nothing
+abbrev pub IsReady : Option Body → ℕ → Type 0
+IsReady o p = IsSomeAnd o (λ b. Runs b.crew.crew p)
+
+-- it is active, and an invocation may start of which the call was asked
+abbrev pub MayBegin : Mail → Option Body → Type 0
+MayBegin m o = IsSomeAnd o (λ b. IsSomeAnd (startable b.crew.crew b.crew.queued) (λ i. IsSome (item_in i.call m.calls)))
 
 -- all but one Eject may do the same
 pub record MayButOne (u : Uid) (n new : Parts) : Type 0 where

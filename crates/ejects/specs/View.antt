@@ -1,5 +1,5 @@
 -- A node's fields as its parts, and what its small functions answer.
-use Rattle.std.specs.Prelude.{◌≡◌, ◌<◌, ℕ, nat_lt, true, false, cond, [], ◌∷◌, ◌++◌, length, None, Some, is_some, IsSomeAnd, not}
+use Rattle.std.specs.Prelude.{◌≡◌, ◌<◌, ℕ, nat_lt, true, false, cond, [], ◌∷◌, ◌++◌, length, Option, None, Some, is_some, IsSomeAnd, not}
 use Rattle.std.specs.FinMap.{get}
 use Rattle.std.specs.Option.{option_map}
 use Rattle.epl_syntax.specs.Rules.OfTypes.{TypeList}
@@ -12,7 +12,9 @@ use Rattle.capability.specs.declared.Uid.{Uid}
 use Rattle.eden_value.specs.declared.status.Status.TheVariants as status
 use Rattle.eden_model.specs.Map.{value_at, uid_cmp, same_uid}
 use Rattle.journal.specs.Deliveries.{misfit}
+use Rattle.eject_table.specs.Table.{active_at}
 use Rattle.active_part.specs.Body.{Body}
+use Rattle.active_part.specs.declared.Part.{Part}
 use Rattle.ejects.specs.Parts.{Parts, SameNode, body_at, queue_in, held_of}
 use Rattle.active_part.specs.View.{body_of}
 use Rattle.ejects.specs.Refusals.{refusal_of}
@@ -30,6 +32,10 @@ parts_of ts n = record {
   standing = λ u. option_map (option_map (body_of ts)) (get n.table.standings u);
   waiting = n.waiting.entries;
 }
+
+-- the active part of an Eject, whatever the types of the script
+abbrev pub part_at : Ejects → Uid → Option Part
+part_at n u = active_at n.table u
 
 -- a call whose arguments are there, as the model has it
 abbrev pub call_at_place : Place → Call → traffic.Call

@@ -1,5 +1,5 @@
 //! What processes ask of the store.
-ghost use Rattle.std.specs.Prelude.{◌≡◌, IfSome, ◌≤◌, ◌<◌, [], ℕ};
+ghost use Rattle.std.specs.Prelude.{◌≡◌, IfSome, IsSome, ◌≤◌, ◌<◌, [], ℕ};
 ghost use Rattle.std.specs.Prelude.{IfOk, OnOk, Some, None, length, ◌++◌, ◌∷◌};
 ghost use Rattle.epl_syntax.specs.Rules.OfTypes.{TypeList};
 ghost use Rattle.active_part.specs.Body.{Body};
@@ -14,7 +14,7 @@ ghost use Rattle.checkpoint.specs.Queues.{removal_of};
 ghost use Rattle.active_part.specs.View.{IsEncoded};
 ghost use Rattle.ejects.specs.Asking.{checkpointed_body, with_put};
 ghost use Rattle.active_part.specs.Bodies.{told_body, crewed_body};
-ghost use Rattle.ejects.specs.View.{parts_of, with_body};
+ghost use Rattle.ejects.specs.View.{part_at, parts_of, with_body};
 
 use crate::Ejects;
 use capability::Uid;
@@ -31,6 +31,7 @@ impl Ejects {
         types: &Types,
         uid: Uid,
     ) -> Result<Option<capability::Body>, AllocError>
+        requires { IsSome (part_at self.now uid) }
         ensures bytes { IfOk result (λ it. (b : Body) → body_at (parts_of types.now self.now) uid ≡ Some b
             → IsEncoded (spelling (rep_of b.kind b.vars)) it) }
         ensures within { IfOk result (λ it. IfSome it (λ body. length body ≤ BODY_LIMIT)) }
@@ -40,12 +41,13 @@ impl Ejects {
                 let encoded = part.encoded(alloc, types)?;
                 Ok(encoded)
             }
-            None => Err(AllocError),
+            None => unreachable!(),
         }
     }
 
     // A process waits for the store.
     fn block_at(&mut self, uid: Uid, process: u8) -> Result<(), AllocError>
+        requires { IsSome (part_at self.old uid) }
         ensures { OnOk result ((ts : TypeList) (b : Body) → body_at (parts_of ts self.old) uid ≡ Some b
             → parts_of ts self.new ≡ with_body uid (crewed_body (set_waits process outside) b) (parts_of ts self.old)) }
     {
@@ -54,7 +56,7 @@ impl Ejects {
                 part.block(process)?;
                 Ok(())
             }
-            None => Err(AllocError),
+            None => unreachable!(),
         }
     }
 
@@ -65,6 +67,7 @@ impl Ejects {
         process: u8,
         answer: Answer,
     ) -> Result<(), AllocError>
+        requires { IsSome (part_at self.old uid) }
         ensures { OnOk result ((ts : TypeList) (b : Body) → body_at (parts_of ts self.old) uid ≡ Some b
             → parts_of ts self.new ≡ with_body uid (told_body process answer b) (parts_of ts self.old)) }
     {
@@ -73,7 +76,7 @@ impl Ejects {
                 part.tell_at_once(process, answer)?;
                 Ok(())
             }
-            None => Err(AllocError),
+            None => unreachable!(),
         }
     }
 
@@ -86,6 +89,7 @@ impl Ejects {
         uid: Uid,
         process: u8,
     ) -> Result<(), AllocError>
+        requires { IsSome (part_at self.old uid) }
         ensures parts { OnOk result ((b : Body) → body_at (parts_of types.now self.old) uid ≡ Some b
             → parts_of types.now self.new
             ≡ with_body uid (checkpointed_body process (spelling (rep_of b.kind b.vars)) b) (parts_of types.now self.old)) }
@@ -117,6 +121,7 @@ impl Ejects {
         uid: Uid,
         process: u8,
     ) -> Result<(), AllocError>
+        requires { IsSome (part_at self.old uid) }
         ensures parts { OnOk result ((ts : TypeList) (b : Body) → body_at (parts_of ts self.old) uid ≡ Some b
             → parts_of ts self.new ≡ with_body uid (crewed_body (set_waits process outside) b) (parts_of ts self.old)) }
         ensures requests { OnOk result (worker.new.requests.items ≡ worker.old.requests.items ++ removal_of uid process ∷ []) }

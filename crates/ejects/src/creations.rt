@@ -1,7 +1,8 @@
 //! Ejects are created.
-ghost use Rattle.std.specs.Prelude.{◌≡◌};
-ghost use Rattle.std.specs.Prelude.{IfOk, Some};
+ghost use Rattle.std.specs.Prelude.{◌≡◌, IsSome};
+ghost use Rattle.std.specs.Prelude.{IfOk, OnOk, Some};
 ghost use Rattle.std.specs.FinMap.{len};
+ghost use Rattle.capability.specs.declared.Uid.{Uid as Name};
 ghost use Rattle.epl_syntax.specs.Meaning.{type_of, types_in};
 ghost use Rattle.epl_syntax.specs.Rules.OfTypes.{TypeList};
 ghost use Rattle.edentypes.specs.View.{kind_in};
@@ -10,7 +11,7 @@ ghost use Rattle.active_part.specs.Body.{Body};
 ghost use Rattle.active_part.specs.View.{body_of};
 ghost use Rattle.ejects.specs.Creations.{next_in, with_born, HasNewUid, IsCreated, CreatedFor, IsFresh};
 ghost use Rattle.ejects.specs.Parts.{body_at, Stands};
-ghost use Rattle.ejects.specs.View.{parts_of};
+ghost use Rattle.ejects.specs.View.{part_at, parts_of};
 
 use crate::Ejects;
 use active_part::Part;
@@ -47,6 +48,7 @@ impl Ejects {
         ensures made { IfOk result (λ made. (ts : TypeList) → made ≡ next_in (parts_of ts self.old) (len self.old.table.standings)) }
         ensures parts { IfOk result (λ made. (ts : TypeList)
             → parts_of ts self.new ≡ with_born made (body_of ts part) (parts_of ts self.old)) }
+        ensures stay { OnOk result ((u : Name) → IsSome (part_at self.old u) → IsSome (part_at self.new u)) }
     {
         match self.table.create(alloc, part) {
             Ok(uid) => Ok(Ok(uid)),
@@ -63,8 +65,10 @@ impl Ejects {
         types: &Types,
         kind: Kind,
     ) -> Result<Result<Uid, Status>, AllocError>
-        ensures { IfOk result (λ made. (s : Site) → HasNewUid s → Stands (parts_of types.now self.old) s
+        ensures created { IfOk result (λ made. (s : Site) → HasNewUid s → Stands (parts_of types.now self.old) s
             → IsCreated (kind_in types.now kind) made (parts_of types.now self.new) s) }
+        // what is active stays so
+        ensures stay { OnOk result ((u : Name) → IsSome (part_at self.old u) → IsSome (part_at self.new u)) }
     {
         let part = new_part(alloc, types, kind)?;
         let made = self.enter_new(alloc, part)?;
@@ -80,6 +84,7 @@ impl Ejects {
         process: u8,
         type_name: &Txt,
     ) -> Result<Shown, AllocError>
+        requires { IsSome (part_at self.old uid) }
         ensures { IfOk result (λ said. (b : Body) (s : Site) → body_at (parts_of types.now self.old) uid ≡ Some b → HasNewUid s
             → Stands (parts_of types.now self.old) s
             → CreatedFor uid process type_name.now (parts_of types.now self.new) said s) }

@@ -1,8 +1,9 @@
 //! Messages are delivered.
-ghost use Rattle.std.specs.Prelude.{IfSome, ◌≤◌, ◌<◌, ℕ, Bool};
+ghost use Rattle.std.specs.Prelude.{◌≡◌, IfSome, is_some, ◌≤◌, ◌<◌, ℕ, Bool};
 ghost use Rattle.std.specs.Prelude.{IfOk, Some, None};
 ghost use Rattle.invocation.specs.declared.call.Delivery.TheVariants.{Request, Reply};
 ghost use Rattle.ejects.specs.Events.{IsDelivery};
+ghost use Rattle.ejects.specs.Hears.{hears};
 ghost use Rattle.ejects.specs.Parts.{Steps};
 ghost use Rattle.ejects.specs.View.{parts_of, number_of};
 
@@ -13,7 +14,8 @@ use journal::Event;
 use std::alloc::{AllocError, Global};
 
 impl Ejects {
-    /// The first message from a station is delivered. None where none is on its way to an Eject of the node.
+    /// The first message from a station is delivered. None exactly where that is neither a request nor a reply to a process, or
+    /// where there is none.
     pub fn deliver(
         &mut self,
         alloc: Global,
@@ -22,6 +24,7 @@ impl Ejects {
         from: u8,
     ) -> Result<Option<Event>, AllocError>
         requires from { from ≤ 8 }
+        ensures hears { IfOk result (λ it. is_some it ≡ hears from (number_of self.old) calls.old) }
         ensures event { IfOk result (λ it. IfSome it (IsDelivery from (number_of self.old))) }
         ensures steps { IfOk result (λ it. IfSome it (λ e. (reach : ℕ → Bool)
             → Steps reach (parts_of types.now self.old) calls.old (parts_of types.now self.new) calls.new e)) }

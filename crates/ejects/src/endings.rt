@@ -1,11 +1,11 @@
 //! Active parts end.
-ghost use Rattle.std.specs.Prelude.{◌≡◌, ◌<◌};
+ghost use Rattle.std.specs.Prelude.{◌≡◌, ◌<◌, IsSome};
 ghost use Rattle.std.specs.Prelude.{OnOk, Some};
 ghost use Rattle.epl_syntax.specs.Rules.OfTypes.{TypeList};
 ghost use Rattle.active_part.specs.Body.{Body};
 ghost use Rattle.ejects.specs.Parts.{body_at};
 ghost use Rattle.ejects.specs.Replies.{Faulted, Slept};
-ghost use Rattle.ejects.specs.View.{parts_of};
+ghost use Rattle.ejects.specs.View.{part_at, parts_of};
 
 use crate::replies::{reply_all, reply_pairs};
 use crate::{Ejects, put_waiting, take_waiting};
@@ -23,11 +23,12 @@ impl Ejects {
         uid: Uid,
         stays: bool,
     ) -> Result<(), AllocError>
+        requires { IsSome (part_at self.old uid) }
         ensures { OnOk result ((ts : TypeList) (b : Body) → body_at (parts_of ts self.old) uid ≡ Some b
             → Faulted uid stays b (parts_of ts self.old) (parts_of ts self.new) calls.old calls.new) }
     {
         let Some(part) = self.table.drop_active(uid, stays) else {
-            return Err(AllocError);
+            unreachable!()
         };
         let parts = part.into_parts();
         calls.orphan(uid);
@@ -45,11 +46,12 @@ impl Ejects {
         uid: Uid,
         stays: bool,
     ) -> Result<(), AllocError>
+        requires { IsSome (part_at self.old uid) }
         ensures { OnOk result ((ts : TypeList) (b : Body) → body_at (parts_of ts self.old) uid ≡ Some b
             → Slept uid stays b (parts_of ts self.old) (parts_of ts self.new) calls.old calls.new) }
     {
         let Some(part) = self.table.drop_active(uid, stays) else {
-            return Err(AllocError);
+            unreachable!()
         };
         let parts = part.into_parts();
         calls.orphan(uid);

@@ -1,8 +1,7 @@
 //! Turns of processes.
-ghost use Rattle.std.specs.Prelude.{◌≡◌, IsSomeAnd, true, false, ◌<◌, ℕ, Bool};
+ghost use Rattle.std.specs.Prelude.{◌≡◌, ◌↔◌, ◌≤◌, IsSome, IsSomeAnd, IsTrue, true, false, ◌<◌, ℕ, Bool};
 ghost use Rattle.std.specs.Prelude.{IfOk, OnOk, Some, None, length};
 ghost use Rattle.std.specs.Option.{option_map};
-ghost use Rattle.eden_model.specs.Crew.{Runs};
 ghost use Rattle.epl_syntax.specs.Meaning.{Turned};
 ghost use Rattle.journal.specs.Processes.{turn_of};
 ghost use Rattle.journal.specs.World.{Site};
@@ -18,11 +17,12 @@ ghost use Rattle.checkpoint.specs.Asked.{requests_of, AllOfNode};
 ghost use Rattle.ejects.specs.Asking.{RequestsAre};
 ghost use Rattle.ejects.specs.Creations.{HasNewUid};
 ghost use Rattle.ejects.specs.Events.{IsTurnOf};
+ghost use Rattle.ejects.specs.Marks.{IsReady};
 ghost use Rattle.ejects.specs.Turned.{HasTurned, shown_step};
 ghost use Rattle.journal.specs.declared.event.Event.TheVariants as event;
 ghost use Rattle.ejects.specs.Passive.{IsKeptIn};
 ghost use Rattle.active_part.specs.Bodies.{turned_body, ended_body, asking_body, crewed_body, serves_of};
-ghost use Rattle.ejects.specs.View.{parts_of, with_body};
+ghost use Rattle.ejects.specs.View.{part_at, parts_of, with_body};
 
 use crate::Ejects;
 use crate::replies::send_results;
@@ -37,9 +37,9 @@ use locator::Places;
 use std::alloc::{AllocError, Global};
 
 impl Ejects {
-    // Whether a process of an Eject waits for nothing.
-    fn runs_at(&self, uid: Uid, process: u8) -> bool
-        ensures { (ts : TypeList) → result ≡ true → IsSomeAnd (body_at (parts_of ts self.now) uid) (λ b. Runs b.crew.crew process) }
+    /// Whether the Eject is active and this process of it waits for nothing.
+    pub fn is_ready(&self, uid: Uid, process: u8) -> bool
+        ensures { (ts : TypeList) → IsTrue result ↔ IsReady (body_at (parts_of ts self.now) uid) process }
     {
         match self.table.active(uid) {
             Some(part) => part.runs(process),
@@ -55,21 +55,24 @@ impl Ejects {
         uid: Uid,
         process: u8,
     ) -> Result<Effect, AllocError>
-        ensures { IfOk result (λ e. (b : Body) (t : Turned) → body_at (parts_of types.now self.old) uid ≡ Some b
+        requires { IsSome (part_at self.old uid) }
+        ensures turned { IfOk result (λ e. (b : Body) (t : Turned) → body_at (parts_of types.now self.old) uid ≡ Some b
             → turn_of uid (active_of b) process ≡ Some t
             → (e ≡ t.effect) × (parts_of types.now self.new ≡ with_body uid (turned_body process t b) (parts_of types.now self.old))) }
+        ensures stays { OnOk result (IsSome (part_at self.new uid)) }
     {
         match self.table.active_mut(uid) {
             Some(part) => {
                 let effect = part.turn(alloc, types, process, uid)?;
                 Ok(effect)
             }
-            None => Err(AllocError),
+            None => unreachable!(),
         }
     }
 
     // A process ends; the call that it served.
     pub(crate) fn end_at(&mut self, uid: Uid, process: u8) -> Result<Option<u32>, AllocError>
+        requires { IsSome (part_at self.old uid) }
         ensures { IfOk result (λ call. (ts : TypeList) (b : Body) → body_at (parts_of ts self.old) uid ≡ Some b
             → (call ≡ option_map (λ i. i.call) (serves_of b process))
             × (parts_of ts self.new ≡ with_body uid (ended_body process b) (parts_of ts self.old))) }
@@ -79,7 +82,7 @@ impl Ejects {
                 let call = part.end(process)?;
                 Ok(call)
             }
-            None => Err(AllocError),
+            None => unreachable!(),
         }
     }
 
@@ -92,6 +95,7 @@ impl Ejects {
         process: u8,
         results: Items,
     ) -> Result<Shown, AllocError>
+        requires { IsSome (part_at self.old uid) }
         ensures { IfOk result (λ said. (ts : TypeList) (b : Body) → body_at (parts_of ts self.old) uid ≡ Some b
             → Returned uid process results b (parts_of ts self.old) (parts_of ts self.new) calls.old calls.new said) }
     {
@@ -111,6 +115,7 @@ impl Ejects {
         process: u8,
         step: Step,
     ) -> Result<(), AllocError>
+        requires { IsSome (part_at self.old uid) }
         ensures { OnOk result ((ts : TypeList) (b : Body) → body_at (parts_of ts self.old) uid ≡ Some b
             → parts_of ts self.new ≡ with_body uid (crewed_body (stepped step process) b) (parts_of ts self.old)) }
     {
@@ -119,12 +124,13 @@ impl Ejects {
                 part.coordinate(process, step)?;
                 Ok(())
             }
-            None => Err(AllocError),
+            None => unreachable!(),
         }
     }
 
     // The same, and what is shown of it.
     fn coordinates(&mut self, uid: Uid, process: u8, step: Step) -> Result<Shown, AllocError>
+        requires { IsSome (part_at self.old uid) }
         ensures { IfOk result (λ said. (said ≡ shown_step step) × ((ts : TypeList) (b : Body)
             → body_at (parts_of ts self.old) uid ≡ Some b
             → parts_of ts self.new ≡ with_body uid (crewed_body (stepped step process) b) (parts_of ts self.old))) }
@@ -147,6 +153,7 @@ impl Ejects {
         process: u8,
         at_once: Option<Status>,
     ) -> Result<(), AllocError>
+        requires { IsSome (part_at self.old uid) }
         ensures { OnOk result ((ts : TypeList) (b : Body) → body_at (parts_of ts self.old) uid ≡ Some b
             → parts_of ts self.new ≡ with_body uid (asking_body process at_once b) (parts_of ts self.old)) }
     {
@@ -155,7 +162,7 @@ impl Ejects {
                 part.ask(alloc, process, at_once)?;
                 Ok(())
             }
-            None => Err(AllocError),
+            None => unreachable!(),
         }
     }
 
@@ -171,14 +178,13 @@ impl Ejects {
         operation: Txt,
         args: Items,
     ) -> Result<Shown, AllocError>
-        requires { length calls.old.calls < 4294967295 }
+        requires calls { length calls.old.calls < 4294967295 }
+        requires node { uid.node ≤ 8 }
+        requires active { IsSome (part_at self.old uid) }
         ensures { IfOk result (λ said. (ts : TypeList) (b : Body) → body_at (parts_of ts self.old) uid ≡ Some b
             → Invoked places.now uid process target operation args b (parts_of ts self.old) (parts_of ts self.new)
             calls.old calls.new said) }
     {
-        if uid.node > 8 {
-            return Err(AllocError);
-        }
         let asker = Asker::Eject { uid, process };
         let asked = calls.ask(alloc, asker, target, operation, args, places)?;
         self.ask_at(alloc, uid, process, asked.at_once)?;
@@ -198,7 +204,9 @@ impl Ejects {
         stays: bool,
         effect: Effect,
     ) -> Result<Shown, AllocError>
-        requires { length calls.old.calls < 4294967295 }
+        requires calls { length calls.old.calls < 4294967295 }
+        requires node { uid.node ≤ 8 }
+        requires active { IsSome (part_at self.old uid) }
         ensures parts { IfOk result (λ said. (reach : ℕ → Bool) (n : Parts) (s : Site) → IsSoundSite s → IsAt n calls.old s
             → HasTurned uid process effect n (parts_of types.now self.old)
             → IsKeptIn s uid stays → Reaches reach places.now uid.node → HasNewUid s
@@ -266,7 +274,9 @@ impl Ejects {
         process: u8,
         stays: bool,
     ) -> Result<Event, AllocError>
-        requires { length calls.old.calls < 4294967295 }
+        requires calls { length calls.old.calls < 4294967295 }
+        requires node { uid.node ≤ 8 }
+        requires ready { IsReady (body_at (parts_of types.now self.old) uid) process }
         ensures event { IfOk result (IsTurnOf uid process) }
         ensures parts { IfOk result (λ e. (reach : ℕ → Bool) (s : Site) → IsSoundSite s → IsAt (parts_of types.now self.old) calls.old s
             → IsKeptIn s uid stays → Reaches reach places.now uid.node → HasNewUid s
@@ -277,9 +287,6 @@ impl Ejects {
         ensures begun { worker.new.begun ≡ worker.old.begun }
         ensures of_node { (k : ℕ) → IsEject k uid → AllOfNode k worker.old.requests.items → AllOfNode k worker.new.requests.items }
     {
-        if !self.runs_at(uid, process) {
-            return Err(AllocError);
-        }
         let effect = self.turn_at(alloc, types, uid, process)?;
         let shown = self.carry_out(
             alloc, types, calls, places, worker, uid, process, stays, effect,

@@ -1,5 +1,5 @@
 //! Requests that are delivered join the queue of their Eject, or are refused.
-ghost use Rattle.std.specs.Prelude.{◌≡◌, ◌<◌, ℕ, Bool};
+ghost use Rattle.std.specs.Prelude.{◌≡◌, ◌<◌, ℕ, Bool, IsSome};
 ghost use Rattle.std.specs.Prelude.{IfOk, OnOk, Some, None, length};
 ghost use Rattle.invocation.specs.Carries.{CarriesDelivery};
 ghost use Rattle.eden_model.specs.Map.{value_at, uid_cmp};
@@ -12,7 +12,7 @@ ghost use Rattle.ejects.specs.Events.{IsDelivery};
 ghost use Rattle.ejects.specs.Parts.{body_at, queue_in, Stands, IsStep};
 ghost use Rattle.active_part.specs.View.{body_of};
 ghost use Rattle.active_part.specs.Bodies.{joined_body};
-ghost use Rattle.ejects.specs.View.{parts_of, number_of, IsAdmission, IsAdmissionAt, with_body, JoinsPassive};
+ghost use Rattle.ejects.specs.View.{part_at, parts_of, number_of, IsAdmission, IsAdmissionAt, with_body, JoinsPassive};
 
 use crate::replies::reply;
 use crate::{Ejects, put_waiting, take_waiting};
@@ -94,13 +94,14 @@ impl Ejects {
             }
             Standing::Active => match self.table.active(uid) {
                 Some(part) => admission_at(alloc, types, part, asked),
-                None => Err(AllocError),
+                None => unreachable!(),
             },
         }
     }
 
     // The invocation joins the queue of an active part that has a place for it.
     fn join_active(&mut self, uid: Uid, call: u32, class: u8) -> Result<(), AllocError>
+        requires { IsSome (part_at self.old uid) }
         ensures { OnOk result ((ts : TypeList) (b : Body) → body_at (parts_of ts self.old) uid ≡ Some b
             → parts_of ts self.new ≡ with_body uid (joined_body (record { call = call; class = class }) b) (parts_of ts self.old)) }
     {
@@ -109,7 +110,7 @@ impl Ejects {
                 part.offer(call, class)?;
                 Ok(())
             }
-            None => Err(AllocError),
+            None => unreachable!(),
         }
     }
 

@@ -123,6 +123,9 @@ impl Bench {
     /// A process of an Eject takes a turn, that serves the one call or goes on with it.
     fn turn(&mut self, uid: Uid, operation: &[u8], args: &[i64]) -> Result<Turned, AllocError> {
         let mut calls = asked(self.alloc, uid, operation, args)?;
+        if uid.node > 8 || !self.ejects.is_ready(uid, 1) {
+            return Err(AllocError);
+        }
         let event = self.ejects.process(
             self.alloc,
             &self.types,
@@ -144,6 +147,9 @@ impl Bench {
     fn call(&mut self, uid: Uid, operation: &[u8], args: &[i64]) -> Result<Turned, AllocError> {
         let _refused = self.request(uid, operation, args)?;
         let calls = asked(self.alloc, uid, operation, args)?;
+        if !self.ejects.may_begin(&calls, uid) {
+            return Err(AllocError);
+        }
         let _started = self.ejects.start(self.alloc, &self.types, &calls, uid)?;
         self.turn(uid, operation, args)
     }
@@ -232,6 +238,9 @@ fn an_eject_that_sleeps_is_woken(rt: HostRuntime) -> Result<(), AllocError> {
         .wake(alloc, &b.types, &mut calls, uid, b.cell, &durable)?;
     assert!(rt; !b.ejects.may_wake(uid));
     assert!(rt; b.ejects.may_start(uid));
+    if !b.ejects.may_begin(&calls, uid) {
+        return Err(AllocError);
+    }
     let _started = b.ejects.start(alloc, &b.types, &calls, uid)?;
     assert!(rt; b.ejects.next_ready(uid, 0) == Some(1));
     assert!(rt; is_returned(&b.turn(uid, b"Get", &[])?, Some(9)));

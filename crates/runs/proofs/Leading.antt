@@ -71,14 +71,14 @@ first-Contains : (keys : List Key) (k : Key) → first keys ≡ Some k → Conta
 first-Contains [] k e = absurd (cc e)
 first-Contains (x ∷ keys) k e = let s : x ≡ k = cc in (0, omega arith, s)
 
-following-Contains : (last : Option Key) (keys : List Key) (k : Key) → following last keys ≡ Some k → Contains keys k
+pub following-Contains : (last : Option Key) (keys : List Key) (k : Key) → following last keys ≡ Some k → Contains keys k
 following-Contains last keys k e = go (find (is_past last) keys) refl
   where
     go : (o : Option Key) → find (is_past last) keys ≡ o → Contains keys k
     go None is = first-Contains keys k (rw is at e)
     go (Some x) is = find-Contains (is_past last) keys k (is ∙ (let r : Some x ≡ Some k = rw is at e in r))
 
-item-Contains : (keys : List Key) (i : ℕ) (k : Key) → slice_get keys i ≡ Some k → Contains keys k
+pub item-Contains : (keys : List Key) (i : ℕ) (k : Key) → slice_get keys i ≡ Some k → Contains keys k
 item-Contains [] i k is = absurd (let bad : None ≡ Some k = is in cc bad)
 item-Contains (x ∷ keys) zero k is = let s : x ≡ k = cc in (0, omega arith, s)
 item-Contains (x ∷ keys) (suc i) k is = let h = item-Contains keys i k is in (suc h.0, omega (arith, h.1), h.2)

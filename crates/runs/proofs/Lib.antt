@@ -7,3 +7,4 @@ pub mod Parts
 pub mod Epochs
 pub mod Reaching
 pub mod Few
+pub mod Numbers

@@ -4,7 +4,9 @@ ghost use Rattle.std.specs.List.{Contains};
 ghost use Rattle.eden_value.specs.Limits.{IsText};
 ghost use Rattle.journal.specs.World.{World};
 ghost use Rattle.journal.specs.declared.event.Entry.{Entry};
+ghost use Rattle.journal.specs.declared.event.Key.{Key};
 ghost use Rattle.journal.specs.Enabled.{enabled, following, item};
+ghost use Rattle.journal.specs.Fit.{NumbersFit};
 ghost use Rattle.journal.specs.References.{cap_at};
 ghost use Rattle.journal.specs.Run.{Step, is_found, next_directory, is_open_call};
 ghost use Rattle.runs.specs.Reached.{IsReached, IsFitIn, IsNamed};
@@ -37,19 +39,25 @@ pub trait Machine {
     /// What a call that found no memory leaves of it, for whatever world it stood or for none.
     ghost leaves: { Self → Self → Type 0 };
 
+    /// It has the turn of this key, whatever world it stands for.
+    ghost enables: { Self → Key → Type 0 };
+
     /// The least enabled key past the last one, or the least of all.
     fn following(&self, last: Option<Key>) -> Option<Key>
         requires whole { whole self.now }
-        ensures { (more : ℕ) (w : World) → IsReached w → stands self.now more w → result ≡ following last (enabled w) };
+        ensures follows { (more : ℕ) (w : World) → IsReached w → stands self.now more w → result ≡ following last (enabled w) }
+        ensures enabled { IfSome result (λ key. enables self.now key) };
 
     /// The enabled key at this place, counted round. Memory is for a list of the keys; the machine stays as it is.
     fn item(&self, alloc: Global, i: u32) -> Result<Option<Key>, AllocError>
         requires whole { whole self.now }
-        ensures { IfOk result (λ key. (more : ℕ) (w : World) → IsReached w → stands self.now more w → key ≡ item i (enabled w)) };
+        ensures chosen { IfOk result (λ key. (more : ℕ) (w : World) → IsReached w → stands self.now more w → key ≡ item i (enabled w)) }
+        ensures enabled { IfOk result (λ it. IfSome it (λ key. enables self.now key)) };
 
     /// The turn of an enabled key.
     fn take(&mut self, alloc: Global, key: Key) -> Result<Entry, AllocError>
         requires whole { whole self.old }
+        requires enabled { enables self.old key }
         ensures taken { IfOk result (λ e. (more : ℕ) (w : World) → IsReached w → stands self.old (suc more) w
             → Contains (enabled w) key → TakesKey stands did self.old self.new more w key e) }
         ensures starved { IfErr result (λ e. (more : ℕ) (w : World) → IsReached w → stands self.old (suc more) w
@@ -58,9 +66,10 @@ pub trait Machine {
         ensures leaves { OnErr result (leaves self.old self.new) }
         ensures whole { OnOk result (whole self.new) };
 
-    /// A command that gives one entry, where it is fit.
+    /// A command that gives one entry, where it is fit. It names none but the eight nodes.
     fn carry_out(&mut self, alloc: Global, command: &Command) -> Result<Entry, AllocError>
         requires single { IsTrue (is_single command.now) }
+        requires numbers { NumbersFit 8 command.now }
         requires whole { whole self.old }
         ensures carried { IfOk result (λ e. (more : ℕ) (w : World) → IsReached w → stands self.old (suc more) w
             → IsFitIn w command.now → CarriesOut stands did self.old self.new more w command.now e) }

@@ -1,9 +1,10 @@
 //! A run: a machine that takes turns and carries commands out, and the history so far.
-ghost use Rattle.std.specs.Prelude.{◌≡◌, ◌<◌, ◌≤◌, ◌+◌, [], ℕ, List, None, IfOk, OnOk, OnErr, IsTrue};
+ghost use Rattle.std.specs.Prelude.{◌≡◌, ◌<◌, ◌≤◌, ◌+◌, [], ℕ, List, None, IfOk, IfSome, OnOk, OnErr, IsTrue};
 ghost use Rattle.std.specs.List.{All, Contains};
 ghost use Rattle.journal.specs.World.{World};
 ghost use Rattle.journal.specs.Run.{turn_is, turns};
 ghost use Rattle.journal.specs.Enabled.{enabled};
+ghost use Rattle.journal.specs.Fit.{NumbersFit};
 ghost use Rattle.runs.specs.Reached.{IsReached};
 ghost use Rattle.runs.specs.Machines.{plain, IsLeft};
 ghost use Rattle.runs.specs.Room.{is_single};
@@ -97,8 +98,9 @@ impl<M: Machine> Run<M> {
 
     fn choose(&self, alloc: Global, choice: Choice) -> Result<Option<Key>, AllocError>
         requires whole { M.whole self.now.machine }
-        ensures { IfOk result (λ key. (more : ℕ) (w : World) → IsReached w → M.stands self.now.machine more w → w.last ≡ self.now.last
-            → key ≡ chosen_by choice w (enabled w)) }
+        ensures chosen { IfOk result (λ key. (more : ℕ) (w : World) → IsReached w → M.stands self.now.machine more w
+            → w.last ≡ self.now.last → key ≡ chosen_by choice w (enabled w)) }
+        ensures enabled { IfOk result (λ it. IfSome it (λ key. M.enables self.now.machine key)) }
     {
         match choice {
             Choice::Following => Ok(self.machine.following(self.last)),
@@ -171,6 +173,7 @@ impl<M: Machine> Run<M> {
     // A command that gives one entry.
     fn command(&mut self, alloc: Global, command: &Command) -> Result<(), AllocError>
         requires single { IsTrue (is_single command.now) }
+        requires numbers { NumbersFit 8 command.now }
         requires whole { M.whole self.old.machine }
         ensures done { OnOk result (TakesCommand M.stands M.did self.old self.new command.now) }
         ensures fails { OnErr result (CommandFails M.stands M.did M.starved self.old self.new command.now) }
@@ -187,6 +190,7 @@ impl<M: Machine> Run<M> {
 
     // Any command.
     fn carry_out(&mut self, alloc: Global, command: &Command) -> Result<(), AllocError>
+        requires numbers { NumbersFit 8 command.now }
         requires whole { M.whole self.old.machine }
         ensures done { OnOk result (CarriesCommand M.stands M.did self.old self.new command.now) }
         ensures part { OnErr result (PartOfCommand M.stands M.did M.starved self.old self.new command.now) }
@@ -205,13 +209,15 @@ impl<M: Machine> Run<M> {
         }
     }
 
-    /// Boots the nodes and carries all commands out.
+    /// Boots the nodes and carries all commands out. There are eight nodes at most.
     pub fn carry_all(
         &mut self,
         alloc: Global,
         nodes: u8,
         commands: &[Command],
     ) -> Result<(), AllocError>
+        requires few { nodes ≤ 8 }
+        requires numbers { All (NumbersFit 8) commands.now }
         requires whole { M.whole self.old.machine }
         ensures done { OnOk result (CarriesAll M.stands M.did self.old self.new nodes commands.now) }
         ensures part { OnErr result (CarriesPart M.stands M.did M.starved self.old self.new nodes commands.now) }

@@ -1,8 +1,9 @@
 ghost use Rattle.journal.specs.World.{World};
 ghost use Rattle.journal.specs.declared.event.Entry.{Entry};
+ghost use Rattle.journal.specs.Fit.{NumbersFit};
 ghost use Rattle.journal.specs.Run.{Step};
 ghost use Rattle.runs.specs.Room.{is_single};
-ghost use Rattle.std.specs.Prelude.{ℕ, ◌≡◌, IsTrue};
+ghost use Rattle.std.specs.Prelude.{ℕ, IsTrue};
 
 use super::*;
 use crate::components::components;
@@ -64,6 +65,8 @@ impl Machine for Keys {
     ghost shows = { λ m e n. Unit {0} };
 
     ghost leaves = { λ m n. Unit {0} };
+
+    ghost enables = { λ m key. Unit {0} };
 
     fn following(&self, last: Option<Key>) -> Option<Key> {
         let first = self.keys.first().copied();
@@ -198,12 +201,28 @@ fn walk(alloc: Global, path: &[u8], which: u8) -> Result<Command, AllocError> {
     })
 }
 
+/// Whether the numbers of the command are in their ranges.
+fn fits(command: &Command) -> bool
+    ensures { IsTrue result → NumbersFit 8 command.now }
+{
+    match command {
+        Command::Go { n } => *n >= 1 && *n <= 1_000_000,
+        Command::Turn { i } => *i <= 1_000_000,
+        Command::Restart { node } => *node >= 1 && *node <= 8,
+        Command::Walk { target, .. } => target.result <= 1,
+        _ => false,
+    }
+}
+
 fn carried(
     alloc: Global,
     serials: &[u32],
     finds: u32,
     command: Command,
 ) -> Result<Vec<u8>, AllocError> {
+    if !fits(&command) {
+        return Err(AllocError);
+    }
     let mut run = run_of(alloc, serials, finds)?;
     let commands = vec![in alloc; command, Command::End]?;
     run.carry_all(alloc, 2, &commands)?;

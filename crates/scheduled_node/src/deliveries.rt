@@ -1,6 +1,7 @@
 //! Messages are delivered.
-ghost use Rattle.std.specs.Prelude.{◌≡◌, ◌≤◌, IfOk, IfSome, IsTrue, OnOk};
+ghost use Rattle.std.specs.Prelude.{◌≡◌, ◌≤◌, is_some, IfOk, IfSome, IsTrue, OnOk};
 ghost use Rattle.ejects.specs.Events.{IsDelivery};
+ghost use Rattle.ejects.specs.Hears.{hears};
 ghost use Rattle.ejects.specs.View.{number_of};
 ghost use Rattle.eden_kernel.specs.Stands.{held, IsWhole};
 ghost use Rattle.scheduled_node.specs.Scheduled.{manned, ScheduledTurnsAt};
@@ -14,7 +15,8 @@ use passive_store::Store;
 use std::alloc::{AllocError, Global};
 
 impl<St: Store> ScheduledNode<St> {
-    /// The first message from a station is delivered. None where none is on its way to an Eject of the node.
+    /// The first message from a station is delivered. None exactly where that is neither a request nor a reply to a process, or
+    /// where there is none.
     pub fn deliver(
         &mut self,
         alloc: Global,
@@ -26,6 +28,7 @@ impl<St: Store> ScheduledNode<St> {
         requires whole { IsWhole (held St.seen self.old.node) }
         ensures whole { OnOk result (IsWhole (held St.seen self.new.node)) }
         ensures number { self.new.node.number ≡ self.old.node.number }
+        ensures hears { IfOk result (λ it. is_some it ≡ hears from (number_of self.old.node.ejects) calls.old) }
         ensures event { IfOk result (λ it. IfSome it (IsDelivery from (number_of self.old.node.ejects))) }
         ensures store { St.seen self.new.node.store ≡ St.seen self.old.node.store }
         ensures turn { IsTrue St.Device.tells → IfOk result (λ it. IfSome it (λ e.

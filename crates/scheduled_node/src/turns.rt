@@ -45,6 +45,9 @@ impl<St: Store> ScheduledNode<St> {
         ensures turn { IsTrue St.Device.tells → IfOk result (λ e.
             ScheduledTurnsAt St.layout types.now (manned St.seen self.old) calls.now (manned St.seen self.new) calls.now e) }
     {
+        if !self.node.may_start(calls, uid) {
+            return Err(AllocError);
+        }
         let event = self.node.start(alloc, types, calls, uid)?;
         note(&mut self.agenda, self.node.ejects(), calls, &event)?;
         Ok(event)
@@ -70,6 +73,9 @@ impl<St: Store> ScheduledNode<St> {
             → IsSoundSite s → HasNewUid s → ScheduledStands St.layout types.now (manned St.seen self.old) calls.old s
             → ScheduledTurns St.layout types.now (manned St.seen self.new) calls.new reach (manned St.seen self.old) s e) }
     {
+        if !self.node.may_process(uid, process) {
+            return Err(AllocError);
+        }
         let event = self
             .node
             .process(alloc, types, calls, places, uid, process)?;
@@ -118,6 +124,9 @@ impl<St: Store> ScheduledNode<St> {
             → NodeStands St.layout types.now (held St.seen self.old.node) calls.old s
             → Starves St.layout s (St.seen self.old.node.store) (St.seen self.new.node.store)) }
     {
+        if !self.node.may_activate(uid) {
+            return Err(AllocError);
+        }
         let (event, end) = self.node.activate(alloc, types, calls, uid)?;
         note_behind(&mut self.agenda, self.node.ejects(), calls, &event, end)?;
         Ok((event, end))
@@ -163,6 +172,9 @@ impl<St: Store> ScheduledNode<St> {
             → 1 ≤ (St.seen self.old.node.store).more → NodeStands St.layout ts (held St.seen self.old.node) calls.old s
             → Starves St.layout s (St.seen self.old.node.store) (St.seen self.new.node.store)) }
     {
+        if !self.node.pending() {
+            return Err(AllocError);
+        }
         let (event, end) = self.node.store_turn(alloc, calls)?;
         note_behind(&mut self.agenda, self.node.ejects(), calls, &event, end)?;
         Ok((event, end))

@@ -33,7 +33,7 @@ returns-clause-turn g c = λ so law reach s sound h.
     (event.Activate c.args.uid how p)) (sym c.end_behind.ensures)
     (turn-activates g.St.Store.layout ts n.number x y n.ejects c.settle_ejects.new.ejects new n.worker c.args.calls.now
     c.activation_ends.new.calls reach s c.start_from.ensures.node h c.args.uid p start
-    (sym (c.may_wake.ensures ts) ∙ c.if-not-may_wake.false) how
+    c.requires.may.wakes how
     (subst (λ e. StartsTo g.St.Store.layout x.node s rs c.args.uid x e start p y) (sym c.in_ok-end.ensures.how)
     (c.in_ok-start.ensures.starts so law (apart-of n.number x.node c.args.uid (c.is_eject.ensures c.if-not-is_eject.false)) s rs
     h.calls.parts.types h.disk))
@@ -43,18 +43,6 @@ returns-clause-turn g c = λ so law reach s sound h.
 
 pub returns-then-not-is_eject-clause-starves : goal.returns-then-not-is_eject-clause-starves
 returns-then-not-is_eject-clause-starves g c = λ so law s h.
-    let n = c.args.self.now in
-    let x : Seen = g.St.Store.seen n.store in
-    starves-still g.St.Store.layout s (requests_of x.work n.worker.requests.items) x x h.disk refl
-
-pub returns-then-not-may_wake-clause-starves : goal.returns-then-not-may_wake-clause-starves
-returns-then-not-may_wake-clause-starves g c = λ so law s h.
-    let n = c.args.self.now in
-    let x : Seen = g.St.Store.seen n.store in
-    starves-still g.St.Store.layout s (requests_of x.work n.worker.requests.items) x x h.disk refl
-
-pub returns-then-is_worked_on-clause-starves : goal.returns-then-is_worked_on-clause-starves
-returns-then-is_worked_on-clause-starves g c = λ so law s h.
     let n = c.args.self.now in
     let x : Seen = g.St.Store.seen n.store in
     starves-still g.St.Store.layout s (requests_of x.work n.worker.requests.items) x x h.disk refl
@@ -102,12 +90,6 @@ returns-clause-touches g c = λ so law s h.
 -- where there was no memory
 pub returns-then-not-is_eject-clause-counts : goal.returns-then-not-is_eject-clause-counts
 returns-then-not-is_eject-clause-counts g c = none-fell _ _ refl
-
-pub returns-then-not-may_wake-clause-counts : goal.returns-then-not-may_wake-clause-counts
-returns-then-not-may_wake-clause-counts g c = none-fell _ _ refl
-
-pub returns-then-is_worked_on-clause-counts : goal.returns-then-is_worked_on-clause-counts
-returns-then-is_worked_on-clause-counts g c = none-fell _ _ refl
 
 pub returns-in_err-start-clause-counts : goal.returns-in_err-start-clause-counts
 returns-in_err-start-clause-counts g c = any-err c.from_residual.result _

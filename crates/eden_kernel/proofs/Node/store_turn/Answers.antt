@@ -53,7 +53,7 @@ returns-in_ok-request_goes-in-Going-clause-turn g c = λ so ts reach s sound mor
     (record { number = n.number; ejects = n.ejects; worker = n.worker; seen = x }) s e)
     (sym c.turn_of-event.ensures)
     (turn-goes g.St.Store.layout ts n.number x y n.ejects new n.worker later c.args.calls.now c.args.calls.now reach s
-    c.step.ensures.node h c.in-Some.uid c.in-Going.pick c.in-Some.ensures
+    c.step.ensures.node h c.in-Some.uid c.in-Going.pick c.in-Some.ensures.first
     (subst (λ r. StepsTo g.St.Store.layout x.node s n.worker.requests.items x later.requests.items y r) c.in-Going.is
     (c.in_ok-pick.ensures.steps so s more h.disk).0)
     (λ first settles allowed. c.in_ok-request_goes-in-Going.ensures so ts c.args.calls.now reach y.disk.counts.clock s h.calls first
@@ -107,12 +107,6 @@ returns-in_ok-request_ends-in-Ended-clause-turn g c = λ so ts reach s sound mor
     left) (c.step.ensures.begun ∙ still))
     (λ first shown allowed. c.in_ok-request_ends-in-Ended.ensures.ends ts reach y.disk.counts.clock s sound h.calls first shown allowed))
 
-pub returns-in_default-clause-starves : goal.returns-in_default-clause-starves
-returns-in_default-clause-starves g c = λ so ts s more h.
-    let n = c.args.self.now in
-    let x : Seen = g.St.Store.seen n.store in
-    starves-still g.St.Store.layout s (requests_of x.work n.worker.requests.items) x x h.disk refl
-
 pub returns-in_err-pick-clause-starves : goal.returns-in_err-pick-clause-starves
 returns-in_err-pick-clause-starves g c = λ so.
     let n = c.args.self.now in
@@ -128,7 +122,7 @@ returns-in_err-request_ends-in-Ended-clause-starves g c = λ so.
     let y : Seen = g.St.Store.seen c.step.new.store in
     any-err c.from_residual-in_err-request_ends-in-Ended.result _ (λ ts s more h.
     starves-stepped g.St.Store.layout s n.worker.requests.items c.step.new.self.requests.items x y c.in-Some.uid c.in_ok-pick.field-0
-    c.in-Some.ensures (c.in_ok-pick.ensures.steps so s more h.disk).0)
+    c.in-Some.ensures.first (c.in_ok-pick.ensures.steps so s more h.disk).0)
 
 -- its event is of the node
 pub returns-in_ok-request_goes-in-Going-clause-of_node : goal.returns-in_ok-request_goes-in-Going-clause-of_node
@@ -136,7 +130,7 @@ returns-in_ok-request_goes-in-Going-clause-of_node g c =
     let n = c.args.self.now in
     let x : Seen = g.St.Store.seen n.store in
     ap shown_of c.turn_of-event.ensures
-    ∙ first-own x.node n.worker.requests.items c.in-Some.uid c.requires.whole.of_node c.in-Some.ensures ∙ sym c.requires.whole.number
+    ∙ first-own x.node n.worker.requests.items c.in-Some.uid c.requires.whole.of_node c.in-Some.ensures.first ∙ sym c.requires.whole.number
 
 pub returns-then-not-is_up_behind-clause-of_node : goal.returns-then-not-is_up_behind-clause-of_node
 returns-then-not-is_up_behind-clause-of_node g c =
@@ -165,7 +159,7 @@ returns-in_ok-request_goes-in-Going-clause-shows g c =
     let one = subst (λ r. OneCall x.disk.counts y.disk.counts r) c.in-Going.is c.in_ok-pick.ensures.calls in
     subst (λ e. ShowsCounts g.St.Device.Disk.obeys n.number e x.disk y.disk) (sym c.turn_of-event.ensures)
     (shows-store g.St.Device.Disk.obeys n.number c.in-Some.uid y.disk.counts.clock end.Part c.in-Going.pick x.disk y.disk one.made
-    (first-own x.node n.worker.requests.items c.in-Some.uid c.requires.whole.of_node c.in-Some.ensures ∙ sym c.requires.whole.number)
+    (first-own x.node n.worker.requests.items c.in-Some.uid c.requires.whole.of_node c.in-Some.ensures.first ∙ sym c.requires.whole.number)
     one.counts (subst (λ r. ObeyedIn g.St.Device.Disk.obeys x.disk y.disk (end_of_step r)) c.in-Going.is c.in_ok-pick.ensures.obeyed) tt)
 
 pub returns-then-not-is_up_behind-clause-shows : goal.returns-then-not-is_up_behind-clause-shows
@@ -245,9 +239,6 @@ returns-in_ok-request_ends-in-Ended-clause-touches g c = λ so ts s more h.
     (c.in_ok-pick.ensures.touches so s more h.disk)))
 
 -- where there was no memory
-pub returns-in_default-clause-counts : goal.returns-in_default-clause-counts
-returns-in_default-clause-counts g c = none-fell _ _ refl
-
 pub returns-in_err-pick-clause-counts : goal.returns-in_err-pick-clause-counts
 returns-in_err-pick-clause-counts g c = any-err c.from_residual.result _ (none-fell (g.St.Store.seen c.args.self.now.store).disk.counts
     (g.St.Store.seen c.step.new.store).disk.counts (ap (λ (d : DiskSeen). d.counts) c.in_err-pick.ensures.unchanged.1.disk))
@@ -264,4 +255,4 @@ returns-in_err-request_goes-in-Going-clause-starves g c = λ so.
     let y : Seen = g.St.Store.seen c.step.new.store in
     any-err c.from_residual-in_err-request_goes-in-Going.result _ (λ ts s more h.
     starves-stepped g.St.Store.layout s n.worker.requests.items c.step.new.self.requests.items x y c.in-Some.uid c.in_ok-pick.field-0
-    c.in-Some.ensures (c.in_ok-pick.ensures.steps so s more h.disk).0)
+    c.in-Some.ensures.first (c.in_ok-pick.ensures.steps so s more h.disk).0)

@@ -1,6 +1,9 @@
 use Rattle.std.proofs.Common.{◌≡◌, ℕ, true, false, map, sym, ◌∙◌, ap, subst}
 use Rattle.std.specs.Prelude.{OnOk, OnErr}
+use Rattle.std.specs.List.{All}
 use Rattle.passive_store.specs.Seen.{disk_seen}
+use Rattle.journal.specs.Fit.{NumbersFit}
+use Rattle.runs.proofs.Numbers.{numbers-of}
 use Rattle.runs.specs.Runs.{CarriesAll, CarriesPart}
 use Rattle.eden_world.specs.InHand.{Did, Ends, Stands}
 use Rattle.eden_world.specs.Legal.{AreSized}
@@ -16,6 +19,11 @@ close-requires-clause-seated g c =
     subst (λ p. IsSeated p) (sym c.into_parts-world.ensures.machine)
     (seated-by (heeds g.St.Device.Disk.tells g.St.Device.Disk.obeys) g.St.Store.seen look c.new-run.result c.carry_all.new.self
     c.carry_all.result c.new-run.ensures.history c.carry_all.ensures.whole c.carry_all.ensures.shown_part)
+
+pub carry_all-requires-clause-numbers : goal.carry_all-requires-clause-numbers
+carry_all-requires-clause-numbers g c =
+    let commands : c.as_slice.result.now ≡ c.args.script.commands = c.as_slice.ensures.value ∙ c.commands.view_is in
+    subst (λ cs. All (NumbersFit 8) cs) (sym commands) (numbers-of c.args.script c.requires.fit)
 
 pub returns-clause-carried : goal.returns-clause-carried
 returns-clause-carried g c =

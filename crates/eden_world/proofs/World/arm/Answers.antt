@@ -1,23 +1,13 @@
-use Rattle.std.proofs.Common.{refl, sym, ◌∙◌}
+use Rattle.std.proofs.Common.{sym, ◌∙◌}
 use Rattle.passive_store.specs.Seen.{disk_seen}
 use Rattle.eden_world.specs.InHand.{place_at}
 use Rattle.eden_world.specs.Seated.{heeds}
 use Rattle.eden_world.proofs.Arming.{arms-carried, arms-place, arms-shows, arms-whole, heeds-obeys}
-use Rattle.eden_world.proofs.CarriedOut.{ends-still}
 use Rattle.eden_world.proofs.Placing.{was-up}
-use Rattle.eden_world.proofs.Untouched.{still-keeps}
 use Rattle.eden_world.proofs.World.arm.Goals as goal
 
-pub returns-then-calls_until_due-eq0-clause-starved : goal.returns-then-calls_until_due-eq0-clause-starved
-returns-then-calls_until_due-eq0-clause-starved g c = ends-still g.St.Device.Disk.tells g.St.Store.layout g.St.Store.seen
-    (disk_seen g.St.Device.Disk.counts g.St.Device.Disk.told g.St.Device.Disk.due) c.args.self.now c.args.self.now (λ n. refl)
-
-pub returns-then-calls_until_due-eq0-clause-leaves : goal.returns-then-calls_until_due-eq0-clause-leaves
-returns-then-calls_until_due-eq0-clause-leaves g c = still-keeps g.St.Store.seen
-    (disk_seen g.St.Device.Disk.counts g.St.Device.Disk.told g.St.Device.Disk.due) c.args.self.now c.args.self.now c.requires refl refl
-
 pub armed-seat-requires-clause-whole : goal.armed-seat-requires-clause-whole
-armed-seat-requires-clause-whole g c = λ s is. (c.requires.nodes c.args.node s
+armed-seat-requires-clause-whole g c = λ s is. (c.requires.whole.nodes c.args.node s
     (was-up (place_at c.args.self.now c.args.node) s (sym is ∙ c.unseat.ensures.old))).whole
 
 pub returns-clause-whole : goal.returns-clause-whole
@@ -28,7 +18,7 @@ returns-clause-whole g c =
     c.armed-seat.ensures in
     arms-whole g.St.Device.Disk.tells g.St.Device.Disk.obeys g.St.Store.layout g.St.Store.seen
     (disk_seen g.St.Device.Disk.counts g.St.Device.Disk.told g.St.Device.Disk.due) c.args.what c.args.node c.args.self.now c.set_seat.new.self x
-    c.requires
+    c.requires.whole
 
 pub returns-clause-carried : goal.returns-clause-carried
 returns-clause-carried g c =

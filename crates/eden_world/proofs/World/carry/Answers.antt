@@ -6,7 +6,33 @@ use Rattle.checkpoint.proofs.Activations.{any-err}
 use Rattle.eden_world.specs.Carried.{Starves}
 use Rattle.eden_world.proofs.CarriedOut.{err-so, starves-so, still-starves}
 use Rattle.eden_world.proofs.Untouched.{still-keeps}
+use Rattle.journal.specs.Fit.{NumbersFit}
 use Rattle.eden_world.proofs.World.carry.Goals as goal
+
+-- the numbers of the command
+pub cut_link-requires-clause-from : goal.cut_link-requires-clause-from
+cut_link-requires-clause-from g c = (subst (NumbersFit 8) c.in-Cut.is c.requires.numbers).0
+
+pub cut_link-requires-clause-to : goal.cut_link-requires-clause-to
+cut_link-requires-clause-to g c = (subst (NumbersFit 8) c.in-Cut.is c.requires.numbers).1
+
+pub join-requires-clause-from : goal.join-requires-clause-from
+join-requires-clause-from g c = (subst (NumbersFit 8) c.in-Join.is c.requires.numbers).0
+
+pub join-requires-clause-to : goal.join-requires-clause-to
+join-requires-clause-to g c = (subst (NumbersFit 8) c.in-Join.is c.requires.numbers).1
+
+pub restart-requires-clause-first : goal.restart-requires-clause-first
+restart-requires-clause-first g c = (subst (NumbersFit 8) c.in-Restart.is c.requires.numbers).0
+
+pub restart-requires-clause-last : goal.restart-requires-clause-last
+restart-requires-clause-last g c = (subst (NumbersFit 8) c.in-Restart.is c.requires.numbers).1
+
+pub arm-requires-clause-calls : goal.arm-requires-clause-calls
+arm-requires-clause-calls g c = (subst (NumbersFit 8) c.in-Fail.is c.requires.numbers).1.0
+
+pub arm-requires-in-Stop-clause-calls : goal.arm-requires-in-Stop-clause-calls
+arm-requires-in-Stop-clause-calls g c = (subst (NumbersFit 8) c.in-Stop.is c.requires.numbers).1.0
 
 pub returns-in-Create-clause-starved : goal.returns-in-Create-clause-starved
 returns-in-Create-clause-starved g c = err-so c.create.result _ _

@@ -3,16 +3,8 @@ use Rattle.passive_store.specs.Seen.{disk_seen}
 use Rattle.checkpoint.proofs.Activations.{any-err}
 use Rattle.eden_world.specs.Seated.{heeds}
 use Rattle.eden_world.proofs.CarriedOut.{cut-carried, cut-starved}
-use Rattle.eden_world.proofs.Untouched.{level-keeps, level-shows, still-keeps}
+use Rattle.eden_world.proofs.Untouched.{level-keeps, level-shows}
 use Rattle.eden_world.proofs.World.cut_link.Goals as goal
-
-pub returns-then-a-gt-PLACES-clause-starved : goal.returns-then-a-gt-PLACES-clause-starved
-returns-then-a-gt-PLACES-clause-starved g c = cut-starved g.St.Device.Disk.tells g.St.Store.layout g.St.Store.seen
-    (disk_seen g.St.Device.Disk.counts g.St.Device.Disk.told g.St.Device.Disk.due) c.args.self.now c.args.self.now _ (λ m. refl)
-
-pub returns-then-a-gt-PLACES-clause-leaves : goal.returns-then-a-gt-PLACES-clause-leaves
-returns-then-a-gt-PLACES-clause-leaves g c = still-keeps g.St.Store.seen
-    (disk_seen g.St.Device.Disk.counts g.St.Device.Disk.told g.St.Device.Disk.due) c.args.self.now c.args.self.now c.requires refl refl
 
 pub returns-in_err-broken-clause-starved : goal.returns-in_err-broken-clause-starved
 returns-in_err-broken-clause-starved g c = any-err c.from_residual.result _ (cut-starved g.St.Device.Disk.tells g.St.Store.layout g.St.Store.seen

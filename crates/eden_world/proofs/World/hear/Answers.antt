@@ -9,18 +9,6 @@ use Rattle.eden_world.proofs.Hearing.{Hears, hears-takes}
 use Rattle.eden_world.proofs.Losing.{still-starves}
 use Rattle.eden_world.proofs.World.hear.Goals as goal
 
-pub returns-then-from-gt8-clause-starved : goal.returns-then-from-gt8-clause-starved
-returns-then-from-gt8-clause-starved g c =
-    let look = disk_seen g.St.Device.Disk.counts g.St.Device.Disk.told g.St.Device.Disk.due in
-    still-starves g.St.Device.Disk.tells g.St.Store.layout g.St.Store.seen look (delivery 0 c.args.from) c.args.self.now c.args.self.now
-    refl
-
-pub returns-in_default-clause-starved : goal.returns-in_default-clause-starved
-returns-in_default-clause-starved g c =
-    let look = disk_seen g.St.Device.Disk.counts g.St.Device.Disk.told g.St.Device.Disk.due in
-    still-starves g.St.Device.Disk.tells g.St.Store.layout g.St.Store.seen look (delivery 0 c.args.from) c.args.self.now c.args.self.now
-    refl
-
 pub returns-in_err-name-clause-starved : goal.returns-in_err-name-clause-starved
 returns-in_err-name-clause-starved g c =
     let look = disk_seen g.St.Device.Disk.counts g.St.Device.Disk.told g.St.Device.Disk.due in

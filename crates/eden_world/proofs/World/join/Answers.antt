@@ -1,22 +1,14 @@
 use Rattle.std.proofs.Common.{refl}
 use Rattle.passive_store.specs.Seen.{disk_seen}
 use Rattle.eden_world.specs.Seated.{heeds}
-use Rattle.eden_world.proofs.CarriedOut.{join-carried, ends-still}
-use Rattle.eden_world.proofs.Untouched.{still-keeps, still-shows}
+use Rattle.eden_world.proofs.CarriedOut.{join-carried}
+use Rattle.eden_world.proofs.Untouched.{still-shows}
 use Rattle.eden_world.proofs.World.join.Goals as goal
-
-pub returns-then-a-gt-PLACES-clause-starved : goal.returns-then-a-gt-PLACES-clause-starved
-returns-then-a-gt-PLACES-clause-starved g c = ends-still g.St.Device.Disk.tells g.St.Store.layout g.St.Store.seen
-    (disk_seen g.St.Device.Disk.counts g.St.Device.Disk.told g.St.Device.Disk.due) c.args.self.now c.args.self.now (λ n. refl)
 
 pub returns-clause-carried : goal.returns-clause-carried
 returns-clause-carried g c = join-carried g.St.Device.Disk.tells g.St.Store.layout g.St.Store.seen
     (disk_seen g.St.Device.Disk.counts g.St.Device.Disk.told g.St.Device.Disk.due) c.args.self.now c.set_link.new.self c.args.a c.args.b c.entry_of_none.result
     c.set_link.ensures.joined c.set_link.ensures.up c.entry_of_none.ensures.event c.entry_of_none.ensures.none
-
-pub returns-then-a-gt-PLACES-clause-leaves : goal.returns-then-a-gt-PLACES-clause-leaves
-returns-then-a-gt-PLACES-clause-leaves g c = still-keeps g.St.Store.seen (disk_seen g.St.Device.Disk.counts g.St.Device.Disk.told g.St.Device.Disk.due)
-    c.args.self.now c.args.self.now c.requires refl refl
 
 pub returns-clause-shows : goal.returns-clause-shows
 returns-clause-shows g c = still-shows (heeds g.St.Device.Disk.tells g.St.Device.Disk.obeys) g.St.Store.seen

@@ -1,13 +1,9 @@
-use Rattle.std.proofs.Common.{sym, ◌∙◌}
-use Rattle.journal.specs.Enabled.{enabled}
-use Rattle.eden_world.proofs.KeySteps.{follows-found, follows-first}
+use Rattle.std.proofs.Common.{◌∙◌}
+use Rattle.journal.specs.Enabled.{enabled, following}
+use Rattle.eden_world.proofs.Due.{followed-there}
 use Rattle.eden_world.proofs.World.key_following.Goals as goal
 
-pub returns-in-Some : goal.returns-in-Some
-returns-in-Some g c = λ more w reached stands.
-    follows-found c.args.last (enabled w) c.in-Some.key (sym c.in-Some.is ∙ c.next.ensures more w reached stands)
-
-pub returns-in-None : goal.returns-in-None
-returns-in-None g c = λ more w reached stands.
-    follows-first c.args.last (enabled w) _ (sym c.in-None.is ∙ c.next.ensures more w reached stands)
-    (c.next-in-None.ensures more w reached stands)
+pub returns-clause-follows : goal.returns-clause-follows
+returns-clause-follows g c = λ more w reached stands.
+    let is = c.next_of_all.ensures more w reached stands in
+    c.with_turn.ensures.same more w reached stands (followed-there c.args.last (enabled w) _ is) ∙ is

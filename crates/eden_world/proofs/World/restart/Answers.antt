@@ -1,30 +1,30 @@
 use Rattle.std.proofs.Common.{◌∙◌, sym}
 use Rattle.passive_store.specs.Seen.{disk_seen}
 use Rattle.eden_world.specs.InHand.{place_at}
-use Rattle.eden_world.proofs.Restarted.{idle-leaves, idle-starves, place-number, restart-falls, restart-falls-shows, restart-leaves}
+use Rattle.eden_world.proofs.Restarted.{place-number, restart-falls, restart-falls-shows, restart-leaves}
 use Rattle.eden_world.proofs.Restarted.{restart-starves, restart-up, restart-up-shows, up-stays, was-down, whole-down, whole-up}
 use Rattle.eden_world.proofs.World.restart.Goals as goal
 
 pub boot-requires : goal.boot-requires
 boot-requires g c = record {
   node = place-number c.args.self.now c.args.number _ (was-down (place_at c.args.self.now c.args.number) c.unseat.result c.in-Down.disk
-      c.in-Down.doubt c.unseat.ensures.old c.in-Down.is) c.requires.eight;
+      c.in-Down.doubt c.unseat.ensures.old c.in-Down.is) c.requires.whole.eight;
 }
 
 -- 1. It comes up
 
 pub returns-in-Ok-clause-whole : goal.returns-in-Ok-clause-whole
-returns-in-Ok-clause-whole g c = whole-up g.St.Store.seen c.args.self.now c.unseat.new.self c.set_seat-in-Ok.new.self
-    c.set_up.new.self c.args.number c.in-Ok.station c.unseat.ensures.takes c.set_seat-in-Ok.ensures.takes c.set_up.ensures.nodes
-    c.in-Ok.ensures.whole c.in-Ok.ensures.number c.requires
+returns-in-Ok-clause-whole g c = whole-up g.St.Store.seen c.args.self.now c.unseat.new.self c.set_seat.new.self
+    c.set_up.new.self c.args.number c.in-Ok.station c.unseat.ensures.takes c.set_seat.ensures.takes c.set_up.ensures.nodes
+    c.in-Ok.ensures.whole c.in-Ok.ensures.number c.requires.whole
 
 pub returns-in-Ok-clause-carried : goal.returns-in-Ok-clause-carried
 returns-in-Ok-clause-carried g c = restart-up g.St.Device.Disk.tells g.St.Store.layout g.St.Store.seen
     (disk_seen g.St.Device.Disk.counts g.St.Device.Disk.told g.St.Device.Disk.due) c.args.self.now c.unseat.new.self
-    c.set_seat-in-Ok.new.self c.set_up.new.self c.args.number c.in-Down.disk c.in-Down.doubt c.in-Ok.note c.in-Ok.station c.entry.result
+    c.set_seat.new.self c.set_up.new.self c.args.number c.in-Down.disk c.in-Down.doubt c.in-Ok.note c.in-Ok.station c.entry.result
     (was-down (place_at c.args.self.now c.args.number) c.unseat.result c.in-Down.disk c.in-Down.doubt
     c.unseat.ensures.old c.in-Down.is)
-    c.unseat.ensures.takes c.set_seat-in-Ok.ensures.takes c.set_up.ensures.up c.set_up.ensures.joined c.in-Ok.ensures.whole
+    c.unseat.ensures.takes c.set_seat.ensures.takes c.set_up.ensures.up c.set_up.ensures.joined c.in-Ok.ensures.whole
     c.in-Ok.ensures.number (λ so. c.in-Ok.ensures.up so) (λ so site lays bar stands. c.in-Ok.ensures.barred so site lays bar stands)
     (c.entry.ensures.event ∙ c.boot_event-event.ensures) (record {
       node = c.entry.ensures.node;
@@ -35,17 +35,17 @@ returns-in-Ok-clause-carried g c = restart-up g.St.Device.Disk.tells g.St.Store.
 pub returns-in-Ok-clause-shows : goal.returns-in-Ok-clause-shows
 returns-in-Ok-clause-shows g c = restart-up-shows g.St.Device.Disk.tells g.St.Device.Disk.obeys g.St.Store.seen
     (disk_seen g.St.Device.Disk.counts g.St.Device.Disk.told g.St.Device.Disk.due) c.args.self.now c.unseat.new.self
-    c.set_seat-in-Ok.new.self c.set_up.new.self c.args.number c.in-Down.disk c.in-Down.doubt c.in-Ok.note c.in-Ok.station c.entry.result
+    c.set_seat.new.self c.set_up.new.self c.args.number c.in-Down.disk c.in-Down.doubt c.in-Ok.note c.in-Ok.station c.entry.result
     (was-down (place_at c.args.self.now c.args.number) c.unseat.result c.in-Down.disk c.in-Down.doubt
     c.unseat.ensures.old c.in-Down.is)
-    c.unseat.ensures.takes c.set_seat-in-Ok.ensures.takes (λ so. c.in-Ok.ensures.shows so) c.in-Ok.ensures.calls
+    c.unseat.ensures.takes c.set_seat.ensures.takes (λ so. c.in-Ok.ensures.shows so) c.in-Ok.ensures.calls
     (c.entry.ensures.event ∙ c.boot_event-event.ensures) c.entry.ensures.node (c.entry.ensures.clock ∙ c.clock_at-clock.ensures)
 
 -- 2. It stays down
 
 pub returns-in-Some-clause-whole : goal.returns-in-Some-clause-whole
 returns-in-Some-clause-whole g c = whole-down g.St.Store.seen c.args.self.now c.unseat.new.self c.set_seat-in-Err.new.self
-    c.args.number c.in-Err.disk c.in-Err.fall.doubt c.unseat.ensures.takes c.set_seat-in-Err.ensures.takes c.requires
+    c.args.number c.in-Err.disk c.in-Err.fall.doubt c.unseat.ensures.takes c.set_seat-in-Err.ensures.takes c.requires.whole
 
 pub returns-in-Some-clause-carried : goal.returns-in-Some-clause-carried
 returns-in-Some-clause-carried g c = restart-falls g.St.Device.Disk.tells g.St.Store.layout g.St.Store.seen
@@ -90,7 +90,7 @@ returns-in-None-clause-leaves g c = restart-leaves g.St.Store.seen
     c.set_seat-in-Err.new.self c.args.number c.in-Down.disk c.in-Err.disk c.in-Down.doubt c.in-Err.fall.doubt c.in-Err.fall.end
     (was-down (place_at c.args.self.now c.args.number) c.unseat.result c.in-Down.disk c.in-Down.doubt
     c.unseat.ensures.old c.in-Down.is)
-    c.unseat.ensures.takes c.set_seat-in-Err.ensures.takes c.in-Err.ensures.calls c.requires
+    c.unseat.ensures.takes c.set_seat-in-Err.ensures.takes c.in-Err.ensures.calls c.requires.whole
 
 -- 4. A node is up there, or none stands there
 
@@ -100,15 +100,3 @@ returns-then-is_some-clause-carried g c = up-stays g.St.Device.Disk.tells g.St.S
     c.entry_of_none.result c.station.ensures (sym c.is_some.ensures ∙ c.if-is_some.true) c.entry_of_none.ensures.event
     c.entry_of_none.ensures.none
 
-pub returns-in_default : goal.returns-in_default
-returns-in_default g c = record {
-  whole = tt;
-  carried = tt;
-  starved = idle-starves g.St.Device.Disk.tells g.St.Store.layout g.St.Store.seen
-      (disk_seen g.St.Device.Disk.counts g.St.Device.Disk.told g.St.Device.Disk.due) c.args.self.now c.unseat.new.self
-      c.set_seat.new.self c.args.number c.unseat.result c.unseat.ensures.old c.unseat.ensures.takes c.set_seat.ensures.takes;
-  shows = tt;
-  leaves = idle-leaves g.St.Store.seen (disk_seen g.St.Device.Disk.counts g.St.Device.Disk.told g.St.Device.Disk.due) c.args.self.now
-      c.unseat.new.self c.set_seat.new.self c.args.number c.unseat.result c.unseat.ensures.old c.unseat.ensures.takes
-      c.set_seat.ensures.takes c.requires;
-}

@@ -6,8 +6,8 @@ use Rattle.eden_world.proofs.Placing.{was-up, swaps-still}
 use Rattle.eden_world.proofs.TellingOne.{both-on_ok, told-whole, told-at, told-agendas}
 use Rattle.eden_world.proofs.World.tell.Goals as goal
 
-pub returns-in-Up-clause-whole : goal.returns-in-Up-clause-whole
-returns-in-Up-clause-whole g c =
+pub returns-clause-whole : goal.returns-clause-whole
+returns-clause-whole g c =
     let look = disk_seen g.St.Device.Disk.counts g.St.Device.Disk.told g.St.Device.Disk.due in
     let swapped = swaps-still c.args.uid.node (place.Up c.in-Up.station) (place.Up c.broken-told.new.self)
     c.args.self.now c.unseat.new.self c.set_seat.new.self (was-up _ _ (sym c.in-Up.is ∙ c.unseat.ensures.old))
@@ -15,8 +15,8 @@ returns-in-Up-clause-whole g c =
     on_ok_weaker c.broken-told.result (told-whole g.St.Store.layout g.St.Store.seen look c.args.uid c.args.process c.in-Up.station
     c.broken-told.new.self c.args.self.now c.set_seat.new.self swapped c.broken-told.ensures.store c.requires.whole) c.broken-told.ensures.whole
 
-pub returns-in-Up-clause-told : goal.returns-in-Up-clause-told
-returns-in-Up-clause-told g c = λ so.
+pub returns-clause-told : goal.returns-clause-told
+returns-clause-told g c = λ so.
     let look = disk_seen g.St.Device.Disk.counts g.St.Device.Disk.told g.St.Device.Disk.due in
     let swapped = swaps-still c.args.uid.node (place.Up c.in-Up.station) (place.Up c.broken-told.new.self)
     c.args.self.now c.unseat.new.self c.set_seat.new.self (was-up _ _ (sym c.in-Up.is ∙ c.unseat.ensures.old))
@@ -25,8 +25,8 @@ returns-in-Up-clause-told g c = λ so.
     c.broken-told.new.self c.args.self.now c.set_seat.new.self swapped c.broken-told.ensures.store) c.broken-told.ensures.whole
     (c.broken-told.ensures.stands so)
 
-pub returns-in-Up-clause-agendas : goal.returns-in-Up-clause-agendas
-returns-in-Up-clause-agendas g c = λ so.
+pub returns-clause-agendas : goal.returns-clause-agendas
+returns-clause-agendas g c = λ so.
     let look = disk_seen g.St.Device.Disk.counts g.St.Device.Disk.told g.St.Device.Disk.due in
     let swapped = swaps-still c.args.uid.node (place.Up c.in-Up.station) (place.Up c.broken-told.new.self)
     c.args.self.now c.unseat.new.self c.set_seat.new.self (was-up _ _ (sym c.in-Up.is ∙ c.unseat.ensures.old))

@@ -3,8 +3,8 @@ use Rattle.active_part.specs.View.{body_of, IsStarted}
 use Rattle.ejects.proofs.Leaving.{same-body, part-written}
 use Rattle.ejects.proofs.Ejects.begin_at.Goals as goal
 
-pub returns-in_ok-started-in-Some : goal.returns-in_ok-started-in-Some
-returns-in_ok-started-in-Some c b is =
+pub returns : goal.returns
+returns c b is =
     let ts = c.args.types.now in
     let table = c.args.self.now.table in
     let same : body_of ts c.in-Some.part.now ≡ b = same-body ts table c.args.uid c.in-Some.part.now b c.in-Some.ensures.value is in (

@@ -15,7 +15,7 @@ returns-in_ok-answer_at-in-Ok c b s at ready stands =
     let mid = parts_of ts c.create.new.self in
     let new = parts_of ts c.answer_at.new.self in
     created-for (parts_of ts c.args.self.now) mid new s c.args.uid c.args.process c.args.type_name.now t b stands at c.in_ok-kind.ensures
-    c.in-Ok.created (subst (λ r. IsCreated t r mid s) c.in-Ok.is (c.in_ok-created.ensures s ready stands))
+    c.in-Ok.created (subst (λ r. IsCreated t r mid s) c.in-Ok.is (c.in_ok-created.ensures.created s ready stands))
     (λ x is. subst (λ cap. new ≡ with_body c.args.uid (told_body c.args.process (Made status.Ok (Some cap)) x) mid) c.mint.ensures.exact
     (c.in_ok-answer_at-in-Ok.ensures ts x is))
 
@@ -26,5 +26,5 @@ returns-in_ok-answer_at-in-Err c b s at ready stands =
     let mid = parts_of ts c.create.new.self in
     refused-for (parts_of ts c.args.self.now) mid (parts_of ts c.answer_at-in-Err.new.self) s c.args.uid c.args.process
     c.args.type_name.now t b stands at c.in_ok-kind.ensures c.in-Err.status
-    (subst (λ r. IsCreated t r mid s) c.in-Err.is (c.in_ok-created.ensures s ready stands))
+    (subst (λ r. IsCreated t r mid s) c.in-Err.is (c.in_ok-created.ensures.created s ready stands))
     (λ x is. c.in_ok-answer_at-in-Err.ensures ts x is)

@@ -5,8 +5,8 @@ use Rattle.active_part.specs.Bodies.{ended_body, serves_of}
 use Rattle.ejects.proofs.Leaving.{same-body, part-changed}
 use Rattle.ejects.proofs.Ejects.end_at.Goals as goal
 
-pub returns-in_ok-call-in-Some : goal.returns-in_ok-call-in-Some
-returns-in_ok-call-in-Some c ts b is =
+pub returns : goal.returns
+returns c ts b is =
     let table = c.args.self.now.table in
     let same = same-body ts table c.args.uid c.in-Some.part.now b c.in-Some.ensures.value is in
     let r = c.in_ok-call-in-Some.ensures.after ts in (

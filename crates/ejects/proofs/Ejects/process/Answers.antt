@@ -1,12 +1,19 @@
 use Rattle.ejects.specs.View.{parts_of}
+use Rattle.ejects.specs.Parts.{body_at}
+use Rattle.std.specs.FinMap.{get}
+use Rattle.ejects.proofs.Active.{active-some, ready-some}
 use Rattle.ejects.proofs.Ejects.process.Goals as goal
+
+pub turn_at-requires : goal.turn_at-requires
+turn_at-requires c = active-some c.args.types.now (get c.args.self.now.table.standings c.args.uid)
+    (ready-some (body_at (parts_of c.args.types.now c.args.self.now) c.args.uid) c.args.process c.requires.ready)
 
 pub returns-clause-parts : goal.returns-clause-parts
 returns-clause-parts c reach s sound at kept reached ready =
     c.in_ok-shown.ensures.parts reach (parts_of c.args.types.now c.args.self.now) s sound at
-    (record { runs = c.runs_at.ensures c.args.types.now c.if-not-runs_at.false; turned = c.in_ok-effect.ensures }) kept reached ready
+    (record { runs = c.requires.ready; turned = c.in_ok-effect.ensures.turned }) kept reached ready
 
 pub returns-clause-requests : goal.returns-clause-requests
 returns-clause-requests c reach s work size sound at kept q =
     c.in_ok-shown.ensures.requests reach (parts_of c.args.types.now c.args.self.now) s work size sound at
-    (record { runs = c.runs_at.ensures c.args.types.now c.if-not-runs_at.false; turned = c.in_ok-effect.ensures }) kept q
+    (record { runs = c.requires.ready; turned = c.in_ok-effect.ensures.turned }) kept q

@@ -1,0 +1,84 @@
+-- Ejects that are active: by the code's table, and by their bodies.
+use Rattle.std.proofs.Common.{◌≡◌, ℕ, Bool, true, false, cond, Option, None, Some, refl, sym, ◌∙◌, ap, subst}
+use Rattle.std.specs.Prelude.{◌↔◌, is_some, IsSome, IsSomeAnd, IsTrue}
+use Rattle.std.specs.Option.{option_map}
+use Rattle.std.specs.FinMap.{get, get-insert}
+use Rattle.std.proofs.lemmas.Cmp.{tied_itself}
+use Rattle.capability.specs.declared.Uid.{Uid}
+use Rattle.capability.proofs.Uids.{uid_cmp_total}
+use Rattle.eden_model.specs.Crew.{Invocation, startable}
+use Rattle.eden_model.specs.Map.{same_uid}
+use Rattle.eject_table.specs.Creates.{Creates}
+use Rattle.eject_table.specs.Table.{Table, active_at, active_in, with_active}
+use Rattle.epl_syntax.specs.Rules.OfTypes.{TypeList}
+use Rattle.invocation.specs.Mail.{Mail}
+use Rattle.invocation.specs.Numbers.{item_in}
+use Rattle.active_part.specs.Body.{Body}
+use Rattle.active_part.specs.declared.Part.{Part}
+use Rattle.ejects.specs.Marks.{IsReady, MayBegin, may_start}
+use Rattle.ejects.specs.Replies.{StartsAt}
+use Rattle.ejects.proofs.Leaving.{body_in}
+
+-- 1. In the table
+
+pub active-some : (ts : TypeList) (o : Option (Option Part)) → IsSome (active_in (body_in ts o)) → IsSome (active_in o)
+active-some ts None some = some
+active-some ts (Some None) some = some
+active-some ts (Some (Some a)) some = refl
+
+pub written-active : (t : Table Part) (u : Uid) (a : Part) → IsSome (active_at (with_active t u a) u)
+written-active t u a =
+    let here : get (with_active t u a).standings u ≡ Some (Some a) =
+    get-insert uid_cmp_total t.standings u (Some a) u ∙ rw (tied_itself uid_cmp_total u) refl in
+    ap (λ o. is_some (active_in o)) here
+
+-- a creation leaves those active that are
+pub created-stay : (old new : Table Part) (a : Part) (u : Uid) → Creates old new a u → (v : Uid) → IsSome (active_at old v)
+    → IsSome (active_at new v)
+created-stay old new a u made v some = subst (λ t. IsSome (active_at t v)) (sym made.after)
+    (subst (λ o. IsSome (active_in o)) (sym (get-insert uid_cmp_total old.standings u (Some a) v)) (go (same_uid v u)))
+  where
+    go : (b : Bool) → IsSome (active_in (cond b (Some (Some a)) (get old.standings v)))
+    go true = refl
+    go false = some
+
+-- 2. By its body
+
+pub ready-some : (o : Option Body) (p : ℕ) → IsReady o p → IsSome o
+ready-some None p ready = absurd ready
+ready-some (Some b) p ready = refl
+
+pub begin-some : (m : Mail) (o : Option Body) → MayBegin m o → IsSome o
+begin-some m None may = absurd may
+begin-some m (Some b) may = refl
+
+-- an invocation that may begin may start
+pub begin-start : (m : Mail) (o : Option Body) → MayBegin m o → may_start o ≡ true
+begin-start m None may = absurd may
+begin-start m (Some b) may = go (startable b.crew.crew b.crew.queued) may
+  where
+    go : (i : Option Invocation) → IsSomeAnd i (λ i. IsSome (item_in i.call m.calls)) → is_some i ≡ true
+    go None may = absurd may
+    go (Some i) may = refl
+
+-- and its call was asked
+pub begin-asked : (m : Mail) (o : Option Body) (k : ℕ) → MayBegin m o → StartsAt o k → IsSome (item_in k m.calls)
+begin-asked m None k may starts = absurd may
+begin-asked m (Some b) k may starts = go (startable b.crew.crew b.crew.queued) may starts
+  where
+    go : (i : Option Invocation) → IsSomeAnd i (λ i. IsSome (item_in i.call m.calls)) → IsSomeAnd i (λ i. k ≡ i.call)
+        → IsSome (item_in k m.calls)
+    go None may starts = absurd may
+    go (Some i) may starts = subst (λ j. IsSome (item_in j m.calls)) (sym starts) may
+
+-- what the code finds out of it
+pub begin-found : (m : Mail) (b : Body) (call : Option ℕ) (so : Bool)
+    → call ≡ option_map (λ (i : Invocation). i.call) (startable b.crew.crew b.crew.queued)
+    → (IsTrue so ↔ IsSomeAnd call (λ k. IsSome (item_in k m.calls))) → IsTrue so ↔ MayBegin m (Some b)
+begin-found m b call so is iff =
+    go (startable b.crew.crew b.crew.queued) (subst (λ o. IsTrue so ↔ IsSomeAnd o (λ k. IsSome (item_in k m.calls))) is iff)
+  where
+    go : (o : Option Invocation) → (IsTrue so ↔ IsSomeAnd (option_map (λ (i : Invocation). i.call) o) (λ k. IsSome (item_in k m.calls)))
+        → IsTrue so ↔ IsSomeAnd o (λ i. IsSome (item_in i.call m.calls))
+    go None iff = iff
+    go (Some i) iff = iff
