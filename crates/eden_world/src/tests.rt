@@ -302,9 +302,7 @@ fn fits(command: &Command) -> bool
             node,
             after,
             mode: ImageMode::Lose,
-        } => {
-            1 <= *node && *node <= 8 && 1 <= *after && *after <= 1_000_000
-        }
+        } => { 1 <= *node && *node <= 8 && 1 <= *after && *after <= 1_000_000 }
         Command::End => true,
         _ => false,
     }

@@ -119,7 +119,10 @@ fn a_long_text_is_written_in_pieces(rt: HostRuntime) -> Result<(), Fail> {
     ];
     for (failing, answer, count) in rows {
         let mut sink = MemSink::new(alloc, 100_000, 100_000, failing)?;
-        assert_eq!(rt; write_history(alloc, Mode::Plain, &history, &mut sink), answer);
+        assert_eq!(rt;
+            write_history(alloc, Mode::Plain, &history, &mut sink),
+            answer
+        );
         assert_eq!(rt; sink.written().len(), count);
     }
     Ok(())

@@ -99,4 +99,3 @@ returns-then-is_some-clause-carried g c = up-stays g.St.Device.Disk.tells g.St.S
     (disk_seen g.St.Device.Disk.counts g.St.Device.Disk.told g.St.Device.Disk.due) c.args.self.now c.args.number c.station.result
     c.entry_of_none.result c.station.ensures (sym c.is_some.ensures ∙ c.if-is_some.true) c.entry_of_none.ensures.event
     c.entry_of_none.ensures.none
-
