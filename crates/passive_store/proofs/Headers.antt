@@ -10,6 +10,7 @@ use Rattle.passive_store.specs.declared.records.Header.{Header}
 use Rattle.passive_store.specs.Log.{length_of, uid_of, kind_of, are_fields, is_record}
 use Rattle.passive_store.specs.Records.{IsHeader}
 use Rattle.passive_store.proofs.Parsing.{same_length, same_uid, same_kind}
+use Rattle.passive_store.proofs.Tails.{same_part}
 
 -- a buffer of 15 bytes after a read of as many as there are
 pub record IsRead (size place : ℕ) (now buffer : List ℕ) : Type 0 where
@@ -19,6 +20,17 @@ pub record IsRead (size place : ℕ) (now buffer : List ℕ) : Type 0 where
   pub least : count ≡ min (size - place) 15
   pub rest : List ℕ
   pub is : buffer ≡ slice_range now place (place + count) ++ rest
+
+-- the first bytes of a disk are as many as that
+pub first_bytes : (size whole long : ℕ) (bytes : List ℕ) → size ≤ whole → length bytes ≡ long → long ≡ whole
+    → length (take size bytes) ≡ size
+first_bytes size whole long bytes within told is = length-take-le size bytes (omega (arith, within, told, is))
+
+-- what is read of the first bytes of a disk stands among them
+pub read_within : (size place count : ℕ) (bytes : List ℕ) → place + count ≤ size
+    → slice_range bytes place (place + count) ≡ slice_range (take size bytes) place (place + count)
+read_within size place count bytes within =
+    same_part bytes (take size bytes) size place (place + count) (sym (take-take size size bytes (omega arith))) within
 
 taken : (count place : ℕ) (now : List ℕ) → slice_range now place (place + count) ≡ take count (drop place now)
 taken count place now = ap (λ m. take m (drop place now)) (omega arith)

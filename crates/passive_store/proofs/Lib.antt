@@ -1,17 +1,17 @@
 mod Getting
-mod Headers
-mod Images
 mod Jobs
-mod LogKept
-mod Openings
 mod Ordered
-mod Parsing
 mod Pendings
 mod Spelling
-mod Tails
-mod Walk
-mod Walking
 mod Writing
 pub mod Changing
+pub mod Headers
+pub mod Images
 pub mod Joining
+pub mod LogKept
 pub mod Marks
+pub mod Openings
+pub mod Parsing
+pub mod Tails
+pub mod Walk
+pub mod Walking

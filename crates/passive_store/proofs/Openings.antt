@@ -295,7 +295,7 @@ pub record IsOpened (node size tail : ℕ) (before : List ℕ) (c : Contents) (i
 same_number : (x y : ℕ) → (x == y) ≡ true → x ≡ y
 same_number x y h = elim (eqb_tells x y) [ inl p ↦ p.1 | inr p ↦ absurd (false≢true (sym p.0 ∙ h)) ]
 
-opened_old : (node size tail : ℕ) (bytes : List ℕ) (index : BTreeMap Uid (Option Slot)) → 17 ≤ length bytes → tail < size
+pub opened_old : (node size tail : ℕ) (bytes : List ℕ) (index : BTreeMap Uid (Option Slot)) → 17 ≤ length bytes → tail < size
     → (slice_index bytes 0 == 237) ≡ true → IsWalk node size tail bytes index → (slice_index bytes tail == 225) ≡ false →
     IsOpened node size tail bytes (at_rest bytes) index
 opened_old node size tail bytes index long ends header w shut =
@@ -340,6 +340,12 @@ opened_log node size tail t0 t1 t2 t3 index synced long (inr new) same ends w sh
     subst (λ c. IsOpened node size tail (contents t0).now c index) (sym (ap contents same))
     (opened_new node size tail (contents t0).now (contents t2) index long ends
     (ap (λ (c : Contents). slice_index c.now 0 == 237) (sym synced) ∙ new.0) new.2 w shut)
+
+-- a damaged record of a log that stands there
+pub damaged_map : (node place : ℕ) (bytes : List ℕ) → 17 ≤ length bytes → (slice_index bytes 0 == 237) ≡ true
+    → records_of node bytes ≡ Err place → log_map node bytes ≡ Err place
+damaged_map node place bytes long header bad =
+    log_stands_there node bytes long (same_number (slice_index bytes 0) 237 header) ∙ ap kept_by bad
 
 -- or a damaged record was found
 pub opened_damaged : (node place : ℕ) (t0 t1 t2 : Told) → contents t1 ≡ at_rest (contents t0).now → 17 ≤ length (contents t0).now

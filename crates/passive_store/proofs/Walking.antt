@@ -24,9 +24,9 @@ use Rattle.passive_store.specs.Kept.{kept_from}
 use Rattle.passive_store.specs.Log.{length_of, uid_of, kind_of, body_of, records_of, records_behind, with_record, with_records}
 use Rattle.passive_store.specs.Log.{record_of, log_grows, IsFront}
 use Rattle.passive_store.specs.LogLayout.{records_before, used_by, body_length}
-use Rattle.passive_store.specs.LogState.{IsIndex, IsPlaced, SetsSlot, slot_at, slot_of}
+use Rattle.passive_store.specs.LogState.{IsIndex, SetsSlot, slot_at, slot_of}
 use Rattle.passive_store.specs.Records.{IsHeaderAt, IsDamagedAt}
-use Rattle.passive_store.specs.Opening.{IsWalk}
+use Rattle.passive_store.specs.Opening.{IsWalk, IsBounded, AreWithinLimit}
 use Rattle.passive_store.proofs.Walk.{passed_over, front_more, front_closed, opened_gate, kept_from_more}
 use Rattle.passive_store.proofs.Parsing.{parsed, split_test}
 use Rattle.passive_store.proofs.Tails.{before_is, index_set, used_more}
@@ -187,16 +187,54 @@ walk_damaged node size tail bytes index ends w bad =
     (records_behind node (14 + length_of bs) (length front + 1) bs) else Err (length front))) bad.1
     ∙ ap (λ n. Err n) (length-take-le tail bytes (omega (arith, w.whole, ends)))
 
+either_slot : (P : Slot → Type 0) (b : Bool) (x y : Option Slot) → IfSome x P → IfSome y P → IfSome (cond b x y) P
+either_slot P true x y hx hy = hx
+either_slot P false x y hx hy = hy
+
+slot_weaker : (P Q : Slot → Type 0) (slot : Option Slot) → ((s : Slot) → P s → Q s) → IfSome slot P → IfSome slot Q
+slot_weaker P Q None h p = tt
+slot_weaker P Q (Some s) h p = h s p
+
+slot_made : (P : Slot → Type 0) (removal : Bool) (gate length : ℕ) → P (record { gate = gate; length = length })
+    → IfSome (slot_of removal gate length) P
+slot_made P true gate length p = tt
+slot_made P false gate length p = p
+
+-- a slot that was set keeps what holds of each
+slots_set : (P : Slot → Type 0) (old new : BTreeMap Uid (Option Slot)) (uid : Uid) (slot : Option Slot)
+    → ((u : Uid) → IfSome (slot_at old u) P) → IfSome slot P → SetsSlot old new uid slot → (u : Uid) → IfSome (slot_at new u) P
+slots_set P old new uid slot before here sets u =
+    subst (λ o. IfSome o P) (sym (sets u)) (either_slot P (eq_by_cmp uid_cmp u uid) slot (slot_at old u) here (before u))
+
+-- the walk stays within its bounds over a record
+pub bounded_more : (size tail length : ℕ) (old new : BTreeMap Uid (Option Slot)) (uid : Uid) (removal : Bool) → IsBounded size tail old
+    → tail + length + 16 ≤ size → SetsSlot old new uid (slot_of removal tail length) → IsBounded size (tail + length + 15) new
+bounded_more size tail length old new uid removal b fits sets = record {
+  begins = omega (arith, b.begins);
+  ends = omega (arith, fits);
+  slots = slots_set (λ (s : Slot). s.gate + 15 + s.length ≤ tail + length + 15) old new uid (slot_of removal tail length)
+      (λ u. slot_weaker (λ (s : Slot). s.gate + 15 + s.length ≤ tail) (λ (s : Slot). s.gate + 15 + s.length ≤ tail + length + 15)
+      (slot_at old u) (λ s h. omega (arith, h)) (b.slots u))
+      (slot_made (λ (s : Slot). s.gate + 15 + s.length ≤ tail + length + 15) removal tail length (omega arith)) sets;
+}
+
+pub limit_more : (tail length : ℕ) (old new : BTreeMap Uid (Option Slot)) (uid : Uid) (removal : Bool) → AreWithinLimit old
+    → length ≤ 262144 → SetsSlot old new uid (slot_of removal tail length) → AreWithinLimit new
+limit_more tail length old new uid removal before here sets =
+    slots_set (λ (s : Slot). s.length ≤ 262144) old new uid (slot_of removal tail length) before
+    (slot_made (λ (s : Slot). s.length ≤ 262144) removal tail length here) sets
+
 -- The walk has made some device calls, none of which was refused.
 pub record Walking (tells obeys : Bool) (node size tail : ℕ) (start here : Told) (before after : Counts) (due_then due_now : Due)
     (index : BTreeMap Uid (Option Slot)) : Type 0 where
   pub made : ℕ
   pub counts : DeviceCalls made before after Fine
   pub obeyed : IsTrue obeys → Obeyed due_then due_now before after Fine
-  pub placed : IsPlaced size tail after index None
+  pub placed : IsBounded size tail index
+  pub limit : AreWithinLimit index
   pub same : IsTrue tells → here ≡ start
-  pub walk : IsTrue tells → IsWalk node size tail (contents start).now index
-  pub number : IsTrue tells → made ≡ length (records_before node tail (contents start).now)
+  pub walk : IsTrue tells → IsWalk node size tail (take size (contents start).now) index
+  pub number : IsTrue tells → made ≡ length (records_before node tail (take size (contents start).now))
 
 -- one more read, however it ended
 pub walk_timed : (tells obeys : Bool) (node size tail : ℕ) (start here next : Told) (before between : Counts) (after : ℕ)

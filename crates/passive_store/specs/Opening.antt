@@ -1,7 +1,7 @@
 -- What an opening finds on a disk, and what its device calls leave there.
 use Rattle.std.specs.Prelude.{◌≡◌, ◌⊎◌, ℕ, ◌+◌, ◌≤◌, ◌==◌, true, false, List, length, take, map, slice_index}
 use Rattle.std.specs.BTreeMap.{BTreeMap}
-use Rattle.std.specs.Prelude.{Option, Result, Ok, Err}
+use Rattle.std.specs.Prelude.{Option, Result, Ok, Err, IfSome}
 use Rattle.capability.specs.declared.Uid.{Uid}
 use Rattle.eden_disk.specs.Told.{Told, Contents, contents, at_rest, noted, Wrote}
 use Rattle.eden_disk.specs.Calls.{End, Fine, AtFault, AtStop, ReadTold, SyncTold, WriteTold}
@@ -13,7 +13,7 @@ use Rattle.passive_store.specs.declared.store.StoreRefusal.TheVariants.{Failed, 
 use Rattle.passive_store.specs.Kept.{Change, Kept, Stands, IsDamagedFrom}
 use Rattle.passive_store.specs.Log.{IsFront}
 use Rattle.passive_store.specs.LogLayout.{log_kept, log_layout, records_before, used_by, body_length}
-use Rattle.passive_store.specs.LogState.{IsIndex}
+use Rattle.passive_store.specs.LogState.{IsIndex, slot_at}
 
 -- The walk over these bytes has come to this tail, and the index goes along.
 pub record IsWalk (node size tail : ℕ) (bytes : List ℕ) (index : BTreeMap Uid (Option Slot)) : Type 0 where
@@ -21,6 +21,17 @@ pub record IsWalk (node size tail : ℕ) (bytes : List ℕ) (index : BTreeMap Ui
   pub front : IsFront node (take tail bytes) (records_before node tail bytes)
   pub indexed : IsIndex index (log_kept node tail bytes) tail bytes
   pub sum : tail ≡ 16 + used_by (map body_length (records_before node tail bytes))
+
+-- Whatever the disk tells: the walk stands behind the head of the log and before its last byte, and each slot's record
+-- before the walk.
+pub record IsBounded (size tail : ℕ) (index : BTreeMap Uid (Option Slot)) : Type 0 where
+  pub begins : 16 ≤ tail
+  pub ends : tail + 1 ≤ size
+  pub slots : (uid : Uid) → IfSome (slot_at index uid) (λ (s : Slot). s.gate + 15 + s.length ≤ tail)
+
+-- and each slot's body is within the limit
+abbrev pub AreWithinLimit : BTreeMap Uid (Option Slot) → Type 0
+AreWithinLimit index = (uid : Uid) → IfSome (slot_at index uid) (λ (s : Slot). s.length ≤ 262144)
 
 -- the reads of a walk: one at the place of each record, and one at the place where it ended
 abbrev pub ReadsMade : ℕ → List ℕ → Result Found StoreRefusal → ℕ → Type 0

@@ -10,10 +10,12 @@ use std::alloc::AllocError;
 use std::collections::BTreeMap;
 use std::ops::Bound;
 
-/// Where a record that counts stands, and how long its body is.
+/// Where the record stands that gives a uid its body, and how long the body is. The body begins 15 bytes behind the gate.
 #[derive(Clone, Copy, Debug, PartialEq, Eq)]
 pub struct Slot {
+    /// The place of the record's first byte, its gate.
     pub gate: u32,
+    /// The bytes of the body, at most 262,144.
     pub length: u32,
 }
 

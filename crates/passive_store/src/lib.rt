@@ -11,7 +11,9 @@ mod store;
 #[cfg(test)]
 mod tests;
 
+pub use index::Slot;
 pub use laws::{images_are_told_by_marks, log_layout_is_a_layout, picks_are_told_by_marks};
 pub use log_store::LogStore;
+pub use opening::{Found, read_records};
 pub use steps::{finish, settle_whole};
 pub use store::{Doubt, Pick, Progress, Store, StoreRefusal};

@@ -1,5 +1,5 @@
 // The opening of a disk: what a log on it says, or a new log on a blank one.
-ghost use Rattle.std.specs.Prelude.{◌≡◌, ◌≢◌, ◌+◌, ◌≤◌, ◌<◌, ◌==◌, ◌∷◌, [], ℕ, true, false, length, map, slice_index, IsTrue, IfOk};
+ghost use Rattle.std.specs.Prelude.{◌≡◌, ◌≢◌, ◌+◌, ◌≤◌, ◌<◌, ◌==◌, ◌∷◌, [], ℕ, true, false, length, map, slice_index, take, IsTrue, IfOk};
 ghost use Rattle.std.specs.Prelude.{IfErr, OnOk, Option, Result, if◌then◌else◌};
 ghost use Rattle.eden_disk.specs.Told.{contents, at_rest};
 ghost use Rattle.eden_disk.specs.Timed.{Timed};
@@ -12,6 +12,7 @@ ghost use Rattle.passive_store.specs.Log.{records_of, log_map};
 ghost use Rattle.passive_store.specs.LogLayout.{log_kept, log_opening, log_format, looks};
 ghost use Rattle.passive_store.specs.LogState.{IsPlaced, IsLog};
 ghost use Rattle.passive_store.specs.Opening.{IsWalk, ThroughTold, IsEmptyImage, IsBlank, IsNewLog, IsReadied, IsKeptThrough, ReadsMade};
+ghost use Rattle.passive_store.specs.Opening.{IsBounded, AreWithinLimit};
 
 use crate::index::{Slot, make_entry, make_slot, set_slot};
 use crate::records::read_header;
@@ -24,11 +25,14 @@ use std::collections::BTreeMap;
 /// The first byte of a disk on which a log stands.
 const LOG: u8 = 0xED;
 
-/// What stands on a disk: the index of its log, and where the log ends.
+/// What stands on a disk, as [`read_records`] finds it: the index of its log, and where the log ends.
 #[derive(Drop)]
 pub struct Found {
+    /// Each uid that a record names, with the slot of the last record that gave it a body, or none where it was removed.
     pub index: BTreeMap<Uid, Option<Slot>>,
+    /// How many bytes of the disk, from the first on, the log may fill.
     pub size: u32,
+    /// The place of the first closed gate, behind the last record.
     pub tail: u32,
 }
 
@@ -96,28 +100,47 @@ fn ready<D: Disk>(disk: &mut D) -> Result<(), DiskRefusal>
     format(disk)
 }
 
-/// Reads the records of a log, up to the first closed gate.
-fn read_records<D: Disk>(alloc: Global, disk: &mut D, node: u8) -> Result<Found, StoreRefusal>
+/// Reads the records of the log in the first `size` bytes of a disk, up to the first closed gate.
+///
+/// It looks at no byte before the sixteenth, so that whether a log stands there is its caller's to ask, and it writes
+/// nothing. `Damaged` is where a gate is open and no record of the node stands behind it; `Failed` and `Stopped` are
+/// the disk's, and `OutOfMemory` comes where the index finds no memory.
+pub fn read_records<D: Disk>(
+    alloc: Global,
+    disk: &mut D,
+    node: u8,
+    size: u32,
+) -> Result<Found, StoreRefusal>
     requires power { IsTrue (D.counts disk.old).power }
-    requires range { 17 ≤ (D.counts disk.old).size }
+    requires within { size ≤ (D.counts disk.old).size }
+    requires range { 17 ≤ size }
     ensures ran { (made : ℕ)
         × (DeviceCalls made (D.counts disk.old) (D.counts disk.new) (end_of_store result)
-        × (IsTrue D.tells → ReadsMade node (contents (D.told disk.old)).now result made)) }
+        × (IsTrue D.tells → ReadsMade node (take size (contents (D.told disk.old)).now) result made)) }
     ensures obeyed { IsTrue D.obeys
         → Obeyed (D.due disk.old) (D.due disk.new) (D.counts disk.old) (D.counts disk.new) (end_of_store result) }
     ensures timed { IsTrue D.tells → Timed (D.counts disk.old).clock (D.told disk.old) (D.counts disk.new).clock (D.told disk.new) }
     ensures never_full { IfErr result (λ e. e ≢ Full) }
     ensures told { IsTrue D.tells → ReadTold (D.counts disk.new).clock (D.told disk.old) (D.told disk.new) (end_of_store result) }
-    ensures placed { IfOk result (λ f. IsPlaced f.size f.tail (D.counts disk.new) f.index Option.None) }
-    ensures walk { IsTrue D.tells → IfOk result (λ f. IsWalk node f.size f.tail (contents (D.told disk.old)).now f.index) }
-    ensures shut { IsTrue D.tells → IfOk result (λ f. (slice_index (contents (D.told disk.old)).now f.tail == 225) ≡ false) }
-    ensures damaged { IsTrue D.tells
-        → IfErr result (λ e. (place : ℕ) → e ≡ Damaged place → records_of node (contents (D.told disk.old)).now ≡ Result.Err place) }
+    ensures size { IfOk result (λ f. f.size ≡ size) }
+    ensures placed { IfOk result (λ f. IsBounded f.size f.tail f.index) }
+    ensures limit { IfOk result (λ f. AreWithinLimit f.index) }
+    ensures walk { IsTrue D.tells → IfOk result (λ f. IsWalk node f.size f.tail (take size (contents (D.told disk.old)).now) f.index) }
+    ensures shut { IsTrue D.tells → IfOk result (λ f. (slice_index (take size (contents (D.told disk.old)).now) f.tail == 225) ≡ false) }
+    ensures damaged { IsTrue D.tells → IfErr result (λ e. (place : ℕ)
+        → e ≡ Damaged place → records_of node (take size (contents (D.told disk.old)).now) ≡ Result.Err place) }
+    ensures map { IsTrue D.tells → (slice_index (take size (contents (D.told disk.old)).now) 0 == 237) ≡ true
+        → IfOk result (λ f. log_map node (take size (contents (D.told disk.old)).now) ≡
+        Result.Ok (log_kept node f.tail (take size (contents (D.told disk.old)).now))) }
+    ensures damaged_log { IsTrue D.tells → (slice_index (take size (contents (D.told disk.old)).now) 0 == 237) ≡ true
+        → IfErr result (λ e. (place : ℕ)
+        → e ≡ Damaged place → log_map node (take size (contents (D.told disk.old)).now) ≡ Result.Err place) }
 {
-    let size = disk.size();
+    // What a disk tells is as long as the disk is.
+    let _size = disk.size();
     let mut index = BTreeMap::new(alloc);
     let mut tail = 16;
-    while let Some(header) = read_header(disk, node, tail)? {
+    while let Some(header) = read_header(disk, node, size, tail)? {
         make_entry(&mut index, header.uid)?;
         let slot = make_slot(header.removal, tail, header.length);
         set_slot(&mut index, header.uid, slot);
@@ -154,6 +177,7 @@ pub fn open_log<D: Disk>(alloc: Global, disk: &mut D, node: u8) -> Result<Found,
     }
     disk.sync()?;
     ready(disk)?;
-    let found = read_records(alloc, disk, node)?;
+    let size = disk.size();
+    let found = read_records(alloc, disk, node, size)?;
     Ok(found)
 }

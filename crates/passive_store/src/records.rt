@@ -1,6 +1,6 @@
 // The records of a log, as bytes.
-ghost use Rattle.std.specs.Prelude.{◌≡◌, ◌⊎◌, ◌+◌, ◌≤◌, ◌==◌, ◌&&◌, nat_le, not, [], ◌∷◌, ◌++◌, length, slice_index, slice_range, drop};
-ghost use Rattle.std.specs.Prelude.{IsTrue, IfOk, IfErr, IfSome, is_some};
+ghost use Rattle.std.specs.Prelude.{◌≡◌, ◌⊎◌, ◌+◌, ◌≤◌, ◌==◌, ◌&&◌, nat_le, not, [], ◌∷◌, ◌++◌, length, slice_index};
+ghost use Rattle.std.specs.Prelude.{slice_range, take, drop, IsTrue, IfOk, IfErr, IfSome, is_some};
 ghost use Rattle.std.specs.Int.{w32, from_be_bytes};
 ghost use Rattle.eden_disk.specs.Told.{contents};
 ghost use Rattle.eden_disk.specs.Timed.{Timed};
@@ -64,12 +64,13 @@ fn number_at(bytes: &[u8], at: usize) -> u32
     u32::from_be_bytes([bytes[at], bytes[at + 1], bytes[at + 2], bytes[at + 3]])
 }
 
-/// The header that 14 bytes spell, where its record fits before the end of a disk that many bytes behind its gate.
+/// The header that 14 bytes spell, where its record fits before the end of the log that many bytes behind its gate.
 fn parse_header(fields: &[u8], node: u8, left: u32) -> Option<Header>
     requires { length fields.now ≡ 14 }
     ensures found { is_some result ≡
         (nat_le (14 + length_of fields.now + 1) left && are_fields node (length_of fields.now) (uid_of fields.now) (kind_of fields.now)) }
     ensures header { IfSome result (λ h. IsHeader h fields.now) }
+    ensures limit { IfSome result (λ h. h.length ≤ 262144) }
 {
     let length = number_at(fields, 0);
     let uid = Uid {
@@ -93,25 +94,31 @@ fn parse_header(fields: &[u8], node: u8, left: u32) -> Option<Header>
     }
 }
 
-/// Reads the place of a record: its header, or None where its gate is closed.
+/// Reads the place of a record of a log in the first `size` bytes of a disk: its header, or None where its gate is closed.
 pub fn read_header<D: Disk>(
     disk: &mut D,
     node: u8,
+    size: u32,
     place: u32,
 ) -> Result<Option<Header>, StoreRefusal>
     requires power { IsTrue (D.counts disk.old).power }
-    requires range { place + 1 ≤ (D.counts disk.old).size }
+    requires within { size ≤ (D.counts disk.old).size }
+    requires range { place + 1 ≤ size }
     ensures counts { DeviceCalls 1 (D.counts disk.old) (D.counts disk.new) (end_of_store result) }
     ensures obeyed { IsTrue D.obeys
         → Obeyed (D.due disk.old) (D.due disk.new) (D.counts disk.old) (D.counts disk.new) (end_of_store result) }
     ensures timed { IsTrue D.tells → Timed (D.counts disk.old).clock (D.told disk.old) (D.counts disk.new).clock (D.told disk.new) }
     ensures only { IfErr result (λ e. IsDiskRefusal e ⊎ (e ≡ Damaged place)) }
     ensures told { IsTrue D.tells → ReadTold (D.counts disk.new).clock (D.told disk.old) (D.told disk.new) (end_of_store result) }
-    ensures fits { IfOk result (λ found. IfSome found (λ h. place + h.length + 16 ≤ (D.counts disk.old).size)) }
-    ensures header { IsTrue D.tells → IfOk result (λ found. IsHeaderAt node (contents (D.told disk.old)).now place found) }
-    ensures damaged { IsTrue D.tells → IfErr result (λ e. e ≡ Damaged place → IsDamagedAt node (contents (D.told disk.old)).now place) }
+    ensures fits { IfOk result (λ found. IfSome found (λ h. place + h.length + 16 ≤ size)) }
+    ensures limit { IfOk result (λ found. IfSome found (λ h. h.length ≤ 262144)) }
+    ensures header { IsTrue D.tells → IfOk result (λ found. IsHeaderAt node (take size (contents (D.told disk.old)).now) place found) }
+    ensures damaged { IsTrue D.tells
+        → IfErr result (λ e. e ≡ Damaged place → IsDamagedAt node (take size (contents (D.told disk.old)).now) place) }
 {
-    let left = disk.size() - place;
+    // What a disk tells is as long as the disk is.
+    let _size = disk.size();
+    let left = size - place;
     let mut bytes = [0u8; 15];
     let count = left.min(15) as usize;
     disk.read(place, &mut bytes[..count])?;

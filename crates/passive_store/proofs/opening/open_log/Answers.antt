@@ -1,4 +1,5 @@
-use Rattle.std.proofs.Common.{◌≡◌, ◌+◌, ◌≤◌, ℕ, Bool, replicate, length, sym, ap, subst, arith, refl}
+use Rattle.std.proofs.Common.{◌≡◌, ◌+◌, ◌≤◌, ℕ, Bool, false, List, replicate, length, take, sym, ap, subst, ◌∙◌, arith, refl}
+use Rattle.std.proofs.lemmas.List.{take_all}
 use Rattle.eden_disk.proofs.Timed.{timed_sync, timed_join}
 use Rattle.passive_store.proofs.Joining.{timed_still}
 use Rattle.std.proofs.lemmas.Result.{err_from_is_err_and}
@@ -8,7 +9,9 @@ use Rattle.eden_disk.proofs.Held.{calls_one, calls_more}
 use Rattle.std.specs.Prelude.{Err, slice_index, ◌==◌}
 use Rattle.passive_store.specs.declared.opening.Found.{Found}
 use Rattle.passive_store.specs.Acts.{Read, AllTold, CallsTold}
-use Rattle.passive_store.specs.LogLayout.{looks, records_read}
+use Rattle.passive_store.specs.Log.{records_of}
+use Rattle.passive_store.specs.LogLayout.{looks, records_before, records_read}
+use Rattle.passive_store.specs.Opening.{IsWalk, ReadsMade}
 use Rattle.passive_store.proofs.Openings.{keeps_sync, keeps_ready, keeps_read, keeps_join, refused_calls, synced_now, opened_log}
 use Rattle.passive_store.proofs.Openings.{opened_damaged, opening_number, refused_number, refused_made, too_small, opening_is}
 use Rattle.passive_store.proofs.Openings.{sync_told_refused, look_told_refused, walk_told_refused, walk_told_whole}
@@ -58,9 +61,13 @@ returns-in_err-found-clause-ran g c =
             let synced : contents t1 ≡ at_rest (contents t0).now = ap contents (c.in_ok-sync.ensures.told tells) in
             let whole : 17 ≤ length (contents t0).now = omega (arith, c.size.ensures.told tells, c.if-size-lt17.false) in
             let long : 17 ≤ length (contents t1).now = omega (arith, ap (λ x. length x.now) synced, whole) in
-            refused_number c.args.node ready.0 ran.0 _ t0 t1 t2 whole synced (ready.1.2 tells) (ran.1.1 tells)
+            let now : List ℕ = (contents t2).now in
+            let all : take c.size-size.result now ≡ now = take_all c.size-size.result now (omega (arith, c.size-size.ensures.told tells)) in
+            refused_number c.args.node ready.0 ran.0 c.in_err-found.field-0.0 t0 t1 t2 whole synced (ready.1.2 tells)
+            (subst (λ b. ReadsMade c.args.node b (Err c.in_err-found.field-0.0) ran.0) all (ran.1.1 tells))
             (c.in_ok-ready.ensures.readied tells (synced_now (contents t1) (contents t0).now synced) long)
-            c.in_err-found.ensures.never_full (λ place is. c.in_err-found.ensures.damaged tells place is),
+            c.in_err-found.ensures.never_full
+            (λ place is. subst (λ b. records_of c.args.node b ≡ Err place) all (c.in_err-found.ensures.damaged tells place is)),
       ),
     )
 
@@ -73,9 +80,11 @@ returns-in_err-found-clause-damaged g c =
     let synced : contents t1 ≡ at_rest (contents t0).now = ap contents (c.in_ok-sync.ensures.told tells) in
     let whole : 17 ≤ length (contents t0).now = omega (arith, c.size.ensures.told tells, c.if-size-lt17.false) in
     let long : 17 ≤ length (contents t1).now = omega (arith, ap (λ x. length x.now) synced, whole) in
+    let now : List ℕ = (contents (g.D.Disk.told c.ready.new.disk)).now in
+    let all : take c.size-size.result now ≡ now = take_all c.size-size.result now (omega (arith, c.size-size.ensures.told tells)) in
     opened_damaged c.args.node place t0 t1 (g.D.Disk.told c.ready.new.disk) synced whole
     (c.in_ok-ready.ensures.readied tells (synced_now (contents t1) (contents t0).now synced) long)
-    (c.in_err-found.ensures.damaged tells place is))
+    (subst (λ b. records_of c.args.node b ≡ Err place) all (c.in_err-found.ensures.damaged tells place is)))
 
 pub returns-in_err-found-clause-keeps : goal.returns-in_err-found-clause-keeps
 returns-in_err-found-clause-keeps g c = λ tells.
@@ -115,10 +124,25 @@ returns-clause-log g c = λ tells.
     let whole : 17 ≤ length (contents t0).now = omega (arith, c.size.ensures.told tells, c.if-size-lt17.false) in
     let long : 17 ≤ length (contents t1).now = omega (arith, ap (λ x. length x.now) synced, whole) in
     let found = c.in_ok-found.found in
+    let now : List ℕ = (contents t2).now in
+    let all : take c.size-size.result now ≡ now = take_all c.size-size.result now (omega (arith, c.size-size.ensures.told tells)) in
     (opened_log c.args.node found.size found.tail t0 t1 t2 t3 found.index synced whole
     (c.in_ok-ready.ensures.readied tells (synced_now (contents t1) (contents t0).now synced) long)
-    (c.in_ok-found.ensures.told tells) (omega (arith, c.in_ok-found.ensures.placed.ends)) (c.in_ok-found.ensures.walk tells)
-    (c.in_ok-found.ensures.shut tells)).log
+    (c.in_ok-found.ensures.told tells) (omega (arith, c.in_ok-found.ensures.placed.ends))
+    (subst (λ b. IsWalk c.args.node found.size found.tail b found.index) all (c.in_ok-found.ensures.walk tells))
+    (subst (λ b. (slice_index b found.tail == 225) ≡ false) all (c.in_ok-found.ensures.shut tells))).log
+
+pub returns-clause-placed : goal.returns-clause-placed
+returns-clause-placed g c =
+    let found = c.in_ok-found.found in
+    let placed = c.in_ok-found.ensures.placed in
+    record {
+      sized = c.in_ok-found.ensures.ran.1.0.size ∙ sym c.size-size.ensures.size ∙ sym c.in_ok-found.ensures.size;
+      begins = placed.begins;
+      ends = placed.ends;
+      slots = placed.slots;
+      placed = tt;
+    }
 
 pub returns-clause-map : goal.returns-clause-map
 returns-clause-map g c = λ tells.
@@ -130,10 +154,13 @@ returns-clause-map g c = λ tells.
     let whole : 17 ≤ length (contents t0).now = omega (arith, c.size.ensures.told tells, c.if-size-lt17.false) in
     let long : 17 ≤ length (contents t1).now = omega (arith, ap (λ x. length x.now) synced, whole) in
     let found = c.in_ok-found.found in
+    let now : List ℕ = (contents t2).now in
+    let all : take c.size-size.result now ≡ now = take_all c.size-size.result now (omega (arith, c.size-size.ensures.told tells)) in
     (opened_log c.args.node found.size found.tail t0 t1 t2 t3 found.index synced whole
     (c.in_ok-ready.ensures.readied tells (synced_now (contents t1) (contents t0).now synced) long)
-    (c.in_ok-found.ensures.told tells) (omega (arith, c.in_ok-found.ensures.placed.ends)) (c.in_ok-found.ensures.walk tells)
-    (c.in_ok-found.ensures.shut tells)).map_is
+    (c.in_ok-found.ensures.told tells) (omega (arith, c.in_ok-found.ensures.placed.ends))
+    (subst (λ b. IsWalk c.args.node found.size found.tail b found.index) all (c.in_ok-found.ensures.walk tells))
+    (subst (λ b. (slice_index b found.tail == 225) ≡ false) all (c.in_ok-found.ensures.shut tells))).map_is
 
 pub returns-clause-ran : goal.returns-clause-ran
 returns-clause-ran g c =
@@ -152,12 +179,16 @@ returns-clause-ran g c =
             let whole : 17 ≤ length (contents t0).now = omega (arith, c.size.ensures.told tells, c.if-size-lt17.false) in
             let long : 17 ≤ length (contents t1).now = omega (arith, ap (λ x. length x.now) synced, whole) in
             let found = c.in_ok-found.found in
-            opening_number c.args.node found.tail ready.0 ran.0 t0 t1 t2 (contents t3) whole synced (ready.1.2 tells) (ran.1.1 tells)
+            let now : List ℕ = (contents t2).now in
+            let all : take c.size-size.result now ≡ now = take_all c.size-size.result now (omega (arith, c.size-size.ensures.told tells)) in
+            opening_number c.args.node found.tail ready.0 ran.0 t0 t1 t2 (contents t3) whole synced (ready.1.2 tells)
+            (subst (λ b. ran.0 ≡ length (records_before c.args.node found.tail b) + 1) all (ran.1.1 tells))
             (ap contents (c.in_ok-found.ensures.told tells))
             (opened_log c.args.node found.size found.tail t0 t1 t2 t3 found.index synced whole
             (c.in_ok-ready.ensures.readied tells (synced_now (contents t1) (contents t0).now synced) long)
-            (c.in_ok-found.ensures.told tells) (omega (arith, c.in_ok-found.ensures.placed.ends)) (c.in_ok-found.ensures.walk tells)
-            (c.in_ok-found.ensures.shut tells)).read,
+            (c.in_ok-found.ensures.told tells) (omega (arith, c.in_ok-found.ensures.placed.ends))
+            (subst (λ b. IsWalk c.args.node found.size found.tail b found.index) all (c.in_ok-found.ensures.walk tells))
+            (subst (λ b. (slice_index b found.tail == 225) ≡ false) all (c.in_ok-found.ensures.shut tells))).read,
       ),
     )
 
