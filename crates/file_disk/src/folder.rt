@@ -1,7 +1,7 @@
 //! The eight files of a folder.
-ghost use Rattle.std.specs.Prelude.{◌≡◌, ◌↔◌, IfOk, IsTrue, length};
+ghost use Rattle.std.specs.Prelude.{◌≡◌, IfNone, IfOk, IfSome, length};
 ghost use Rattle.std.specs.Fs.{IsFile, file_type, metadata_len};
-ghost use Rattle.std.specs.List.{All};
+ghost use Rattle.std.specs.List.{All, Contains};
 ghost use Rattle.file_disk.specs.Counted.{counts_of, first_counts};
 
 use crate::FileDisk;
@@ -47,15 +47,27 @@ fn path_of(alloc: Global, folder: &str, disk: u8) -> Result<String, AllocError> 
     format!(in alloc; "{folder}/disk{disk}")
 }
 
-// Whether this is an ordinary file of this size.
-fn has_size(seen: &Metadata, size: u32) -> bool
-    ensures { IsTrue result ↔ (IsFile (file_type seen.now) × (metadata_len seen.now ≡ size)) }
+// The one of these sizes that an ordinary file has. None where it is no ordinary file, or has none of them.
+fn size_among(seen: &Metadata, sizes: &[u32]) -> Option<u32>
+    ensures found { IfSome result (λ n. IsFile (file_type seen.now) × (metadata_len seen.now ≡ n) × Contains sizes.now n) }
+    ensures none { IfNone result (IsFile (file_type seen.now) → Contains sizes.now (metadata_len seen.now) → ⊥) }
 {
-    seen.is_file() && seen.len() == u64::from(size)
+    if !seen.is_file() {
+        return None;
+    }
+    let length = seen.len();
+    for size in sizes {
+        if length == u64::from(*size) {
+            return Some(*size);
+        }
+    }
+    None
 }
 
-// The file of a disk, or None where there is none. One of another size is refused.
-fn find(rt: &HostRuntime, path: &str, size: u32) -> Result<Option<File>, OpenRefusal> {
+// The file of a disk, with its size, or None where there is none. One of another size is refused.
+fn find(rt: &HostRuntime, path: &str, sizes: &[u32]) -> Result<Option<(File, u32)>, OpenRefusal>
+    ensures size { IfOk result (λ found. IfSome found (λ f. Contains sizes.now f.1)) }
+{
     let opened = File::options().read(true).write(true).open(rt, path);
     let file = match opened {
         Ok(file) => file,
@@ -63,10 +75,10 @@ fn find(rt: &HostRuntime, path: &str, size: u32) -> Result<Option<File>, OpenRef
         Err(_) => return Err(OpenRefusal::Cannot),
     };
     let seen = file.metadata()?;
-    if !has_size(&seen, size) {
-        return Err(OpenRefusal::Cannot);
+    match size_among(&seen, sizes) {
+        Some(size) => Ok(Some((file, size))),
+        None => Err(OpenRefusal::Cannot),
     }
-    Ok(Some(file))
 }
 
 // Fills a new file with zeros, and waits until they have reached the medium.
@@ -77,11 +89,16 @@ fn fill(alloc: Global, file: &File, size: u32) -> Result<(), OpenRefusal> {
     Ok(())
 }
 
-// Of the files that are there each can be opened, and has the size.
-fn check_all(alloc: Global, rt: &HostRuntime, folder: &str, size: u32) -> Result<(), OpenRefusal> {
+// Of the files that are there each can be opened, and has one of the sizes.
+fn check_all(
+    alloc: Global,
+    rt: &HostRuntime,
+    folder: &str,
+    sizes: &[u32],
+) -> Result<(), OpenRefusal> {
     for disk in 0..DISKS {
         let path = path_of(alloc, folder, disk + 1)?;
-        let _file = find(rt, path.as_str(), size)?;
+        let _file = find(rt, path.as_str(), sizes)?;
     }
     Ok(())
 }
@@ -101,47 +118,69 @@ fn make(
     Ok(file)
 }
 
-// All disks: those that are not there are made.
+// One disk, with power and untouched. Its file is made where it is not there.
+fn open_one(
+    alloc: Global,
+    rt: &HostRuntime,
+    path: String,
+    sizes: &[u32],
+    new_size: u32,
+    made: &mut Vec<String>,
+) -> Result<FileDisk, OpenRefusal>
+    requires new_size { Contains sizes.now new_size }
+    ensures size { IfOk result (λ d. Contains sizes.now (counts_of d).size) }
+    ensures fresh { IfOk result (λ d. counts_of d ≡ first_counts (counts_of d).size) }
+{
+    match find(rt, path.as_str(), sizes)? {
+        Some((file, size)) => Ok(FileDisk::new(file, size)),
+        None => {
+            let file = make(alloc, rt, path, new_size, made)?;
+            Ok(FileDisk::new(file, new_size))
+        }
+    }
+}
+
+// All disks, in their order.
 fn open_all(
     alloc: Global,
     rt: &HostRuntime,
     folder: &str,
-    size: u32,
+    sizes: &[u32],
+    new_size: u32,
     made: &mut Vec<String>,
 ) -> Result<Vec<FileDisk>, OpenRefusal>
+    requires new_size { Contains sizes.now new_size }
     ensures eight { IfOk result (λ disks. length disks.items ≡ 8) }
-    ensures sizes { IfOk result (λ disks. All (λ d. (counts_of d).size ≡ size) disks.items) }
-    ensures fresh { IfOk result (λ disks. All (λ d. counts_of d ≡ first_counts size) disks.items) }
+    ensures sizes { IfOk result (λ disks. All (λ d. Contains sizes.now (counts_of d).size) disks.items) }
+    ensures fresh { IfOk result (λ disks. All (λ d. counts_of d ≡ first_counts (counts_of d).size) disks.items) }
 {
     let mut disks = Vec::new(alloc);
     for disk in 0..DISKS {
         let path = path_of(alloc, folder, disk + 1)?;
-        let file = match find(rt, path.as_str(), size)? {
-            Some(file) => file,
-            None => make(alloc, rt, path, size, made)?,
-        };
-        disks.push(FileDisk::new(file, size))?;
+        disks.push(open_one(alloc, rt, path, sizes, new_size, made)?)?;
     }
     Ok(disks)
 }
 
-/// Opens the files `disk1` to `disk8` of a folder as disks of this size, in their order. Those that are not there are
-/// made of zeros.
+/// Opens the files `disk1` to `disk8` of a folder as disks, in their order, each at its own size, which is one of these.
+/// Those that are not there are made of zeros, in the size for new ones.
 ///
 /// Where one cannot be opened or made, or has another size, the folder is left as it was.
 pub fn open_disks(
     alloc: Global,
     rt: &HostRuntime,
     folder: &str,
-    size: u32,
+    sizes: &[u32],
+    new_size: u32,
 ) -> Result<Vec<FileDisk>, OpenRefusal>
+    requires new_size { Contains sizes.now new_size }
     ensures eight { IfOk result (λ disks. length disks.items ≡ 8) }
-    ensures sizes { IfOk result (λ disks. All (λ d. (counts_of d).size ≡ size) disks.items) }
-    ensures fresh { IfOk result (λ disks. All (λ d. counts_of d ≡ first_counts size) disks.items) }
+    ensures sizes { IfOk result (λ disks. All (λ d. Contains sizes.now (counts_of d).size) disks.items) }
+    ensures fresh { IfOk result (λ disks. All (λ d. counts_of d ≡ first_counts (counts_of d).size) disks.items) }
 {
-    check_all(alloc, rt, folder, size)?;
+    check_all(alloc, rt, folder, sizes)?;
     let mut made = Vec::new(alloc);
-    let opened = open_all(alloc, rt, folder, size, &mut made);
+    let opened = open_all(alloc, rt, folder, sizes, new_size, &mut made);
     if opened.is_err() {
         for path in &made {
             let _ = fs::remove_file(rt, path.as_str());
