@@ -10,13 +10,13 @@ use std::alloc::{AllocError, Global};
 const DISKS: u8 = 8;
 
 /// How many bytes each disk has.
-pub const DISK_SIZE: u32 = 1_048_576;
+pub const DISK_SIZE: u32 = 4_194_304;
 
 /// Eight disks of zero bytes, in memory.
 pub fn blank_disks(alloc: Global) -> Result<Vec<SimDisk>, AllocError>
     ensures eight { IfOk result (λ disks. length disks.items ≡ 8) }
-    ensures sizes { IfOk result (λ disks. All (λ d. d.counts.size ≡ 1048576) disks.items) }
-    ensures blank { IfOk result (λ disks. All (λ d. d ≡ blank_of 1048576) disks.items) }
+    ensures sizes { IfOk result (λ disks. All (λ d. d.counts.size ≡ 4194304) disks.items) }
+    ensures blank { IfOk result (λ disks. All (λ d. d ≡ blank_of 4194304) disks.items) }
 {
     let mut disks = Vec::with_capacity(alloc, usize::from(DISKS))?;
     for _ in 0..DISKS {

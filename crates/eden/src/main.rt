@@ -4,7 +4,7 @@
 mod blank;
 mod streams;
 
-ghost use Rattle.std.specs.Prelude.{◌≡◌, length};
+ghost use Rattle.std.specs.Prelude.{◌≡◌, ◌⊎◌, length};
 ghost use Rattle.std.specs.List.{All};
 
 use blank::{DISK_SIZE, blank_disks};
@@ -16,6 +16,9 @@ use std::alloc::AllocError;
 use std::env;
 use std::process::ExitCode;
 use streams::{StdSink, StdSource};
+
+// The size of disks as they were made before, which a folder may have too.
+const OLD_SIZE: u32 = 1_048_576;
 
 // The status where the disks of a folder cannot be opened.
 const CANNOT_OPEN: u8 = 8;
@@ -34,7 +37,7 @@ fn words(rt: &HostRuntime) -> Result<Vec<String>, AllocError> {
 // Does what the words ask for over these disks, and gives the exit status.
 fn run<D: Disk + Drop>(rt: &HostRuntime, words: &Vec<String>, disks: &mut Vec<D>) -> u8
     requires eight { length disks.old.items ≡ 8 }
-    requires sizes { All (λ d. (D.counts d).size ≡ 1048576) disks.old.items }
+    requires sizes { All (λ d. ((D.counts d).size ≡ 1048576) ⊎ ((D.counts d).size ≡ 4194304)) disks.old.items }
 {
     let mut source = StdSource::new(rt.stdin());
     let mut sink = StdSink::new(rt.stdout());
@@ -44,7 +47,7 @@ fn run<D: Disk + Drop>(rt: &HostRuntime, words: &Vec<String>, disks: &mut Vec<D>
 
 // Over the files of a folder; where they cannot be opened, with a line and a status of its own.
 fn run_in(rt: &HostRuntime, words: &Vec<String>, folder: &str) -> u8 {
-    match open_disks(rt.alloc(), rt, folder, DISK_SIZE) {
+    match open_disks(rt.alloc(), rt, folder, &[OLD_SIZE, DISK_SIZE], DISK_SIZE) {
         Ok(mut disks) => run(rt, words, &mut disks),
         Err(OpenRefusal::Cannot) => {
             let mut sink = StdSink::new(rt.stdout());
