@@ -61,7 +61,12 @@ abbrev pub kind_in : List ℕ → ℕ
 kind_in bytes = slice_index bytes 1
 
 abbrev pub uid_in : List ℕ → Uid
-uid_in bytes = record { node = slice_index bytes 2; epoch = from_be_bytes w32 (slice_range bytes 3 7); serial = from_be_bytes w32 (slice_range bytes 7 11) }
+uid_in bytes = record {
+  node = slice_index bytes 2;
+  epoch = from_be_bytes w32 (slice_range bytes 3 7);
+  serial = from_be_bytes w32
+      (slice_range bytes 7 11);
+}
 
 abbrev pub head_in : ℕ → List ℕ → Head
 head_in number bytes = record {

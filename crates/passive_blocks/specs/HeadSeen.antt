@@ -1,5 +1,5 @@
 -- What a read of a head on a disk says.
-use Rattle.std.specs.Prelude.{◌≡◌, ◌==◌, ◌≤◌, ℕ, Bool, nat_lt, true, false, List, length, slice_index, Option, None, Some}
+use Rattle.std.specs.Prelude.{◌≡◌, ◌==◌, ℕ, true, false, List, length, slice_index, Option, None, Some}
 use Rattle.passive_blocks.specs.declared.heads.HeadFields.{HeadFields}
 use Rattle.passive_blocks.specs.Blocks.{Head, head_bytes, head_in, is_head}
 
@@ -25,14 +25,3 @@ IsHeadThere node image number (Some h) = (slice_index (head_bytes image number) 
 abbrev pub IsHeadDamaged : ℕ → List ℕ → ℕ → Type 0
 IsHeadDamaged node image number = (slice_index (head_bytes image number) 0 ≡ 225)
     × (is_head node (length image) (head_bytes image number) (head_in number (head_bytes image number)) ≡ false)
-
--- a head under whose number one is open
-abbrev pub is_open : HeadFields → Bool
-is_open slot = nat_lt 0 slot.sequence
-
--- What a read answers of an open head, whatever the disk tells.
-pub record IsRead (node number : ℕ) (h : HeadFields) : Type 0 where
-  pub numbered : h.number ≡ number
-  pub opened : is_open h ≡ true
-  pub own : h.uid.node ≡ node
-  pub short : h.size ≤ 262144

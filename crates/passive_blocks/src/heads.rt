@@ -11,7 +11,8 @@ ghost use Rattle.passive_store.specs.Kept.{end_of_store, IsDiskRefusal};
 ghost use Rattle.passive_blocks.specs.Blocks as blocks;
 ghost use Rattle.passive_blocks.specs.Blocks.{is_head, head_in};
 ghost use Rattle.passive_blocks.specs.Changes.{spelled_head};
-ghost use Rattle.passive_blocks.specs.HeadSeen.{head_of, IsHeadThere, IsHeadDamaged, IsRead};
+ghost use Rattle.passive_blocks.specs.HeadSeen.{head_of, IsHeadThere, IsHeadDamaged};
+ghost use Rattle.passive_blocks.specs.OpeningState.{IsRead};
 
 use capability::{BODY_LIMIT, Uid};
 use eden_disk::{Disk, DiskRefusal};

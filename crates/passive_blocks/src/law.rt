@@ -1,5 +1,5 @@
 //! What the layout of blocks owes to those who use it.
-ghost use Rattle.std.specs.Prelude.{◌≡◌, ℕ, List, length, true};
+ghost use Rattle.std.specs.Prelude.{◌≡◌, ℕ, ◌≤◌, List, Some, length, true};
 ghost use Rattle.passive_store.specs.Layout.{IsLayout};
 ghost use Rattle.passive_store.specs.Log.{log_map};
 ghost use Rattle.passive_blocks.specs.Blocks.{is_block_size};
@@ -22,4 +22,9 @@ pub fn blocks_are_a_layout()
 pub fn a_log_to_be_converted_keeps_its_bodies()
     ensures { (node : ℕ) (image : List ℕ) → is_block_size (length image) ≡ true → format_of image ≡ OldLog
         → KeepsAsLog (log_map node (old_log image)) (block_map node image) }
+{}
+
+/// What blocks keep is read by device calls: a value of no bytes has a block too.
+pub fn blocks_are_read_by_calls()
+    ensures { (body : List ℕ) → 1 ≤ block_layout.reading_calls (Some body) }
 {}

@@ -1,6 +1,6 @@
 use Rattle.std.proofs.Common.{ap, sym, ◌∙◌}
 use Rattle.passive_blocks.specs.Blocks.{Head}
-use Rattle.passive_blocks.proofs.GoodHeads.{good_head}
+use Rattle.passive_blocks.proofs.OpeningHeads.{good_head}
 use Rattle.eden_disk.proofs.Timed.{timed_read}
 use Rattle.passive_blocks.proofs.heads.read_head.Goals as goal
 

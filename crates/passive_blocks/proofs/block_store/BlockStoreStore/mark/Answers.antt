@@ -1,0 +1,15 @@
+use Rattle.std.proofs.Common.{◌∙◌}
+use Rattle.eden_disk.specs.Told.{contents}
+use Rattle.passive_blocks.proofs.KeptLooks.{mark_shown}
+use Rattle.passive_blocks.proofs.StageShown.{store_shown}
+use Rattle.passive_blocks.proofs.block_store.BlockStoreStore.mark.Goals as goal
+
+pub returns : goal.returns
+returns g c = λ tells.
+    let s = c.self.inside in
+    let held = c.self.invariant.held in
+    let show = store_shown g.D.Disk.tells s.node s.size s.more (g.D.Disk.counts s.disk) (g.D.Disk.told s.disk) s.table s.pending
+    c.self.invariant tells in
+    rw (← c.self.view_is)
+    (c.mark.ensures
+    ∙ mark_shown (contents (g.D.Disk.told s.disk)).now s.table c.args.uid held.table held.apart show.chains)
