@@ -1,0 +1,7 @@
+mod Refused
+mod Works
+mod Nexts
+mod Counts
+mod Steps
+mod Blank
+mod BlankBlocks
