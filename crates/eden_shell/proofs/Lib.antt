@@ -1,3 +1,4 @@
 pub mod Wants
 pub mod Carrying
 pub mod Called
+pub mod Blank

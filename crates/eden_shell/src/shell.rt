@@ -1,7 +1,7 @@
 //! The whole call.
 ghost use Rattle.std.specs.Prelude.{◌≡◌, ◌⊎◌, ◌≤◌, ℕ, List, Some, length, map, string_bytes};
 ghost use Rattle.eden_io.specs.Causes.{Rose};
-ghost use Rattle.passive_store.specs.LogLayout.{log_layout};
+ghost use Rattle.passive_blocks.specs.BlockLayout.{block_layout};
 ghost use Rattle.passive_store.specs.Seen.{disk_seen};
 ghost use Rattle.journal.specs.declared.command.Script.{Script};
 ghost use Rattle.journal.specs.declared.event.Mode.{Mode};
@@ -13,11 +13,10 @@ ghost use Rattle.shell_answers.specs.Answers.{Answers, writing};
 ghost use Rattle.shell_answers.specs.declared.words.Job.{Job};
 
 use crate::carry::carry_script;
-use checkpoint::log_reads_by_calls;
 use eden_disk::Disk;
 use eden_io::{Sink, Source};
 use eden_script::{a_script_is_fit, one_reading};
-use passive_store::{LogStore, log_layout_is_a_layout};
+use passive_blocks::{BlockStore, blocks_are_a_layout, blocks_are_read_by_calls};
 use shell_answers::{Asked, Outcome, Report, conclude, mode_of, read_script, refuse};
 use std::alloc::Global;
 
@@ -40,7 +39,7 @@ pub fn eden<S: Source, K: Sink, D: Disk + Drop>(
           source = reading S.left S.ended S.faults source.old source.new;
           sink = writing K.written K.faults sink.old sink.new;
           disks = record {
-            layout = log_layout;
+            layout = block_layout;
             tells = D.tells;
             runs = disk_runs D.obeys (disk_seen D.counts D.told D.due) disks.old.items disks.new.items;
           };
@@ -59,9 +58,9 @@ pub fn eden<S: Source, K: Sink, D: Disk + Drop>(
         Err(outcome) => return refuse(alloc, outcome, sink),
     };
     a_script_is_fit();
-    log_layout_is_a_layout();
-    log_reads_by_calls();
-    match carry_script::<LogStore<D>>(alloc, script, disks) {
+    blocks_are_a_layout();
+    blocks_are_read_by_calls();
+    match carry_script::<BlockStore<D>>(alloc, script, disks) {
         Ok(carried) => conclude(alloc, mode_of(job), carried, sink),
         Err(_) => refuse(alloc, Outcome::OutOfMemory, sink),
     }

@@ -1,5 +1,5 @@
 //! A stop in each device call of a run, a power cut behind each turn of another, and what the next run over the same disks finds.
-ghost use Rattle.std.specs.Prelude.{◌≡◌, ◌≤◌, length};
+ghost use Rattle.std.specs.Prelude.{◌≡◌, length};
 
 use crate::tests::blank_disks;
 use crate::{Outcome, eden};
@@ -9,17 +9,11 @@ use std::alloc::{AllocError, Global};
 use std::fmt::Write as _;
 use std::test::Fail;
 
-/// How many bytes a disk has.
-const DISK_SIZE: u32 = 4096;
+/// How many bytes a disk has: 32 blocks, the least that there may be.
+const DISK_SIZE: u32 = 32_768;
 
 /// How a disk is left, and the words of it in a script.
 const MODES: [(&str, bool); 3] = [("keep", true), ("lose", false), ("garble 225", true)];
-
-/// The device calls that a save makes on a log: its record, a sync, its gate, a sync.
-const CALLS_OF_A_SAVE: u32 = 4;
-
-/// The first of them that may leave the gate open.
-const CALL_OF_THE_GATE: u32 = 3;
 
 /// A later run, which asks both Cells.
 const ASKS: &str =
@@ -52,29 +46,43 @@ fn cut_each(disks: &mut Vec<SimDisk>)
 
 /// Two Cells: the first saves 0, the second 3, and the first 8.
 const SAVES: &str =
-    "call a c.Save()\ngo 100\ncall b x.Set(3)\ngo 100\ncall d x.Save()\ngo 100\ncall e c.Set(8)\ngo 100\ncall f c.Save()\ngo 100\nend\n";
+    "call a c.Save()\ngo 100\ncall b x.Set(3)\ngo 100\ncall d x.Save()\ngo 100\ncall e c.Set(8)\ngo 100\ncall f c.Save()\ngo 100\n";
 
-/// Three saves, and the power fails in this device call behind the boot.
-fn three_saves(alloc: Global, call: u32, mode: &str) -> Result<String, AllocError> {
+/// The second saves 4, which first closes the head from which the first had its 0.
+const LAST_SAVE: &str = "call g x.Set(4)\ngo 100\ncall h x.Save()\ngo 100\nend\n";
+
+/// Four saves, and the power fails in this device call behind the boot.
+fn four_saves(alloc: Global, call: u32, mode: &str) -> Result<String, AllocError> {
     let saves = SAVES;
-    format!(in alloc; "nodes 1\ncreate c 1 Cell\ncreate x 1 Cell\nstop 1 {call} {mode}\n{saves}")
+    let last = LAST_SAVE;
+    format!(in alloc;
+        "nodes 1\ncreate c 1 Cell\ncreate x 1 Cell\nstop 1 {call} {mode}\n{saves}{last}"
+    )
 }
 
-/// What the two Cells answer later: each from its last save that was acknowledged, or from the one that was cut short,
-/// where its gate was left open.
-fn answers(call: u32, gate_stays: bool) -> (&'static str, &'static str)
-    requires { 1 ≤ call }
-{
-    let save = (call - 1) / CALLS_OF_A_SAVE;
-    let is_kept = gate_stays && (call - 1) % CALLS_OF_A_SAVE + 1 >= CALL_OF_THE_GATE;
+/// The device calls of the four saves: each writes its block and its head, and syncs, writes its gate, and syncs. The last writes
+/// another gate first.
+const CALLS_OF_SAVES: u32 = 21;
+
+/// Whether a save is kept where the power fails in this device call: it was acknowledged behind its last one, or its gate was
+/// left open.
+fn is_save_kept(call: u32, gate: u32, last: u32, gate_stays: bool) -> bool {
+    call > last || gate_stays && call >= gate
+}
+
+/// What the two Cells answer later: each from its last save that is kept.
+fn answers(call: u32, gate_stays: bool) -> (&'static str, &'static str) {
     let gone = "refused 4 gone";
-    match (save, is_kept) {
-        (0, false) => (gone, gone),
-        (0, true) => ("ok (0)", gone),
-        (1, false) => ("ok (0)", gone),
-        (1, true) => ("ok (0)", "ok (3)"),
-        (_, false) => ("ok (0)", "ok (3)"),
-        (_, true) => ("ok (8)", "ok (3)"),
+    if is_save_kept(call, 20, 21, gate_stays) {
+        ("ok (8)", "ok (4)")
+    } else if is_save_kept(call, 14, 15, gate_stays) {
+        ("ok (8)", "ok (3)")
+    } else if is_save_kept(call, 9, 10, gate_stays) {
+        ("ok (0)", "ok (3)")
+    } else if is_save_kept(call, 4, 5, gate_stays) {
+        ("ok (0)", gone)
+    } else {
+        (gone, gone)
     }
 }
 
@@ -86,10 +94,10 @@ fn answered(alloc: Global, epoch: u32, c: &str, x: &str) -> Result<String, Alloc
 #[test]
 fn a_stop_in_each_device_call(rt: HostRuntime) -> Result<(), Fail> {
     let alloc = rt.alloc();
-    for call in 1..13u32 {
+    for call in 1..CALLS_OF_SAVES + 1 {
         for (mode, gate_stays) in MODES {
             let mut disks = blank_disks(alloc, DISK_SIZE)?;
-            let script = three_saves(alloc, call, mode)?;
+            let script = four_saves(alloc, call, mode)?;
             let first = run(alloc, script.as_str(), &mut disks)?;
             assert!(rt; first.is_some());
             assert!(rt; disks.first().is_some_and(|disk| disk.stops() == 1));
@@ -118,14 +126,17 @@ fn two_saves(alloc: Global, turns: u32, mode: &str) -> Result<String, AllocError
     )
 }
 
-/// The turns of a save: the request is delivered, it is started, its process runs, the store makes four device calls, the process
-/// returns, and the reply is delivered. The gate is written in the sixth.
-const TURN_OF_THE_GATE: u32 = 6;
+/// The turns of a save: the request is delivered, it is started, its process runs, the store makes five device calls, the process
+/// returns, and the reply is delivered.
+const TURNS_OF_A_SAVE: u32 = 10;
+
+/// The one in which the gate is written.
+const TURN_OF_THE_GATE: u32 = 7;
 
 #[test]
 fn a_power_cut_behind_each_turn(rt: HostRuntime) -> Result<(), Fail> {
     let alloc = rt.alloc();
-    for turns in 1..10u32 {
+    for turns in 1..TURNS_OF_A_SAVE + 1 {
         for (mode, gate_stays) in MODES {
             let mut disks = blank_disks(alloc, DISK_SIZE)?;
             let script = two_saves(alloc, turns, mode)?;
@@ -145,12 +156,12 @@ fn a_power_cut_behind_each_turn(rt: HostRuntime) -> Result<(), Fail> {
     Ok(())
 }
 
-/// The device calls of a boot over a log of two records: a sync, a read of what the disk is, one of each record and of the tail, one of
-/// the epoch, and the four of its put.
-const CALLS_OF_A_BOOT: u32 = 10;
+/// The device calls of a boot over two values on blocks: a sync, a read of what stands on the disk, one of each of 32 heads and of the
+/// two blocks, one of the epoch, and the five of its put.
+const CALLS_OF_A_BOOT: u32 = 42;
 
 /// The first of them that may leave the gate of the epoch open.
-const CALL_OF_THE_EPOCH: u32 = 9;
+const CALL_OF_THE_EPOCH: u32 = 41;
 
 /// A Cell that has saved 5. The power fails in this device call of the next boot.
 fn second_boot(alloc: Global, call: u32, mode: &str) -> Result<String, AllocError> {

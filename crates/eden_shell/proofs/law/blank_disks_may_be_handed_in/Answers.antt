@@ -1,0 +1,5 @@
+use Rattle.eden_shell.proofs.Blank.{blank_disks}
+use Rattle.eden_shell.proofs.law.blank_disks_may_be_handed_in.Goals as goal
+
+pub returns : goal.returns
+returns c = blank_disks
