@@ -123,6 +123,26 @@ fn ask(
     Ok(())
 }
 
+/// The process takes a turn.
+fn go_on<St: Store>(
+    alloc: Global,
+    node: &mut Node<St>,
+    types: &Types,
+    calls: &mut Calls,
+) -> Result<(), Amiss>
+    requires { IsWhole (held St.seen node.old) }
+    ensures { OnOk result (IsWhole (held St.seen node.new)) }
+{
+    if !are_few(calls) {
+        return Err(Amiss::Turn);
+    }
+    if !node.may_process(KEPT, 1) {
+        return Err(Amiss::Turn);
+    }
+    let _turn = node.process(alloc, types, calls, &places(), KEPT, 1)?;
+    Ok(())
+}
+
 /// The next invocation starts, and takes a turn.
 fn run<St: Store>(
     alloc: Global,
@@ -137,11 +157,7 @@ fn run<St: Store>(
         return Err(Amiss::Turn);
     }
     let _start = node.start(alloc, types, calls, KEPT)?;
-    if !are_few(calls) || !node.may_process(KEPT, 1) {
-        return Err(Amiss::Turn);
-    }
-    let _turn = node.process(alloc, types, calls, &places(), KEPT, 1)?;
-    Ok(())
+    go_on(alloc, node, types, calls)
 }
 
 /// A node that boots with its disk in doubt, and what the boot found.
@@ -546,10 +562,7 @@ fn start_behind_a_settling(alloc: Global, trouble: Trouble) -> Result<(StartEnd,
     let mut node = saving::<Log>(alloc, &types, &mut calls, disk)?;
     arm(&mut node, Trouble::Fault { made: 0 });
     let _fault = store_end(alloc, &mut node, &mut calls)?;
-    if !are_few(&calls) || !node.may_process(KEPT, 1) {
-        return Err(Amiss::Turn);
-    }
-    let _told = node.process(alloc, &types, &mut calls, &places(), KEPT, 1)?;
+    go_on(alloc, &mut node, &types, &mut calls)?;
     ask(alloc, &mut calls, b"Sleep", None)?;
     let _request = node.deliver(alloc, &types, &mut calls, 0)?;
     run(alloc, &mut node, &types, &mut calls)?;

@@ -284,7 +284,7 @@ fn fits(command: &Command) -> bool
             1 <= uid.node && uid.node <= 8 && 1 <= uid.epoch && 1 <= uid.serial
         }
         Command::Call { target, .. } => target.result <= 8,
-        Command::Restrict { target, .. } => target.result <= 8,
+        Command::Restrict { target, mask, .. } => { target.result <= 8 && mask.bits <= u16::MAX }
         Command::Walk { target, .. } => target.result <= 8,
         Command::Go { n } => 1 <= *n && *n <= 1_000_000,
         Command::Turn { i } => *i <= 1_000_000,

@@ -123,7 +123,10 @@ impl Bench {
     /// A process of an Eject takes a turn, that serves the one call or goes on with it.
     fn turn(&mut self, uid: Uid, operation: &[u8], args: &[i64]) -> Result<Turned, AllocError> {
         let mut calls = asked(self.alloc, uid, operation, args)?;
-        if uid.node > 8 || !self.ejects.is_ready(uid, 1) {
+        if uid.node > 8 {
+            return Err(AllocError);
+        }
+        if !self.ejects.is_ready(uid, 1) {
             return Err(AllocError);
         }
         let event = self.ejects.process(
