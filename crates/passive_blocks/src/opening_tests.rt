@@ -59,6 +59,13 @@ fn stamp_blocks(
     stamp(image, 3072, &[0, third_block]);
 }
 
+/// So many zeros.
+fn zeros(alloc: Global, count: usize) -> Result<Vec<u8>, AllocError>
+    ensures { IfOk result (λ bytes. length bytes.items ≡ count) }
+{
+    vec![in alloc; 0u8; count]
+}
+
 /// A disk on which blocks stand, with two heads, and with two next blocks: those of block 2 and of block 3.
 fn disk_with(
     alloc: Global,
@@ -69,7 +76,7 @@ fn disk_with(
 ) -> Result<SimDisk, AllocError>
     ensures { IfOk result (λ disk. IsTrue disk.counts.power) }
 {
-    let mut image = vec![in alloc; 0u8; SIZE]?;
+    let mut image = zeros(alloc, SIZE)?;
     stamp_blocks(&mut image, third, fifth, second_block, third_block);
     SimDisk::of(alloc, image)
 }

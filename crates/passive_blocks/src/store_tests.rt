@@ -1,11 +1,11 @@
-ghost use Rattle.std.specs.Prelude.{◌≡◌, ◌≤◌, ◌<◌, ◌+◌, IsTrue, true, false, length, OnOk, Option};
+ghost use Rattle.std.specs.Prelude.{◌≡◌, ◌≤◌, ◌<◌, ◌+◌, IfOk, IsTrue, true, false, length, OnOk, Option};
 ghost use Rattle.passive_store.specs.Kept.{IsOwn, Idle, is_busy, is_unsettled, is_synced, calls_left};
 
 use crate::BlockStore;
 use capability::{Body, Uid};
 use eden_disk::{Arm, Disk, ImageMode, SimDisk};
 use passive_store::{Pick, Progress, Store, StoreRefusal, finish, settle_whole};
-use std::alloc::Global;
+use std::alloc::{AllocError, Global};
 use std::test::Fail;
 
 const EPOCH: Uid = Uid {
@@ -428,10 +428,17 @@ fn settle_by_steps<St: Store>(store: &mut St) -> Result<(), StoreRefusal>
     Ok(())
 }
 
+/// So many bytes.
+fn fives(alloc: Global, count: usize) -> Result<Vec<u8>, AllocError>
+    ensures { IfOk result (λ bytes. length bytes.items ≡ count) }
+{
+    vec![in alloc; 5u8; count]
+}
+
 #[test]
 fn the_room_of_blocks(rt: HostRuntime) -> Result<(), Fail> {
     let alloc = rt.alloc();
-    let longest = vec![in alloc; 5u8; 28_617]?;
+    let longest = fives(alloc, 28_616)?;
     let Ok(mut store) = BlockStore::open_disk(alloc, SimDisk::new(alloc, SIZE)?, 1) else {
         return Err(StoreRefusal::OutOfMemory)?;
     };
@@ -439,10 +446,21 @@ fn the_room_of_blocks(rt: HostRuntime) -> Result<(), Fail> {
     store.put(alloc, EPOCH, &[0, 0, 0, 1])?;
     assert_eq!(rt; store.disk().clock(), 43);
     assert_eq!(rt; store.room(), Some(28_616));
-    store.put(alloc, FIRST, &longest[..28_616])?;
+    store.put(alloc, FIRST, &longest)?;
     assert_eq!(rt; store.room(), None);
     store.delete(alloc, FIRST)?;
     assert_eq!(rt; store.room(), Some(28_616));
-    assert_eq!(rt; store.put(alloc, FIRST, &longest), Err(StoreRefusal::Full));
+    Ok(())
+}
+
+#[test]
+fn a_value_of_one_byte_too_many(rt: HostRuntime) -> Result<(), Fail> {
+    let alloc = rt.alloc();
+    let value = fives(alloc, 28_617)?;
+    let Ok(mut store) = BlockStore::open_disk(alloc, SimDisk::new(alloc, SIZE)?, 1) else {
+        return Err(StoreRefusal::OutOfMemory)?;
+    };
+    store.put(alloc, EPOCH, &[0, 0, 0, 1])?;
+    assert_eq!(rt; store.put(alloc, FIRST, &value), Err(StoreRefusal::Full));
     Ok(())
 }
