@@ -13,8 +13,8 @@ use Rattle.capability.specs.Uids.{uid_cmp}
 use Rattle.eden_model.specs.Map.{value_at}
 use Rattle.eden_disk.specs.Told.{Told}
 use Rattle.passive_store.specs.Kept.{nothing_kept, reserved_uid}
-use Rattle.passive_blocks.specs.Blocks.{numbers, is_block_size, data_count, blocks_of, greatest}
-use Rattle.passive_blocks.specs.Changes.{is_taken}
+use Rattle.block_tables.specs.Blocks.{numbers, is_block_size, data_count, blocks_of, greatest}
+use Rattle.block_tables.specs.Changes.{is_taken}
 use Rattle.passive_blocks.specs.BlockLayout.{Blank, format_of, map_by, block_map, overfull_by, heads_by, changes_left, block_changes}
 use Rattle.passive_blocks.specs.BlockLayout.{blocks_left, has_first, block_layout}
 use Rattle.journal.specs.Opening.{IsFitImage, entries_of, found_in}

@@ -3,7 +3,7 @@ use Rattle.std.specs.Prelude.{◌≡◌, ℕ, Bool, true, false, List, replicate
 use Rattle.std.proofs.Common.{refl, ap}
 use Rattle.std.specs.FinMap as map
 use Rattle.passive_store.specs.Kept.{Kept}
-use Rattle.passive_blocks.specs.Blocks.{is_block_size}
+use Rattle.block_tables.specs.Blocks.{is_block_size}
 use Rattle.passive_blocks.specs.BlockLayout.{Format, Blank, format_of, map_by, block_layout}
 use Rattle.equal_answers.specs.Alike.{KeepsNothingInZeros}
 use Rattle.equal_answers.proofs.Blank.{zero_at, nothing_in}

@@ -4,10 +4,10 @@ use Rattle.std.specs.Prelude.{Some, length, take, flat_map, slice_index, slice_r
 use Rattle.std.proofs.Common.{refl, sym, ap, subst, ◌∙◌, inl, inr}
 use Rattle.std.specs.List.{list_any}
 use Rattle.std.proofs.lemmas.List.Elements.{All-nil, All-cons, All-head, All-tail, All-weaker}
-use Rattle.passive_blocks.specs.Blocks.{Head, Chain, head_bytes, head_in, is_head, joined_head, heads_among, heads_of}
-use Rattle.passive_blocks.specs.Blocks.{head_numbers, chain_from, chain_of, chains_among, chains_of, taken_by, head_place}
-use Rattle.passive_blocks.specs.Blocks.{on_block, has, without, next_block, blocks_of, blocks_map, kept_in_blocks, data_blocks}
-use Rattle.passive_blocks.specs.Blocks.{keeping, changes_on, change_on, body_on}
+use Rattle.block_tables.specs.Blocks.{Head, Chain, head_bytes, head_in, is_head, joined_head, heads_among, heads_of}
+use Rattle.block_tables.specs.Blocks.{head_numbers, chain_from, chain_of, chains_among, chains_of, taken_by, head_place}
+use Rattle.block_tables.specs.Blocks.{on_block, has, without, next_block, blocks_of, blocks_map, kept_in_blocks, data_blocks}
+use Rattle.block_tables.specs.Blocks.{keeping, changes_on, change_on, body_on}
 use Rattle.passive_store.specs.Kept.{kept_by}
 use Rattle.passive_store.specs.Log.{with_record}
 

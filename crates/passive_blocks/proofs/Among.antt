@@ -3,7 +3,7 @@ use Rattle.std.specs.Prelude.{◌≡◌, ◌⊎◌, Bool, true, false, ◌&&◌,
 use Rattle.std.proofs.Common.{refl, sym, ap, subst, ◌∙◌, inl, inr}
 use Rattle.std.specs.List.{list_all}
 use Rattle.std.proofs.lemmas.Bool.{false≢true}
-use Rattle.passive_blocks.specs.Blocks.{Head}
+use Rattle.block_tables.specs.Blocks.{Head}
 
 abbrev pub In : Head → List Head → Type 0
 In h [] = ⊥

@@ -14,8 +14,8 @@ use Rattle.passive_store.specs.Acts.{Sync, Read}
 use Rattle.passive_store.specs.Layout.{IsLayout}
 use Rattle.passive_store.specs.Log.{log_map, are_fields}
 use Rattle.passive_store.specs.LogLayout.{log_layout}
-use Rattle.passive_blocks.specs.Blocks.{Head, head_place, head_bytes, head_in, is_head, is_data, kind_in, heads_of, is_block_size}
-use Rattle.passive_blocks.specs.Blocks.{kept_in_blocks, chains_of, changes_on, blocks_of}
+use Rattle.block_tables.specs.Blocks.{Head, head_place, head_bytes, head_in, is_head, is_data, kind_in, heads_of, is_block_size}
+use Rattle.block_tables.specs.Blocks.{kept_in_blocks, chains_of, changes_on, blocks_of}
 use Rattle.passive_blocks.specs.Conversion.{old_log, finished, moved_from, moved, moved_change, moved_map, is_too_much}
 use Rattle.passive_blocks.specs.BlockLayout.{Format, Blocks, Staged, OldLog, Foreign, Blank, format_of, map_by, block_map, overfull_by}
 use Rattle.passive_blocks.specs.BlockLayout.{opening_by, block_layout}

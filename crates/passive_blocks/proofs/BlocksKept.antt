@@ -9,11 +9,11 @@ use Rattle.std.proofs.lemmas.List.{length-append, length-take-le, length-drop}
 use Rattle.capability.specs.declared.Uid.{Uid}
 use Rattle.passive_store.specs.Kept.{Change, Kept}
 use Rattle.passive_store.specs.Log.{with_record}
-use Rattle.passive_blocks.specs.Blocks.{Head, Chain, numbers, data_blocks, data_count, blocks_of, head_bytes, head_in, is_head, joined_head}
-use Rattle.passive_blocks.specs.Blocks.{heads_among, heads_of, head_numbers, keeping, counts, has, without, next_block, on_block}
-use Rattle.passive_blocks.specs.Blocks.{chain_from}
-use Rattle.passive_blocks.specs.Blocks.{chain_of, chains_among, chains_of, body_on, change_on, changes_on, kept_in_blocks, blocks_map}
-use Rattle.passive_blocks.specs.Blocks.{head_place}
+use Rattle.block_tables.specs.Blocks.{Head, Chain, numbers, data_blocks, data_count, blocks_of, head_bytes, head_in, is_head, joined_head}
+use Rattle.block_tables.specs.Blocks.{heads_among, heads_of, head_numbers, keeping, counts, has, without, next_block, on_block}
+use Rattle.block_tables.specs.Blocks.{chain_from}
+use Rattle.block_tables.specs.Blocks.{chain_of, chains_among, chains_of, body_on, change_on, changes_on, kept_in_blocks, blocks_map}
+use Rattle.block_tables.specs.Blocks.{head_place}
 use Rattle.passive_blocks.proofs.Bytes.{AreBytes, taken_bytes, part_bytes, flat_bytes}
 use Rattle.passive_blocks.proofs.Keeping.{KeepsOnly, Gives, EachOf, keeps_found}
 

@@ -18,7 +18,7 @@ use Rattle.passive_store.specs.Kept.{refused, end_of_store}
 use Rattle.passive_store.specs.Log.{log_map}
 use Rattle.passive_store.specs.Seen.{DiskSeen}
 use Rattle.passive_store.proofs.Walk.{log_stands_there}
-use Rattle.passive_blocks.specs.Blocks.{heads_of, is_block_size}
+use Rattle.block_tables.specs.Blocks.{heads_of, is_block_size}
 use Rattle.passive_blocks.specs.Conversion.{finished, moved_map, is_too_much, old_log, staging_calls, finishing_calls, staged_bytes}
 use Rattle.passive_blocks.specs.Conversion.{blocks_moved}
 use Rattle.passive_blocks.specs.BlockLayout.{Staged, OldLog, Foreign, Blocks, Blank, format_of, block_map, block_layout}

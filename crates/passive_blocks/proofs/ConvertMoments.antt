@@ -10,7 +10,7 @@ use Rattle.eden_disk.specs.Held.{Holds, Passes}
 use Rattle.eden_disk.proofs.Held.{holds_at_rest, passes_join, passes_weaker, passes_read, passes_sync}
 use Rattle.eden_disk.proofs.Overlay.{length-overlay, overlay_outside, overlay_inside}
 use Rattle.passive_store.specs.Acts.{DiskCall, Write, Sync, Read, CallTold, CallsTold, AllTold, SomeTold}
-use Rattle.passive_blocks.specs.Blocks.{numbers}
+use Rattle.block_tables.specs.Blocks.{numbers}
 use Rattle.passive_blocks.specs.Conversion.{part_of, finishing_calls}
 use Rattle.passive_blocks.specs.Fits.{Fits}
 use Rattle.passive_blocks.specs.Converting.{SaysSame, IsOldLog, IsStaged}

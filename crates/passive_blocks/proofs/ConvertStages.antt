@@ -2,8 +2,8 @@
 use Rattle.std.specs.Prelude.{◌≡◌, ◌⊎◌, ℕ, suc, zero, ◌+◌, ◌*◌, ◌≤◌, ◌<◌, true, List, [], ◌∷◌, length, take, drop, slice_index}
 use Rattle.std.specs.Prelude.{slice_range}
 use Rattle.capability.specs.declared.Uid.{Uid}
-use Rattle.passive_blocks.specs.Blocks.{Head, numbers, blocks_of, next_block, head_in, is_head}
-use Rattle.passive_blocks.specs.Changes.{spelled_head, first_or_zero}
+use Rattle.block_tables.specs.Blocks.{Head, numbers, blocks_of, next_block, head_in, is_head}
+use Rattle.block_tables.specs.Changes.{spelled_head, first_or_zero}
 use Rattle.passive_blocks.specs.Conversion.{Moved}
 
 -- blocks stand on the image, which had a log

@@ -8,7 +8,7 @@ use Rattle.capability.specs.declared.Uid.{Uid}
 use Rattle.capability.specs.Uids.{uid_cmp}
 use Rattle.capability.proofs.Uids.{uid_cmp_total, uid_cmp-IsAntisymmetric}
 use Rattle.passive_store.specs.Kept.{Kept, kept_after, kept_from, nothing_kept}
-use Rattle.passive_blocks.specs.Blocks.{blocks_of, is_block_size}
+use Rattle.block_tables.specs.Blocks.{blocks_of, is_block_size}
 use Rattle.passive_store.specs.Log.{log_map}
 use Rattle.passive_blocks.specs.Conversion.{moved_from, moved_change, moved, moved_map, old_log}
 use Rattle.passive_blocks.specs.BlockLayout.{OldLog, format_of, map_by, block_map, KeepsAsLog}

@@ -7,7 +7,7 @@ use Rattle.std.proofs.lemmas.List.{take-append-drop, length-take, get_or-take}
 use Rattle.std.proofs.Math.Seq.{drop-cons}
 use Rattle.passive_store.specs.Kept.{Kept, nothing_kept, kept_by}
 use Rattle.passive_store.specs.Log.{log_map, records_behind, records_of}
-use Rattle.passive_blocks.specs.Blocks.{is_block_size, heads_of, heads_or_none, blocks_map}
+use Rattle.block_tables.specs.Blocks.{is_block_size, heads_of, heads_or_none, blocks_map}
 use Rattle.passive_blocks.specs.Conversion.{old_log, finished, moved_map, is_too_much}
 use Rattle.passive_blocks.specs.BlockLayout.{Format, Blocks, Staged, OldLog, Foreign, Blank, format_of, map_by, overfull_by, heads_by}
 use Rattle.passive_blocks.specs.BlockLayout.{heads_moved}

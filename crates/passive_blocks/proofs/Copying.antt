@@ -12,8 +12,8 @@ use Rattle.eden_disk.specs.Timed.{Timed}
 use Rattle.eden_disk.specs.Calls.{End, Fine, DeviceCalls, Obeyed, end_of}
 use Rattle.passive_store.specs.Acts.{DiskCall, Write, CallTold}
 use Rattle.passive_store.specs.Seen.{DiskSeen}
-use Rattle.passive_blocks.specs.Blocks.{numbers, blocks_of}
-use Rattle.passive_blocks.specs.Changes.{chain_writes, first_or_zero}
+use Rattle.block_tables.specs.Blocks.{numbers, blocks_of}
+use Rattle.block_tables.specs.Changes.{chain_writes, first_or_zero}
 use Rattle.passive_blocks.specs.Making.{Makes}
 use Rattle.passive_blocks.proofs.Making.{makes_none, makes_call, makes_join, makes_refused}
 use Rattle.passive_blocks.proofs.SameParts.{drop_more}

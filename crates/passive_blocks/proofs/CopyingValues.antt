@@ -12,10 +12,10 @@ use Rattle.passive_store.specs.declared.store.StoreRefusal.{StoreRefusal}
 use Rattle.passive_store.specs.Acts.{DiskCall, Read, AllTold}
 use Rattle.passive_store.specs.Seen.{DiskSeen}
 use Rattle.passive_blocks.specs.declared.convert.Moved.{Moved}
-use Rattle.passive_blocks.specs.Blocks.{numbers, blocks_of}
-use Rattle.passive_blocks.specs.Changes.{chain_writes}
+use Rattle.block_tables.specs.Blocks.{numbers, blocks_of}
+use Rattle.block_tables.specs.Changes.{chain_writes}
 use Rattle.passive_blocks.specs.Conversion.{Moved as Value, move_calls, old_log}
-use Rattle.passive_blocks.specs.HeadSeen.{head_of}
+use Rattle.block_tables.specs.HeadSeen.{head_of}
 use Rattle.passive_blocks.specs.Converting.{IsMovable, moved_in, all_moved_in}
 use Rattle.passive_blocks.specs.Making.{Makes, Runs}
 use Rattle.passive_blocks.proofs.Making.{makes_join, makes_as}

@@ -5,7 +5,7 @@ use Rattle.eden_disk.specs.Told.{Told, Contents, contents, at_rest, overlay}
 use Rattle.eden_disk.specs.Held.{Passes}
 use Rattle.eden_disk.proofs.Overlay.{length-overlay, overlay_outside, overlay_inside}
 use Rattle.passive_store.specs.Acts.{DiskCall, AllTold}
-use Rattle.passive_blocks.specs.Blocks.{numbers}
+use Rattle.block_tables.specs.Blocks.{numbers}
 use Rattle.passive_blocks.specs.Conversion.{finished, finishing_calls}
 use Rattle.passive_blocks.specs.Fits.{Fits}
 use Rattle.passive_blocks.specs.Converting.{IsStaged}

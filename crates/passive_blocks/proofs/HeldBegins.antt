@@ -10,15 +10,15 @@ use Rattle.capability.proofs.Uids.{uid_cmp_total}
 use Rattle.eden_disk.specs.Calls.{Counts}
 use Rattle.passive_store.specs.Kept.{Change, IsFresh, IsJobOf, IsOwn, marks_after}
 use Rattle.passive_store.specs.Seen.{asked, has_room_for}
-use Rattle.passive_blocks.specs.declared.heads.HeadFields.{HeadFields}
-use Rattle.passive_blocks.specs.declared.table.Table.{Table}
+use Rattle.block_tables.specs.declared.heads.HeadFields.{HeadFields}
+use Rattle.block_tables.specs.declared.table.Table.{Table}
 use Rattle.passive_blocks.specs.declared.block_store.Pending.{Pending}
 use Rattle.passive_blocks.specs.declared.block_store.Stage.TheVariants.{Close}
-use Rattle.passive_blocks.specs.Blocks.{Head, data_count, greatest, numbers}
-use Rattle.passive_blocks.specs.Changes.{free_head, is_removal, is_taken, size_of}
+use Rattle.block_tables.specs.Blocks.{Head, data_count, greatest, numbers}
+use Rattle.block_tables.specs.Changes.{free_head, is_removal, is_taken, size_of}
 use Rattle.passive_blocks.specs.BlockLayout.{block_layout, blocks_left, changes_left, has_first}
-use Rattle.passive_blocks.specs.HeadState.{heads_in, is_open, slot_at}
-use Rattle.passive_blocks.specs.TableState.{fits_in, greatest_in, keeper, sequence_of}
+use Rattle.block_tables.specs.HeadState.{heads_in, is_open, slot_at}
+use Rattle.block_tables.specs.TableState.{fits_in, greatest_in, keeper, sequence_of}
 use Rattle.passive_blocks.specs.StoreState.{calls_at}
 use Rattle.passive_blocks.specs.HeldState.{IsHeld, blocks_planned}
 use Rattle.passive_blocks.specs.KeptState.{HasChains}

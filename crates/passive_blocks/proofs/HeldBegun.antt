@@ -8,15 +8,15 @@ use Rattle.std.proofs.lemmas.List.{length-append, length-map}
 use Rattle.eden_disk.specs.Calls.{Counts}
 use Rattle.passive_store.specs.Kept.{IsOwn}
 use Rattle.passive_store.specs.Acts.{Write}
-use Rattle.passive_blocks.specs.declared.heads.HeadFields.{HeadFields}
-use Rattle.passive_blocks.specs.declared.table.Table.{Table}
+use Rattle.block_tables.specs.declared.heads.HeadFields.{HeadFields}
+use Rattle.block_tables.specs.declared.table.Table.{Table}
 use Rattle.passive_blocks.specs.declared.block_store.Pending.{Pending}
 use Rattle.passive_blocks.specs.declared.block_store.Stage.TheVariants.{Close}
-use Rattle.passive_blocks.specs.Members.{is_member}
-use Rattle.passive_blocks.specs.Blocks.{is_data, blocks_of, data_count, numbers, head_place}
-use Rattle.passive_blocks.specs.Changes.{kind_of, size_of, chain_writes}
-use Rattle.passive_blocks.specs.BlockState.{walk}
-use Rattle.passive_blocks.specs.TableState.{spare}
+use Rattle.block_tables.specs.Members.{is_member}
+use Rattle.block_tables.specs.Blocks.{is_data, blocks_of, data_count, numbers, head_place}
+use Rattle.block_tables.specs.Changes.{kind_of, size_of, chain_writes}
+use Rattle.block_tables.specs.BlockState.{walk}
+use Rattle.block_tables.specs.TableState.{spare}
 use Rattle.passive_blocks.specs.StoreState.{change_of, calls_at, calls_behind, members_of, last_calls}
 use Rattle.passive_blocks.specs.HeldState.{IsHeld, blocks_planned}
 use Rattle.passive_blocks.specs.StageState.{IsSpelled, IsTelling, NoneCloses}

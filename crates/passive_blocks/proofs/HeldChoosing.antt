@@ -8,18 +8,18 @@ use Rattle.std.specs.BTreeMap as tree
 use Rattle.capability.specs.declared.Uid.{Uid}
 use Rattle.capability.specs.Uids.{uid_cmp}
 use Rattle.eden_disk.specs.Calls.{Counts}
-use Rattle.passive_blocks.specs.declared.heads.HeadFields.{HeadFields}
-use Rattle.passive_blocks.specs.declared.table.Table.{Table}
-use Rattle.passive_blocks.specs.declared.block_table.BlockTable.{BlockTable}
+use Rattle.block_tables.specs.declared.heads.HeadFields.{HeadFields}
+use Rattle.block_tables.specs.declared.table.Table.{Table}
+use Rattle.block_tables.specs.declared.block_table.BlockTable.{BlockTable}
 use Rattle.passive_blocks.specs.declared.block_store.Pending.{Pending}
-use Rattle.passive_blocks.specs.Members.{is_member}
-use Rattle.passive_blocks.specs.Blocks.{Head, blocks_of, data_count, is_data, keeping, has}
-use Rattle.passive_blocks.specs.HeadState.{heads_in, slot_at, is_open}
-use Rattle.passive_blocks.specs.BlockState.{walk, free_in}
-use Rattle.passive_blocks.specs.TableState.{IsTable, keeper, greatest_in, fits_in, spare, left_in, blocks_chosen}
+use Rattle.block_tables.specs.Members.{is_member}
+use Rattle.block_tables.specs.Blocks.{Head, blocks_of, data_count, is_data, keeping, has}
+use Rattle.block_tables.specs.HeadState.{heads_in, slot_at, is_open}
+use Rattle.block_tables.specs.BlockState.{walk, free_in}
+use Rattle.block_tables.specs.TableState.{IsTable, keeper, greatest_in, fits_in, spare, left_in, blocks_chosen}
 use Rattle.passive_blocks.specs.HeldState.{IsHeld, MayClose, times, one_if, times_kept, planned_blocks, behind_walk}
 use Rattle.passive_blocks.specs.HeldState.{blocks_planned}
-use Rattle.passive_blocks.proofs.Greatest.{peak-above}
+use Rattle.block_tables.proofs.Greatest.{peak-above}
 use Rattle.passive_blocks.proofs.HeldCounts.{some_times, once, times_among, times_take, walk_further, walk_long}
 use Rattle.passive_blocks.proofs.HeldCounts.{same_parts, chains_stay}
 use Rattle.passive_blocks.proofs.HeldFacts.{one_true, few_one, times_under, keeper_times, kept_by_places, free_left, ends_stay, sequence_at}

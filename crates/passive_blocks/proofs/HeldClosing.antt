@@ -10,22 +10,23 @@ use Rattle.std.specs.BTreeMap as tree
 use Rattle.capability.specs.declared.Uid.{Uid}
 use Rattle.capability.specs.Uids.{uid_cmp}
 use Rattle.eden_disk.specs.Calls.{Counts}
-use Rattle.passive_blocks.specs.declared.heads.HeadFields.{HeadFields}
-use Rattle.passive_blocks.specs.declared.index.Entry.{Entry}
-use Rattle.passive_blocks.specs.declared.table.Table.{Table}
-use Rattle.passive_blocks.specs.declared.head_table.HeadTable.{HeadTable}
+use Rattle.block_tables.specs.declared.heads.HeadFields.{HeadFields}
+use Rattle.block_tables.specs.declared.index.Entry.{Entry}
+use Rattle.block_tables.specs.declared.table.Table.{Table}
+use Rattle.block_tables.specs.declared.head_table.HeadTable.{HeadTable}
 use Rattle.passive_blocks.specs.declared.block_store.Pending.{Pending}
-use Rattle.passive_blocks.specs.Members.{is_member}
-use Rattle.passive_blocks.specs.Blocks.{Head, blocks_of, keeping, is_data}
-use Rattle.passive_blocks.specs.HeadState.{AreHeads, heads_in, slot_at, closed_slot, entry_at, is_open, is_open_of, is_it, closed_entry}
-use Rattle.passive_blocks.specs.HeadState.{no_entry, lone_in, IsLatest, count_of, one_if_some}
-use Rattle.passive_blocks.specs.TableState.{IsKeptOn}
+use Rattle.block_tables.specs.Members.{is_member}
+use Rattle.block_tables.specs.Blocks.{Head, blocks_of, keeping, is_data}
+use Rattle.block_tables.specs.HeadState.{AreHeads, heads_in, slot_at, closed_slot, entry_at, is_open, is_open_of, is_it, closed_entry}
+use Rattle.block_tables.specs.HeadState.{no_entry, lone_in, IsLatest, count_of, one_if_some}
+use Rattle.block_tables.specs.TableState.{IsKeptOn}
 use Rattle.passive_blocks.specs.HeldState.{IsHeld, IsPlanned, MayClose, AreApart, times, one_if, chain_by, planned_blocks, behind_walk}
 use Rattle.passive_blocks.specs.HeldState.{must_close, closes_next}
-use Rattle.passive_blocks.proofs.Slots.{slot_same, slot_other, other_open, own_uid, same_uids, two_of}
-use Rattle.passive_blocks.proofs.HeldSums.{uid_is, open_is, is_of, same_itself}
+use Rattle.block_tables.proofs.Slots.{slot_same, slot_other, other_open, own_uid, same_uids, two_of}
+use Rattle.block_tables.proofs.OpenHeads.{open_within}
+use Rattle.block_tables.proofs.OpenHeads.{open_is}
+use Rattle.passive_blocks.proofs.HeldSums.{uid_is, is_of, same_itself}
 use Rattle.passive_blocks.proofs.HeldKeepers.{apart_closed, keeping_when_closed, keeper_known, entry_when_closed, entry_beside_closed}
-use Rattle.passive_blocks.proofs.HeldFacts.{open_within}
 
 closed_it : (n j : ℕ) (e : Entry) → is_it j (closed_entry n e).latest ≡ true
     → (is_it j e.latest ≡ true) × (e.others ≡ 0 → (closed_entry n e).others ≡ 0)

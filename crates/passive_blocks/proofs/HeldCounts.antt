@@ -5,8 +5,8 @@ use Rattle.std.proofs.Common.{length, take, eq-eqb, refl, sym, ap, ◌∙◌, ar
 use Rattle.std.specs.Prelude.{filter, slice_index, nat_lt, max, sum_by, if◌then◌else◌}
 use Rattle.std.proofs.lemmas.Bool.{false≢true, cases_eq, cases_lt, ne_eqb, or_left, or_right, lt-ltb, le-ltb}
 use Rattle.std.proofs.lemmas.List.Sums.{sum_by-cons}
-use Rattle.passive_blocks.specs.Blocks.{Head, numbers, has, is_data, data_count, blocks_of}
-use Rattle.passive_blocks.specs.BlockState.{walk}
+use Rattle.block_tables.specs.Blocks.{Head, numbers, has, is_data, data_count, blocks_of}
+use Rattle.block_tables.specs.BlockState.{walk}
 use Rattle.passive_blocks.specs.HeldState.{times, one_if, behind_walk, chain_by}
 
 one_step : (x k : ℕ) (b : Bool) (ks : List ℕ) → length (if b then x ∷ ks else ks) ≡ one_if b + length ks

@@ -1,26 +1,26 @@
 -- What is known of blocks where a store's memory is held.
-use Rattle.std.proofs.Common.{◌≡◌, ℕ, suc, zero, ◌+◌, ◌≤◌, ◌<◌, ◌/◌, Bool, true, false, List, [], ◌∷◌}
+use Rattle.std.proofs.Common.{◌≡◌, ℕ, suc, zero, ◌+◌, ◌≤◌, ◌/◌, Bool, true, false, List, [], ◌∷◌}
 use Rattle.std.proofs.Common.{length, map, refl, ap, ◌∙◌, arith, Option, None, Some}
 use Rattle.std.specs.Prelude.{if◌then◌else◌, filter, sum_by, IfSome, slice_index}
-use Rattle.std.proofs.lemmas.Bool.{false≢true, false_from_ne_true}
+use Rattle.std.proofs.lemmas.Bool.{false_from_ne_true}
 use Rattle.capability.specs.declared.Uid.{Uid}
 use Rattle.eden_disk.specs.Calls.{Counts}
-use Rattle.passive_blocks.specs.declared.heads.HeadFields.{HeadFields}
-use Rattle.passive_blocks.specs.declared.table.Table.{Table}
-use Rattle.passive_blocks.specs.declared.block_table.BlockTable.{BlockTable}
+use Rattle.block_tables.specs.declared.heads.HeadFields.{HeadFields}
+use Rattle.block_tables.specs.declared.table.Table.{Table}
+use Rattle.block_tables.specs.declared.block_table.BlockTable.{BlockTable}
 use Rattle.passive_blocks.specs.declared.block_store.Pending.{Pending}
-use Rattle.passive_blocks.specs.Members.{is_member}
-use Rattle.passive_blocks.specs.Blocks.{Head, blocks_of, data_count, is_data, keeping, numbers, has}
-use Rattle.passive_blocks.specs.HeadState.{heads_in, slot_at, entry_at, is_open, IsLatest}
-use Rattle.passive_blocks.specs.BlockState.{walk, free_in}
-use Rattle.passive_blocks.specs.TableState.{IsTable, IsKeptOn, keeper, blocks_under, blocks_kept}
+use Rattle.block_tables.specs.Members.{is_member}
+use Rattle.block_tables.specs.Blocks.{Head, blocks_of, data_count, is_data, keeping, numbers, has}
+use Rattle.block_tables.specs.HeadState.{heads_in, slot_at, entry_at, IsLatest}
+use Rattle.block_tables.specs.BlockState.{walk, free_in}
+use Rattle.block_tables.specs.TableState.{IsTable, IsKeptOn, keeper, blocks_under, blocks_kept}
 use Rattle.passive_blocks.specs.HeldState.{IsHeld, AreApart, times, one_if, chain_by, times_kept, planned_blocks, behind_walk}
 use Rattle.passive_blocks.specs.HeldState.{blocks_planned}
-use Rattle.passive_blocks.proofs.HeldSums.{weight_of, open_is}
+use Rattle.passive_blocks.proofs.HeldSums.{weight_of}
 use Rattle.passive_blocks.proofs.HeldKeepers.{kept_within}
 use Rattle.passive_blocks.proofs.HeldCounts.{some_times, sum_same, sum_two, sum_ones, sum_times, count_data, chains_count}
 use Rattle.passive_blocks.proofs.HeldCounts.{behind_stays}
-use Rattle.passive_blocks.proofs.Walks.{on_disk}
+use Rattle.block_tables.proofs.Walks.{on_disk}
 
 pub one_true : (b : Bool) → 1 ≤ one_if b → b ≡ true
 one_true true some = refl
@@ -177,13 +177,3 @@ pub sequence_at : (slots : List HeadFields) (k : ℕ) → slice_index (map (λ (
 sequence_at [] k = refl
 sequence_at (s ∷ slots) zero = refl
 sequence_at (s ∷ slots) (suc k) = sequence_at slots k
-
-pub open_within : (slots : List HeadFields) (k : ℕ) → is_open (slot_at slots k) ≡ true → k < length slots
-open_within [] k opened = absurd (false≢true opened)
-open_within (s ∷ slots) zero opened = omega arith
-open_within (s ∷ slots) (suc k) opened = omega (arith, open_within slots k opened)
-
-pub latest_within : (slots : List HeadFields) (uid : Uid) (latest : Option ℕ) → IsLatest slots uid latest
-    → IfSome latest (λ n. n < length slots)
-latest_within slots uid None is = tt
-latest_within slots uid (Some n) is = open_within slots n (open_is (slot_at slots n) uid is.0)

@@ -12,35 +12,35 @@ use Rattle.capability.specs.declared.Uid.{Uid}
 use Rattle.capability.specs.Uids.{uid_cmp}
 use Rattle.eden_disk.specs.Calls.{Counts}
 use Rattle.passive_store.specs.Acts.{Write, Sync}
-use Rattle.passive_blocks.specs.declared.heads.HeadFields.{HeadFields}
-use Rattle.passive_blocks.specs.declared.table.Table.{Table}
-use Rattle.passive_blocks.specs.declared.head_table.HeadTable.{HeadTable}
+use Rattle.block_tables.specs.declared.heads.HeadFields.{HeadFields}
+use Rattle.block_tables.specs.declared.table.Table.{Table}
+use Rattle.block_tables.specs.declared.head_table.HeadTable.{HeadTable}
 use Rattle.passive_blocks.specs.declared.block_store.Pending.{Pending}
 use Rattle.passive_blocks.specs.declared.block_store.Stage.TheVariants.{Close, Write as WritePart, Head as WriteHead}
-use Rattle.passive_blocks.specs.Members.{is_member}
-use Rattle.passive_blocks.specs.Greatest.{peak}
-use Rattle.passive_blocks.specs.Blocks.{Head, same_uid, counts, is_alone, keeping, closing, greatest, numbers, has, without}
-use Rattle.passive_blocks.specs.Blocks.{taken_by}
-use Rattle.passive_blocks.specs.Blocks.{head_place, data_blocks, data_count, is_data, is_block_size, blocks_of, blocks_for}
-use Rattle.passive_blocks.specs.Blocks.{chains_of, heads_of, heads_or_none}
-use Rattle.passive_blocks.specs.Changes.{is_taken, free_head, free_blocks, number_or_zero, first_or_zero, chain_writes, spelled_head}
-use Rattle.passive_blocks.specs.Changes.{new_head}
-use Rattle.passive_blocks.specs.Changes.{is_removal, size_of, bytes_of, calls_over, blocks_job}
-use Rattle.passive_blocks.specs.HeadSeen.{head_of}
-use Rattle.passive_blocks.specs.HeadState.{heads_in, slot_at, entry_at, is_open, is_open_of, is_it, IsLatest, count_of}
-use Rattle.passive_blocks.specs.HeadState.{one_if_some}
-use Rattle.passive_blocks.specs.HeadState.{closed_slot}
-use Rattle.passive_blocks.specs.BlockState.{walk, free_in}
-use Rattle.passive_blocks.specs.TableState.{IsTable, greatest_in, blocks_chosen}
+use Rattle.block_tables.specs.Members.{is_member}
+use Rattle.block_tables.specs.Greatest.{peak}
+use Rattle.block_tables.specs.Blocks.{Head, same_uid, counts, is_alone, keeping, closing, greatest, numbers, has, without}
+use Rattle.block_tables.specs.Blocks.{taken_by}
+use Rattle.block_tables.specs.Blocks.{head_place, data_blocks, data_count, is_data, is_block_size, blocks_of, blocks_for}
+use Rattle.block_tables.specs.Blocks.{chains_of, heads_of, heads_or_none}
+use Rattle.block_tables.specs.Changes.{is_taken, free_head, free_blocks, number_or_zero, first_or_zero, chain_writes, spelled_head}
+use Rattle.block_tables.specs.Changes.{new_head}
+use Rattle.block_tables.specs.Changes.{is_removal, size_of, bytes_of, calls_over, blocks_job}
+use Rattle.block_tables.specs.HeadSeen.{head_of}
+use Rattle.block_tables.specs.HeadState.{heads_in, slot_at, entry_at, is_open, is_open_of, is_it, IsLatest, count_of}
+use Rattle.block_tables.specs.HeadState.{one_if_some}
+use Rattle.block_tables.specs.HeadState.{closed_slot}
+use Rattle.block_tables.specs.BlockState.{walk, free_in}
+use Rattle.block_tables.specs.TableState.{IsTable, greatest_in, blocks_chosen}
 use Rattle.passive_blocks.specs.StoreState.{members_of, chain_in, last_calls, calls_from, calls_behind, calls_at}
 use Rattle.passive_blocks.specs.HeldState.{IsHeld, AreApart, times, one_if, chain_by, times_kept, blocks_planned, closes_next}
 use Rattle.passive_blocks.specs.KeptState.{HasChains}
-use Rattle.passive_blocks.proofs.Slots.{own_uid, same_uids, two_of, fewer_of, slot_same, slot_other}
+use Rattle.block_tables.proofs.Slots.{own_uid, same_uids, two_of, fewer_of, slot_same, slot_other}
+use Rattle.block_tables.proofs.OpenHeads.{open_within}
 use Rattle.passive_blocks.proofs.StageChains.{times_flat}
 use Rattle.passive_blocks.proofs.HeldSums.{head_step, each_open, of_open, implied, uid_is, is_of, latest_counts}
 use Rattle.passive_blocks.proofs.HeldSums.{other_counts_not}
 use Rattle.passive_blocks.proofs.HeldCounts.{some_times, no_times}
-use Rattle.passive_blocks.proofs.HeldFacts.{open_within}
 use Rattle.passive_blocks.proofs.HeldClosing.{it_is}
 
 -- The heads that pass a test, by their numbers.

@@ -8,19 +8,20 @@ use Rattle.std.proofs.lemmas.Bool.{false≢true, cases_eq, and_from, and_parts, 
 use Rattle.std.proofs.lemmas.Bool.{eqb-false}
 use Rattle.capability.specs.declared.Uid.{Uid}
 use Rattle.capability.specs.Uids.{uid_cmp}
-use Rattle.passive_blocks.specs.declared.heads.HeadFields.{HeadFields}
-use Rattle.passive_blocks.specs.declared.index.Entry.{Entry}
-use Rattle.passive_blocks.specs.declared.head_table.HeadTable.{HeadTable}
-use Rattle.passive_blocks.specs.Blocks.{Head, same_uid, counts, keeping}
-use Rattle.passive_blocks.specs.HeadSeen.{head_of}
-use Rattle.passive_blocks.specs.HeadState.{AreHeads, heads_in, slot_at, closed_slot, is_open, is_open_of, IsLatest, IsEntryOf, kept_slot}
-use Rattle.passive_blocks.specs.HeadState.{entry_at, one_if_some}
-use Rattle.passive_blocks.specs.HeadState.{is_it, closed_entry}
+use Rattle.block_tables.specs.declared.heads.HeadFields.{HeadFields}
+use Rattle.block_tables.specs.declared.index.Entry.{Entry}
+use Rattle.block_tables.specs.declared.head_table.HeadTable.{HeadTable}
+use Rattle.block_tables.specs.Blocks.{Head, same_uid, counts, keeping}
+use Rattle.block_tables.specs.HeadSeen.{head_of}
+use Rattle.block_tables.specs.HeadState.{AreHeads, heads_in, slot_at, closed_slot, is_open, is_open_of, IsLatest, IsEntryOf, kept_slot}
+use Rattle.block_tables.specs.HeadState.{entry_at, one_if_some}
+use Rattle.block_tables.specs.HeadState.{is_it, closed_entry}
 use Rattle.passive_blocks.specs.HeldState.{AreApart}
-use Rattle.passive_blocks.proofs.Closing.{keeping_without, keeping_without_lone, superseded_lies}
-use Rattle.passive_blocks.proofs.Slots.{same_uids, slot_same, slot_other, latest_late, entry_other, entry_closes, two_of}
-use Rattle.passive_blocks.proofs.Slots.{own_uid, not_of, closed_not}
-use Rattle.passive_blocks.proofs.HeldSums.{front_of, back_of, heads_with_shut, heads_at_open, each_open, of_open, uid_is, open_is, is_of}
+use Rattle.block_tables.proofs.Closing.{keeping_without, keeping_without_lone, superseded_lies}
+use Rattle.block_tables.proofs.Slots.{same_uids, slot_same, slot_other, latest_late, entry_other, entry_closes, two_of}
+use Rattle.block_tables.proofs.Slots.{own_uid, not_of, closed_not}
+use Rattle.block_tables.proofs.OpenHeads.{open_is}
+use Rattle.passive_blocks.proofs.HeldSums.{front_of, back_of, heads_with_shut, heads_at_open, each_open, of_open, uid_is, is_of}
 use Rattle.passive_blocks.proofs.HeldSums.{same_itself}
 use Rattle.passive_blocks.proofs.HeldSums.{other_counts_not, keeps_under, heads_under, kept_one, weight_of, sum_parts, sum_under}
 

@@ -10,24 +10,26 @@ use Rattle.std.specs.BTreeMap as tree
 use Rattle.capability.specs.declared.Uid.{Uid}
 use Rattle.capability.specs.Uids.{uid_cmp}
 use Rattle.eden_disk.specs.Calls.{Counts}
-use Rattle.passive_blocks.specs.declared.heads.HeadFields.{HeadFields}
-use Rattle.passive_blocks.specs.declared.index.Entry.{Entry}
-use Rattle.passive_blocks.specs.declared.table.Table.{Table}
-use Rattle.passive_blocks.specs.declared.block_table.BlockTable.{BlockTable}
+use Rattle.block_tables.specs.declared.heads.HeadFields.{HeadFields}
+use Rattle.block_tables.specs.declared.index.Entry.{Entry}
+use Rattle.block_tables.specs.declared.table.Table.{Table}
+use Rattle.block_tables.specs.declared.block_table.BlockTable.{BlockTable}
 use Rattle.passive_blocks.specs.declared.block_store.Pending.{Pending}
-use Rattle.passive_blocks.specs.Members.{is_member}
-use Rattle.passive_blocks.specs.Blocks.{Head, blocks_of, data_count, keeping, is_data, has}
-use Rattle.passive_blocks.specs.HeadSeen.{head_of}
-use Rattle.passive_blocks.specs.HeadState.{heads_in, slot_at, entry_at, is_open, is_it, IsLatest, kept_slot, outdated}
-use Rattle.passive_blocks.specs.BlockState.{walk, AreDataIn}
-use Rattle.passive_blocks.specs.TableState.{IsTable, IsKeptOn, keeper, blocks_kept, blocks_under, stands_alone}
+use Rattle.block_tables.specs.Members.{is_member}
+use Rattle.block_tables.specs.Blocks.{Head, blocks_of, data_count, keeping, is_data, has}
+use Rattle.block_tables.specs.HeadSeen.{head_of}
+use Rattle.block_tables.specs.HeadState.{heads_in, slot_at, entry_at, is_open, is_it, IsLatest, kept_slot, outdated}
+use Rattle.block_tables.specs.BlockState.{walk, AreDataIn}
+use Rattle.block_tables.specs.TableState.{IsTable, IsKeptOn, keeper, blocks_kept, blocks_under, stands_alone}
 use Rattle.passive_blocks.specs.HeldState.{IsHeld, IsPlanned, MayClose, AreApart, times, one_if, chain_by, times_kept, planned_blocks}
 use Rattle.passive_blocks.specs.HeldState.{blocks_planned, behind_walk, must_close, closes_next}
-use Rattle.passive_blocks.proofs.Slots.{slot_same, slot_other, same_uids}
-use Rattle.passive_blocks.proofs.HeldSums.{uid_is, open_is, same_itself, weight_of, sum_when_joined}
+use Rattle.block_tables.proofs.Slots.{slot_same, slot_other, same_uids}
+use Rattle.block_tables.proofs.OpenHeads.{open_within}
+use Rattle.block_tables.proofs.OpenHeads.{open_is}
+use Rattle.passive_blocks.proofs.HeldSums.{uid_is, same_itself, weight_of, sum_when_joined}
 use Rattle.passive_blocks.proofs.HeldCounts.{once}
 use Rattle.passive_blocks.proofs.HeldKeepers.{apart_joined, latest_when_joined, entry_beside_joined, kept_beside, kept_joined}
-use Rattle.passive_blocks.proofs.HeldFacts.{open_within, few_one, times_under, size_under, planned_times, keeper_times, keeper_size}
+use Rattle.passive_blocks.proofs.HeldFacts.{few_one, times_under, size_under, planned_times, keeper_times, keeper_size}
 use Rattle.passive_blocks.proofs.HeldFacts.{kept_by_places}
 use Rattle.passive_blocks.proofs.HeldClosing.{it_is}
 

@@ -8,20 +8,20 @@ use Rattle.eden_disk.specs.Told.{Contents}
 use Rattle.eden_disk.specs.Held.{Holds}
 use Rattle.eden_disk.specs.Calls.{Counts}
 use Rattle.eden_disk.proofs.Held.{holds_at_rest}
-use Rattle.passive_blocks.specs.declared.table.Table.{Table}
-use Rattle.passive_blocks.specs.declared.block_table.BlockTable.{BlockTable}
+use Rattle.block_tables.specs.declared.table.Table.{Table}
+use Rattle.block_tables.specs.declared.block_table.BlockTable.{BlockTable}
 use Rattle.passive_blocks.specs.declared.block_store.Pending.{Pending}
 use Rattle.passive_blocks.specs.declared.block_store.Stage.{Stage}
 use Rattle.passive_blocks.specs.declared.block_store.Stage.TheVariants.{Close, Write as WritePart, Head as WriteHead}
-use Rattle.passive_blocks.specs.Members.{is_member}
-use Rattle.passive_blocks.specs.Blocks.{Head, blocks_of, has, is_data, keeping, numbers}
+use Rattle.block_tables.specs.Members.{is_member}
+use Rattle.block_tables.specs.Blocks.{Head, blocks_of, has, is_data, keeping, numbers}
 use Rattle.passive_blocks.specs.Fits.{Fits}
-use Rattle.passive_blocks.specs.HeadState.{heads_in, slot_at, is_open}
+use Rattle.block_tables.specs.HeadState.{heads_in, slot_at, is_open}
 use Rattle.passive_blocks.specs.StoreState.{IsTableOf, chain_in}
 use Rattle.passive_blocks.specs.HeldState.{IsHeld, times, one_if, chain_by, times_kept}
 use Rattle.passive_blocks.specs.StageState.{IsEarly, IsOnDisk, IsStageOn, MayStand, behind_closing}
 use Rattle.passive_blocks.specs.StageState.{may_close}
-use Rattle.passive_blocks.proofs.Listing.{has_number}
+use Rattle.block_tables.proofs.Listing.{has_number}
 use Rattle.passive_blocks.proofs.HeldSums.{each_open}
 use Rattle.passive_blocks.proofs.HeldCounts.{some_times, walk_stays}
 use Rattle.passive_blocks.proofs.HeldFacts.{few_one}

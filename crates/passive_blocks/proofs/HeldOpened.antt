@@ -5,15 +5,17 @@ use Rattle.std.specs.Prelude.{if◌then◌else◌, IfSome, sum_by}
 use Rattle.std.proofs.lemmas.Bool.{and_parts, both_ways, eqb-true, eq-eqb}
 use Rattle.capability.specs.declared.Uid.{Uid}
 use Rattle.eden_disk.specs.Calls.{Counts}
-use Rattle.passive_blocks.specs.declared.heads.HeadFields.{HeadFields}
-use Rattle.passive_blocks.specs.declared.table.Table.{Table}
-use Rattle.passive_blocks.specs.Members.{is_member}
-use Rattle.passive_blocks.specs.Blocks.{Head, blocks_of, keeping, is_data}
-use Rattle.passive_blocks.specs.HeadState.{heads_in, slot_at, entry_at, is_open, is_it, is_lone, IsLatest, kept_slot}
-use Rattle.passive_blocks.specs.TableState.{IsTable}
+use Rattle.block_tables.specs.declared.heads.HeadFields.{HeadFields}
+use Rattle.block_tables.specs.declared.table.Table.{Table}
+use Rattle.block_tables.specs.Members.{is_member}
+use Rattle.block_tables.specs.Blocks.{Head, blocks_of, keeping, is_data}
+use Rattle.block_tables.specs.HeadState.{heads_in, slot_at, entry_at, is_open, is_it, is_lone, IsLatest, kept_slot}
+use Rattle.block_tables.specs.TableState.{IsTable}
+use Rattle.block_tables.proofs.OpenHeads.{open_within}
+use Rattle.block_tables.proofs.OpenHeads.{open_is}
 use Rattle.passive_blocks.specs.HeldState.{IsHeld, MayClose, AreApart, one_if, times_kept, behind_walk, closes_next}
-use Rattle.passive_blocks.proofs.HeldSums.{uid_is, open_is}
-use Rattle.passive_blocks.proofs.HeldFacts.{open_within, kept_by_places}
+use Rattle.passive_blocks.proofs.HeldSums.{uid_is}
+use Rattle.passive_blocks.proofs.HeldFacts.{kept_by_places}
 
 -- what the next change closes may be closed
 pub may_close : (t : Table) (k : ℕ) → closes_next t k ≡ true → MayClose t k

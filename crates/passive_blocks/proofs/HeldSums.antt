@@ -12,14 +12,15 @@ use Rattle.std.proofs.lemmas.List.Elements.{filter-append}
 use Rattle.capability.specs.declared.Uid.{Uid}
 use Rattle.capability.specs.Uids.{uid_cmp}
 use Rattle.capability.proofs.Uids.{uid_cmp_total}
-use Rattle.passive_blocks.specs.declared.heads.HeadFields.{HeadFields}
-use Rattle.passive_blocks.specs.Blocks.{Head, same_uid, counts, keeping}
-use Rattle.passive_blocks.specs.HeadSeen.{head_of}
-use Rattle.passive_blocks.specs.HeadState.{heads_in, slot_at, is_open, is_open_of, IsLatest, kept_slot}
+use Rattle.block_tables.specs.declared.heads.HeadFields.{HeadFields}
+use Rattle.block_tables.specs.Blocks.{Head, same_uid, counts, keeping}
+use Rattle.block_tables.specs.HeadSeen.{head_of}
+use Rattle.block_tables.specs.HeadState.{heads_in, slot_at, is_open, is_open_of, IsLatest, kept_slot}
 use Rattle.passive_blocks.specs.HeldState.{AreApart}
-use Rattle.passive_blocks.proofs.Closing.{lets, all_append}
-use Rattle.passive_blocks.proofs.Heading.{keeps_beside, is_earlier, keeping_with}
-use Rattle.passive_blocks.proofs.Slots.{same_uids, slot_same, latest_late}
+use Rattle.block_tables.proofs.Closing.{lets, all_append}
+use Rattle.block_tables.proofs.Heading.{keeps_beside, is_earlier, keeping_with}
+use Rattle.block_tables.proofs.Slots.{same_uids, slot_same, latest_late}
+use Rattle.block_tables.proofs.OpenHeads.{open_is}
 
 pub head_step : (b : Bool) (s : HeadFields) (rest : List HeadFields)
     → map head_of (if b then s ∷ rest else rest) ≡ (if b then head_of s ∷ map head_of rest else map head_of rest)
@@ -125,9 +126,6 @@ implies false l h is = absurd (false≢true is)
 
 pub uid_is : (s : HeadFields) (uid : Uid) → is_open_of uid s ≡ true → s.uid ≡ uid
 uid_is s uid is = same_uids s.uid uid (and_parts (is_open s) (eq_by_cmp uid_cmp s.uid uid) is).1
-
-pub open_is : (s : HeadFields) (uid : Uid) → is_open_of uid s ≡ true → is_open s ≡ true
-open_is s uid is = (and_parts (is_open s) (eq_by_cmp uid_cmp s.uid uid) is).0
 
 pub same_itself : (uid : Uid) → eq_by_cmp uid_cmp uid uid ≡ true
 same_itself uid = (eq_by_cmp_equiv uid_cmp_total).refl uid

@@ -19,27 +19,29 @@ use Rattle.capability.proofs.Uids.{uid_cmp_total, uid_cmp-IsAntisymmetric}
 use Rattle.eden_disk.specs.Calls.{Counts}
 use Rattle.passive_store.specs.Kept.{Kept, kept_after, bodies_after, reserved_uid, body_at, IsOwn}
 use Rattle.passive_store.specs.Seen.{TellsBehind}
-use Rattle.passive_blocks.specs.declared.heads.HeadFields.{HeadFields}
-use Rattle.passive_blocks.specs.declared.table.Table.{Table}
-use Rattle.passive_blocks.specs.declared.index.Entry.{Entry}
-use Rattle.passive_blocks.specs.declared.head_table.HeadTable.{HeadTable}
+use Rattle.block_tables.specs.declared.heads.HeadFields.{HeadFields}
+use Rattle.block_tables.specs.declared.table.Table.{Table}
+use Rattle.block_tables.specs.declared.index.Entry.{Entry}
+use Rattle.block_tables.specs.declared.head_table.HeadTable.{HeadTable}
 use Rattle.passive_blocks.specs.declared.block_store.Pending.{Pending}
-use Rattle.passive_blocks.specs.Members.{is_member}
-use Rattle.passive_blocks.specs.Greatest.{peak}
-use Rattle.passive_blocks.specs.Blocks.{Head, keeping, counts, blocks_of, data_count, numbers, greatest, kept_in_blocks, is_block_size}
-use Rattle.passive_blocks.specs.Changes.{free_head, is_taken, size_of}
+use Rattle.block_tables.specs.Members.{is_member}
+use Rattle.block_tables.specs.Greatest.{peak}
+use Rattle.block_tables.specs.Blocks.{Head, keeping, counts, blocks_of, data_count, numbers, greatest, kept_in_blocks, is_block_size}
+use Rattle.block_tables.specs.Changes.{free_head, is_taken, size_of}
 use Rattle.passive_blocks.specs.BlockLayout.{blocks_needed, blocks_left, has_first, changes_left}
-use Rattle.passive_blocks.specs.HeadSeen.{head_of}
-use Rattle.passive_blocks.specs.HeadState.{heads_in, slot_at, entry_at, is_open, is_open_of, is_it, count_of, one_if_some, closed_slot}
-use Rattle.passive_blocks.specs.TableState.{spare}
+use Rattle.block_tables.specs.HeadSeen.{head_of}
+use Rattle.block_tables.specs.HeadState.{heads_in, slot_at, entry_at, is_open, is_open_of, is_it, count_of, one_if_some, closed_slot}
+use Rattle.block_tables.specs.TableState.{spare}
 use Rattle.passive_blocks.specs.StoreState.{change_of}
 use Rattle.passive_blocks.specs.HeldState.{IsHeld, IsPlanned, MayClose, closes_next}
 use Rattle.passive_blocks.specs.KeptState.{HasChains}
-use Rattle.passive_blocks.proofs.Greatest.{peak-at}
-use Rattle.passive_blocks.proofs.Slots.{one, slot_same, slot_other, count_set, fewer_of, own_uid}
-use Rattle.passive_blocks.proofs.HeldSums.{same_itself, each_open, uid_is, open_is}
-use Rattle.passive_blocks.proofs.Slots.{same_uids}
-use Rattle.passive_blocks.proofs.HeldFacts.{sequence_at, open_within}
+use Rattle.block_tables.proofs.Greatest.{peak-at}
+use Rattle.block_tables.proofs.Slots.{one, slot_same, slot_other, count_set, fewer_of, own_uid}
+use Rattle.passive_blocks.proofs.HeldSums.{same_itself, each_open, uid_is}
+use Rattle.block_tables.proofs.Slots.{same_uids}
+use Rattle.block_tables.proofs.OpenHeads.{open_within}
+use Rattle.block_tables.proofs.OpenHeads.{open_is}
+use Rattle.passive_blocks.proofs.HeldFacts.{sequence_at}
 use Rattle.passive_blocks.proofs.HeldClosing.{it_is}
 use Rattle.passive_blocks.proofs.HeldJob.{taken_is, greatest_is, counts_is, one_passes}
 use Rattle.passive_blocks.proofs.KeptRoom.{needed_kept, total_insert, total_empty}

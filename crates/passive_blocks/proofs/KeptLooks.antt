@@ -9,15 +9,15 @@ use Rattle.capability.specs.declared.Uid.{Uid}
 use Rattle.eden_disk.specs.Calls.{Counts}
 use Rattle.passive_store.specs.Kept.{Kept, IsNextOf, IsNextKept, IsOwn, reserved_uid, body_at}
 use Rattle.passive_store.specs.LogState.{is_eject}
-use Rattle.passive_blocks.specs.declared.heads.HeadFields.{HeadFields}
-use Rattle.passive_blocks.specs.declared.table.Table.{Table}
+use Rattle.block_tables.specs.declared.heads.HeadFields.{HeadFields}
+use Rattle.block_tables.specs.declared.table.Table.{Table}
 use Rattle.passive_blocks.specs.declared.block_store.Pending.{Pending}
-use Rattle.passive_blocks.specs.Members.{is_member}
-use Rattle.passive_blocks.specs.Blocks.{Head, kept_in_blocks, heads_of, head_numbers, head_bytes, head_in, is_data}
+use Rattle.block_tables.specs.Members.{is_member}
+use Rattle.block_tables.specs.Blocks.{Head, kept_in_blocks, heads_of, head_numbers, head_bytes, head_in, is_data}
 use Rattle.passive_blocks.specs.BlockLayout.{block_room, blocks_needed}
-use Rattle.passive_blocks.specs.HeadSeen.{head_of}
-use Rattle.passive_blocks.specs.HeadState.{heads_in, slot_at, is_open}
-use Rattle.passive_blocks.specs.TableState.{IsTable, keeper, sequence_of, greatest_in, left_in}
+use Rattle.block_tables.specs.HeadSeen.{head_of}
+use Rattle.block_tables.specs.HeadState.{heads_in, slot_at, is_open}
+use Rattle.block_tables.specs.TableState.{IsTable, keeper, sequence_of, greatest_in, left_in}
 use Rattle.passive_blocks.specs.StoreState.{kept_or_none}
 use Rattle.passive_blocks.specs.HeldState.{IsHeld, AreApart, AreOwn, times_kept, times, one_if, planned_blocks}
 use Rattle.passive_blocks.specs.KeptState.{HasChains, AreOnImage}

@@ -18,13 +18,13 @@ use Rattle.capability.specs.Uids.{uid_cmp}
 use Rattle.capability.proofs.Uids.{uid_cmp_total}
 use Rattle.passive_store.specs.Kept.{Change, Kept, nothing_kept, kept_after, kept_from, bodies_after, reserved_uid, IsOwn}
 use Rattle.passive_store.specs.LogLayout.{within_room}
-use Rattle.passive_blocks.specs.declared.heads.HeadFields.{HeadFields}
-use Rattle.passive_blocks.specs.declared.table.Table.{Table}
-use Rattle.passive_blocks.specs.Blocks.{Head, keeping, kept_in_blocks, blocks_of, data_count, body_on, is_data, greatest}
-use Rattle.passive_blocks.specs.Changes.{free_head, is_removal, size_of}
+use Rattle.block_tables.specs.declared.heads.HeadFields.{HeadFields}
+use Rattle.block_tables.specs.declared.table.Table.{Table}
+use Rattle.block_tables.specs.Blocks.{Head, keeping, kept_in_blocks, blocks_of, data_count, body_on, is_data, greatest}
+use Rattle.block_tables.specs.Changes.{free_head, is_removal, size_of}
 use Rattle.passive_blocks.specs.BlockLayout.{blocks_needed, blocks_left, block_room, block_has_room, has_first, changes_left}
-use Rattle.passive_blocks.specs.HeadState.{heads_in, entry_at}
-use Rattle.passive_blocks.specs.TableState.{IsTable, keeper, greatest_in, left_in, fits_in, spare}
+use Rattle.block_tables.specs.HeadState.{heads_in, entry_at}
+use Rattle.block_tables.specs.TableState.{IsTable, keeper, greatest_in, left_in, fits_in, spare}
 use Rattle.passive_blocks.specs.StoreState.{chain_in, has_first_head, changes_known}
 use Rattle.passive_blocks.specs.HeldState.{AreApart, times, chain_by, times_kept, one_if}
 use Rattle.passive_blocks.proofs.Keeping.{body_now}

@@ -13,25 +13,26 @@ use Rattle.capability.specs.declared.Uid.{Uid}
 use Rattle.capability.specs.Uids.{uid_cmp}
 use Rattle.passive_store.specs.Kept.{Change, Kept, nothing_kept, kept_from, IsNextOf, IsOwn, reserved_uid, body_at, IsNextKept}
 use Rattle.passive_store.specs.LogState.{is_eject}
-use Rattle.passive_blocks.specs.declared.heads.HeadFields.{HeadFields}
-use Rattle.passive_blocks.specs.declared.table.Table.{Table}
-use Rattle.passive_blocks.specs.Blocks.{Head, keeping, kept_in_blocks, blocks_of, body_on, has}
-use Rattle.passive_blocks.specs.HeadSeen.{head_of}
-use Rattle.passive_blocks.specs.HeadState.{heads_in, slot_at, IsLatest, kept_slot, entry_at}
-use Rattle.passive_blocks.specs.BlockState.{walk, AreDataIn}
-use Rattle.passive_blocks.specs.TableState.{IsTable, keeper, sequence_of}
+use Rattle.block_tables.specs.declared.heads.HeadFields.{HeadFields}
+use Rattle.block_tables.specs.declared.table.Table.{Table}
+use Rattle.block_tables.specs.Blocks.{Head, keeping, kept_in_blocks, blocks_of, body_on, has}
+use Rattle.block_tables.specs.HeadSeen.{head_of}
+use Rattle.block_tables.specs.HeadState.{heads_in, slot_at, IsLatest, kept_slot, entry_at}
+use Rattle.block_tables.specs.BlockState.{walk, AreDataIn}
+use Rattle.block_tables.specs.TableState.{IsTable, keeper, sequence_of}
 use Rattle.passive_blocks.specs.StoreState.{chain_in}
 use Rattle.passive_blocks.specs.HeldState.{AreApart, AreOwn}
 use Rattle.passive_blocks.specs.KeptState.{HasChains}
 use Rattle.passive_blocks.proofs.BlocksKept.{data_on, long_data}
-use Rattle.passive_blocks.proofs.Walks.{on_disk}
+use Rattle.block_tables.proofs.Walks.{on_disk}
 use Rattle.passive_blocks.proofs.StageChains.{value_on, kept_by_chains}
 use Rattle.passive_blocks.proofs.StageKept.{last_of, body_in, mark_in, bodies_from, marks_from, IsOfUid}
-use Rattle.passive_blocks.proofs.HeldSums.{heads_under, uid_is, open_is, same_itself}
+use Rattle.passive_blocks.proofs.HeldSums.{heads_under, uid_is, same_itself}
 use Rattle.passive_blocks.proofs.HeldKeepers.{keeper_listed}
 use Rattle.passive_blocks.proofs.HeldCounts.{walk_long}
 use Rattle.passive_blocks.proofs.HeldFacts.{latest_held}
-use Rattle.passive_blocks.proofs.Ordered.{next_as, own_eject, eject_tests}
+use Rattle.block_tables.proofs.Ordered.{next_as, own_eject, eject_tests}
+use Rattle.block_tables.proofs.OpenHeads.{open_is}
 
 -- what an image keeps then
 abbrev pub memory_kept : List ℕ → Table → Kept

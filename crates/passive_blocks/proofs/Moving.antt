@@ -12,7 +12,7 @@ use Rattle.eden_disk.specs.Calls.{End, Fine, DeviceCall, Obeys, IsSpent, WriteTo
 use Rattle.eden_disk.proofs.Overlay.{length-overlay, overlay_outside}
 use Rattle.passive_store.specs.Acts.{DiskCall, Write, Sync, Read}
 use Rattle.passive_store.specs.Seen.{DiskSeen}
-use Rattle.passive_blocks.specs.Blocks.{Head, numbers}
+use Rattle.block_tables.specs.Blocks.{Head, numbers}
 use Rattle.passive_blocks.specs.Conversion.{heads_spelled, part_of, staged_calls, finishing_calls}
 use Rattle.passive_blocks.specs.Making.{Makes}
 use Rattle.passive_blocks.proofs.Making.{makes_none, makes_write, makes_join, makes_as, makes_refused}

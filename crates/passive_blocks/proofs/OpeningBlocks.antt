@@ -5,11 +5,11 @@ use Rattle.eden_disk.specs.Told.{Told, contents}
 use Rattle.passive_store.specs.declared.store.StoreRefusal.{StoreRefusal}
 use Rattle.passive_store.specs.declared.store.StoreRefusal.TheVariants.{Failed, Stopped, Full, Damaged, OutOfMemory}
 use Rattle.passive_store.specs.Kept.{OpeningMade, kept_by}
-use Rattle.passive_blocks.specs.declared.table.Table.{Table}
-use Rattle.passive_blocks.specs.declared.head_table.HeadTable.{HeadTable}
-use Rattle.passive_blocks.specs.Blocks.{Head, chains_of, taken_by, heads_of, changes_on, keeping, kept_in_blocks, blocks_map}
+use Rattle.block_tables.specs.declared.table.Table.{Table}
+use Rattle.block_tables.specs.declared.head_table.HeadTable.{HeadTable}
+use Rattle.block_tables.specs.Blocks.{Head, chains_of, taken_by, heads_of, changes_on, keeping, kept_in_blocks, blocks_map}
 use Rattle.passive_blocks.specs.BlockLayout.{reads_of_blocks}
-use Rattle.passive_blocks.specs.HeadState.{heads_in}
+use Rattle.block_tables.specs.HeadState.{heads_in}
 use Rattle.passive_blocks.specs.StoreState.{IsTableOf}
 use Rattle.passive_blocks.specs.OpeningState.{heads_read, whole_chain}
 

@@ -10,17 +10,17 @@ use Rattle.std.proofs.lemmas.List.Elements.{filter_agree}
 use Rattle.eden_disk.specs.Told.{Told, contents}
 use Rattle.eden_disk.specs.Calls.{Counts, Due, DeviceCalls, Obeyed, Fine}
 use Rattle.eden_disk.proofs.Held.{calls_more, obeyed_more}
-use Rattle.passive_blocks.specs.declared.heads.HeadFields.{HeadFields}
-use Rattle.passive_blocks.specs.declared.block_table.BlockTable.{BlockTable}
-use Rattle.passive_blocks.specs.Members.{is_member}
-use Rattle.passive_blocks.specs.Blocks.{Head, Chain, numbers, has, without, next_block, on_block, chain_from, chain_of, blocks_of}
-use Rattle.passive_blocks.specs.HeadSeen.{head_of}
-use Rattle.passive_blocks.specs.BlockState.{AreBlocks, walk, free_in}
+use Rattle.block_tables.specs.declared.heads.HeadFields.{HeadFields}
+use Rattle.block_tables.specs.declared.block_table.BlockTable.{BlockTable}
+use Rattle.block_tables.specs.Members.{is_member}
+use Rattle.block_tables.specs.Blocks.{Head, Chain, numbers, has, without, next_block, on_block, chain_from, chain_of, blocks_of}
+use Rattle.block_tables.specs.HeadSeen.{head_of}
+use Rattle.block_tables.specs.BlockState.{AreBlocks, walk, free_in}
 use Rattle.passive_blocks.specs.HeldState.{times, one_if, behind_walk}
 use Rattle.passive_blocks.specs.OpeningState.{AreTaken, IsFollowed, IsChainOn}
 use Rattle.passive_blocks.proofs.HeldCounts.{times_step, some_times, walk_stays, behind_stays, walk_further}
-use Rattle.passive_blocks.proofs.Listing.{has_number}
-use Rattle.passive_blocks.proofs.Walks.{on_disk}
+use Rattle.block_tables.proofs.Listing.{has_number}
+use Rattle.block_tables.proofs.Walks.{on_disk}
 
 -- what passes two tests
 both_tests : (p q : ℕ → Bool) (xs : List ℕ) → filter p (filter q xs) ≡ filter (λ x. p x && q x) xs

@@ -6,10 +6,10 @@ use Rattle.eden_disk.specs.Calls.{Counts}
 use Rattle.passive_store.specs.declared.store.StoreRefusal.{StoreRefusal}
 use Rattle.passive_store.specs.declared.store.StoreRefusal.TheVariants.{Failed, Stopped, Full, Damaged, OutOfMemory}
 use Rattle.passive_store.specs.Kept.{Kept, IsOverfullBy}
-use Rattle.passive_blocks.specs.declared.table.Table.{Table}
-use Rattle.passive_blocks.specs.Blocks.{Head, is_block_size, is_data, heads_or_none, kept_in_blocks}
+use Rattle.block_tables.specs.declared.table.Table.{Table}
+use Rattle.block_tables.specs.Blocks.{Head, is_block_size, is_data, heads_or_none, kept_in_blocks}
 use Rattle.passive_blocks.specs.BlockLayout.{overfull_by, heads_by, block_map, block_changes, changes_left}
-use Rattle.passive_blocks.specs.HeadState.{heads_in}
+use Rattle.block_tables.specs.HeadState.{heads_in}
 use Rattle.passive_blocks.specs.HeldState.{IsHeld, times_kept, one_if}
 use Rattle.passive_blocks.specs.StoreState.{IsTableOf, changes_known, kept_or_none}
 use Rattle.passive_blocks.specs.Preparing.{AreReady}

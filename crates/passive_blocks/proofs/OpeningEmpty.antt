@@ -10,9 +10,9 @@ use Rattle.eden_disk.specs.Calls.{End, Fine, SyncTold, ReadTold}
 use Rattle.eden_disk.proofs.Held.{passes_sync, passes_read, passes_join, passes_weaker}
 use Rattle.passive_store.specs.Acts.{Read}
 use Rattle.passive_store.specs.Kept.{Change, Kept, Stands, IsOverfull, IsDamagedFrom, IsAnyOf, nothing_kept, kept_by}
-use Rattle.passive_blocks.specs.Blocks.{numbers, is_block_size, head_place, head_bytes, heads_among, heads_of, heads_or_none}
-use Rattle.passive_blocks.specs.Blocks.{chains_of, chains_among}
-use Rattle.passive_blocks.specs.Blocks.{taken_by, kept_in_blocks, changes_on}
+use Rattle.block_tables.specs.Blocks.{numbers, is_block_size, head_place, head_bytes, heads_among, heads_of, heads_or_none}
+use Rattle.block_tables.specs.Blocks.{chains_of, chains_among}
+use Rattle.block_tables.specs.Blocks.{taken_by, kept_in_blocks, changes_on}
 use Rattle.passive_blocks.specs.BlockLayout.{Blocks, Staged, OldLog, Foreign, Blank, format_of, map_by, block_map, overfull_by}
 use Rattle.passive_blocks.specs.BlockLayout.{heads_by}
 use Rattle.passive_blocks.specs.BlockLayout.{changes_left, block_changes, reads_of_blocks, opening_by, format_calls, block_layout}

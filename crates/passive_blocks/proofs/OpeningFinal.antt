@@ -4,12 +4,12 @@ use Rattle.std.proofs.Common.{length, sym, ap, subst, ◌∙◌, arith, None}
 use Rattle.std.specs.Prelude.{sum_by}
 use Rattle.std.proofs.lemmas.Bool.{false≢true}
 use Rattle.eden_disk.specs.Calls.{Counts}
-use Rattle.passive_blocks.specs.declared.heads.HeadFields.{HeadFields}
-use Rattle.passive_blocks.specs.declared.table.Table.{Table}
-use Rattle.passive_blocks.specs.declared.head_table.HeadTable.{HeadTable}
-use Rattle.passive_blocks.specs.Members.{is_member}
-use Rattle.passive_blocks.specs.Blocks.{Head, keeping, blocks_of, is_data}
-use Rattle.passive_blocks.specs.HeadState.{AreHeads, slot_at, entry_at, is_open, is_it, is_lone, heads_in}
+use Rattle.block_tables.specs.declared.heads.HeadFields.{HeadFields}
+use Rattle.block_tables.specs.declared.table.Table.{Table}
+use Rattle.block_tables.specs.declared.head_table.HeadTable.{HeadTable}
+use Rattle.block_tables.specs.Members.{is_member}
+use Rattle.block_tables.specs.Blocks.{Head, keeping, blocks_of, is_data}
+use Rattle.block_tables.specs.HeadState.{AreHeads, slot_at, entry_at, is_open, is_it, is_lone, heads_in}
 use Rattle.passive_blocks.specs.HeldState.{IsHeld, AreApart, times, one_if, behind_walk, chain_by}
 use Rattle.passive_blocks.specs.OpeningState.{AreCounted, IsLinkedTo, kept_to, keeps_value}
 use Rattle.passive_blocks.proofs.HeldOpened.{held_when_opened}

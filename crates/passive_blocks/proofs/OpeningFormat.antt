@@ -17,7 +17,7 @@ use Rattle.eden_disk.proofs.Timed.{timed_join}
 use Rattle.eden_disk.proofs.Overlay.{length-overlay, overlay_outside, overlay_inside}
 use Rattle.passive_store.specs.Acts.{DiskCall, Write, Sync, CallTold, AllTold, CallsTold}
 use Rattle.passive_store.proofs.Joining.{timed_still, all_more, call_done, calls_told_more, call_ended}
-use Rattle.passive_blocks.specs.Blocks.{numbers, head_place, is_block_size}
+use Rattle.block_tables.specs.Blocks.{numbers, head_place, is_block_size}
 use Rattle.passive_blocks.specs.Fits.{Fits}
 use Rattle.passive_blocks.specs.NewBlocks.{MayBlank, MayEmpty, IsEmptyImage, IsBlankDisk, IsClearedDisk, IsNewBlocks, AreCleared}
 use Rattle.passive_blocks.specs.NewBlocks.{clearing_calls}

@@ -16,10 +16,10 @@ use Rattle.capability.proofs.Uids.{uid_cmp_total}
 use Rattle.passive_store.specs.Kept.{Change, Kept, NeverOverfull, nothing_kept, kept_after, kept_from, kept_by, bodies_after}
 use Rattle.passive_store.specs.Log.{length_of, uid_of, are_fields, is_record, record_of, with_record, records_behind, records_of}
 use Rattle.passive_store.specs.Log.{log_map}
-use Rattle.passive_blocks.specs.Blocks.{is_block_size, blocks_of}
+use Rattle.block_tables.specs.Blocks.{is_block_size, blocks_of}
 use Rattle.passive_blocks.specs.Conversion.{Moved, moved_from, blocks_moved, is_too_much}
 use Rattle.passive_blocks.specs.BlockLayout.{Blocks, Staged, OldLog, Foreign, Blank, format_of, overfull_by, block_layout}
-use Rattle.passive_blocks.proofs.Slots.{same_uids}
+use Rattle.block_tables.proofs.Slots.{same_uids}
 
 -- the bytes of a record behind its gate: one byte under the serial
 abbrev record_bytes : ℕ → ℕ → List ℕ

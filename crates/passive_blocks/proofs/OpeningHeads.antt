@@ -1,52 +1,33 @@
 -- The heads of a disk as an opening reads them.
-use Rattle.std.proofs.Common.{◌≡◌, ℕ, ◌+◌, ◌≤◌, ◌<◌, Bool, true, false, ◌||◌, ◌&&◌, not, ◌==◌, List, [], ◌∷◌, ◌/◌}
+use Rattle.std.proofs.Common.{◌≡◌, ℕ, ◌+◌, ◌<◌, Bool, true, false, ◌||◌, ◌&&◌, not, ◌==◌, List, [], ◌∷◌, ◌/◌}
 use Rattle.std.proofs.Common.{length, set, eq-eqb, refl, sym, ap, subst, ◌∙◌, arith, inl, inr, Option, None, Some}
-use Rattle.std.specs.Prelude.{nat_le, nat_lt, if◌then◌else◌}
+use Rattle.std.specs.Prelude.{nat_lt, if◌then◌else◌}
 use Rattle.std.specs.List.{list_any}
 use Rattle.std.specs.Ordering.{nat_cmp, is_eq}
 use Rattle.std.specs.BTreeSet as sorted
 use Rattle.std.specs.BTreeSet.{BTreeSet}
-use Rattle.std.proofs.lemmas.Bool.{lt-ltb, cases_eq, or_left, or_right, and_left, ne_eqb, both_ways}
+use Rattle.std.proofs.lemmas.Bool.{cases_eq, or_left, or_right, and_left, ne_eqb, both_ways}
 use Rattle.std.proofs.lemmas.Bool.{false_from_ne_true}
 use Rattle.std.proofs.lemmas.Bool.Decides.{nat_tests}
 use Rattle.std.proofs.lemmas.List.{length-set}
 use Rattle.capability.specs.declared.Uid.{Uid}
-use Rattle.passive_blocks.specs.declared.heads.HeadFields.{HeadFields}
-use Rattle.passive_blocks.specs.declared.index.Entry.{Entry}
-use Rattle.passive_blocks.specs.declared.head_table.HeadTable.{HeadTable}
-use Rattle.passive_blocks.specs.declared.table.Table.{Table}
-use Rattle.passive_blocks.specs.declared.block_table.BlockTable.{BlockTable}
-use Rattle.passive_blocks.specs.BlockState.{AreBlocks}
-use Rattle.passive_blocks.specs.Members.{is_member}
-use Rattle.passive_blocks.specs.Blocks.{Head, is_head, are_fields, kind_in, has}
-use Rattle.passive_blocks.specs.HeadSeen.{head_of}
-use Rattle.passive_blocks.specs.HeadState.{AreHeads, slot_at, entry_at, is_open, is_open_of, is_it, is_late, outdated}
-use Rattle.passive_blocks.specs.HeadState.{IsLatest, IsEntryOf}
-use Rattle.passive_blocks.specs.TableState.{IsTable}
+use Rattle.block_tables.specs.declared.heads.HeadFields.{HeadFields}
+use Rattle.block_tables.specs.declared.index.Entry.{Entry}
+use Rattle.block_tables.specs.declared.head_table.HeadTable.{HeadTable}
+use Rattle.block_tables.specs.declared.table.Table.{Table}
+use Rattle.block_tables.specs.declared.block_table.BlockTable.{BlockTable}
+use Rattle.block_tables.specs.BlockState.{AreBlocks}
+use Rattle.block_tables.specs.Members.{is_member}
+use Rattle.block_tables.specs.Blocks.{has}
+use Rattle.block_tables.specs.HeadState.{AreHeads, slot_at, entry_at, is_open, is_open_of, is_it, is_late, outdated}
+use Rattle.block_tables.specs.HeadState.{IsLatest, IsEntryOf}
+use Rattle.block_tables.specs.TableState.{IsTable}
 use Rattle.passive_blocks.specs.HeldState.{AreApart}
-use Rattle.passive_blocks.specs.OpeningState.{IsRead, AreReadTo, is_latest}
-use Rattle.passive_blocks.proofs.Slots.{slot_same, slot_other, closed_not, entry_joins, entry_other}
-use Rattle.passive_blocks.proofs.HeldSums.{open_is, uid_is, is_of}
+use Rattle.passive_blocks.specs.OpeningState.{AreReadTo, is_latest}
+use Rattle.block_tables.proofs.Slots.{slot_same, slot_other, closed_not, entry_joins, entry_other}
+use Rattle.block_tables.proofs.OpenHeads.{open_is}
+use Rattle.passive_blocks.proofs.HeldSums.{uid_is, is_of}
 use Rattle.passive_blocks.proofs.HeldKeepers.{latest_unique}
-
-good_fields : (node size kind : ℕ) (h : Head) → are_fields node h.size h.uid kind ≡ true → (h.size ≤ 262144) × (h.uid.node ≡ node)
-good_fields node size kind h good = grind (arith, nat_tests)
-
-parts : (fields begins behind blank : Bool) (s : ℕ) → (fields && begins && nat_le 1 s && behind && blank) ≡ true → (fields ≡ true) × (1 ≤ s)
-parts fields begins behind blank s good = grind (arith, nat_tests)
-
--- a head of the format is one that may be read
-pub good_head : (node size number : ℕ) (bytes : List ℕ) (h : HeadFields) → h.number ≡ number → is_head node size bytes (head_of h) ≡ true
-    → IsRead node number h
-good_head node size number bytes h own good =
-    let both : (are_fields node h.size h.uid (kind_in bytes) ≡ true) × (1 ≤ h.sequence) = parts _ _ _ _ h.sequence good in
-    let fields = good_fields node size (kind_in bytes) (head_of h) both.0 in
-    record {
-      numbered = own;
-      opened = lt-ltb 0 h.sequence both.1;
-      own = fields.1;
-      short = fields.0;
-    }
 
 -- whether a set of numbers has one
 same_number : (s k : ℕ) → is_eq (nat_cmp s k) ≡ (k == s)

@@ -11,19 +11,20 @@ use Rattle.std.proofs.lemmas.Grind.{flat_map-append}
 use Rattle.eden_disk.specs.Told.{Told, contents}
 use Rattle.eden_disk.specs.Calls.{Counts, Due, DeviceCalls, Obeyed, Fine}
 use Rattle.eden_disk.proofs.Held.{calls_more, obeyed_more}
-use Rattle.passive_blocks.specs.declared.heads.HeadFields.{HeadFields}
-use Rattle.passive_blocks.specs.declared.table.Table.{Table}
-use Rattle.passive_blocks.specs.declared.head_table.HeadTable.{HeadTable}
-use Rattle.passive_blocks.specs.declared.block_table.BlockTable.{BlockTable}
-use Rattle.passive_blocks.specs.Members.{is_member}
-use Rattle.passive_blocks.specs.Blocks.{Head, Chain, numbers, has, head_place, chain_of, chains_among, chains_of, taken_by, keeping}
-use Rattle.passive_blocks.specs.Blocks.{without}
-use Rattle.passive_blocks.specs.Blocks.{blocks_of, is_data, data_blocks, data_count, changes_on}
-use Rattle.passive_blocks.specs.HeadSeen.{head_of}
-use Rattle.passive_blocks.specs.HeadState.{slot_at, heads_in}
-use Rattle.passive_blocks.specs.BlockState.{AreBlocks, walk, free_in}
+use Rattle.block_tables.specs.declared.heads.HeadFields.{HeadFields}
+use Rattle.block_tables.specs.declared.table.Table.{Table}
+use Rattle.block_tables.specs.declared.head_table.HeadTable.{HeadTable}
+use Rattle.block_tables.specs.declared.block_table.BlockTable.{BlockTable}
+use Rattle.block_tables.specs.Members.{is_member}
+use Rattle.block_tables.specs.Blocks.{Head, Chain, numbers, has, head_place, chain_of, chains_among, chains_of, taken_by, keeping}
+use Rattle.block_tables.specs.Blocks.{without}
+use Rattle.block_tables.specs.Blocks.{blocks_of, is_data, data_blocks, data_count, changes_on}
+use Rattle.block_tables.specs.HeadSeen.{head_of}
+use Rattle.block_tables.specs.HeadState.{slot_at, heads_in}
+use Rattle.block_tables.specs.BlockState.{AreBlocks, walk, free_in}
+use Rattle.block_tables.specs.BlockState.{AreAllFree}
 use Rattle.passive_blocks.specs.HeldState.{times, one_if, behind_walk, chain_by}
-use Rattle.passive_blocks.specs.OpeningState.{AreTaken, IsChainRead, ChainRead, AreAllFree, AreCounted, keeps_value, whole_chain, kept_to}
+use Rattle.passive_blocks.specs.OpeningState.{AreTaken, IsChainRead, ChainRead, AreCounted, keeps_value, whole_chain, kept_to}
 use Rattle.passive_blocks.specs.OpeningState.{kept_behind, IsLinkedTo}
 use Rattle.passive_blocks.proofs.HeldCounts.{some_times, behind_stays, walk_long, count_data, chains_stay}
 use Rattle.passive_blocks.proofs.OpeningLinks.{chains_map_stay, one_of_kept, to_skip, to_more, to_all, keeping_is, data_free, chains_more}

@@ -10,19 +10,20 @@ use Rattle.std.proofs.lemmas.List.{append-nil, take_all, map-append}
 use Rattle.std.proofs.lemmas.List.Elements.{filter_more, filter_agree}
 use Rattle.std.proofs.lemmas.List.Sums.{sum_by-cons}
 use Rattle.passive_store.specs.Log.{with_record}
-use Rattle.passive_blocks.specs.declared.heads.HeadFields.{HeadFields}
-use Rattle.passive_blocks.specs.declared.table.Table.{Table}
-use Rattle.passive_blocks.specs.declared.head_table.HeadTable.{HeadTable}
-use Rattle.passive_blocks.specs.declared.block_table.BlockTable.{BlockTable}
-use Rattle.passive_blocks.specs.Members.{is_member}
-use Rattle.passive_blocks.specs.Blocks.{Head, Chain, numbers, has, without, head_place, chain_from, chain_of, chains_among}
-use Rattle.passive_blocks.specs.Blocks.{keeping, counts}
-use Rattle.passive_blocks.specs.Blocks.{blocks_of, is_data, data_blocks, next_block, changes_on, change_on}
-use Rattle.passive_blocks.specs.HeadSeen.{head_of}
-use Rattle.passive_blocks.specs.HeadState.{AreHeads, slot_at, closed_slot, entry_at, is_open, is_open_of, is_it, IsLatest, heads_in}
-use Rattle.passive_blocks.specs.BlockState.{AreBlocks, free_in}
+use Rattle.block_tables.specs.declared.heads.HeadFields.{HeadFields}
+use Rattle.block_tables.specs.declared.table.Table.{Table}
+use Rattle.block_tables.specs.declared.head_table.HeadTable.{HeadTable}
+use Rattle.block_tables.specs.declared.block_table.BlockTable.{BlockTable}
+use Rattle.block_tables.specs.Members.{is_member}
+use Rattle.block_tables.specs.Blocks.{Head, Chain, numbers, has, without, head_place, chain_from, chain_of, chains_among}
+use Rattle.block_tables.specs.Blocks.{keeping, counts}
+use Rattle.block_tables.specs.Blocks.{blocks_of, is_data, data_blocks, next_block, changes_on, change_on}
+use Rattle.block_tables.specs.HeadSeen.{head_of}
+use Rattle.block_tables.specs.HeadState.{AreHeads, slot_at, closed_slot, entry_at, is_open, is_open_of, is_it, IsLatest, heads_in}
+use Rattle.block_tables.specs.BlockState.{AreBlocks, free_in}
+use Rattle.block_tables.specs.BlockState.{AreAllFree}
 use Rattle.passive_blocks.specs.HeldState.{AreApart, times, one_if, chain_by}
-use Rattle.passive_blocks.specs.OpeningState.{AreTaken, AreAllFree, AreCounted, keeps_value, whole_chain, kept_to}
+use Rattle.passive_blocks.specs.OpeningState.{AreTaken, AreCounted, keeps_value, whole_chain, kept_to}
 use Rattle.passive_blocks.specs.OpeningState.{kept_behind}
 use Rattle.passive_blocks.proofs.HeldCounts.{some_times, walk_stays, sum_same, sum_two}
 use Rattle.passive_blocks.proofs.HeldCounts.{sum_ones, sum_times}

@@ -16,7 +16,7 @@ use Rattle.passive_store.specs.Kept.{OpeningMade, OpeningTold, IsOverfullBy, ref
 use Rattle.passive_store.proofs.Joining.{some_more}
 use Rattle.passive_blocks.specs.declared.opening.Format.{Format as Found}
 use Rattle.passive_blocks.specs.declared.opening.Format.TheVariants.{Blocks as FoundBlocks, Log as FoundLog, Blank as FoundBlank}
-use Rattle.passive_blocks.specs.Blocks.{numbers, is_block_size, heads_of}
+use Rattle.block_tables.specs.Blocks.{numbers, is_block_size, heads_of}
 use Rattle.passive_blocks.specs.BlockLayout.{Blocks, Staged, OldLog, Foreign, Blank, format_of, overfull_by, opening_by}
 use Rattle.passive_blocks.specs.BlockLayout.{reads_of_blocks}
 use Rattle.passive_blocks.specs.BlockLayout.{format_calls}

@@ -10,12 +10,12 @@ use Rattle.eden_disk.specs.Calls.{Counts, DeviceCalls, Due, Obeyed, ReadTold, en
 use Rattle.passive_store.specs.declared.store.StoreRefusal.{StoreRefusal}
 use Rattle.passive_store.specs.declared.store.StoreRefusal.TheVariants.{Failed, Stopped, Full, Damaged, OutOfMemory}
 use Rattle.passive_store.specs.Kept.{refused, end_of_store, IsDiskRefusal, OpeningMade}
-use Rattle.passive_blocks.specs.declared.heads.HeadFields.{HeadFields}
-use Rattle.passive_blocks.specs.declared.block_table.BlockTable.{BlockTable}
-use Rattle.passive_blocks.specs.Members.{is_member}
-use Rattle.passive_blocks.specs.Blocks.{Chain, numbers, is_block_size, blocks_of, chain_of, data_count, head_place}
-use Rattle.passive_blocks.specs.HeadSeen.{head_of}
-use Rattle.passive_blocks.specs.BlockState.{AreBlocks, walk, free_in}
+use Rattle.block_tables.specs.declared.heads.HeadFields.{HeadFields}
+use Rattle.block_tables.specs.declared.block_table.BlockTable.{BlockTable}
+use Rattle.block_tables.specs.Members.{is_member}
+use Rattle.block_tables.specs.Blocks.{Chain, numbers, is_block_size, blocks_of, chain_of, data_count, head_place}
+use Rattle.block_tables.specs.HeadSeen.{head_of}
+use Rattle.block_tables.specs.BlockState.{AreBlocks, walk, free_in}
 use Rattle.passive_blocks.specs.HeldState.{times, one_if, behind_walk}
 use Rattle.passive_blocks.specs.OpeningState.{AreTaken, IsFollowed, IsChainOn, IsChainRead, ChainRead}
 use Rattle.passive_blocks.proofs.HeldCounts.{walk_long}

@@ -14,14 +14,16 @@ use Rattle.passive_store.specs.declared.store.StoreRefusal.{StoreRefusal}
 use Rattle.passive_store.specs.declared.store.StoreRefusal.TheVariants.{Failed, Stopped, Full, Damaged, OutOfMemory}
 use Rattle.passive_store.specs.Kept.{IsDiskRefusal, OpeningMade, end_of_store}
 use Rattle.passive_store.proofs.Joining.{timed_still}
-use Rattle.passive_blocks.specs.declared.heads.HeadFields.{HeadFields}
-use Rattle.passive_blocks.specs.declared.table.Table.{Table}
-use Rattle.passive_blocks.specs.declared.block_table.BlockTable.{BlockTable}
-use Rattle.passive_blocks.specs.Blocks.{Head, numbers, has, head_place, head_bytes, head_in, is_head, with_head, joined_head, heads_among}
-use Rattle.passive_blocks.specs.Blocks.{heads_of}
-use Rattle.passive_blocks.specs.HeadSeen.{head_of, IsHeadThere, IsHeadDamaged}
-use Rattle.passive_blocks.specs.HeadState.{slot_at, closed_slot, is_open, heads_in}
-use Rattle.passive_blocks.specs.OpeningState.{AreReadTo, AreAllFree, heads_read, IsRead}
+use Rattle.block_tables.specs.declared.heads.HeadFields.{HeadFields}
+use Rattle.block_tables.specs.declared.table.Table.{Table}
+use Rattle.block_tables.specs.declared.block_table.BlockTable.{BlockTable}
+use Rattle.block_tables.specs.Blocks.{Head, numbers, has, head_place, head_bytes, head_in, is_head, with_head, joined_head, heads_among}
+use Rattle.block_tables.specs.Blocks.{heads_of}
+use Rattle.block_tables.specs.HeadSeen.{head_of, IsHeadThere, IsHeadDamaged}
+use Rattle.block_tables.specs.HeadState.{slot_at, closed_slot, is_open, heads_in}
+use Rattle.block_tables.specs.HeadState.{IsRead}
+use Rattle.block_tables.specs.BlockState.{AreAllFree}
+use Rattle.passive_blocks.specs.OpeningState.{AreReadTo, heads_read}
 use Rattle.passive_blocks.proofs.HeldSums.{heads_with_open, heads_at_shut, front_of, back_of}
 
 -- the heads that were read, before those that are found behind them

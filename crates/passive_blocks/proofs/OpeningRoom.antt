@@ -12,14 +12,14 @@ use Rattle.capability.specs.Uids.{uid_cmp}
 use Rattle.capability.proofs.Uids.{uid_cmp_total}
 use Rattle.eden_disk.specs.Calls.{Counts}
 use Rattle.passive_store.specs.Kept.{reserved_uid}
-use Rattle.passive_blocks.specs.declared.heads.HeadFields.{HeadFields}
-use Rattle.passive_blocks.specs.declared.table.Table.{Table}
-use Rattle.passive_blocks.specs.Greatest.{peak}
-use Rattle.passive_blocks.specs.Members.{IsFirstOf}
-use Rattle.passive_blocks.specs.Blocks.{Head, numbers, keeping, blocks_of, data_count}
-use Rattle.passive_blocks.specs.Changes.{is_taken, free_head}
-use Rattle.passive_blocks.specs.HeadState.{heads_in, slot_at, entry_at, is_open}
-use Rattle.passive_blocks.specs.TableState.{keeper}
+use Rattle.block_tables.specs.declared.heads.HeadFields.{HeadFields}
+use Rattle.block_tables.specs.declared.table.Table.{Table}
+use Rattle.block_tables.specs.Greatest.{peak}
+use Rattle.block_tables.specs.Members.{IsFirstOf}
+use Rattle.block_tables.specs.Blocks.{Head, numbers, keeping, blocks_of, data_count}
+use Rattle.block_tables.specs.Changes.{is_taken, free_head}
+use Rattle.block_tables.specs.HeadState.{heads_in, slot_at, entry_at, is_open}
+use Rattle.block_tables.specs.TableState.{keeper}
 use Rattle.passive_blocks.specs.HeldState.{IsHeld}
 use Rattle.passive_blocks.specs.StoreState.{has_first_head, changes_known}
 use Rattle.passive_blocks.proofs.HeldSums.{heads_under}

@@ -6,13 +6,13 @@ use Rattle.eden_disk.specs.Told.{Told, Contents, contents, Left}
 use Rattle.eden_disk.proofs.Held.{only_now}
 use Rattle.passive_store.specs.Log.{with_record}
 use Rattle.passive_store.specs.Kept.{Kept, Stands, LeavesKept, Idle, kept_by}
-use Rattle.passive_blocks.specs.declared.table.Table.{Table}
-use Rattle.passive_blocks.specs.Blocks.{Head, is_block_size, keeping, chains_of, changes_on, change_on, kept_in_blocks}
-use Rattle.passive_blocks.specs.Blocks.{blocks_map}
+use Rattle.block_tables.specs.declared.table.Table.{Table}
+use Rattle.block_tables.specs.Blocks.{Head, is_block_size, keeping, chains_of, changes_on, change_on, kept_in_blocks}
+use Rattle.block_tables.specs.Blocks.{blocks_map}
 use Rattle.passive_blocks.specs.BlockLayout.{Blocks, Staged, OldLog, Foreign, Blank, format_of, map_by, block_map, block_layout}
 use Rattle.passive_blocks.specs.BlockLayout.{block_changes}
 use Rattle.passive_blocks.specs.BlockLayout.{overfull_by}
-use Rattle.passive_blocks.specs.HeadState.{heads_in}
+use Rattle.block_tables.specs.HeadState.{heads_in}
 use Rattle.passive_blocks.specs.StoreState.{IsTableOf, chain_in, kept_or_none}
 use Rattle.passive_blocks.specs.Preparing.{AreReady}
 

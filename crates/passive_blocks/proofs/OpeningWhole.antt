@@ -13,8 +13,8 @@ use Rattle.passive_store.specs.declared.store.StoreRefusal.TheVariants.{Failed, 
 use Rattle.passive_store.specs.Acts.{DiskCall, Read, Sync, AllTold, SomeTold}
 use Rattle.passive_store.specs.Kept.{OpeningMade, OpeningTold, IsOverfullBy, refused, end_of_store}
 use Rattle.passive_store.proofs.Joining.{all_more, all_some}
-use Rattle.passive_blocks.specs.declared.table.Table.{Table}
-use Rattle.passive_blocks.specs.Blocks.{Head, is_block_size, heads_of, blocks_map}
+use Rattle.block_tables.specs.declared.table.Table.{Table}
+use Rattle.block_tables.specs.Blocks.{Head, is_block_size, heads_of, blocks_map}
 use Rattle.passive_blocks.specs.BlockLayout.{Blocks, Staged, OldLog, Foreign, Blank, format_of, map_by, block_map, block_layout}
 use Rattle.passive_blocks.specs.BlockLayout.{block_opening}
 use Rattle.passive_blocks.specs.BlockLayout.{overfull_by, opening_by, reads_of_blocks}

@@ -10,16 +10,16 @@ use Rattle.eden_disk.specs.Told.{Told, contents}
 use Rattle.eden_disk.specs.Calls.{Counts, Due, DeviceCalls, Obeyed, ReadTold, End, Fine, AtFault, AtStop}
 use Rattle.eden_disk.proofs.Held.{calls_more, obeyed_more}
 use Rattle.passive_store.specs.Acts.{Read, AllTold, CallsTold}
-use Rattle.passive_blocks.specs.declared.heads.HeadFields.{HeadFields}
-use Rattle.passive_blocks.specs.Blocks.{blocks_of, body_on, has, is_data, is_block_size}
-use Rattle.passive_blocks.specs.HeadSeen.{head_of}
-use Rattle.passive_blocks.specs.BlockState.{walk, AreDataIn}
+use Rattle.block_tables.specs.declared.heads.HeadFields.{HeadFields}
+use Rattle.block_tables.specs.Blocks.{blocks_of, body_on, has, is_data, is_block_size}
+use Rattle.block_tables.specs.HeadSeen.{head_of}
+use Rattle.block_tables.specs.BlockState.{walk, AreDataIn}
 use Rattle.passive_blocks.specs.StoreState.{chain_in}
 use Rattle.passive_blocks.specs.HeldState.{behind_walk}
 use Rattle.passive_blocks.proofs.BlocksKept.{data_on, long_data}
 use Rattle.passive_blocks.proofs.HeldCounts.{walk_further, walk_long}
 use Rattle.passive_blocks.proofs.KeptUnder.{each_has}
-use Rattle.passive_blocks.proofs.Walks.{on_disk}
+use Rattle.block_tables.proofs.Walks.{on_disk}
 
 -- Some parts of a value are read, with as many device calls, none of which was refused.
 pub record Reading (tells obeys : Bool) (start here : Told) (before after : Counts) (due_then due_now : Due) (next : List ℕ)

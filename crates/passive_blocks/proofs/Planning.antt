@@ -30,9 +30,9 @@ use Rattle.passive_store.specs.Log.{log_map}
 use Rattle.passive_store.specs.LogLayout.{log_layout}
 use Rattle.passive_store.specs.LogState.{IsIndex, slot_at}
 use Rattle.passive_blocks.specs.declared.convert.Moved.{Moved}
-use Rattle.passive_blocks.specs.Blocks.{blocks_of}
+use Rattle.block_tables.specs.Blocks.{blocks_of}
 use Rattle.passive_blocks.specs.Conversion.{Moved as Value, moved_from, moved, moved_heads, blocks_moved, is_too_much}
-use Rattle.passive_blocks.specs.HeadSeen.{head_of}
+use Rattle.block_tables.specs.HeadSeen.{head_of}
 use Rattle.passive_blocks.specs.Converting.{heads_planned, moved_in, IsMovable, IsGoodEntry, with_slot, slots_in, planned_at, planned_from}
 use Rattle.passive_blocks.specs.Converting.{planned, blocks_planned}
 use Rattle.passive_blocks.proofs.Keeping.{each_entry, tied}

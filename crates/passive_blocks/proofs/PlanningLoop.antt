@@ -16,7 +16,7 @@ use Rattle.capability.proofs.Uids.{uid_cmp_total}
 use Rattle.passive_store.specs.declared.index.Slot.{Slot}
 use Rattle.passive_store.specs.LogState.{slot_at}
 use Rattle.passive_blocks.specs.declared.convert.Moved.{Moved}
-use Rattle.passive_blocks.specs.Blocks.{blocks_of}
+use Rattle.block_tables.specs.Blocks.{blocks_of}
 use Rattle.passive_blocks.specs.Converting.{ArePlanned, IsMovable, slots_in, planned_at, planned_from, planned, blocks_planned}
 
 -- the values so far, and those of the entries that are left, are all values

@@ -8,13 +8,13 @@ use Rattle.capability.specs.declared.Uid.{Uid}
 use Rattle.capability.specs.Uids.{uid_cmp}
 use Rattle.passive_store.specs.Kept.{Change, nothing_kept, kept_by, body_at}
 use Rattle.passive_store.specs.Log.{with_record}
-use Rattle.passive_blocks.specs.declared.heads.HeadFields.{HeadFields}
-use Rattle.passive_blocks.specs.declared.table.Table.{Table}
-use Rattle.passive_blocks.specs.Blocks.{Head, Chain, blocks_of, chain_from, chain_of, chains_among, chains_of, change_on, changes_on}
-use Rattle.passive_blocks.specs.Blocks.{data_blocks}
-use Rattle.passive_blocks.specs.Blocks.{has, head_place, keeping, kept_in_blocks, next_block, without, on_block}
-use Rattle.passive_blocks.specs.HeadState.{heads_in, entry_at}
-use Rattle.passive_blocks.specs.TableState.{IsTable, keeper}
+use Rattle.block_tables.specs.declared.heads.HeadFields.{HeadFields}
+use Rattle.block_tables.specs.declared.table.Table.{Table}
+use Rattle.block_tables.specs.Blocks.{Head, Chain, blocks_of, chain_from, chain_of, chains_among, chains_of, change_on, changes_on}
+use Rattle.block_tables.specs.Blocks.{data_blocks}
+use Rattle.block_tables.specs.Blocks.{has, head_place, keeping, kept_in_blocks, next_block, without, on_block}
+use Rattle.block_tables.specs.HeadState.{heads_in, entry_at}
+use Rattle.block_tables.specs.TableState.{IsTable, keeper}
 use Rattle.passive_blocks.specs.StoreState.{kept_or_none}
 use Rattle.passive_blocks.specs.HeldState.{AreApart}
 use Rattle.passive_blocks.proofs.HeldFacts.{latest_held}

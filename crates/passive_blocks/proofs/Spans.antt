@@ -2,7 +2,7 @@
 use Rattle.std.proofs.Common.{◌≡◌, ℕ, ◌+◌, ◌-◌, ◌≤◌, ◌<◌, List, length, drop, sym, ap, ◌∙◌, arith, min}
 use Rattle.std.specs.Prelude.{slice_index, slice_range, ◌==◌}
 use Rattle.std.proofs.lemmas.List.{ext_get_or, length-take, length-drop, get_or-take, get_or-drop}
-use Rattle.passive_blocks.specs.Blocks.{head_place, head_bytes}
+use Rattle.block_tables.specs.Blocks.{head_place, head_bytes}
 use Rattle.passive_blocks.specs.StageState.{gate_open}
 use Rattle.passive_blocks.proofs.StageHeads.{opened}
 

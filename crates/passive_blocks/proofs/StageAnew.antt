@@ -17,15 +17,15 @@ use Rattle.passive_store.specs.Kept.{Unsettled, Stands, Ran, IsFresh, changes_in
 use Rattle.passive_store.specs.Kept.{is_unsettled, is_synced, unsynced, settling_calls, settling_of, settled, work_settled}
 use Rattle.passive_store.specs.Seen.{Seen, DiskSeen, Settled}
 use Rattle.passive_store.proofs.Joining.{as_before, timed_still}
-use Rattle.passive_blocks.specs.declared.table.Table.{Table}
+use Rattle.block_tables.specs.declared.table.Table.{Table}
 use Rattle.passive_blocks.specs.declared.block_store.Pending.{Pending}
 use Rattle.passive_blocks.specs.declared.block_store.Stage.{Stage}
 use Rattle.passive_blocks.specs.declared.block_store.Stage.TheVariants.{Close, Write as WritePart, Head as WriteHead}
 use Rattle.passive_blocks.specs.declared.block_store.Stage.TheVariants.{SyncHead, Open, SyncOpen}
 use Rattle.passive_blocks.specs.declared.block_store.Stage.TheVariants.{Ended}
-use Rattle.passive_blocks.specs.Blocks.{kept_in_blocks}
+use Rattle.block_tables.specs.Blocks.{kept_in_blocks}
 use Rattle.passive_blocks.specs.BlockLayout.{block_layout}
-use Rattle.passive_blocks.specs.HeadState.{heads_in}
+use Rattle.block_tables.specs.HeadState.{heads_in}
 use Rattle.passive_blocks.specs.HeldState.{IsHeld}
 use Rattle.passive_blocks.specs.StoreState.{change_of, pending_work, work_at, calls_at}
 use Rattle.passive_blocks.specs.StageState.{IsStore, IsStageOn, IsWaiting, IsSpelled, IsEarly}

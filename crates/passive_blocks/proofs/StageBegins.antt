@@ -15,33 +15,33 @@ use Rattle.passive_store.specs.Acts.{Sync}
 use Rattle.passive_store.specs.Kept.{Change, Kept, Work, Idle, Busy, HasJob, IsJobOf, IsFresh, IsOwn, IsEarlyRefusal, body_at, change_in}
 use Rattle.passive_store.specs.Kept.{reserved_uid}
 use Rattle.passive_store.specs.Seen.{Asked, Begins, DiskSeen, TellsBehind, asked, change_asked, has_room_for}
-use Rattle.passive_blocks.specs.declared.heads.HeadFields.{HeadFields}
-use Rattle.passive_blocks.specs.declared.table.Table.{Table}
+use Rattle.block_tables.specs.declared.heads.HeadFields.{HeadFields}
+use Rattle.block_tables.specs.declared.table.Table.{Table}
 use Rattle.passive_blocks.specs.declared.block_store.Pending.{Pending}
 use Rattle.passive_blocks.specs.declared.block_store.Stage.{Stage}
 use Rattle.passive_blocks.specs.declared.block_store.Stage.TheVariants.{Close, Write as WritePart, Head as WriteHead, SyncHead, Open}
 use Rattle.passive_blocks.specs.declared.block_store.Stage.TheVariants.{SyncOpen, Ended}
-use Rattle.passive_blocks.specs.Members.{is_member}
-use Rattle.passive_blocks.specs.Blocks.{blocks_of, data_count, greatest, has, is_data}
-use Rattle.passive_blocks.specs.Changes.{blocks_job, bytes_of, first_or_zero, free_head, is_removal, size_of}
+use Rattle.block_tables.specs.Members.{is_member}
+use Rattle.block_tables.specs.Blocks.{blocks_of, data_count, greatest, has, is_data}
+use Rattle.block_tables.specs.Changes.{blocks_job, bytes_of, first_or_zero, free_head, is_removal, size_of}
 use Rattle.passive_blocks.specs.BlockLayout.{block_layout, blocks_left, changes_left, has_first}
-use Rattle.passive_blocks.specs.HeadState.{heads_in, is_open, slot_at}
-use Rattle.passive_blocks.specs.BlockState.{AreDataIn, walk, free_in}
-use Rattle.passive_blocks.specs.TableState.{IsTable, blocks_chosen, fits_in, greatest_in, keeper, spare}
+use Rattle.block_tables.specs.HeadState.{heads_in, is_open, slot_at}
+use Rattle.block_tables.specs.BlockState.{AreDataIn, walk, free_in}
+use Rattle.block_tables.specs.TableState.{IsTable, blocks_chosen, fits_in, greatest_in, keeper, spare}
 use Rattle.passive_blocks.specs.StoreState.{body_asked, calls_at, change_of, work_at, pending_work}
 use Rattle.passive_blocks.specs.HeldState.{IsHeld}
 use Rattle.passive_blocks.specs.StageState.{IsStore, IsBehindClosing, IsOnDisk, IsSpelled, IsWaiting, changes_behind}
 use Rattle.passive_blocks.specs.StageState.{is_first_kept, is_going}
 use Rattle.std.proofs.Common.{eq-eqb, map}
-use Rattle.passive_blocks.specs.declared.head_table.HeadTable.{HeadTable}
-use Rattle.passive_blocks.specs.Blocks.{Head, is_block_size, kept_in_blocks}
-use Rattle.passive_blocks.specs.HeadState.{entry_at, kept_slot}
+use Rattle.block_tables.specs.declared.head_table.HeadTable.{HeadTable}
+use Rattle.block_tables.specs.Blocks.{Head, is_block_size, kept_in_blocks}
+use Rattle.block_tables.specs.HeadState.{entry_at, kept_slot}
 use Rattle.passive_blocks.specs.StoreState.{kept_or_none}
 use Rattle.passive_blocks.specs.HeldState.{AreApart, blocks_planned, one_if}
 use Rattle.passive_blocks.specs.KeptState.{HasChains}
 use Rattle.passive_blocks.specs.StageState.{IsStaged, NoneCloses, behind_closing}
-use Rattle.passive_blocks.proofs.Greatest.{peak-above}
-use Rattle.passive_blocks.proofs.Walks.{on_disk}
+use Rattle.block_tables.proofs.Greatest.{peak-above}
+use Rattle.block_tables.proofs.Walks.{on_disk}
 use Rattle.passive_blocks.proofs.OpeningRead.{size_parts}
 use Rattle.passive_blocks.proofs.HeldBegins.{told_last, fits_shown, fresh_shown, full_shown, job_bounded}
 use Rattle.passive_blocks.proofs.HeldBegun.{calls_bounded, spelled_is, telling_begun}

@@ -5,8 +5,8 @@ use Rattle.std.proofs.Common.{refl, sym, ap, subst, ◌∙◌, inl, inr, arith}
 use Rattle.std.proofs.lemmas.Bool.{cases_lt}
 use Rattle.std.proofs.lemmas.List.{take_all, length-take-le, length-drop, drop-drop, take-append-le, take-append-drop, take-take}
 use Rattle.std.proofs.Math.Seq.{take-append-add}
-use Rattle.passive_blocks.specs.Blocks.{has}
-use Rattle.passive_blocks.specs.BlockState.{walk}
+use Rattle.block_tables.specs.Blocks.{has}
+use Rattle.block_tables.specs.BlockState.{walk}
 use Rattle.passive_blocks.specs.HeldState.{behind_walk}
 use Rattle.passive_blocks.specs.StageState.{HasPart, part_of_body, IsWritten}
 use Rattle.passive_blocks.proofs.StageHeads.{has_first, has_later}

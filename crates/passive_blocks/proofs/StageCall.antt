@@ -12,13 +12,13 @@ use Rattle.passive_store.specs.declared.store.Progress.TheVariants.{Going, Done}
 use Rattle.passive_store.specs.declared.store.StoreRefusal.{StoreRefusal}
 use Rattle.passive_store.specs.Kept.{IsDiskRefusal, is_busy, end_of_store, refused}
 use Rattle.passive_store.specs.Seen.{DiskSeen, Advances}
-use Rattle.passive_blocks.specs.declared.table.Table.{Table}
+use Rattle.block_tables.specs.declared.table.Table.{Table}
 use Rattle.passive_blocks.specs.declared.block_store.Pending.{Pending}
 use Rattle.passive_blocks.specs.declared.block_store.Stage.{Stage}
 use Rattle.passive_blocks.specs.declared.block_store.Stage.TheVariants.{Close, Write as WritePart, Head as WriteHead, SyncHead, Open}
 use Rattle.passive_blocks.specs.declared.block_store.Stage.TheVariants.{SyncOpen}
 use Rattle.passive_blocks.specs.declared.block_store.Stage.TheVariants.{Ended}
-use Rattle.passive_blocks.specs.Members.{is_member}
+use Rattle.block_tables.specs.Members.{is_member}
 use Rattle.passive_blocks.specs.BlockLayout.{block_layout}
 use Rattle.passive_blocks.specs.HeldState.{IsHeld}
 use Rattle.passive_blocks.specs.StoreState.{work_at, pending_work, kept_or_none}

@@ -10,12 +10,12 @@ use Rattle.eden_disk.specs.Held.{Passes}
 use Rattle.eden_disk.proofs.Overlay.{overlay_inside}
 use Rattle.std.proofs.lemmas.List.{length-set}
 use Rattle.eden_disk.proofs.Held.{passes_sync}
-use Rattle.passive_blocks.specs.declared.table.Table.{Table}
+use Rattle.block_tables.specs.declared.table.Table.{Table}
 use Rattle.passive_blocks.specs.declared.block_store.Pending.{Pending}
-use Rattle.passive_blocks.specs.Members.{is_member}
-use Rattle.passive_blocks.specs.Blocks.{head_place, has, is_data, is_block_size}
+use Rattle.block_tables.specs.Members.{is_member}
+use Rattle.block_tables.specs.Blocks.{head_place, has, is_data, is_block_size}
 use Rattle.passive_blocks.specs.Fits.{Fits}
-use Rattle.passive_blocks.specs.HeadState.{slot_at, is_open, closed_slot}
+use Rattle.block_tables.specs.HeadState.{slot_at, is_open, closed_slot}
 use Rattle.passive_blocks.specs.HeldState.{IsHeld, IsPlanned, planned_blocks}
 use Rattle.passive_blocks.specs.StoreState.{IsTableOf, IsImageOf}
 use Rattle.passive_blocks.specs.StageState.{MayStand, IsBegun, IsEarly, IsSeenRefused, slots_without, gate_open}

@@ -8,14 +8,14 @@ use Rattle.std.proofs.lemmas.List.Concat.{flat_map-cons}
 use Rattle.std.proofs.lemmas.List.Sums.{sum_by-cons}
 use Rattle.passive_store.specs.Kept.{Change, kept_from, nothing_kept, kept_by}
 use Rattle.passive_store.specs.Log.{with_record}
-use Rattle.passive_blocks.specs.Blocks.{Head, Chain, has, without, next_block, on_block, chain_from, chain_of, chains_among, chains_of}
-use Rattle.passive_blocks.specs.Blocks.{data_blocks}
-use Rattle.passive_blocks.specs.Blocks.{data_count, is_data, blocks_of, keeping, change_on, changes_on, kept_in_blocks, numbers, taken_by}
-use Rattle.passive_blocks.specs.BlockState.{walk}
+use Rattle.block_tables.specs.Blocks.{Head, Chain, has, without, next_block, on_block, chain_from, chain_of, chains_among, chains_of}
+use Rattle.block_tables.specs.Blocks.{data_blocks}
+use Rattle.block_tables.specs.Blocks.{data_count, is_data, blocks_of, keeping, change_on, changes_on, kept_in_blocks, numbers, taken_by}
+use Rattle.block_tables.specs.BlockState.{walk}
 use Rattle.passive_blocks.specs.StoreState.{chain_in}
 use Rattle.passive_blocks.specs.HeldState.{times, one_if, behind_walk, chain_by, times_kept}
 use Rattle.passive_blocks.proofs.Among.{In, as_true, both_true, left_true, right_true}
-use Rattle.passive_blocks.proofs.Listing.{has_number}
+use Rattle.block_tables.proofs.Listing.{has_number}
 use Rattle.passive_blocks.proofs.StageHeads.{below}
 
 -- on these blocks an image names the blocks that memory names

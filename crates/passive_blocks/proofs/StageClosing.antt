@@ -7,16 +7,16 @@ use Rattle.std.specs.List.{list_all}
 use Rattle.std.proofs.lemmas.Bool.{cases_eq, ne_eqb}
 use Rattle.std.proofs.lemmas.List.{length-take, get_or-take, get_or-drop}
 use Rattle.std.proofs.lemmas.List.Elements.{filter-append}
-use Rattle.passive_blocks.specs.declared.heads.HeadFields.{HeadFields}
-use Rattle.passive_blocks.specs.declared.table.Table.{Table}
-use Rattle.passive_blocks.specs.Members.{is_member}
-use Rattle.passive_blocks.specs.Blocks.{Head, keeping}
-use Rattle.passive_blocks.specs.HeadSeen.{head_of}
-use Rattle.passive_blocks.specs.HeadState.{heads_in, slot_at, is_open, closed_slot}
+use Rattle.block_tables.specs.declared.heads.HeadFields.{HeadFields}
+use Rattle.block_tables.specs.declared.table.Table.{Table}
+use Rattle.block_tables.specs.Members.{is_member}
+use Rattle.block_tables.specs.Blocks.{Head, keeping}
+use Rattle.block_tables.specs.HeadSeen.{head_of}
+use Rattle.block_tables.specs.HeadState.{heads_in, slot_at, is_open, closed_slot}
 use Rattle.passive_blocks.specs.StoreState.{chain_in}
 use Rattle.passive_blocks.specs.StageState.{IsBegun, may_close, closes}
 use Rattle.passive_blocks.proofs.Among.{In, all_in, in_all, filter_alike, filter_twice}
-use Rattle.passive_blocks.proofs.Slots.{slot_same, slot_other}
+use Rattle.block_tables.proofs.Slots.{slot_same, slot_other}
 use Rattle.passive_blocks.proofs.HeldSums.{heads_at_open, heads_with_shut, front_of, back_of}
 use Rattle.passive_blocks.proofs.StageHeads.{are_numbered}
 use Rattle.passive_blocks.proofs.StageImages.{closes_one}

@@ -12,14 +12,14 @@ use Rattle.passive_store.specs.declared.store.StoreRefusal.{StoreRefusal}
 use Rattle.passive_store.specs.Acts.{Sync, Read, CallTold, settling_call}
 use Rattle.passive_store.specs.Kept.{Stands, IsFresh, IsDiskRefusal, end_of_store, settled, Idle, Unsettled}
 use Rattle.passive_store.specs.Seen.{DiskSeen, SettlesOneCall, TellsBehind}
-use Rattle.passive_blocks.specs.declared.table.Table.{Table}
+use Rattle.block_tables.specs.declared.table.Table.{Table}
 use Rattle.passive_blocks.specs.declared.block_store.Pending.{Pending}
 use Rattle.passive_blocks.specs.declared.block_store.Stage.{Stage}
 use Rattle.passive_blocks.specs.declared.block_store.Stage.TheVariants.{Open, SyncOpen, Ended}
-use Rattle.passive_blocks.specs.Members.{is_member}
-use Rattle.passive_blocks.specs.Blocks.{kept_in_blocks}
+use Rattle.block_tables.specs.Members.{is_member}
+use Rattle.block_tables.specs.Blocks.{kept_in_blocks}
 use Rattle.passive_blocks.specs.BlockLayout.{block_layout, block_changes}
-use Rattle.passive_blocks.specs.HeadState.{heads_in}
+use Rattle.block_tables.specs.HeadState.{heads_in}
 use Rattle.passive_blocks.specs.HeldState.{IsHeld}
 use Rattle.passive_blocks.specs.StoreState.{IsTableOf, IsImageOf, change_of, kept_or_none, pending_work, work_at, calls_at}
 use Rattle.passive_blocks.specs.StageState.{IsStore, IsStageOn, IsRefusedAt, IsWaiting, IsStaged, IsSettledBy, settled_slots}

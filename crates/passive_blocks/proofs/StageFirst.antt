@@ -6,7 +6,7 @@ use Rattle.std.proofs.lemmas.Bool.{false≢true, cases_eq, cases_lt}
 use Rattle.std.proofs.lemmas.List.{get_or_past}
 use Rattle.eden_disk.specs.Calls.{Counts}
 use Rattle.passive_store.specs.Acts.{DiskCall, Write}
-use Rattle.passive_blocks.specs.declared.table.Table.{Table}
+use Rattle.block_tables.specs.declared.table.Table.{Table}
 use Rattle.passive_blocks.specs.declared.block_store.Pending.{Pending}
 use Rattle.passive_blocks.specs.declared.block_store.Stage.{Stage}
 use Rattle.passive_blocks.specs.declared.block_store.Stage.TheVariants.{Close, Write as WritePart, Head as WriteHead, SyncHead, Open}
@@ -14,11 +14,11 @@ use Rattle.passive_blocks.specs.declared.block_store.Stage.TheVariants.{SyncOpen
 use Rattle.passive_blocks.specs.declared.block_store.Stage.TheVariants.{Ended}
 use Rattle.passive_blocks.specs.HeldState.{IsHeld}
 use Rattle.passive_blocks.specs.StoreState.{calls_behind, calls_at}
-use Rattle.passive_blocks.proofs.Taking.{least_first, beside}
+use Rattle.block_tables.proofs.Taking.{least_first, beside}
 use Rattle.passive_blocks.proofs.StageOrder.{part_first}
-use Rattle.passive_blocks.specs.Members.{is_member, IsFirstOf}
-use Rattle.passive_blocks.specs.Blocks.{numbers, head_place}
-use Rattle.passive_blocks.specs.Changes.{first_or_zero}
+use Rattle.block_tables.specs.Members.{is_member, IsFirstOf}
+use Rattle.block_tables.specs.Blocks.{numbers, head_place}
+use Rattle.block_tables.specs.Changes.{first_or_zero}
 use Rattle.passive_blocks.specs.StageState.{first_closed, IsStaged, is_going, stage_call, behind_part}
 
 -- the first of some numbers that passes a test

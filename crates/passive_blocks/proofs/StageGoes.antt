@@ -14,16 +14,16 @@ use Rattle.passive_store.specs.Kept.{Kept, Change, Idle, Busy, Unsettled, Stands
 use Rattle.passive_store.specs.Kept.{end_of_store, kept_after}
 use Rattle.passive_store.specs.Kept.{kept_from, nothing_kept}
 use Rattle.passive_store.specs.Seen.{DiskSeen, Advances, TellsBehind}
-use Rattle.passive_blocks.specs.declared.table.Table.{Table}
+use Rattle.block_tables.specs.declared.table.Table.{Table}
 use Rattle.passive_blocks.specs.declared.block_store.Pending.{Pending}
 use Rattle.passive_blocks.specs.declared.block_store.Stage.{Stage}
 use Rattle.passive_blocks.specs.declared.block_store.Stage.TheVariants.{Close, Write as WritePart, Head as WriteHead, SyncHead, Open}
 use Rattle.passive_blocks.specs.declared.block_store.Stage.TheVariants.{SyncOpen}
 use Rattle.passive_blocks.specs.declared.block_store.Stage.TheVariants.{Ended}
-use Rattle.passive_blocks.specs.Members.{IsFirstOf}
-use Rattle.passive_blocks.specs.Blocks.{keeping, kept_in_blocks}
+use Rattle.block_tables.specs.Members.{IsFirstOf}
+use Rattle.block_tables.specs.Blocks.{keeping, kept_in_blocks}
 use Rattle.passive_blocks.specs.BlockLayout.{block_layout}
-use Rattle.passive_blocks.specs.HeadState.{heads_in}
+use Rattle.block_tables.specs.HeadState.{heads_in}
 use Rattle.passive_blocks.specs.HeldState.{IsHeld}
 use Rattle.passive_blocks.specs.StoreState.{calls_at, work_at, change_of, kept_or_none}
 use Rattle.passive_blocks.specs.StageState.{IsEarly, IsLate, IsStageOn, IsStaged, IsWaiting, IsNext, IsSpelled}

@@ -7,7 +7,7 @@ use Rattle.std.specs.List.{list_any}
 use Rattle.std.proofs.lemmas.Bool.{false≢true}
 use Rattle.std.proofs.lemmas.List.Elements.{All-head, All-tail, All-nil, All-cons}
 use Rattle.std.proofs.lemmas.Bool.Decides.{nat_tests}
-use Rattle.passive_blocks.specs.Blocks.{Head, head_bytes, head_in, is_head, joined_head, heads_among, heads_of, head_numbers, has, numbers}
+use Rattle.block_tables.specs.Blocks.{Head, head_bytes, head_in, is_head, joined_head, heads_among, heads_of, head_numbers, has, numbers}
 use Rattle.passive_blocks.proofs.Among.{In}
 
 -- the gate of a head is open

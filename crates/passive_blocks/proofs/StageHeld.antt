@@ -4,13 +4,13 @@ use Rattle.std.proofs.Common.{refl, ap, subst, ◌∙◌, inl, inr, arith}
 use Rattle.std.specs.Ordering.{eq_by_cmp}
 use Rattle.capability.specs.Uids.{uid_cmp}
 use Rattle.eden_disk.specs.Calls.{Counts}
-use Rattle.passive_blocks.specs.declared.heads.HeadFields.{HeadFields}
-use Rattle.passive_blocks.specs.declared.table.Table.{Table}
+use Rattle.block_tables.specs.declared.heads.HeadFields.{HeadFields}
+use Rattle.block_tables.specs.declared.table.Table.{Table}
 use Rattle.passive_blocks.specs.declared.block_store.Pending.{Pending}
-use Rattle.passive_blocks.specs.Blocks.{Head, keeping, is_data, blocks_of}
-use Rattle.passive_blocks.specs.HeadSeen.{head_of}
-use Rattle.passive_blocks.specs.HeadState.{heads_in, entry_at}
-use Rattle.passive_blocks.specs.TableState.{keeper}
+use Rattle.block_tables.specs.Blocks.{Head, keeping, is_data, blocks_of}
+use Rattle.block_tables.specs.HeadSeen.{head_of}
+use Rattle.block_tables.specs.HeadState.{heads_in, entry_at}
+use Rattle.block_tables.specs.TableState.{keeper}
 use Rattle.passive_blocks.specs.HeldState.{IsHeld, one_if, times_kept, behind_walk}
 use Rattle.passive_blocks.proofs.Among.{In, in_filter}
 use Rattle.passive_blocks.proofs.HeldSums.{heads_under, same_itself}

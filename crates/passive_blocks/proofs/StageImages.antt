@@ -8,11 +8,11 @@ use Rattle.std.specs.Int.{w16, from_be_bytes}
 use Rattle.std.proofs.lemmas.Bool.{false≢true, eqb-true, cases_lt}
 use Rattle.std.proofs.lemmas.List.Elements.{All-weaker}
 use Rattle.passive_store.specs.Kept.{Kept, Stands, kept_by}
-use Rattle.passive_blocks.specs.Blocks.{Head, head_place, head_numbers, heads_of, heads_or_none, keeping}
-use Rattle.passive_blocks.specs.Blocks.{greatest, has}
-use Rattle.passive_blocks.specs.Blocks.{chains_among, chains_of, changes_on, taken_by, blocks_map, data_blocks, kept_in_blocks}
-use Rattle.passive_blocks.specs.Blocks.{is_block_size}
-use Rattle.passive_blocks.specs.Changes.{free_head, is_taken}
+use Rattle.block_tables.specs.Blocks.{Head, head_place, head_numbers, heads_of, heads_or_none, keeping}
+use Rattle.block_tables.specs.Blocks.{greatest, has}
+use Rattle.block_tables.specs.Blocks.{chains_among, chains_of, changes_on, taken_by, blocks_map, data_blocks, kept_in_blocks}
+use Rattle.block_tables.specs.Blocks.{is_block_size}
+use Rattle.block_tables.specs.Changes.{free_head, is_taken}
 use Rattle.passive_blocks.specs.BlockLayout.{block_layout, block_map, block_changes, changes_left, map_by, format_of, overfull_by}
 use Rattle.passive_blocks.specs.BlockLayout.{heads_by, Blocks, Staged, OldLog, Foreign, Blank}
 use Rattle.passive_blocks.specs.BlockLayout.{blocks_left, has_first}

@@ -8,10 +8,10 @@ use Rattle.std.proofs.lemmas.Bool.{false≢true, eqb-true, cases_lt}
 use Rattle.std.proofs.lemmas.Bool.Decides.{nat_tests}
 use Rattle.capability.specs.Uids.{uid_cmp}
 use Rattle.capability.proofs.Uids.{uid_cmp_total}
-use Rattle.passive_blocks.specs.Blocks.{Head, same_uid, counts, is_alone, keeping}
+use Rattle.block_tables.specs.Blocks.{Head, same_uid, counts, is_alone, keeping}
 use Rattle.passive_blocks.specs.StageState.{may_close}
-use Rattle.passive_blocks.proofs.Slots.{same_uids}
-use Rattle.passive_blocks.proofs.Closing.{lets}
+use Rattle.block_tables.proofs.Slots.{same_uids}
+use Rattle.block_tables.proofs.Closing.{lets}
 use Rattle.passive_blocks.proofs.Among.{In, as_true, all_in, in_all, in_filter, of_filter, filter_alike, filter_twice, left_true}
 use Rattle.passive_blocks.proofs.Among.{right_true, both_true}
 

@@ -7,18 +7,18 @@ use Rattle.eden_disk.specs.Calls.{Counts, End, Fine, SyncTold}
 use Rattle.eden_disk.specs.Held.{Passes}
 use Rattle.passive_store.specs.Acts.{CallTold}
 use Rattle.passive_store.specs.Kept.{Kept, kept_after, kept_by}
-use Rattle.passive_blocks.specs.declared.table.Table.{Table}
+use Rattle.block_tables.specs.declared.table.Table.{Table}
 use Rattle.passive_blocks.specs.declared.block_store.Pending.{Pending}
 use Rattle.passive_blocks.specs.declared.block_store.Stage.{Stage}
 use Rattle.passive_blocks.specs.declared.block_store.Stage.TheVariants.{Close, Write as WritePart, Head as WriteHead, SyncHead, Open}
 use Rattle.passive_blocks.specs.declared.block_store.Stage.TheVariants.{SyncOpen}
 use Rattle.passive_blocks.specs.declared.block_store.Stage.TheVariants.{Ended}
-use Rattle.passive_blocks.specs.Members.{is_member}
-use Rattle.passive_blocks.specs.Blocks.{Head, keeping, kept_in_blocks, chains_among, changes_on, data_blocks}
-use Rattle.passive_blocks.specs.Changes.{spelled_head}
+use Rattle.block_tables.specs.Members.{is_member}
+use Rattle.block_tables.specs.Blocks.{Head, keeping, kept_in_blocks, chains_among, changes_on, data_blocks}
+use Rattle.block_tables.specs.Changes.{spelled_head}
 use Rattle.passive_blocks.specs.Fits.{Fits}
-use Rattle.passive_blocks.specs.HeadSeen.{head_of}
-use Rattle.passive_blocks.specs.HeadState.{heads_in}
+use Rattle.block_tables.specs.HeadSeen.{head_of}
+use Rattle.block_tables.specs.HeadState.{heads_in}
 use Rattle.passive_blocks.specs.HeldState.{IsHeld}
 use Rattle.passive_blocks.specs.StoreState.{change_of}
 use Rattle.passive_blocks.specs.StageState.{MayOpen, IsEarly, IsLate, IsStageOn, IsStaged, IsSpelled, is_going, stage_call, first_closed}

@@ -10,11 +10,11 @@ use Rattle.capability.specs.declared.Uid.{Uid}
 use Rattle.capability.specs.Uids.{uid_cmp}
 use Rattle.capability.proofs.Uids.{uid_cmp_total, uid_cmp-IsAntisymmetric}
 use Rattle.passive_store.specs.Kept.{Change, Kept, nothing_kept, marks_after, kept_after, kept_from}
-use Rattle.passive_blocks.specs.Blocks.{Head, same_uid, counts, keeping}
-use Rattle.passive_blocks.proofs.Slots.{same_uids}
+use Rattle.block_tables.specs.Blocks.{Head, same_uid, counts, keeping}
+use Rattle.block_tables.proofs.Slots.{same_uids}
 use Rattle.passive_blocks.proofs.Among.{filter_twice}
 use Rattle.passive_blocks.proofs.Keeping.{body_now}
-use Rattle.passive_blocks.proofs.Heading.{keeps_beside, is_earlier, keeping_with}
+use Rattle.block_tables.proofs.Heading.{keeps_beside, is_earlier, keeping_with}
 
 abbrev pub mark_of : Option (List ℕ) → ℕ → Option ℕ
 mark_of None mark = None

@@ -12,29 +12,29 @@ use Rattle.std.proofs.lemmas.List.{length-set, length-take, take-take}
 use Rattle.std.proofs.Math.Seq.{drop-cons}
 use Rattle.eden_disk.specs.Calls.{Counts}
 use Rattle.passive_store.specs.Kept.{Kept, Change, Stands, IsFresh, kept_after, kept_from, nothing_kept, kept_by}
-use Rattle.passive_blocks.specs.declared.heads.HeadFields.{HeadFields}
-use Rattle.passive_blocks.specs.declared.table.Table.{Table}
+use Rattle.block_tables.specs.declared.heads.HeadFields.{HeadFields}
+use Rattle.block_tables.specs.declared.table.Table.{Table}
 use Rattle.passive_blocks.specs.declared.block_store.Pending.{Pending}
-use Rattle.passive_blocks.specs.Blocks.{Head, head_place, head_bytes, head_in, is_head, heads_of, keeping, counts, has, next_block}
-use Rattle.passive_blocks.specs.Blocks.{blocks_of, is_data}
-use Rattle.passive_blocks.specs.Blocks.{chains_of, data_blocks, taken_by, kept_in_blocks, blocks_map, changes_on}
-use Rattle.passive_blocks.specs.Blocks.{is_block_size, body_on}
+use Rattle.block_tables.specs.Blocks.{Head, head_place, head_bytes, head_in, is_head, heads_of, keeping, counts, has, next_block}
+use Rattle.block_tables.specs.Blocks.{blocks_of, is_data}
+use Rattle.block_tables.specs.Blocks.{chains_of, data_blocks, taken_by, kept_in_blocks, blocks_map, changes_on}
+use Rattle.block_tables.specs.Blocks.{is_block_size, body_on}
 use Rattle.passive_blocks.specs.BlockLayout.{block_layout, changes_left}
-use Rattle.passive_blocks.specs.Changes.{spelled_head}
+use Rattle.block_tables.specs.Changes.{spelled_head}
 use Rattle.passive_blocks.specs.Fits.{Fits}
-use Rattle.passive_blocks.specs.HeadSeen.{head_of, IsHeadThere}
-use Rattle.passive_blocks.specs.HeadState.{heads_in, slot_at, is_open, entry_at}
-use Rattle.passive_blocks.specs.BlockState.{walk}
+use Rattle.block_tables.specs.HeadSeen.{head_of, IsHeadThere}
+use Rattle.block_tables.specs.HeadState.{heads_in, slot_at, is_open, entry_at}
+use Rattle.block_tables.specs.BlockState.{walk}
 use Rattle.passive_blocks.specs.HeldState.{IsHeld, IsPlanned, behind_walk, chain_by, times, times_kept, one_if}
 use Rattle.passive_blocks.specs.StoreState.{IsTableOf, IsImageOf, chain_in, change_of}
 use Rattle.passive_blocks.specs.StageState.{MayOpen, IsReady, IsSpelled, IsWritten, IsHeadWritten, HasPart, part_of_body}
 use Rattle.passive_blocks.specs.StageState.{gate_open}
 use Rattle.passive_blocks.proofs.Among.{In, all_in, in_all, in_filter, of_filter, left_true, right_true, both_true}
-use Rattle.passive_blocks.proofs.Slots.{slot_same, slot_other}
+use Rattle.block_tables.proofs.Slots.{slot_same, slot_other}
 use Rattle.passive_blocks.proofs.Spans.{same_part, same_head, opened_is}
 use Rattle.passive_blocks.proofs.Agreeing.{SameBlock, changes_agree}
-use Rattle.passive_blocks.proofs.Closing.{lets, all_append}
-use Rattle.passive_blocks.proofs.Heading.{is_earlier}
+use Rattle.block_tables.proofs.Closing.{lets, all_append}
+use Rattle.block_tables.proofs.Heading.{is_earlier}
 use Rattle.passive_blocks.proofs.HeldSums.{heads_with_open, heads_at_shut, front_of, back_of, each_open, sum_when_joined}
 use Rattle.passive_blocks.proofs.HeldKeepers.{apart_joined}
 use Rattle.passive_blocks.proofs.StageHeads.{each_number, has_first, has_later}

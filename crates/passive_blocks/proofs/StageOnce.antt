@@ -15,13 +15,13 @@ use Rattle.passive_store.specs.declared.store.StoreRefusal.{StoreRefusal}
 use Rattle.passive_store.specs.Acts.{Sync, Read, settling_call}
 use Rattle.passive_store.specs.Kept.{end_of_store, refused, is_unsettled}
 use Rattle.passive_store.specs.Seen.{DiskSeen, SettlesOneCall}
-use Rattle.passive_blocks.specs.declared.table.Table.{Table}
+use Rattle.block_tables.specs.declared.table.Table.{Table}
 use Rattle.passive_blocks.specs.declared.block_store.Pending.{Pending}
 use Rattle.passive_blocks.specs.declared.block_store.Stage.{Stage}
 use Rattle.passive_blocks.specs.declared.block_store.Stage.TheVariants.{Close, Write as WritePart, Head as WriteHead}
 use Rattle.passive_blocks.specs.declared.block_store.Stage.TheVariants.{SyncHead, Open, SyncOpen}
 use Rattle.passive_blocks.specs.declared.block_store.Stage.TheVariants.{Ended}
-use Rattle.passive_blocks.specs.Members.{is_member}
+use Rattle.block_tables.specs.Members.{is_member}
 use Rattle.passive_blocks.specs.BlockLayout.{block_layout}
 use Rattle.passive_blocks.specs.HeldState.{IsHeld}
 use Rattle.passive_blocks.specs.StoreState.{work_at, pending_work}

@@ -11,14 +11,14 @@ use Rattle.eden_disk.specs.Calls.{Counts, End, Fine, AtFault, AtStop, WriteTold,
 use Rattle.eden_disk.specs.Held.{Holds, Passes}
 use Rattle.eden_disk.proofs.Held.{holds_at_rest, passes_sync}
 use Rattle.eden_disk.proofs.Overlay.{overlay_inside}
-use Rattle.passive_blocks.specs.declared.table.Table.{Table}
+use Rattle.block_tables.specs.declared.table.Table.{Table}
 use Rattle.passive_blocks.specs.declared.block_store.Pending.{Pending}
 use Rattle.passive_blocks.specs.declared.block_store.Stage.TheVariants.{Head as WriteHead, SyncHead, Open}
 use Rattle.passive_blocks.specs.declared.block_store.Stage.TheVariants.{SyncOpen}
-use Rattle.passive_blocks.specs.Blocks.{Head, head_place, is_data, blocks_of}
-use Rattle.passive_blocks.specs.Changes.{spelled_head}
+use Rattle.block_tables.specs.Blocks.{Head, head_place, is_data, blocks_of}
+use Rattle.block_tables.specs.Changes.{spelled_head}
 use Rattle.passive_blocks.specs.Fits.{Fits}
-use Rattle.passive_blocks.specs.HeadSeen.{head_of}
+use Rattle.block_tables.specs.HeadSeen.{head_of}
 use Rattle.passive_blocks.specs.HeldState.{IsHeld, behind_walk}
 use Rattle.passive_blocks.specs.StoreState.{IsTableOf, IsImageOf}
 use Rattle.passive_blocks.specs.StageState.{MayOpen, IsReady, IsToldReady, IsLate, IsRefusedAt, IsStageOn}

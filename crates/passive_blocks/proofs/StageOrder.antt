@@ -8,17 +8,17 @@ use Rattle.std.proofs.lemmas.Bool.{ne_eqb, cases_lt}
 use Rattle.std.proofs.lemmas.Bool.Decides.{nat_tests}
 use Rattle.std.proofs.lemmas.List.{length-drop, drop-drop}
 use Rattle.passive_store.specs.Acts.{Write}
-use Rattle.passive_blocks.specs.declared.table.Table.{Table}
+use Rattle.block_tables.specs.declared.table.Table.{Table}
 use Rattle.passive_blocks.specs.declared.block_store.Pending.{Pending}
 use Rattle.passive_blocks.specs.declared.block_store.Stage.TheVariants.{Close, Write as WritePart, Head as WriteHead}
-use Rattle.passive_blocks.specs.Members.{is_member, IsFirstOf}
-use Rattle.passive_blocks.specs.Blocks.{head_place, blocks_of, is_data, has}
-use Rattle.passive_blocks.specs.Changes.{chain_writes, first_or_zero}
-use Rattle.passive_blocks.specs.BlockState.{walk}
+use Rattle.block_tables.specs.Members.{is_member, IsFirstOf}
+use Rattle.block_tables.specs.Blocks.{head_place, blocks_of, is_data, has}
+use Rattle.block_tables.specs.Changes.{chain_writes, first_or_zero}
+use Rattle.block_tables.specs.BlockState.{walk}
 use Rattle.passive_blocks.specs.HeldState.{behind_walk, IsPlanned}
 use Rattle.passive_blocks.specs.StoreState.{members_of, last_calls, calls_from, calls_behind, calls_at}
 use Rattle.passive_blocks.specs.StageState.{IsPartNext, NoneCloses, IsClosedBy, behind_closing, behind_part, part_bytes}
-use Rattle.passive_blocks.proofs.Taking.{first_of, none_passes}
+use Rattle.block_tables.proofs.Taking.{first_of, none_passes}
 use Rattle.passive_blocks.proofs.StageLate.{walk_has}
 
 -- the first member, and the others

@@ -10,8 +10,8 @@ use Rattle.std.proofs.Math.Seq.{take-append_seam, drop-append_seam}
 use Rattle.eden_disk.specs.Told.{Told, contents, overlay}
 use Rattle.eden_disk.specs.Calls.{End, Fine, AtFault, AtStop, WriteTold, power_after}
 use Rattle.eden_disk.proofs.Overlay.{length-overlay, overlay_outside, overlay_inside}
-use Rattle.passive_blocks.specs.Blocks.{has}
-use Rattle.passive_blocks.specs.BlockState.{walk}
+use Rattle.block_tables.specs.Blocks.{has}
+use Rattle.block_tables.specs.BlockState.{walk}
 use Rattle.passive_blocks.specs.HeldState.{behind_walk, times, one_if}
 use Rattle.passive_blocks.specs.StageState.{HasPart, IsWritten, part_of_body}
 use Rattle.passive_blocks.proofs.Agreeing.{SameBlock}

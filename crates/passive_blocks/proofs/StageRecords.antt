@@ -9,15 +9,15 @@ use Rattle.eden_disk.specs.Told.{Contents, LeavesOnly}
 use Rattle.eden_disk.specs.Calls.{Counts}
 use Rattle.passive_store.specs.Acts.{DiskCall, Write}
 use Rattle.passive_store.specs.Kept.{Kept, Busy, Stands, IsFresh}
-use Rattle.passive_blocks.specs.declared.table.Table.{Table}
+use Rattle.block_tables.specs.declared.table.Table.{Table}
 use Rattle.passive_blocks.specs.declared.block_store.Pending.{Pending}
 use Rattle.passive_blocks.specs.declared.block_store.Stage.{Stage}
 use Rattle.passive_blocks.specs.declared.block_store.Stage.TheVariants.{Close, Write as WritePart, Head as WriteHead, SyncHead, Open}
 use Rattle.passive_blocks.specs.declared.block_store.Stage.TheVariants.{SyncOpen}
 use Rattle.passive_blocks.specs.declared.block_store.Stage.TheVariants.{Ended}
-use Rattle.passive_blocks.specs.Blocks.{head_place, kept_in_blocks}
+use Rattle.block_tables.specs.Blocks.{head_place, kept_in_blocks}
 use Rattle.passive_blocks.specs.BlockLayout.{block_layout}
-use Rattle.passive_blocks.specs.HeadState.{heads_in}
+use Rattle.block_tables.specs.HeadState.{heads_in}
 use Rattle.passive_blocks.specs.HeldState.{IsHeld}
 use Rattle.passive_blocks.specs.StoreState.{members_of, calls_behind, last_calls, calls_from, calls_at, work_at, change_of}
 use Rattle.passive_blocks.specs.StageState.{IsEarly, IsLate, IsRefusedAt, IsStageOn, IsSpelled, IsNext, is_going}

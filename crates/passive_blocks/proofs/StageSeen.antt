@@ -6,18 +6,18 @@ use Rattle.std.proofs.Common.{refl, sym, ap, ◌∙◌, inl, inr, arith, set}
 use Rattle.std.proofs.lemmas.Bool.{cases_eq}
 use Rattle.std.proofs.lemmas.List.{length-set}
 use Rattle.eden_disk.specs.Calls.{Counts}
-use Rattle.passive_blocks.specs.declared.heads.HeadFields.{HeadFields}
-use Rattle.passive_blocks.specs.declared.table.Table.{Table}
+use Rattle.block_tables.specs.declared.heads.HeadFields.{HeadFields}
+use Rattle.block_tables.specs.declared.table.Table.{Table}
 use Rattle.passive_blocks.specs.declared.block_store.Pending.{Pending}
-use Rattle.passive_blocks.specs.Blocks.{Head, keeping, has, is_data, taken_by, chains_of}
+use Rattle.block_tables.specs.Blocks.{Head, keeping, has, is_data, taken_by, chains_of}
 use Rattle.passive_blocks.specs.Fits.{Fits}
-use Rattle.passive_blocks.specs.HeadSeen.{IsHeadThere}
-use Rattle.passive_blocks.specs.HeadState.{heads_in, slot_at, is_open, closed_slot}
+use Rattle.block_tables.specs.HeadSeen.{IsHeadThere}
+use Rattle.block_tables.specs.HeadState.{heads_in, slot_at, is_open, closed_slot}
 use Rattle.passive_blocks.specs.HeldState.{IsHeld, one_if, times, times_kept, chain_by, planned_blocks}
 use Rattle.passive_blocks.specs.StoreState.{IsTableOf, chain_in}
 use Rattle.passive_blocks.specs.StageState.{MayStand, IsBegun, gate_open}
 use Rattle.passive_blocks.proofs.Among.{filter_alike}
-use Rattle.passive_blocks.proofs.Slots.{slot_same, slot_other}
+use Rattle.block_tables.proofs.Slots.{slot_same, slot_other}
 use Rattle.passive_blocks.proofs.Spans.{opened_is}
 use Rattle.passive_blocks.proofs.StageHeads.{opened, left_on, found, head_found, are_numbered}
 use Rattle.passive_blocks.proofs.StageKeeping.{keeping_left}

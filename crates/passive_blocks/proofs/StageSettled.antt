@@ -8,13 +8,13 @@ use Rattle.eden_disk.specs.Calls.{Counts}
 use Rattle.passive_store.specs.declared.store.Pick.{Pick}
 use Rattle.passive_store.specs.declared.store.Pick.TheVariants.{Old, New}
 use Rattle.passive_store.specs.Kept.{Kept, IsFresh, Unsettled, settled, kept_after}
-use Rattle.passive_blocks.specs.declared.heads.HeadFields.{HeadFields}
-use Rattle.passive_blocks.specs.declared.table.Table.{Table}
+use Rattle.block_tables.specs.declared.heads.HeadFields.{HeadFields}
+use Rattle.block_tables.specs.declared.table.Table.{Table}
 use Rattle.passive_blocks.specs.declared.block_store.Pending.{Pending}
-use Rattle.passive_blocks.specs.Members.{is_member}
-use Rattle.passive_blocks.specs.Blocks.{keeping, kept_in_blocks}
+use Rattle.block_tables.specs.Members.{is_member}
+use Rattle.block_tables.specs.Blocks.{keeping, kept_in_blocks}
 use Rattle.passive_blocks.specs.BlockLayout.{block_changes}
-use Rattle.passive_blocks.specs.HeadState.{heads_in, slot_at, entry_at}
+use Rattle.block_tables.specs.HeadState.{heads_in, slot_at, entry_at}
 use Rattle.passive_blocks.specs.HeldState.{IsHeld}
 use Rattle.passive_blocks.specs.StoreState.{IsImageOf, change_of}
 use Rattle.passive_blocks.specs.StageState.{IsRefusedAt, IsSpelled, settled_slots, settled_pick, slots_without, gate_open}

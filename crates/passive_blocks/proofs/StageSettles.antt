@@ -13,11 +13,11 @@ use Rattle.passive_store.specs.Acts.{DiskCall, Sync, Read, CallTold, settling_ca
 use Rattle.passive_store.specs.Kept.{Kept, Change, Idle, Unsettled, Stands, IsFresh, IsDiskRefusal, end_of_store}
 use Rattle.passive_store.specs.Kept.{settled}
 use Rattle.passive_store.specs.Seen.{DiskSeen, SettlesOneCall}
-use Rattle.passive_blocks.specs.declared.table.Table.{Table}
+use Rattle.block_tables.specs.declared.table.Table.{Table}
 use Rattle.passive_blocks.specs.declared.block_store.Pending.{Pending}
-use Rattle.passive_blocks.specs.Blocks.{kept_in_blocks}
+use Rattle.block_tables.specs.Blocks.{kept_in_blocks}
 use Rattle.passive_blocks.specs.BlockLayout.{block_layout}
-use Rattle.passive_blocks.specs.HeadState.{heads_in}
+use Rattle.block_tables.specs.HeadState.{heads_in}
 use Rattle.passive_blocks.specs.HeldState.{IsHeld}
 use Rattle.passive_blocks.specs.StoreState.{change_of, kept_or_none}
 use Rattle.passive_blocks.specs.StageState.{IsRefusedAt, IsSpelled, IsWaiting}

@@ -6,11 +6,11 @@ use Rattle.eden_disk.specs.Told.{Contents, Told, contents}
 use Rattle.eden_disk.specs.Calls.{Counts, End, Fine, AtFault, AtStop, SyncTold, ReadTold, power_after}
 use Rattle.eden_disk.proofs.Held.{passes_sync, passes_read}
 use Rattle.passive_store.specs.Kept.{Kept, kept_after}
-use Rattle.passive_blocks.specs.declared.table.Table.{Table}
+use Rattle.block_tables.specs.declared.table.Table.{Table}
 use Rattle.passive_blocks.specs.declared.block_store.Pending.{Pending}
-use Rattle.passive_blocks.specs.Blocks.{kept_in_blocks}
+use Rattle.block_tables.specs.Blocks.{kept_in_blocks}
 use Rattle.passive_blocks.specs.Fits.{Fits}
-use Rattle.passive_blocks.specs.HeadState.{heads_in}
+use Rattle.block_tables.specs.HeadState.{heads_in}
 use Rattle.passive_blocks.specs.HeldState.{IsHeld}
 use Rattle.passive_blocks.specs.StoreState.{IsTableOf, IsImageOf, change_of}
 use Rattle.passive_blocks.specs.StageState.{MayOpen, IsLate, IsRefusedAt, IsSeenRefused, IsSpelled, slots_without, gate_open}

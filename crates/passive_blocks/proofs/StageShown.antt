@@ -7,23 +7,23 @@ use Rattle.std.proofs.lemmas.Bool.{cases_lt}
 use Rattle.eden_disk.specs.Told.{Told, Contents, contents}
 use Rattle.eden_disk.specs.Calls.{Counts}
 use Rattle.passive_store.specs.Kept.{Kept}
-use Rattle.passive_blocks.specs.declared.heads.HeadFields.{HeadFields}
-use Rattle.passive_blocks.specs.declared.table.Table.{Table}
+use Rattle.block_tables.specs.declared.heads.HeadFields.{HeadFields}
+use Rattle.block_tables.specs.declared.table.Table.{Table}
 use Rattle.passive_blocks.specs.declared.block_store.Pending.{Pending}
 use Rattle.passive_blocks.specs.declared.block_store.Stage.{Stage}
 use Rattle.passive_blocks.specs.declared.block_store.Stage.TheVariants.{Close, Write as WritePart, Head as WriteHead}
 use Rattle.passive_blocks.specs.declared.block_store.Stage.TheVariants.{SyncHead, Open, SyncOpen}
 use Rattle.passive_blocks.specs.declared.block_store.Stage.TheVariants.{Ended}
-use Rattle.passive_blocks.specs.Blocks.{Head, kept_in_blocks, is_block_size, greatest}
+use Rattle.block_tables.specs.Blocks.{Head, kept_in_blocks, is_block_size, greatest}
 use Rattle.passive_blocks.specs.BlockLayout.{changes_left}
-use Rattle.passive_blocks.specs.Greatest.{peak}
-use Rattle.passive_blocks.specs.HeadState.{heads_in, slot_at, is_open}
-use Rattle.passive_blocks.specs.TableState.{greatest_in}
+use Rattle.block_tables.specs.Greatest.{peak}
+use Rattle.block_tables.specs.HeadState.{heads_in, slot_at, is_open}
+use Rattle.block_tables.specs.TableState.{greatest_in}
 use Rattle.passive_blocks.specs.HeldState.{IsHeld, IsPlanned}
 use Rattle.passive_blocks.specs.KeptState.{IsShown}
 use Rattle.passive_blocks.specs.StoreState.{IsTableOf, chain_in}
 use Rattle.passive_blocks.specs.StageState.{IsStore, IsStageOn, IsRefusedAt, IsSpelled, IsEarly, IsLate}
-use Rattle.passive_blocks.proofs.Greatest.{peak-at}
+use Rattle.block_tables.proofs.Greatest.{peak-at}
 use Rattle.passive_blocks.proofs.HeldFacts.{sequence_at}
 use Rattle.passive_blocks.proofs.HeldJob.{greatest_is}
 use Rattle.passive_blocks.proofs.KeptLooks.{shown_found, own_found, own_of_some}

@@ -5,13 +5,13 @@ use Rattle.std.specs.Prelude.{slice_index, Option, None, Some, Ok, if◌then◌e
 use Rattle.std.proofs.Common.{refl, sym, ap, subst, ◌∙◌, inl, inr, arith}
 use Rattle.std.specs.List.{list_any}
 use Rattle.std.proofs.lemmas.Bool.{false≢true, eqb-true, ne_eqb, and_from}
-use Rattle.passive_blocks.specs.declared.heads.HeadFields.{HeadFields}
-use Rattle.passive_blocks.specs.Blocks.{Head, head_bytes, head_in, is_head, joined_head, heads_among, heads_of, head_numbers, has, numbers}
-use Rattle.passive_blocks.specs.HeadSeen.{head_of, IsHeadThere}
-use Rattle.passive_blocks.specs.HeadState.{heads_in, slot_at, is_open}
+use Rattle.block_tables.specs.declared.heads.HeadFields.{HeadFields}
+use Rattle.block_tables.specs.Blocks.{Head, head_bytes, head_in, is_head, joined_head, heads_among, heads_of, head_numbers, has, numbers}
+use Rattle.block_tables.specs.HeadSeen.{head_of, IsHeadThere}
+use Rattle.block_tables.specs.HeadState.{heads_in, slot_at, is_open}
 use Rattle.passive_blocks.specs.HeldState.{AreApart}
 use Rattle.passive_blocks.proofs.Among.{In}
-use Rattle.passive_blocks.proofs.Listing.{has_number}
+use Rattle.block_tables.proofs.Listing.{has_number}
 use Rattle.passive_blocks.proofs.StageHeads.{opened, IsHeadOn, head_found, passed, step_is, joins, joined_at}
 
 -- what stands under a number, where a head is open

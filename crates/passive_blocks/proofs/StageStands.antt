@@ -6,12 +6,12 @@ use Rattle.eden_disk.specs.Calls.{Counts}
 use Rattle.eden_disk.specs.Held.{Holds, Passes}
 use Rattle.eden_disk.proofs.Held.{moments_weaker, holds_at_rest}
 use Rattle.passive_store.specs.Kept.{Kept, Change, Stands, IsFresh, kept_from, nothing_kept}
-use Rattle.passive_blocks.specs.declared.table.Table.{Table}
+use Rattle.block_tables.specs.declared.table.Table.{Table}
 use Rattle.passive_blocks.specs.declared.block_store.Pending.{Pending}
-use Rattle.passive_blocks.specs.Blocks.{keeping, kept_in_blocks, blocks_map, is_block_size}
+use Rattle.block_tables.specs.Blocks.{keeping, kept_in_blocks, blocks_map, is_block_size}
 use Rattle.passive_blocks.specs.BlockLayout.{block_layout, block_changes}
 use Rattle.passive_blocks.specs.Fits.{Fits}
-use Rattle.passive_blocks.specs.HeadState.{heads_in}
+use Rattle.block_tables.specs.HeadState.{heads_in}
 use Rattle.passive_blocks.specs.HeldState.{IsHeld}
 use Rattle.passive_blocks.specs.StoreState.{IsTableOf, change_of}
 use Rattle.passive_blocks.specs.StageState.{MayOpen, IsEarly, IsLate, IsSpelled}

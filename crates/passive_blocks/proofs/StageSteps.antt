@@ -10,13 +10,13 @@ use Rattle.std.proofs.lemmas.List.{length-append, length-take}
 use Rattle.eden_disk.specs.Told.{Told, contents, overlay}
 use Rattle.eden_disk.specs.Calls.{Counts, End, Fine, WriteTold, power_after}
 use Rattle.eden_disk.specs.Held.{Passes}
-use Rattle.passive_blocks.specs.declared.table.Table.{Table}
+use Rattle.block_tables.specs.declared.table.Table.{Table}
 use Rattle.passive_blocks.specs.declared.block_store.Pending.{Pending}
 use Rattle.passive_blocks.specs.declared.block_store.Stage.{Stage}
 use Rattle.passive_blocks.specs.declared.block_store.Stage.TheVariants.{Close, Write as WritePart, Head as WriteHead}
-use Rattle.passive_blocks.specs.Members.{is_member}
-use Rattle.passive_blocks.specs.Blocks.{head_place, has, is_data, blocks_of}
-use Rattle.passive_blocks.specs.BlockState.{walk}
+use Rattle.block_tables.specs.Members.{is_member}
+use Rattle.block_tables.specs.Blocks.{head_place, has, is_data, blocks_of}
+use Rattle.block_tables.specs.BlockState.{walk}
 use Rattle.passive_blocks.specs.HeldState.{IsHeld, IsPlanned, behind_walk, times, one_if, planned_blocks}
 use Rattle.passive_blocks.specs.StoreState.{IsTableOf}
 use Rattle.passive_blocks.specs.StageState.{IsEarly, IsRefusedAt, IsStageOn}

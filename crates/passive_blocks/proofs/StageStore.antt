@@ -12,17 +12,17 @@ use Rattle.passive_store.specs.declared.store.Progress.{Progress}
 use Rattle.passive_store.specs.declared.store.StoreRefusal.{StoreRefusal}
 use Rattle.passive_store.specs.Kept.{Stands, IsFresh, IsDiskRefusal, end_of_store, kept_after}
 use Rattle.passive_store.specs.Seen.{DiskSeen}
-use Rattle.passive_blocks.specs.declared.table.Table.{Table}
+use Rattle.block_tables.specs.declared.table.Table.{Table}
 use Rattle.passive_blocks.specs.declared.block_store.Pending.{Pending}
 use Rattle.passive_blocks.specs.declared.block_store.Stage.{Stage}
 use Rattle.passive_blocks.specs.declared.block_store.Stage.TheVariants.{Close, Write as WritePart, Head as WriteHead, SyncHead, Open}
 use Rattle.passive_blocks.specs.declared.block_store.Stage.TheVariants.{SyncOpen}
 use Rattle.passive_blocks.specs.declared.block_store.Stage.TheVariants.{Ended}
-use Rattle.passive_blocks.specs.Members.{is_member}
-use Rattle.passive_blocks.specs.Blocks.{keeping, kept_in_blocks, is_block_size, is_data, has, blocks_of}
-use Rattle.passive_blocks.specs.BlockState.{walk}
+use Rattle.block_tables.specs.Members.{is_member}
+use Rattle.block_tables.specs.Blocks.{keeping, kept_in_blocks, is_block_size, is_data, has, blocks_of}
+use Rattle.block_tables.specs.BlockState.{walk}
 use Rattle.passive_blocks.specs.BlockLayout.{block_layout, block_changes}
-use Rattle.passive_blocks.specs.HeadState.{heads_in, slot_at, entry_at}
+use Rattle.block_tables.specs.HeadState.{heads_in, slot_at, entry_at}
 use Rattle.passive_blocks.specs.HeldState.{IsHeld, IsPlanned, behind_walk}
 use Rattle.passive_blocks.specs.StoreState.{IsTableOf, IsImageOf, change_of, kept_or_none}
 use Rattle.passive_blocks.specs.StageState.{IsStageOn, IsStaged, IsRefusedAt, IsNext, IsStore, IsPartNext}

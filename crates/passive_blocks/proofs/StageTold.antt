@@ -8,23 +8,23 @@ use Rattle.eden_disk.specs.Told.{Contents}
 use Rattle.eden_disk.specs.Calls.{Counts}
 use Rattle.passive_store.specs.Kept.{Kept, kept_after}
 use Rattle.passive_store.specs.Seen.{TellsBehind}
-use Rattle.passive_blocks.specs.declared.table.Table.{Table}
+use Rattle.block_tables.specs.declared.table.Table.{Table}
 use Rattle.passive_blocks.specs.declared.block_store.Pending.{Pending}
 use Rattle.passive_blocks.specs.declared.block_store.Stage.{Stage}
 use Rattle.passive_blocks.specs.declared.block_store.Stage.TheVariants.{Close, Write as WritePart, Head as WriteHead, SyncHead, Open}
 use Rattle.passive_blocks.specs.declared.block_store.Stage.TheVariants.{SyncOpen}
 use Rattle.passive_blocks.specs.declared.block_store.Stage.TheVariants.{Ended}
-use Rattle.passive_blocks.specs.Members.{is_member}
-use Rattle.passive_blocks.specs.Blocks.{kept_in_blocks, blocks_map, is_block_size, blocks_of, data_count}
-use Rattle.passive_blocks.specs.TableState.{spare}
+use Rattle.block_tables.specs.Members.{is_member}
+use Rattle.block_tables.specs.Blocks.{kept_in_blocks, blocks_map, is_block_size, blocks_of, data_count}
+use Rattle.block_tables.specs.TableState.{spare}
 use Rattle.passive_blocks.specs.BlockLayout.{block_changes, changes_left}
-use Rattle.passive_blocks.specs.HeadState.{heads_in, slot_at, is_open, closed_slot}
+use Rattle.block_tables.specs.HeadState.{heads_in, slot_at, is_open, closed_slot}
 use Rattle.passive_blocks.specs.HeldState.{IsHeld}
 use Rattle.passive_blocks.specs.StoreState.{change_of, kept_or_none}
 use Rattle.passive_blocks.specs.StageState.{IsStageOn, IsStaged, IsTelling, FreeBeside, NoneCloses}
 use Rattle.passive_blocks.specs.StageState.{TellsBehindSync, IsNext, is_going}
 use Rattle.passive_blocks.specs.StageState.{first_closed}
-use Rattle.passive_blocks.proofs.Slots.{slot_same}
+use Rattle.block_tables.proofs.Slots.{slot_same}
 use Rattle.passive_blocks.proofs.HeldTold.{told_behind}
 use Rattle.passive_blocks.proofs.StageImages.{changes_is}
 use Rattle.passive_blocks.proofs.StageFirst.{first_closed_is}

@@ -6,7 +6,7 @@ use Rattle.std.proofs.lemmas.Bool.Decides.{nat_tests}
 use Rattle.eden_disk.specs.Told.{Told, contents}
 use Rattle.eden_disk.specs.Calls.{End, WriteTold}
 use Rattle.eden_disk.specs.Held.{Holds, Passes}
-use Rattle.passive_blocks.specs.Blocks.{Head, head_place, has, is_data, taken_by, chains_of}
+use Rattle.block_tables.specs.Blocks.{Head, head_place, has, is_data, taken_by, chains_of}
 use Rattle.passive_blocks.specs.Fits.{Fits}
 use Rattle.passive_blocks.specs.StageState.{MayStand, gate_open, closes}
 use Rattle.passive_blocks.proofs.Fitting.{fits_write}

@@ -6,10 +6,10 @@ use Rattle.std.proofs.lemmas.List.{append_assoc, append-nil, take-append-drop, d
 use Rattle.std.proofs.lemmas.Slice.{take-put_mid, drop-put_mid}
 use borrow.Rule.Slice.PartMut.{put_mid}
 use Rattle.passive_blocks.specs.declared.convert.Moved.{Moved}
-use Rattle.passive_blocks.specs.Blocks.{Head}
-use Rattle.passive_blocks.specs.Changes.{spelled_head}
+use Rattle.block_tables.specs.Blocks.{Head}
+use Rattle.block_tables.specs.Changes.{spelled_head}
 use Rattle.passive_blocks.specs.Conversion.{head_or_blank, heads_spelled, part_of}
-use Rattle.passive_blocks.specs.HeadSeen.{head_of}
+use Rattle.block_tables.specs.HeadSeen.{head_of}
 use Rattle.passive_blocks.specs.Converting.{heads_planned}
 use Rattle.passive_blocks.proofs.SameParts.{drop_more, drop_front, take_front}
 

@@ -14,16 +14,16 @@ use Rattle.capability.specs.declared.Uid.{Uid}
 use Rattle.capability.specs.Uids.{uid_cmp}
 use Rattle.passive_store.specs.Kept.{Change, kept_by, kept_from, nothing_kept}
 use Rattle.passive_store.specs.Log.{with_record}
-use Rattle.passive_blocks.specs.Blocks.{Head, Chain, numbers, blocks_of, has, without, next_block, on_block, chain_from, chain_of}
-use Rattle.passive_blocks.specs.Blocks.{chains_among, chains_of, data_blocks, changes_on, kept_in_blocks, blocks_map, heads_of}
-use Rattle.passive_blocks.specs.Blocks.{counts, same_uid, taken_by}
+use Rattle.block_tables.specs.Blocks.{Head, Chain, numbers, blocks_of, has, without, next_block, on_block, chain_from, chain_of}
+use Rattle.block_tables.specs.Blocks.{chains_among, chains_of, data_blocks, changes_on, kept_in_blocks, blocks_map, heads_of}
+use Rattle.block_tables.specs.Blocks.{counts, same_uid, taken_by}
 use Rattle.passive_blocks.specs.BlockLayout.{reads_of_blocks}
 use Rattle.passive_blocks.specs.Conversion.{Moved, moved_from, moved_change}
 use Rattle.passive_blocks.proofs.ConvertStages.{IsWritten, AreWritten, blocks_for_all}
 use Rattle.std.specs.Cmp.{tied_itself}
 use Rattle.capability.proofs.Uids.{uid_cmp_total, uid_cmp-IsAntisymmetric}
 use Rattle.passive_blocks.proofs.Keeping.{left_part, right_part, tied}
-use Rattle.passive_blocks.proofs.Listing.{has_number}
+use Rattle.block_tables.proofs.Listing.{has_number}
 
 -- 1. Which blocks are free
 

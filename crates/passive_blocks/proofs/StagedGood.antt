@@ -7,8 +7,8 @@ use Rattle.std.proofs.lemmas.Bool.Decides.{nat_tests}
 use Rattle.std.proofs.lemmas.Nat.{from_be_bytes-to_be_bytes_2, from_be_bytes-to_be_bytes_4, from_be_bytes-to_be_bytes_8}
 use Rattle.std.specs.Int.{w16, w32, w64, from_be_bytes, to_be_bytes}
 use Rattle.capability.specs.declared.Uid.{Uid}
-use Rattle.passive_blocks.specs.Blocks.{Head, blocks_of, is_data, is_head, head_in, are_fields}
-use Rattle.passive_blocks.specs.Changes.{spelled_head}
+use Rattle.block_tables.specs.Blocks.{Head, blocks_of, is_data, is_head, head_in, are_fields}
+use Rattle.block_tables.specs.Changes.{spelled_head}
 use Rattle.passive_blocks.specs.Conversion.{Moved, moved_from}
 use Rattle.passive_blocks.specs.Converting.{IsGoodEntry}
 use Rattle.passive_blocks.proofs.ConvertStages.{AreGoodHeads, blocks_for_all}

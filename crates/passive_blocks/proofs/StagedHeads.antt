@@ -6,8 +6,8 @@ use Rattle.std.proofs.Common.{refl, sym, ap, ◌∙◌, arith}
 use Rattle.std.proofs.lemmas.Bool.Decides.{nat_tests}
 use Rattle.std.proofs.lemmas.List.{drop-take}
 use Rattle.std.specs.List.{list_any}
-use Rattle.passive_blocks.specs.Blocks.{Head, numbers, head_bytes, head_in, is_head, joined_head, with_head, heads_among, heads_of}
-use Rattle.passive_blocks.specs.Changes.{spelled_head}
+use Rattle.block_tables.specs.Blocks.{Head, numbers, head_bytes, head_in, is_head, joined_head, with_head, heads_among, heads_of}
+use Rattle.block_tables.specs.Changes.{spelled_head}
 use Rattle.passive_blocks.specs.Conversion.{head_or_blank, heads_spelled}
 use Rattle.passive_blocks.proofs.ConvertStages.{IsGoodHead, AreGoodHeads}
 use Rattle.passive_blocks.proofs.SameParts.{drop_more, drop_front, take_front}

@@ -11,7 +11,7 @@ use Rattle.std.specs.FinMap as finite
 use Rattle.capability.specs.declared.Uid.{Uid}
 use Rattle.passive_store.specs.Kept.{Kept}
 use Rattle.passive_store.specs.Log.{log_map}
-use Rattle.passive_blocks.specs.Blocks.{blocks_of, heads_of, heads_or_none, blocks_map}
+use Rattle.block_tables.specs.Blocks.{blocks_of, heads_of, heads_or_none, blocks_map}
 use Rattle.passive_blocks.specs.Conversion.{Moved, moved, moved_from, moved_heads, moved_map, blocks_moved, is_too_much, old_log}
 use Rattle.passive_blocks.specs.Conversion.{finished, staged_bytes}
 use Rattle.passive_blocks.specs.BlockLayout.{changes_left, heads_moved, reads_of_blocks}

@@ -10,8 +10,8 @@ use Rattle.capability.specs.declared.Uid.{Uid}
 use Rattle.eden_disk.specs.Told.{Told, contents, overlay}
 use Rattle.eden_disk.proofs.Overlay.{length-overlay, overlay_outside, overlay_inside}
 use Rattle.passive_store.specs.Acts.{AllTold}
-use Rattle.passive_blocks.specs.Blocks.{Head, numbers, blocks_of}
-use Rattle.passive_blocks.specs.Changes.{chain_writes, first_or_zero}
+use Rattle.block_tables.specs.Blocks.{Head, numbers, blocks_of}
+use Rattle.block_tables.specs.Changes.{chain_writes, first_or_zero}
 use Rattle.passive_blocks.specs.Conversion.{Moved, moved_from, move_calls, part_of, heads_spelled}
 use Rattle.passive_blocks.proofs.ConvertStages.{IsCopied, IsWritten, AreWritten, blocks_for_all}
 use Rattle.passive_blocks.proofs.SameParts.{same_part}

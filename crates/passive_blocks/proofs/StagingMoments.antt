@@ -15,8 +15,8 @@ use Rattle.eden_disk.proofs.Overlay.{length-overlay, overlay_outside, overlay_in
 use Rattle.passive_store.specs.Kept.{Kept}
 use Rattle.passive_store.specs.Log.{log_map}
 use Rattle.passive_store.specs.Acts.{DiskCall, Write, Sync, CallsTold, AllTold}
-use Rattle.passive_blocks.specs.Blocks.{Head, numbers, blocks_of}
-use Rattle.passive_blocks.specs.Changes.{chain_writes, first_or_zero}
+use Rattle.block_tables.specs.Blocks.{Head, numbers, blocks_of}
+use Rattle.block_tables.specs.Changes.{chain_writes, first_or_zero}
 use Rattle.passive_blocks.specs.Conversion.{moved, moved_from, moved_heads, move_calls, part_of, heads_spelled, staged_bytes}
 use Rattle.passive_blocks.specs.Conversion.{staging_calls, is_too_much, old_log, blocks_moved}
 use Rattle.passive_blocks.specs.Fits.{Fits}

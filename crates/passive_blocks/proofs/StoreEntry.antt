@@ -9,14 +9,14 @@ use Rattle.eden_disk.specs.Calls.{Counts}
 use Rattle.passive_store.specs.declared.store.Pick.{Pick}
 use Rattle.passive_store.specs.Kept.{is_busy}
 use Rattle.passive_store.specs.Seen.{Seen, DiskSeen}
-use Rattle.passive_blocks.specs.declared.table.Table.{Table}
+use Rattle.block_tables.specs.declared.table.Table.{Table}
 use Rattle.passive_blocks.specs.declared.block_store.Pending.{Pending}
 use Rattle.passive_blocks.specs.declared.block_store.Stage.{Stage}
 use Rattle.passive_blocks.specs.declared.block_store.Stage.TheVariants.{Close, Write as WritePart, Head as WriteHead, SyncHead, Open}
 use Rattle.passive_blocks.specs.declared.block_store.Stage.TheVariants.{SyncOpen, Ended}
-use Rattle.passive_blocks.specs.Blocks.{Head}
-use Rattle.passive_blocks.specs.HeadState.{entry_at}
-use Rattle.passive_blocks.specs.TableState.{IsTable}
+use Rattle.block_tables.specs.Blocks.{Head}
+use Rattle.block_tables.specs.HeadState.{entry_at}
+use Rattle.block_tables.specs.TableState.{IsTable}
 use Rattle.passive_blocks.specs.StoreState.{calls_at, work_at, pending_work}
 use Rattle.passive_blocks.specs.HeldState.{IsHeld}
 use Rattle.passive_blocks.specs.StageState.{IsStore, IsBegun, IsEarly, IsReady, IsToldReady, IsLate, IsSeenRefused, IsRefusedAt}

@@ -19,14 +19,14 @@ use Rattle.passive_store.specs.Seen.{Seen, DiskSeen, Settled, Gets}
 use Rattle.passive_store.proofs.Joining.{timed_still, ran_join, settled_back, reads_behind, reads_refused, ran_refused_as}
 use Rattle.passive_store.proofs.Joining.{ran_refused_more, end_alike, obeyed_alike, stands_weaker}
 use Rattle.passive_store.proofs.Changing.{first_refused, picked_first}
-use Rattle.passive_blocks.specs.declared.heads.HeadFields.{HeadFields}
-use Rattle.passive_blocks.specs.declared.table.Table.{Table}
+use Rattle.block_tables.specs.declared.heads.HeadFields.{HeadFields}
+use Rattle.block_tables.specs.declared.table.Table.{Table}
 use Rattle.passive_blocks.specs.declared.block_store.Pending.{Pending}
-use Rattle.passive_blocks.specs.Blocks.{blocks_of, data_count, body_on}
+use Rattle.block_tables.specs.Blocks.{blocks_of, data_count, body_on}
 use Rattle.passive_blocks.specs.BlockLayout.{block_layout}
-use Rattle.passive_blocks.specs.HeadSeen.{head_of}
-use Rattle.passive_blocks.specs.TableState.{keeper, IsKeptOn}
-use Rattle.passive_blocks.specs.BlockState.{AreDataIn, walk}
+use Rattle.block_tables.specs.HeadSeen.{head_of}
+use Rattle.block_tables.specs.TableState.{keeper, IsKeptOn}
+use Rattle.block_tables.specs.BlockState.{AreDataIn, walk}
 use Rattle.passive_blocks.specs.HeldState.{IsHeld}
 use Rattle.passive_blocks.specs.StoreState.{chain_in, pending_work}
 use Rattle.passive_blocks.specs.StageState.{IsStore}

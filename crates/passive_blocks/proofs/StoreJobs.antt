@@ -12,9 +12,9 @@ use Rattle.passive_store.specs.declared.store.Pick.{Pick}
 use Rattle.passive_store.specs.Acts.{DiskCall, Write, Sync}
 use Rattle.passive_store.specs.Kept.{Kept, Work}
 use Rattle.passive_store.specs.Seen.{Asked, DiskSeen}
-use Rattle.passive_blocks.specs.Blocks.{Head, head_numbers, data_count, data_blocks, blocks_for, head_place, head_bytes, head_in, is_head}
-use Rattle.passive_blocks.specs.Blocks.{joined_head, heads_among, heads_of, heads_or_none, closing, has, taken_by, chains_of}
-use Rattle.passive_blocks.specs.Changes.{blocks_job, bytes_of, chain_writes, free_blocks, new_head, spelled_head}
+use Rattle.block_tables.specs.Blocks.{Head, head_numbers, data_count, data_blocks, blocks_for, head_place, head_bytes, head_in, is_head}
+use Rattle.block_tables.specs.Blocks.{joined_head, heads_among, heads_of, heads_or_none, closing, has, taken_by, chains_of}
+use Rattle.block_tables.specs.Changes.{blocks_job, bytes_of, chain_writes, free_blocks, new_head, spelled_head}
 use Rattle.passive_blocks.specs.BlockLayout.{block_layout}
 use Rattle.passive_blocks.proofs.HeldBegun.{few_members, numbers_long, writes_long}
 use Rattle.passive_blocks.proofs.StageAdvances.{seen_with}

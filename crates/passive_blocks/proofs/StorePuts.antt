@@ -12,11 +12,11 @@ use Rattle.passive_store.specs.Acts.{DiskCall}
 use Rattle.passive_store.specs.Kept.{Kept, Idle, IsOwn, IsRefusedIn, body_at, calls_left, is_busy}
 use Rattle.passive_store.specs.Seen.{Asked, DiskSeen, Seen, Settled, Begins, Finishes, Puts, Deletes, TellsBehind, asked}
 use Rattle.passive_store.proofs.Joining.{none_refused}
-use Rattle.passive_blocks.specs.declared.table.Table.{Table}
+use Rattle.block_tables.specs.declared.table.Table.{Table}
 use Rattle.passive_blocks.specs.declared.block_store.Pending.{Pending}
 use Rattle.passive_blocks.specs.BlockLayout.{block_layout}
-use Rattle.passive_blocks.specs.HeadState.{entry_at}
-use Rattle.passive_blocks.specs.TableState.{IsTable}
+use Rattle.block_tables.specs.HeadState.{entry_at}
+use Rattle.block_tables.specs.TableState.{IsTable}
 use Rattle.passive_blocks.specs.StoreState.{pending_work}
 use Rattle.passive_blocks.specs.StageState.{IsStore, is_first_kept}
 use Rattle.passive_blocks.proofs.StageGoes.{kept_seen}

@@ -10,16 +10,16 @@ use Rattle.eden_disk.proofs.Held.{only_now, passes_read, holds_at_rest, moments_
 use Rattle.passive_store.specs.Acts.{DiskCall}
 use Rattle.passive_store.specs.Kept.{Kept, Change, Stands, IsFresh, Busy, changes_in, doubt_in}
 use Rattle.passive_store.specs.Seen.{DiskSeen, TellsBehind}
-use Rattle.passive_blocks.specs.declared.table.Table.{Table}
+use Rattle.block_tables.specs.declared.table.Table.{Table}
 use Rattle.passive_blocks.specs.declared.block_store.Pending.{Pending}
 use Rattle.passive_blocks.specs.declared.block_store.Stage.{Stage}
 use Rattle.passive_blocks.specs.declared.block_store.Stage.TheVariants.{Close, Write as WritePart, Head as WriteHead, SyncHead, Open}
 use Rattle.passive_blocks.specs.declared.block_store.Stage.TheVariants.{SyncOpen}
 use Rattle.passive_blocks.specs.declared.block_store.Stage.TheVariants.{Ended}
-use Rattle.passive_blocks.specs.Blocks.{kept_in_blocks, is_block_size}
+use Rattle.block_tables.specs.Blocks.{kept_in_blocks, is_block_size}
 use Rattle.passive_blocks.specs.BlockLayout.{block_layout}
 use Rattle.passive_blocks.specs.Fits.{Fits}
-use Rattle.passive_blocks.specs.HeadState.{heads_in}
+use Rattle.block_tables.specs.HeadState.{heads_in}
 use Rattle.passive_blocks.specs.HeldState.{IsHeld}
 use Rattle.passive_blocks.specs.KeptState.{HasChains}
 use Rattle.passive_blocks.specs.StoreState.{chain_in, change_of, kept_or_none, pending_work, work_at, calls_at}

@@ -20,14 +20,14 @@ use Rattle.passive_store.specs.Kept.{reserved_uid, settled}
 use Rattle.passive_store.specs.Seen.{Asked, DiskSeen, Changes, Whole, Puts, Deletes, TellsBehind}
 use Rattle.passive_store.proofs.Joining.{none_refused, timed_still}
 use Rattle.passive_store.proofs.Changing.{memory_is_not_room}
-use Rattle.passive_blocks.specs.declared.table.Table.{Table}
+use Rattle.block_tables.specs.declared.table.Table.{Table}
 use Rattle.passive_blocks.specs.declared.block_store.Pending.{Pending}
 use Rattle.passive_blocks.specs.declared.block_store.Stage.{Stage}
 use Rattle.passive_blocks.specs.declared.block_store.Stage.TheVariants.{Close, Write as WritePart, Head as WriteHead, SyncHead, Open}
 use Rattle.passive_blocks.specs.declared.block_store.Stage.TheVariants.{SyncOpen, Ended}
 use Rattle.passive_blocks.specs.BlockLayout.{block_layout}
 use Rattle.passive_blocks.specs.StoreState.{calls_at, change_of, pending_work, work_at}
-use Rattle.passive_blocks.specs.TableState.{IsTable, keeper}
+use Rattle.block_tables.specs.TableState.{IsTable, keeper}
 use Rattle.passive_blocks.specs.HeldState.{AreApart}
 use Rattle.passive_blocks.specs.StageState.{IsStore, is_first_kept}
 use Rattle.passive_blocks.proofs.HeldTold.{not_first, some_chosen}

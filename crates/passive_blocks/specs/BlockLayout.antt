@@ -10,9 +10,9 @@ use Rattle.passive_store.specs.Acts.{DiskCall, Write, Sync, Read}
 use Rattle.passive_store.specs.Kept.{Kept, Layout, nothing_kept, reserved_uid}
 use Rattle.passive_store.specs.Log.{log_map, records_of}
 use Rattle.passive_store.specs.LogLayout.{records_up_to, within_room}
-use Rattle.passive_blocks.specs.Blocks.{Head, numbers, is_block_size, data_count, blocks_of, blocks_for, heads_of, heads_or_none}
-use Rattle.passive_blocks.specs.Blocks.{greatest, chains_of, taken_by, blocks_map}
-use Rattle.passive_blocks.specs.Changes.{free_head, blocks_job, is_removal, size_of}
+use Rattle.block_tables.specs.Blocks.{Head, numbers, is_block_size, data_count, blocks_of, blocks_for, heads_of, heads_or_none}
+use Rattle.block_tables.specs.Blocks.{greatest, chains_of, taken_by, blocks_map}
+use Rattle.block_tables.specs.Changes.{free_head, blocks_job, is_removal, size_of}
 use Rattle.passive_blocks.specs.Conversion.{old_log, finished, moved_map, moved_heads, is_too_much, staged_bytes, staging_calls}
 use Rattle.passive_blocks.specs.Conversion.{finishing_calls, blocks_moved}
 

@@ -6,8 +6,8 @@ use Rattle.std.specs.FinMap as finite
 use Rattle.capability.specs.declared.Uid.{Uid}
 use Rattle.passive_store.specs.Acts.{DiskCall, Write, Sync, Read}
 use Rattle.passive_store.specs.Kept.{Change, Kept, kept_from, nothing_kept}
-use Rattle.passive_blocks.specs.Blocks.{Head, numbers, blocks_of}
-use Rattle.passive_blocks.specs.Changes.{chain_writes, spelled_head}
+use Rattle.block_tables.specs.Blocks.{Head, numbers, blocks_of}
+use Rattle.block_tables.specs.Changes.{chain_writes, spelled_head}
 
 -- the log in the first part of an image, and the image in which the staged heads stand in their places
 abbrev pub old_log : List ℕ → List ℕ

@@ -5,9 +5,9 @@ use Rattle.std.specs.BTreeMap.{BTreeMap}
 use Rattle.capability.specs.declared.Uid.{Uid}
 use Rattle.passive_store.specs.declared.index.Slot.{Slot}
 use Rattle.passive_blocks.specs.declared.convert.Moved.{Moved}
-use Rattle.passive_blocks.specs.Blocks.{Head, blocks_of}
+use Rattle.block_tables.specs.Blocks.{Head, blocks_of}
 use Rattle.passive_blocks.specs.Conversion.{Moved as Value}
-use Rattle.passive_blocks.specs.HeadSeen.{head_of}
+use Rattle.block_tables.specs.HeadSeen.{head_of}
 use Rattle.passive_blocks.specs.BlockLayout.{block_layout}
 
 -- two images of which an opening finds the same

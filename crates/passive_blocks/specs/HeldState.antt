@@ -7,15 +7,15 @@ use Rattle.capability.specs.declared.Uid.{Uid}
 use Rattle.capability.specs.Uids.{uid_cmp}
 use Rattle.eden_disk.specs.Calls.{Counts}
 use Rattle.passive_store.specs.Kept.{IsOwn}
-use Rattle.passive_blocks.specs.declared.heads.HeadFields.{HeadFields}
-use Rattle.passive_blocks.specs.declared.index.Entry.{Entry}
-use Rattle.passive_blocks.specs.declared.table.Table.{Table}
+use Rattle.block_tables.specs.declared.heads.HeadFields.{HeadFields}
+use Rattle.block_tables.specs.declared.index.Entry.{Entry}
+use Rattle.block_tables.specs.declared.table.Table.{Table}
 use Rattle.passive_blocks.specs.declared.block_store.Pending.{Pending}
-use Rattle.passive_blocks.specs.Members.{is_member}
-use Rattle.passive_blocks.specs.Blocks.{Head, blocks_of, data_count, is_data, keeping}
-use Rattle.passive_blocks.specs.HeadState.{heads_in, slot_at, entry_at, is_open, is_it}
-use Rattle.passive_blocks.specs.BlockState.{walk, AreDataIn}
-use Rattle.passive_blocks.specs.TableState.{IsTable, IsKeptOn, keeper}
+use Rattle.block_tables.specs.Members.{is_member}
+use Rattle.block_tables.specs.Blocks.{Head, blocks_of, data_count, is_data, keeping}
+use Rattle.block_tables.specs.HeadState.{heads_in, slot_at, entry_at, is_open, is_it}
+use Rattle.block_tables.specs.BlockState.{walk, AreDataIn}
+use Rattle.block_tables.specs.TableState.{IsTable, IsKeptOn, keeper}
 
 -- how often a block stands among some
 abbrev pub times : ℕ → List ℕ → ℕ

@@ -1,14 +1,6 @@
-pub mod Blocks
-pub mod Changes
 pub mod Conversion
 pub mod BlockLayout
 pub mod Fits
-pub mod Greatest
-pub mod Members
-pub mod HeadSeen
-pub mod BlockState
-pub mod HeadState
-pub mod TableState
 pub mod HeldState
 pub mod StoreState
 pub mod KeptState

@@ -4,7 +4,7 @@ use Rattle.eden_disk.specs.Told.{Contents, at_rest}
 use Rattle.eden_disk.specs.Held.{Holds}
 use Rattle.passive_blocks.specs.Fits.{Fits}
 use Rattle.passive_store.specs.Acts.{DiskCall, Write}
-use Rattle.passive_blocks.specs.Blocks.{numbers, head_place}
+use Rattle.block_tables.specs.Blocks.{numbers, head_place}
 
 -- any byte may stand at a place but for those of a log and of blocks at the first two
 pub record MayBlank (k b : ℕ) : Type 0 where

@@ -2,26 +2,19 @@
 use Rattle.std.specs.Prelude.{◌≡◌, ◌≤◌, ◌+◌, ◌-◌, ◌/◌, ◌&&◌, not, ℕ, Bool, true, false, List, length, map, filter, sum_by}
 use Rattle.std.specs.Prelude.{take, drop, ◌<◌}
 use Rattle.std.specs.Prelude.{Result, Ok, Err, slice_index}
-use Rattle.passive_blocks.specs.declared.heads.HeadFields.{HeadFields}
+use Rattle.block_tables.specs.declared.heads.HeadFields.{HeadFields}
 use Rattle.passive_store.specs.declared.store.StoreRefusal.{StoreRefusal}
 use Rattle.passive_store.specs.declared.store.StoreRefusal.TheVariants.{Failed, Stopped, Full, Damaged, OutOfMemory}
-use Rattle.passive_blocks.specs.declared.table.Table.{Table}
-use Rattle.passive_blocks.specs.declared.head_table.HeadTable.{HeadTable}
-use Rattle.passive_blocks.specs.declared.block_table.BlockTable.{BlockTable}
-use Rattle.passive_blocks.specs.Members.{is_member}
-use Rattle.passive_blocks.specs.Blocks.{Head, Chain, has, without, blocks_of, is_data, data_count, chain_of}
-use Rattle.passive_blocks.specs.HeadSeen.{head_of}
-use Rattle.passive_blocks.specs.HeadState.{slot_at, entry_at, is_open, is_it}
-use Rattle.passive_blocks.specs.BlockState.{AreBlocks, walk, free_in}
+use Rattle.block_tables.specs.declared.table.Table.{Table}
+use Rattle.block_tables.specs.declared.head_table.HeadTable.{HeadTable}
+use Rattle.block_tables.specs.declared.block_table.BlockTable.{BlockTable}
+use Rattle.block_tables.specs.Members.{is_member}
+use Rattle.block_tables.specs.Blocks.{Head, Chain, has, without, blocks_of, is_data, data_count, chain_of}
+use Rattle.block_tables.specs.HeadSeen.{head_of}
+use Rattle.block_tables.specs.HeadState.{slot_at, entry_at, is_open, is_it}
+use Rattle.block_tables.specs.BlockState.{AreBlocks, walk, free_in}
 use Rattle.passive_blocks.specs.HeldState.{AreApart, times, one_if, behind_walk, chain_by}
-use Rattle.passive_blocks.specs.TableState.{IsTable}
-
--- What a read answers of an open head, whatever the disk tells.
-pub record IsRead (node number : ℕ) (h : HeadFields) : Type 0 where
-  pub numbered : h.number ≡ number
-  pub opened : is_open h ≡ true
-  pub own : h.uid.node ≡ node
-  pub short : h.size ≤ 262144
+use Rattle.block_tables.specs.TableState.{IsTable}
 
 -- whether the head under a number counts
 abbrev pub is_latest : Table → ℕ → Bool
@@ -39,11 +32,6 @@ pub record AreReadTo (t : Table) (before : List ℕ) (n : ℕ) : Type 0 where
   pub counted : AreCounted t
   pub ahead : (k : ℕ) → n ≤ k → is_open (slot_at t.heads.slots.items k) ≡ false
   pub known : (k : ℕ) → is_open (slot_at t.heads.slots.items k) ≡ true → has (slot_at t.heads.slots.items k).sequence before ≡ true
-
--- no block is taken yet
-pub record AreAllFree (b : BlockTable) : Type 0 where
-  pub free : (k : ℕ) → is_member b.free k ≡ is_data b.size k
-  pub needed : b.needed ≡ 0
 
 -- how many heads are read: all, or those up to the first that is damaged
 abbrev pub heads_read : ℕ → Result (List Head) ℕ → ℕ

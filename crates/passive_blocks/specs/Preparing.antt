@@ -7,7 +7,7 @@ use Rattle.passive_store.specs.declared.store.StoreRefusal.{StoreRefusal}
 use Rattle.passive_store.specs.Acts.{DiskCall, Read, AllTold}
 use Rattle.passive_store.specs.Kept.{Change, Kept, Stands, IsOverfull, IsDamagedFrom, OpeningMade, OpeningTold, kept_by}
 use Rattle.passive_store.specs.Log.{log_map, records_of}
-use Rattle.passive_blocks.specs.Blocks.{heads_of}
+use Rattle.block_tables.specs.Blocks.{heads_of}
 use Rattle.passive_blocks.specs.Conversion.{old_log, staged_bytes, staging_calls, finishing_calls, finished, is_too_much, blocks_moved}
 use Rattle.passive_blocks.specs.Converting.{IsStaged}
 use Rattle.passive_blocks.specs.BlockLayout.{Format, Blocks, Staged, OldLog, Foreign, Blank, format_of, block_map, block_changes}

@@ -8,19 +8,19 @@ use Rattle.std.specs.List.{list_all}
 use Rattle.eden_disk.specs.Told.{Contents, Told, at_rest, contents}
 use Rattle.eden_disk.specs.Calls.{Counts}
 use Rattle.eden_disk.specs.Held.{Holds}
-use Rattle.passive_blocks.specs.declared.heads.HeadFields.{HeadFields}
-use Rattle.passive_blocks.specs.declared.table.Table.{Table}
+use Rattle.block_tables.specs.declared.heads.HeadFields.{HeadFields}
+use Rattle.block_tables.specs.declared.table.Table.{Table}
 use Rattle.passive_blocks.specs.declared.block_store.Pending.{Pending}
 use Rattle.passive_blocks.specs.declared.block_store.Stage.{Stage}
 use Rattle.passive_blocks.specs.declared.block_store.Stage.TheVariants.{Close, Write as WritePart, Head as WriteHead, SyncHead, Open}
 use Rattle.passive_blocks.specs.declared.block_store.Stage.TheVariants.{SyncOpen}
 use Rattle.passive_blocks.specs.declared.block_store.Stage.TheVariants.{Ended}
-use Rattle.passive_blocks.specs.Members.{is_member}
-use Rattle.passive_blocks.specs.Blocks.{Head, head_in, is_head, head_place, blocks_of, data_count, heads_of, chains_of, keeping}
-use Rattle.passive_blocks.specs.Blocks.{closing, counts, is_alone, has}
-use Rattle.passive_blocks.specs.Blocks.{taken_by, next_block, kept_in_blocks}
+use Rattle.block_tables.specs.Members.{is_member}
+use Rattle.block_tables.specs.Blocks.{Head, head_in, is_head, head_place, blocks_of, data_count, heads_of, chains_of, keeping}
+use Rattle.block_tables.specs.Blocks.{closing, counts, is_alone, has}
+use Rattle.block_tables.specs.Blocks.{taken_by, next_block, kept_in_blocks}
 use Rattle.passive_store.specs.Acts.{DiskCall, Write, Sync}
-use Rattle.passive_blocks.specs.Changes.{spelled_head, first_or_zero, size_of}
+use Rattle.block_tables.specs.Changes.{spelled_head, first_or_zero, size_of}
 use Rattle.capability.specs.declared.Uid.{Uid}
 use Rattle.passive_store.specs.Kept.{Kept, IsFresh, IsOwn, kept_after, reserved_uid}
 use Rattle.passive_store.specs.Seen.{TellsBehind}
@@ -28,9 +28,9 @@ use Rattle.passive_store.specs.declared.store.Pick.{Pick}
 use Rattle.passive_store.specs.declared.store.Pick.TheVariants.{Old, New}
 use Rattle.passive_blocks.specs.BlockLayout.{block_changes, changes_left}
 use Rattle.passive_blocks.specs.Fits.{Fits}
-use Rattle.passive_blocks.specs.HeadSeen.{head_of}
-use Rattle.passive_blocks.specs.HeadState.{heads_in, slot_at, is_open, closed_slot}
-use Rattle.passive_blocks.specs.TableState.{keeper, spare}
+use Rattle.block_tables.specs.HeadSeen.{head_of}
+use Rattle.block_tables.specs.HeadState.{heads_in, slot_at, is_open, closed_slot}
+use Rattle.block_tables.specs.TableState.{keeper, spare}
 use Rattle.passive_blocks.specs.HeldState.{IsHeld, behind_walk}
 use Rattle.passive_blocks.specs.StoreState.{IsTableOf, IsImageOf, chain_in, change_of, members_of, calls_at, kept_or_none}
 

@@ -13,22 +13,22 @@ use Rattle.passive_store.specs.declared.store.Pick.{Pick}
 use Rattle.passive_store.specs.Acts.{DiskCall, Write, Sync}
 use Rattle.passive_store.specs.Kept.{Change, Kept, Work, Idle, Busy, Unsettled, nothing_kept, reserved_uid}
 use Rattle.passive_store.specs.Seen.{Seen, disk_seen}
-use Rattle.passive_blocks.specs.declared.heads.HeadFields.{HeadFields}
-use Rattle.passive_blocks.specs.declared.index.Entry.{Entry}
-use Rattle.passive_blocks.specs.declared.table.Table.{Table}
-use Rattle.passive_blocks.specs.declared.block_table.BlockTable.{BlockTable}
+use Rattle.block_tables.specs.declared.heads.HeadFields.{HeadFields}
+use Rattle.block_tables.specs.declared.index.Entry.{Entry}
+use Rattle.block_tables.specs.declared.table.Table.{Table}
+use Rattle.block_tables.specs.declared.block_table.BlockTable.{BlockTable}
 use Rattle.passive_blocks.specs.declared.block_store.Pending.{Pending}
 use Rattle.passive_blocks.specs.declared.block_store.Stage.{Stage}
 use Rattle.passive_blocks.specs.declared.block_store.Stage.TheVariants.{Close, Write as WritePart, Head as WriteHead, SyncHead, Open}
 use Rattle.passive_blocks.specs.declared.block_store.Stage.TheVariants.{SyncOpen}
 use Rattle.passive_blocks.specs.declared.block_store.Stage.TheVariants.{Ended}
-use Rattle.passive_blocks.specs.Members.{is_member}
-use Rattle.passive_blocks.specs.Blocks.{Head, Chain, numbers, head_place, blocks_of, data_count, heads_of, chains_of, keeping, greatest}
-use Rattle.passive_blocks.specs.Blocks.{kept_in_blocks}
-use Rattle.passive_blocks.specs.Changes.{chain_writes, spelled_head, free_head}
-use Rattle.passive_blocks.specs.HeadSeen.{head_of}
-use Rattle.passive_blocks.specs.HeadState.{heads_in}
-use Rattle.passive_blocks.specs.BlockState.{walk}
+use Rattle.block_tables.specs.Members.{is_member}
+use Rattle.block_tables.specs.Blocks.{Head, Chain, numbers, head_place, blocks_of, data_count, heads_of, chains_of, keeping, greatest}
+use Rattle.block_tables.specs.Blocks.{kept_in_blocks}
+use Rattle.block_tables.specs.Changes.{chain_writes, spelled_head, free_head}
+use Rattle.block_tables.specs.HeadSeen.{head_of}
+use Rattle.block_tables.specs.HeadState.{heads_in}
+use Rattle.block_tables.specs.BlockState.{walk}
 
 -- the members of a set, ascending
 abbrev pub members_of : List ℕ → List ℕ

@@ -7,22 +7,21 @@ ghost use Rattle.eden_disk.specs.Timed.{Timed};
 ghost use Rattle.eden_disk.specs.Calls.{Counts, DeviceCalls, Obeyed, end_of};
 ghost use Rattle.passive_store.specs.Acts.{CallTold, Write};
 ghost use Rattle.passive_store.specs.declared.store.StoreRefusal.TheVariants.{Full};
-ghost use Rattle.passive_blocks.specs.Blocks as blocks;
-ghost use Rattle.passive_blocks.specs.Members.{is_member, IsFirstOf};
+ghost use Rattle.block_tables.specs.Blocks as blocks;
+ghost use Rattle.block_tables.specs.Members.{is_member, IsFirstOf};
 ghost use Rattle.passive_blocks.specs.StoreState.{work_at};
 ghost use Rattle.passive_blocks.specs.HeldState.{IsHeld};
-ghost use Rattle.passive_blocks.specs.HeadState.{AreHeads};
+ghost use Rattle.block_tables.specs.HeadState.{AreHeads};
 ghost use Rattle.passive_blocks.specs.StageState.{IsPartNext, behind_part, behind_closing, part_bytes, IsClosedBy, IsBehindClosing};
 ghost use Rattle.passive_blocks.specs.StageState.{IsStaged, IsNext, stage_call, gate_of, is_going, IsSettledBy};
 ghost use Rattle.passive_blocks.specs.StageState.{changes_behind, is_first_kept};
-ghost use Rattle.passive_blocks.specs.TableState.{IsTable};
+ghost use Rattle.block_tables.specs.TableState.{IsTable};
 
-use crate::heads::{
-    CLOSED, DATA, HeadFields, OPEN, read_gate, write_block, write_gate, write_head,
-};
 use crate::opening::{changes_told, open_blocks};
-use crate::table::Table;
 use crate::values::read_value;
+use block_tables::{
+    CLOSED, DATA, HeadFields, OPEN, Table, read_gate, write_block, write_gate, write_head,
+};
 use capability::{Body, Seq, Uid};
 use eden_disk::{Arm, Disk, DiskRefusal};
 use passive_store::{Pick, Progress, Store, StoreRefusal};

@@ -2,7 +2,7 @@
 ghost use Rattle.std.specs.Prelude.{◌≡◌, ℕ, ◌≤◌, List, Some, length, true};
 ghost use Rattle.passive_store.specs.Layout.{IsLayout};
 ghost use Rattle.passive_store.specs.Log.{log_map};
-ghost use Rattle.passive_blocks.specs.Blocks.{is_block_size};
+ghost use Rattle.block_tables.specs.Blocks.{is_block_size};
 ghost use Rattle.passive_blocks.specs.Conversion.{old_log};
 ghost use Rattle.passive_blocks.specs.BlockLayout.{block_layout, block_map, format_of, OldLog, KeepsAsLog};
 

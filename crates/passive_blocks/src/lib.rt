@@ -2,23 +2,16 @@
 #![tactic(auto)]
 
 mod block_store;
-mod block_table;
 mod convert;
 mod convert_law;
 #[cfg(test)]
 mod convert_tests;
-mod head_table;
-mod heads;
-mod index;
 mod law;
-mod number_set;
 mod opening;
 #[cfg(test)]
 mod opening_tests;
-mod peaks;
 #[cfg(test)]
 mod store_tests;
-mod table;
 #[cfg(test)]
 mod tests;
 mod values;

@@ -15,25 +15,25 @@ ghost use Rattle.passive_blocks.specs.Fits.{Fits};
 ghost use Rattle.passive_blocks.specs.NewBlocks.{MayBlank, IsEmptyImage, IsBlankDisk, IsClearedDisk, IsNewBlocks, AreCleared};
 ghost use Rattle.passive_blocks.specs.NewBlocks.{clearing_calls};
 ghost use Rattle.passive_blocks.specs.Preparing.{AreReady, IsSynced, KeepsThrough, PreparingMade, PreparingTold};
-ghost use Rattle.passive_blocks.specs.Blocks as blocks;
-ghost use Rattle.passive_blocks.specs.Blocks.{has, heads_of, blocks_map, chains_of, changes_on, data_count, keeping, taken_by};
-ghost use Rattle.passive_blocks.specs.HeadState.{heads_in, is_open};
-ghost use Rattle.passive_blocks.specs.BlockState.{AreBlocks, free_in};
-ghost use Rattle.passive_blocks.specs.Members.{is_member};
+ghost use Rattle.block_tables.specs.Blocks as blocks;
+ghost use Rattle.block_tables.specs.Blocks.{has, heads_of, blocks_map, chains_of, changes_on, data_count, keeping, taken_by};
+ghost use Rattle.block_tables.specs.HeadState.{heads_in, is_open};
+ghost use Rattle.block_tables.specs.BlockState.{AreBlocks, free_in};
+ghost use Rattle.block_tables.specs.Members.{is_member};
+ghost use Rattle.block_tables.specs.BlockState.{AreAllFree};
 ghost use Rattle.passive_blocks.specs.BlockLayout.{reads_of_blocks};
 ghost use Rattle.passive_blocks.specs.HeldState.{IsHeld};
 ghost use Rattle.std.specs.Prelude.{◌&&◌, ◌^◌, is_some, nat_le, if◌then◌else◌};
 ghost use Rattle.passive_blocks.specs.StoreState.{IsTableOf, changes_known};
 ghost use Rattle.passive_blocks.specs.Looks.{looked};
-ghost use Rattle.passive_blocks.specs.OpeningState.{AreReadTo, AreCounted, AreAllFree, heads_read, IsFollowed, IsChainOn};
+ghost use Rattle.passive_blocks.specs.OpeningState.{AreReadTo, AreCounted, heads_read, IsFollowed, IsChainOn};
 ghost use Rattle.passive_blocks.specs.OpeningState.{IsChainRead, ChainRead, IsLinkedTo, whole_chain};
 
-use crate::block_table::BlockTable;
 use crate::convert::{BLOCKS, STAGED, bring_over};
-use crate::heads::{
-    BLOCK, HeadFields, LAST_SEQUENCE, blocks_of, head_place, is_block_size, read_head, read_next,
+use block_tables::{
+    BLOCK, BlockTable, HeadFields, LAST_SEQUENCE, Table, blocks_of, head_place, is_block_size,
+    read_head, read_next,
 };
-use crate::table::Table;
 use capability::Uid;
 use eden_disk::{Disk, DiskRefusal};
 use passive_store::StoreRefusal;

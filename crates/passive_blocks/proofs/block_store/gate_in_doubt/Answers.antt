@@ -1,5 +1,5 @@
 use Rattle.std.proofs.Common.{sym, ap, ◌∙◌}
-use Rattle.passive_blocks.specs.Changes.{first_or_zero}
+use Rattle.block_tables.specs.Changes.{first_or_zero}
 use Rattle.passive_blocks.specs.StageState.{gate_of}
 use Rattle.passive_blocks.proofs.StageFirst.{first_is}
 use Rattle.passive_blocks.proofs.StageOrder.{no_members}

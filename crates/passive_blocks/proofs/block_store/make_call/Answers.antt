@@ -3,7 +3,7 @@ use Rattle.eden_disk.specs.Calls.{Fine, end_of}
 use Rattle.eden_disk.proofs.Timed.{timed_sync}
 use Rattle.passive_store.specs.Acts.{CallTold, Write}
 use Rattle.passive_blocks.specs.declared.block_store.Stage.{Stage}
-use Rattle.passive_blocks.specs.Blocks.{head_place}
+use Rattle.block_tables.specs.Blocks.{head_place}
 use Rattle.passive_blocks.specs.StageState.{stage_call, IsNext, IsClosedBy}
 use Rattle.passive_blocks.proofs.StageFirst.{first_is}
 use Rattle.passive_blocks.proofs.block_store.make_call.Goals as goal

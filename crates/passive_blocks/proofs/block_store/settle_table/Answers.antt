@@ -2,8 +2,8 @@ use Rattle.std.proofs.Common.{◌≡◌, true, sym, subst, inl, inr, Some}
 use Rattle.std.specs.Prelude.{IsSome}
 use Rattle.std.specs.BTreeMap as tree
 use Rattle.capability.specs.Uids.{uid_cmp}
-use Rattle.passive_blocks.specs.declared.table.Table.{Table}
-use Rattle.passive_blocks.specs.Members.{is_member}
+use Rattle.block_tables.specs.declared.table.Table.{Table}
+use Rattle.block_tables.specs.Members.{is_member}
 use Rattle.passive_blocks.proofs.HeldClosing.{held_when_closed}
 use Rattle.passive_blocks.proofs.HeldMaking.{held_when_made, held_when_dropped}
 use Rattle.passive_blocks.proofs.block_store.settle_table.Goals as goal

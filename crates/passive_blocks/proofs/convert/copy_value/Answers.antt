@@ -4,8 +4,8 @@ use Rattle.eden_disk.specs.Told.{contents}
 use Rattle.eden_disk.specs.Calls.{Fine, end_of}
 use Rattle.passive_store.specs.Acts.{Read}
 use Rattle.passive_store.specs.Seen.{DiskSeen, disk_seen}
-use Rattle.passive_blocks.specs.Blocks.{numbers, blocks_of}
-use Rattle.passive_blocks.specs.Changes.{chain_writes}
+use Rattle.block_tables.specs.Blocks.{numbers, blocks_of}
+use Rattle.block_tables.specs.Changes.{chain_writes}
 use Rattle.passive_blocks.specs.Conversion.{move_calls}
 use Rattle.passive_blocks.specs.Converting.{moved_in}
 use Rattle.passive_blocks.proofs.Making.{makes_read}

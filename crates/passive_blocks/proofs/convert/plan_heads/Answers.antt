@@ -3,7 +3,7 @@ use Rattle.std.specs.Prelude.{Option, Some, is_ok, not}
 use Rattle.std.specs.Map.Iter.{deref_pair}
 use Rattle.std.proofs.lemmas.Map.Iter.{rest_more, rest_all}
 use Rattle.passive_store.specs.declared.index.Slot.{Slot}
-use Rattle.passive_blocks.specs.Blocks.{blocks_of}
+use Rattle.block_tables.specs.Blocks.{blocks_of}
 use Rattle.passive_blocks.specs.Converting.{IsMovable, planned_at}
 use Rattle.passive_blocks.proofs.PlanningLoop.{Planning, slot_of_turn, planning_with, planning_done, pushed}
 use Rattle.passive_blocks.proofs.convert.plan_heads.Goals as goal

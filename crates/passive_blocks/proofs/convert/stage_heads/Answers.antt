@@ -2,7 +2,7 @@ use Rattle.std.proofs.Common.{List, Err}
 use Rattle.std.proofs.lemmas.Result.{err_from_is_err_and}
 use Rattle.eden_disk.specs.Calls.{Fine, end_of}
 use Rattle.passive_store.specs.Seen.{DiskSeen, disk_seen}
-use Rattle.passive_blocks.specs.Blocks.{Head}
+use Rattle.block_tables.specs.Blocks.{Head}
 use Rattle.passive_blocks.specs.Converting.{heads_planned}
 use Rattle.passive_blocks.proofs.Moving.{staging_begun, staged_write, staging_on, staging_refused, staged_whole}
 use Rattle.passive_blocks.proofs.convert.stage_heads.Goals as goal

@@ -2,7 +2,7 @@ use Rattle.std.proofs.Common.{◌≡◌, ◌+◌, ◌<◌, ◌≤◌, ℕ, List,
 use Rattle.std.proofs.lemmas.Result.{err_from_is_err_and}
 use Rattle.eden_disk.specs.Calls.{Fine, end_of}
 use Rattle.passive_store.specs.Seen.{DiskSeen, disk_seen}
-use Rattle.passive_blocks.specs.Blocks.{blocks_of}
+use Rattle.block_tables.specs.Blocks.{blocks_of}
 use Rattle.passive_blocks.proofs.Copying.{chaining_begun, block_makes, next_of, chained_more, chain_refused, chained_whole}
 use Rattle.passive_blocks.proofs.convert.write_chain.Goals as goal
 

@@ -2,9 +2,9 @@ use Rattle.std.proofs.Common.{◌≡◌, ◌+◌, ◌<◌, ◌/◌, true, false,
 use Rattle.std.proofs.lemmas.Result.{err_from_is_err_and}
 use Rattle.eden_disk.proofs.Held.{calls_none, calls_more, obeyed_none, obeyed_more}
 use Rattle.passive_store.proofs.Joining.{timed_still}
-use Rattle.passive_blocks.specs.Members.{is_member}
-use Rattle.passive_blocks.specs.Blocks.{blocks_of}
-use Rattle.passive_blocks.proofs.Walks.{on_disk}
+use Rattle.block_tables.specs.Members.{is_member}
+use Rattle.block_tables.specs.Blocks.{blocks_of}
+use Rattle.block_tables.proofs.Walks.{on_disk}
 use Rattle.passive_blocks.proofs.OpeningReads.{timed_behind}
 use Rattle.passive_blocks.proofs.OpeningChains.{none_followed, one_followed, stopped_at, stopped, ended_at, ended}
 use Rattle.passive_blocks.proofs.OpeningRead.{size_parts}

@@ -8,7 +8,7 @@ use Rattle.passive_blocks.specs.Fits.{Fits}
 use Rattle.std.specs.Prelude.{OnOk}
 use Rattle.eden_disk.specs.Told.{contents}
 use Rattle.eden_disk.specs.Held.{Passes}
-use Rattle.passive_blocks.specs.Blocks.{is_block_size}
+use Rattle.block_tables.specs.Blocks.{is_block_size}
 use Rattle.passive_blocks.specs.NewBlocks.{MayBlank, IsEmptyImage, IsClearedDisk, IsNewBlocks, clearing_calls}
 use Rattle.passive_blocks.proofs.OpeningFormat.{blank_fits, blank_is_empty, cleared_disk}
 use Rattle.passive_blocks.proofs.opening.make_blocks.Goals as goal

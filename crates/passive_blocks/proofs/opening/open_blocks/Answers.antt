@@ -13,8 +13,8 @@ use Rattle.eden_disk.proofs.Timed.{timed_sync, timed_join}
 use Rattle.passive_store.specs.Acts.{AllTold}
 use Rattle.passive_store.specs.Kept.{OpeningTold}
 use Rattle.passive_store.proofs.Joining.{timed_still, counts_alike, obeyed_alike}
-use Rattle.passive_blocks.specs.declared.table.Table.{Table}
-use Rattle.passive_blocks.specs.Blocks.{is_block_size}
+use Rattle.block_tables.specs.declared.table.Table.{Table}
+use Rattle.block_tables.specs.Blocks.{is_block_size}
 use Rattle.passive_blocks.specs.BlockLayout.{block_map}
 use Rattle.passive_blocks.specs.HeldState.{IsHeld}
 use Rattle.passive_blocks.specs.Preparing.{AreReady, calls_to_blocks, calls_behind_sync}

@@ -8,7 +8,7 @@ use Rattle.passive_store.specs.Acts.{AllTold, CallsTold}
 use Rattle.passive_blocks.specs.BlockLayout.{format_calls}
 use Rattle.eden_disk.proofs.Held.{calls_more, obeyed_more}
 use Rattle.eden_disk.proofs.Timed.{timed_join}
-use Rattle.passive_blocks.specs.Blocks.{is_block_size}
+use Rattle.block_tables.specs.Blocks.{is_block_size}
 use Rattle.passive_blocks.specs.BlockLayout.{format_of, overfull_by}
 use Rattle.passive_blocks.specs.Preparing.{AreReady, IsSynced, IsLogDisk}
 use Rattle.std.specs.Prelude.{OnOk, IfErr}

@@ -5,12 +5,12 @@ use Rattle.eden_disk.specs.Calls.{ReadTold, Fine}
 use Rattle.eden_disk.proofs.Held.{calls_more, obeyed_more}
 use Rattle.eden_disk.proofs.Timed.{timed_join}
 use Rattle.passive_store.specs.Kept.{OpeningMade, end_of_store}
-use Rattle.passive_blocks.specs.declared.head_table.HeadTable.{HeadTable}
+use Rattle.block_tables.specs.declared.head_table.HeadTable.{HeadTable}
 use Rattle.passive_store.proofs.Joining.{counts_alike, obeyed_alike, end_alike}
-use Rattle.passive_blocks.specs.declared.table.Table.{Table}
-use Rattle.passive_blocks.specs.Blocks.{chains_of, taken_by, kept_in_blocks}
-use Rattle.passive_blocks.specs.HeadState.{AreHeads, heads_in}
-use Rattle.passive_blocks.specs.Members.{is_member}
+use Rattle.block_tables.specs.declared.table.Table.{Table}
+use Rattle.block_tables.specs.Blocks.{chains_of, taken_by, kept_in_blocks}
+use Rattle.block_tables.specs.HeadState.{AreHeads, heads_in}
+use Rattle.block_tables.specs.Members.{is_member}
 use Rattle.passive_blocks.proofs.OpeningFinal.{held_opened}
 use Rattle.passive_blocks.proofs.OpeningBlocks.{made_heads, made_all, made_both, table_opened, chains_damaged}
 use Rattle.passive_blocks.proofs.opening.read_blocks.Goals as goal

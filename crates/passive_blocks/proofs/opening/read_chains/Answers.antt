@@ -10,12 +10,12 @@ use Rattle.passive_blocks.specs.OpeningState.{ChainRead, IsLinkedTo, whole_chain
 use Rattle.passive_blocks.proofs.OpeningReads.{timed_behind, not_full, place_is}
 use Rattle.passive_blocks.proofs.OpeningLinks.{found_value, found_none, value_few}
 use Rattle.std.proofs.Common.{true}
-use Rattle.passive_blocks.specs.Blocks.{head_place, is_block_size}
-use Rattle.passive_blocks.specs.HeadState.{AreHeads}
+use Rattle.block_tables.specs.Blocks.{head_place, is_block_size}
+use Rattle.block_tables.specs.HeadState.{AreHeads}
 use Rattle.passive_blocks.proofs.OpeningRead.{size_parts, chains_made}
 use Rattle.passive_blocks.proofs.OpeningLinked.{linking_none, linking_skip, linking_more, link_damaged, linked_all, kept_all}
 use Rattle.passive_store.specs.Kept.{end_of_store}
-use Rattle.passive_blocks.specs.HeadState.{heads_in}
+use Rattle.block_tables.specs.HeadState.{heads_in}
 use Rattle.passive_blocks.proofs.opening.read_chains.Goals.{in-Some+in_ok-read_chain-in-Some, in-None}
 use Rattle.passive_blocks.proofs.opening.read_chains.Goals as goal
 

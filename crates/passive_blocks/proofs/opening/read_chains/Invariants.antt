@@ -1,5 +1,5 @@
 use Rattle.std.proofs.Common.{◌≡◌}
-use Rattle.passive_blocks.specs.HeadState.{heads_in}
+use Rattle.block_tables.specs.HeadState.{heads_in}
 use Rattle.passive_blocks.proofs.OpeningLinked.{Linking}
 use Rattle.passive_blocks.proofs.opening.read_chains.Given as goal
 

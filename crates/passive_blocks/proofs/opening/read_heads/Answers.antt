@@ -6,10 +6,11 @@ use Rattle.std.proofs.lemmas.Result.{err_from_is_err_and}
 use Rattle.eden_disk.specs.Told.{contents}
 use Rattle.eden_disk.specs.Calls.{Fine, DeviceCalls, Obeyed, ReadTold}
 use Rattle.eden_disk.proofs.Held.{calls_none, calls_more, obeyed_none, obeyed_more}
-use Rattle.passive_blocks.specs.declared.table.Table.{Table}
-use Rattle.passive_blocks.specs.Blocks.{head_place, heads_of}
-use Rattle.passive_blocks.specs.HeadSeen.{IsHeadThere}
-use Rattle.passive_blocks.specs.OpeningState.{heads_read, IsRead}
+use Rattle.block_tables.specs.declared.table.Table.{Table}
+use Rattle.block_tables.specs.Blocks.{head_place, heads_of}
+use Rattle.block_tables.specs.HeadSeen.{IsHeadThere}
+use Rattle.block_tables.specs.HeadState.{IsRead}
+use Rattle.passive_blocks.specs.OpeningState.{heads_read}
 use Rattle.passive_blocks.proofs.OpeningHeads.{none_read}
 use Rattle.passive_blocks.proofs.OpeningReads.{found_first, found_all, damaged_found, twice_found, made_by, heads_made}
 use Rattle.passive_blocks.proofs.OpeningReads.{not_full}

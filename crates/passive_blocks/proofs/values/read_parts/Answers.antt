@@ -3,7 +3,7 @@ use Rattle.std.proofs.lemmas.Result.{err_from_is_err_and}
 use Rattle.eden_disk.proofs.Held.{calls_none, calls_more, obeyed_none, obeyed_more}
 use Rattle.eden_disk.proofs.Timed.{timed_join}
 use Rattle.passive_store.proofs.Joining.{timed_still}
-use Rattle.passive_blocks.specs.Blocks.{blocks_of}
+use Rattle.block_tables.specs.Blocks.{blocks_of}
 use Rattle.passive_blocks.proofs.Parts.{none_read, more_read, all_read, next_on}
 use Rattle.passive_blocks.proofs.values.read_parts.Goals as goal
 

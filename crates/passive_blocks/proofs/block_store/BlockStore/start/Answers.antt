@@ -3,12 +3,12 @@ use Rattle.std.specs.Prelude.{IsSome}
 use Rattle.std.proofs.lemmas.Result.{err_from_is_err_and}
 use Rattle.passive_store.specs.Kept.{IsOwn, body_at}
 use Rattle.passive_store.specs.Seen.{DiskSeen, TellsBehind, asked}
-use Rattle.passive_blocks.specs.declared.table.Table.{Table}
+use Rattle.block_tables.specs.declared.table.Table.{Table}
 use Rattle.passive_blocks.specs.declared.block_store.Pending.{Pending}
 use Rattle.passive_blocks.specs.StoreState.{HasEntry, state_kept, body_asked, pending_work}
 use Rattle.passive_blocks.specs.StageState.{IsStore}
-use Rattle.passive_blocks.specs.HeadState.{is_open, slot_at}
-use Rattle.passive_blocks.specs.TableState.{fits_in, greatest_in}
+use Rattle.block_tables.specs.HeadState.{is_open, slot_at}
+use Rattle.block_tables.specs.TableState.{fits_in, greatest_in}
 use Rattle.passive_blocks.proofs.StageGoes.{kept_seen}
 use Rattle.passive_blocks.proofs.StageBegins.{IsAsked, IsChosen, chosen_by, begun_store, begun_seen, refused_begins, full_begins}
 use Rattle.passive_blocks.proofs.StageBegins.{none_pending}

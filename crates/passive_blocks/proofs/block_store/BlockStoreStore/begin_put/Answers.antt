@@ -3,7 +3,7 @@ use Rattle.std.proofs.lemmas.Result.{err_from_is_err_and}
 use Rattle.passive_store.specs.declared.store.StoreRefusal.TheVariants.{OutOfMemory}
 use Rattle.passive_store.specs.Seen.{DiskSeen, Begins, asked}
 use Rattle.passive_store.proofs.Changing.{memory_is_not_room}
-use Rattle.passive_blocks.specs.declared.table.Table.{Table}
+use Rattle.block_tables.specs.declared.table.Table.{Table}
 use Rattle.passive_blocks.specs.BlockLayout.{block_layout}
 use Rattle.passive_blocks.specs.StoreState.{state_kept, block_seen, pending_work}
 use Rattle.passive_blocks.proofs.StageGoes.{kept_seen}

@@ -5,7 +5,7 @@ use Rattle.passive_store.proofs.Joining.{counts_alike, obeyed_alike, made_alike,
 use Rattle.std.proofs.Common.{arith}
 use Rattle.passive_blocks.specs.BlockLayout.{block_changes}
 use Rattle.passive_blocks.specs.HeldState.{IsHeld}
-use Rattle.passive_blocks.specs.declared.table.Table.{Table}
+use Rattle.block_tables.specs.declared.table.Table.{Table}
 use Rattle.passive_blocks.proofs.OpeningFull.{not_never}
 use Rattle.passive_blocks.proofs.OpeningShown.{map_shown, stands_shown}
 use Rattle.passive_blocks.proofs.OpeningDisk.{size_allowed, more_shown, full_alike}

@@ -3,7 +3,7 @@ use Rattle.std.proofs.lemmas.Result.{err_from_is_err_and}
 use Rattle.passive_store.specs.declared.store.StoreRefusal.TheVariants.{Full, OutOfMemory}
 use Rattle.passive_store.specs.Kept.{IsOwn, is_busy}
 use Rattle.passive_store.specs.Seen.{DiskSeen, Seen, Asked, Begins, Puts, asked}
-use Rattle.passive_blocks.specs.declared.table.Table.{Table}
+use Rattle.block_tables.specs.declared.table.Table.{Table}
 use Rattle.passive_blocks.specs.BlockLayout.{block_layout}
 use Rattle.passive_blocks.specs.StoreState.{block_seen}
 use Rattle.passive_blocks.proofs.StoreEntry.{entry_store, entry_seen, waiting_seen}

@@ -1,0 +1,7 @@
+use Rattle.std.proofs.Common.{◌≡◌, ℕ, length}
+use Rattle.std.specs.Prelude.{nat_lt}
+use Rattle.block_tables.specs.Members.{is_member}
+use Rattle.block_tables.proofs.head_table.HeadTable.new.Given as goal
+
+abbrev pub invariant-loop-number : goal.invariant-loop-number
+invariant-loop-number l = (length l.free ≡ l.count) × ((k : ℕ) → is_member l.free k ≡ nat_lt k l.number)

@@ -1,7 +1,0 @@
-use Rattle.std.proofs.Common.{◌-◌}
-use Rattle.passive_blocks.specs.Blocks as blocks
-use Rattle.passive_blocks.proofs.Walks.{Freeing}
-use Rattle.passive_blocks.proofs.block_table.BlockTable.free_chain.Given as goal
-
-abbrev pub invariant-loop : goal.invariant-loop
-invariant-loop l = Freeing l.fn.self l.self l.fn.first (blocks.blocks_of l.fn.size) l.block (l.end - l.counter)

@@ -1,8 +1,0 @@
-use Rattle.std.proofs.Common.{◌≡◌, ◌&&◌, ℕ, length}
-use Rattle.std.specs.Prelude.{nat_lt}
-use Rattle.passive_blocks.specs.Blocks.{is_data}
-use Rattle.passive_blocks.specs.Members.{is_member}
-use Rattle.passive_blocks.proofs.block_table.BlockTable.new.Given as goal
-
-abbrev pub invariant-loop-number : goal.invariant-loop-number
-invariant-loop-number l = (length l.free ≡ l.count) × ((k : ℕ) → is_member l.free k ≡ (nat_lt k l.number && is_data l.size k))
