@@ -1,9 +1,11 @@
 -- What a function of the code comes to is what the meaning gives, unless memory ran out.
-use Rattle.std.specs.Prelude.{◌≡◌, ℕ, List, Bool, true, false, Result, Ok, Err}
-use Rattle.eden_value.specs.Datum.{Datum}
+use Rattle.std.specs.Prelude.{◌≡◌, ℕ, ℤ, List, Bool, true, false, Result, Ok, Err}
+use Rattle.eden_value.specs.Datum.{Datum, number}
 use Rattle.epl_syntax.specs.declared.effect.FaultCause.{FaultCause}
 use Rattle.epl_syntax.specs.declared.tree.Operator.{Operator}
+use Rattle.epl_syntax.specs.Expressions.{value_of}
 use Rattle.epl_syntax.specs.Memory.{Memory, set}
+use Rattle.epl_syntax.specs.Tree.{Expression}
 use Rattle.epl_syntax.specs.Operators.{Found, found, between, of_both}
 use Rattle.epl_values.specs.declared.stop.Stop.{Stop}
 use Rattle.epl_values.specs.declared.stop.Stop.TheVariants as stop
@@ -22,6 +24,10 @@ Comes view (Err e) meant = Stops e meant
 abbrev pub Decided : Bool → Operator → Datum → Type 0
 Decided true operator left = (right : Found) → between operator left right ≡ Ok left
 Decided false operator left = (right : Found) → between operator left right ≡ found right (of_both operator left)
+
+-- an expression that comes to a number
+abbrev pub IsNumber : Memory → Expression → ℤ → Type 0
+IsNumber m e n = value_of m e ≡ Ok (number n)
 
 -- two values that may be joined, or the fault of it
 abbrev pub Joins : Result (Unit {0}) FaultCause → Found → Type 0

@@ -1,21 +1,21 @@
 //! Values of expressions.
-ghost use Rattle.std.specs.Prelude.{◌≡◌, Ok};
+ghost use Rattle.std.specs.Prelude.{◌≡◌, Ok, IfSome};
 ghost use Rattle.eden_value.specs.View.{datum, datums};
 ghost use Rattle.epl_syntax.specs.Tree as tree;
 ghost use Rattle.epl_syntax.specs.Operators as operators;
 ghost use Rattle.epl_syntax.specs.Memory as memory;
 ghost use Rattle.epl_syntax.specs.Expressions as meaning;
-ghost use Rattle.epl_values.specs.Comes.{Comes, Decided};
+ghost use Rattle.epl_values.specs.Comes.{Comes, Decided, IsNumber};
 ghost use Rattle.epl_values.specs.Variables as spec;
 
 use crate::builtin::{applied, item_at};
 use crate::constant::value_of_constant;
-use crate::operator::{before_operand, list_of, of_both};
+use crate::operator::{before_operand, list_of, of_both, of_integers};
 use crate::stop::Stop;
 use crate::variables::{Variables, value_named};
 use capability::mint;
 use eden_value::{Txt, Value, copy};
-use epl_syntax::{Expr, FaultCause, Operator, Program};
+use epl_syntax::{Const, Expr, FaultCause, Operator, Program};
 use std::alloc::Global;
 
 /// A copy of the value of a variable.
@@ -46,7 +46,34 @@ fn is_decided(operator: Operator, left: &Value) -> bool
     }
 }
 
-/// The value of an expression.
+/// The number that a constant or a variable is, if it is one. Nothing is copied.
+fn number_in(program: &Program, vars: &Variables, e: &Expr) -> Option<i64>
+    ensures { IfSome result (IsNumber (spec.memory (tree.type_tree program.now) vars.now) (tree.expression e.now)) }
+{
+    match e {
+        Expr::Const {
+            value: Const::Int { n },
+            ..
+        } => Some(*n),
+        Expr::Name { name } => match value_named(program, vars, &name.text) {
+            Some(Value::Int { n }) => Some(*n),
+            _ => None,
+        },
+        _ => None,
+    }
+}
+
+/// The numbers on both sides of an operator, if each is a constant or a variable that is one.
+fn numbers_in(program: &Program, vars: &Variables, left: &Expr, right: &Expr) -> Option<(i64, i64)>
+    ensures left { IfSome result (λ it. IsNumber (spec.memory (tree.type_tree program.now) vars.now) (tree.expression left.now) it.0) }
+    ensures right { IfSome result (λ it. IsNumber (spec.memory (tree.type_tree program.now) vars.now) (tree.expression right.now) it.1) }
+{
+    let left = number_in(program, vars, left)?;
+    let right = number_in(program, vars, right)?;
+    Some((left, right))
+}
+
+/// The value of an expression. An operator between two numbers, as most of a turn has them, is worked out without copies of them.
 #[cycle(expression)]
 pub fn value_of(alloc: Global, program: &Program, vars: &Variables, e: &Expr) -> Result<Value, Stop>
     ensures { Comes datum result (meaning.value_of (spec.memory (tree.type_tree program.now) vars.now) (tree.expression e.now)) }
@@ -67,6 +94,9 @@ pub fn value_of(alloc: Global, program: &Program, vars: &Variables, e: &Expr) ->
             right,
             ..
         } => {
+            if let Some((a, b)) = numbers_in(program, vars, left, right) {
+                return of_integers(*operator, a, b);
+            }
             let left = value_of(alloc, program, vars, left)?;
             if is_decided(*operator, &left) {
                 return Ok(left);

@@ -79,7 +79,7 @@ fn between_numbers(operator: Operator, a: Value, b: Value) -> Result<Value, Stop
 }
 
 /// An operator between two numbers.
-fn of_integers(operator: Operator, a: i64, b: i64) -> Result<Value, Stop>
+pub(crate) fn of_integers(operator: Operator, a: i64, b: i64) -> Result<Value, Stop>
     ensures { Comes datum result (meaning.of_both operator (number a) (number b)) }
 {
     match operator {
