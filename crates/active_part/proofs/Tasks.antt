@@ -1,7 +1,7 @@
 -- The tasks of an active part: std's map as a list in ascending order of numbers.
 use Rattle.std.proofs.Common.{◌≡◌, ◌≤◌, ℕ, ◌==◌, Bool, true, false, cond, not, List, [], ◌∷◌, map, Option, None, Some}
 use Rattle.std.proofs.Common.{refl, sym, ◌∙◌, ap, subst, arith}
-use Rattle.std.specs.Prelude.{IfSome, OnOk, Result, Ok, Err, is_some}
+use Rattle.std.specs.Prelude.{IfSome, OnOk, Result, Ok, Err, is_some, is_ok}
 use Rattle.std.proofs.lemmas.Bool.{eqb-true}
 use Rattle.std.proofs.lemmas.Bool.Decides.{nat_tests}
 use Rattle.std.specs.declared.cmp.Ordering.{Ordering}
@@ -269,6 +269,16 @@ module _ (ts : TypeList) (a : Part) (x : Call) (it : Option Started) (st : Start
       tasked = put (kind_in ts a.kind)
           ∙ (λ j. put_at nat_cmp (free j) (begun j) (each_value (task_of (kind_in ts a.kind)) a.tasks.entries))
 
+-- an invocation may start, of which the call did
+pub may-begin : {X Y : Type 0} (f : X → ℕ) (g : Y → ℕ) (st : X) (it : Option X) (o : Option Y) → it ≡ Some st
+    → option_map f it ≡ option_map g o → is_some o ≡ true
+may-begin f g st it (Some y) is call = refl
+may-begin f g st it None is call = absurd (let bad : Some (f st) ≡ None = sym (ap (option_map f) is) ∙ call in cc bad)
+
 pub on-ok : {X Y A B : Type 0} (r : Result X Y) → (A → B) → OnOk r A → OnOk r B
 on-ok (Ok x) f h = f h
 on-ok (Err y) f h = tt
+
+pub then-ok : {X Y A : Type 0} (r : Result X Y) → (is_ok r ≡ true → A) → OnOk r A
+then-ok (Ok x) h = h refl
+then-ok (Err y) h = tt

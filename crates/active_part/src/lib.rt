@@ -3,13 +3,13 @@
 
 mod fresh;
 
-ghost use Rattle.std.specs.Prelude.{◌≡◌, ◌≤◌, ◌↔◌, ◌==◌, not, true, IsTrue, IfOk, OnOk, OnErr, IfSome, length, Some, []};
+ghost use Rattle.std.specs.Prelude.{◌≡◌, ◌≤◌, ◌<◌, ◌↔◌, ◌==◌, not, true, IsTrue, IsOk, IfOk, OnOk, OnErr, IsSome, IfSome, length, Some, []};
 ghost use Rattle.std.specs.Ordering.{nat_cmp};
 ghost use Rattle.std.specs.Option.{option_map};
 ghost use Rattle.capability.specs.declared.TheConstants.{BODY_LIMIT};
 ghost use Rattle.coordinator.specs.Ready.{AscendPast, next_ready};
 ghost use Rattle.eden_codec.specs.Spelling.{spelling};
-ghost use Rattle.eden_model.specs.Crew.{Runs, outside, set_waits, startable, serving_pairs};
+ghost use Rattle.eden_model.specs.Crew.{Runs, Waits, outside, set_waits, startable, serving_pairs};
 ghost use Rattle.eden_model.specs.Map.{changed_at, put_at, each_value, where_key};
 ghost use Rattle.epl_syntax.specs.declared.effect.Answer.TheVariants.{Go};
 ghost use Rattle.epl_syntax.specs.Edentype.{Edentype};
@@ -89,6 +89,7 @@ impl Part {
     pub fn offer(&mut self, call: u32, class: u8) -> Result<(), AllocError>
         ensures after { OnOk result ((ts : TypeList) → body_of ts self.new
             ≡ joined_body (record { call = call; class = class }) (body_of ts self.old)) }
+        ensures room { OnOk result ((ts : TypeList) → length (body_of ts self.old).crew.queued < 64) }
         ensures unchanged { OnErr result ((ts : TypeList) → body_of ts self.new ≡ body_of ts self.old) }
     {
         match self.crew.offer(call, class) {
@@ -177,6 +178,8 @@ impl Part {
         asked: &Call,
     ) -> Result<Started, AllocError>
         ensures started { IfOk result (IsStarted (body_of types.now self.old) (body_of types.now self.new) asked.now) }
+        ensures may { OnOk result ((ts : TypeList)
+            → IsSome (startable (body_of ts self.old).crew.crew (body_of ts self.old).crew.queued)) }
         ensures unchanged { OnErr result ((ts : TypeList) → body_of ts self.new ≡ body_of ts self.old) }
     {
         let rest = begin(alloc, types, self.kind, &asked.operation, &asked.args)?;
@@ -237,6 +240,7 @@ impl Part {
         ensures after { IfOk result (λ call. (ts : TypeList)
             → (call ≡ option_map (λ i. i.call) (serves_of (body_of ts self.old) process))
             × (body_of ts self.new ≡ ended_body process (body_of ts self.old))) }
+        ensures runs { (ts : TypeList) → IsOk result ↔ Runs (body_of ts self.old).crew.crew process }
         ensures unchanged { OnErr result ((ts : TypeList) → body_of ts self.new ≡ body_of ts self.old) }
     {
         if !self.crew.runnable(process) {
@@ -251,6 +255,7 @@ impl Part {
     /// A process is told what it waited for. A refusal changes nothing.
     pub fn tell(&mut self, process: u8, answer: Answer) -> Result<(), AllocError>
         ensures after { OnOk result ((ts : TypeList) → body_of ts self.new ≡ told_body process answer (body_of ts self.old)) }
+        ensures awaits { OnOk result ((ts : TypeList) → Waits (body_of ts self.old).crew.crew process outside) }
         ensures unchanged { OnErr result ((ts : TypeList) → body_of ts self.new ≡ body_of ts self.old) }
     {
         if !self.crew.awaits(process) {
@@ -264,6 +269,7 @@ impl Part {
     /// A process that runs is told at once. A refusal changes nothing.
     pub fn tell_at_once(&mut self, process: u8, answer: Answer) -> Result<(), AllocError>
         ensures after { OnOk result ((ts : TypeList) → body_of ts self.new ≡ told_body process answer (body_of ts self.old)) }
+        ensures runs { OnOk result ((ts : TypeList) → Runs (body_of ts self.old).crew.crew process) }
         ensures unchanged { OnErr result ((ts : TypeList) → body_of ts self.new ≡ body_of ts self.old) }
     {
         if !self.crew.runnable(process) {
@@ -277,6 +283,7 @@ impl Part {
     pub fn block(&mut self, process: u8) -> Result<(), AllocError>
         ensures after { OnOk result ((ts : TypeList) → body_of ts self.new
             ≡ crewed_body (set_waits process outside) (body_of ts self.old)) }
+        ensures runs { (ts : TypeList) → IsOk result ↔ Runs (body_of ts self.old).crew.crew process }
         ensures unchanged { OnErr result ((ts : TypeList) → body_of ts self.new ≡ body_of ts self.old) }
     {
         if !self.crew.runnable(process) {
@@ -294,6 +301,7 @@ impl Part {
         at_once: Option<Status>,
     ) -> Result<(), AllocError>
         ensures after { OnOk result ((ts : TypeList) → body_of ts self.new ≡ asking_body process at_once (body_of ts self.old)) }
+        ensures runs { OnOk result ((ts : TypeList) → Runs (body_of ts self.old).crew.crew process) }
         ensures unchanged { OnErr result ((ts : TypeList) → body_of ts self.new ≡ body_of ts self.old) }
     {
         match at_once {
@@ -352,6 +360,8 @@ impl Part {
     /// A refusal changes nothing.
     pub fn coordinate(&mut self, process: u8, step: Step) -> Result<(), AllocError>
         ensures after { OnOk result ((ts : TypeList) → body_of ts self.new ≡ crewed_body (stepped step process) (body_of ts self.old)) }
+        ensures runs { OnOk result ((ts : TypeList) → Runs (body_of ts self.old).crew.crew process) }
+        ensures may { OnOk result ((ts : TypeList) → MayTake (body_of ts self.old).crew.crew process step) }
         ensures unchanged { OnErr result ((ts : TypeList) → body_of ts self.new ≡ body_of ts self.old) }
     {
         if !self.crew.runnable(process) {

@@ -1,6 +1,8 @@
 use Rattle.std.proofs.Common.{ap}
+use Rattle.eden_model.specs.Crew.{Invocation, startable}
+use Rattle.coordinator.specs.declared.parts.Started.{Started}
 use Rattle.epl_syntax.specs.declared.effect.Answer.TheVariants.{Go}
-use Rattle.active_part.proofs.Tasks.{begun-body}
+use Rattle.active_part.proofs.Tasks.{begun-body, may-begin}
 use Rattle.active_part.proofs.Part.start.Goals as goal
 
 pub returns-in-Ok-Some-clause-started : goal.returns-in-Ok-Some-clause-started
@@ -10,3 +12,8 @@ returns-in-Ok-Some-clause-started c =
     c.start.new.self c.add_task.new.tasks (record { rest = c.in_ok-rest.rest; answer = Go }) c.in-Ok-Some.field-0-is made.call made.process
     made.after c.next_number-process.ensures c.in_ok-add_task.ensures.after
     (ap (λ r. record { rest = r; answer = Go }) c.in_ok-rest.ensures)
+
+pub returns-in-Ok-Some-clause-may : goal.returns-in-Ok-Some-clause-may
+returns-in-Ok-Some-clause-may c = λ ts.
+    may-begin (λ (s : Started). s.call) (λ (i : Invocation). i.call) c.in-Ok-Some.started c.in-Ok-Some.field-0
+    (startable c.args.self.now.crew.crew c.args.self.now.crew.queued) c.in-Ok-Some.field-0-is c.in-Ok-Some.ensures.call

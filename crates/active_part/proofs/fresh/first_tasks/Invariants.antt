@@ -1,4 +1,4 @@
-use Rattle.std.proofs.Common.{◌≡◌, ℕ, length}
+use Rattle.std.proofs.Common.{length}
 use Rattle.active_part.proofs.Filling.{IsFilling}
 use Rattle.active_part.proofs.fresh.first_tasks.Given as goal
 
