@@ -1,6 +1,7 @@
 //! Messages are delivered.
-ghost use Rattle.std.specs.Prelude.{◌≡◌, IfSome, is_some, ◌≤◌, ◌<◌, ℕ, Bool};
+ghost use Rattle.std.specs.Prelude.{◌≡◌, IfNone, IfSome, is_some, ◌≤◌, ◌<◌, ℕ, Bool};
 ghost use Rattle.std.specs.Prelude.{IfOk, Some, None};
+ghost use Rattle.epl_syntax.specs.Rules.OfTypes.{TypeList};
 ghost use Rattle.invocation.specs.declared.call.Delivery.TheVariants.{Request, Reply};
 ghost use Rattle.ejects.specs.Events.{IsDelivery};
 ghost use Rattle.ejects.specs.Hears.{hears};
@@ -15,7 +16,7 @@ use std::alloc::{AllocError, Global};
 
 impl Ejects {
     /// The first message from a station is delivered. None exactly where that is neither a request nor a reply to a process, or
-    /// where there is none.
+    /// where there is none, and then no Eject has changed.
     pub fn deliver(
         &mut self,
         alloc: Global,
@@ -26,6 +27,7 @@ impl Ejects {
         requires from { from ≤ 8 }
         ensures hears { IfOk result (λ it. is_some it ≡ hears from (number_of self.old) calls.old) }
         ensures event { IfOk result (λ it. IfSome it (IsDelivery from (number_of self.old))) }
+        ensures none { IfOk result (λ it. IfNone it ((ts : TypeList) → parts_of ts self.new ≡ parts_of ts self.old)) }
         ensures steps { IfOk result (λ it. IfSome it (λ e. (reach : ℕ → Bool)
             → Steps reach (parts_of types.now self.old) calls.old (parts_of types.now self.new) calls.new e)) }
     {
