@@ -1,5 +1,6 @@
 -- Keys that are appended one behind another.
-use Rattle.std.proofs.Common.{◌≡◌, ◌<◌, ◌≤◌, ◌-◌, ℕ, nat_lt, Bool, true, false, cond, not, ◌&&◌, List, [], ◌∷◌, ◌++◌, map, Option, None, Some}
+use Rattle.std.proofs.Common.{◌≡◌, ◌<◌, ◌≤◌, ◌-◌, ℕ, nat_lt, Bool, true, false, cond, not, ◌&&◌, List, [], ◌∷◌, ◌++◌, map, Option, None}
+use Rattle.std.proofs.Common.{Some}
 use Rattle.std.proofs.Common.{refl, sym, ◌∙◌, ap, append_assoc, subst, arith}
 use Rattle.std.proofs.lemmas.List.{append-nil}
 use Rattle.std.specs.Prelude.{IfSome}
@@ -94,7 +95,8 @@ next-is m n p (e ∷ es) h is = go (nat_lt n e.0) refl (waits_for_nothing e.1.wa
     skip k le = let off : nat_lt k e.0 ≡ false = grind (arith, nat_tests, le) in
         listed k false (both-false (nat_lt k e.0) (waits_for_nothing e.1.waits) off)
 
-    here : nat_lt n e.0 ≡ true → (nat_lt n e.0 && waits_for_nothing e.1.waits) ≡ true → next_ready n (e ∷ es) ≡ Some p → IsNext m n p (e ∷ es)
+    here : nat_lt n e.0 ≡ true → (nat_lt n e.0 && waits_for_nothing e.1.waits) ≡ true → next_ready n (e ∷ es) ≡ Some p
+        → IsNext m n p (e ∷ es)
     here lt at is =
         let less : n < e.0 = grind (arith, nat_tests, lt) in
         let same : e.0 ≡ p = (let x : Some e.0 ≡ Some p = sym (found true at) ∙ is in cc x) in

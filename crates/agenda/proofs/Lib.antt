@@ -6,6 +6,7 @@ pub mod Listed
 pub mod Comes
 pub mod Runs
 pub mod Noted
+pub mod Emptied
 pub mod Nexts
 pub mod Marked
 pub mod Appended

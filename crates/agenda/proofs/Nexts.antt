@@ -80,7 +80,8 @@ module _ (n : Parts) (a : Indices) (s : Site) (sound : IsSoundSite s) (h : Stand
         at-number true = ap (λ m. activity m 5 no_uid 0 ∷ []) h.number
         at-number false = refl
 
-    pub keys-are : node_keys s ≡ wake_keys_but n.number worked a.wake ++ start_keys n.number a.start ++ run_keys n a.run ++ store_key n.number
+    pub keys-are : node_keys s ≡ wake_keys_but n.number worked a.wake ++ start_keys n.number a.start ++ run_keys n a.run
+        ++ store_key n.number
         pending
     keys-are =
         ap (λ l. l ++ starts s ++ processes s ++ store_of s) (wakes-listed n a s h is sound.node.in_order ∙ wakes-but a.wake)

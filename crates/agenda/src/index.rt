@@ -1,5 +1,5 @@
 //! An ordered index of Ejects that may take a turn of one kind.
-ghost use Rattle.std.specs.Prelude.{◌≡◌, None, cond, not, OnOk, ◌&&◌, []};
+ghost use Rattle.std.specs.Prelude.{◌≡◌, ◌↔◌, IsTrue, None, cond, not, OnOk, ◌&&◌, []};
 ghost use Rattle.std.specs.Ordering.{eq_by_cmp, is_lt};
 ghost use Rattle.std.specs.List.{find};
 ghost use Rattle.std.specs.List.Sorted.{IsStrictlySortedBy};
@@ -44,7 +44,14 @@ impl Index {
     fn ascend(&self)
         ensures { IsStrictlySortedBy uid_cmp (uids_of self.now) }
     {
-        let _uids = self.uids.iter();
+        let _number = self.uids.len();
+    }
+
+    /// Whether no Eject is among them.
+    pub fn is_empty(&self) -> bool
+        ensures { IsTrue result ↔ (uids_of self.now ≡ []) }
+    {
+        self.uids.is_empty()
     }
 
     /// The least uid of all.
@@ -82,6 +89,8 @@ impl Index {
                 Ok(_) => Ok(()),
                 Err(_) => Err(AllocError),
             }
+        } else if self.is_empty() {
+            Ok(())
         } else {
             let _ = self.uids.remove(&uid);
             Ok(())
@@ -103,11 +112,11 @@ impl Index {
     pub fn first_but(&self, behind: Behind, but: Option<Uid>) -> Option<Uid>
         ensures { result ≡ find (λ u. not (is_it but u) && comes behind u 0) (uids_of self.now) }
     {
-        self.ascend();
         let Some(uid) = self.first_behind(behind) else {
             return None;
         };
         if is_it(but, uid) {
+            self.ascend();
             self.past(uid)
         } else {
             Some(uid)

@@ -107,6 +107,9 @@ impl Agenda {
     fn next_wake(&self, station: u8, worked: Option<Uid>, last: Option<Key>) -> Option<Key>
         ensures { result ≡ find (is_past last) (wake_keys_but station worked (uids_of self.now.wake)) }
     {
+        if self.wake.is_empty() {
+            return None;
+        }
         match self.wake.first_but(keys_behind(last, station, 2), worked) {
             Some(uid) => Some(key_of(station, 2, uid, 0)),
             None => None,
@@ -117,6 +120,9 @@ impl Agenda {
     fn next_start(&self, station: u8, last: Option<Key>) -> Option<Key>
         ensures { result ≡ find (is_past last) (start_keys station (uids_of self.now.start)) }
     {
+        if self.start.is_empty() {
+            return None;
+        }
         match self.start.first_behind(keys_behind(last, station, 3)) {
             Some(uid) => Some(key_of(station, 3, uid, 0)),
             None => None,

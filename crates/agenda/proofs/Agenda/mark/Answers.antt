@@ -14,7 +14,8 @@ returns-in_ok-set-in-Some-2 c = on-ok c.set-in-Some-2.result (λ at ts t is.
     let now = parts_of ts c.args.ejects.now in
     let a = c.args.self.now in
     let u = c.in-Some.uid in
-    subst (λ o. HasMarks (indices_of (record { wake = c.set.new.self; start = c.set-in-Some.new.self; run = c.set-in-Some-2.new.self })) (marked (is_it o) (marks_of now) t)) (sym c.in-Some.is) (record {
+    subst (λ o. HasMarks (indices_of (record { wake = c.set.new.self; start = c.set-in-Some.new.self; run = c.set-in-Some-2.new.self }))
+    (marked (is_it o) (marks_of now) t)) (sym c.in-Some.is) (record {
       wake = marked-one a.wake.uids.entries c.set.new.self.uids.entries u c.may_wake.result t.wake (may_wake now)
           c.in_ok-set-in-Some.ensures.at c.set.ensures.ascend is.wake (c.may_wake.ensures ts);
       start = marked-one a.start.uids.entries c.set-in-Some.new.self.uids.entries u c.may_start.result t.start

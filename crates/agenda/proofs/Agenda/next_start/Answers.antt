@@ -1,9 +1,15 @@
 use Rattle.std.proofs.Common.{Some, sym, ap, ◌∙◌}
+use Rattle.std.specs.List.{find}
 use Rattle.std.specs.Option.{option_map}
 use Rattle.journal.specs.Enabled.{activity, is_past}
 use Rattle.agenda.specs.Indexed.{uids_of, comes}
+use Rattle.agenda.specs.Keys.{start_keys}
 use Rattle.agenda.proofs.Comes.{find-map}
 use Rattle.agenda.proofs.Agenda.next_start.Goals as goal
+
+pub returns-then-is_empty : goal.returns-then-is_empty
+returns-then-is_empty c = sym (ap (λ us. find (is_past c.args.last) (start_keys c.args.station us))
+    (c.is_empty.ensures.0 c.if-is_empty.true))
 
 pub returns-in-Some : goal.returns-in-Some
 returns-in-Some c =

@@ -1,9 +1,14 @@
 use Rattle.std.proofs.Common.{Some, sym, ap, ◌∙◌}
+use Rattle.std.specs.List.{find}
 use Rattle.std.specs.Option.{option_map}
 use Rattle.journal.specs.Enabled.{activity, is_past}
-use Rattle.agenda.specs.Indexed.{uids_of, comes, is_it}
+use Rattle.agenda.specs.Indexed.{uids_of, comes, is_it, wake_keys_but}
 use Rattle.agenda.proofs.Comes.{find-unless}
 use Rattle.agenda.proofs.Agenda.next_wake.Goals as goal
+
+pub returns-then-is_empty : goal.returns-then-is_empty
+returns-then-is_empty c = sym (ap (λ us. find (is_past c.args.last) (wake_keys_but c.args.station c.args.worked us))
+    (c.is_empty.ensures.0 c.if-is_empty.true))
 
 pub returns-in-Some : goal.returns-in-Some
 returns-in-Some c =

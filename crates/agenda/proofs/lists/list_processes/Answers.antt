@@ -30,7 +30,8 @@ loop-next-preserved c = record {
       let u = c.args.uid in
       let p = c.in-Some.process in
       let old = c.loop-next.keys.items in
-      ap (λ xs. xs ++ keys_from u c.next_ready-next-in-Some.result b) (c.in_ok-push.ensures.items ∙ ap (λ k. old ++ k ∷ []) c.key_of.ensures)
+      ap (λ xs. xs ++ keys_from u c.next_ready-next-in-Some.result b)
+      (c.in_ok-push.ensures.items ∙ ap (λ k. old ++ k ∷ []) c.key_of.ensures)
       ∙ one-more _ old (activity u.node 4 u p) (keys_from u c.next_ready-next-in-Some.result b)
       (ap (λ xs. old ++ activity u.node 4 u p ∷ xs) (sym (next-keys u b p c.next_ready-next-in-Some.result
       (c.next_ready-next-in-Some.ensures.ascend ts) (c.next_ready-next-in-Some.ensures.next ts)))
