@@ -58,7 +58,8 @@ pub record ArmsThere {T D : Type 0} (tells obeys : Bool) (layout : Layout) (seen
   pub there : p ≡ Some seat
   pub arms : ArmsSeat tells obeys layout seen look what a seat
 
-abbrev pub ArmsAt : {T D : Type 0} → Bool → Bool → Layout → (T → Seen) → (D → DiskSeen) → Arm → Option (Place T D) → Option (Place T D) → Type 0
+abbrev pub ArmsAt : {T D : Type 0} → Bool → Bool → Layout → (T → Seen) → (D → DiskSeen) → Arm → Option (Place T D) → Option (Place T D)
+    → Type 0
 ArmsAt tells obeys layout seen look what None p = p ≡ None
 ArmsAt tells obeys layout seen look what (Some a) p = ArmsThere tells obeys layout seen look what a p
 
@@ -105,7 +106,8 @@ module _ {T D : Type 0} (tells obeys : Bool) (layout : Layout) (seen : T → See
   whole-here : FitsTogether seen old → (o : Option (Place T D)) → place_at old n ≡ o → At o → (t : ScheduledNode T D)
       → place_at new n ≡ Some (place.Up t) → IsWholeAt seen n t
   whole-here fits None was y t at = absurd (let bad : None ≡ Some (place.Up t) = sym y ∙ at in cc bad)
-  whole-here fits (Some (place.Up s)) was y t at = subst (IsWholeAt seen n) (same-node (place_at new n) y.seat y.arms.0 t y.there y.arms.1 at)
+  whole-here fits (Some (place.Up s)) was y t at = subst (IsWholeAt seen n)
+      (same-node (place_at new n) y.seat y.arms.0 t y.there y.arms.1 at)
       (record { whole = y.arms.2.whole; number = y.arms.2.number ∙ (fits.nodes n s was).number })
   whole-here fits (Some (place.Down d doubt)) was y t at = absurd (
       let bad : Some (place.Down y.arms.0 doubt) ≡ Some (place.Up t) = ap Some (sym y.arms.1) ∙ sym y.there ∙ at in cc bad)

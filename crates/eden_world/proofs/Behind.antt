@@ -34,7 +34,8 @@ pub no-key : (last : Option Key) (w : World) (n : ℕ) → IsReached w → ((k :
 no-key last w n reached fails =
     find-append (is_past last) (deliveries w n) (node_keys_at w n)
     ∙ ap (λ o. or_else o (find (is_past last) (node_keys_at w n)))
-    (none-from (is_past last) n (filter (λ from. is_some (next_message w.traffic from n)) (stations w)) (λ from. fails (delivery n from) refl))
+    (none-from (is_past last) n (filter (λ from. is_some (next_message w.traffic from n)) (stations w))
+    (λ from. fails (delivery n from) refl))
     ∙ at_node (node_at w n) refl
   where
     at_node : (o : Option Node) → node_at w n ≡ o → find (is_past last) (node_keys_at w n) ≡ None

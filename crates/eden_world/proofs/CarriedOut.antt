@@ -1,4 +1,5 @@
--- Commands that leave all nodes as they are: what the names of the shell, the calls and the links tell of them comes to a step of the world.
+-- Commands that leave all nodes as they are: what the names of the shell, the calls and the links tell of them comes to a step of the
+-- world.
 use Rattle.std.proofs.Common.{◌≡◌, ◌==◌, ◌≤◌, ◌⊎◌, inl, inr, ℕ, suc, Bool, true, false, cond, List, [], ◌∷◌, Option, None, Some}
 use Rattle.std.proofs.Common.{is_some, refl, sym, ◌∙◌, ap, subst, arith, not, ◌&&◌}
 use Rattle.std.specs.Prelude.{Result, Ok, Err, IfOk, IfErr, IsSomeAnd, IsTrue, codes, slice_index_or}
@@ -196,7 +197,8 @@ asked-names : {T D : Type 0} (layout : Layout) (more : ℕ) (seen : T → Seen) 
     → HasAsked old calls names name copied target operation args it e → WorldStands layout more (in_hand seen disk old) w
     → Names name nothing (in_hand seen disk old) (in_hand seen disk (record old { calls = calls; names = names }))
 asked-names layout more seen disk old calls names name copied target operation args it e w a stands =
-    names-from layout more (in_hand seen disk old) (in_hand seen disk (record old { calls = calls; names = names })) w w.traffic name nothing
+    names-from layout more (in_hand seen disk old) (in_hand seen disk (record old { calls = calls; names = names })) w w.traffic name
+    nothing
     stands (λ other. a.stands target operation args w stands.names other)
 
 pub ask-calls : {T D : Type 0} (tells : Bool) (layout : Layout) (seen : T → Seen) (disk : D → DiskSeen) (old : Program T D) (calls : Mail)
@@ -204,7 +206,8 @@ pub ask-calls : {T D : Type 0} (tells : Bool) (layout : Layout) (seen : T → Se
     → HasAsked old calls names name copied target operation args it e
     → CallsBy tells layout seen disk old (record old { calls = calls; names = names }) name target operation args e
 ask-calls tells layout seen disk old calls names name copied target operation args it e a more w by given reached h ready = record {
-  goes = call-goes layout more (in_hand seen disk old) (in_hand seen disk (record old { calls = calls; names = names })) w e name by operation
+  goes = call-goes layout more (in_hand seen disk old) (in_hand seen disk (record old { calls = calls; names = names })) w e name by
+      operation
       given target args it.call it.at_once h.world ready (record { types = refl; seats = λ m. refl; mail = refl; places = refl })
       (asked-names layout (suc more) seen disk old calls names name copied target operation args it e w a h.world)
       (asks-now seen disk old calls names name copied target operation args it e w.traffic a h.world.calls) a.none a.is;
@@ -285,7 +288,8 @@ pub cut-carried : {T D : Type 0} (tells : Bool) (layout : Layout) (seen : T → 
     (a b : ℕ) (names : List (List ℕ)) (e : Entry) → (IsTrue tells → CutsAndTells layout seen disk a b names old new)
     → e.event ≡ event.Link a b false → EntryShows 0 0 names e → CarriesBy tells layout seen disk old new (command.Cut a b) e
 cut-carried tells layout seen disk old new a b names e cuts is shows more w reached h fit = record {
-  goes = cut-entry layout more (in_hand seen disk old) (cuts h.telling).between (in_hand seen disk new) w a b e (cuts h.telling).numbers names
+  goes = cut-entry layout more (in_hand seen disk old) (cuts h.telling).between (in_hand seen disk new) w a b e (cuts h.telling).numbers
+      names
       h.world reached.sites (cuts h.telling).cuts (cuts h.telling).told is shows;
   agendas = (cuts h.telling).agendas more None 0 0 (linked a b false w)
       (let y = node-of layout (suc more) (in_hand seen disk old) w 1 h.world (record { first = omega arith; last = omega arith }) in
@@ -311,12 +315,14 @@ starves-so tells layout seen disk old new c starves more w reached h fit = starv
 -- 9. The same behind a call of another function
 
 pub call-carried : {T D E : Type 0} (tells : Bool) (layout : Layout) (seen : T → Seen) (disk : D → DiskSeen) (old new : Program T D)
-    (name : List ℕ) (target : Ref) (operation said : List ℕ) (args : List Argument) (by_held : Cap) (items : List Datum) (r : Result Entry E)
+    (name : List ℕ) (target : Ref) (operation said : List ℕ) (args : List Argument) (by_held : Cap) (items : List Datum)
+    (r : Result Entry E)
     → IfOk r (CallsBy tells layout seen disk old new name by_held said items) → said ≡ operation
     → ((w : World) → NamesStand old.names w → Some (by_held, items) ≡ ready_call w (command.Call name target operation args))
     → IfOk r (CarriesBy tells layout seen disk old new (command.Call name target operation args))
 call-carried tells layout seen disk old new name target operation said args by_held items (Ok e) called same ready =
-    λ more w reached h fit. subst (λ o. CallsBy tells layout seen disk old new name by_held o items e) same called more w target args reached
+    λ more w reached h fit. subst (λ o. CallsBy tells layout seen disk old new name by_held o items e) same called more w target args
+    reached
     h (sym (ready w h.world.names))
 call-carried tells layout seen disk old new name target operation said args by_held items (Err why) called same ready = tt
 
@@ -335,7 +341,8 @@ err-so (Err e) P Q f h = f h
 
 -- 10. A node crashes
 
-pub up-here : {T D : Type 0} (seen : T → Seen) (disk : D → DiskSeen) (o : Option (Place T D)) (s : ScheduledNode T D) → station_in o ≡ Some s
+pub up-here : {T D : Type 0} (seen : T → Seen) (disk : D → DiskSeen) (o : Option (Place T D)) (s : ScheduledNode T D) → station_in o
+    ≡ Some s
     → seen_at seen disk o ≡ Some (up (held seen s.node))
 up-here seen disk None s is = absurd (cc is)
 up-here seen disk (Some (place.Up x)) s is = let same : x ≡ s = cc is in ap (λ (z : ScheduledNode _ _). Some (up (held seen z.node))) same
@@ -360,7 +367,8 @@ crash-carried tells obeys layout seen disk old new n mode s names e was number f
         broken = shows.broken;
       });
   agendas = f.agendas more None n f.disk.counts.clock (stopped_at w n (event.Crash n))
-      (crash-begins layout more (in_hand seen disk old) f.between w n (held seen s.node) f.noted f.disk f.numbers h.world reached.sites number
+      (crash-begins layout more (in_hand seen disk old) f.between w n (held seen s.node) f.noted f.disk f.numbers h.world reached.sites
+      number
       f.fell (f.left.turn h.telling) (λ s clock. asleep-crashed clock s)) h.agendas;
 }
   where

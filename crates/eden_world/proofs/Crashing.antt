@@ -88,7 +88,8 @@ counts-there (Some x) (Some y) a d was is none =
     subst (λ (z : Seat). NoneFalls (disk_of z).counts (disk_of y).counts) (sym before)
     (subst (λ (z : DiskSeen). NoneFalls (disk_of a).counts z.counts) (sym after) none)
 
-pub shown-there : (obeys : Bool) (n : ℕ) (e : Entry) (o p : Option Seat) (a : Seat) (d : DiskSeen) → o ≡ Some a → option_map disk_of p ≡ Some d
+pub shown-there : (obeys : Bool) (n : ℕ) (e : Entry) (o p : Option Seat) (a : Seat) (d : DiskSeen) → o ≡ Some a → option_map disk_of p
+    ≡ Some d
     → EntryShows obeys n e (disk_of a) d → ShowsOf obeys n e o p
 shown-there obeys n e None p a d was is shows = tt
 shown-there obeys n e (Some x) None a d was is shows = absurd (cc is)
@@ -117,7 +118,8 @@ module _ {T D : Type 0} (tells obeys : Bool) (layout : Layout) (seen : T → See
       go : (b : Bool) → (m == n) ≡ b → FallsNone (seen_at seen look (place_at old m)) (seen_at seen look (place_at new m))
       go false other = level-counts (seen_at seen look (place_at old m)) (seen_at seen look (place_at new m)) (others-level m other)
       go true is = subst (λ j. FallsNone (seen_at seen look (place_at old j)) (seen_at seen look (place_at new j))) (sym (eqb-true m n is))
-          (counts-there (seen_at seen look (place_at old n)) (seen_at seen look (place_at new n)) (up (held seen s.node)) l.disk before behind
+          (counts-there (seen_at seen look (place_at old n)) (seen_at seen look (place_at new n)) (up (held seen s.node)) l.disk before
+          behind
           (left-falls-none tells obeys layout mode (held seen s.node) l.noted l.disk l.left))
 
   pub left-keeps : IsSeated new → KeepsDisks seen look old new

@@ -1,5 +1,6 @@
 -- A key that is enabled in a world has its turn in hand.
-use Rattle.std.proofs.Common.{◌≡◌, ℕ, ◌≤◌, Bool, true, false, cond, List, [], ◌∷◌, ◌++◌, map, Option, None, Some, refl, sym, ◌∙◌, ap, subst, arith}
+use Rattle.std.proofs.Common.{◌≡◌, ℕ, ◌≤◌, Bool, true, false, cond, List, [], ◌∷◌, ◌++◌, map, Option, None, Some, refl, sym, ◌∙◌, ap, subst}
+use Rattle.std.proofs.Common.{arith}
 use Rattle.std.specs.Prelude.{IfSome}
 use Rattle.std.specs.List.{AllByRecursion, Contains, flat_map}
 use Rattle.std.specs.Ordering.{nat_cmp}
@@ -64,8 +65,22 @@ module _ (w : World) (reached : IsReached w) (numbers : map (λ e. e.0) w.nodes 
   all-wait : deliveries w 0 ≡ mail_keys m 0 → AllByRecursion (Waits m) (enabled w)
   all-wait is = append-all (Waits m) (deliveries w 0)
       (flat_map (λ e. deliveries w e.0 ++ node_keys (site_of w e.0 e.1)) w.nodes)
-      (subst (AllByRecursion (Waits m)) (sym is) (waiting-all m nine
-      (omega arith, (omega arith, (omega arith, (omega arith, (omega arith, (omega arith, (omega arith, (omega arith, (omega arith, tt)))))))))))
+      (subst (AllByRecursion (Waits m)) (sym is) (waiting-all m nine (
+        omega arith,
+        (
+          omega arith,
+          (
+            omega arith,
+            (
+              omega arith,
+              (
+                omega arith,
+                (omega arith, (omega arith, (omega arith, (omega arith, tt)))),
+              ),
+            ),
+          ),
+        ),
+      )))
       (flat-all (Waits m) (λ (e : ℕ × Node). node_at w e.0 ≡ Some e.1) (λ e. deliveries w e.0 ++ node_keys (site_of w e.0 e.1)) w.nodes
       at-node
       (recursion_from_All (λ (e : ℕ × Node). node_at w e.0 ≡ Some e.1) w.nodes

@@ -112,9 +112,24 @@ pub deliveries-are : (layout : Layout) (more : ℕ) (h : InHand) (w : World) (to
     → deliveries w to ≡ mail_keys h.mail to
 deliveries-are layout more h w to stands least =
     ap (λ ns. map (delivery to) (filter (λ from. is_some (next_message w.traffic from to)) (0 ∷ ns))) stands.numbers
-    ∙ ap (map (delivery to)) (filter-alike (λ from. is_some (next_message w.traffic from to)) (λ from. is_waiting from to h.mail) (λ n. n ≤ 8)
-    (λ from few. is-waiting h.mail w.traffic from to stands.calls few least) nine
-    (omega arith, (omega arith, (omega arith, (omega arith, (omega arith, (omega arith, (omega arith, (omega arith, (omega arith, tt))))))))))
+    ∙ ap (map (delivery to)) (filter-alike (λ from. is_some (next_message w.traffic from to)) (λ from. is_waiting from to h.mail)
+    (λ n. n ≤ 8)
+    (λ from few. is-waiting h.mail w.traffic from to stands.calls few least) nine (
+      omega arith,
+      (
+        omega arith,
+        (
+          omega arith,
+          (
+            omega arith,
+            (
+              omega arith,
+              (omega arith, (omega arith, (omega arith, (omega arith, tt)))),
+            ),
+          ),
+        ),
+      ),
+    ))
 
 -- what is found of the deliveries from a station on
 pub next-from : (P : Key → Bool) (m : Mail) (to n : ℕ) (ns : List ℕ) → find P (keys_from m to (n ∷ ns))

@@ -139,7 +139,8 @@ node-next P mail nodes all r none is keys =
     is ∙ ap (λ o. or_else o (find P nodes)) none ∙ sym (find-append P mail nodes) ∙ ap (find P) (sym keys)
 
 -- the key at a place
-pub item-there : (keys all : List Key) (i n : ℕ) (r : Option Key) → keys ≡ all → n ≡ length keys → r ≡ slice_get keys (i % n) → r ≡ item i all
+pub item-there : (keys all : List Key) (i n : ℕ) (r : Option Key) → keys ≡ all → n ≡ length keys → r ≡ slice_get keys (i % n) → r
+    ≡ item i all
 item-there keys all i n r is long at = at ∙ ap (λ m. slice_get keys (i % m)) long ∙ ap (item i) is
 
 -- only deliveries, where there is no node

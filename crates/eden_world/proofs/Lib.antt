@@ -62,6 +62,8 @@ pub mod ShownDisks
 pub mod Hearing
 pub mod Stopping
 pub mod Turned
+pub mod InPlace
+pub mod TurnEnds
 pub mod Untouched
 pub mod OpenCalls
 pub mod Crashing

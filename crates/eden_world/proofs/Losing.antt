@@ -73,7 +73,8 @@ module _ {T D : Type 0} (tells obeys : Bool) (layout : Layout) (seen : T → See
 -- 2. Where no place changed
 
 -- there was no memory, and the nodes and the disks are as they were
-pub still-starves : {T D : Type 0} (tells : Bool) (layout : Layout) (seen : T → Seen) (look : D → DiskSeen) (key : Key) (old new : Program T D)
+pub still-starves : {T D : Type 0} (tells : Bool) (layout : Layout) (seen : T → Seen) (look : D → DiskSeen) (key : Key)
+    (old new : Program T D)
     → new.seats ≡ old.seats → StarvesAtEach tells layout seen look old new key
 still-starves tells layout seen look key old new same more w reached stood there =
     ends-level layout (suc more) (in_hand seen look old) (in_hand seen look new) w stood.world

@@ -11,25 +11,15 @@ use Rattle.eden_kernel.specs.Stands.{held, IsWhole}
 use Rattle.scheduled_node.specs.declared.ScheduledNode.{ScheduledNode}
 use Rattle.shell_names.specs.Names.{meanings}
 use Rattle.eden_world.specs.InHand.{place_at, seen_at, in_hand, IsWholeAt, AreWhole, HaveAgendas}
-use Rattle.eden_world.specs.Seated.{TakesPlace, FitsTogether, AreSeated, instead}
+use Rattle.eden_world.specs.Seated.{TakesPlace, KeepsRest, FitsTogether, AreSeated, instead}
 use Rattle.eden_world.specs.Steps.{TakesSeat}
+use Rattle.eden_world.specs.Turning.{Swaps}
 use Rattle.eden_world.specs.Worlds.{Seat, up}
 use Rattle.eden_world.specs.declared.seats.Seat.{Seat as Place}
 use Rattle.eden_world.specs.declared.seats.Seat.TheVariants as place
 use Rattle.eden_world.specs.declared.World.{World as Program}
 
 -- 1. From one to another
-
--- at place n stood the one, and the other stands there now; the calls went on, and nothing else changed
-pub record Swaps {T D : Type 0} (n : ℕ) (a b : Place T D) (later : Mail) (old new : Program T D) : Type 0 where
-  pub was : place_at old n ≡ Some a
-  pub here : place_at new n ≡ Some b
-  pub others : (m : ℕ) → (m == n) ≡ false → place_at new m ≡ place_at old m
-  pub count : length new.seats.items ≡ length old.seats.items
-  pub types : new.types ≡ old.types
-  pub calls : new.calls ≡ later
-  pub places : new.places ≡ old.places
-  pub names : new.names ≡ old.names
 
 -- what was taken from there is a node that was up
 pub was-up : {T D : Type 0} (o : Option (Place T D)) (s : ScheduledNode T D) → place.Up s ≡ unwrap_or o place.Moving → o ≡ Some (place.Up s)
@@ -61,6 +51,21 @@ pub swaps-still : {T D : Type 0} (n : ℕ) (a b : Place T D) (old mid new : Prog
     → TakesPlace n place.Moving old mid → TakesPlace n b mid new → Swaps n a b old.calls old new
 swaps-still n a b old mid new was taken put = subst (λ later. Swaps n a b later old new) taken.rest.calls
     (swaps n a b mid.calls old mid mid new was taken refl put)
+
+-- and then a third in the place of that
+pub swaps-again : {T D : Type 0} (n : ℕ) (a b c : Place T D) (later : Mail) (old mid new : Program T D) → Swaps n a b later old mid
+    → place_at new n ≡ Some c → ((m : ℕ) → (m == n) ≡ false → place_at new m ≡ place_at mid m) → KeepsRest mid new
+    → Swaps n a c later old new
+swaps-again n a b c later old mid new x there others rest = record {
+  was = x.was;
+  here = there;
+  others = λ m other. others m other ∙ x.others m other;
+  count = rest.count ∙ x.count;
+  types = rest.types ∙ x.types;
+  calls = rest.calls ∙ x.calls;
+  places = rest.places ∙ x.places;
+  names = rest.names ∙ x.names;
+}
 
 -- 2. The whole, and the agendas
 
@@ -104,7 +109,8 @@ agendas-behind n a b later old new x have node m t at = subst (λ ts. IsAgenda (
     go false other = have m t (sym (x.others m other) ∙ at)
 
 -- the node that stands there has the number of the place
-pub number-kept : {T D : Type 0} (seen : T → Seen) (n : ℕ) (s t : ScheduledNode T D) → IsWholeAt seen n s → seen t.node.store ≡ seen s.node.store
+pub number-kept : {T D : Type 0} (seen : T → Seen) (n : ℕ) (s t : ScheduledNode T D) → IsWholeAt seen n s → seen t.node.store
+    ≡ seen s.node.store
     → IsWhole (held seen t.node) → IsWholeAt seen n t
 number-kept seen n s t was same whole = record {
   whole = whole;

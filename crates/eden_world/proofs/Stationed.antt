@@ -33,7 +33,8 @@ station-up (Some place.Moving) s is = absurd (cc is)
 -- 2. A node that is up
 
 -- its site has these keys, and it stands for that
-pub record IsStationed {T D : Type 0} (layout : Layout) (seen : T → Seen) (p : Program T D) (w : World) (n : ℕ) (s : ScheduledNode T D) : Type 0
+pub record IsStationed {T D : Type 0} (layout : Layout) (seen : T → Seen) (p : Program T D) (w : World) (n : ℕ) (s : ScheduledNode T D) :
+    Type 0
   where
     pub site : Site
     pub keys : node_keys_at w n ≡ node_keys site

@@ -35,6 +35,7 @@ use Rattle.eden_world.specs.Seated.{FitsTogether, IsClosed}
 use Rattle.eden_world.specs.Steps.{Goes, ShowsIf, turn_touches, event_touches}
 use Rattle.eden_world.specs.Taken.{Takes}
 use Rattle.eden_world.specs.Told.{EntryShows, Fell, IsTelling, Reseats, SameDisks, SetsUp}
+use Rattle.eden_world.specs.Turning.{Swaps, TurnSays}
 use Rattle.eden_world.specs.Worlds.{InHand, IsNumber, down}
 use Rattle.eden_world.specs.declared.World.{World as Program}
 use Rattle.eden_world.specs.declared.seats.Seat.TheVariants as place
@@ -44,8 +45,7 @@ use Rattle.eden_world.proofs.FallEntries.{store-stop-entry, start-stop-entry}
 use Rattle.eden_world.proofs.Falls.{up-timed}
 use Rattle.eden_world.proofs.InWorld.{reach-of}
 use Rattle.eden_world.proofs.KeyTurning.{as-due}
-use Rattle.eden_world.proofs.Placing.{Swaps, agendas-behind}
-use Rattle.eden_world.proofs.TakingTurns.{TurnSays}
+use Rattle.eden_world.proofs.Placing.{agendas-behind}
 use Rattle.eden_world.proofs.TellingAll.{number-of}
 use Rattle.eden_world.proofs.TurnEntries.{IsUp, is-up}
 

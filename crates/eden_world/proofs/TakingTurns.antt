@@ -1,12 +1,8 @@
 -- The turn of a key behind which its node goes on, as a program takes it.
-use Rattle.std.proofs.Common.{◌≡◌, ◌≤◌, ◌+◌, ℕ, suc, Bool, [], Some, refl, sym, ◌∙◌, ap, subst, arith}
-use Rattle.std.specs.Prelude.{IsTrue}
+use Rattle.std.proofs.Common.{◌≡◌, ◌≤◌, ℕ, suc, Bool, [], Some, refl, sym, ◌∙◌, ap, subst, arith}
 use Rattle.std.specs.List.{Contains}
-use Rattle.epl_syntax.specs.Rules.OfTypes.{TypeList}
 use Rattle.invocation.specs.Mail.{Mail}
-use Rattle.locator.specs.Reach.{Stations}
 use Rattle.passive_store.specs.Kept.{Layout}
-use Rattle.passive_store.specs.Layout.{IsLayout}
 use Rattle.passive_store.specs.Seen.{Seen, DiskSeen}
 use Rattle.journal.specs.declared.event.Event.{Event}
 use Rattle.journal.specs.declared.event.Entry.{Entry}
@@ -14,27 +10,21 @@ use Rattle.journal.specs.declared.event.Key.{Key}
 use Rattle.journal.specs.Enabled.{enabled}
 use Rattle.journal.specs.Sites.{IsSoundSite}
 use Rattle.journal.specs.Step.{key_of, site_turn}
-use Rattle.journal.specs.World.{World, Site, Node, node_at, site_of, reaches}
-use Rattle.checkpoint.specs.Touches.{ReadsByCalls}
-use Rattle.ejects.specs.Creations.{HasNewUid}
-use Rattle.ejects.specs.Replies.{Reaches}
+use Rattle.journal.specs.World.{World, Node, node_at, site_of, reaches}
 use Rattle.ejects.specs.View.{parts_of}
 use Rattle.agenda.specs.Indexed.{indices_of}
 use Rattle.agenda.specs.Keys.{IsAgenda}
 use Rattle.eden_kernel.specs.Stands.{held, NodeStands}
 use Rattle.eden_kernel.specs.Turns.{clock_of}
-use Rattle.eden_kernel.specs.DiskTurns.{IsWholeBehind}
-use Rattle.eden_kernel.specs.declared.stores.TurnEnd.{TurnEnd}
 use Rattle.eden_kernel.specs.declared.stores.TurnEnd.TheVariants as turn_end
 use Rattle.scheduled_node.specs.declared.ScheduledNode.{ScheduledNode}
-use Rattle.scheduled_node.specs.Keys.{IsKeyOf}
-use Rattle.scheduled_node.specs.Scheduled.{manned, ScheduledStands, KeyTurns}
-use Rattle.scheduled_node.specs.Touched.{TurnTouches, ShowsClock}
+use Rattle.scheduled_node.specs.Scheduled.{manned, KeyTurns}
 use Rattle.runs.specs.Reached.{IsReached}
 use Rattle.eden_world.specs.InHand.{seen_at, in_hand, Stands}
-use Rattle.eden_world.specs.Seated.{FitsTogether, KeepsRest}
+use Rattle.eden_world.specs.Seated.{FitsTogether}
 use Rattle.eden_world.specs.Steps.{ShowsIf, turn_touches}
 use Rattle.eden_world.specs.Taken.{Takes, TakesAtEach}
+use Rattle.eden_world.specs.Turning.{Swaps, TurnSays}
 use Rattle.eden_world.specs.Worlds.{up, InHand, IsNumber}
 use Rattle.eden_world.specs.declared.seats.Seat.TheVariants as place
 use Rattle.eden_world.specs.declared.World.{World as Program}
@@ -42,37 +32,15 @@ use Rattle.eden_world.proofs.EnabledKeys.{key-of-enabled}
 use Rattle.eden_world.proofs.Falls.{up-timed}
 use Rattle.eden_world.proofs.InWorld.{reach-of}
 use Rattle.eden_world.proofs.KeyTurning.{key-turn-goes, turn-of-key}
-use Rattle.eden_world.proofs.Placing.{Swaps, agendas-behind, takes-seat}
+use Rattle.eden_world.proofs.Placing.{agendas-behind, takes-seat}
 use Rattle.eden_world.proofs.TellingAll.{number-of}
 use Rattle.eden_world.proofs.TurnEntries.{IsUp, is-up}
 
--- what the station says of its turn: of the room, of its device calls, and of the site
-pub record TurnSays {T D : Type 0} (how : TurnEnd) (tells : Bool) (layout : Layout) (seen : T → Seen) (s t : ScheduledNode T D) (ts : TypeList)
-    (m : Mail) (places : Stations) (later : Mail) (key : Key) (ev : Event) : Type 0 where
-  pub whole : IsWholeBehind how (held seen t.node)
-  pub room : IsTrue tells → (site : Site) → 1 ≤ (seen s.node.store).more → NodeStands layout ts (held seen s.node) m site
-      → (seen s.node.store).more ≤ (seen t.node.store).more + 1
-  pub touches : IsTrue tells → ReadsByCalls layout → (site : Site) → 1 ≤ (seen s.node.store).more
-      → NodeStands layout ts (held seen s.node) m site
-      → TurnTouches site ev (seen s.node.store).disk (seen t.node.store).disk
-  pub clock : ShowsClock ev (seen t.node.store).disk.counts.clock
-  pub turn : IsTrue tells → IsLayout layout → (reach : ℕ → Bool) (site : Site) → IsKeyOf site.number key
-      → Reaches reach places site.number → IsSoundSite site → HasNewUid site → 1 ≤ (seen s.node.store).more
-      → ScheduledStands layout ts (manned seen s) m site
-      → KeyTurns how layout ts (manned seen t) later reach (manned seen s) site ev key
-
--- at types, calls and links that are the same
-pub says-of : {T D : Type 0} (how : TurnEnd) (tells : Bool) (layout : Layout) (seen : T → Seen) (s t : ScheduledNode T D) (old mid : Program T D) (later : Mail)
-    (key : Key) (ev : Event) → KeepsRest old mid → TurnSays how tells layout seen s t mid.types mid.calls mid.places later key ev
-    → TurnSays how tells layout seen s t old.types old.calls old.places later key ev
-says-of how tells layout seen s t old mid later key ev rest says =
-    subst (λ ts. TurnSays how tells layout seen s t ts old.calls old.places later key ev) rest.types
-    (subst (λ m. TurnSays how tells layout seen s t mid.types m old.places later key ev) rest.calls
-    (subst (λ pl. TurnSays how tells layout seen s t mid.types mid.calls pl later key ev) rest.places says))
-
-module _ {T D : Type 0} (tells : Bool) (layout : Layout) (seen : T → Seen) (look : D → DiskSeen) (n : ℕ) (key : Key) (s t : ScheduledNode T D)
+module _ {T D : Type 0} (tells : Bool) (layout : Layout) (seen : T → Seen) (look : D → DiskSeen) (n : ℕ) (key : Key)
+    (s t : ScheduledNode T D)
     (old new : Program T D) (later : Mail) (ev : Event) (e : Entry) (x : Swaps n (place.Up s) (place.Up t) later old new)
-    (fits : FitsTogether seen old) (says : TurnSays turn_end.Up tells layout seen s t old.types old.calls old.places later key ev) (at : key.station ≡ n)
+    (fits : FitsTogether seen old) (says : TurnSays turn_end.Up tells layout seen s t old.types old.calls old.places later key ev)
+    (at : key.station ≡ n)
     (is : e.event ≡ ev) (broken : e.broken ≡ [])
     (shows : ShowsIf (turn_touches ev (clock_of (held seen s.node)) (clock_of (held seen t.node))) n (clock_of (held seen t.node)) e) where
   number : IsNumber n
@@ -93,7 +61,10 @@ module _ {T D : Type 0} (tells : Bool) (layout : Layout) (seen : T → Seen) (lo
         → NodeStands layout old.types (held seen s.node) old.calls (site_of w n it)
         → KeyTurns turn_end.Up layout old.types (manned seen t) later (reaches w n) (manned seen s) (site_of w n it) ev key
     taken it there sound stands = says.turn stood.telling stood.its_layout (reaches w n) (site_of w n it)
-        (key-of-enabled w reached n key enabled_is at) (record { at = λ b. reach-of layout (suc more) (hand old) w stood.world n b number.last })
+        (key-of-enabled w reached n key enabled_is at) (record {
+          at = λ b. reach-of layout (suc more) (hand old) w stood.world n b
+              number.last;
+        })
         sound (record { in_order = sound.node.in_order; is_new = reached.new_uids n it there }) some
         (record { node = stands; agenda = stood.agendas n s x.was })
 
@@ -112,7 +83,8 @@ module _ {T D : Type 0} (tells : Bool) (layout : Layout) (seen : T → Seen) (lo
           here.key)
           (λ it there sound stands. (taken it there sound stands).turn.turn) (says.touches stood.telling stood.reads) says.clock shows;
       agendas = agendas-behind n (place.Up s) (place.Up t) later old new x stood.agendas (λ r same.
-          subst (λ (z : ScheduledNode T D). IsAgenda (indices_of z.agenda) (parts_of old.types z.node.ejects)) (let y : t ≡ r = cc same in y)
+          subst (λ (z : ScheduledNode T D). IsAgenda (indices_of z.agenda) (parts_of old.types z.node.ejects))
+          (let y : t ≡ r = cc same in y)
           here.turn.agenda);
     }
 

@@ -101,7 +101,8 @@ module _ {T D : Type 0} (layout : Layout) (seen : T → Seen) (look : D → Disk
       × NodeStands layout mid.types (held seen s.node) mid.calls site
   site-told c u p is asker more key n clock last telling s at =
       let here : place_at mid u.node ≡ Some (place.Up s) = node-up (place_at mid u.node) s at in
-      let y : IsTold layout (hand mid) u (held seen s.node) = told-there layout more key n clock last (hand mid) k left u p (held seen s.node)
+      let y : IsTold layout (hand mid) u (held seen s.node) = told-there layout more key n clock last (hand mid) k left u p
+      (held seen s.node)
       (part.tells.on more key n clock last telling) (asked-by_process mid.calls k c u p is asker).1
       (number-of seen u.node s (fits.nodes u.node s here)) (ap (seen_at seen look) here) in
       (y.site, y.body, y.stands)

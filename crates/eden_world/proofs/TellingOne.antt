@@ -18,10 +18,11 @@ use Rattle.scheduled_node.specs.Scheduled.{manned, ScheduledStands}
 use Rattle.eden_world.specs.Breaking.{TellsAt, KeepsAgendas}
 use Rattle.eden_world.specs.InHand.{place_at, seen_at, in_hand, IsWholeAt}
 use Rattle.eden_world.specs.Seated.{FitsTogether, station_in}
+use Rattle.eden_world.specs.Turning.{Swaps}
 use Rattle.eden_world.specs.Worlds.{up}
 use Rattle.eden_world.specs.declared.seats.Seat.TheVariants as place
 use Rattle.eden_world.specs.declared.World.{World as Program}
-use Rattle.eden_world.proofs.Placing.{Swaps, whole-behind, agendas-behind, number-kept, takes-seat}
+use Rattle.eden_world.proofs.Placing.{whole-behind, agendas-behind, number-kept, takes-seat}
 
 pub both-on_ok : {X E A B C : Type 0} (r : Result X E) → (A → B → C) → OnOk r A → OnOk r B → OnOk r C
 both-on_ok (Ok x) f a b = f a b

@@ -21,7 +21,8 @@ pub record ArmsDisk (obeys : Bool) (what : Arm) (old new : DiskSeen) : Type 0 wh
   pub due : IsTrue obeys → new.due ≡ armed what old.counts.clock old.due
 
 -- that of a node that is up, which stands as it did
-pub record ArmsNode {T D : Type 0} (tells obeys : Bool) (layout : Layout) (seen : T → Seen) (what : Arm) (old new : ScheduledNode T D) : Type 0
+pub record ArmsNode {T D : Type 0} (tells obeys : Bool) (layout : Layout) (seen : T → Seen) (what : Arm) (old new : ScheduledNode T D) :
+    Type 0
   where
     pub whole : IsWhole (held seen new.node)
     pub number : new.node.number ≡ old.node.number

@@ -13,3 +13,4 @@ pub mod Legal
 pub mod Creating
 pub mod Unanswered
 pub mod Arming
+pub mod Turning

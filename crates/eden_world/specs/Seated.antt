@@ -1,5 +1,6 @@
 -- What stands at the places of a program, and what its calls do to one of them.
-use Rattle.std.specs.Prelude.{◌≡◌, ◌≢◌, ◌==◌, ◌≤◌, ℕ, zero, suc, Bool, true, false, cond, List, length, Option, None, Some, IsTrue, slice_get, IfSome, IsSomeAnd}
+use Rattle.std.specs.Prelude.{◌≡◌, ◌≢◌, ◌==◌, ◌≤◌, ℕ, zero, suc, Bool, true, false, cond, List, length, Option, None, Some, IsTrue}
+use Rattle.std.specs.Prelude.{slice_get, IfSome, IsSomeAnd}
 use Rattle.std.specs.Option.{option_map}
 use Rattle.eden_disk.specs.declared.disk.ImageMode.{ImageMode}
 use Rattle.eden_model.specs.Map.{with_item}

@@ -83,7 +83,8 @@ where
         requires { FitsTogether St.seen self.old }
         ensures whole { OnOk result (FitsTogether St.seen self.new) }
         ensures carried { let look = disk_seen St.Device.counts St.Device.told St.Device.due in
-            IfOk result (CarriesBy St.Device.tells St.layout St.seen look self.old self.new (commands.Call name.now target.now operation.now args.now)) }
+            IfOk result (CarriesBy St.Device.tells St.layout St.seen look self.old self.new
+            (commands.Call name.now target.now operation.now args.now)) }
         ensures starved { let look = disk_seen St.Device.counts St.Device.told St.Device.due in
             IfErr result (λ _. EndsStill St.Device.tells St.layout St.seen look self.old self.new) }
         ensures shows { let look = disk_seen St.Device.counts St.Device.told St.Device.due in

@@ -3,9 +3,14 @@ ghost use Rattle.std.specs.Prelude.{◌≡◌, ◌<◌, ◌≤◌, IfErr, IfOk, 
 ghost use Rattle.passive_store.specs.Seen.{disk_seen};
 ghost use Rattle.invocation.specs.Mail.{is_waiting};
 ghost use Rattle.journal.specs.Enabled as enabled;
+ghost use Rattle.eden_kernel.specs.Stands.{held, IsWhole};
+ghost use Rattle.eden_kernel.specs.Turns.{clock_of};
+ghost use Rattle.scheduled_node.specs.declared.ScheduledNode.{ScheduledNode as Manned};
 ghost use Rattle.eden_world.specs.Listed.{HasTurn};
 ghost use Rattle.eden_world.specs.Seated.{EachShows, FitsTogether, KeepsDisks, heeds};
 ghost use Rattle.eden_world.specs.Taken.{TakesAtEach, StarvesAtEach};
+ghost use Rattle.eden_world.specs.Turning.{StarvesThere, TurnsHere, TurnsThere};
+ghost use Rattle.eden_world.specs.declared.seats.Seat.TheVariants as place;
 
 use crate::breaks::name_of_call;
 pub(crate) use crate::entries::entry_of_none as plain;
@@ -13,10 +18,63 @@ use crate::entries::entry_of_turn;
 use crate::{Seat, World};
 use eden_disk::Disk;
 use eden_kernel::TurnEnd;
-use invocation::Delivery;
+use epl_syntax::Types;
+use invocation::{Calls, Delivery};
 use journal::{Entry, Event, Key};
+use locator::Places;
 use passive_store::Store;
+use scheduled_node::ScheduledNode;
 use std::alloc::{AllocError, Global};
+
+// What a turn of a node came to, and the clocks of its disk before and behind it.
+struct TurnTaken {
+    event: Event,
+    end: TurnEnd,
+    before: u64,
+    after: u64,
+}
+
+// The clock of the disk of a node.
+fn clock_of_disk<St: Store + Drop>(station: &ScheduledNode<St>) -> u64
+where
+    St::Device: Drop,
+    ensures { result ≡ clock_of (held St.seen station.now.node) }
+{
+    station.disk().clock()
+}
+
+// The node that stands there takes the turn of a key, in its place.
+fn turn_in<St: Store + Drop>(
+    seat: &mut Seat<St>,
+    alloc: Global,
+    types: &Types,
+    calls: &mut Calls,
+    places: &Places,
+    key: Key,
+) -> Result<TurnTaken, AllocError>
+where
+    St::Device: Drop,
+    requires calls { length calls.old.calls < 4294967295 }
+    requires whole { (s : Manned _ _) → seat.old ≡ place.Up s → IsWhole (held St.seen s.node) }
+    ensures turns { IfOk result (λ t. TurnsThere St.Device.tells St.Device.obeys St.layout St.seen types.now places.now key
+        t seat.old calls.old seat.new calls.new) }
+    ensures starves { IfErr result (λ e. StarvesThere St.Device.tells St.layout St.seen types.now calls.old seat.old seat.new) }
+{
+    match seat {
+        Seat::Up { station } => {
+            let before = clock_of_disk(station);
+            let (event, end) = station.turn(alloc, types, calls, places, key)?;
+            let after = clock_of_disk(station);
+            Ok(TurnTaken {
+                event,
+                end,
+                before,
+                after,
+            })
+        }
+        _ => Err(AllocError),
+    }
+}
 
 impl<St: Store + Drop> World<St>
 where
@@ -75,6 +133,23 @@ where
         }
     }
 
+    // The node at the place of a key takes its turn there.
+    fn turn_here(&mut self, alloc: Global, key: Key) -> Result<TurnTaken, AllocError>
+        requires calls { length self.old.calls.calls < 4294967295 }
+        requires whole { FitsTogether St.seen self.old }
+        requires node { 1 ≤ key.station }
+        ensures turns { IfOk result (λ t. TurnsHere St.Device.tells St.Device.obeys St.layout St.seen key t self.old self.new) }
+        ensures starved { IfErr result (λ e. StarvesAtEach St.Device.tells St.layout St.seen
+            (disk_seen St.Device.counts St.Device.told St.Device.due) self.old self.new key) }
+        ensures leaves { let look = disk_seen St.Device.counts St.Device.told St.Device.due in
+            OnErr result (KeepsDisks St.seen look self.old self.new) }
+    {
+        match self.seats.get_mut(usize::from(key.station) - 1) {
+            Some(seat) => turn_in(seat, alloc, &self.types, &mut self.calls, &self.places, key),
+            None => Err(AllocError),
+        }
+    }
+
     // A node takes the turn of a key. Where its disk stops it is closed, and its calls break.
     fn turn_at(&mut self, alloc: Global, key: Key) -> Result<Entry, AllocError>
         requires whole { FitsTogether St.seen self.old }
@@ -92,34 +167,21 @@ where
         if !self.may_ask() {
             return Err(AllocError);
         }
+        let TurnTaken {
+            event,
+            end,
+            before,
+            after,
+        } = self.turn_here(alloc, key)?;
         let number = key.station;
-        match self.unseat(number) {
-            Seat::Up { mut station } => {
-                let before = station.disk().clock();
-                let turn = station.turn(alloc, &self.types, &mut self.calls, &self.places, key);
-                let after = station.disk().clock();
-                match turn {
-                    Ok((event, TurnEnd::Up)) => {
-                        self.set_seat(number, Seat::Up { station });
-                        Ok(entry_of_turn(alloc, event, number, before, after))
-                    }
-                    Ok((event, TurnEnd::Down)) => {
-                        let (disk, doubt) = station.close();
-                        self.set_seat(number, Seat::Down { disk, doubt });
-                        let broken = self.lose(alloc, number)?;
-                        let mut entry = entry_of_turn(alloc, event, number, before, after);
-                        entry.broken = broken;
-                        Ok(entry)
-                    }
-                    Err(e) => {
-                        self.set_seat(number, Seat::Up { station });
-                        Err(e)
-                    }
-                }
-            }
-            other => {
-                self.set_seat(number, other);
-                Err(AllocError)
+        match end {
+            TurnEnd::Up => Ok(entry_of_turn(alloc, event, number, before, after)),
+            TurnEnd::Down => {
+                self.vacate(number, None);
+                let broken = self.lose(alloc, number)?;
+                let mut entry = entry_of_turn(alloc, event, number, before, after);
+                entry.broken = broken;
+                Ok(entry)
             }
         }
     }

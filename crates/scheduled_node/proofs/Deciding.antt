@@ -63,7 +63,8 @@ may-but those n new s t h later same keeps = record {
   wake = λ v other. sym (wakes-by new v) ∙ ap wakes (between v other) ∙ wakes-by n v;
   start = λ v other. sym (starts-by t.traffic (body_at new v) (value_at uid_cmp v new.waiting) (later.classes v))
       ∙ ap (starts t.traffic) (between v other)
-      ∙ starts-by t.traffic (body_at n v) (value_at uid_cmp v n.waiting) (classes-kept s.traffic t.traffic keeps (body_at n v) (h.classes v));
+      ∙ starts-by t.traffic (body_at n v) (value_at uid_cmp v n.waiting)
+      (classes-kept s.traffic t.traffic keeps (body_at n v) (h.classes v));
   run = λ v other. sym (runs-by (body_at new v) (queue_at new v)) ∙ ap runs (between v other) ∙ runs-by (body_at n v) (queue_at n v);
 }
   where

@@ -29,7 +29,8 @@ delivered-key n k a b one from to (inr (inr h)) = absurd (let some : 2 ≤ k.kin
 
 eject-key : (n : ℕ) (k : Key) (kind : ℕ) (u : Uid) (p : ℕ) → k.kind ≡ kind → 2 ≤ kind → kind ≤ 4 → u ≡ k.uid
     → (IsEjectKey n k → p ≡ k.process) → IsKeyOf n k → Some (activity u.node kind u p) ≡ Some k
-eject-key n k kind u p is low high same process (inl key) = absurd (let bad : kind ≡ 1 = sym is ∙ kind-of k _ key in omega (arith, low, bad))
+eject-key n k kind u p is low high same process (inl key) = absurd
+    (let bad : kind ≡ 1 = sym is ∙ kind-of k _ key in omega (arith, low, bad))
 eject-key n k kind u p is low high same process (inr (inl key)) =
     absurd (let bad : kind ≡ 5 = sym is ∙ kind-of k _ key in omega (arith, high, bad))
 eject-key n k kind u p is low high same process (inr (inr h)) =

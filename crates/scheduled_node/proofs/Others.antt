@@ -327,7 +327,8 @@ module _ (those : Uid → Bool) where
   same-started p s = same-cond s (to_settle s) (settled p (unsynced s)) s
       (same-then s (unsynced s) (settled p (unsynced s)) (same-unsynced s) (same-settled p (unsynced s))) (same-here s)
 
-  pub same-activation : (u : Uid) (how : StartEnd) (p : Option Pick) (s : Site) → those u ≡ true → (activation_turn u how p s).node.up ≡ true
+  pub same-activation : (u : Uid) (how : StartEnd) (p : Option Pick) (s : Site) → those u ≡ true → (activation_turn u how p s).node.up
+      ≡ true
       → SameBut those s (activation_turn u how p s)
   same-activation u how p s on up = same-then s (start_settled p s) (activation_turn u how p s) (same-started p s)
       (same-activated u how (start_settled p s) on up)

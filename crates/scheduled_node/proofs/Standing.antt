@@ -62,7 +62,8 @@ module _ (layout : Layout) (ts : TypeList) (old new : Held) (a b : Indices) (m :
         (turn-but layout ts old new m later reach s e sound h.node turn);
   }
 
-  pub scheduled-ends : (how : TurnEnd) (later : Mail) (reach : ℕ → Bool) (s : Site) (e : Event) (x : Ejects) → x ≡ new.ejects → IsSoundSite s
+  pub scheduled-ends : (how : TurnEnd) (later : Mail) (reach : ℕ → Bool) (s : Site) (e : Event) (x : Ejects) → x ≡ new.ejects
+      → IsSoundSite s
       → ScheduledStands layout ts before m s → EndsTurn how layout ts new later reach old s e
       → (how ≡ Up → Notes a b (is_either (concerned later e) (created_in e)) x)
       → EndsScheduledTurn how layout ts behind later reach before s e
@@ -137,14 +138,16 @@ same-truth a b same = (subst IsTrue same, subst IsTrue (sym same))
 
 -- 6. A turn is allowed, whichever way it ends
 
-pub allowed-by : (how : TurnEnd) (layout : Layout) (ts : TypeList) (new : Manned) (later : Mail) (reach : ℕ → Bool) (old : Manned) (s : Site)
+pub allowed-by : (how : TurnEnd) (layout : Layout) (ts : TypeList) (new : Manned) (later : Mail) (reach : ℕ → Bool) (old : Manned)
+    (s : Site)
     (e : Event) → EndsScheduledTurn how layout ts new later reach old s e → AllowsAt s e
 allowed-by Up layout ts new later reach old s e turn = turn.turn.allowed
 allowed-by Down layout ts new later reach old s e turn = turn.allowed
 
 -- 7. There was no memory to note it
 
-pub starves-behind : (how : TurnEnd) (layout : Layout) (ts : TypeList) (new : Held) (later : Mail) (reach : ℕ → Bool) (old : Held) (s : Site)
+pub starves-behind : (how : TurnEnd) (layout : Layout) (ts : TypeList) (new : Held) (later : Mail) (reach : ℕ → Bool) (old : Held)
+    (s : Site)
     (e : Event) → EndsTurn how layout ts new later reach old s e → Starves layout s old.seen new.seen
 starves-behind Up layout ts new later reach old s e turn = record { timed = turn.disk.timed; moments = turn.disk.moments }
 starves-behind Down layout ts new later reach old s e turn = record { timed = turn.falls.disk.timed; moments = turn.falls.disk.moments }

@@ -100,7 +100,8 @@ module _ (reach : ℕ → Bool) (s : Site) (m : Mail) (sound : IsSoundSite s) wh
     where
       worker : (o : Option Worker) → IsSomeAnd o (λ q. AllowsTurn s u p said it q) → said ≡ shown_creation (next_uid s)
       worker None a = absurd a
-      worker (Some q) a = subst (λ o. IsSomeAnd o (λ t. said ≡ shown_of s q.serves t.effect)) is_t a.shows ∙ ap (shown_of s q.serves) creates
+      worker (Some q) a = subst (λ o. IsSomeAnd o (λ t. said ≡ shown_of s q.serves t.effect)) is_t a.shows
+          ∙ ap (shown_of s q.serves) creates
 
   created : (u : Uid) (p : ℕ) (said : Shown) → AllowsAt s (event.Process u p said) → (e : Eject) → eject_in s u ≡ Some e → (it : Active)
       → e.active ≡ Some it → (t : Turned) → turn_of u it p ≡ Some t → (name : List ℕ) → t.effect ≡ effect.Create name → (w : Uid)
@@ -134,7 +135,8 @@ module _ (reach : ℕ → Bool) (s : Site) (m : Mail) (sound : IsSoundSite s) wh
     where
       of-first : (o : Option StoreRequest) (r : StoreRequest) → o ≡ Some r → IsSomeAnd o (λ r. AllowsStore s u how p r) → u ≡ r.uid
       of-first None r is a = absurd a
-      of-first (Some q) r is a = a.of_uid ∙ ap (λ (x : StoreRequest). x.uid) (let x : Some q ≡ Some r = is in let same : q ≡ r = cc x in same)
+      of-first (Some q) r is a = a.of_uid ∙ ap (λ (x : StoreRequest). x.uid)
+          (let x : Some q ≡ Some r = is in let same : q ≡ r = cc x in same)
   turned-but (event.Boot n e how p began) allowed carries up =
       same-boot (those (event.Boot n e how p began)) e how p began s
   turned-but (event.Crash n) allowed carries up = down-crashed s up
@@ -167,4 +169,5 @@ turn-but layout ts old new m later reach s e sound h turn =
     may-but those (parts_of ts old.ejects) (parts_of ts new.ejects) s (with_clock c next) h.calls.parts turn.stands.calls.parts
     (same-clock those c s next (turned-but reach s later sound e turn.allowed
     (subst (Carries later) (clock-traffic c next) turn.stands.calls.calls) (sym (clock-up c next) ∙ turn.stands.disk.up)))
-    (subst (Keeps s.traffic) (sym (clock-traffic c next)) (keeps-on s.number s.traffic next.traffic (calls-go-on reach e s sound turn.allowed)))
+    (subst (Keeps s.traffic) (sym (clock-traffic c next)) (keeps-on s.number s.traffic next.traffic
+    (calls-go-on reach e s sound turn.allowed)))

@@ -17,7 +17,8 @@ returns-clause-whole g c =
     c.set_seat.new.self c.unseat.result c.armed-seat.result c.unseat.ensures.takes c.set_seat.ensures.takes c.unseat.ensures.old
     c.armed-seat.ensures in
     arms-whole g.St.Device.Disk.tells g.St.Device.Disk.obeys g.St.Store.layout g.St.Store.seen
-    (disk_seen g.St.Device.Disk.counts g.St.Device.Disk.told g.St.Device.Disk.due) c.args.what c.args.node c.args.self.now c.set_seat.new.self x
+    (disk_seen g.St.Device.Disk.counts g.St.Device.Disk.told g.St.Device.Disk.due) c.args.what c.args.node c.args.self.now
+    c.set_seat.new.self x
     c.requires.whole
 
 pub returns-clause-carried : goal.returns-clause-carried
@@ -27,8 +28,15 @@ returns-clause-carried g c =
     c.set_seat.new.self c.unseat.result c.armed-seat.result c.unseat.ensures.takes c.set_seat.ensures.takes c.unseat.ensures.old
     c.armed-seat.ensures in
     arms-carried g.St.Device.Disk.tells g.St.Device.Disk.obeys g.St.Store.layout g.St.Store.seen
-    (disk_seen g.St.Device.Disk.counts g.St.Device.Disk.told g.St.Device.Disk.due) c.args.what c.args.node c.args.self.now c.set_seat.new.self
-    c.entry.result x (record { event = c.entry.ensures.event; node = c.entry.ensures.node; shown = c.entry.ensures.clock ∙ c.clock_at-clock.ensures; broken = c.entry.ensures.broken })
+    (disk_seen g.St.Device.Disk.counts g.St.Device.Disk.told g.St.Device.Disk.due) c.args.what c.args.node c.args.self.now
+    c.set_seat.new.self
+    c.entry.result x (record {
+      event = c.entry.ensures.event;
+      node = c.entry.ensures.node;
+      shown = c.entry.ensures.clock
+          ∙ c.clock_at-clock.ensures;
+      broken = c.entry.ensures.broken;
+    })
 
 pub returns-clause-shows : goal.returns-clause-shows
 returns-clause-shows g c =
@@ -37,6 +45,13 @@ returns-clause-shows g c =
     c.set_seat.new.self c.unseat.result c.armed-seat.result c.unseat.ensures.takes c.set_seat.ensures.takes c.unseat.ensures.old
     c.armed-seat.ensures in
     arms-shows g.St.Device.Disk.tells g.St.Device.Disk.obeys g.St.Store.layout g.St.Store.seen
-    (disk_seen g.St.Device.Disk.counts g.St.Device.Disk.told g.St.Device.Disk.due) c.args.what c.args.node c.args.self.now c.set_seat.new.self x
+    (disk_seen g.St.Device.Disk.counts g.St.Device.Disk.told g.St.Device.Disk.due) c.args.what c.args.node c.args.self.now
+    c.set_seat.new.self x
     (heeds g.St.Device.Disk.tells g.St.Device.Disk.obeys) (heeds-obeys g.St.Device.Disk.tells g.St.Device.Disk.obeys) c.entry.result
-    (record { event = c.entry.ensures.event; node = c.entry.ensures.node; shown = c.entry.ensures.clock ∙ c.clock_at-clock.ensures; broken = c.entry.ensures.broken })
+    (record {
+      event = c.entry.ensures.event;
+      node = c.entry.ensures.node;
+      shown = c.entry.ensures.clock
+          ∙ c.clock_at-clock.ensures;
+      broken = c.entry.ensures.broken;
+    })

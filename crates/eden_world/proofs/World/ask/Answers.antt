@@ -11,16 +11,21 @@ returns-then-not-may_ask-clause-starved g c = ends-still g.St.Device.Disk.tells 
     (disk_seen g.St.Device.Disk.counts g.St.Device.Disk.told g.St.Device.Disk.due) c.args.self.now c.args.self.now (λ n. refl)
 
 pub returns-in_err-copy_name-clause-starved : goal.returns-in_err-copy_name-clause-starved
-returns-in_err-copy_name-clause-starved g c = any-err c.from_residual.result _ (ends-still g.St.Device.Disk.tells g.St.Store.layout g.St.Store.seen
+returns-in_err-copy_name-clause-starved g c = any-err c.from_residual.result _
+    (ends-still g.St.Device.Disk.tells g.St.Store.layout g.St.Store.seen
     (disk_seen g.St.Device.Disk.counts g.St.Device.Disk.told g.St.Device.Disk.due) c.args.self.now c.args.self.now (λ n. refl))
 
 pub returns-in_err-call-clause-starved : goal.returns-in_err-call-clause-starved
-returns-in_err-call-clause-starved g c = any-err c.from_residual-in_err-call.result _ (ends-still g.St.Device.Disk.tells g.St.Store.layout g.St.Store.seen
-    (disk_seen g.St.Device.Disk.counts g.St.Device.Disk.told g.St.Device.Disk.due) c.args.self.now (record c.args.self.now { calls = c.ask.new.self }) (λ n. refl))
+returns-in_err-call-clause-starved g c = any-err c.from_residual-in_err-call.result _
+    (ends-still g.St.Device.Disk.tells g.St.Store.layout g.St.Store.seen
+    (disk_seen g.St.Device.Disk.counts g.St.Device.Disk.told g.St.Device.Disk.due) c.args.self.now
+    (record c.args.self.now { calls = c.ask.new.self }) (λ n. refl))
 
 pub returns-in_err-event-clause-starved : goal.returns-in_err-event-clause-starved
-returns-in_err-event-clause-starved g c = any-err c.from_residual-in_err-event.result _ (ends-still g.St.Device.Disk.tells g.St.Store.layout g.St.Store.seen
-    (disk_seen g.St.Device.Disk.counts g.St.Device.Disk.told g.St.Device.Disk.due) c.args.self.now (record c.args.self.now { calls = c.ask.new.self; names = c.ask-2.new.self }) (λ n. refl))
+returns-in_err-event-clause-starved g c = any-err c.from_residual-in_err-event.result _
+    (ends-still g.St.Device.Disk.tells g.St.Store.layout g.St.Store.seen
+    (disk_seen g.St.Device.Disk.counts g.St.Device.Disk.told g.St.Device.Disk.due) c.args.self.now
+    (record c.args.self.now { calls = c.ask.new.self; names = c.ask-2.new.self }) (λ n. refl))
 
 pub returns-clause-called : goal.returns-clause-called
 returns-clause-called g c = ask-calls g.St.Device.Disk.tells g.St.Store.layout g.St.Store.seen
@@ -51,7 +56,8 @@ returns-clause-walked g c = ask-walks g.St.Device.Disk.tells g.St.Store.layout g
     })
 
 pub returns-then-not-may_ask-clause-leaves : goal.returns-then-not-may_ask-clause-leaves
-returns-then-not-may_ask-clause-leaves g c = still-keeps g.St.Store.seen (disk_seen g.St.Device.Disk.counts g.St.Device.Disk.told g.St.Device.Disk.due)
+returns-then-not-may_ask-clause-leaves g c = still-keeps g.St.Store.seen
+    (disk_seen g.St.Device.Disk.counts g.St.Device.Disk.told g.St.Device.Disk.due)
     c.args.self.now c.args.self.now c.requires refl refl
 
 pub returns-in_err-copy_name-clause-leaves : goal.returns-in_err-copy_name-clause-leaves
@@ -60,13 +66,16 @@ returns-in_err-copy_name-clause-leaves g c = any-err c.from_residual.result _ (s
 
 pub returns-in_err-call-clause-leaves : goal.returns-in_err-call-clause-leaves
 returns-in_err-call-clause-leaves g c = any-err c.from_residual-in_err-call.result _ (still-keeps g.St.Store.seen
-    (disk_seen g.St.Device.Disk.counts g.St.Device.Disk.told g.St.Device.Disk.due) c.args.self.now (record c.args.self.now { calls = c.ask.new.self }) c.requires refl refl)
+    (disk_seen g.St.Device.Disk.counts g.St.Device.Disk.told g.St.Device.Disk.due) c.args.self.now
+    (record c.args.self.now { calls = c.ask.new.self }) c.requires refl refl)
 
 pub returns-in_err-event-clause-leaves : goal.returns-in_err-event-clause-leaves
 returns-in_err-event-clause-leaves g c = any-err c.from_residual-in_err-event.result _ (still-keeps g.St.Store.seen
-    (disk_seen g.St.Device.Disk.counts g.St.Device.Disk.told g.St.Device.Disk.due) c.args.self.now (record c.args.self.now { calls = c.ask.new.self; names = c.ask-2.new.self }) c.requires refl refl)
+    (disk_seen g.St.Device.Disk.counts g.St.Device.Disk.told g.St.Device.Disk.due) c.args.self.now
+    (record c.args.self.now { calls = c.ask.new.self; names = c.ask-2.new.self }) c.requires refl refl)
 
 pub returns-clause-shows : goal.returns-clause-shows
 returns-clause-shows g c = still-shows (heeds g.St.Device.Disk.tells g.St.Device.Disk.obeys) g.St.Store.seen
-    (disk_seen g.St.Device.Disk.counts g.St.Device.Disk.told g.St.Device.Disk.due) c.args.self.now (record c.args.self.now { calls = c.ask.new.self; names = c.ask-2.new.self })
+    (disk_seen g.St.Device.Disk.counts g.St.Device.Disk.told g.St.Device.Disk.due) c.args.self.now
+    (record c.args.self.now { calls = c.ask.new.self; names = c.ask-2.new.self })
     c.entry_of_none.result _ refl (c.entry_of_none.ensures.event ∙ c.in_ok-event.ensures.event) refl c.entry_of_none.ensures.none

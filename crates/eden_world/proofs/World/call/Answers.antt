@@ -7,27 +7,33 @@ use Rattle.eden_world.proofs.Untouched.{still-keeps, still-shows}
 use Rattle.eden_world.proofs.World.call.Goals as goal
 
 pub returns-in_err-cap-clause-starved : goal.returns-in_err-cap-clause-starved
-returns-in_err-cap-clause-starved g c = any-err c.from_residual.result _ (ends-still g.St.Device.Disk.tells g.St.Store.layout g.St.Store.seen
+returns-in_err-cap-clause-starved g c = any-err c.from_residual.result _
+    (ends-still g.St.Device.Disk.tells g.St.Store.layout g.St.Store.seen
     (disk_seen g.St.Device.Disk.counts g.St.Device.Disk.told g.St.Device.Disk.due) c.args.self.now c.args.self.now (λ n. refl))
 
 pub returns-in_err-operation-in-Some-clause-starved : goal.returns-in_err-operation-in-Some-clause-starved
-returns-in_err-operation-in-Some-clause-starved g c = any-err c.from_residual-in_err-operation-in-Some.result _ (ends-still g.St.Device.Disk.tells g.St.Store.layout g.St.Store.seen
+returns-in_err-operation-in-Some-clause-starved g c = any-err c.from_residual-in_err-operation-in-Some.result _
+    (ends-still g.St.Device.Disk.tells g.St.Store.layout g.St.Store.seen
     (disk_seen g.St.Device.Disk.counts g.St.Device.Disk.told g.St.Device.Disk.due) c.args.self.now c.args.self.now (λ n. refl))
 
 pub returns-in_err-name-in-None-clause-starved : goal.returns-in_err-name-in-None-clause-starved
-returns-in_err-name-in-None-clause-starved g c = any-err c.from_residual-in_err-name-in-None.result _ (ends-still g.St.Device.Disk.tells g.St.Store.layout g.St.Store.seen
+returns-in_err-name-in-None-clause-starved g c = any-err c.from_residual-in_err-name-in-None.result _
+    (ends-still g.St.Device.Disk.tells g.St.Store.layout g.St.Store.seen
     (disk_seen g.St.Device.Disk.counts g.St.Device.Disk.told g.St.Device.Disk.due) c.args.self.now c.args.self.now (λ n. refl))
 
 pub returns-in_ok-operation-in-Some-clause-carried : goal.returns-in_ok-operation-in-Some-clause-carried
 returns-in_ok-operation-in-Some-clause-carried g c = call-carried g.St.Device.Disk.tells g.St.Store.layout g.St.Store.seen
-    (disk_seen g.St.Device.Disk.counts g.St.Device.Disk.told g.St.Device.Disk.due) c.args.self.now c.ask.new.self c.args.name.now c.args.target.now c.args.operation.now
+    (disk_seen g.St.Device.Disk.counts g.St.Device.Disk.told g.St.Device.Disk.due) c.args.self.now c.ask.new.self c.args.name.now
+    c.args.target.now c.args.operation.now
     c.in_ok-operation-in-Some.operation c.args.args.now c.in-Some.cap c.in-Some.items c.ask.result c.ask.ensures.called
     c.in_ok-operation-in-Some.ensures (λ w stands. sym c.in-Some.is ∙ c.in_ok-cap.ensures c.args.name.now c.args.operation.now w stands)
 
 pub returns-in_ok-name-in-None-clause-carried : goal.returns-in_ok-name-in-None-clause-carried
 returns-in_ok-name-in-None-clause-carried g c = void-carried g.St.Device.Disk.tells g.St.Store.layout g.St.Store.seen
-    (disk_seen g.St.Device.Disk.counts g.St.Device.Disk.told g.St.Device.Disk.due) c.args.self.now c.args.name.now c.in_ok-name-in-None.name c.args.target.now c.args.operation.now
-    c.args.args.now c.entry_of_none.result (λ w stands. sym c.in-None.is ∙ c.in_ok-cap.ensures c.args.name.now c.args.operation.now w stands)
+    (disk_seen g.St.Device.Disk.counts g.St.Device.Disk.told g.St.Device.Disk.due) c.args.self.now c.args.name.now
+    c.in_ok-name-in-None.name c.args.target.now c.args.operation.now
+    c.args.args.now c.entry_of_none.result (λ w stands. sym c.in-None.is
+    ∙ c.in_ok-cap.ensures c.args.name.now c.args.operation.now w stands)
     c.in_ok-name-in-None.ensures c.entry_of_none.ensures.event c.entry_of_none.ensures.none
 
 pub returns-in_err-cap-clause-leaves : goal.returns-in_err-cap-clause-leaves

@@ -37,62 +37,75 @@ arm-requires-in-Stop-clause-calls g c = (subst (NumbersFit 8) c.in-Stop.is c.req
 pub returns-in-Create-clause-starved : goal.returns-in-Create-clause-starved
 returns-in-Create-clause-starved g c = err-so c.create.result _ _
     (still-starves g.St.Device.Disk.tells g.St.Store.layout g.St.Store.seen
-    (disk_seen g.St.Device.Disk.counts g.St.Device.Disk.told g.St.Device.Disk.due) c.args.self.now c.create.new.self c.args.command.now) c.create.ensures.starved
+    (disk_seen g.St.Device.Disk.counts g.St.Device.Disk.told g.St.Device.Disk.due) c.args.self.now c.create.new.self c.args.command.now)
+    c.create.ensures.starved
 
 pub returns-in-Hold-clause-starved : goal.returns-in-Hold-clause-starved
 returns-in-Hold-clause-starved g c = err-so c.hold.result _ _
     (still-starves g.St.Device.Disk.tells g.St.Store.layout g.St.Store.seen
-    (disk_seen g.St.Device.Disk.counts g.St.Device.Disk.told g.St.Device.Disk.due) c.args.self.now c.hold.new.self c.args.command.now) c.hold.ensures.starved
+    (disk_seen g.St.Device.Disk.counts g.St.Device.Disk.told g.St.Device.Disk.due) c.args.self.now c.hold.new.self c.args.command.now)
+    c.hold.ensures.starved
 
 pub returns-in-Call-clause-starved : goal.returns-in-Call-clause-starved
 returns-in-Call-clause-starved g c = err-so c.call.result _ _
     (still-starves g.St.Device.Disk.tells g.St.Store.layout g.St.Store.seen
-    (disk_seen g.St.Device.Disk.counts g.St.Device.Disk.told g.St.Device.Disk.due) c.args.self.now c.call.new.self c.args.command.now) c.call.ensures.starved
+    (disk_seen g.St.Device.Disk.counts g.St.Device.Disk.told g.St.Device.Disk.due) c.args.self.now c.call.new.self c.args.command.now)
+    c.call.ensures.starved
 
 pub returns-in-Restrict-clause-starved : goal.returns-in-Restrict-clause-starved
 returns-in-Restrict-clause-starved g c = err-so c.restrict.result _ _
     (still-starves g.St.Device.Disk.tells g.St.Store.layout g.St.Store.seen
-    (disk_seen g.St.Device.Disk.counts g.St.Device.Disk.told g.St.Device.Disk.due) c.args.self.now c.restrict.new.self c.args.command.now) c.restrict.ensures.starved
+    (disk_seen g.St.Device.Disk.counts g.St.Device.Disk.told g.St.Device.Disk.due) c.args.self.now c.restrict.new.self c.args.command.now)
+    c.restrict.ensures.starved
 
 pub returns-in-Join-clause-starved : goal.returns-in-Join-clause-starved
 returns-in-Join-clause-starved g c = err-so c.join.result _ _
     (still-starves g.St.Device.Disk.tells g.St.Store.layout g.St.Store.seen
-    (disk_seen g.St.Device.Disk.counts g.St.Device.Disk.told g.St.Device.Disk.due) c.args.self.now c.join.new.self c.args.command.now) c.join.ensures.starved
+    (disk_seen g.St.Device.Disk.counts g.St.Device.Disk.told g.St.Device.Disk.due) c.args.self.now c.join.new.self c.args.command.now)
+    c.join.ensures.starved
 
 pub returns-in-Fail-clause-starved : goal.returns-in-Fail-clause-starved
 returns-in-Fail-clause-starved g c = err-so c.arm.result _ _
     (still-starves g.St.Device.Disk.tells g.St.Store.layout g.St.Store.seen
-    (disk_seen g.St.Device.Disk.counts g.St.Device.Disk.told g.St.Device.Disk.due) c.args.self.now c.arm.new.self c.args.command.now) c.arm.ensures.starved
+    (disk_seen g.St.Device.Disk.counts g.St.Device.Disk.told g.St.Device.Disk.due) c.args.self.now c.arm.new.self c.args.command.now)
+    c.arm.ensures.starved
 
 pub returns-in-Stop-clause-starved : goal.returns-in-Stop-clause-starved
 returns-in-Stop-clause-starved g c = err-so c.arm-in-Stop.result _ _
     (still-starves g.St.Device.Disk.tells g.St.Store.layout g.St.Store.seen
-    (disk_seen g.St.Device.Disk.counts g.St.Device.Disk.told g.St.Device.Disk.due) c.args.self.now c.arm-in-Stop.new.self c.args.command.now) c.arm-in-Stop.ensures.starved
+    (disk_seen g.St.Device.Disk.counts g.St.Device.Disk.told g.St.Device.Disk.due) c.args.self.now c.arm-in-Stop.new.self
+    c.args.command.now) c.arm-in-Stop.ensures.starved
 
 pub returns-in-End-clause-starved : goal.returns-in-End-clause-starved
 returns-in-End-clause-starved g c = err-so c.end.result _ _
     (still-starves g.St.Device.Disk.tells g.St.Store.layout g.St.Store.seen
-    (disk_seen g.St.Device.Disk.counts g.St.Device.Disk.told g.St.Device.Disk.due) c.args.self.now c.args.self.now c.args.command.now) c.end.ensures.starved
+    (disk_seen g.St.Device.Disk.counts g.St.Device.Disk.told g.St.Device.Disk.due) c.args.self.now c.args.self.now c.args.command.now)
+    c.end.ensures.starved
 
 pub returns-in-Crash-clause-starved : goal.returns-in-Crash-clause-starved
-returns-in-Crash-clause-starved g c = subst (λ k. IfErr c.crash.result (λ _. Starves g.St.Device.Disk.tells g.St.Store.layout g.St.Store.seen
+returns-in-Crash-clause-starved g c = subst (λ k. IfErr c.crash.result
+    (λ _. Starves g.St.Device.Disk.tells g.St.Store.layout g.St.Store.seen
     (disk_seen g.St.Device.Disk.counts g.St.Device.Disk.told g.St.Device.Disk.due) c.args.self.now c.crash.new.self k)) (sym c.in-Crash.is)
     (err-so c.crash.result _ _ (starves-so g.St.Device.Disk.tells g.St.Store.layout g.St.Store.seen
     (disk_seen g.St.Device.Disk.counts g.St.Device.Disk.told g.St.Device.Disk.due) c.args.self.now c.crash.new.self
     (commands.Crash c.in-Crash.node c.in-Crash.mode)) c.crash.ensures.starved)
 
 pub returns-in-Cut-clause-starved : goal.returns-in-Cut-clause-starved
-returns-in-Cut-clause-starved g c = subst (λ k. IfErr c.cut_link.result (λ _. Starves g.St.Device.Disk.tells g.St.Store.layout g.St.Store.seen
+returns-in-Cut-clause-starved g c = subst (λ k. IfErr c.cut_link.result
+    (λ _. Starves g.St.Device.Disk.tells g.St.Store.layout g.St.Store.seen
     (disk_seen g.St.Device.Disk.counts g.St.Device.Disk.told g.St.Device.Disk.due) c.args.self.now c.cut_link.new.self k)) (sym c.in-Cut.is)
     (err-so c.cut_link.result _ _ (starves-so g.St.Device.Disk.tells g.St.Store.layout g.St.Store.seen
     (disk_seen g.St.Device.Disk.counts g.St.Device.Disk.told g.St.Device.Disk.due) c.args.self.now c.cut_link.new.self
     (commands.Cut c.in-Cut.a c.in-Cut.b)) c.cut_link.ensures.starved)
 
 pub returns-in-Restart-clause-starved : goal.returns-in-Restart-clause-starved
-returns-in-Restart-clause-starved g c = subst (λ k. IfErr c.restart.result (λ _. Starves g.St.Device.Disk.tells g.St.Store.layout g.St.Store.seen
-    (disk_seen g.St.Device.Disk.counts g.St.Device.Disk.told g.St.Device.Disk.due) c.args.self.now c.restart.new.self k)) (sym c.in-Restart.is)
+returns-in-Restart-clause-starved g c = subst (λ k. IfErr c.restart.result
+    (λ _. Starves g.St.Device.Disk.tells g.St.Store.layout g.St.Store.seen
+    (disk_seen g.St.Device.Disk.counts g.St.Device.Disk.told g.St.Device.Disk.due) c.args.self.now c.restart.new.self k))
+    (sym c.in-Restart.is)
     c.restart.ensures.starved
 
 pub returns-in-End-clause-leaves : goal.returns-in-End-clause-leaves
 returns-in-End-clause-leaves g c = any-err c.end.result _ (still-keeps g.St.Store.seen
-    (disk_seen g.St.Device.Disk.counts g.St.Device.Disk.told g.St.Device.Disk.due) c.args.self.now c.args.self.now c.requires.whole refl refl)
+    (disk_seen g.St.Device.Disk.counts g.St.Device.Disk.told g.St.Device.Disk.due) c.args.self.now c.args.self.now c.requires.whole refl
+    refl)

@@ -9,7 +9,8 @@ use Rattle.eden_world.proofs.World.crash.Goals as goal
 
 pub returns-then-not-is_up-clause-carried : goal.returns-then-not-is_up-clause-carried
 returns-then-not-is_up-clause-carried g c = crash-still g.St.Device.Disk.tells g.St.Store.layout g.St.Store.seen
-    (disk_seen g.St.Device.Disk.counts g.St.Device.Disk.told g.St.Device.Disk.due) c.args.self.now c.args.node c.args.mode c.entry_of_none.result
+    (disk_seen g.St.Device.Disk.counts g.St.Device.Disk.told g.St.Device.Disk.due) c.args.self.now c.args.node c.args.mode
+    c.entry_of_none.result
     (λ number. none-up (station_at c.args.self.now c.args.node) (sym c.is_up.ensures ∙ c.if-not-is_up.true)) c.entry_of_none.ensures.event
     c.entry_of_none.ensures.none
 
@@ -30,7 +31,8 @@ pub returns-in_err-broken-clause-starved : goal.returns-in_err-broken-clause-sta
 returns-in_err-broken-clause-starved g c =
     let u = up-at g.St.Store.seen c.args.self.now c.args.node c.requires (sym c.is_up.ensures ∙ c.if-not-is_up.false) in
     any-err c.from_residual.result _ (crash-starved g.St.Device.Disk.tells g.St.Device.Disk.obeys g.St.Store.layout g.St.Store.seen
-    (disk_seen g.St.Device.Disk.counts g.St.Device.Disk.told g.St.Device.Disk.due) c.args.self.now c.fall.new.self c.args.node c.args.mode u.node u.is
+    (disk_seen g.St.Device.Disk.counts g.St.Device.Disk.told g.St.Device.Disk.due) c.args.self.now c.fall.new.self c.args.node c.args.mode
+    u.node u.is
     u.number (c.in_err-broken.ensures.leaves u.node u.is))
 
 pub returns-in_err-broken-clause-leaves : goal.returns-in_err-broken-clause-leaves
@@ -44,13 +46,16 @@ pub returns-clause-carried : goal.returns-clause-carried
 returns-clause-carried g c =
     let u = up-at g.St.Store.seen c.args.self.now c.args.node c.requires (sym c.is_up.ensures ∙ c.if-not-is_up.false) in
     crash-carried g.St.Device.Disk.tells g.St.Device.Disk.obeys g.St.Store.layout g.St.Store.seen
-    (disk_seen g.St.Device.Disk.counts g.St.Device.Disk.told g.St.Device.Disk.due) c.args.self.now c.fall.new.self c.args.node c.args.mode u.node
+    (disk_seen g.St.Device.Disk.counts g.St.Device.Disk.told g.St.Device.Disk.due) c.args.self.now c.fall.new.self c.args.node c.args.mode
+    u.node
     c.in_ok-broken.broken _ u.is u.number (λ so. c.in_ok-broken.ensures.falls so u.node u.is) refl
     (record { node = refl; clock = c.clock_at-clock.ensures; broken = refl })
 
 pub returns-clause-shows : goal.returns-clause-shows
 returns-clause-shows g c =
     let u = up-at g.St.Store.seen c.args.self.now c.args.node c.requires (sym c.is_up.ensures ∙ c.if-not-is_up.false) in
-    crash-shows (heeds g.St.Device.Disk.tells g.St.Device.Disk.obeys) g.St.Device.Disk.tells g.St.Device.Disk.obeys g.St.Store.layout g.St.Store.seen
-    (disk_seen g.St.Device.Disk.counts g.St.Device.Disk.told g.St.Device.Disk.due) c.args.mode c.args.node u.node c.args.self.now c.fall.new.self _
+    crash-shows (heeds g.St.Device.Disk.tells g.St.Device.Disk.obeys) g.St.Device.Disk.tells g.St.Device.Disk.obeys g.St.Store.layout
+    g.St.Store.seen
+    (disk_seen g.St.Device.Disk.counts g.St.Device.Disk.told g.St.Device.Disk.due) c.args.mode c.args.node u.node c.args.self.now
+    c.fall.new.self _
     u.is u.number (c.in_ok-broken.ensures.leaves u.node u.is) refl refl c.clock_at-clock.ensures

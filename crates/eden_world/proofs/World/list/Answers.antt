@@ -8,7 +8,8 @@ use Rattle.eden_world.proofs.World.list.Goals as goal
 
 pub loop-number-init : goal.loop-number-init
 loop-number-init g c = λ more w reached stands.
-    ap (λ ks. ks ++ flat_map (keys_at w) nine) c.new-keys.ensures.items ∙ keys-first g.St.Device.Disk.tells g.St.Store.layout g.St.Store.seen
+    ap (λ ks. ks ++ flat_map (keys_at w) nine) c.new-keys.ensures.items
+    ∙ keys-first g.St.Device.Disk.tells g.St.Store.layout g.St.Store.seen
     (disk_seen g.St.Device.Disk.counts g.St.Device.Disk.told g.St.Device.Disk.due) c.args.self.now more w reached stands
 
 pub loop-number-preserved : goal.loop-number-preserved

@@ -16,7 +16,8 @@ returns-in-Some g c = on-ok-then c.list.result _ _ _ c.list.ensures (λ listed m
     station-keys-listed _ _ _ mail _ _ c.in_ok-list_deliveries.ensures
     (listed stands.telling c.args.self.now.types c.args.self.now.calls st.site st.sound st.stands)
     (keys-there g.St.Device.Disk.tells g.St.Store.layout g.St.Store.seen
-    (disk_seen g.St.Device.Disk.counts g.St.Device.Disk.told g.St.Device.Disk.due) c.args.self.now more w c.args.number stands c.requires ∙ ap (λ ks. mail ++ ks) st.keys))
+    (disk_seen g.St.Device.Disk.counts g.St.Device.Disk.told g.St.Device.Disk.due) c.args.self.now more w c.args.number stands c.requires
+    ∙ ap (λ ks. mail ++ ks) st.keys))
 
 pub returns-in-None : goal.returns-in-None
 returns-in-None g c = λ more w reached stands.

@@ -7,7 +7,8 @@ use Rattle.eden_world.proofs.Stationed.{keys-first}
 use Rattle.eden_world.proofs.World.next.Goals as goal
 
 pub loop-number-init : goal.loop-number-init
-loop-number-init g c = λ more w reached stands. ap (find (is_past c.args.last)) (keys-first g.St.Device.Disk.tells g.St.Store.layout g.St.Store.seen
+loop-number-init g c = λ more w reached stands. ap (find (is_past c.args.last))
+    (keys-first g.St.Device.Disk.tells g.St.Store.layout g.St.Store.seen
     (disk_seen g.St.Device.Disk.counts g.St.Device.Disk.told g.St.Device.Disk.due) c.args.self.now more w
     reached stands)
 

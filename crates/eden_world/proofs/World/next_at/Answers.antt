@@ -24,7 +24,8 @@ returns-in_err-station-in-None g c = λ more w reached stands.
     let none = sym c.station.ensures ∙ ap option_copied c.in_err-station-in-None.was in
     c.from_residual.ensures ∙ node-next (is_past c.args.last) mail [] _ None (sym c.in-None.is ∙ c.next_delivery.ensures) refl
     (keys-there g.St.Device.Disk.tells g.St.Store.layout g.St.Store.seen
-    (disk_seen g.St.Device.Disk.counts g.St.Device.Disk.told g.St.Device.Disk.due) c.args.self.now more w c.args.number stands c.requires ∙ ap (λ ks. mail ++ ks)
+    (disk_seen g.St.Device.Disk.counts g.St.Device.Disk.told g.St.Device.Disk.due) c.args.self.now more w c.args.number stands c.requires
+    ∙ ap (λ ks. mail ++ ks)
     (no-station-keys g.St.Device.Disk.tells g.St.Store.layout g.St.Store.seen
     (disk_seen g.St.Device.Disk.counts g.St.Device.Disk.told g.St.Device.Disk.due) c.args.self.now more w c.args.number
     reached stands c.requires none))
@@ -39,4 +40,5 @@ returns-in_ok-station-in-None g c = λ more w reached stands.
     node-next (is_past c.args.last) mail _ _ _ (sym c.in-None.is ∙ c.next_delivery.ensures)
     (c.next.ensures stands.telling c.args.self.now.types c.args.self.now.calls st.site st.sound st.stands)
     (keys-there g.St.Device.Disk.tells g.St.Store.layout g.St.Store.seen
-    (disk_seen g.St.Device.Disk.counts g.St.Device.Disk.told g.St.Device.Disk.due) c.args.self.now more w c.args.number stands c.requires ∙ ap (λ ks. mail ++ ks) st.keys)
+    (disk_seen g.St.Device.Disk.counts g.St.Device.Disk.told g.St.Device.Disk.due) c.args.self.now more w c.args.number stands c.requires
+    ∙ ap (λ ks. mail ++ ks) st.keys)

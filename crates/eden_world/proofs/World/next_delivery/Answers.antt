@@ -16,7 +16,8 @@ loop-from-init g c = refl
 
 pub returns-then-is_past : goal.returns-then-is_past
 returns-then-is_past g c =
-    ap Some c.delivery-key.ensures ∙ delivery-found (is_past c.args.last) c.args.self.now.calls c.args.to c.loop-from.from _ c.loop-from-test.true
+    ap Some c.delivery-key.ensures ∙ delivery-found (is_past c.args.last) c.args.self.now.calls c.args.to c.loop-from.from _
+    c.loop-from-test.true
     (sym c.waiting.ensures ∙ c.if-waiting.true)
     (sym (ap (is_past c.args.last) c.delivery-key.ensures) ∙ sym c.is_past.ensures ∙ c.if-is_past.true) c.loop-from.invariant
 
@@ -33,5 +34,6 @@ loop-from-preserved g c =
     delivery-none (is_past c.args.last) c.args.self.now.calls c.args.to n _ c.loop-from-test.true none c.loop-from.invariant
 
 pub returns : goal.returns
-returns g c = deliveries-end (is_past c.args.last) c.args.self.now.calls c.args.to c.loop-from.from _ (omega (arith, c.loop-from-test.false))
+returns g c = deliveries-end (is_past c.args.last) c.args.self.now.calls c.args.to c.loop-from.from _
+    (omega (arith, c.loop-from-test.false))
     c.loop-from.invariant

@@ -7,22 +7,28 @@ use Rattle.eden_world.proofs.Untouched.{still-keeps, still-shows}
 use Rattle.eden_world.proofs.World.restrict.Goals as goal
 
 pub returns-in_err-event-clause-starved : goal.returns-in_err-event-clause-starved
-returns-in_err-event-clause-starved g c = any-err c.from_residual.result _ (ends-still g.St.Device.Disk.tells g.St.Store.layout g.St.Store.seen
-    (disk_seen g.St.Device.Disk.counts g.St.Device.Disk.told g.St.Device.Disk.due) c.args.self.now (record c.args.self.now { names = c.restrict.new.self }) (λ n. refl))
+returns-in_err-event-clause-starved g c = any-err c.from_residual.result _
+    (ends-still g.St.Device.Disk.tells g.St.Store.layout g.St.Store.seen
+    (disk_seen g.St.Device.Disk.counts g.St.Device.Disk.told g.St.Device.Disk.due) c.args.self.now
+    (record c.args.self.now { names = c.restrict.new.self }) (λ n. refl))
 
 pub returns-clause-carried : goal.returns-clause-carried
 returns-clause-carried g c = restrict-carried g.St.Device.Disk.tells g.St.Store.layout g.St.Store.seen
-    (disk_seen g.St.Device.Disk.counts g.St.Device.Disk.told g.St.Device.Disk.due) c.args.self.now c.restrict.new.self c.args.name.now c.args.target.now c.args.mask
+    (disk_seen g.St.Device.Disk.counts g.St.Device.Disk.told g.St.Device.Disk.due) c.args.self.now c.restrict.new.self c.args.name.now
+    c.args.target.now c.args.mask
     c.entry_of_none.result c.in_ok-event.event c.in_ok-event.ensures.allowed c.in_ok-event.ensures.stands c.entry_of_none.ensures.event
     c.entry_of_none.ensures.none
 
 pub returns-clause-shows : goal.returns-clause-shows
 returns-clause-shows g c = still-shows (heeds g.St.Device.Disk.tells g.St.Device.Disk.obeys) g.St.Store.seen
-    (disk_seen g.St.Device.Disk.counts g.St.Device.Disk.told g.St.Device.Disk.due) c.args.self.now (record c.args.self.now { names = c.restrict.new.self })
+    (disk_seen g.St.Device.Disk.counts g.St.Device.Disk.told g.St.Device.Disk.due) c.args.self.now
+    (record c.args.self.now { names = c.restrict.new.self })
     c.entry_of_none.result c.in_ok-event.event refl c.entry_of_none.ensures.event
-    (restrict-shown g.St.Store.layout c.args.self.now.names c.args.name.now c.args.target.now c.args.mask c.in_ok-event.event c.in_ok-event.ensures.allowed)
+    (restrict-shown g.St.Store.layout c.args.self.now.names c.args.name.now c.args.target.now c.args.mask c.in_ok-event.event
+    c.in_ok-event.ensures.allowed)
     c.entry_of_none.ensures.none
 
 pub returns-in_err-event-clause-leaves : goal.returns-in_err-event-clause-leaves
 returns-in_err-event-clause-leaves g c = any-err c.from_residual.result _ (still-keeps g.St.Store.seen
-    (disk_seen g.St.Device.Disk.counts g.St.Device.Disk.told g.St.Device.Disk.due) c.args.self.now (record c.args.self.now { names = c.restrict.new.self }) c.requires refl refl)
+    (disk_seen g.St.Device.Disk.counts g.St.Device.Disk.told g.St.Device.Disk.due) c.args.self.now
+    (record c.args.self.now { names = c.restrict.new.self }) c.requires refl refl)

@@ -13,7 +13,8 @@ returns-clause-whole g c =
     c.args.self.now c.unseat.new.self c.set_seat.new.self (was-up _ _ (sym c.in-Up.is ∙ c.unseat.ensures.old))
     c.unseat.ensures.takes c.set_seat.ensures.takes in
     on_ok_weaker c.broken-told.result (told-whole g.St.Store.layout g.St.Store.seen look c.args.uid c.args.process c.in-Up.station
-    c.broken-told.new.self c.args.self.now c.set_seat.new.self swapped c.broken-told.ensures.store c.requires.whole) c.broken-told.ensures.whole
+    c.broken-told.new.self c.args.self.now c.set_seat.new.self swapped c.broken-told.ensures.store c.requires.whole)
+    c.broken-told.ensures.whole
 
 pub returns-clause-told : goal.returns-clause-told
 returns-clause-told g c = λ so.

@@ -13,5 +13,6 @@ invariant-loop-number g l =
     let look = disk_seen g.St.Device.Disk.counts g.St.Device.Disk.told g.St.Device.Disk.due in
     FitsTogether g.St.Store.seen l.self
     × SameDisks (in_hand g.St.Store.seen look l.fn.self) (in_hand g.St.Store.seen look l.self)
-    × (IsTrue g.St.Device.Disk.tells → TellsPart g.St.Store.layout g.St.Store.seen look l.broken (drop l.number-index l.broken) l.names.items
+    × (IsTrue g.St.Device.Disk.tells → TellsPart g.St.Store.layout g.St.Store.seen look l.broken (drop l.number-index l.broken)
+    l.names.items
     l.fn.self l.self)

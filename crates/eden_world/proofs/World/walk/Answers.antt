@@ -7,22 +7,26 @@ use Rattle.eden_world.proofs.Untouched.{still-keeps, still-shows}
 use Rattle.eden_world.proofs.World.walk.Goals as goal
 
 pub returns-in_err-operation-in-Some-clause-starved : goal.returns-in_err-operation-in-Some-clause-starved
-returns-in_err-operation-in-Some-clause-starved g c = any-err c.from_residual.result _ (ends-still g.St.Device.Disk.tells g.St.Store.layout g.St.Store.seen
+returns-in_err-operation-in-Some-clause-starved g c = any-err c.from_residual.result _
+    (ends-still g.St.Device.Disk.tells g.St.Store.layout g.St.Store.seen
     (disk_seen g.St.Device.Disk.counts g.St.Device.Disk.told g.St.Device.Disk.due) c.args.self.now c.args.self.now (λ n. refl))
 
 pub returns-in_err-name-in-None-clause-starved : goal.returns-in_err-name-in-None-clause-starved
-returns-in_err-name-in-None-clause-starved g c = any-err c.from_residual-in_err-name-in-None.result _ (ends-still g.St.Device.Disk.tells g.St.Store.layout g.St.Store.seen
+returns-in_err-name-in-None-clause-starved g c = any-err c.from_residual-in_err-name-in-None.result _
+    (ends-still g.St.Device.Disk.tells g.St.Store.layout g.St.Store.seen
     (disk_seen g.St.Device.Disk.counts g.St.Device.Disk.told g.St.Device.Disk.due) c.args.self.now c.args.self.now (λ n. refl))
 
 pub returns-in_ok-operation-in-Some-clause-looked : goal.returns-in_ok-operation-in-Some-clause-looked
 returns-in_ok-operation-in-Some-clause-looked g c = walk-looked g.St.Device.Disk.tells g.St.Store.layout g.St.Store.seen
-    (disk_seen g.St.Device.Disk.counts g.St.Device.Disk.told g.St.Device.Disk.due) c.args.self.now c.ask.new.self c.args.name.now c.args.component.now
+    (disk_seen g.St.Device.Disk.counts g.St.Device.Disk.told g.St.Device.Disk.due) c.args.self.now c.ask.new.self c.args.name.now
+    c.args.component.now
     c.in_ok-operation-in-Some.operation c.args.directory c.in-Some.cap c.in_ok-operation-in-Some.args c.ask.result c.ask.ensures.walked
     c.in-Some.is c.in_ok-operation-in-Some.ensures.0 c.in_ok-operation-in-Some.ensures.1
 
 pub returns-in_ok-name-in-None-clause-looked : goal.returns-in_ok-name-in-None-clause-looked
 returns-in_ok-name-in-None-clause-looked g c = void-walked g.St.Device.Disk.tells g.St.Store.layout g.St.Store.seen
-    (disk_seen g.St.Device.Disk.counts g.St.Device.Disk.told g.St.Device.Disk.due) c.args.self.now c.args.name.now c.in_ok-name-in-None.name c.args.component.now
+    (disk_seen g.St.Device.Disk.counts g.St.Device.Disk.told g.St.Device.Disk.due) c.args.self.now c.args.name.now
+    c.in_ok-name-in-None.name c.args.component.now
     c.args.directory c.entry_of_none.result c.in-None.is c.in_ok-name-in-None.ensures c.entry_of_none.ensures.event
     c.entry_of_none.ensures.none
 

@@ -11,4 +11,5 @@ pub returns : goal.returns
 returns g c = λ so. on_ok_weaker c.list.result (λ listed ts m s sound h. listed ts s sound
     (subst (λ x. Stands (parts_of ts x) s) (sym c.ejects-ejects.ensures) h.node.calls.parts)
     (subst (λ x. IsAgenda (indices_of c.args.self.now.agenda) (parts_of ts x)) (sym c.ejects-ejects.ensures) h.agenda)
-    (record { at = c.worked_on-worked.ensures so ts m s h.node }) (same-truth _ _ (c.pending.ensures.waits so ts m s h.node))) c.list.ensures
+    (record { at = c.worked_on-worked.ensures so ts m s h.node }) (same-truth _ _ (c.pending.ensures.waits so ts m s h.node)))
+    c.list.ensures

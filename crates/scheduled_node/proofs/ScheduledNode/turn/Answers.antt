@@ -15,7 +15,8 @@ use Rattle.scheduled_node.proofs.ScheduledNode.turn.Goals as goal
 
 pub returns-in-1-clause-turn : goal.returns-in-1-clause-turn
 returns-in-1-clause-turn g c = λ so law.
-    both-ok _ _ _ c.delivery.result c.delivery.ensures.event (c.delivery.ensures.turn so) (λ r is turn reach s fits reached sound fresh some h.
+    both-ok _ _ _ c.delivery.result c.delivery.ensures.event (c.delivery.ensures.turn so)
+    (λ r is turn reach s fits reached sound fresh some h.
     record {
       turn = turn reach s sound h;
       key = key-delivered s.number c.args.key r.0 c.in-1.is (subst (λ n. IsDelivery c.args.key.sender n r.0)
@@ -44,7 +45,8 @@ returns-in_ok-event-in-4-clause-turn g c = λ so law reach s fits reached sound 
 
 pub returns-in-5-clause-turn : goal.returns-in-5-clause-turn
 returns-in-5-clause-turn g c = λ so law.
-    both-ok _ _ _ c.store_turn.result c.store_turn.ensures.event (c.store_turn.ensures.turn so) (λ r is turn reach s fits reached sound fresh
+    both-ok _ _ _ c.store_turn.result c.store_turn.ensures.event (c.store_turn.ensures.turn so)
+    (λ r is turn reach s fits reached sound fresh
     some h.
     let ends = turn c.args.types.now reach s sound some h in
     record {
