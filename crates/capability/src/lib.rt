@@ -2,8 +2,6 @@
 #![tactic(auto)]
 
 mod lists;
-#[cfg(test)]
-mod tests;
 
 ghost use Rattle.std.specs.Prelude.{◌≡◌, ℕ, ◌<◌, ◌↔◌, IsTrue};
 ghost use Rattle.capability.specs.Rights.{Has, IsWithin, is_within};

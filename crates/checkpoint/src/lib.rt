@@ -4,8 +4,6 @@
 mod down;
 mod law;
 mod start;
-#[cfg(test)]
-mod tests;
 mod up;
 mod worker;
 

@@ -9,8 +9,6 @@ mod directory;
 mod effect;
 mod law;
 mod stage;
-#[cfg(test)]
-mod tests;
 mod turn;
 
 pub use condition::native_start;

@@ -11,8 +11,6 @@ mod law;
 mod rep;
 mod size;
 mod tag;
-#[cfg(test)]
-mod tests;
 mod value;
 
 pub use decode::{DecodeRefusal, decode_rep};

@@ -4,7 +4,5 @@
 mod draws;
 mod lines;
 mod script;
-#[cfg(test)]
-mod tests;
 
 pub use script::gen_script;

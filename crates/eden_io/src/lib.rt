@@ -2,8 +2,6 @@
 #![tactic(auto)]
 
 mod memory;
-#[cfg(test)]
-mod tests;
 mod traits;
 mod whole;
 

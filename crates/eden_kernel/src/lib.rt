@@ -5,14 +5,10 @@ mod activations;
 mod creations;
 mod deliveries;
 mod down;
-#[cfg(test)]
-mod end_tests;
 mod looks;
 mod processes;
 mod starts;
 mod stores;
-#[cfg(test)]
-mod tests;
 mod up;
 
 use checkpoint::Worker;

@@ -17,8 +17,6 @@ mod names;
 mod parse;
 mod part;
 mod reader;
-#[cfg(test)]
-mod tests;
 mod value;
 
 pub use alone::read_value;

@@ -4,10 +4,6 @@
 mod carry;
 mod law;
 mod shell;
-#[cfg(test)]
-mod stop_tests;
-#[cfg(test)]
-mod tests;
 
 pub use law::blank_disks_may_be_handed_in;
 pub use shell::eden;

@@ -6,8 +6,6 @@ mod kind;
 mod limits;
 mod printing;
 mod status;
-#[cfg(test)]
-mod tests;
 mod value;
 mod walk;
 

@@ -18,8 +18,6 @@ mod law;
 mod machine;
 mod naming;
 mod seats;
-#[cfg(test)]
-mod tests;
 mod turns;
 
 use epl_syntax::Types;

@@ -11,8 +11,6 @@ mod layout;
 mod native;
 mod operations;
 mod starting;
-#[cfg(test)]
-mod tests;
 mod turns;
 mod variables;
 

@@ -6,8 +6,6 @@
 #![tactic(auto)]
 
 mod store;
-#[cfg(test)]
-mod tests;
 
 ghost use Rattle.std.specs.Prelude.{◌≡◌, ◌≢◌, ◌<◌, ◌≤◌, ◌+◌, ℕ, List, [], min, Some, None, IfOk, MatchOption, MatchResult, option_copied};
 ghost use Rattle.std.specs.Option.{option_copied_mut};

@@ -13,8 +13,6 @@ mod replies;
 mod requests;
 mod starts;
 mod stores;
-#[cfg(test)]
-mod tests;
 
 ghost use Rattle.std.specs.Prelude.{◌≡◌, ◌<◌};
 ghost use Rattle.std.specs.Prelude.{OnOk, Some, None, cond};

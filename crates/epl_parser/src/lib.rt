@@ -8,8 +8,6 @@ mod build;
 mod collect;
 mod constant_parser;
 mod expression_parser;
-#[cfg(test)]
-mod expression_tests;
 mod head;
 mod item;
 mod kind_parser;
@@ -19,8 +17,6 @@ mod parens;
 mod program;
 mod reading;
 mod statement;
-#[cfg(test)]
-mod type_tests;
 
 pub use law::{conditions_are_in_monitors, refusals_are_one, types_are_named, types_are_one};
 pub use program::parse_edentype;

@@ -8,10 +8,6 @@ mod block;
 mod process;
 mod rest;
 mod run;
-#[cfg(test)]
-mod sample;
-#[cfg(test)]
-mod tests;
 mod upgrade;
 
 pub use beginning::{begin, processes};

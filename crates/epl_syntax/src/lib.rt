@@ -10,14 +10,10 @@ mod effect;
 mod law;
 mod lexer;
 mod rule;
-#[cfg(test)]
-mod tests;
 mod text;
 mod token;
 mod tree;
 mod types;
-#[cfg(test)]
-mod types_tests;
 mod word;
 
 pub use checked::Checked;

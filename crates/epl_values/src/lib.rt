@@ -9,8 +9,6 @@ mod named;
 mod numbers;
 mod operator;
 mod stop;
-#[cfg(test)]
-mod tests;
 mod variables;
 
 pub use assignment::assign;

@@ -3,7 +3,5 @@
 #![tactic(auto)]
 
 mod law;
-#[cfg(test)]
-mod tests;
 
 pub use law::{alike_stores_answer_alike, blank_disks_keep_nothing, logs_and_blocks_answer_alike};

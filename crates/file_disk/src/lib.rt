@@ -3,8 +3,6 @@
 
 mod folder;
 mod host_disk;
-#[cfg(test)]
-mod tests;
 
 pub use folder::{OpenRefusal, open_disks};
 pub use host_disk::FileDisk;

@@ -12,8 +12,6 @@ mod halt;
 mod law;
 mod number;
 mod stop;
-#[cfg(test)]
-mod tests;
 
 pub use halt::Halt;
 pub use law::numbers_have_one_spelling;

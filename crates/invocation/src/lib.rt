@@ -10,8 +10,6 @@ mod askers;
 mod call;
 mod closing;
 mod queues;
-#[cfg(test)]
-mod tests;
 
 ghost use Rattle.std.specs.Prelude.{◌≡◌, ◌≤◌, ◌<◌, ◌+◌, ◌-◌, ◌∷◌, [], false, not, List, IfOk, MatchResult, length, option_copied};
 ghost use Rattle.eden_model.specs.Lines.{has, Distinct};

@@ -9,8 +9,6 @@ mod law;
 mod lines;
 mod lists;
 mod site_law;
-#[cfg(test)]
-mod tests;
 mod words;
 
 pub use command::{Arg, Args, Command, Ref, Script};

@@ -4,9 +4,6 @@
 //! any two of them. No cut touches the way from a station to itself. Nothing reaches the shell.
 #![tactic(auto)]
 
-#[cfg(test)]
-mod tests;
-
 ghost use Rattle.std.specs.Prelude.{◌≡◌, ◌≤◌, ◌<◌, ◌==◌, ◌+◌, ◌*◌, ℕ, true, cond, length, IsTrue};
 ghost use Rattle.locator.specs.Reach.{Stations, up_at, joined_at, reaches, same_link, node_up_at};
 

@@ -4,16 +4,8 @@
 mod block_store;
 mod convert;
 mod convert_law;
-#[cfg(test)]
-mod convert_tests;
 mod law;
 mod opening;
-#[cfg(test)]
-mod opening_tests;
-#[cfg(test)]
-mod store_tests;
-#[cfg(test)]
-mod tests;
 mod values;
 
 pub use block_store::BlockStore;

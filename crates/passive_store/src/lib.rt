@@ -8,8 +8,6 @@ mod opening;
 mod records;
 mod steps;
 mod store;
-#[cfg(test)]
-mod tests;
 
 pub use index::Slot;
 pub use laws::{images_are_told_by_marks, log_layout_is_a_layout, picks_are_told_by_marks};

@@ -5,10 +5,9 @@ mod components;
 mod law;
 mod machine;
 mod run;
-#[cfg(test)]
-mod tests;
 mod walk;
 
+pub use components::components;
 pub use law::{a_run_may_begin, entries_are_few};
 pub use machine::Machine;
 pub use run::Run;

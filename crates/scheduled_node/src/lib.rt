@@ -8,8 +8,6 @@ mod down;
 mod looks;
 mod noting;
 mod steps;
-#[cfg(test)]
-mod tests;
 mod turns;
 
 use agenda::Agenda;

@@ -3,8 +3,6 @@
 
 mod outcome;
 mod reading;
-#[cfg(test)]
-mod tests;
 mod words;
 mod writing;
 

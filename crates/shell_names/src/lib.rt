@@ -9,8 +9,6 @@ mod commands;
 mod law;
 mod meant;
 mod names;
-#[cfg(test)]
-mod tests;
 
 pub use law::names_stand_on;
 pub use names::ShellNames;

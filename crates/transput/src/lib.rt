@@ -10,8 +10,6 @@ mod rule;
 mod sink;
 mod stored;
 mod stream;
-#[cfg(test)]
-mod tests;
 mod values;
 
 pub use filter::FilterStage;

@@ -1,0 +1,25 @@
+//! Tests of the language.
+#![tactic(auto)]
+
+#[cfg(test)]
+mod epl_check_bodies;
+#[cfg(test)]
+mod epl_check_counts;
+#[cfg(test)]
+mod epl_check_types;
+#[cfg(test)]
+mod epl_parser_expressions;
+#[cfg(test)]
+mod epl_parser_types;
+#[cfg(test)]
+mod epl_run;
+#[cfg(test)]
+mod epl_syntax;
+#[cfg(test)]
+mod epl_syntax_types;
+#[cfg(test)]
+mod epl_values;
+#[cfg(test)]
+mod marked;
+#[cfg(test)]
+mod sample;

@@ -1,0 +1,201 @@
+//! A stop in each device call of a run, a power cut behind each turn of another, and what the next run over the same disks finds.
+ghost use Rattle.std.specs.Prelude.{◌≡◌, length};
+
+use crate::eden_shell::blank_disks;
+use eden_disk::{Disk, ImageMode, SimDisk};
+use eden_io::{MemSink, MemSource};
+use eden_shell::{Outcome, eden};
+use std::alloc::{AllocError, Global};
+use std::fmt::Write as _;
+use std::test::Fail;
+
+/// How many bytes a disk has: 32 blocks, the least that there may be.
+const DISK_SIZE: u32 = 32_768;
+
+/// How a disk is left, and the words of it in a script.
+const MODES: [(&str, bool); 3] = [("keep", true), ("lose", false), ("garble 225", true)];
+
+/// A later run, which asks both Cells.
+const ASKS: &str =
+    "nodes 1\nhold c 1.1.1\nhold x 1.1.2\ncall a c.Get()\ngo 100\ncall b x.Get()\ngo 100\nend\n";
+
+/// Runs a script over these disks, and gives the transcript where it ran to its end.
+fn run(alloc: Global, script: &str, disks: &mut Vec<SimDisk>) -> Result<Option<Vec<u8>>, AllocError>
+    requires { length disks.old.items ≡ 8 }
+    ensures { length disks.new.items ≡ 8 }
+{
+    let words = vec![in alloc; String::from_str(alloc, "run")?]?;
+    let mut source = MemSource::new(script.as_bytes().to_vec(alloc)?, Vec::new(alloc));
+    let mut sink = MemSink::new(alloc, 100, 10_000, Vec::new(alloc))?;
+    let report = eden(alloc, &words, &mut source, &mut sink, disks);
+    if report.outcome != Outcome::Ran {
+        return Ok(None);
+    }
+    Ok(Some(sink.written().to_vec(alloc)?))
+}
+
+/// The power of each disk fails, and comes again.
+fn cut_each(disks: &mut Vec<SimDisk>)
+    ensures { length disks.new.items ≡ length disks.old.items }
+{
+    for disk in disks.iter_mut() {
+        disk.cut_power(ImageMode::Lose);
+        disk.restart();
+    }
+}
+
+/// Two Cells: the first saves 0, the second 3, and the first 8.
+const SAVES: &str =
+    "call a c.Save()\ngo 100\ncall b x.Set(3)\ngo 100\ncall d x.Save()\ngo 100\ncall e c.Set(8)\ngo 100\ncall f c.Save()\ngo 100\n";
+
+/// The second saves 4, which first closes the head from which the first had its 0.
+const LAST_SAVE: &str = "call g x.Set(4)\ngo 100\ncall h x.Save()\ngo 100\nend\n";
+
+/// Four saves, and the power fails in this device call behind the boot.
+fn four_saves(alloc: Global, call: u32, mode: &str) -> Result<String, AllocError> {
+    let saves = SAVES;
+    let last = LAST_SAVE;
+    format!(in alloc;
+        "nodes 1\ncreate c 1 Cell\ncreate x 1 Cell\nstop 1 {call} {mode}\n{saves}{last}"
+    )
+}
+
+/// The device calls of the four saves: each writes its block and its head, and syncs, writes its gate, and syncs. The last writes
+/// another gate first.
+const CALLS_OF_SAVES: u32 = 21;
+
+/// Whether a save is kept where the power fails in this device call: it was acknowledged behind its last one, or its gate was
+/// left open.
+fn is_save_kept(call: u32, gate: u32, last: u32, gate_stays: bool) -> bool {
+    call > last || gate_stays && call >= gate
+}
+
+/// What the two Cells answer later: each from its last save that is kept.
+fn answers(call: u32, gate_stays: bool) -> (&'static str, &'static str) {
+    let gone = "refused 4 gone";
+    if is_save_kept(call, 20, 21, gate_stays) {
+        ("ok (8)", "ok (4)")
+    } else if is_save_kept(call, 14, 15, gate_stays) {
+        ("ok (8)", "ok (3)")
+    } else if is_save_kept(call, 9, 10, gate_stays) {
+        ("ok (0)", "ok (3)")
+    } else if is_save_kept(call, 4, 5, gate_stays) {
+        ("ok (0)", gone)
+    } else {
+        (gone, gone)
+    }
+}
+
+/// The transcript of the later run.
+fn answered(alloc: Global, epoch: u32, c: &str, x: &str) -> Result<String, AllocError> {
+    format!(in alloc; "node 1 up epoch {epoch}\na {c}\nquiet\nb {x}\nquiet\n")
+}
+
+#[test]
+fn a_stop_in_each_device_call(rt: HostRuntime) -> Result<(), Fail> {
+    let alloc = rt.alloc();
+    for call in 1..CALLS_OF_SAVES + 1 {
+        for (mode, gate_stays) in MODES {
+            let mut disks = blank_disks(alloc, DISK_SIZE)?;
+            let script = four_saves(alloc, call, mode)?;
+            let first = run(alloc, script.as_str(), &mut disks)?;
+            assert!(rt; first.is_some());
+            assert!(rt; disks.first().is_some_and(|disk| disk.stops() == 1));
+            cut_each(&mut disks);
+            let (c, x) = answers(call, gate_stays);
+            let wanted = answered(alloc, 2, c, x)?;
+            let second = run(alloc, ASKS, &mut disks)?;
+            assert!(rt;
+                second.is_some_and(|text| text.as_slice() == wanted.as_bytes()),
+                "call {call} {mode}"
+            );
+        }
+    }
+    Ok(())
+}
+
+/// The first Cell holds 5 and has saved it, and then has 9 to save.
+const A_SAVE: &str =
+    "call a c.Set(5)\ngo 100\ncall b c.Save()\ngo 100\ncall d c.Set(9)\ngo 100\ncall e c.Save()\n";
+
+/// The power of its node is cut behind so many turns of the second save.
+fn two_saves(alloc: Global, turns: u32, mode: &str) -> Result<String, AllocError> {
+    let saves = A_SAVE;
+    format!(in alloc;
+        "nodes 1\ncreate c 1 Cell\ncreate x 1 Cell\n{saves}go {turns}\ncrash 1 {mode}\nend\n"
+    )
+}
+
+/// The turns of a save: the request is delivered, it is started, its process runs, the store makes five device calls, the process
+/// returns, and the reply is delivered.
+const TURNS_OF_A_SAVE: u32 = 10;
+
+/// The one in which the gate is written.
+const TURN_OF_THE_GATE: u32 = 7;
+
+#[test]
+fn a_power_cut_behind_each_turn(rt: HostRuntime) -> Result<(), Fail> {
+    let alloc = rt.alloc();
+    for turns in 1..TURNS_OF_A_SAVE + 1 {
+        for (mode, gate_stays) in MODES {
+            let mut disks = blank_disks(alloc, DISK_SIZE)?;
+            let script = two_saves(alloc, turns, mode)?;
+            let first = run(alloc, script.as_str(), &mut disks)?;
+            assert!(rt; first.is_some());
+            cut_each(&mut disks);
+            let is_kept = turns > TURN_OF_THE_GATE || turns == TURN_OF_THE_GATE && gate_stays;
+            let c = if is_kept { "ok (9)" } else { "ok (5)" };
+            let wanted = answered(alloc, 2, c, "refused 4 gone")?;
+            let second = run(alloc, ASKS, &mut disks)?;
+            assert!(rt;
+                second.is_some_and(|text| text.as_slice() == wanted.as_bytes()),
+                "turns {turns} {mode}"
+            );
+        }
+    }
+    Ok(())
+}
+
+/// The device calls of a boot over two values on blocks: a sync, a read of what stands on the disk, one of each of 32 heads and of the
+/// two blocks, one of the epoch, and the five of its put.
+const CALLS_OF_A_BOOT: u32 = 42;
+
+/// The first of them that may leave the gate of the epoch open.
+const CALL_OF_THE_EPOCH: u32 = 41;
+
+/// A Cell that has saved 5. The power fails in this device call of the next boot.
+fn second_boot(alloc: Global, call: u32, mode: &str) -> Result<String, AllocError> {
+    format!(in alloc;
+        "nodes 1\ncreate c 1 Cell\ncall a c.Set(5)\ngo 100\ncall b c.Save()\ngo 100\ncrash 1\nstop 1 {call} {mode}\nrestart 1\nend\n"
+    )
+}
+
+#[test]
+fn a_stop_in_each_device_call_of_a_boot(rt: HostRuntime) -> Result<(), Fail> {
+    let alloc = rt.alloc();
+    for call in 1..CALLS_OF_A_BOOT + 1 {
+        for (mode, gate_stays) in MODES {
+            let mut disks = blank_disks(alloc, DISK_SIZE)?;
+            let script = second_boot(alloc, call, mode)?;
+            let first = run(alloc, script.as_str(), &mut disks)?;
+            assert!(rt; first.is_some());
+            assert!(rt;
+                disks.first().is_some_and(|disk| disk.stops() == 1),
+                "call {call} {mode}"
+            );
+            cut_each(&mut disks);
+            let epoch = if gate_stays && call >= CALL_OF_THE_EPOCH {
+                3
+            } else {
+                2
+            };
+            let wanted = answered(alloc, epoch, "ok (5)", "refused 4 gone")?;
+            let second = run(alloc, ASKS, &mut disks)?;
+            assert!(rt;
+                second.is_some_and(|text| text.as_slice() == wanted.as_bytes()),
+                "call {call} {mode}"
+            );
+        }
+    }
+    Ok(())
+}

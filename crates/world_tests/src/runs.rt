@@ -1,0 +1,293 @@
+ghost use Rattle.journal.specs.World.{World};
+ghost use Rattle.journal.specs.declared.event.Entry.{Entry};
+ghost use Rattle.journal.specs.Fit.{NumbersFit};
+ghost use Rattle.journal.specs.Run.{Step};
+ghost use Rattle.runs.specs.Room.{is_single};
+ghost use Rattle.std.specs.Prelude.{ℕ, IsTrue};
+
+use capability::{Cap, Uid, mint};
+use eden_value::Txt;
+use journal::{Command, Entry, Event, Key, Names, Ref, Shown};
+use runs::*;
+use std::alloc::{AllocError, Global};
+
+/// A machine of keys in ascending order, of which each has one turn. It stands for no world.
+#[derive(Drop)]
+struct Keys {
+    keys: Vec<Key>,
+    /// How many calls were asked.
+    calls: u32,
+    /// The calls up to this one find a directory, and those behind it nothing.
+    finds: u32,
+}
+
+const fn key(serial: u32) -> Key {
+    Key {
+        station: 1,
+        kind: 4,
+        sender: 0,
+        uid: Uid {
+            node: 1,
+            epoch: 1,
+            serial,
+        },
+        process: 1,
+    }
+}
+
+fn entry(alloc: Global, event: Event) -> Entry {
+    Entry {
+        event,
+        node: 0,
+        clock: 0,
+        broken: Names {
+            items: Vec::new(alloc),
+        },
+    }
+}
+
+fn txt(alloc: Global, bytes: &[u8]) -> Result<Txt, AllocError> {
+    Ok(Txt {
+        bytes: Vec::from_slice(alloc, bytes)?,
+    })
+}
+
+impl Machine for Keys {
+    ghost whole = { λ _. Unit {0} };
+
+    ghost stands = { λ m more w. ⊥ };
+
+    ghost did = { λ m s n. Unit {0} };
+
+    ghost starved = { λ m w n. Unit {0} };
+
+    ghost shows = { λ m e n. Unit {0} };
+
+    ghost leaves = { λ m n. Unit {0} };
+
+    ghost enables = { λ m key. Unit {0} };
+
+    fn following(&self, last: Option<Key>) -> Option<Key> {
+        let first = self.keys.first().copied();
+        let Some(last) = last else {
+            return first;
+        };
+        for key in &self.keys {
+            if last < *key {
+                return Some(*key);
+            }
+        }
+        first
+    }
+
+    fn item(&self, _alloc: Global, i: u32) -> Result<Option<Key>, AllocError> {
+        if self.keys.is_empty() {
+            return Ok(None);
+        }
+        let place = i as usize % self.keys.len();
+        Ok(self.keys.get(place).copied())
+    }
+
+    fn take(&mut self, alloc: Global, key: Key) -> Result<Entry, AllocError> {
+        self.keys.retain(|k| *k != key);
+        let event = Event::Process {
+            uid: key.uid,
+            process: key.process,
+            shown: Shown::Yield,
+        };
+        Ok(entry(alloc, event))
+    }
+
+    fn carry_out(&mut self, alloc: Global, command: &Command) -> Result<Entry, AllocError> {
+        let event = match command {
+            Command::Restart { node } => Event::Still {
+                node: *node,
+                up: true,
+            },
+            _ => Event::Left {
+                names: Names {
+                    items: Vec::new(alloc),
+                },
+            },
+        };
+        Ok(entry(alloc, event))
+    }
+
+    fn look_up(
+        &mut self,
+        alloc: Global,
+        name: &Txt,
+        directory: Option<Cap>,
+        _component: &Txt,
+    ) -> Result<Entry, AllocError> {
+        let name = txt(alloc, &name.bytes)?;
+        if directory.is_none() {
+            return Ok(entry(alloc, Event::Void { name }));
+        }
+        self.calls = self.calls.wrapping_add(1);
+        let event = Event::Asked {
+            call: self.calls,
+            name,
+            at_once: None,
+        };
+        Ok(entry(alloc, event))
+    }
+
+    fn capability(&self, by: &Ref) -> Option<Cap> {
+        if by.result == 0 {
+            Some(mint(key(1).uid))
+        } else {
+            None
+        }
+    }
+
+    fn found(&self, _name: &Txt) -> bool {
+        self.calls <= self.finds
+    }
+
+    fn next_directory(&self, _name: &Txt) -> Option<Cap> {
+        Some(mint(key(2).uid))
+    }
+
+    // Each call is answered by a turn that leaves an even number of keys.
+    fn is_open(&self, _call: u32) -> bool {
+        self.keys.len() % 2 == 1
+    }
+}
+
+// A run with keys of these serials.
+fn run_of(alloc: Global, serials: &[u32], finds: u32) -> Result<Run<Keys>, AllocError> {
+    let mut keys = Vec::new(alloc);
+    for serial in serials {
+        keys.push(key(*serial))?;
+    }
+    Ok(Run::new(
+        alloc,
+        Keys {
+            keys,
+            calls: 0,
+            finds,
+        },
+    ))
+}
+
+// One letter an entry; of a turn the serial of its key.
+fn letters(alloc: Global, history: &[Entry]) -> Result<Vec<u8>, AllocError> {
+    let mut out = Vec::new(alloc);
+    for entry in history {
+        let letter = match &entry.event {
+            Event::Process { uid, .. } => b'0' + (uid.serial % 10) as u8,
+            Event::Still { .. } => b'b',
+            Event::Asked { .. } => b'a',
+            Event::Void { .. } => b'v',
+            Event::Quiet => b'q',
+            Event::Spent => b's',
+            _ => b'l',
+        };
+        out.push(letter)?;
+    }
+    Ok(out)
+}
+
+fn walk(alloc: Global, path: &[u8], which: u8) -> Result<Command, AllocError> {
+    Ok(Command::Walk {
+        name: txt(alloc, b"w")?,
+        target: Ref {
+            name: txt(alloc, b"d")?,
+            result: which,
+        },
+        path: txt(alloc, path)?,
+    })
+}
+
+/// Whether the numbers of the command are in their ranges.
+fn fits(command: &Command) -> bool
+    ensures { IsTrue result → NumbersFit 8 command.now }
+{
+    match command {
+        Command::Go { n } => *n >= 1 && *n <= 1_000_000,
+        Command::Turn { i } => *i <= 1_000_000,
+        Command::Restart { node } => *node >= 1 && *node <= 8,
+        Command::Walk { target, .. } => target.result <= 1,
+        _ => false,
+    }
+}
+
+fn carried(
+    alloc: Global,
+    serials: &[u32],
+    finds: u32,
+    command: Command,
+) -> Result<Vec<u8>, AllocError> {
+    if !fits(&command) {
+        return Err(AllocError);
+    }
+    let mut run = run_of(alloc, serials, finds)?;
+    let commands = vec![in alloc; command, Command::End]?;
+    run.carry_all(alloc, 2, &commands)?;
+    letters(alloc, &run.history)
+}
+
+#[test]
+fn a_script_gives_its_entries(rt: HostRuntime) -> Result<(), AllocError> {
+    let alloc = rt.alloc();
+    let rows: [(Command, &[u8]); 4] = [
+        (Command::Go { n: 2 }, b"bb12l"),
+        (Command::Go { n: 9 }, b"bb123ql"),
+        (Command::Turn { i: 4 }, b"bb2l"),
+        (Command::Restart { node: 2 }, b"bbbl"),
+    ];
+    for (command, wanted) in rows {
+        let said = carried(alloc, &[1, 2, 3], 0, command)?;
+        assert!(rt; said.as_slice() == wanted);
+    }
+    Ok(())
+}
+
+// A walk waits for each of its answers, and goes on where something was found.
+#[test]
+fn walks(rt: HostRuntime) -> Result<(), AllocError> {
+    let alloc = rt.alloc();
+    let rows: [(&[u8], u32, u8, &[u8]); 5] = [
+        (b"x", 9, 0, b"bba1l"),
+        (b"x/y", 9, 0, b"bba1a23l"),
+        (b"x/y/z", 1, 0, b"bba1a23l"),
+        (b"x/y/z", 9, 0, b"bba1a23aql"),
+        (b"x/y", 9, 1, b"bbvl"),
+    ];
+    for (path, finds, which, wanted) in rows {
+        let said = carried(alloc, &[1, 2, 3], finds, walk(alloc, path, which)?)?;
+        assert!(rt; said.as_slice() == wanted);
+    }
+    Ok(())
+}
+
+#[test]
+fn turns_run_out(rt: HostRuntime) -> Result<(), AllocError> {
+    let alloc = rt.alloc();
+    let mut run = run_of(alloc, &[1, 2], 0)?;
+    run.turns = 99_999;
+    let commands = vec![in alloc; Command::Go { n: 5 }, Command::Turn { i: 0 }, Command::End]?;
+    run.carry_all(alloc, 1, &commands)?;
+    let said = letters(alloc, &run.history)?;
+    assert!(rt; said.as_slice() == b"b1ssl".as_slice());
+    Ok(())
+}
+
+#[test]
+fn slashes_part_components(rt: HostRuntime) -> Result<(), AllocError> {
+    let rows: [(&[u8], &[&[u8]]); 4] = [
+        (b"", &[b""]),
+        (b"a", &[b"a"]),
+        (b"ab/c", &[b"ab", b"c"]),
+        (b"/a/", &[b"", b"a", b""]),
+    ];
+    for (path, wanted) in rows {
+        let parts = components(rt.alloc(), path)?;
+        assert!(rt; parts.len() == wanted.len());
+        for (part, one) in parts.iter().zip(wanted) {
+            assert!(rt; part.bytes.as_slice() == *one);
+        }
+    }
+    Ok(())
+}
