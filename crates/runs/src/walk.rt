@@ -4,8 +4,8 @@ ghost use Rattle.journal.specs.declared.command.Command.TheVariants as command;
 ghost use Rattle.runs.specs.Machines.{IsLeft};
 ghost use Rattle.runs.specs.Walks.{sent};
 
-use crate::components::components;
 use crate::machine::Machine;
+use crate::path::components;
 use crate::run::{Choice, Run};
 use capability::Cap;
 use eden_value::Txt;

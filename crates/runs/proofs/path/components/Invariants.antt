@@ -1,5 +1,5 @@
 use Rattle.runs.proofs.Parts.{ArePartsAt}
-use Rattle.runs.proofs.components.components.Given as goal
+use Rattle.runs.proofs.path.components.Given as goal
 
 abbrev pub invariant-loop-byte : goal.invariant-loop-byte
 invariant-loop-byte l = ArePartsAt l.path l.byte-index l.parts.items l.part.items

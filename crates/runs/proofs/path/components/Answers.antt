@@ -1,7 +1,7 @@
 use Rattle.std.proofs.Common.{◌+◌, ap, sym, subst, ◌∙◌}
 use Rattle.runs.proofs.Parts.{ArePartsAt, parts-start, parts-slash, parts-byte}
-use Rattle.runs.proofs.components.components.Goals as goal
-use Rattle.runs.proofs.components.components.Goals.{then-byte-eq47+in_ok-push, else-byte-eq47+in_ok-push-2}
+use Rattle.runs.proofs.path.components.Goals as goal
+use Rattle.runs.proofs.path.components.Goals.{then-byte-eq47+in_ok-push, else-byte-eq47+in_ok-push-2}
 
 pub loop-byte-init : goal.loop-byte-init
 loop-byte-init c = parts-start c.args.path.now c.new-parts.result.items c.new-part.result.items c.new-parts.ensures.items
