@@ -8,8 +8,6 @@ mod index;
 mod number_set;
 mod peaks;
 mod table;
-#[cfg(test)]
-mod tests;
 
 pub use block_table::BlockTable;
 pub use head_table::HeadTable;

@@ -2,6 +2,8 @@
 #![tactic(auto)]
 
 #[cfg(test)]
+mod block_tables;
+#[cfg(test)]
 mod eden_disk;
 #[cfg(test)]
 mod equal_answers;

@@ -1,11 +1,9 @@
 ghost use Rattle.std.specs.Prelude.{◌≡◌, IsTrue};
 
-use crate::heads::{
-    HeadFields, blocks_of, is_block_size, read_gate, read_head, read_next, spell_head, write_block,
-    write_gate, write_head,
+use block_tables::{
+    HeadFields, NumberSet, Peaks, blocks_of, is_block_size, read_gate, read_head, read_next,
+    spell_head, write_block, write_gate, write_head,
 };
-use crate::number_set::NumberSet;
-use crate::peaks::Peaks;
 use capability::Uid;
 use eden_disk::{Disk, SimDisk};
 use passive_store::StoreRefusal;
