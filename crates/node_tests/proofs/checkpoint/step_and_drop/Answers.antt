@@ -1,4 +1,4 @@
-use Rattle.checkpoint.proofs.tests.step_and_drop.Goals as goal
+use Rattle.node_tests.proofs.checkpoint.step_and_drop.Goals as goal
 
 pub returns-in-None-clause-of_node : goal.returns-in-None-clause-of_node
 returns-in-None-clause-of_node g c =

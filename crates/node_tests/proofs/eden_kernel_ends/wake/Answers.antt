@@ -1,4 +1,4 @@
-use Rattle.eden_kernel.proofs.end_tests.wake.Goals as goal
+use Rattle.node_tests.proofs.eden_kernel_ends.wake.Goals as goal
 
 pub activate-requires-clause-may : goal.activate-requires-clause-may
 activate-requires-clause-may g c = (c.may_activate.ensures c.args.types.now).0 c.if-not-may_activate.false

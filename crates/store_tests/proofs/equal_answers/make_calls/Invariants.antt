@@ -1,6 +1,6 @@
 use Rattle.std.proofs.Common.{◌≡◌, IsTrue}
 use Rattle.passive_store.specs.Kept.{Idle}
-use Rattle.equal_answers.proofs.tests.make_calls.Given as goal
+use Rattle.store_tests.proofs.equal_answers.make_calls.Given as goal
 
 abbrev pub invariant-loop-call : goal.invariant-loop-call
 invariant-loop-call g l =

@@ -1,6 +1,6 @@
 use Rattle.std.proofs.Common.{◌≡◌, IsTrue}
 use Rattle.passive_store.specs.Kept.{Idle}
-use Rattle.passive_blocks.proofs.store_tests.make_changes.Given as goal
+use Rattle.store_tests.proofs.passive_blocks_store.make_changes.Given as goal
 
 abbrev pub invariant-loop-number : goal.invariant-loop-number
 invariant-loop-number g l =

@@ -1,5 +1,5 @@
 use Rattle.std.proofs.Common.{◌≡◌, length}
-use Rattle.eden_shell.proofs.tests.blank_disks.Given as goal
+use Rattle.world_tests.proofs.eden_shell.blank_disks.Given as goal
 
 -- as many as were made
 abbrev pub invariant-loop : goal.invariant-loop
