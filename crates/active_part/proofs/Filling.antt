@@ -3,7 +3,6 @@ use Rattle.std.proofs.Common.{◌≡◌, ◌<◌, ℕ, ◌+◌, List, [], ◌∷
 use Rattle.std.specs.declared.cmp.Ordering.TheVariants.{Less}
 use Rattle.std.specs.Ordering.{nat_cmp}
 use Rattle.std.specs.Cmp.{nat_cmp_is}
-use Rattle.std.specs.BTreeMap.{insert_entry}
 use Rattle.std.specs.FinMap.Entries.{by_order}
 use Rattle.coordinator.specs.View.{setup_of as layout_of}
 use Rattle.coordinator.specs.declared.parts.Setup.{Setup as Layout}
@@ -21,7 +20,6 @@ use Rattle.active_part.specs.Body.{active_of}
 use Rattle.active_part.specs.View.{body_of, task_of}
 use Rattle.active_part.specs.declared.Doing.{Doing}
 use Rattle.active_part.specs.declared.Part.{Part}
-use Rattle.active_part.proofs.Tasks.{inserted-each}
 
 -- those behind what is left have their tasks
 pub record IsFilling (all left : List Rest) (es : List (ℕ × Doing)) : Type 0 where
@@ -52,15 +50,18 @@ put-first t k x (r ∷ rs) =
     let others : List (ℕ × Task) = tasks_from (k + 1 + 1) (map (rest_of t) rs) in
     ap (λ o. by_order o ((k, x) ∷ next ∷ others) ((k + 1, x) ∷ others) (next ∷ put_at nat_cmp k x others)) (below-next k)
 
-pub filling-on : (all left now : List Rest) (r : Rest) (es new : List (ℕ × Doing)) → IsFilling all left es → left ≡ now ++ r ∷ []
-    → new ≡ insert_entry nat_cmp es (length now + 1) (record { rest = r; answer = Go }) → IsFilling all now new
-filling-on all left now r es new h popped put = record {
+pub filling-on : (all left now : List Rest) (r : Rest) (es new : List (ℕ × Doing)) (k : ℕ) → IsFilling all left es → left ≡ now ++ r ∷ []
+    → k ≡ length now + 1
+    → ((t : Edentype) → each_value (task_of t) new
+    ≡ put_at nat_cmp k (task_of t (record { rest = r; answer = Go })) (each_value (task_of t) es))
+    → IsFilling all now new
+filling-on all left now r es new k h popped number put = record {
   done = r ∷ h.done;
   split = h.split ∙ ap (λ l. l ++ h.done) popped ∙ append-more now r h.done;
-  tasks = λ t. ap (each_value (task_of t)) put
-      ∙ inserted-each (task_of t) (length now + 1) (record { rest = r; answer = Go }) es
+  tasks = λ t. put t
+      ∙ ap (λ n. put_at nat_cmp n (record { rest = rest_of t r; answer = Go }) (each_value (task_of t) es)) number
       ∙ ap (put_at nat_cmp (length now + 1) (record { rest = rest_of t r; answer = Go }))
-      (h.tasks t ∙ ap (λ k. tasks_from (k + 1) (map (rest_of t) h.done)) many)
+      (h.tasks t ∙ ap (λ n. tasks_from (n + 1) (map (rest_of t) h.done)) many)
       ∙ put-first t (length now + 1) (record { rest = rest_of t r; answer = Go }) h.done;
 }
   where
@@ -74,7 +75,7 @@ filling-end all es t h = h.tasks t ∙ ap (λ l. tasks_from 1 (map (rest_of t) l
 -- the whole of a fresh part
 pub fresh-body : (ts : TypeList) (a : Part) (setup : Layout) (rests : List Rest) → a.crew ≡ fresh_coordination (layout_of setup)
     → layout_of setup ≡ setup_of (kind_in ts a.kind)
-    → ((t : Edentype) → each_value (task_of t) a.tasks.entries ≡ tasks_from 1 (map (rest_of t) rests))
+    → ((t : Edentype) → each_value (task_of t) a.tasks.entries.items ≡ tasks_from 1 (map (rest_of t) rests))
     → map (rest_of (kind_in ts a.kind)) rests ≡ declared (kind_in ts a.kind)
     → active_of (body_of ts a) ≡ fresh (kind_in ts a.kind) a.vars
 fresh-body ts a setup rests crew laid tasks are = λ i. record {

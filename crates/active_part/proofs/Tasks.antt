@@ -1,20 +1,12 @@
--- The tasks of an active part: std's map as a list in ascending order of numbers.
-use Rattle.std.proofs.Common.{◌≡◌, ◌≤◌, ℕ, ◌==◌, Bool, true, false, cond, not, List, [], ◌∷◌, map, Option, None, Some}
-use Rattle.std.proofs.Common.{refl, sym, ◌∙◌, ap, subst, arith}
-use Rattle.std.specs.Prelude.{IfSome, OnOk, Result, Ok, Err, is_some, is_ok}
+-- What the calls of an active part change of it.
+use Rattle.std.proofs.Common.{◌≡◌, ◌≤◌, ℕ, ◌==◌, Bool, true, false, cond, List, [], ◌∷◌, map, Option, None, Some}
+use Rattle.std.proofs.Common.{get_or, refl, sym, ◌∙◌, ap, subst, arith}
+use Rattle.std.specs.Prelude.{IfSome, OnOk, Result, Ok, Err, is_some, is_ok, slice_set}
 use Rattle.std.proofs.lemmas.Bool.{eqb-true}
 use Rattle.std.proofs.lemmas.Bool.Decides.{nat_tests}
-use Rattle.std.specs.declared.cmp.Ordering.{Ordering}
-use Rattle.std.specs.declared.cmp.Ordering.TheVariants.{Less, Equal, Greater}
-use Rattle.std.specs.Ordering.{nat_cmp, eq_by_cmp, is_eq, match_ordering}
+use Rattle.std.specs.Ordering.{nat_cmp, eq_by_cmp, is_eq}
 use Rattle.std.specs.Option.{option_map}
-use Rattle.std.specs.BTreeMap.{BTreeMap, insert_entry, is_at}
-use Rattle.std.specs.Map.{lookup, set_value, remove_entry}
-use Rattle.std.specs.List.{AllByRecursion}
-use Rattle.std.specs.List.Sorted.{IsStrictlySortedBy}
-use Rattle.std.specs.FinMap.Entries.{by_order}
-use Rattle.std.specs.Cmp.{nat_cmp_total}
-use Rattle.eden_model.specs.Map.{value_at, put_at, changed_at, each_value, where_key, with_item}
+use Rattle.eden_model.specs.Map.{value_at, put_at, changed_at, each_value, with_item}
 use Rattle.eden_model.specs.Crew.{Process, Invocation, Waiting, nothing, Runs, Crew, Coordination, waits_at, with_waits, set_waits}
 use Rattle.eden_model.specs.Crew.{startable, least_free, started_in}
 use Rattle.eden_model.proofs.Numbers.{same-true, same-self}
@@ -34,9 +26,12 @@ use Rattle.journal.specs.World.{Task, Active}
 use Rattle.journal.specs.Processes.{turn_of}
 use Rattle.active_part.specs.Body.{active_of}
 use Rattle.active_part.specs.Bodies.{told_body, turned_body}
+use Rattle.active_part.specs.Places.{StandsAt}
 use Rattle.active_part.specs.View.{body_of, task_of, IsStarted}
 use Rattle.active_part.specs.declared.Doing.{Doing}
 use Rattle.active_part.specs.declared.Part.{Part}
+use Rattle.active_part.specs.declared.task_list.TaskList.{TaskList}
+use Rattle.active_part.proofs.Entries.{found-at, written-at}
 
 same-test : (p k : ℕ) → is_eq (nat_cmp p k) ≡ (k == p)
 same-test p k = go (eq_by_cmp nat_cmp p k) refl (k == p) refl
@@ -47,121 +42,6 @@ same-test p k = go (eq_by_cmp nat_cmp p k) refl (k == p) refl
     go false a true b = let x : k ≡ p = eqb-true k p b in
         let bad : true ≡ false = sym (same-self p) ∙ ap (λ j. eq_by_cmp nat_cmp p j) (sym x) ∙ a in cc
     go false a false b = a ∙ sym b
-
-self-number : (p : ℕ) → (p == p) ≡ true
-self-number p = sym (same-test p p) ∙ same-self p
-
-module _ {X Y : Type 0} (f : X → Y) where
-  pub inserted-each : (k : ℕ) (v : X) (es : List (ℕ × X))
-      → each_value f (insert_entry nat_cmp es k v) ≡ put_at nat_cmp k (f v) (each_value f es)
-  inserted-each k v [] = refl
-  inserted-each k v (e ∷ es) = go (nat_cmp k e.0) (inserted-each k v es)
-    where
-      go : (o : Ordering) → each_value f (insert_entry nat_cmp es k v) ≡ put_at nat_cmp k (f v) (each_value f es)
-          → each_value f (match_ordering o ((k, v) ∷ e ∷ es) ((e.0, v) ∷ es) (e ∷ insert_entry nat_cmp es k v))
-          ≡ by_order o ((k, f v) ∷ (e.0, f e.1) ∷ each_value f es) ((e.0, f v) ∷ each_value f es)
-          ((e.0, f e.1) ∷ put_at nat_cmp k (f v) (each_value f es))
-      go Less h = refl
-      go Equal h = refl
-      go Greater h = ap (λ l. (e.0, f e.1) ∷ l) h
-
-  -- the look-up of the mapped list
-  pub lookup-each : (p : ℕ) (es : List (ℕ × X)) → value_at nat_cmp p (each_value f es) ≡ option_map f (lookup (is_at (nat_cmp p)) es)
-  lookup-each p [] = refl
-  lookup-each p (e ∷ es) = go (is_eq (nat_cmp p e.0)) (lookup-each p es)
-    where
-      go : (b : Bool) → value_at nat_cmp p (each_value f es) ≡ option_map f (lookup (is_at (nat_cmp p)) es)
-          → cond b (Some (f e.1)) (value_at nat_cmp p (each_value f es)) ≡ option_map f (cond b (Some e.1) (lookup (is_at (nat_cmp p)) es))
-      go true h = refl
-      go false h = h
-
-  -- no entry has the number
-  none-where : (p : ℕ) (es : List (ℕ × X)) → lookup (is_at (nat_cmp p)) es ≡ None
-      → where_key nat_cmp (λ k. not (k == p)) (each_value f es) ≡ each_value f es
-  none-where p [] none = refl
-  none-where p (e ∷ es) none = go (is_eq (nat_cmp p e.0)) refl (e.0 == p) refl none (none-where p es)
-    where
-      go : (a : Bool) → is_eq (nat_cmp p e.0) ≡ a → (b : Bool) → (e.0 == p) ≡ b → cond a (Some e.1) (lookup (is_at (nat_cmp p)) es) ≡ None
-          → (lookup (is_at (nat_cmp p)) es ≡ None → where_key nat_cmp (λ k. not (k == p)) (each_value f es) ≡ each_value f es)
-          → where_key nat_cmp (λ k. not (k == p)) (each_value f (e ∷ es)) ≡ each_value f (e ∷ es)
-      go true a b is n h = absurd (cc n)
-      go false a true is n h = absurd (let bad : true ≡ false = sym is ∙ sym (same-test p e.0) ∙ a in cc bad)
-      go false a false is n h = rw is (ap (λ l. (e.0, f e.1) ∷ l) (h n))
-
-  removed-where : (p : ℕ) (es : List (ℕ × X)) → where_key nat_cmp (λ k. not (k == p)) (each_value f (remove_entry (is_at (nat_cmp p)) es))
-      ≡ where_key nat_cmp (λ k. not (k == p)) (each_value f es)
-  removed-where p [] = refl
-  removed-where p (e ∷ es) = go (is_eq (nat_cmp p e.0)) refl (e.0 == p) refl (removed-where p es)
-    where
-      go : (a : Bool) → is_eq (nat_cmp p e.0) ≡ a → (b : Bool) → (e.0 == p) ≡ b
-          → where_key nat_cmp (λ k. not (k == p)) (each_value f (remove_entry (is_at (nat_cmp p)) es))
-          ≡ where_key nat_cmp (λ k. not (k == p)) (each_value f es)
-          → where_key nat_cmp (λ k. not (k == p)) (each_value f (cond a es (e ∷ remove_entry (is_at (nat_cmp p)) es)))
-          ≡ where_key nat_cmp (λ k. not (k == p)) (each_value f (e ∷ es))
-      go true a true is h = rw is refl
-      go true a false is h = absurd (let bad : true ≡ false = sym a ∙ same-test p e.0 ∙ is in cc bad)
-      go false a true is h = rw is h
-      go false a false is h = rw is (ap (λ l. (e.0, f e.1) ∷ l) h)
-
-  pub removed-each : (p : ℕ) (es new : List (ℕ × X)) → new ≡ remove_entry (is_at (nat_cmp p)) es → lookup (is_at (nat_cmp p)) new ≡ None
-      → each_value f new ≡ where_key nat_cmp (λ k. not (k == p)) (each_value f es)
-  removed-each p es new is none =
-      sym (none-where p new none) ∙ ap (λ l. where_key nat_cmp (λ k. not (k == p)) (each_value f l)) is ∙ removed-where p es
-
-  no-entry : (o : Option X) → is_some o ≡ false → o ≡ None
-  no-entry None none = refl
-  no-entry (Some x) none = absurd (let bad : true ≡ false = none in cc bad)
-
-  -- an entry that was put and taken out again
-  where-put : (p : ℕ) (y : Y) (ys : List (ℕ × Y)) → where_key nat_cmp (λ k. not (k == p)) (put_at nat_cmp p y ys)
-      ≡ where_key nat_cmp (λ k. not (k == p)) ys
-  where-put p y [] = rw (self-number p) refl
-  where-put p y (e ∷ ys) = go (nat_cmp p e.0) refl (where-put p y ys)
-    where
-      go : (o : Ordering) → nat_cmp p e.0 ≡ o
-          → where_key nat_cmp (λ k. not (k == p)) (put_at nat_cmp p y ys) ≡ where_key nat_cmp (λ k. not (k == p)) ys
-          → where_key nat_cmp (λ k. not (k == p)) (by_order o ((p, y) ∷ e ∷ ys) ((e.0, y) ∷ ys) (e ∷ put_at nat_cmp p y ys))
-          ≡ where_key nat_cmp (λ k. not (k == p)) (e ∷ ys)
-      go Less is h = rw (self-number p) refl
-      go Equal is h = let same : (e.0 == p) ≡ true = sym (same-test p e.0) ∙ ap is_eq is in rw same refl
-      go Greater is h = ap (λ l. cond (not (e.0 == p)) (e ∷ l) l) h
-
-  pub put-others : (p : ℕ) (v : X) (es : List (ℕ × X)) → is_some (lookup (is_at (nat_cmp p)) es) ≡ false
-      → where_key nat_cmp (λ k. not (k == p)) (each_value f (insert_entry nat_cmp es p v)) ≡ each_value f es
-  put-others p v es none = ap (where_key nat_cmp (λ k. not (k == p))) (inserted-each p v es) ∙ where-put p (f v) (each_value f es)
-      ∙ none-where p es (no-entry (lookup (is_at (nat_cmp p)) es) none)
-
-  -- a number below all of them is none of theirs
-  below-none : (p x : ℕ) (es : List (ℕ × X)) → nat_cmp p x ≡ Less → AllByRecursion (λ y. nat_cmp x y ≡ Less) (map (λ e. e.0) es)
-      → lookup (is_at (nat_cmp p)) es ≡ None
-  below-none p x [] less h = refl
-  below-none p x (e ∷ es) less h = rw (nat_cmp_total.trans p x e.0 less h.0) (below-none p x es less h.1)
-
-  pub set-each : (p : ℕ) (v w : X) (es : List (ℕ × X)) → IsStrictlySortedBy nat_cmp (map (λ e. e.0) es)
-      → lookup (is_at (nat_cmp p)) es ≡ Some v
-      → each_value f (set_value (is_at (nat_cmp p)) es w) ≡ put_at nat_cmp p (f w) (each_value f es)
-  unfolding IsStrictlySortedBy
-  set-each p v w [] sorted found = absurd (let bad : None ≡ Some v = found in cc bad)
-  set-each p v w (e ∷ es) sorted found = go (nat_cmp p e.0) refl found (λ at. set-each p v w es sorted.1 at)
-    where
-      go : (o : Ordering) → nat_cmp p e.0 ≡ o → cond (is_eq o) (Some e.1) (lookup (is_at (nat_cmp p)) es) ≡ Some v
-          → (lookup (is_at (nat_cmp p)) es ≡ Some v
-          → each_value f (set_value (is_at (nat_cmp p)) es w) ≡ put_at nat_cmp p (f w) (each_value f es))
-          → each_value f (cond (is_eq o) ((e.0, w) ∷ es) (e ∷ set_value (is_at (nat_cmp p)) es w))
-          ≡ by_order o ((p, f w) ∷ each_value f (e ∷ es)) ((e.0, f w) ∷ each_value f es)
-          ((e.0, f e.1) ∷ put_at nat_cmp p (f w) (each_value f es))
-      go Less is at h = absurd (let bad : None ≡ Some v = sym (below-none p e.0 es is sorted.0) ∙ at in cc bad)
-      go Equal is at h = refl
-      go Greater is at h = ap (λ l. (e.0, f e.1) ∷ l) (h at)
-
-  -- a value that is written through
-  pub written-each : (p : ℕ) (g : Y → Y) (v w : X) (es new : List (ℕ × X)) → IsStrictlySortedBy nat_cmp (map (λ e. e.0) es)
-      → Some v ≡ lookup (is_at (nat_cmp p)) es → new ≡ set_value (is_at (nat_cmp p)) es w → f w ≡ g (f v)
-      → each_value f new ≡ changed_at nat_cmp p g (each_value f es)
-  written-each p g v w es new sorted found is same =
-      ap (each_value f) is ∙ set-each p v w es sorted (sym found) ∙ ap (λ y. put_at nat_cmp p y (each_value f es)) same
-      ∙ sym (ap (λ o. with_item o (λ x. put_at nat_cmp p (g x) (each_value f es)) (each_value f es))
-      (lookup-each p es ∙ ap (option_map f) (sym found)))
 
 -- Who waits for nothing already
 
@@ -193,60 +73,59 @@ runs-already p crew h runs = ap (λ ps. record crew { processes = ps }) (waits-a
 
 -- A process is told
 
-pub answered-body : (ts : TypeList) (a : Part) (p : ℕ) (answer : Answer) (tasks : BTreeMap ℕ Doing) (crew : Coordination)
-    → ((t : Edentype) → each_value (task_of t) tasks.entries
-    ≡ changed_at nat_cmp p (λ x. record x { answer = answer }) (each_value (task_of t) a.tasks.entries))
+pub answered-body : (ts : TypeList) (a : Part) (p : ℕ) (answer : Answer) (tasks : TaskList) (crew : Coordination)
+    → ((t : Edentype) → each_value (task_of t) tasks.entries.items
+    ≡ changed_at nat_cmp p (λ x. record x { answer = answer }) (each_value (task_of t) a.tasks.entries.items))
     → crew ≡ record a.crew { crew = set_waits p nothing a.crew.crew }
     → body_of ts (record a { tasks = tasks; crew = crew }) ≡ told_body p answer (body_of ts a)
 answered-body ts a p answer tasks crew put waits = λ i. record (body_of ts a) { tasks = put (kind_in ts a.kind) i; crew = waits i }
 
 -- A turn
 
-turn-is : (it : Active) (p : ℕ) (me : Uid) (es : List (ℕ × Doing)) (v : Doing) (t : Turned) → it.tasks ≡ each_value (task_of it.kind) es
-    → Some v ≡ lookup (is_at (nat_cmp p)) es → turn_of me it p ≡ Some t → turn it.kind it.vars (rest_of it.kind v.rest) v.answer me ≡ t
-turn-is it p me es v t tasks found turns =
-    let at : value_at nat_cmp p it.tasks ≡ Some (task_of it.kind v) =
-    ap (value_at nat_cmp p) tasks ∙ lookup-each (task_of it.kind) p es ∙ ap (option_map (task_of it.kind)) (sym found) in
+turn-is : (it : Active) (p : ℕ) (me : Uid) (v : Doing) (t : Turned) → value_at nat_cmp p it.tasks ≡ Some (task_of it.kind v)
+    → turn_of me it p ≡ Some t → turn it.kind it.vars (rest_of it.kind v.rest) v.answer me ≡ t
+turn-is it p me v t at turns =
     let both : Some (turn it.kind it.vars (rest_of it.kind v.rest) v.answer me) ≡ Some t =
     sym (ap (λ o. with_item o (λ (x : Task). Some (turn it.kind it.vars x.rest x.answer me)) None) at) ∙ turns in
     cc both
 
-module _ (ts : TypeList) (a : Part) (p : ℕ) (me : Uid) (v w : Doing) (vars : List Datum) (effect : Effect) (tasks : BTreeMap ℕ Doing) where
-  pub taken-body : IsStrictlySortedBy nat_cmp (map (λ e. e.0) a.tasks.entries) → Some v ≡ lookup (is_at (nat_cmp p)) a.tasks.entries
-      → tasks.entries ≡ set_value (is_at (nat_cmp p)) a.tasks.entries w
+module _ (ts : TypeList) (a : Part) (p place : ℕ) (me : Uid) (e : ℕ × Doing) (w : Doing) (vars : List Datum) (effect : Effect)
+    (tasks : TaskList) where
+  pub taken-body : StandsAt p place a.tasks.entries.items → e ≡ get_or a.tasks.entries.items place e
+      → tasks.entries.items ≡ slice_set a.tasks.entries.items place (e.0, w)
       → turned_of vars (rest_of (kind_in ts a.kind) w.rest) effect
-      ≡ turn (kind_in ts a.kind) a.vars (rest_of (kind_in ts a.kind) v.rest) v.answer me → w.answer ≡ Go
+      ≡ turn (kind_in ts a.kind) a.vars (rest_of (kind_in ts a.kind) e.1.rest) e.1.answer me → w.answer ≡ Go
       → (t : Turned) → turn_of me (active_of (body_of ts a)) p ≡ Some t
       → (effect ≡ t.effect) × (body_of ts (record a { vars = vars; tasks = tasks }) ≡ turned_body p t (body_of ts a))
-  taken-body sorted found set took go_on t turns = (
+  taken-body stands found set took go_on t turns = (
     ap (λ (x : Turned). x.effect) is,
     λ i. record (body_of ts a) { vars = (is i).vars; tasks = written i },
   )
     where
       is : turned_of vars (rest_of (kind_in ts a.kind) w.rest) effect ≡ t
-      is = took ∙ turn-is (active_of (body_of ts a)) p me a.tasks.entries v t refl found turns
+      is = took ∙ turn-is (active_of (body_of ts a)) p me e.1 t
+          (found-at (task_of (kind_in ts a.kind)) p place e a.tasks.entries.items stands found) turns
 
       same : task_of (kind_in ts a.kind) w ≡ record { rest = t.rest; answer = Go }
       same = λ i. record { rest = (is i).rest; answer = go_on i }
 
-      written : each_value (task_of (kind_in ts a.kind)) tasks.entries ≡ changed_at nat_cmp p
+      written : each_value (task_of (kind_in ts a.kind)) tasks.entries.items ≡ changed_at nat_cmp p
           (λ (old : Task). record { rest = t.rest; answer = Go })
-          (each_value (task_of (kind_in ts a.kind)) a.tasks.entries)
-      written = written-each (task_of (kind_in ts a.kind)) p
-          (λ (old : Task). record { rest = t.rest; answer = Go }) v w a.tasks.entries tasks.entries sorted
-          found set same
+          (each_value (task_of (kind_in ts a.kind)) a.tasks.entries.items)
+      written = written-at (task_of (kind_in ts a.kind)) p place
+          (λ (old : Task). record { rest = t.rest; answer = Go }) e w a.tasks.entries.items tasks.entries.items stands found set same
 
 -- A start
 
-module _ (ts : TypeList) (a : Part) (x : Call) (it : Option Started) (st : Started) (p : ℕ) (crew : Coordination) (tasks : BTreeMap ℕ Doing)
+module _ (ts : TypeList) (a : Part) (x : Call) (it : Option Started) (st : Started) (p : ℕ) (crew : Coordination) (tasks : TaskList)
     (doing : Doing) where
   pub begun-body : it ≡ Some st
       → option_map (λ (s : Started). s.call) it ≡ option_map (λ (i : Invocation). i.call) (startable a.crew.crew a.crew.queued)
       → IfSome it (λ s. s.process ≡ least_free a.crew.crew)
       → crew ≡ with_item (startable a.crew.crew a.crew.queued) (λ i. started_in i a.crew) a.crew
       → p ≡ least_free a.crew.crew
-      → ((t : Edentype) → each_value (task_of t) tasks.entries ≡ put_at nat_cmp p (task_of t doing)
-      (each_value (task_of t) a.tasks.entries))
+      → ((t : Edentype) → each_value (task_of t) tasks.entries.items ≡ put_at nat_cmp p (task_of t doing)
+      (each_value (task_of t) a.tasks.entries.items))
       → task_of (kind_in ts a.kind) doing ≡ record { rest = begin (kind_in ts a.kind) x.operation x.args; answer = Go }
       → IsStarted (body_of ts a) (body_of ts (record a { tasks = tasks; crew = crew })) x st
   begun-body is call process after free put begun i may = (called, number, λ j. record (body_of ts a) { tasks = tasked j; crew = crewed j })
@@ -263,11 +142,11 @@ module _ (ts : TypeList) (a : Part) (x : Call) (it : Option Started) (st : Start
       crewed : crew ≡ started_in i a.crew
       crewed = after ∙ ap (λ o. with_item o (λ j. started_in j a.crew) a.crew) may
 
-      tasked : each_value (task_of (kind_in ts a.kind)) tasks.entries ≡ put_at nat_cmp (least_free a.crew.crew)
+      tasked : each_value (task_of (kind_in ts a.kind)) tasks.entries.items ≡ put_at nat_cmp (least_free a.crew.crew)
           (record { rest = begin (kind_in ts a.kind) x.operation x.args; answer = Go })
-          (each_value (task_of (kind_in ts a.kind)) a.tasks.entries)
+          (each_value (task_of (kind_in ts a.kind)) a.tasks.entries.items)
       tasked = put (kind_in ts a.kind)
-          ∙ (λ j. put_at nat_cmp (free j) (begun j) (each_value (task_of (kind_in ts a.kind)) a.tasks.entries))
+          ∙ (λ j. put_at nat_cmp (free j) (begun j) (each_value (task_of (kind_in ts a.kind)) a.tasks.entries.items))
 
 -- an invocation may start, of which the call did
 pub may-begin : {X Y : Type 0} (f : X → ℕ) (g : Y → ℕ) (st : X) (it : Option X) (o : Option Y) → it ≡ Some st

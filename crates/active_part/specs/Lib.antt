@@ -1,3 +1,4 @@
 pub mod Body
 pub mod Bodies
+pub mod Places
 pub mod View

@@ -26,7 +26,7 @@ abbrev pub body_of : TypeList → Part → Body
 body_of ts a = record {
   kind = kind_in ts a.kind;
   vars = a.vars;
-  tasks = each_value (task_of (kind_in ts a.kind)) a.tasks.entries;
+  tasks = each_value (task_of (kind_in ts a.kind)) a.tasks.entries.items;
   crew = a.crew;
 }
 

@@ -7,19 +7,20 @@ ghost use Rattle.journal.specs.Ejects.{fresh, tasks_from};
 ghost use Rattle.active_part.specs.Body.{active_of};
 ghost use Rattle.active_part.specs.View.{body_of, task_of};
 
+use crate::task_list::TaskList;
 use crate::{Doing, Part};
 use coordinator::Coordinator;
 use edentypes::{Kind, Rest, Values};
 use epl_syntax::{Answer, Types};
 use std::alloc::{AllocError, Global};
-use std::collections::BTreeMap;
 
 // The tasks of the declared processes, which run under the numbers 1 upward.
-fn first_tasks(alloc: Global, rests: Vec<Rest>) -> Result<BTreeMap<u8, Doing>, AllocError>
-    ensures { IfOk result (λ tasks. (t : Edentype) → each_value (task_of t) tasks.entries ≡ tasks_from 1 (map (rest_of t) rests.items)) }
+fn first_tasks(alloc: Global, rests: Vec<Rest>) -> Result<TaskList, AllocError>
+    ensures { IfOk result (λ tasks. (t : Edentype)
+        → each_value (task_of t) tasks.entries.items ≡ tasks_from 1 (map (rest_of t) rests.items)) }
 {
     let mut left = rests;
-    let mut tasks = BTreeMap::new(alloc);
+    let mut tasks = TaskList::with_capacity(alloc, left.len())?;
     while let Some(rest) = left.pop() {
         let Ok(number) = u8::try_from(left.len() + 1) else {
             return Err(AllocError);
@@ -28,10 +29,7 @@ fn first_tasks(alloc: Global, rests: Vec<Rest>) -> Result<BTreeMap<u8, Doing>, A
             rest,
             answer: Answer::Go,
         };
-        match tasks.insert(number, doing) {
-            Ok(_) => {}
-            Err(_) => return Err(AllocError),
-        }
+        tasks.add(number, doing)?;
     }
     Ok(tasks)
 }

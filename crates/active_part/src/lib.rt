@@ -2,17 +2,15 @@
 #![tactic(auto)]
 
 mod fresh;
+mod task_list;
 
-ghost use Rattle.std.specs.Prelude.{◌≡◌, ◌≤◌, ◌<◌, ◌↔◌, ◌==◌, not, true, IsTrue, IsOk, IfOk, OnOk, OnErr, IsSome, IfSome, length, Some, []};
-ghost use Rattle.std.specs.Ordering.{nat_cmp};
+ghost use Rattle.std.specs.Prelude.{◌≡◌, ◌≤◌, ◌<◌, ◌↔◌, true, IsTrue, IsOk, IfOk, OnOk, OnErr, IsSome, IfSome, length, Some, []};
 ghost use Rattle.std.specs.Option.{option_map};
 ghost use Rattle.capability.specs.declared.TheConstants.{BODY_LIMIT};
 ghost use Rattle.coordinator.specs.Ready.{AscendPast, next_ready};
 ghost use Rattle.eden_codec.specs.Spelling.{spelling};
 ghost use Rattle.eden_model.specs.Crew.{Runs, Waits, outside, set_waits, startable, serving_pairs};
-ghost use Rattle.eden_model.specs.Map.{changed_at, put_at, each_value, where_key};
 ghost use Rattle.epl_syntax.specs.declared.effect.Answer.TheVariants.{Go};
-ghost use Rattle.epl_syntax.specs.Edentype.{Edentype};
 ghost use Rattle.epl_syntax.specs.Meaning as meaning;
 ghost use Rattle.epl_syntax.specs.Meaning.{Turned, rep_of};
 ghost use Rattle.epl_syntax.specs.Rules.OfTypes.{TypeList};
@@ -21,7 +19,7 @@ ghost use Rattle.journal.specs.Processes.{turn_of};
 ghost use Rattle.active_part.specs.Body.{active_of, calls_of};
 ghost use Rattle.active_part.specs.Bodies.{joined_body, turned_body, ended_body, told_body, asking_body, crewed_body, serves_of};
 ghost use Rattle.active_part.specs.View.{IsEncoded};
-ghost use Rattle.active_part.specs.View.{body_of, task_of, stepped, HoldsFor, MayTake, IsStarted};
+ghost use Rattle.active_part.specs.View.{body_of, stepped, HoldsFor, MayTake, IsStarted};
 
 use capability::{Body, Uid};
 use coordinator::{Coordinator, Parts, Started};
@@ -31,8 +29,8 @@ use edentypes::{Kind, Rest, Values, begin, rep};
 use epl_syntax::{Answer, Effect, Types};
 use invocation::Call;
 use std::alloc::{AllocError, Global};
-use std::collections::BTreeMap;
 use std::mem::replace;
+use task_list::TaskList;
 
 /// What a process is to do, and what its next turn is told.
 #[derive(Drop)]
@@ -57,7 +55,7 @@ pub enum Step {
 pub struct Part {
     kind: Kind,
     vars: Values,
-    tasks: BTreeMap<u8, Doing>,
+    tasks: TaskList,
     crew: Coordinator,
 }
 
@@ -125,50 +123,6 @@ fn take_turn(
     Ok(effect)
 }
 
-// The next turn of a process is told this.
-fn put_answer(
-    tasks: &mut BTreeMap<u8, Doing>,
-    process: u8,
-    answer: Answer,
-) -> Result<(), AllocError>
-    ensures after { OnOk result ((t : Edentype) → each_value (task_of t) tasks.new.entries
-        ≡ changed_at nat_cmp process (λ x. record x { answer = answer }) (each_value (task_of t) tasks.old.entries)) }
-    ensures unchanged { OnErr result (tasks.new.entries ≡ tasks.old.entries) }
-{
-    match tasks.get_mut(&process) {
-        Some(doing) => {
-            doing.answer = answer;
-            Ok(())
-        }
-        None => Err(AllocError),
-    }
-}
-
-// A process that had nothing to do has this to do. Without it the others have what they had.
-fn add_task(tasks: &mut BTreeMap<u8, Doing>, process: u8, doing: Doing) -> Result<(), AllocError>
-    ensures after { OnOk result ((t : Edentype) → each_value (task_of t) tasks.new.entries
-        ≡ put_at nat_cmp process (task_of t doing) (each_value (task_of t) tasks.old.entries)) }
-    ensures others { OnOk result ((t : Edentype) → where_key nat_cmp (λ k. not (k == process)) (each_value (task_of t) tasks.new.entries)
-        ≡ each_value (task_of t) tasks.old.entries) }
-    ensures unchanged { OnErr result (tasks.new.entries ≡ tasks.old.entries) }
-{
-    if tasks.contains_key(&process) {
-        return Err(AllocError);
-    }
-    match tasks.insert(process, doing) {
-        Ok(_) => Ok(()),
-        Err(_) => Err(AllocError),
-    }
-}
-
-// The process has nothing left to do.
-fn drop_task(tasks: &mut BTreeMap<u8, Doing>, process: u8)
-    ensures { (t : Edentype) → each_value (task_of t) tasks.new.entries
-        ≡ where_key nat_cmp (λ k. not (k == process)) (each_value (task_of t) tasks.old.entries) }
-{
-    let _task = tasks.remove(&process);
-}
-
 impl Part {
     /// The invocation that may start leaves the queue and runs. A refusal changes nothing.
     pub fn start(
@@ -188,15 +142,15 @@ impl Part {
             rest,
             answer: Answer::Go,
         };
-        add_task(&mut self.tasks, process, doing)?;
+        self.tasks.add(process, doing)?;
         match self.crew.start() {
             Ok(Some(started)) => Ok(started),
             Ok(None) => {
-                drop_task(&mut self.tasks, process);
+                self.tasks.remove(process);
                 Err(AllocError)
             }
             Err(_) => {
-                drop_task(&mut self.tasks, process);
+                self.tasks.remove(process);
                 Err(AllocError)
             }
         }
@@ -213,8 +167,9 @@ impl Part {
         ensures { IfOk result (λ e. (t : Turned) → turn_of me (active_of (body_of types.now self.old)) process ≡ Some t
             → (e ≡ t.effect) × (body_of types.now self.new ≡ turned_body process t (body_of types.now self.old))) }
     {
-        match self.tasks.get_mut(&process) {
-            Some(doing) => {
+        match self.tasks.find(process) {
+            Some(place) => {
+                let (_, doing) = &mut self.tasks.entries[place];
                 let effect = take_turn(alloc, types, self.kind, &mut self.vars, doing, me)?;
                 Ok(effect)
             }
@@ -247,7 +202,7 @@ impl Part {
             return Err(AllocError);
         }
         let call = self.crew.serves(process);
-        drop_task(&mut self.tasks, process);
+        self.tasks.remove(process);
         self.crew.end(process);
         Ok(call)
     }
@@ -261,7 +216,7 @@ impl Part {
         if !self.crew.awaits(process) {
             return Err(AllocError);
         }
-        put_answer(&mut self.tasks, process, answer)?;
+        self.tasks.answer(process, answer)?;
         self.crew.resume(process);
         Ok(())
     }
@@ -276,7 +231,7 @@ impl Part {
             return Err(AllocError);
         }
         self.crew.processes_ascend();
-        put_answer(&mut self.tasks, process, answer)
+        self.tasks.answer(process, answer)
     }
 
     /// A process that runs waits for a reply or for the store. A refusal changes nothing.

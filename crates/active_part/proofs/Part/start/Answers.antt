@@ -9,8 +9,8 @@ pub returns-in-Ok-Some-clause-started : goal.returns-in-Ok-Some-clause-started
 returns-in-Ok-Some-clause-started c =
     let made = c.in-Ok-Some.ensures in
     begun-body c.args.types.now c.args.self.now c.args.asked.now c.in-Ok-Some.field-0 c.in-Ok-Some.started c.next_number-process.result
-    c.start.new.self c.add_task.new.tasks (record { rest = c.in_ok-rest.rest; answer = Go }) c.in-Ok-Some.field-0-is made.call made.process
-    made.after c.next_number-process.ensures c.in_ok-add_task.ensures.after
+    c.start.new.self c.add.new.self (record { rest = c.in_ok-rest.rest; answer = Go }) c.in-Ok-Some.field-0-is made.call made.process
+    made.after c.next_number-process.ensures c.in_ok-add.ensures.after
     (ap (λ r. record { rest = r; answer = Go }) c.in_ok-rest.ensures)
 
 pub returns-in-Ok-Some-clause-may : goal.returns-in-Ok-Some-clause-may
