@@ -98,9 +98,10 @@ impl Agenda {
         ensures { OnOk result ((ts : TypeList) (n : Parts) → IsAgenda (indices_of self.old) n
             → MayButOne uid n (parts_of ts ejects.now) → IsAgenda (indices_of self.new) (parts_of ts ejects.now)) }
     {
-        self.wake.set(uid, ejects.may_wake(uid))?;
-        self.start.set(uid, ejects.may_start(uid))?;
-        self.run.set(uid, ejects.may_run(uid))
+        let may = ejects.may(uid);
+        self.wake.set(uid, may.wake)?;
+        self.start.set(uid, may.start)?;
+        self.run.set(uid, may.run)
     }
 
     // The first key of an activation behind the last one, but for the Eject on which the store works.

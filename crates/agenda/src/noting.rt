@@ -20,9 +20,10 @@ impl Agenda {
     {
         match uid {
             Some(uid) => {
-                self.wake.set(uid, ejects.may_wake(uid))?;
-                self.start.set(uid, ejects.may_start(uid))?;
-                self.run.set(uid, ejects.may_run(uid))
+                let may = ejects.may(uid);
+                self.wake.set(uid, may.wake)?;
+                self.start.set(uid, may.start)?;
+                self.run.set(uid, may.run)
             }
             None => Ok(()),
         }

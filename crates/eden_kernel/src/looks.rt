@@ -56,7 +56,7 @@ impl<St: Store> Node<St> {
     pub fn may_activate(&self, uid: Uid) -> bool
         ensures { (ts : TypeList) → IsTrue result ↔ MayActivate ts (held St.seen self.now) uid }
     {
-        if !self.ejects.may_wake(uid) {
+        if !self.ejects.may(uid).wake {
             return false;
         }
         if is_worked_on(&self.store, uid) {

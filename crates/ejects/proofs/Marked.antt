@@ -1,13 +1,11 @@
 -- What an Eject may do, by its part.
-use Rattle.std.proofs.Common.{◌≡◌, ◌<◌, ℕ, nat_lt, Bool, true, false, cond, ◌&&◌, List, [], ◌∷◌, Option, None, Some, refl, sym, ◌∙◌, ap}
-use Rattle.std.proofs.Common.{subst, arith}
-use Rattle.std.specs.Prelude.{is_some, IfSome}
+use Rattle.std.proofs.Common.{◌≡◌, ℕ, nat_lt, Bool, true, false, List, [], ◌∷◌, Option, None, Some, refl, sym, ◌∙◌, ap, arith}
+use Rattle.std.specs.Prelude.{is_some}
 use Rattle.std.proofs.lemmas.Bool.Decides.{nat_tests}
 use Rattle.std.specs.Option.{option_map}
-use Rattle.std.specs.List.{find, list_any}
-use Rattle.coordinator.specs.Ready.{AscendPast, next_ready, is_ready_past}
+use Rattle.std.specs.List.{list_any}
+use Rattle.coordinator.specs.Ready.{AscendPast, next_ready}
 use Rattle.coordinator.specs.Ready.{is_ready as is_idle}
-use Rattle.eden_model.specs.Map.{with_item}
 use Rattle.eden_model.specs.Crew.{Process, Invocation, Waiting, nothing, outside, entry, condition, startable}
 use Rattle.journal.specs.Enabled.{is_ready}
 use Rattle.active_part.specs.Body.{Body}
@@ -36,10 +34,9 @@ any-past k (e ∷ es) h = go (is_ready e.1.waits) refl (any-past e.0 es h.2)
     go false a ih = rw (past, same-ready e.1.waits, a) ih
 
 -- a process is ready where the first past 0 is
-pub may-run-by : (o : Option Body) → IfSome o (λ b. AscendPast 0 b.crew.crew.processes)
-    → is_some (with_item o (λ b. next_ready 0 b.crew.crew.processes) None) ≡ may_run o
-may-run-by None h = refl
-may-run-by (Some b) h = any-past 0 b.crew.crew.processes h
+pub may-run-by : (o : Option Body) (b : Body) → o ≡ Some b → AscendPast 0 b.crew.crew.processes
+    → is_some (next_ready 0 b.crew.crew.processes) ≡ may_run o
+may-run-by o b at h = any-past 0 b.crew.crew.processes h ∙ ap may_run (sym at)
 
 -- an invocation may start where a call does
 pub may-start-by : (o : Option Body) (b : Body) → o ≡ Some b

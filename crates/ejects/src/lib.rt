@@ -23,6 +23,7 @@ ghost use Rattle.ejects.specs.Parts.{queue_in};
 use active_part::Part;
 use capability::{CallNumbers, Seq, Uid};
 use eject_table::EjectTable;
+pub use marks::May;
 pub use requests::Admission;
 use std::alloc::{AllocError, Global};
 use std::collections::BTreeMap;

@@ -11,6 +11,17 @@ use crate::Ejects;
 use capability::Uid;
 use eject_table::Standing;
 
+/// What an Eject may do of its own.
+#[derive(Clone, Copy, Debug)]
+pub struct May {
+    /// It is passive and has a queued call.
+    pub wake: bool,
+    /// It is active and an invocation may start.
+    pub start: bool,
+    /// It is active and a process waits for nothing.
+    pub run: bool,
+}
+
 impl Ejects {
     /// The number of the node.
     pub fn number(&self) -> u8
@@ -30,23 +41,23 @@ impl Ejects {
         }
     }
 
-    /// Whether the Eject is passive and has a queued call.
-    pub fn may_wake(&self, uid: Uid) -> bool
-        ensures { (ts : TypeList) → result ≡ may_wake (parts_of ts self.now) uid }
+    /// What the Eject may do of its own now.
+    pub fn may(&self, uid: Uid) -> May
+        ensures wake { (ts : TypeList) → result.wake ≡ may_wake (parts_of ts self.now) uid }
+        ensures start { (ts : TypeList) → result.start ≡ may_start (body_at (parts_of ts self.now) uid) }
+        ensures run { (ts : TypeList) → result.run ≡ may_run (body_at (parts_of ts self.now) uid) }
     {
         match self.table.active(uid) {
-            Some(_) => false,
-            None => self.count_waiting(uid) > 0,
-        }
-    }
-
-    /// Whether the Eject is active and an invocation may start.
-    pub fn may_start(&self, uid: Uid) -> bool
-        ensures { (ts : TypeList) → result ≡ may_start (body_at (parts_of ts self.now) uid) }
-    {
-        match self.table.active(uid) {
-            Some(part) => part.startable().is_some(),
-            None => false,
+            Some(part) => May {
+                wake: false,
+                start: part.startable().is_some(),
+                run: part.next_ready(0).is_some(),
+            },
+            None => May {
+                wake: self.count_waiting(uid) > 0,
+                start: false,
+                run: false,
+            },
         }
     }
 
@@ -60,12 +71,5 @@ impl Ejects {
             Some(part) => part.next_ready(after),
             None => None,
         }
-    }
-
-    /// Whether the Eject is active and a process waits for nothing.
-    pub fn may_run(&self, uid: Uid) -> bool
-        ensures { (ts : TypeList) → result ≡ may_run (body_at (parts_of ts self.now) uid) }
-    {
-        self.next_ready(uid, 0).is_some()
     }
 }

@@ -212,10 +212,10 @@ fn a_save_waits_for_the_store(rt: HostRuntime) -> Result<(), AllocError> {
         let turned = b.call(uid, b"Save", &[])?;
         assert!(rt; matches!(turned, (Some(Shown::Checkpoint), None)));
         assert!(rt; b.worker.pending());
-        assert!(rt; !b.ejects.may_run(uid));
+        assert!(rt; !b.ejects.may(uid).run);
         b.ejects.store_goes(uid)?;
         b.store_ends(uid, false, end)?;
-        assert!(rt; b.ejects.may_run(uid));
+        assert!(rt; b.ejects.may(uid).run);
         assert!(rt; is_returned(&b.turn(uid, b"Save", &[])?, Some(code)));
     }
     Ok(())
@@ -233,15 +233,15 @@ fn an_eject_that_sleeps_is_woken(rt: HostRuntime) -> Result<(), AllocError> {
             (Some(Shown::Deactivate), Some((Status::Dropped, None)))
         )
     );
-    assert!(rt; !b.ejects.may_wake(uid));
+    assert!(rt; !b.ejects.may(uid).wake);
     assert!(rt; b.request(uid, b"Get", &[])?.is_none());
-    assert!(rt; b.ejects.may_wake(uid));
+    assert!(rt; b.ejects.may(uid).wake);
     let mut calls = asked(alloc, uid, b"Get", &[])?;
     let durable = integers(alloc, &[9])?;
     b.ejects
         .wake(alloc, &b.types, &mut calls, uid, b.cell, &durable)?;
-    assert!(rt; !b.ejects.may_wake(uid));
-    assert!(rt; b.ejects.may_start(uid));
+    assert!(rt; !b.ejects.may(uid).wake);
+    assert!(rt; b.ejects.may(uid).start);
     if !b.ejects.may_begin(&calls, uid) {
         return Err(AllocError);
     }
@@ -273,7 +273,7 @@ fn a_passive_eject_that_does_not_start(rt: HostRuntime) -> Result<(), AllocError
     b.ejects
         .turn_away(alloc, &mut calls, KEPT, Status::Damaged)?;
     assert!(rt; replied(&mut calls) == Some((Status::Damaged, None)));
-    assert!(rt; !b.ejects.may_wake(KEPT));
+    assert!(rt; !b.ejects.may(KEPT).wake);
 
     // A settling that finds nothing kept of it.
     b.ejects.settles(KEPT, true);
@@ -290,7 +290,7 @@ fn a_process_that_waits_is_told_that_its_call_is_broken(rt: HostRuntime) -> Resu
     let uid = b.create()?;
     let _turned = b.call(uid, b"Save", &[])?;
     b.ejects.broken(alloc, uid, 1)?;
-    assert!(rt; b.ejects.may_run(uid));
+    assert!(rt; b.ejects.may(uid).run);
     assert!(rt; b.ejects.broken(alloc, uid, 1).is_err());
     Ok(())
 }

@@ -13,15 +13,16 @@ pub returns-in_ok-set-in-Some-2 : goal.returns-in_ok-set-in-Some-2
 returns-in_ok-set-in-Some-2 c = on-ok c.set-in-Some-2.result (λ at ts t is.
     let now = parts_of ts c.args.ejects.now in
     let a = c.args.self.now in
+    let may = c.may-may in
     let u = c.in-Some.uid in
     subst (λ o. HasMarks (indices_of (record { wake = c.set.new.self; start = c.set-in-Some.new.self; run = c.set-in-Some-2.new.self }))
     (marked (is_it o) (marks_of now) t)) (sym c.in-Some.is) (record {
-      wake = marked-one a.wake.uids.entries c.set.new.self.uids.entries u c.may_wake.result t.wake (may_wake now)
-          c.in_ok-set-in-Some.ensures.at c.set.ensures.ascend is.wake (c.may_wake.ensures ts);
-      start = marked-one a.start.uids.entries c.set-in-Some.new.self.uids.entries u c.may_start.result t.start
-          (λ v. may_start (body_at now v)) c.in_ok-set-in-Some-2.ensures.at c.set-in-Some.ensures.ascend is.start (c.may_start.ensures ts);
-      run = marked-one a.run.uids.entries c.set-in-Some-2.new.self.uids.entries u c.may_run.result t.run
-          (λ v. may_run (body_at now v)) at c.set-in-Some-2.ensures.ascend is.run (c.may_run.ensures ts);
+      wake = marked-one a.wake.uids.entries c.set.new.self.uids.entries u may.result.wake t.wake (may_wake now)
+          c.in_ok-set-in-Some.ensures.at c.set.ensures.ascend is.wake (may.ensures.wake ts);
+      start = marked-one a.start.uids.entries c.set-in-Some.new.self.uids.entries u may.result.start t.start
+          (λ v. may_start (body_at now v)) c.in_ok-set-in-Some-2.ensures.at c.set-in-Some.ensures.ascend is.start (may.ensures.start ts);
+      run = marked-one a.run.uids.entries c.set-in-Some-2.new.self.uids.entries u may.result.run t.run
+          (λ v. may_run (body_at now v)) at c.set-in-Some-2.ensures.ascend is.run (may.ensures.run ts);
     })) c.set-in-Some-2.ensures.at
 
 pub returns-in-None : goal.returns-in-None

@@ -10,11 +10,12 @@ pub returns : goal.returns
 returns c = on-ok c.set-3.result (λ at ts n is alike.
     let now = parts_of ts c.args.ejects.now in
     let a = c.args.self.now in
+    let may = c.may-may in
     record {
-      wake = noted a.wake.uids.entries c.set.new.self.uids.entries c.args.uid c.may_wake.result (may_wake n) (may_wake now)
-          c.in_ok-set.ensures.at c.set.ensures.ascend is.wake (c.may_wake.ensures ts) alike.wake;
-      start = noted a.start.uids.entries c.set-2.new.self.uids.entries c.args.uid c.may_start.result (λ u. may_start (body_at n u))
-          (λ u. may_start (body_at now u)) c.in_ok-set-2.ensures.at c.set-2.ensures.ascend is.start (c.may_start.ensures ts) alike.start;
-      run = noted a.run.uids.entries c.set-3.new.self.uids.entries c.args.uid c.may_run.result (λ u. may_run (body_at n u))
-          (λ u. may_run (body_at now u)) at c.set-3.ensures.ascend is.run (c.may_run.ensures ts) alike.run;
+      wake = noted a.wake.uids.entries c.set.new.self.uids.entries c.args.uid may.result.wake (may_wake n) (may_wake now)
+          c.in_ok-set.ensures.at c.set.ensures.ascend is.wake (may.ensures.wake ts) alike.wake;
+      start = noted a.start.uids.entries c.set-2.new.self.uids.entries c.args.uid may.result.start (λ u. may_start (body_at n u))
+          (λ u. may_start (body_at now u)) c.in_ok-set-2.ensures.at c.set-2.ensures.ascend is.start (may.ensures.start ts) alike.start;
+      run = noted a.run.uids.entries c.set-3.new.self.uids.entries c.args.uid may.result.run (λ u. may_run (body_at n u))
+          (λ u. may_run (body_at now u)) at c.set-3.ensures.ascend is.run (may.ensures.run ts) alike.run;
     }) c.set-3.ensures.at

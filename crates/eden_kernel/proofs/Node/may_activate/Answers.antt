@@ -1,11 +1,13 @@
 use Rattle.std.proofs.Common.{◌≡◌, true, false, refl, sym, ◌∙◌}
+use Rattle.std.proofs.lemmas.Bool.{not-true, not-false}
 use Rattle.eden_kernel.proofs.Node.may_activate.Goals as goal
 
-pub returns-then-not-may_wake : goal.returns-then-not-may_wake
-returns-then-not-may_wake g c ts = (
-  λ no. absurd (cc no),
-  λ may. absurd (let bad : true ≡ false = sym may.wakes ∙ sym (c.may_wake.ensures ts) ∙ c.if-not-may_wake.true in cc bad),
-)
+pub returns-then-not-may : goal.returns-then-not-may
+returns-then-not-may g c ts =
+    let stays : c.may.result.wake ≡ false = not-true c.may.result.wake c.if-not-may.true in (
+      λ no. absurd (cc no),
+      λ may. absurd (let bad : true ≡ false = sym may.wakes ∙ sym (c.may.ensures.wake ts) ∙ stays in cc bad),
+    )
 
 pub returns-then-is_worked_on : goal.returns-then-is_worked_on
 returns-then-is_worked_on g c ts = (
@@ -16,7 +18,7 @@ returns-then-is_worked_on g c ts = (
 pub returns : goal.returns
 returns g c ts = (
   λ yes. record {
-    wakes = sym (c.may_wake.ensures ts) ∙ c.if-not-may_wake.false;
+    wakes = sym (c.may.ensures.wake ts) ∙ not-false c.may.result.wake c.if-not-may.false;
     free = c.is_worked_on.ensures.other c.if-is_worked_on.false;
   },
   λ may. refl,
