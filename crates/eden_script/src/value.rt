@@ -279,6 +279,10 @@ fn added(found: Option<Vec<Arg>>, next: Option<Arg>) -> Result<Option<Vec<Arg>>,
 {
     match (found, next) {
         (Some(mut found), Some(next)) => {
+            // most lists have one value, and then take room for one
+            if found.is_empty() {
+                found.reserve_exact(1)?;
+            }
             found.push(next)?;
             Ok(Some(found))
         }
