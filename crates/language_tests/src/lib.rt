@@ -12,13 +12,13 @@ mod epl_parser_expressions;
 #[cfg(test)]
 mod epl_parser_types;
 #[cfg(test)]
-mod epl_run;
+mod epl_run_tests;
 #[cfg(test)]
-mod epl_syntax;
+mod epl_syntax_tests;
 #[cfg(test)]
 mod epl_syntax_types;
 #[cfg(test)]
-mod epl_values;
+mod epl_values_tests;
 #[cfg(test)]
 mod marked;
 #[cfg(test)]

@@ -2,14 +2,14 @@
 #![tactic(auto)]
 
 #[cfg(test)]
-mod checkpoint;
-#[cfg(test)]
-mod eden_kernel;
+mod checkpoint_tests;
 #[cfg(test)]
 mod eden_kernel_ends;
 #[cfg(test)]
-mod ejects;
+mod eden_kernel_tests;
 #[cfg(test)]
-mod journal;
+mod ejects_tests;
 #[cfg(test)]
-mod scheduled_node;
+mod journal_tests;
+#[cfg(test)]
+mod scheduled_node_tests;

@@ -2,13 +2,13 @@
 #![tactic(auto)]
 
 #[cfg(test)]
-mod block_tables;
+mod block_tables_tests;
 #[cfg(test)]
-mod eden_disk;
+mod eden_disk_tests;
 #[cfg(test)]
-mod equal_answers;
+mod equal_answers_tests;
 #[cfg(test)]
-mod file_disk;
+mod file_disk_tests;
 #[cfg(test)]
 mod passive_blocks_conversion;
 #[cfg(test)]
@@ -18,4 +18,4 @@ mod passive_blocks_opening;
 #[cfg(test)]
 mod passive_blocks_store;
 #[cfg(test)]
-mod passive_store;
+mod passive_store_tests;

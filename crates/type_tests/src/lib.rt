@@ -2,14 +2,14 @@
 #![tactic(auto)]
 
 #[cfg(test)]
-mod coordinator;
+mod coordinator_tests;
 #[cfg(test)]
-mod directory_eject;
+mod directory_eject_tests;
 #[cfg(test)]
-mod edentypes;
+mod edentypes_tests;
 #[cfg(test)]
-mod eject_table;
+mod eject_table_tests;
 #[cfg(test)]
-mod invocation;
+mod invocation_tests;
 #[cfg(test)]
-mod transput;
+mod transput_tests;

@@ -2,16 +2,16 @@
 #![tactic(auto)]
 
 #[cfg(test)]
-mod capability;
+mod capability_tests;
 #[cfg(test)]
-mod eden_codec;
+mod eden_codec_tests;
 #[cfg(test)]
-mod eden_gen;
+mod eden_gen_tests;
 #[cfg(test)]
-mod eden_io;
+mod eden_io_tests;
 #[cfg(test)]
-mod eden_value;
+mod eden_value_tests;
 #[cfg(test)]
-mod grammar;
+mod grammar_tests;
 #[cfg(test)]
-mod locator;
+mod locator_tests;

@@ -1,7 +1,7 @@
 //! A stop in each device call of a run, a power cut behind each turn of another, and what the next run over the same disks finds.
 ghost use Rattle.std.specs.Prelude.{◌≡◌, length};
 
-use crate::eden_shell::blank_disks;
+use crate::eden_shell_tests::blank_disks;
 use eden_disk::{Disk, ImageMode, SimDisk};
 use eden_io::{MemSink, MemSource};
 use eden_shell::{Outcome, eden};

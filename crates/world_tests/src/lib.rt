@@ -2,18 +2,18 @@
 #![tactic(auto)]
 
 #[cfg(test)]
-mod eden_script;
-#[cfg(test)]
-mod eden_shell;
+mod eden_script_tests;
 #[cfg(test)]
 mod eden_shell_stops;
 #[cfg(test)]
-mod eden_world;
+mod eden_shell_tests;
 #[cfg(test)]
-mod runs;
+mod eden_world_tests;
 #[cfg(test)]
-mod shell_answers;
+mod runs_tests;
 #[cfg(test)]
-mod shell_names;
+mod shell_answers_tests;
 #[cfg(test)]
-mod transcript;
+mod shell_names_tests;
+#[cfg(test)]
+mod transcript_tests;

@@ -1,4 +1,0 @@
-use Rattle.node_tests.proofs.ejects.Bench.turn.Goals as goal
-
-pub process-requires-clause-ready : goal.process-requires-clause-ready
-process-requires-clause-ready c = (c.is_ready.ensures c.args.self.now.types).0 c.if-not-is_ready.false
