@@ -50,6 +50,52 @@ const NAMES: [(&[u8], Option<usize>, usize, usize); 9] = [
     (b"Cel", None, 0, 0),
 ];
 
+fn are_equal(some: &Items, others: &Items) -> bool {
+    if some.values.len() != others.values.len() {
+        return false;
+    }
+    for (one, other) in some.values.iter().zip(&others.values) {
+        if !equal(one, other) {
+            return false;
+        }
+    }
+    true
+}
+
+/// What is kept of an Eject that has its first values: so many of them, under its type's name, in version 1.
+fn is_kept(kept: &Rep, name: &Txt, durable: usize) -> bool {
+    kept.type_name.bytes == name.bytes && kept.version == 1 && kept.values.values.len() == durable
+}
+
+/// Whether an Eject that has its first values, and so many, starts from what is kept of it with the same values.
+fn starts_as_kept(
+    alloc: Global,
+    types: &Types,
+    kind: Kind,
+    name: &Txt,
+    (variables, durable): (usize, usize),
+) -> Result<bool, AllocError> {
+    let new = first_values(alloc, types, kind)?;
+    let kept = rep(alloc, types, kind, &new)?;
+    let again = start(alloc, types, kind, &kept.values)?;
+    let before = new.items(alloc)?;
+    let after = again.items(alloc)?;
+    Ok(
+        before.values.len() == variables
+            && is_kept(&kept, name, durable)
+            && are_equal(&before, &after),
+    )
+}
+
+/// Whether it has no processes, one class and no monitors.
+fn is_plain(alloc: Global, types: &Types, kind: Kind) -> Result<bool, AllocError> {
+    let begun = processes(alloc, types, kind)?;
+    let made = setup(alloc, types, kind)?;
+    let classes = made.limits.as_slice().len();
+    let crew = Coordinator::new(alloc, made)?;
+    Ok(begun.is_empty() && classes == 1 && crew.monitors() == 0)
+}
+
 #[test]
 fn every_native_type_starts(rt: HostRuntime) -> Result<(), AllocError> {
     let types = Types::native(rt.alloc())?;
@@ -58,23 +104,9 @@ fn every_native_type_starts(rt: HostRuntime) -> Result<(), AllocError> {
         let found = find(&types, &name);
         assert_eq!(rt; found.map(|kind| kind.place), place);
         if let Some(kind) = found {
-            let new = first_values(rt.alloc(), &types, kind)?;
-            let vars = new.items(rt.alloc())?;
-            assert_eq!(rt; vars.values.len(), variables);
-            let kept = rep(rt.alloc(), &types, kind, &new)?;
-            assert!(rt; kept.type_name.bytes == name.bytes);
-            assert_eq!(rt; kept.version, 1);
-            assert_eq!(rt; kept.values.values.len(), durable);
-            let again = start(rt.alloc(), &types, kind, &kept.values)?.items(rt.alloc())?;
-            assert_eq!(rt; again.values.len(), variables);
-            for i in 0..variables {
-                assert!(rt; equal(&again.values[i], &vars.values[i]), "variable {i}");
-            }
-            assert!(rt; processes(rt.alloc(), &types, kind)?.is_empty());
-            let made = setup(rt.alloc(), &types, kind)?;
-            assert_eq!(rt; made.limits.as_slice().len(), 1);
-            let crew = Coordinator::new(rt.alloc(), made)?;
-            assert_eq!(rt; crew.monitors(), 0);
+            let numbers = (variables, durable);
+            assert!(rt; starts_as_kept(rt.alloc(), &types, kind, &name, numbers)?);
+            assert!(rt; is_plain(rt.alloc(), &types, kind)?);
         }
     }
     Ok(())
