@@ -31,7 +31,8 @@ impl<St: Store> ScheduledNode<St> {
         ensures number { self.new.node.number ≡ self.old.node.number }
         ensures hears { IfOk result (λ it. is_some it ≡ hears from (number_of self.old.node.ejects) calls.old) }
         ensures event { IfOk result (λ it. IfSome it (IsDelivery from (number_of self.old.node.ejects))) }
-        ensures none { IfOk result (λ it. IfNone it ((ts : TypeList) → parts_of ts self.new.node.ejects ≡ parts_of ts self.old.node.ejects)) }
+        ensures none { IfOk result (λ it. IfNone it ((ts : TypeList)
+            → parts_of ts self.new.node.ejects ≡ parts_of ts self.old.node.ejects)) }
         ensures store { St.seen self.new.node.store ≡ St.seen self.old.node.store }
         ensures turn { IsTrue St.Device.tells → IfOk result (λ it. IfSome it (λ e.
             ScheduledTurnsAt St.layout types.now (manned St.seen self.old) calls.old (manned St.seen self.new) calls.new e)) }
