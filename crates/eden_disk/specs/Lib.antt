@@ -5,6 +5,7 @@ pub mod Moments
 pub mod Timed
 pub mod InCall
 pub mod Images
+pub mod Fronts
 pub mod Imaged
 pub mod Spans
 pub mod Telling

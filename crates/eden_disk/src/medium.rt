@@ -20,8 +20,8 @@ pub struct Span {
 }
 
 /// The bytes as a read sees them and as of the last sync, which differ at most at the unsynced places. A call costs
-/// time in the bytes that it is given, a sync and a cut in those that were written since the last one. Memory holds both
-/// up to the last place that was given: so a sync and a cut take none.
+/// time in the bytes that it is given, a sync and a cut in those that were written since the last one. A write takes the
+/// room for both up to its place: so a sync and a cut take none.
 ///
 /// Contracts see what it tells, of which only what code reads takes memory.
 #[derive(Drop)]
@@ -68,12 +68,11 @@ impl Medium {
         requires { length image.items < 2 ^ 32 }
         ensures { IfOk result (λ m. m ≡ record { image = image.items; acts = [] }) }
     {
-        let stable = Vec::from_slice(alloc, &image)?;
         let telling = tell(&Telling::new(), Change::Begun { image: &image });
         Ok(Medium {
             alloc,
-            seen: Image::of(image),
-            stable: Image::of(stable),
+            seen: Image::of(alloc, &image)?,
+            stable: Image::of(alloc, &image)?,
             unsynced: Vec::new(alloc),
             telling,
         })
@@ -119,8 +118,8 @@ impl Medium {
     {
         self.unsynced.reserve(1)?;
         let len = bytes.len() as u32;
-        self.stable.reach(at + len)?;
-        self.seen.reach(at + len)?;
+        self.stable.reach(self.alloc, at + len)?;
+        self.seen.reach(self.alloc, at + len)?;
         self.seen.put(at, bytes);
         push_within(&mut self.unsynced, Span { at, len });
         self.telling = tell(&self.telling, Change::Written { clock, at, bytes });

@@ -25,9 +25,10 @@ pub struct ArmedStop {
 /// written all its bytes when the power goes. The image that a power cut leaves has, at the unsynced places, the bytes
 /// of its mode, and elsewhere what was synced.
 ///
-/// Beside the two images, as of now and as of the last sync, it holds where it is unsynced. Of an image it holds the bytes
-/// up to the last one that was ever given, and none of the zeros behind it. So a blank disk takes no memory for its bytes,
-/// and a write takes it up to its place.
+/// Beside the two images, as of now and as of the last sync, it holds where it is unsynced. A write takes the room for both
+/// images up to its place. Of each of two parts of an image it holds the bytes up to the last one that was written and is
+/// not zero, and maybe some zeros behind it. So a blank disk takes no memory for its bytes, and zeros that are written over
+/// it are not held.
 ///
 /// Of the device calls only `write` takes memory, before it does anything else. Where there is none it changes nothing but
 /// the clock and the counts of faults and wants, and answers `Failed`.

@@ -3,4 +3,4 @@ use Rattle.eden_disk.proofs.medium.Medium.blank.Goals as goal
 
 pub invariant_of-result : goal.invariant_of-result
 invariant_of-result c =
-    blank_kept _ c.args.size _ _ _ _ _ c.tell.ensures c.blank.ensures.bytes c.blank-2.ensures.bytes c.new.ensures.items c.ranges.size.fits
+    blank_kept _ c.args.size _ _ _ _ _ c.tell.ensures c.blank.ensures c.blank-2.ensures c.new.ensures.items c.ranges.size.fits

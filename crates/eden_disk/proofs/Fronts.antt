@@ -1,5 +1,5 @@
--- Laws of the definitions of specs/Imaged.
-use Rattle.std.specs.Prelude.{◌≡◌, ℕ, ◌+◌, ◌-◌, ◌≤◌, ◌<◌, min, List, ◌++◌, length, take, drop, replicate, slice_range}
+-- Laws of the definitions of specs/Fronts.
+use Rattle.std.specs.Prelude.{◌≡◌, ℕ, ◌+◌, ◌-◌, ◌≤◌, ◌<◌, min, List, ◌++◌, length, drop, replicate, slice_range}
 use Rattle.std.proofs.Common.{get_or, refl, sym, ap, ◌∙◌, inl, inr, arith, length-append}
 use Rattle.std.proofs.lemmas.Bool.{cases_lt}
 use Rattle.std.proofs.lemmas.List.{ext_get_or, get_or_append_left, get_or-append_right, get_or-replicate, get_or_past, length-replicate}
@@ -8,7 +8,9 @@ use Rattle.std.proofs.lemmas.List.Edits.{get_or-between, length-between}
 use Rattle.std.proofs.lemmas.Slice.{take-put_mid}
 use borrow.Rule.Slice.PartMut.{put_mid, mid_of, same_len_mid}
 use Rattle.eden_disk.specs.SimDisk.{zeros}
-use Rattle.eden_disk.specs.Imaged.{with_zeros}
+use Rattle.eden_disk.specs.Told.{overlay}
+use Rattle.eden_disk.specs.Fronts.{with_zeros}
+use Rattle.eden_disk.proofs.Overlay.{length-overlay, overlay_outside, overlay_inside}
 use Rattle.eden_disk.proofs.SimDiskLaws.{zeros_are, length-zeros}
 
 abbrev blank : ℕ → List ℕ
@@ -44,25 +46,56 @@ pub all_held : (held : List ℕ) (size : ℕ) → size ≡ length held → with_
 all_held held size whole = ext_get_or 0 (with_zeros held size) held
     (length-with_zeros held size (omega (arith, whole)) ∙ whole) (λ k h. with_zeros_at held size k)
 
--- memory is taken up to a place
-grown : (held new : List ℕ) (count upto : ℕ) → count ≡ length held → new ≡ take upto held ++ blank (upto - count) → count ≤ upto
-    → new ≡ held ++ blank (upto - count)
-grown held new count upto len is further = is ∙ ap (λ l. l ++ blank (upto - count)) (take_all upto held (omega (arith, len, further)))
-
-pub length-reached : (held new : List ℕ) (count upto : ℕ) → count ≡ length held → new ≡ take upto held ++ blank (upto - count)
-    → count ≤ upto → length new ≡ upto
-length-reached held new count upto len is further =
-    ap length (grown held new count upto len is further) ∙ length-append held (blank (upto - count))
-    ∙ omega (arith, len, further, length-blank (upto - count))
-
-pub reached : (held new : List ℕ) (size count upto : ℕ) → count ≡ length held → new ≡ take upto held ++ blank (upto - count)
-    → count ≤ upto → upto ≤ size → with_zeros new size ≡ with_zeros held size
-reached held new size count upto len is further fits =
-    let long : length new ≡ upto = length-reached held new count upto len is further in
+-- memory is filled up with zeros
+pub padded : (held new : List ℕ) (n size : ℕ) → new ≡ held ++ blank n → length held + n ≤ size → with_zeros new size ≡ with_zeros held size
+padded held new n size is fits =
+    let long : length new ≡ length held + n = ap length is ∙ length-append held (blank n) ∙ omega (arith, length-blank n) in
     ext_get_or 0 (with_zeros new size) (with_zeros held size)
-    (length-with_zeros new size (omega (arith, long, fits)) ∙ sym (length-with_zeros held size (omega (arith, len, further, fits))))
-    (λ k h. with_zeros_at new size k ∙ ap (λ l. get_or l k 0) (grown held new count upto len is further)
-    ∙ zeros_behind held (upto - count) k ∙ sym (with_zeros_at held size k))
+    (length-with_zeros new size (omega (arith, long, fits)) ∙ sym (length-with_zeros held size (omega (arith, fits))))
+    (λ k h. with_zeros_at new size k ∙ ap (λ l. get_or l k 0) is ∙ zeros_behind held n k ∙ sym (with_zeros_at held size k))
+
+length-piece : (held : List ℕ) (size at n : ℕ) → length held ≤ at → at + n ≤ size → length (slice_range (with_zeros held size) at (at + n)) ≡ n
+length-piece held size at n past fits =
+    length-between (with_zeros held size) at (at + n) (omega (arith, fits, length-with_zeros held size (omega (arith, past, fits)))) ∙ omega arith
+
+-- zeros that are written behind what memory holds change nothing
+pub zeros_written : (held bytes : List ℕ) (size at : ℕ) → length held ≤ at → at + length bytes ≤ size
+    → ((k : ℕ) → get_or bytes k 0 ≡ 0) → overlay at bytes (with_zeros held size) ≡ with_zeros held size
+zeros_written held bytes size at past fits blank_bytes =
+    let all : List ℕ = with_zeros held size in
+    let long : length all ≡ size = length-with_zeros held size (omega (arith, past, fits)) in
+    let room : at + length bytes ≤ length all = omega (arith, fits, long) in
+    ext_get_or 0 (overlay at bytes all) all (length-overlay at bytes all room) (λ k h. elim (cases_lt k at) [
+      | inl front ↦ overlay_outside at k bytes all room (inl front)
+      | inr from ↦ elim (cases_lt k (at + length bytes)) [
+        | inl inside ↦ overlay_inside at k bytes all room from inside ∙ blank_bytes (k - at)
+            ∙ sym (with_zeros_at held size k ∙ get_or_past held k 0 (omega (arith, past, from)))
+        | inr behind ↦ overlay_outside at k bytes all room (inr behind)
+      ]
+    ])
+
+-- no byte of zeros is another
+pub zero_of : (bytes : List ℕ) (k : ℕ) → bytes ≡ blank (length bytes) → get_or bytes k 0 ≡ 0
+zero_of bytes k is = ap (λ l. get_or l k 0) is ∙ zero_at (length bytes) k
+
+-- what is read behind what memory holds is zeros
+pub zeros_read : (held : List ℕ) (size at n k : ℕ) → length held ≤ at → at + n ≤ size → get_or (slice_range (with_zeros held size) at (at + n)) k 0 ≡ 0
+zeros_read held size at n k past fits = elim (cases_lt k n) [
+  | inl below ↦ get_or-between (with_zeros held size) at (at + n) k 0 (omega (arith, below)) ∙ with_zeros_at held size (at + k)
+      ∙ get_or_past held (at + k) 0 (omega (arith, past))
+  | inr behind ↦ get_or_past (slice_range (with_zeros held size) at (at + n)) k 0 (omega (arith, behind, length-piece held size at n past fits))
+]
+
+-- a piece of another image changes nothing where memory holds nothing of either there
+pub piece_copied : (held other all others : List ℕ) (size other_size at n : ℕ) → with_zeros held size ≡ all → with_zeros other other_size ≡ others
+    → length held ≤ at → length other ≤ at → at + n ≤ size → at + n ≤ other_size → all ≡ overlay at (slice_range others at (at + n)) all
+piece_copied held other all others size other_size at n is other_is past other_past fits other_fits =
+    let from : List ℕ = with_zeros other other_size in
+    let piece : List ℕ = slice_range from at (at + n) in
+    sym is
+    ∙ sym (zeros_written held piece size at past (omega (arith, fits, length-piece other other_size at n other_past other_fits))
+    (λ k. zeros_read other other_size at n k other_past other_fits))
+    ∙ ap (λ l. overlay at piece l) is ∙ ap (λ l. overlay at (slice_range l at (at + n)) all) other_is
 
 -- a piece, read out of what memory holds, and zeros behind it
 pub read_held : (held : List ℕ) (size at n from until : ℕ) → from ≡ min (length held) at → until ≡ min (length held) (at + n)
