@@ -108,10 +108,10 @@ peaks-set groups values i v found are here is g within = elim (same_or_other g i
 ]
 
 -- a list by the numbers before a place, the number there, and those behind it
-parted : (xs : List ℕ) (i : ℕ) → i < length xs → xs ≡ take i xs ++ slice_index xs i ∷ drop (suc i) xs
+pub parted : (xs : List ℕ) (i : ℕ) → i < length xs → xs ≡ take i xs ++ slice_index xs i ∷ drop (suc i) xs
 parted xs i within = sym (take-append-drop i xs) ∙ ap (λ ys. take i xs ++ ys) (drop-cons xs i 0 within)
 
-peak-parted : (xs ys : List ℕ) (n : ℕ) → peak (xs ++ n ∷ ys) ≡ max (peak xs) (max n (peak ys))
+pub peak-parted : (xs ys : List ℕ) (n : ℕ) → peak (xs ++ n ∷ ys) ≡ max (peak xs) (max n (peak ys))
 unfolding peak
 peak-parted xs ys n = peak-append xs (n ∷ ys)
 
@@ -186,7 +186,7 @@ peaks-set_beside groups values i v are here within less beside =
     subst (λ gs. ArePeaks gs (set values i v)) (set-get_or groups (i / 64) 0)
     (peaks-set groups values i v (slice_index groups (i / 64)) are here kept)
 
-zeros : (n : ℕ) → peak (replicate n 0) ≡ 0
+pub zeros : (n : ℕ) → peak (replicate n 0) ≡ 0
 unfolding peak
 zeros zero = refl
 zeros (suc n) = omega (arith, zeros n)

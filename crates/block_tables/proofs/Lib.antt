@@ -1,4 +1,4 @@
-mod Ranks
+mod Marks
 mod Ending
 pub mod Closing
 pub mod Heading

@@ -54,18 +54,18 @@ fewer q p n (x ∷ ns) to is out there = elim (cases_eq x n) [
 
 -- the members of a set
 abbrev pub members_of : List ℕ → List ℕ
-members_of ranks = filter (is_member ranks) (numbers 0 (length ranks))
+members_of marks = filter (is_member marks) (numbers 0 (length marks))
 
 second : (a b : Bool) → (a && b) ≡ true → b ≡ true
 second true b is = is
 second false b is = absurd (false≢true is)
 
-pub fewer_members : (old ranks : List ℕ) (n : ℕ) → length ranks ≡ length old → n < length old → is_member old n ≡ true
-    → ((k : ℕ) → is_member ranks k ≡ (not (k == n) && is_member old k)) → length (members_of ranks) < length (members_of old)
-fewer_members old ranks n long within is members =
-    let less : suc (length (filter (is_member ranks) (numbers 0 (length old)))) ≤ length (members_of old) =
-    fewer (is_member ranks) (is_member old) n (numbers 0 (length old))
+pub fewer_members : (old marks : List ℕ) (n : ℕ) → length marks ≡ length old → n < length old → is_member old n ≡ true
+    → ((k : ℕ) → is_member marks k ≡ (not (k == n) && is_member old k)) → length (members_of marks) < length (members_of old)
+fewer_members old marks n long within is members =
+    let less : suc (length (filter (is_member marks) (numbers 0 (length old)))) ≤ length (members_of old) =
+    fewer (is_member marks) (is_member old) n (numbers 0 (length old))
     (λ k there. second (not (k == n)) (is_member old k) (sym (members k) ∙ there)) is
     (members n ∙ ap (λ b. not b && is_member old n) (eq-eqb n n refl)) (has_number n 0 (length old) (omega arith) (omega (arith, within)))
     in
-    omega (arith, less, ap (λ count. length (filter (is_member ranks) (numbers 0 count))) long)
+    omega (arith, less, ap (λ count. length (filter (is_member marks) (numbers 0 count))) long)

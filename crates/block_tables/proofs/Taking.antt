@@ -65,7 +65,7 @@ none_passes p from (suc count) none =
     ∙ none_passes p (from + 1) count none
 
 abbrev members : List ℕ → List ℕ
-members ranks = filter (is_member ranks) (numbers 0 (length ranks))
+members marks = filter (is_member marks) (numbers 0 (length marks))
 
 -- the first member of a set, and the others behind it
 pub first_of : (old new : List ℕ) (n : ℕ) → n < length old → is_member old n ≡ true → ((k : ℕ) → k < n → is_member old k ≡ false)
@@ -120,18 +120,18 @@ second true b is = is
 second false b is = absurd (false≢true is)
 
 -- the free block that comes first is taken
-pub takes_first : (t : BlockTable) (ranks : List ℕ) (n : ℕ) → AreBlocks t → (n < length t.free) × (is_member t.free n ≡ true)
-    × ((k : ℕ) → k < n → is_member t.free k ≡ false) → length ranks ≡ length t.free
-    → ((k : ℕ) → is_member ranks k ≡ (not (k == n) && is_member t.free k)) → free_in t ≡ n ∷ filter (is_member ranks)
-    (numbers 0 (length ranks))
-takes_first t ranks n are is long rest = first_of t.free ranks n is.0 is.1 is.2 long rest
+pub takes_first : (t : BlockTable) (marks : List ℕ) (n : ℕ) → AreBlocks t → (n < length t.free) × (is_member t.free n ≡ true)
+    × ((k : ℕ) → k < n → is_member t.free k ≡ false) → length marks ≡ length t.free
+    → ((k : ℕ) → is_member marks k ≡ (not (k == n) && is_member t.free k)) → free_in t ≡ n ∷ filter (is_member marks)
+    (numbers 0 (length marks))
+takes_first t marks n are is long rest = first_of t.free marks n is.0 is.1 is.2 long rest
 
 pub none_first : (t : BlockTable) → ((k : ℕ) → is_member t.free k ≡ false) → free_in t ≡ []
 none_first t none = none_passes (is_member t.free) 0 (length t.free) none
 
-pub first_behind : (old ranks : List ℕ) (n k : ℕ) → ((j : ℕ) → j < n → is_member old j ≡ false)
-    → ((j : ℕ) → is_member ranks j ≡ (not (j == n) && is_member old j)) → is_member ranks k ≡ true → n < k
-first_behind old ranks n k least rest there = elim (cases_lt n k) [
+pub first_behind : (old marks : List ℕ) (n k : ℕ) → ((j : ℕ) → j < n → is_member old j ≡ false)
+    → ((j : ℕ) → is_member marks j ≡ (not (j == n) && is_member old j)) → is_member marks k ≡ true → n < k
+first_behind old marks n k least rest there = elim (cases_lt n k) [
   | inl less ↦ less
   | inr more ↦ elim (cases_eq k n) [
     | inl same ↦ absurd (false≢true (sym (rest k ∙ ap (λ b. not b && is_member old k) (eq-eqb k n same)) ∙ there))

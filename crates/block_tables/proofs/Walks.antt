@@ -55,9 +55,9 @@ moved false true b m e = ap (λ x. (x || false) || m) e
 moved false false b m e = ap (λ x. (x || false) || m) e
 
 -- a block for data that joins the free ones leaves the blocks in order
-pub joins_free : (t : BlockTable) (ranks : List ℕ) (block : ℕ) → AreBlocks t → is_data t.size block ≡ true → length ranks ≡ length t.free
-    → ((k : ℕ) → is_member ranks k ≡ (k == block || is_member t.free k)) → AreBlocks (record t { free = ranks })
-joins_free t ranks block are inside long members = record {
+pub joins_free : (t : BlockTable) (marks : List ℕ) (block : ℕ) → AreBlocks t → is_data t.size block ≡ true → length marks ≡ length t.free
+    → ((k : ℕ) → is_member marks k ≡ (k == block || is_member t.free k)) → AreBlocks (record t { free = marks })
+joins_free t marks block are inside long members = record {
   sized = are.sized;
   free = long ∙ are.free;
   next = are.next;
@@ -70,15 +70,15 @@ joins_free t ranks block are inside long members = record {
 }
 
 -- one more block of the chain is freed
-pub freed : (t0 t : BlockTable) (ranks : List ℕ) (first count block behind m : ℕ) → Freeing t0 t first count block (suc m)
-    → length ranks ≡ length t.free → ((k : ℕ) → is_member ranks k ≡ (k == block || is_member t.free k))
-    → behind ≡ slice_index t.next.items block → Freeing t0 (record t { free = ranks }) first count behind m
-freed t0 t ranks first count block behind m f long members is =
+pub freed : (t0 t : BlockTable) (marks : List ℕ) (first count block behind m : ℕ) → Freeing t0 t first count block (suc m)
+    → length marks ≡ length t.free → ((k : ℕ) → is_member marks k ≡ (k == block || is_member t.free k))
+    → behind ≡ slice_index t.next.items block → Freeing t0 (record t { free = marks }) first count behind m
+freed t0 t marks first count block behind m f long members is =
     let inside : is_data t.size block ≡ true =
     subst (λ s. is_data s block ≡ true) (sym f.size) (walked t0.size t0.next.items block m f.inside) in
     let at : behind ≡ slice_index t0.next.items block = is ∙ ap (λ v. slice_index v.items block) f.next in
     record {
-      blocks = joins_free t ranks block f.blocks inside long members;
+      blocks = joins_free t marks block f.blocks inside long members;
       size = f.size;
       next = f.next;
       needed = f.needed;
@@ -86,7 +86,7 @@ freed t0 t ranks first count block behind m f long members is =
           (has k (walk t0.next.items (slice_index t0.next.items block) m))
           (subst (λ b. has k (walk t0.next.items b m) ≡ true) at in_rest));
       free = λ k.
-          ap (λ b. has k (walk t0.next.items b m) || is_member ranks k) at
+          ap (λ b. has k (walk t0.next.items b m) || is_member marks k) at
           ∙ ap (λ x. has k (walk t0.next.items (slice_index t0.next.items block) m) || x) (members k)
           ∙ moved (has k (walk t0.next.items (slice_index t0.next.items block) m)) (k == block) (block == k) (is_member t.free k)
           (turned k block)

@@ -52,14 +52,6 @@ impl Peaks {
         })
     }
 
-    /// The number at a place.
-    pub fn get(&self, place: usize) -> u64
-        requires { place < length self.now }
-        ensures { result ≡ slice_index self.now place }
-    {
-        self.values[place]
-    }
-
     /// Sets the number at a place.
     pub fn set(&mut self, place: usize, value: u64)
         requires { place < length self.old }

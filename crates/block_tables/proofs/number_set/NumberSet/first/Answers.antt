@@ -1,28 +1,27 @@
-use Rattle.std.proofs.Common.{◌≤◌, ◌-◌, ◌∙◌, arith, sym, subst}
-use Rattle.std.specs.Prelude.{None, Some}
+use Rattle.std.proofs.Common.{◌+◌, ◌*◌, sym, subst}
+use Rattle.std.specs.Prelude.{slice_range, None, Some}
 use Rattle.block_tables.specs.Members.{IsFirstOf}
-use Rattle.block_tables.proofs.Ranks.{none_first, is_first, within_bound}
+use Rattle.block_tables.proofs.Marks.{no_group, not_empty, least}
 use Rattle.block_tables.proofs.number_set.NumberSet.first.Goals as goal
 
-pub overflow_cast-result : goal.overflow_cast-result
-overflow_cast-result c =
-    let within : c.greatest-greatest.result ≤ c.self.inside.bound =
-    within_bound c.self.inside.ranks c.self.inside.bound c.greatest-greatest.result c.self.invariant.1 c.self.invariant.0
-    c.greatest-greatest.ensures (omega (arith, c.if-greatest-eq0.false)) in
-    omega (arith, within, c.self.invariant.2)
+pub returns-in_err-group : goal.returns-in_err-group
+returns-in_err-group c =
+    subst (IsFirstOf c.args.self.now) (sym c.from_residual.ensures)
+    (subst (λ xs. IsFirstOf xs None) c.self.view_is
+    (no_group c.self.inside.groups.items c.self.inside.members.items c.self.invariant
+    (subst (λ xs. IsFirstOf xs None) c.deref.ensures.value c.in_err-group.ensures)))
 
-pub overflow_sub-result : goal.overflow_sub-result
-overflow_sub-result c =
-    within_bound c.self.inside.ranks c.self.inside.bound c.greatest-greatest.result c.self.invariant.1 c.self.invariant.0
-    c.greatest-greatest.ensures (omega (arith, c.if-greatest-eq0.false))
+pub returns-in_err-place : goal.returns-in_err-place
+returns-in_err-place c =
+    let group = subst (λ xs. IsFirstOf xs (Some c.in_ok-group.group)) c.deref.ensures.value c.in_ok-group.ensures in
+    absurd (not_empty c.self.inside.groups.items c.self.inside.members.items c.in_ok-group.group c.self.invariant group.0 group.1
+    (subst (λ xs. IsFirstOf (slice_range xs (c.in_ok-group.group * 64) (c.in_ok-group.group * 64 + 64)) None) c.deref-2.ensures.value
+    c.in_err-place.ensures))
 
-pub returns-then-greatest-eq0 : goal.returns-then-greatest-eq0
-returns-then-greatest-eq0 c =
-    subst (λ xs. IsFirstOf xs None) c.self.view_is
-    (none_first c.self.inside.ranks (sym c.greatest-greatest.ensures ∙ c.if-greatest-eq0.true))
-
-pub returns-else-greatest-eq0 : goal.returns-else-greatest-eq0
-returns-else-greatest-eq0 c =
-    subst (λ xs. IsFirstOf xs (Some (c.self.inside.bound - c.greatest-greatest.result))) c.self.view_is
-    (is_first c.self.inside.ranks c.self.inside.bound c.greatest-greatest.result c.self.invariant.1 c.self.invariant.0
-    c.greatest-greatest.ensures (omega (arith, c.if-greatest-eq0.false)))
+pub returns : goal.returns
+returns c =
+    subst (λ xs. IsFirstOf xs (Some (c.in_ok-group.group * 64 + c.in_ok-place.place))) c.self.view_is
+    (least c.self.inside.groups.items c.self.inside.members.items c.in_ok-group.group c.in_ok-place.place c.self.invariant
+    (subst (λ xs. IsFirstOf xs (Some c.in_ok-group.group)) c.deref.ensures.value c.in_ok-group.ensures)
+    (subst (λ xs. IsFirstOf (slice_range xs (c.in_ok-group.group * 64) (c.in_ok-group.group * 64 + 64)) (Some c.in_ok-place.place))
+    c.deref-2.ensures.value c.in_ok-place.ensures))
