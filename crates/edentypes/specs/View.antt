@@ -51,7 +51,7 @@ abbrev pub rest_of : Edentype → Rest → Meant
 rest_of t (rest.Cell stage) = of_native (in_cell (stage_of stage))
 rest_of t (rest.Directory stage) = of_native (directories.stage_of stage)
 rest_of t (rest.Stream stage) = of_native (streams.stage_of stage)
-rest_of t (rest.Declared left) = of_declared (left_in t left)
+rest_of t (rest.Declared left) = of_declared (left_in t left.value)
 
 -- what a turn came to
 abbrev pub turned_of : List Datum → Meant → Effect → Turned

@@ -22,6 +22,7 @@ fn declared_processes(alloc: Global, program: &Program) -> Result<Vec<Rest>, All
     let mut left = epl_run::processes(alloc, program)?;
     let mut found = Vec::with_capacity(alloc, left.len())?;
     while let Some(rest) = left.pop() {
+        let rest = Box::new(alloc, rest)?;
         found.insert(0, Rest::Declared { rest })?;
     }
     Ok(found)
@@ -81,7 +82,7 @@ fn declared_begin(
     ensures { IfOk result (λ rest. rest_of (declared_type (type_tree program.now)) rest
         ≡ meaning.begin (declared_type (type_tree program.now)) operation.now args.now) }
 {
-    let rest = epl_run::begin(alloc, program, operation, args)?;
+    let rest = Box::new(alloc, epl_run::begin(alloc, program, operation, args)?)?;
     Ok(Rest::Declared { rest })
 }
 

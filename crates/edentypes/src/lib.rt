@@ -35,13 +35,14 @@ pub struct Kind {
     pub place: usize,
 }
 
-/// What is left to do of a process: of a native type, or of a declared one.
+/// What is left to do of a process: of a native type, or of a declared one. That of a declared one is ten times as long as
+/// that of a native one, and stands in a box, so that processes of native types are moved cheaply.
 #[derive(Drop)]
 pub enum Rest {
     Cell { stage: CellStage },
     Directory { stage: directory_eject::Stage },
     Stream { stage: transput::Stage },
-    Declared { rest: epl_run::Rest },
+    Declared { rest: Box<epl_run::Rest> },
 }
 
 /// The type of this name. None exactly where the script has none.

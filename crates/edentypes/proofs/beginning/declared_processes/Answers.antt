@@ -1,10 +1,26 @@
-use Rattle.std.proofs.Common.{◌≡◌, length, arith}
-use Rattle.epl_syntax.specs.Tree.{type_tree}
-use Rattle.edentypes.proofs.Begun.{begun_are, rest_found}
+use Rattle.std.proofs.Common.{◌≡◌, ◌∷◌, ◌++◌, List, length, map, sym, ap, ◌∙◌, arith}
+use Rattle.epl_syntax.specs.Edentype.{declared as declared_type}
+use Rattle.epl_syntax.specs.Meaning.{Rest as Meant, of_declared}
+use Rattle.epl_syntax.specs.Tree.{TypeTree, type_tree}
+use Rattle.epl_run.specs.Blocks.{left_of}
+use Rattle.epl_run.specs.declared.rest.Rest.{Rest as LeftToDo}
+use Rattle.edentypes.specs.View.{rest_of}
+use Rattle.edentypes.proofs.Begun.{begun_are, meant_of, rest_found, one_found}
 use Rattle.edentypes.proofs.beginning.declared_processes.Goals as goal
+
+pub loop-rest-preserved : goal.loop-rest-preserved
+loop-rest-preserved c =
+    let t : TypeTree = type_tree c.args.program.now in
+    let found : List Meant = map (rest_of (declared_type t)) c.loop-rest.found.items in
+    let left : List LeftToDo = c.pop.new.self.items in
+    ap (λ l. meant_of t left ++ map (rest_of (declared_type t)) l) c.in_ok-insert.ensures.items
+    ∙ ap (λ r. meant_of t left ++ of_declared (left_of t r) ∷ found) c.in_ok-rest.ensures.ok
+    ∙ one_found t left c.in-Some.rest found (meant_of t c.in_ok-left.left.items)
+    (ap (λ l. meant_of t l ++ found) (sym c.in-Some.ensures.items) ∙ c.loop-rest.invariant)
 
 pub returns : goal.returns
 returns c =
     let none : length c.loop-rest.left.items ≡ 0 = grind (arith, c.in_default.ensures.cases.0, c.loop-rest.left.ok) in
-    begun_are (type_tree c.args.program.now) c.in_ok-left.left.items c.loop-rest.found.items c.in_ok-left.ensures
-    (rest_found c.loop-rest.left.items c.loop-rest.found.items c.in_ok-left.left.items none c.loop-rest.invariant)
+    rest_found (type_tree c.args.program.now) c.loop-rest.left.items
+    (map (rest_of (declared_type (type_tree c.args.program.now))) c.loop-rest.found.items) c.in_ok-left.left.items none c.loop-rest.invariant
+    ∙ begun_are (type_tree c.args.program.now) c.in_ok-left.left.items c.in_ok-left.ensures
