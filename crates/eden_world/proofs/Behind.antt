@@ -1,5 +1,5 @@
 -- Keys that the last one is past.
-use Rattle.std.proofs.Common.{◌≡◌, ◌≤◌, ◌<◌, ℕ, Bool, false, List, [], ◌∷◌, ◌++◌, map, Option, None, Some, refl, sym, ◌∙◌, ap, subst, arith}
+use Rattle.std.proofs.Common.{◌≡◌, ◌≤◌, ℕ, Bool, false, List, [], ◌∷◌, map, Option, None, Some, refl, ◌∙◌, ap, arith}
 use Rattle.std.specs.List.{AllByRecursion, filter, find}
 use Rattle.std.specs.Prelude.{is_some}
 use Rattle.eden_model.specs.Map.{with_item, or_else}
@@ -9,9 +9,10 @@ use Rattle.journal.specs.declared.event.Key.{Key}
 use Rattle.journal.specs.World.{World, Node, node_at, site_of}
 use Rattle.journal.specs.Enabled.{delivery, deliveries, is_past, node_keys, stations}
 use Rattle.runs.specs.Reached.{IsReached}
-use Rattle.eden_world.specs.Listed.{keys_from, node_keys_at, keys_at}
+use Rattle.eden_world.specs.Worlds.{eight}
+use Rattle.eden_world.specs.Listed.{nine, keys_from, mail_keys, node_keys_at, keys_at}
 use Rattle.eden_world.proofs.EnabledKeys.{IsAt, node-keys}
-use Rattle.eden_world.proofs.KeyLists.{find-append}
+use Rattle.eden_world.proofs.KeyLists.{find-append, next-from}
 
 -- where none passes nothing is found
 none-by : {X : Type 0} (Q : X → Type 0) (P : X → Bool) (xs : List X) → ((x : X) → Q x → P x ≡ false) → AllByRecursion Q xs
@@ -27,6 +28,22 @@ none-from P to (n ∷ ns) fails = rw (fails n) (none-from P to ns fails)
 pub no-delivery : (last : Option Key) (m : Mail) (to : ℕ) (froms : List ℕ) → ((from : ℕ) → is_past last (delivery to from) ≡ false)
     → find (is_past last) (keys_from m to froms) ≡ None
 no-delivery last m to froms fails = none-from (is_past last) to (filter (λ from. is_waiting from to m) froms) fails
+
+none-waiting : (P : Key → Bool) (m : Mail) (to : ℕ) (froms : List ℕ) → ((from : ℕ) → from ≤ 8 → is_waiting from to m ≡ false)
+    → AllByRecursion (λ n. n ≤ 8) froms → find P (keys_from m to froms) ≡ None
+none-waiting P m to [] none each = refl
+none-waiting P m to (n ∷ ns) none each = next-from P m to n ns ∙ rw (none n each.0) (none-waiting P m to ns none each.1)
+
+-- no delivery at a station to which no message is on its way
+pub no-mail : (P : Key → Bool) (m : Mail) (to : ℕ) → ((from : ℕ) → from ≤ 8 → is_waiting from to m ≡ false)
+    → find P (mail_keys m to) ≡ None
+no-mail P m to none = none-waiting P m to nine none within
+  where
+    behind : AllByRecursion (λ n. n ≤ 8) eight
+    behind = (omega arith, (omega arith, (omega arith, (omega arith, (omega arith, (omega arith, (omega arith, (omega arith, tt))))))))
+
+    within : AllByRecursion (λ n. n ≤ 8) nine
+    within = (omega arith, behind)
 
 -- no key of a station
 pub no-key : (last : Option Key) (w : World) (n : ℕ) → IsReached w → ((k : Key) → k.station ≡ n → is_past last k ≡ false)

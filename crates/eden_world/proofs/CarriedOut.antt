@@ -24,7 +24,7 @@ use Rattle.journal.specs.declared.command.Ref.{Ref}
 use Rattle.journal.specs.declared.event.Entry.{Entry}
 use Rattle.journal.specs.declared.event.Event.{Event}
 use Rattle.journal.specs.declared.event.Event.TheVariants as event
-use Rattle.journal.specs.Commands.{AllowsCommand, asked, open_names, ready_call}
+use Rattle.journal.specs.Commands.{AllowsCommand, open_names, ready_call}
 use Rattle.journal.specs.References.{meaning_of, cap_at}
 use Rattle.journal.specs.Run.{lookup_args}
 use Rattle.journal.specs.Step.{after_command}

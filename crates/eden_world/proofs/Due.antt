@@ -1,5 +1,5 @@
 -- A key that is enabled in a world has its turn in hand.
-use Rattle.std.proofs.Common.{◌≡◌, ℕ, ◌≤◌, Bool, true, false, cond, List, [], ◌∷◌, ◌++◌, map, Option, None, Some, refl, sym, ◌∙◌, ap, subst}
+use Rattle.std.proofs.Common.{◌≡◌, ℕ, ◌≤◌, Bool, true, false, List, [], ◌∷◌, ◌++◌, map, Option, None, Some, refl, sym, ◌∙◌, subst}
 use Rattle.std.proofs.Common.{arith}
 use Rattle.std.specs.Prelude.{IfSome}
 use Rattle.std.specs.List.{AllByRecursion, Contains, flat_map}
@@ -11,7 +11,7 @@ use Rattle.passive_store.specs.Kept.{Layout}
 use Rattle.passive_store.specs.Seen.{Seen, DiskSeen}
 use Rattle.journal.specs.declared.event.Key.{Key}
 use Rattle.journal.specs.World.{World, Node, node_at, site_of}
-use Rattle.journal.specs.Enabled.{delivery, deliveries, enabled, following, item, node_keys}
+use Rattle.journal.specs.Enabled.{deliveries, enabled, following, item, node_keys}
 use Rattle.journal.proofs.EntryLists.{all-found}
 use Rattle.runs.specs.Reached.{IsReached}
 use Rattle.runs.proofs.Leading.{following-Contains, item-Contains}

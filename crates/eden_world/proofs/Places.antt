@@ -1,6 +1,6 @@
 -- What was taken from a place.
-use Rattle.std.proofs.Common.{◌≡◌, ◌≢◌, ℕ, zero, suc, ◌≤◌, ◌<◌, List, [], ◌∷◌, length, Option, None, Some, refl, ◌∙◌, arith}
-use Rattle.std.specs.Prelude.{IsSome, is_some, slice_get, unwrap_or}
+use Rattle.std.proofs.Common.{◌≡◌, ◌≢◌, ℕ, zero, suc, ◌≤◌, ◌<◌, List, [], ◌∷◌, length, Option, None, Some, refl, arith}
+use Rattle.std.specs.Prelude.{IsSome, slice_get, unwrap_or}
 use Rattle.passive_store.specs.declared.store.Doubt.{Doubt}
 use Rattle.scheduled_node.specs.declared.ScheduledNode.{ScheduledNode}
 use Rattle.eden_world.specs.InHand.{place_at}

@@ -14,7 +14,7 @@ use Rattle.eden_world.specs.InHand.{place_at, seen_at, in_hand, IsWholeAt, AreWh
 use Rattle.eden_world.specs.Seated.{TakesPlace, KeepsRest, FitsTogether, AreSeated, instead}
 use Rattle.eden_world.specs.Steps.{TakesSeat}
 use Rattle.eden_world.specs.Turning.{Swaps}
-use Rattle.eden_world.specs.Worlds.{Seat, up}
+use Rattle.eden_world.specs.Worlds.{Seat}
 use Rattle.eden_world.specs.declared.seats.Seat.{Seat as Place}
 use Rattle.eden_world.specs.declared.seats.Seat.TheVariants as place
 use Rattle.eden_world.specs.declared.World.{World as Program}

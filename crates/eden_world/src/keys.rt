@@ -90,6 +90,9 @@ where
         if is_behind_mail(last, to) {
             return None;
         }
+        if !self.calls.may_have_mail(to) {
+            return None;
+        }
         for from in 0..STATIONS {
             let key = delivery(to, from);
             if self.calls.waiting(from, to) && is_past(last, key) {

@@ -1,6 +1,6 @@
 -- What the invariant needs, as calls and queues change.
-use Rattle.std.proofs.Common.{◌≡◌, ◌≢◌, ◌≤◌, ◌<◌, ℕ, zero, suc, ◌+◌, ◌-◌, ◌*◌, ◌==◌, Bool, true, false, cond, List, [], ◌∷◌, ◌++◌, map}
-use Rattle.std.proofs.Common.{length, get_or, replicate, None, Some, subst, refl, sym, ◌∙◌, ap, arith}
+use Rattle.std.proofs.Common.{◌≡◌, ◌≢◌, ◌≤◌, ◌<◌, ℕ, zero, suc, ◌+◌, ◌-◌, ◌*◌, ◌==◌, ◌||◌, Bool, true, false, cond, List, [], ◌∷◌, ◌++◌}
+use Rattle.std.proofs.Common.{map, length, get_or, replicate, None, Some, subst, refl, sym, ◌∙◌, ap, arith}
 use Rattle.std.specs.Prelude.{slice_get, slice_set, nat_le}
 use Rattle.std.specs.List.{All}
 use Rattle.std.proofs.lemmas.List.{length-replicate, length-set, length_push, get_or-set_same, get_or-set_other}
@@ -25,7 +25,7 @@ use Rattle.invocation.specs.Made.{Made, is_own}
 use Rattle.invocation.specs.declared.closing.Cause.{Cause}
 use Rattle.invocation.specs.Causes.{hits, ends, closed_by}
 use Rattle.invocation.specs.Mail.{IsGiven, is_open, target_of, number_of, spent, over, received, closed_if, let_go, refused_at_once}
-use Rattle.invocation.specs.Whole.{IsWhole, IsIndex, IsBetween, AllGiven, is_live}
+use Rattle.invocation.specs.Whole.{IsWhole, IsIndex, IsBetween, IsMailNoted, AllGiven, is_live}
 use Rattle.invocation.proofs.Numbers.{length-change}
 use Rattle.invocation.proofs.Index.{index-change, index-live, index-dead, over-falls, spent-falls}
 use Rattle.invocation.proofs.Own.{Notes, made-noted, made-given_up, made-other, made-spent}
@@ -148,7 +148,110 @@ row-read [] i q e h = absurd (omega arith)
 row-read (r ∷ rows) zero q e h = sym e
 row-read (r ∷ rows) (suc i) q e h = row-read rows i q e (omega arith)
 
-pub none-whole : (made : Made) → made.entries ≡ [] → IsWhole [] [] made (replicate 81 [])
+-- 3. The note of the stations to which a message may be on its way
+
+-- a station without a note had none before another was noted
+unnoted-before : (mail : List Bool) (i j : ℕ) → get_or (slice_set mail i true) j false ≡ false → get_or mail j false ≡ false
+unnoted-before [] i j e = e
+unnoted-before (x ∷ xs) zero zero e = absurd (let bad : true ≡ false = e in cc)
+unnoted-before (x ∷ xs) zero (suc j) e = e
+unnoted-before (x ∷ xs) (suc i) zero e = e
+unnoted-before (x ∷ xs) (suc i) (suc j) e = unnoted-before xs i j e
+
+-- it is another station than one that is noted now
+unnoted-other : (mail : List Bool) (i j : ℕ) → i < length mail → get_or (slice_set mail i true) j false ≡ false → j ≢ i
+unnoted-other mail i j within e same =
+    let now : true ≡ false = sym (get_or-set_same mail i true false within)
+    ∙ ap (λ k. get_or (slice_set mail i true) k false) (sym same) ∙ e in cc
+
+-- a note that is written as it is
+set-read : (mail : List Bool) (i j : ℕ) (x : Bool) → get_or mail i false ≡ x → get_or (slice_set mail i x) j false ≡ false
+    → get_or mail j false ≡ false
+set-read [] i j x e off = off
+set-read (y ∷ ys) zero zero x e off = e ∙ off
+set-read (y ∷ ys) zero (suc j) x e off = off
+set-read (y ∷ ys) (suc i) zero x e off = off
+set-read (y ∷ ys) (suc i) (suc j) x e off = set-read ys i j x e off
+
+-- the queues to another station stay as they are
+row-other : (rows : Rows) (a b from to : ℕ) (ms : List Message) → b ≤ 8 → to ≤ 8 → to ≢ b
+    → row from to (with_row a b ms rows) ≡ row from to rows
+row-other rows a b from to ms b8 to8 apart =
+    let other : 9 * from + to ≢ 9 * a + b = (λ same. apart (omega (arith, same, b8, to8))) in
+    get_or-set_other rows (9 * a + b) (9 * from + to) ms [] other
+
+-- a station to which a message is sent is noted
+pub mail-sent : (mail : List Bool) (rows : Rows) → IsMailNoted mail rows → (a b : ℕ) → b ≤ 8 → (m : Message)
+    → IsMailNoted (slice_set mail b true) (sent_to a b m rows)
+mail-sent mail rows noted a b b8 m = record {
+  nine = length-set mail b true ∙ noted.nine;
+  none = λ to to8 off from from8.
+      row-other rows a b from to (row a b rows ++ m ∷ []) b8 to8 (unnoted-other mail b to (omega (arith, b8, noted.nine)) off)
+      ∙ noted.none to to8 (unnoted-before mail b to off) from from8;
+}
+
+-- a note is written as it was
+mail-kept : (mail : List Bool) (rows : Rows) → IsMailNoted mail rows → (b : ℕ) (x : Bool) → get_or mail b false ≡ x
+    → IsMailNoted (slice_set mail b x) rows
+mail-kept mail rows noted b x is = record {
+  nine = length-set mail b x ∙ noted.nine;
+  none = λ to to8 off from from8. noted.none to to8 (set-read mail b to x is off) from from8;
+}
+
+-- a queue that is empty stays so as one is emptied
+none-emptied : (rows : Rows) (i j : ℕ) → get_or rows j [] ≡ [] → get_or (slice_set rows i []) j [] ≡ []
+none-emptied [] i j e = e
+none-emptied (r ∷ rows) zero zero e = refl
+none-emptied (r ∷ rows) zero (suc j) e = e
+none-emptied (r ∷ rows) (suc i) zero e = e
+none-emptied (r ∷ rows) (suc i) (suc j) e = none-emptied rows i j e
+
+pub mail-cut : (mail : List Bool) (rows : Rows) → IsMailNoted mail rows → (a b : ℕ) → IsMailNoted mail (cut_between a b rows)
+mail-cut mail rows noted a b = record {
+  nine = noted.nine;
+  none = λ to to8 off from from8. go (a == b) from to (noted.none to to8 off from from8);
+}
+  where
+    go : (x : Bool) (from to : ℕ) → row from to rows ≡ []
+        → row from to (cond x rows (with_row b a [] (with_row a b [] rows))) ≡ []
+    go true from to is = is
+    go false from to is = none-emptied (with_row a b [] rows) (9 * b + a) (9 * from + to)
+        (none-emptied rows (9 * a + b) (9 * from + to) is)
+
+none-cleared : (rows : Rows) (n k from to : ℕ) → row from to rows ≡ [] → row from to (cleared n k rows) ≡ []
+none-cleared rows n zero from to is = is
+none-cleared rows n (suc k) from to is =
+    none-emptied (with_row n k [] (cleared n k rows)) (9 * k + n) (9 * from + to)
+    (none-emptied (cleared n k rows) (9 * n + k) (9 * from + to) (none-cleared rows n k from to is))
+
+pub mail-cleared : (mail : List Bool) (rows : Rows) → IsMailNoted mail rows → (n k : ℕ) → IsMailNoted mail (cleared n k rows)
+mail-cleared mail rows noted n k = record {
+  nine = noted.nine;
+  none = λ to to8 off from from8. none-cleared rows n k from to (noted.none to to8 off from from8);
+}
+
+-- a message has left a queue to a station, whose note is made again
+pub mail-taken : (mail : List Bool) (rows : Rows) → IsMailNoted mail rows → (a b : ℕ) → b ≤ 8 → (ms : List Message) (any : Bool)
+    → (any ≡ false → (from : ℕ) → from ≤ 8 → row from b (with_row a b ms rows) ≡ [])
+    → IsMailNoted (slice_set mail b any) (with_row a b ms rows)
+mail-taken mail rows noted a b b8 ms any now = record {
+  nine = length-set mail b any ∙ noted.nine;
+  none = λ to to8 off from from8. go to to8 off from from8 (to == b) refl;
+}
+  where
+    go : (to : ℕ) → to ≤ 8 → get_or (slice_set mail b any) to false ≡ false → (from : ℕ) → from ≤ 8
+        → (x : Bool) → (to == b) ≡ x → row from to (with_row a b ms rows) ≡ []
+    go to to8 off from from8 true e =
+        let same : to ≡ b = grind arith in
+        let is : any ≡ false = sym (get_or-set_same mail b any false (omega (arith, noted.nine, b8)))
+        ∙ ap (λ k. get_or (slice_set mail b any) k false) (sym same) ∙ off in
+        ap (λ k. row from k (with_row a b ms rows)) same ∙ now is from from8
+    go to to8 off from from8 false e =
+        let other : to ≢ b = grind arith in
+        row-other rows a b from to ms b8 to8 other
+        ∙ noted.none to to8 (sym (get_or-set_other mail b to any false other) ∙ off) from from8
+
+pub none-whole : (made : Made) → made.entries ≡ [] → IsWhole [] [] made (replicate 9 false) (replicate 81 [])
 none-whole made empty = record {
   few = omega arith;
   index = record { live = refl; given = All-nil (IsGiven []) };
@@ -156,6 +259,7 @@ none-whole made empty = record {
   between = All-nil IsBetween;
   pairs = length-replicate {A = List Message} 81 [];
   given = λ i. rw (none 81 i) (given-none []);
+  mail = record { nine = length-replicate 9 false; none = λ to to8 off from from8. none 81 (9 * from + to) };
 }
   where
     none : (n i : ℕ) → get_or {A = List Message} (replicate n []) i [] ≡ []
@@ -163,18 +267,18 @@ none-whole made empty = record {
     none (suc n) zero = refl
     none (suc n) (suc i) = none n i
 
--- 3. A new call
+-- 4. A new call
 
 pub more-pairs : (rows : Rows) (i : ℕ) (ms : List Message) → length rows ≡ 81 → length (slice_set rows i ms) ≡ 81
 more-pairs rows i ms pairs = length-set rows i ms ∙ pairs
 
-module _ (cs : List Call) (ks : List ℕ) (made : Made) (rows : Rows) (w : IsWhole cs ks made rows) (few : length cs < 4294967295) (x : Call)
-    (between : IsBetween x) where
+module _ (cs : List Call) (ks : List ℕ) (made : Made) (mail : List Bool) (rows : Rows) (w : IsWhole cs ks made mail rows)
+    (few : length cs < 4294967295) (x : Call) (between : IsBetween x) where
   count : length (cs ++ x ∷ []) ≡ length cs + 1
   count = length_push cs x
 
   pub asked-open : (new : Made) → Notes x cs made new → is_open x ≡ true → (a b : ℕ) → a ≤ 8 → b ≤ 8
-      → IsWhole (cs ++ x ∷ []) (ks ++ (length cs + 1) ∷ []) new (sent_to a b (Request (length cs + 1)) rows)
+      → IsWhole (cs ++ x ∷ []) (ks ++ (length cs + 1) ∷ []) new (slice_set mail b true) (sent_to a b (Request (length cs + 1)) rows)
   asked-open new notes opens a b from to = record {
     few = omega (arith, count, few);
     index = index-live cs x ks (rw opens refl) w.index;
@@ -183,9 +287,10 @@ module _ (cs : List Call) (ks : List ℕ) (made : Made) (rows : Rows) (w : IsWho
     pairs = more-pairs rows (9 * a + b) (row a b rows ++ Request (length cs + 1) ∷ []) w.pairs;
     given = given-sent (cs ++ x ∷ []) rows (given-more cs (cs ++ x ∷ []) (omega (arith, count)) rows w.given) w.pairs a b from to
         (Request (length cs + 1)) (omega arith, omega (arith, count));
+    mail = mail-sent mail rows w.mail a b to (Request (length cs + 1));
   }
 
-  pub asked-closed : is_live x ≡ false → ((u : Uid) → is_own u x ≡ false) → IsWhole (cs ++ x ∷ []) ks made rows
+  pub asked-closed : is_live x ≡ false → ((u : Uid) → is_own u x ≡ false) → IsWhole (cs ++ x ∷ []) ks made mail rows
   asked-closed dead none = record {
     few = omega (arith, count, few);
     index = index-dead cs x ks dead w.index;
@@ -193,18 +298,20 @@ module _ (cs : List Call) (ks : List ℕ) (made : Made) (rows : Rows) (w : IsWho
     between = All-push IsBetween cs x w.between between;
     pairs = w.pairs;
     given = given-more cs (cs ++ x ∷ []) (omega (arith, count)) rows w.given;
+    mail = w.mail;
   }
 
 -- a call that was noted was not sent
-pub given_up-whole : (cs : List Call) (ks : List ℕ) (made : Made) (rows : Rows) → IsWhole cs ks made rows → (x : Call) (new : Made)
-    → Notes x cs made new → IsWhole cs ks new rows
-given_up-whole cs ks made rows w x new notes = record {
+pub given_up-whole : (cs : List Call) (ks : List ℕ) (made : Made) (mail : List Bool) (rows : Rows) → IsWhole cs ks made mail rows
+    → (x : Call) (new : Made) → Notes x cs made new → IsWhole cs ks new mail rows
+given_up-whole cs ks made mail rows w x new notes = record {
   few = w.few;
   index = w.index;
   made = made-given_up x cs made new notes w.made;
   between = w.between;
   pairs = w.pairs;
   given = w.given;
+  mail = w.mail;
 }
 
 -- a call that is not answered at once goes to a station that is reached
@@ -231,18 +338,21 @@ all-item {X} P xs (suc k) x all is = go xs k all is
     go (y ∷ ys) zero each at = let same : y ≡ x = cc in subst P same (All-head P y ys each)
     go (y ∷ ys) (suc i) each at = go ys i (All-tail P y ys each) at
 
--- 4. A reply
+-- 5. A reply
 
-pub answered-whole : (cs : List Call) (ks : List ℕ) (made : Made) (rows : Rows) → IsWhole cs ks made rows
+pub answered-whole : (cs : List Call) (ks : List ℕ) (made : Made) (mail : List Bool) (rows : Rows) → IsWhole cs ks made mail rows
     → (k : ℕ) (x : Call) → item_in k cs ≡ Some x → IsGiven cs k → (m : Message) → number_of m ≡ k
-    → IsWhole (change (k - 1) spent cs) ks made (cond (is_open x) (sent_to (target_of x) (asking_station x.asker) m rows) rows)
-answered-whole cs ks made rows w k x is given m of = record {
+    → IsWhole (change (k - 1) spent cs) ks made
+    (slice_set mail (asking_station x.asker) (get_or mail (asking_station x.asker) false || is_open x))
+    (cond (is_open x) (sent_to (target_of x) (asking_station x.asker) m rows) rows)
+answered-whole cs ks made mail rows w k x is given m of = record {
   few = omega (arith, length-change spent cs (k - 1), w.few);
   index = index-change spent spent-falls (k - 1) cs ks w.index;
   made = made-spent (k - 1) cs made w.made;
   between = between-spent (k - 1) cs w.between;
   pairs = pairs (is_open x);
   given = all (is_open x) refl;
+  mail = noted (get_or mail (asking_station x.asker) false) (is_open x) refl;
 }
   where
     between : IsBetween x
@@ -261,3 +371,11 @@ answered-whole cs ks made rows w k x is given m of = record {
     all true e = given-sent (change (k - 1) spent cs) rows more w.pairs (target_of x) (asking_station x.asker) (between.1 e) between.0 m
         (omega (arith, of, given.0), omega (arith, of, given.1, length-change spent cs (k - 1)))
     all false e = more
+
+    noted : (b opens : Bool) → get_or mail (asking_station x.asker) false ≡ b
+        → IsMailNoted (slice_set mail (asking_station x.asker) (b || opens))
+        (cond opens (sent_to (target_of x) (asking_station x.asker) m rows) rows)
+    noted true true e = mail-sent mail rows w.mail (target_of x) (asking_station x.asker) between.0 m
+    noted false true e = mail-sent mail rows w.mail (target_of x) (asking_station x.asker) between.0 m
+    noted true false e = mail-kept mail rows w.mail (asking_station x.asker) true e
+    noted false false e = mail-kept mail rows w.mail (asking_station x.asker) false e

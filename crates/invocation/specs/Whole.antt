@@ -1,11 +1,12 @@
 -- What holds of all calls: an index of those that something may still become of, a note of each Eject's open calls, stations within 0 to 8,
--- a queue for each pair of stations, and in them numbers that were given.
-use Rattle.std.specs.Prelude.{◌≡◌, ℕ, ◌≤◌, ◌||◌, ◌==◌, Bool, true, not, List, length, slice_index_or, []}
+-- a queue for each pair of stations, in them numbers that were given, and a note of the stations to which a message may be on its way.
+use Rattle.std.specs.Prelude.{◌≡◌, ℕ, ◌≤◌, ◌||◌, ◌==◌, Bool, true, false, not, List, length, slice_index_or, []}
 use Rattle.std.specs.List.{All, filter}
 use Rattle.eden_model.specs.Traffic.{asking_station}
 use Rattle.invocation.specs.declared.call.Call.{Call}
 use Rattle.invocation.specs.declared.call.Message.{Message}
 use Rattle.invocation.specs.Mail.{IsGiven, is_open, number_of, target_of}
+use Rattle.invocation.specs.Queues.{Rows, row}
 use Rattle.invocation.specs.Numbers.{numbers_where, passes_at}
 use Rattle.invocation.specs.Made.{Made, AreMade}
 
@@ -26,11 +27,17 @@ pub record IsIndex (calls : List Call) (index : List ℕ) : Type 0 where
   pub live : filter (passes_at is_live calls) index ≡ numbers_where is_live 1 calls
   pub given : All (IsGiven calls) index
 
+-- each station has a note, and where that says no, no message is on its way to it
+pub record IsMailNoted (stations : List Bool) (rows : Rows) : Type 0 where
+  pub nine : length stations ≡ 9
+  pub none : (to : ℕ) → to ≤ 8 → slice_index_or stations to false ≡ false → (from : ℕ) → from ≤ 8 → row from to rows ≡ []
+
 -- what holds of all calls together
-pub record IsWhole (calls : List Call) (numbers : List ℕ) (noted : Made) (queues : List (List Message)) : Type 0 where
+pub record IsWhole (calls : List Call) (numbers : List ℕ) (noted : Made) (stations : List Bool) (queues : Rows) : Type 0 where
   pub few : length calls ≤ 4294967295
   pub index : IsIndex calls numbers
   pub made : AreMade calls noted
   pub between : All IsBetween calls
   pub pairs : length queues ≡ 81
   pub given : (i : ℕ) → AllGiven calls (slice_index_or queues i [])
+  pub mail : IsMailNoted stations queues

@@ -11,7 +11,7 @@ mod call;
 mod closing;
 mod queues;
 
-ghost use Rattle.std.specs.Prelude.{◌≡◌, ◌≤◌, ◌<◌, ◌+◌, ◌-◌, ◌∷◌, [], false, not, List, IfOk, MatchResult, length, option_copied};
+ghost use Rattle.std.specs.Prelude.{◌≡◌, ◌≤◌, ◌<◌, ◌+◌, ◌-◌, ◌∷◌, [], ℕ, false, not, List, IfOk, MatchResult, length, option_copied};
 ghost use Rattle.eden_model.specs.Lines.{has, Distinct};
 ghost use Rattle.eden_model.specs.Traffic.{Traffic, asking_station, with_call, replied, without_link, without_node};
 ghost use Rattle.eden_model.specs.Traffic.{broken_by_link, broken_by_node, numbers_of};
@@ -26,7 +26,8 @@ use crate::askers::{close_own, note};
 use crate::call::{new_call, station};
 use crate::closing::{broken_numbers, call_at, close_all, receive};
 use crate::queues::{
-    clear_at, clear_between, empty_queues, let_go_between, let_go_from, pair, send, send_where,
+    clear_at, clear_between, empty_queues, is_any_to, let_go_between, let_go_from, pair, send,
+    send_where,
 };
 pub use call::{Asked, Call, Delivery, Message};
 use capability::{CallNumbers, Cap, MESSAGE_LIMIT, Seq, Uid};
@@ -51,6 +52,8 @@ pub struct Calls {
     // The numbers of the open calls of each Eject that asked, ascending, and perhaps of some that
     // closed since it last asked: so what closes its calls looks at no others.
     made: BTreeMap<Uid, Vec<u32>>,
+    // Whether a message may be on its way to each station: where it says no, none is.
+    mail: [bool; 9],
     queues: Vec<Queue>,
 }
 
@@ -68,7 +71,7 @@ impl Model for Calls {
 
     ghost view = { λ c. record { calls = c.calls.items; queues = c.queues.items } };
 
-    ghost invariant = { λ c. IsWhole c.calls.items c.index.items c.made c.queues.items };
+    ghost invariant = { λ c. IsWhole c.calls.items c.index.items c.made c.mail c.queues.items };
 }
 
 impl Calls {
@@ -83,6 +86,7 @@ impl Calls {
             calls: Vec::new(alloc),
             index: Vec::new(alloc),
             made: BTreeMap::new(alloc),
+            mail: [false; 9],
             queues,
         })
     }
@@ -94,6 +98,14 @@ impl Calls {
         ensures { result ≡ is_waiting from to self.now }
     {
         self.queues[pair(from, to)].head().is_some()
+    }
+
+    /// Whether a message may be on its way to a station. Where it answers no, none is.
+    pub fn may_have_mail(&self, to: u8) -> bool
+        requires { to ≤ 8 }
+        ensures none { result ≡ false → (from : ℕ) → from ≤ 8 → is_waiting from to self.now ≡ false }
+    {
+        self.mail[to as usize]
     }
 
     /// The number of the call whose message is delivered next from one station to the other.
@@ -144,6 +156,7 @@ impl Calls {
             None => {
                 note(self.alloc, &self.calls, &mut self.made, &asker, call)?;
                 send(&mut self.queues, from, to, Message::Request { call })?;
+                self.mail[to as usize] = true;
                 self.index.push_reserved(call);
             }
             Some(_) => {}
@@ -186,6 +199,7 @@ impl Calls {
             results,
         };
         send_where(open, &mut self.queues, from, to, message)?;
+        self.mail[to as usize] |= open;
         let asked = &mut self.calls[(call - 1) as usize];
         asked.spend(self.alloc);
         Ok(open)
@@ -247,7 +261,10 @@ impl Calls {
     {
         let queue = &mut self.queues[pair(from, to)];
         match queue.take() {
-            Some(message) => Some(receive(self.alloc, &mut self.calls, message)),
+            Some(message) => {
+                self.mail[to as usize] = is_any_to(&self.queues, to);
+                Some(receive(self.alloc, &mut self.calls, message))
+            }
             None => None,
         }
     }

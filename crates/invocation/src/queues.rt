@@ -1,8 +1,8 @@
 //! The queues of messages: one for each ordered pair of stations, and one from each to itself.
-ghost use Rattle.std.specs.Prelude.{◌≡◌, ◌≤◌, ◌<◌, ◌+◌, ◌*◌, ◌++◌, ◌∷◌, [], IfOk, MatchResult, replicate, ℕ, true, cond, length};
-ghost use Rattle.std.specs.Prelude.{slice_index_or, option_copied};
+ghost use Rattle.std.specs.Prelude.{◌≡◌, ◌≤◌, ◌<◌, ◌+◌, ◌*◌, ◌++◌, ◌∷◌, [], IfOk, MatchResult, replicate, ℕ, true, false, cond};
+ghost use Rattle.std.specs.Prelude.{length, slice_index_or, option_copied};
 ghost use Rattle.eden_model.specs.Map.{first, rest};
-ghost use Rattle.invocation.specs.Queues.{sent_to, cut_between, cleared, on_way, sent_from};
+ghost use Rattle.invocation.specs.Queues.{row, sent_to, cut_between, cleared, on_way, sent_from};
 ghost use Rattle.invocation.specs.Mail.{let_go};
 ghost use Rattle.invocation.specs.Whole.{AllGiven};
 
@@ -105,6 +105,20 @@ pub fn empty_queues(alloc: Global) -> Result<Vec<Queue>, AllocError>
         queues.push(Queue::new(alloc))?;
     }
     Ok(queues)
+}
+
+/// Whether a message from any station is on its way to this one.
+pub fn is_any_to(queues: &[Queue], to: u8) -> bool
+    requires to { to ≤ 8 }
+    requires pairs { length queues.now ≡ 81 }
+    ensures none { result ≡ false → (from : ℕ) → from ≤ 8 → row from to queues.now ≡ [] }
+{
+    for from in 0..9u8 {
+        if queues[pair(from, to)].head().is_some() {
+            return true;
+        }
+    }
+    false
 }
 
 /// The message is the last of the queue from one station to the other.

@@ -1,4 +1,4 @@
-use Rattle.std.proofs.Common.{◌≡◌, ◌≤◌, sym, ◌∙◌, arith, refl}
+use Rattle.std.proofs.Common.{◌≤◌, sym, ◌∙◌, arith, refl}
 use Rattle.eden_world.proofs.World.has_turn.Goals as goal
 
 pub returns-then-key-gt0 : goal.returns-then-key-gt0

@@ -1,5 +1,5 @@
 use Rattle.std.proofs.Common.{◌∙◌}
-use Rattle.journal.specs.Enabled.{enabled, following}
+use Rattle.journal.specs.Enabled.{enabled}
 use Rattle.eden_world.proofs.Due.{followed-there}
 use Rattle.eden_world.proofs.World.key_following.Goals as goal
 

@@ -2,7 +2,7 @@ use Rattle.std.proofs.Common.{◌≡◌, Some, false, ◌&&◌, refl, sym, ◌�
 use Rattle.journal.specs.Enabled.{is_past, delivery}
 use Rattle.invocation.specs.Mail.{is_waiting}
 use Rattle.eden_world.specs.Listed.{nine}
-use Rattle.eden_world.proofs.Behind.{no-delivery}
+use Rattle.eden_world.proofs.Behind.{no-delivery, no-mail}
 use Rattle.eden_world.proofs.KeySteps.{delivery-found, delivery-none, deliveries-end, and-left, and-right}
 use Rattle.eden_world.proofs.World.next_delivery.Goals as goal
 use Rattle.eden_world.proofs.World.next_delivery.Goals.{else-waiting-via-then-waiting+else-is_past, else-waiting-via-else-waiting}
@@ -10,6 +10,10 @@ use Rattle.eden_world.proofs.World.next_delivery.Goals.{else-waiting-via-then-wa
 pub returns-then-is_behind_mail : goal.returns-then-is_behind_mail
 returns-then-is_behind_mail g c = sym (no-delivery c.args.last c.args.self.now.calls c.args.to nine
     (c.is_behind_mail.ensures c.if-is_behind_mail.true))
+
+pub returns-then-not-may_have_mail : goal.returns-then-not-may_have_mail
+returns-then-not-may_have_mail g c = sym (no-mail (is_past c.args.last) c.args.self.now.calls c.args.to
+    (c.may_have_mail.ensures.none c.if-not-may_have_mail.true))
 
 pub loop-from-init : goal.loop-from-init
 loop-from-init g c = refl

@@ -1,4 +1,5 @@
 use Rattle.std.proofs.Common.{◌≡◌, ◌<◌, ◌+◌, ◌++◌, ◌∷◌, [], Bool, true, false, length, is_some, refl, sym, ◌∙◌, ap, arith}
+use Rattle.std.specs.Prelude.{slice_set}
 use Rattle.eden_model.specs.Traffic.{asking_station}
 use Rattle.invocation.specs.declared.call.Call.{Call}
 use Rattle.invocation.specs.declared.call.Message.TheVariants.{Request}
@@ -27,7 +28,7 @@ invariant_of-self-in_err-send-in-None c =
     ∙ ap (λ cs. noted_of u (asked_by u x) cs (c.len.result + 1) a.made) (c.deref.ensures.value ∙ c.reserve.ensures.items)
     ∙ ap (λ k. noted_of u (asked_by u x) a.calls.items (k + 1) a.made) n in
     rw (c.in_err-send-in-None.ensures, c.reserve.ensures.items, c.reserve-2.ensures.items)
-    (given_up-whole a.calls.items a.index.items a.made a.queues.items c.self.invariant x c.note.new.made notes)
+    (given_up-whole a.calls.items a.index.items a.made a.mail a.queues.items c.self.invariant x c.note.new.made notes)
 
 pub invariant_of-self-2 : goal.invariant_of-self-2
 invariant_of-self-2 c =
@@ -56,8 +57,10 @@ invariant_of-self-2 c =
           λ u. ap (λ (s : Inside). made_by u s.made) w.self-inside-is ∙ w.in_ok-note-in-None.ensures.noted u
           ∙ ap (λ cs. noted_of u (asked_by u (x false)) cs (c.len.result + 1) a.made) (w.deref.ensures.value ∙ c.reserve.ensures.items)
           ∙ ap (λ k. noted_of u (asked_by u (x false)) a.calls.items (k + 1) a.made) n in
-          rw (calls, opens, queues) (asked-open a.calls.items a.index.items a.made a.queues.items c.self.invariant few (x false)
-          (from, λ e. to) _ notes refl (asking_station c.args.asker) c.args.target.uid.node from to)
+          let mail : c.match-at_once.self-inside.mail ≡ slice_set a.mail c.args.target.uid.node true =
+          ap (λ (s : Inside). s.mail) w.self-inside-is in
+          rw (calls, opens, queues, mail) (asked-open a.calls.items a.index.items a.made a.mail a.queues.items c.self.invariant few
+          (x false) (from, λ e. to) _ notes refl (asking_station c.args.asker) c.args.target.uid.node from to)
       | in-Some w ↦
           let refused : c.is_some.result ≡ true = c.is_some.ensures ∙ ap is_some w.in-Some.is in
           let calls : c.push_reserved-2.new.self.items ≡ a.calls.items ++ x true ∷ [] =
@@ -68,7 +71,9 @@ invariant_of-self-2 c =
           ∙ c.reserve-2.ensures.items in
           let queues : c.match-at_once.self-inside.queues.items ≡ a.queues.items = ap (λ (s : Inside). s.queues.items) w.self-inside-is in
           let made : c.match-at_once.self-inside.made ≡ a.made = ap (λ (s : Inside). s.made) w.self-inside-is in
-          rw (calls, opens, queues, made) (asked-closed a.calls.items a.index.items a.made a.queues.items c.self.invariant few (x true)
+          let mail : c.match-at_once.self-inside.mail ≡ a.mail = ap (λ (s : Inside). s.mail) w.self-inside-is in
+          rw (calls, opens, queues, made, mail) (asked-closed a.calls.items a.index.items a.made a.mail a.queues.items c.self.invariant few
+          (x true)
           (from, λ e. let bad : false ≡ true = e in cc) refl (λ u. refl))
     ]
 

@@ -7,7 +7,7 @@ use Rattle.invocation.specs.Causes.{closed_by}
 use Rattle.invocation.specs.Queues.{cut_between, on_way}
 use Rattle.invocation.specs.Whole.{IsIndex}
 use Rattle.invocation.proofs.Index.{index-broken, index-let_go, length-let_go}
-use Rattle.invocation.proofs.Mails.{between-after, between-let_go, length-cut, given-more, given-cut}
+use Rattle.invocation.proofs.Mails.{between-after, between-let_go, length-cut, given-more, given-cut, mail-cut}
 use Rattle.invocation.proofs.Breaks.{cut-carried, cut-told}
 use Rattle.invocation.proofs.Own.{made-closing, made-let_go}
 use Rattle.invocation.proofs.Calls.break_link.Goals as goal
@@ -44,6 +44,7 @@ invariant_of-self c =
           (cut_between c.args.a c.args.b a.queues.items)
           (given-cut a.calls.items a.queues.items c.self.invariant.given c.self.invariant.pairs c.args.a c.args.b c.requires.from
           c.requires.to));
+      mail = rw c.clear_between.ensures (mail-cut a.mail a.queues.items c.self.invariant.mail c.args.a c.args.b);
     }
 
 pub returns-clause-cases : goal.returns-clause-cases

@@ -7,7 +7,7 @@ use Rattle.invocation.specs.Causes.{closed_by}
 use Rattle.invocation.specs.Queues.{cleared, sent_from}
 use Rattle.invocation.specs.Whole.{IsIndex}
 use Rattle.invocation.proofs.Index.{index-broken, index-let_go, length-let_go}
-use Rattle.invocation.proofs.Mails.{between-after, between-let_go, length-cleared, given-more, given-cleared}
+use Rattle.invocation.proofs.Mails.{between-after, between-let_go, length-cleared, given-more, given-cleared, mail-cleared}
 use Rattle.invocation.proofs.Breaks.{crash-carried, crash-told}
 use Rattle.invocation.proofs.Own.{made-closing, made-let_go}
 use Rattle.invocation.proofs.Calls.break_node.Goals as goal
@@ -43,6 +43,7 @@ invariant_of-self c =
           (cleared c.args.node 9 a.queues.items)
           (given-cleared a.calls.items a.queues.items c.self.invariant.given c.self.invariant.pairs c.args.node 9 c.requires
           (omega arith)));
+      mail = rw c.clear_at.ensures (mail-cleared a.mail a.queues.items c.self.invariant.mail c.args.node 9);
     }
 
 pub returns-clause-cases : goal.returns-clause-cases

@@ -1,11 +1,13 @@
-use Rattle.std.proofs.Common.{◌≡◌, ◌∷◌, [], get_or, ◌∙◌, arith}
+use Rattle.std.proofs.Common.{◌≡◌, ◌∷◌, [], get_or, sym, ◌∙◌, ap, arith}
 use Rattle.std.specs.Prelude.{slice_set}
 use Rattle.std.proofs.lemmas.List.{length-set}
 use Rattle.std.proofs.lemmas.List.Elements.{All-head, All-tail}
 use Rattle.eden_model.specs.Map.{rest}
 use Rattle.invocation.specs.Mail.{Mail, IsGiven, number_of, received}
+use Rattle.invocation.specs.Queues.{row, with_row}
 use Rattle.invocation.specs.Whole.{AllGiven}
 use Rattle.invocation.proofs.Mails.{between-received, index-received, length-received, given-more, given-with, first-rest, row-read}
+use Rattle.invocation.proofs.Mails.{mail-taken}
 use Rattle.invocation.proofs.Own.{made-received}
 use Rattle.invocation.proofs.Carried.{delivery-carried}
 use Rattle.invocation.proofs.Calls.deliver.Goals as goal
@@ -32,6 +34,8 @@ invariant_of-self c =
     let left : AllGiven a.calls.items c.take.new.self =
     rw c.take.ensures.rest (All-tail (λ x. IsGiven a.calls.items (number_of x)) m (rest q)
     (rw (first-rest q m c.in-Some.ensures.first) at all)) in
+    let now : c.deref.result.now ≡ with_row c.args.from c.args.to c.take.new.self a.queues.items =
+    c.deref.ensures.value ∙ ap (λ i. slice_set a.queues.items i c.take.new.self) c.pair.ensures.place in
     record {
       few = rw c.receive.ensures.calls (omega (arith, n, c.self.invariant.few));
       index = rw c.receive.ensures.calls (index-received m a.calls.items a.index.items c.self.invariant.index);
@@ -42,6 +46,9 @@ invariant_of-self c =
           (slice_set a.queues.items c.pair.result c.take.new.self)
           (given-with a.calls.items a.queues.items c.self.invariant.given c.pair.result c.take.new.self
           (omega (arith, c.pair.ensures.within, c.self.invariant.pairs)) left));
+      mail = rw c.pair.ensures.place
+          (mail-taken a.mail a.queues.items c.self.invariant.mail c.args.from c.args.to c.requires.to c.take.new.self
+          c.is_any_to.result (λ empty n n8. sym (ap (row n c.args.to) now) ∙ c.is_any_to.ensures.none empty n n8));
     }
 
 pub returns-in-Some-clause-model : goal.returns-in-Some-clause-model

@@ -22,6 +22,7 @@ invariant_of-self c =
       pairs = c.self.invariant.pairs;
       given = rw c.close_own.ensures.calls (given-more a.calls.items (map (closed_by (Lost c.args.uid)) a.calls.items)
           (omega (arith, n)) a.queues.items c.self.invariant.given);
+      mail = c.self.invariant.mail;
     }
 
 pub returns-clause-model : goal.returns-clause-model
