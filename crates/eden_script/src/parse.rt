@@ -19,6 +19,9 @@ use epl_syntax::Types;
 use journal::{Command, Commands, Script};
 use std::alloc::{AllocError, Global};
 
+/// Lines have more bytes on average, so that a list of so many commands seldom grows.
+const LINE: usize = 16;
+
 /// Adds the command or the type of a part.
 fn keep(commands: &mut Vec<Command>, types: &mut Types, said: Line) -> Result<(), AllocError>
     requires { KeepsRules types.old said }
@@ -69,7 +72,7 @@ pub fn parse_script(alloc: Global, bytes: &[u8]) -> Result<Script, ScriptRefusal
         names: Names::new(alloc),
         ended: false,
     };
-    let mut commands = Vec::new(alloc);
+    let mut commands = Vec::with_capacity(alloc, bytes.len() / LINE)?;
     let mut rest = bytes;
     let mut lines = 0;
     while !rest.is_empty() {
