@@ -13,8 +13,8 @@ use eden_io::write_all;
 use eden_shell::{Outcome, eden, host_dir, status};
 use file_disk::{OpenRefusal, open_disks};
 use std::alloc::AllocError;
-use std::env;
 use std::process::ExitCode;
+use std::{env, mem};
 use streams::{StdSink, StdSource};
 
 // The size of disks as they were made before, which a folder may have too.
@@ -42,7 +42,10 @@ fn run<D: Disk + Drop>(rt: &HostRuntime, words: &Vec<String>, disks: &mut Vec<D>
     let mut source = StdSource::new(rt.stdin());
     let mut sink = StdSink::new(rt.stdout());
     let report = eden(rt.alloc(), words, &mut source, &mut sink, disks);
-    status(&report.outcome)
+    let status = status(&report.outcome);
+    // (the program ends: the system takes its memory back as a whole)
+    mem::forget(report);
+    status
 }
 
 // Over the files of a folder; where they cannot be opened, with a line and a status of its own.
@@ -63,7 +66,11 @@ fn run_in(rt: &HostRuntime, words: &Vec<String>, folder: &str) -> u8 {
 // Over eight blank disks in memory.
 fn run_blank(rt: &HostRuntime, words: &Vec<String>) -> u8 {
     match blank_disks(rt.alloc()) {
-        Ok(mut disks) => run(rt, words, &mut disks),
+        Ok(mut disks) => {
+            let status = run(rt, words, &mut disks);
+            mem::forget(disks);
+            status
+        }
         Err(_) => status(&Outcome::OutOfMemory),
     }
 }
