@@ -7,7 +7,7 @@ fn scripts_are_those_of_their_numbers(rt: HostRuntime) -> Result<(), Fail> {
     let alloc = rt.alloc();
     let head =
         b"nodes 3\ncreate c1 1 Cell\ncreate c2 2 Cell\ncreate c3 3 Cell\ncreate c4 1 Cell\ncreate c5 2 Cell\ncreate c6 3 Cell\n";
-    let rows: [(u64, usize, &[u8], &[u8]); 4] = [
+    let rows: &[(u64, usize, &[u8], &[u8])] = &[
         (
             0,
             38608,
@@ -33,7 +33,7 @@ fn scripts_are_those_of_their_numbers(rt: HostRuntime) -> Result<(), Fail> {
             b"call q1999 c1.Set(762)\ncall q2000 c5.Set(453)\ngo 5000\nend\n",
         ),
     ];
-    for (number, length, first, last) in rows {
+    for &(number, length, first, last) in rows {
         let script = gen_script(alloc, number)?;
         assert_eq!(rt; script.len(), length);
         assert!(rt; script.starts_with(head));
