@@ -5,8 +5,6 @@ mod behind;
 mod index;
 mod lists;
 mod noting;
-#[cfg(test)]
-mod tests;
 
 ghost use Rattle.std.specs.Prelude.{◌≡◌, ◌↔◌, OnOk, IfSome, None, [], IsTrue, is_some};
 ghost use Rattle.std.specs.List.{find};

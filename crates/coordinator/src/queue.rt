@@ -79,11 +79,6 @@ impl Queue {
     }
 
     /// For how many numbers and for how many classes there is room now.
-    #[cfg(test)]
-    pub fn room(&self) -> (usize, usize) {
-        (self.calls.capacity(), self.classes.capacity())
-    }
-
     /// The numbers of the calls, in order.
     pub fn into_numbers(self) -> Vec<u32>
         ensures { result.items ≡ map (λ i. i.call) self }
