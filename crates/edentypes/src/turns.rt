@@ -1,18 +1,74 @@
 //! Turns of processes.
 ghost use Rattle.std.specs.Prelude.{◌≡◌, IfOk};
 ghost use Rattle.epl_syntax.specs.Edentype.{native as native_type, declared as declared_type};
+ghost use Rattle.epl_syntax.specs.Cell as cells;
 ghost use Rattle.epl_syntax.specs.Meaning as meaning;
+ghost use Rattle.epl_syntax.specs.Natives as natives;
 ghost use Rattle.epl_syntax.specs.Tree.{type_tree};
-ghost use Rattle.edentypes.specs.View.{kind_in, rest_of, turned_of};
+ghost use Rattle.epl_syntax.specs.declared.types.Native.TheVariants.{Directory};
+ghost use Rattle.directory_eject.specs.Stages as directories;
+ghost use Rattle.transput.specs.View as streams;
+ghost use Rattle.transput.specs.View.{native_of};
+ghost use Rattle.edentypes.specs.View.{kind_in, rest_of, turned_of, stage_of as cell_stage};
 
 use crate::form::{Form, form_at};
 use crate::held::Values;
 use crate::native::stream_of;
-use crate::{Kind, Rest, cell};
+use crate::{CellStage, Kind, Rest, cell};
 use capability::Uid;
 use epl_syntax::{Answer, Effect, Native, Program, Types};
 use std::alloc::{AllocError, Global};
 use std::mem::replace;
+use transput::Stream;
+
+/// A process of a Cell takes a turn.
+fn cell_turn(
+    alloc: Global,
+    vars: &mut Values,
+    stage: &mut CellStage,
+    answer: &Answer,
+) -> Result<Effect, AllocError>
+    ensures { IfOk result (λ effect. (vars.new, cell_stage stage.new, effect)
+        ≡ cells.cell_turn vars.old (cell_stage stage.old) answer.now) }
+{
+    let mut items = replace(vars, Values::none(alloc)).into_items(alloc)?;
+    let effect = cell::turn(alloc, &mut items, stage, answer)?;
+    *vars = Values::plain(items);
+    Ok(effect)
+}
+
+/// A process of a Directory takes a turn.
+fn directory_turn(
+    alloc: Global,
+    vars: &mut Values,
+    stage: &mut directory_eject::Stage,
+    answer: Answer,
+) -> Result<Effect, AllocError>
+    ensures { IfOk result (λ effect. (vars.new, directories.stage_of stage.new, effect)
+        ≡ natives.native_turn Directory vars.old (directories.stage_of stage.old) answer) }
+{
+    let mut directory = replace(vars, Values::none(alloc)).into_directory(alloc)?;
+    let effect = directory_eject::native_turn(alloc, &mut directory, stage, answer)?;
+    *vars = Values::entries(directory);
+    Ok(effect)
+}
+
+/// A process of a stream takes a turn.
+fn stream_turn(
+    alloc: Global,
+    stream: Stream,
+    vars: &mut Values,
+    stage: &mut transput::Stage,
+    answer: Answer,
+) -> Result<Effect, AllocError>
+    ensures { IfOk result (λ effect. (vars.new, streams.stage_of stage.new, effect)
+        ≡ natives.native_turn (native_of stream) vars.old (streams.stage_of stage.old) answer) }
+{
+    let mut items = replace(vars, Values::none(alloc)).into_items(alloc)?;
+    let effect = transput::native_turn(alloc, stream, &mut items, stage, answer)?;
+    *vars = Values::plain(items);
+    Ok(effect)
+}
 
 /// A process of a native type takes a turn. What is left of another type comes to nothing.
 fn native_turn(
@@ -27,25 +83,9 @@ fn native_turn(
         ≡ meaning.turn (native_type native) vars.old (rest_of (native_type native) rest.old) answer _me) }
 {
     match rest {
-        Rest::Cell { stage } => {
-            let mut items = replace(vars, Values::none(alloc)).into_items(alloc)?;
-            let effect = cell::turn(alloc, &mut items, stage, &answer)?;
-            *vars = Values::plain(items);
-            Ok(effect)
-        }
-        Rest::Directory { stage } => {
-            let mut directory = replace(vars, Values::none(alloc)).into_directory(alloc)?;
-            let effect = directory_eject::native_turn(alloc, &mut directory, stage, answer)?;
-            *vars = Values::entries(directory);
-            Ok(effect)
-        }
-        Rest::Stream { stage } => {
-            let mut items = replace(vars, Values::none(alloc)).into_items(alloc)?;
-            let stream = stream_of(native);
-            let effect = transput::native_turn(alloc, stream, &mut items, stage, answer)?;
-            *vars = Values::plain(items);
-            Ok(effect)
-        }
+        Rest::Cell { stage } => cell_turn(alloc, vars, stage, &answer),
+        Rest::Directory { stage } => directory_turn(alloc, vars, stage, answer),
+        Rest::Stream { stage } => stream_turn(alloc, stream_of(native), vars, stage, answer),
         Rest::Declared { .. } => Ok(Effect::End),
     }
 }

@@ -52,9 +52,11 @@ impl Ejects {
     {
         match self.table.create(alloc, part) {
             Ok(uid) => Ok(Ok(uid)),
-            Err((_, CreateRefusal::TooMany)) => Ok(Err(Status::TooMany)),
-            Err((_, CreateRefusal::SerialsSpent)) => Ok(Err(Status::SerialsSpent)),
-            Err((_, CreateRefusal::OutOfMemory)) => Err(AllocError),
+            Err((_part, refusal)) => match refusal {
+                CreateRefusal::TooMany => Ok(Err(Status::TooMany)),
+                CreateRefusal::SerialsSpent => Ok(Err(Status::SerialsSpent)),
+                CreateRefusal::OutOfMemory => Err(AllocError),
+            },
         }
     }
 
