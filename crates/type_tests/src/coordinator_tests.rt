@@ -1,6 +1,182 @@
+ghost use Rattle.std.specs.Prelude.{◌≡◌, ◌≤◌, ◌<◌, length, true, slice_get, IfSome};
+ghost use Rattle.eden_model.specs.Crew.{Runs, Holds};
+
 use capability::Seq;
 use coordinator::*;
 use std::alloc::{AllocError, Global};
+use std::mem::size_of;
+use std::process::Abort;
+
+/// A question to a coordinator, or something that happens.
+#[derive(Clone, Copy)]
+enum Step {
+    IsFull,
+    Startable,
+    Serves { process: u8 },
+    NextReady { after: u8 },
+    Monitors,
+    Conditions,
+    MonitorOf { condition: u8 },
+    /// Of a process and a monitor.
+    Holds(u8, u8),
+    Runnable { process: u8 },
+    Awaits { process: u8 },
+    Offer { call: u32 },
+    Start,
+    Resume { process: u8 },
+    /// Of a process.
+    By(u8, Act),
+}
+
+/// What a process does that runs.
+#[derive(Clone, Copy)]
+enum Act {
+    Block,
+    Enter { monitor: u8 },
+    Leave { monitor: u8 },
+    Wait { condition: u8 },
+    Signal { condition: u8 },
+    End,
+}
+
+/// What a coordinator answers. `Refused` says that nothing was asked of it, as nothing may be.
+#[derive(Clone, Copy, PartialEq)]
+enum Seen {
+    Done,
+    Refused,
+    No,
+    Yes,
+    Nothing,
+    Number { n: u64 },
+    /// A call, and its process.
+    Started(u32, u8),
+}
+
+fn truth(holds: bool) -> Seen {
+    if holds { Seen::Yes } else { Seen::No }
+}
+
+fn process(found: Option<u8>) -> Seen {
+    match found {
+        Some(n) => Seen::Number { n: u64::from(n) },
+        None => Seen::Nothing,
+    }
+}
+
+fn call(found: Option<u32>) -> Seen {
+    match found {
+        Some(n) => Seen::Number { n: u64::from(n) },
+        None => Seen::Nothing,
+    }
+}
+
+fn count(n: usize) -> Seen {
+    Seen::Number { n: n as u64 }
+}
+
+fn offered(c: &mut Coordinator, call: u32) -> Result<Seen, AllocError> {
+    match c.offer(call, 0) {
+        Ok(()) => Ok(Seen::Yes),
+        Err(OfferRefusal::Busy) => Ok(Seen::No),
+        Err(OfferRefusal::OutOfMemory) => Err(AllocError),
+    }
+}
+
+fn started(c: &mut Coordinator) -> Result<Seen, AllocError> {
+    match c.start()? {
+        Some(Started { call, process }) => Ok(Seen::Started(call, process)),
+        None => Ok(Seen::Nothing),
+    }
+}
+
+fn resumed(c: &mut Coordinator, process: u8) -> Seen {
+    if !c.awaits(process) {
+        return Seen::Refused;
+    }
+    c.resume(process);
+    Seen::Done
+}
+
+/// Whether the process holds the monitor of the condition.
+fn holds_for(c: &Coordinator, process: u8, condition: u8) -> bool
+    ensures { result ≡ true → (condition < length c.now.crew.conditions)
+        × IfSome (slice_get c.now.crew.conditions condition) (λ it. Holds c.now.crew process it.monitor) }
+{
+    match c.monitor_of(condition) {
+        Some(monitor) => (condition as usize) < c.conditions() && c.holds(process, monitor),
+        None => false,
+    }
+}
+
+fn acted(c: &mut Coordinator, process: u8, act: Act) -> Seen
+    requires { Runs c.old.crew process }
+{
+    match act {
+        Act::Block => c.block(process),
+        Act::Enter { monitor } => {
+            if monitor < 1 || c.monitors() < monitor as usize {
+                return Seen::Refused;
+            }
+            return truth(c.enter(process, monitor));
+        }
+        Act::Leave { monitor } => {
+            if !c.holds(process, monitor) {
+                return Seen::Refused;
+            }
+            c.leave(process, monitor);
+        }
+        Act::Wait { condition } => {
+            if !holds_for(c, process, condition) {
+                return Seen::Refused;
+            }
+            c.wait(process, condition);
+        }
+        Act::Signal { condition } => {
+            if !holds_for(c, process, condition) {
+                return Seen::Refused;
+            }
+            c.signal(process, condition);
+        }
+        Act::End => c.end(process),
+    }
+    Seen::Done
+}
+
+fn stepped(c: &mut Coordinator, step: Step) -> Result<Seen, AllocError> {
+    Ok(match step {
+        Step::IsFull => truth(c.is_full()),
+        Step::Startable => call(c.startable()),
+        Step::Serves { process } => call(c.serves(process)),
+        Step::NextReady { after } => process(c.next_ready(after)),
+        Step::Monitors => count(c.monitors()),
+        Step::Conditions => count(c.conditions()),
+        Step::MonitorOf { condition } => process(c.monitor_of(condition)),
+        Step::Holds(process, monitor) => truth(c.holds(process, monitor)),
+        Step::Runnable { process } => truth(c.runnable(process)),
+        Step::Awaits { process } => truth(c.awaits(process)),
+        Step::Offer { call } => offered(c, call)?,
+        Step::Start => started(c)?,
+        Step::Resume { process } => resumed(c, process),
+        Step::By(process, act) => {
+            if !c.runnable(process) {
+                return Ok(Seen::Refused);
+            }
+            acted(c, process, act)
+        }
+    })
+}
+
+/// The coordinator takes the steps, and answers what stands beside them.
+fn takes_steps(
+    rt: &impl Abort,
+    c: &mut Coordinator,
+    steps: &[(Step, Seen)],
+) -> Result<(), AllocError> {
+    for (i, &(step, wanted)) in steps.iter().enumerate() {
+        assert!(rt; stepped(c, step)? == wanted, "step {i}");
+    }
+    Ok(())
+}
 
 /// A coordinator of one class with this limit, and of no process, monitor or condition.
 fn idle(alloc: Global, limit: u8) -> Result<Coordinator, AllocError> {
@@ -21,105 +197,140 @@ fn idle(alloc: Global, limit: u8) -> Result<Coordinator, AllocError> {
     )
 }
 
-#[test]
-fn one_of_a_class_with_limit_one(rt: HostRuntime) -> Result<(), AllocError> {
-    let mut c = idle(rt.alloc(), 1)?;
-    for i in 0..64 {
-        assert!(rt; !c.is_full(), "at {i}");
-        assert!(rt; c.offer(100 + i, 0).is_ok(), "at {i}");
-    }
-    assert!(rt; c.is_full());
-    assert!(rt; c.offer(164, 0) == Err(OfferRefusal::Busy));
-    assert_eq!(rt; c.startable(), Some(100));
-    match c.start()? {
-        Some(started) => {
-            assert_eq!(rt; started.call, 100);
-            assert_eq!(rt; started.process, 1);
-        }
-        None => panic!(rt; "nothing started"),
-    }
-    assert!(rt; c.runnable(1));
-    assert_eq!(rt; c.serves(1), Some(100));
-    assert_eq!(rt; c.serves(2), None);
-    assert_eq!(rt; c.startable(), None);
-    assert!(rt; c.start()?.is_none());
-    let parts = c.into_parts();
-    assert_eq!(rt; parts.running.pairs.len(), 1);
-    assert_eq!(rt; parts.queued.as_slice().len(), 63);
-    assert_eq!(rt; parts.queued.as_slice().first().copied(), Some(101));
-    Ok(())
-}
-
-#[test]
-fn room_grows_to_sixteen_processes(rt: HostRuntime) -> Result<(), AllocError> {
-    let mut c = idle(rt.alloc(), 16)?;
-    for i in 0..17 {
-        assert!(rt; c.offer(100 + i, 0).is_ok(), "at {i}");
-    }
-    for i in 0..16u8 {
-        match c.start()? {
-            Some(started) => {
-                assert_eq!(rt; started.call, 100 + u32::from(i));
-                assert_eq!(rt; started.process, i + 1);
-            }
-            None => panic!(rt; "nothing started at {i}"),
-        }
-    }
-    assert!(rt; c.start()?.is_none());
-    assert_eq!(rt; c.next_ready(15), Some(16));
-    let parts = c.into_parts();
-    assert_eq!(rt; parts.running.pairs.len(), 16);
-    assert_eq!(rt; parts.queued.as_slice().len(), 1);
-    Ok(())
-}
-
-#[test]
-fn a_monitor_passes_in_order(rt: HostRuntime) -> Result<(), AllocError> {
+/// A coordinator of three processes, and of a monitor with a condition.
+fn monitored(alloc: Global) -> Result<Coordinator, AllocError> {
     let limits = Seq {
-        items: Vec::new(rt.alloc()),
+        items: Vec::new(alloc),
     };
     let conditions = Seq {
-        items: vec![in rt.alloc(); 1]?,
+        items: vec![in alloc; 1]?,
     };
-    let mut c = Coordinator::new(
-        rt.alloc(),
+    Coordinator::new(
+        alloc,
         Setup {
             limits,
             declared: 3,
             monitors: 1,
             conditions,
         },
-    )?;
-    assert_eq!(rt; c.monitors(), 1);
-    assert_eq!(rt; c.conditions(), 1);
-    assert_eq!(rt; c.monitor_of(0), Some(1));
-    assert_eq!(rt; c.monitor_of(1), None);
-    assert!(rt; c.enter(1, 1));
-    assert!(rt; c.holds(1, 1));
-    assert!(rt; !c.holds(2, 1));
-    assert!(rt; !c.holds(1, 0));
-    assert!(rt; !c.enter(2, 1));
-    assert_eq!(rt; c.next_ready(0), Some(1));
-    assert_eq!(rt; c.next_ready(1), Some(3));
-    assert_eq!(rt; c.next_ready(3), None);
-    assert!(rt; !c.runnable(2));
-    c.wait(1, 0);
-    assert!(rt; c.runnable(2), "the monitor was left to it");
-    assert!(rt; !c.enter(3, 1));
-    c.signal(2, 0);
-    assert!(rt; !c.runnable(1), "behind process 3");
-    c.leave(2, 1);
-    assert!(rt; c.runnable(3));
-    c.end(3);
-    assert!(rt; c.runnable(1));
-    assert!(rt; !c.runnable(3));
-    assert!(rt; !c.awaits(1));
-    c.block(1);
-    assert!(rt; !c.runnable(1));
-    assert!(rt; c.awaits(1));
-    assert_eq!(rt; c.next_ready(0), Some(2));
-    c.resume(1);
-    c.leave(1, 1);
-    assert!(rt; c.enter(2, 1), "free again");
+    )
+}
+
+/// Whether so many calls run in the end, so many are queued, and this one is the first of those.
+fn leaves(c: Coordinator, running: usize, queued: usize, first: u32) -> bool {
+    let parts = c.into_parts();
+    let calls = parts.queued.as_slice();
+    parts.running.pairs.len() == running
+        && calls.len() == queued
+        && calls.first().copied() == Some(first)
+}
+
+/// The 65th call comes, and the first one starts.
+const FULL: &[(Step, Seen)] = &[
+    (Step::IsFull, Seen::Yes),
+    (Step::Offer { call: 164 }, Seen::No),
+    (Step::Startable, Seen::Number { n: 100 }),
+    (Step::Start, Seen::Started(100, 1)),
+    (Step::Runnable { process: 1 }, Seen::Yes),
+    (Step::Serves { process: 1 }, Seen::Number { n: 100 }),
+    (Step::Serves { process: 2 }, Seen::Nothing),
+    (Step::Startable, Seen::Nothing),
+    (Step::Start, Seen::Nothing),
+];
+
+#[test]
+fn one_of_a_class_with_limit_one(rt: HostRuntime) -> Result<(), AllocError> {
+    let mut c = idle(rt.alloc(), 1)?;
+    for call in 100..164 {
+        assert!(rt; stepped(&mut c, Step::IsFull)? == Seen::No, "at {call}");
+        assert!(rt;
+            stepped(&mut c, Step::Offer { call })? == Seen::Yes,
+            "at {call}"
+        );
+    }
+    takes_steps(&rt, &mut c, FULL)?;
+    assert!(rt; leaves(c, 1, 63, 101));
     Ok(())
+}
+
+#[test]
+fn room_grows_to_sixteen_processes(rt: HostRuntime) -> Result<(), AllocError> {
+    let mut c = idle(rt.alloc(), 16)?;
+    for call in 100..117 {
+        assert!(rt;
+            stepped(&mut c, Step::Offer { call })? == Seen::Yes,
+            "at {call}"
+        );
+    }
+    for process in 1..17u8 {
+        let call = 99 + u32::from(process);
+        let wanted = Seen::Started(call, process);
+        assert!(rt; stepped(&mut c, Step::Start)? == wanted, "at {call}");
+    }
+    let steps = &[
+        (Step::Start, Seen::Nothing),
+        (Step::NextReady { after: 15 }, Seen::Number { n: 16 }),
+    ];
+    takes_steps(&rt, &mut c, steps)?;
+    assert!(rt; leaves(c, 16, 1, 116));
+    Ok(())
+}
+
+const ENTER: Act = Act::Enter { monitor: 1 };
+
+const LEAVE: Act = Act::Leave { monitor: 1 };
+
+const WAIT: Act = Act::Wait { condition: 0 };
+
+const SIGNAL: Act = Act::Signal { condition: 0 };
+
+/// The monitor passes from process to process.
+const PASSES: &[(Step, Seen)] = &[
+    (Step::Monitors, Seen::Number { n: 1 }),
+    (Step::Conditions, Seen::Number { n: 1 }),
+    (Step::MonitorOf { condition: 0 }, Seen::Number { n: 1 }),
+    (Step::MonitorOf { condition: 1 }, Seen::Nothing),
+    (Step::By(1, ENTER), Seen::Yes),
+    (Step::Holds(1, 1), Seen::Yes),
+    (Step::Holds(2, 1), Seen::No),
+    (Step::Holds(1, 0), Seen::No),
+    (Step::By(2, ENTER), Seen::No),
+    (Step::NextReady { after: 0 }, Seen::Number { n: 1 }),
+    (Step::NextReady { after: 1 }, Seen::Number { n: 3 }),
+    (Step::NextReady { after: 3 }, Seen::Nothing),
+    (Step::Runnable { process: 2 }, Seen::No),
+    (Step::By(1, WAIT), Seen::Done),
+    // the monitor was left to it
+    (Step::Runnable { process: 2 }, Seen::Yes),
+    (Step::By(3, ENTER), Seen::No),
+    (Step::By(2, SIGNAL), Seen::Done),
+    // behind process 3
+    (Step::Runnable { process: 1 }, Seen::No),
+    (Step::By(2, LEAVE), Seen::Done),
+    (Step::Runnable { process: 3 }, Seen::Yes),
+    (Step::By(3, Act::End), Seen::Done),
+    (Step::Runnable { process: 1 }, Seen::Yes),
+    (Step::Runnable { process: 3 }, Seen::No),
+    (Step::Awaits { process: 1 }, Seen::No),
+    (Step::By(1, Act::Block), Seen::Done),
+    (Step::Runnable { process: 1 }, Seen::No),
+    (Step::Awaits { process: 1 }, Seen::Yes),
+    (Step::NextReady { after: 0 }, Seen::Number { n: 2 }),
+    (Step::Resume { process: 1 }, Seen::Done),
+    (Step::By(1, LEAVE), Seen::Done),
+    // free again
+    (Step::By(2, ENTER), Seen::Yes),
+];
+
+#[test]
+fn a_monitor_passes_in_order(rt: HostRuntime) -> Result<(), AllocError> {
+    takes_steps(&rt, &mut monitored(rt.alloc())?, PASSES)
+}
+
+#[test]
+fn sizes_of_its_parts(rt: HostRuntime) {
+    assert_eq!(rt; size_of::<Coordinator>(), 144);
+    assert_eq!(rt; size_of::<Slot>(), 16);
+    assert_eq!(rt; size_of::<Monitor>(), 32);
+    assert_eq!(rt; size_of::<Condition>(), 32);
 }

@@ -1,6 +1,36 @@
 use capability::Uid;
 use eject_table::*;
 use std::alloc::{AllocError, Global};
+use std::process::Abort;
+
+/// Something that is asked of a table, of the Eject with a serial.
+#[derive(Clone, Copy)]
+enum Step {
+    Create { value: u32 },
+    Find { serial: u32 },
+    Note { serial: u32 },
+    /// With a value.
+    Wake(u32, u32),
+    Active { serial: u32 },
+    /// Its value from now on.
+    Change(u32, u32),
+    Count,
+    First,
+    After { serial: u32 },
+    Drop { serial: u32 },
+    Forget { serial: u32 },
+}
+
+/// What a table answers. `Refused` says that nothing was asked of it, as nothing may be.
+#[derive(Clone, Copy, PartialEq)]
+enum Seen {
+    Done,
+    Refused,
+    Nothing,
+    Number { n: u32 },
+    Stands(Standing),
+    Full(CreateRefusal),
+}
 
 /// The uid of node 1 in epoch 1 with this serial.
 fn uid(serial: u32) -> Uid {
@@ -11,84 +41,170 @@ fn uid(serial: u32) -> Uid {
     }
 }
 
-/// Notes the Eject where it is not active.
-fn note(table: &mut EjectTable<u32>, alloc: Global, uid: Uid) -> bool {
-    match table.find(uid) {
-        Standing::Active => false,
-        Standing::Passive => true,
-        Standing::Absent => table.note_passive(alloc, uid).is_ok(),
+fn number(found: Option<u32>) -> Seen {
+    match found {
+        Some(n) => Seen::Number { n },
+        None => Seen::Nothing,
     }
 }
 
-/// Wakes the Eject where it is passive.
-fn wake(table: &mut EjectTable<u32>, alloc: Global, uid: Uid, value: u32) -> bool {
+/// The serial of a uid of node 1 in epoch 1.
+fn serial(found: Option<Uid>) -> Seen {
+    match found {
+        Some(
+            Uid {
+                node: 1,
+                epoch: 1,
+                serial,
+            },
+        ) => Seen::Number { n: serial },
+        Some(_) => Seen::Refused,
+        None => Seen::Nothing,
+    }
+}
+
+fn created(table: &mut EjectTable<u32>, alloc: Global, value: u32) -> Result<Seen, AllocError> {
+    match table.create(alloc, value) {
+        Ok(uid) => Ok(serial(Some(uid))),
+        Err((_, CreateRefusal::OutOfMemory)) => Err(AllocError),
+        Err((back, refusal)) => {
+            if back == value {
+                Ok(Seen::Full(refusal))
+            } else {
+                Ok(Seen::Refused)
+            }
+        }
+    }
+}
+
+/// Notes the Eject where it is not active.
+fn noted(table: &mut EjectTable<u32>, alloc: Global, uid: Uid) -> Result<Seen, AllocError> {
     match table.find(uid) {
-        Standing::Passive => table.wake(alloc, uid, value).is_ok(),
-        Standing::Active => false,
-        Standing::Absent => false,
+        Standing::Active => return Ok(Seen::Refused),
+        Standing::Passive => table.note_passive(alloc, uid)?,
+        Standing::Absent => table.note_passive(alloc, uid)?,
+    }
+    Ok(Seen::Done)
+}
+
+/// Wakes the Eject where it is passive.
+fn woken(table: &mut EjectTable<u32>, alloc: Global, uid: Uid, value: u32) -> Seen {
+    match table.find(uid) {
+        Standing::Passive => match table.wake(alloc, uid, value) {
+            Ok(()) => Seen::Done,
+            Err(_) => Seen::Nothing,
+        },
+        _ => Seen::Refused,
     }
 }
 
 /// Forgets the Eject where it is not active.
-fn forget(table: &mut EjectTable<u32>, uid: Uid) {
+fn forgotten(table: &mut EjectTable<u32>, uid: Uid) -> Seen {
     match table.find(uid) {
-        Standing::Active => {}
+        Standing::Active => return Seen::Refused,
         Standing::Passive => table.forget(uid),
         Standing::Absent => table.forget(uid),
     }
+    Seen::Done
 }
+
+fn changed(table: &mut EjectTable<u32>, uid: Uid, value: u32) -> Seen {
+    match table.active_mut(uid) {
+        Some(held) => {
+            *held = value;
+            Seen::Done
+        }
+        None => Seen::Nothing,
+    }
+}
+
+fn stepped(table: &mut EjectTable<u32>, alloc: Global, step: Step) -> Result<Seen, AllocError> {
+    Ok(match step {
+        Step::Create { value } => created(table, alloc, value)?,
+        Step::Find { serial } => Seen::Stands(table.find(uid(serial))),
+        Step::Note { serial } => noted(table, alloc, uid(serial))?,
+        Step::Wake(serial, value) => woken(table, alloc, uid(serial), value),
+        Step::Active { serial } => number(table.active(uid(serial)).copied()),
+        Step::Change(serial, value) => changed(table, uid(serial), value),
+        Step::Count => Seen::Number { n: table.count() },
+        Step::First => serial(table.after(None)),
+        Step::After { serial: last } => serial(table.after(Some(uid(last)))),
+        Step::Drop { serial } => number(table.drop_active(uid(serial), true)),
+        Step::Forget { serial } => forgotten(table, uid(serial)),
+    })
+}
+
+/// The table takes the steps, and answers what stands beside them.
+fn takes_steps(
+    rt: &impl Abort,
+    alloc: Global,
+    table: &mut EjectTable<u32>,
+    steps: &[(Step, Seen)],
+) -> Result<(), AllocError> {
+    for (i, &(step, wanted)) in steps.iter().enumerate() {
+        assert!(rt; stepped(table, alloc, step)? == wanted, "step {i}");
+    }
+    Ok(())
+}
+
+const ABSENT: Seen = Seen::Stands(Standing::Absent);
+
+const PASSIVE: Seen = Seen::Stands(Standing::Passive);
+
+const ACTIVE: Seen = Seen::Stands(Standing::Active);
+
+/// The last serial is given, and there is none past it.
+const SPENT: &[(Step, Seen)] = &[
+    (Step::Create { value: 7 }, Seen::Number { n: 4_294_967_295 }),
+    (
+        Step::Create { value: 8 },
+        Seen::Full(CreateRefusal::SerialsSpent),
+    ),
+];
 
 #[test]
 fn serials_are_spent(rt: HostRuntime) -> Result<(), AllocError> {
-    let mut table: EjectTable<u32> = EjectTable::new(rt.alloc(), 1, 1, 4_294_967_294)?;
-    match table.create(rt.alloc(), 7) {
-        Ok(uid) => assert_eq!(rt; uid.serial, 4_294_967_295),
-        Err(_) => panic!(rt; "refused"),
-    }
-    match table.create(rt.alloc(), 8) {
-        Ok(_) => panic!(rt; "created"),
-        Err((value, refusal)) => {
-            assert_eq!(rt; value, 8);
-            assert!(rt; refusal == CreateRefusal::SerialsSpent);
-        }
-    }
-    Ok(())
+    let mut table = EjectTable::new(rt.alloc(), 1, 1, 4_294_967_294)?;
+    takes_steps(&rt, rt.alloc(), &mut table, SPENT)
 }
+
+const STANDINGS: &[(Step, Seen)] = &[
+    (Step::Find { serial: 1 }, ABSENT),
+    (Step::Note { serial: 1 }, Seen::Done),
+    (Step::Find { serial: 1 }, PASSIVE),
+    (Step::Wake(1, 5), Seen::Done),
+    (Step::Find { serial: 1 }, ACTIVE),
+    (Step::Active { serial: 1 }, Seen::Number { n: 5 }),
+    (Step::Change(1, 6), Seen::Done),
+    (Step::Note { serial: 3 }, Seen::Done),
+    (Step::Count, Seen::Number { n: 2 }),
+    (Step::First, Seen::Number { n: 1 }),
+    (Step::After { serial: 1 }, Seen::Number { n: 3 }),
+    (Step::After { serial: 3 }, Seen::Nothing),
+    (Step::Drop { serial: 1 }, Seen::Number { n: 6 }),
+    (Step::Drop { serial: 1 }, Seen::Nothing),
+    (Step::Find { serial: 1 }, PASSIVE),
+    (Step::Forget { serial: 1 }, Seen::Done),
+    (Step::Find { serial: 1 }, ABSENT),
+];
 
 #[test]
 fn standings_change(rt: HostRuntime) -> Result<(), AllocError> {
-    let mut table: EjectTable<u32> = EjectTable::new(rt.alloc(), 1, 2, 0)?;
-    assert!(rt; table.find(uid(1)) == Standing::Absent);
-    assert!(rt; note(&mut table, rt.alloc(), uid(1)));
-    assert!(rt; table.find(uid(1)) == Standing::Passive);
-    assert!(rt; wake(&mut table, rt.alloc(), uid(1), 5));
-    assert!(rt; table.find(uid(1)) == Standing::Active);
-    assert_eq!(rt; table.active(uid(1)).copied(), Some(5));
-    if let Some(value) = table.active_mut(uid(1)) {
-        *value = 6;
-    }
-    assert!(rt; note(&mut table, rt.alloc(), uid(3)));
-    assert_eq!(rt; table.count(), 2);
-    assert!(rt; table.after(None) == Some(uid(1)));
-    assert!(rt; table.after(Some(uid(1))) == Some(uid(3)));
-    assert!(rt; table.after(Some(uid(3))).is_none());
-    assert_eq!(rt; table.drop_active(uid(1), true), Some(6));
-    assert_eq!(rt; table.drop_active(uid(1), true), None);
-    assert!(rt; table.find(uid(1)) == Standing::Passive);
-    forget(&mut table, uid(1));
-    assert!(rt; table.find(uid(1)) == Standing::Absent);
-    Ok(())
+    let mut table = EjectTable::new(rt.alloc(), 1, 2, 0)?;
+    takes_steps(&rt, rt.alloc(), &mut table, STANDINGS)
 }
 
 #[test]
 fn at_most_so_many(rt: HostRuntime) -> Result<(), AllocError> {
-    let mut table: EjectTable<u32> = EjectTable::new(rt.alloc(), 1, 1, 0)?;
-    for i in 0..4096 {
-        assert!(rt; table.create(rt.alloc(), i).is_ok(), "at {i}");
+    let mut table = EjectTable::new(rt.alloc(), 1, 1, 0)?;
+    for value in 0..4096 {
+        let wanted = Seen::Number { n: value + 1 };
+        assert!(rt;
+            created(&mut table, rt.alloc(), value)? == wanted,
+            "at {value}"
+        );
     }
-    match table.create(rt.alloc(), 8) {
-        Ok(_) => panic!(rt; "created"),
-        Err((_, refusal)) => assert!(rt; refusal == CreateRefusal::TooMany),
-    }
+    let wanted = Seen::Full(CreateRefusal::TooMany);
+    assert!(rt; created(&mut table, rt.alloc(), 8)? == wanted);
     Ok(())
 }

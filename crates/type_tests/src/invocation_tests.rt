@@ -1,4 +1,4 @@
-ghost use Rattle.std.specs.Prelude.{◌≡◌, ◌≤◌, ◌<◌, ◌+◌, length, OnOk};
+ghost use Rattle.std.specs.Prelude.{◌≡◌, ◌≤◌, ◌<◌, length, IsTrue};
 ghost use Rattle.eden_model.specs.Traffic.{asking_station};
 
 use capability::{Cap, Rights, Uid};
@@ -6,6 +6,59 @@ use eden_value::{Items, Status, Txt, Value, text_of};
 use invocation::*;
 use locator::Places;
 use std::alloc::{AllocError, Global};
+use std::process::Abort;
+
+/// A call, a question, or something that happens. Each Eject is the first one of its node.
+#[derive(Clone, Copy)]
+enum Step {
+    /// The shell asks a node, with so many arguments.
+    ShellAsks(u8, usize),
+    /// An Eject of a node asks, from a process, a node.
+    EjectAsks(u8, u8, u8),
+    IsClosed { call: u32 },
+    /// How many arguments the call has.
+    Arguments { call: u32 },
+    /// From a station to another, as the two after it.
+    Waits(u8, u8),
+    Next(u8, u8),
+    Deliver(u8, u8),
+    Answer { call: u32 },
+    Orphan { node: u8 },
+    BreakLink(u8, u8),
+    BreakNode { node: u8 },
+}
+
+/// What is seen of it. `Refused` says that nothing was asked, as nothing may be.
+#[derive(Clone, Copy, PartialEq)]
+enum Seen {
+    Done,
+    Refused,
+    No,
+    Yes,
+    Nothing,
+    Count { n: usize },
+    Call { call: u32 },
+    /// A call that is answered at once.
+    AtOnce(u32, Status),
+    /// So many calls are broken, and the first of them.
+    Broken(usize, u32),
+    Request { call: u32 },
+    Reply(Reply),
+}
+
+/// The reply to a call, and whether a process asked.
+#[derive(Clone, Copy, PartialEq)]
+struct Reply {
+    call: u32,
+    status: Status,
+    count: usize,
+    was_open: bool,
+    by_process: bool,
+}
+
+fn truth(holds: bool) -> Seen {
+    if holds { Seen::Yes } else { Seen::No }
+}
 
 /// The first Eject of the node.
 fn uid_at(node: u8) -> Uid
@@ -37,6 +90,13 @@ fn numbers(alloc: Global, count: usize) -> Result<Items, AllocError> {
     Ok(Items { values })
 }
 
+/// Whether another call may be asked.
+fn may_ask(calls: &Calls) -> bool
+    ensures { IsTrue result → length calls.now.calls < 4294967295 }
+{
+    calls.call(u32::MAX).is_none()
+}
+
 /// Asks the first Eject of a node.
 fn ask(
     calls: &mut Calls,
@@ -45,17 +105,22 @@ fn ask(
     node: u8,
     count: usize,
     places: &Places,
-) -> Result<Asked, AllocError>
-    requires few { length calls.old.calls < 100 }
-    requires asker { asking_station asker ≤ 8 }
-    ensures ok { OnOk result (length calls.new.calls ≡ length calls.old.calls + 1) }
+) -> Result<Seen, AllocError>
+    requires { asking_station asker ≤ 8 }
 {
+    if !may_ask(calls) {
+        return Ok(Seen::Refused);
+    }
     let target = Cap {
         uid: uid_at(node),
         rights: Rights { bits: 65_535 },
     };
     let args = numbers(alloc, count)?;
-    calls.ask(alloc, asker, target, text(alloc), args, places)
+    let Asked { call, at_once } = calls.ask(alloc, asker, target, text(alloc), args, places)?;
+    match at_once {
+        Some(status) => Ok(Seen::AtOnce(call, status)),
+        None => Ok(Seen::Call { call }),
+    }
 }
 
 /// Asks in the shell's name.
@@ -65,40 +130,138 @@ fn shell_asks(
     node: u8,
     count: usize,
     places: &Places,
-) -> Result<Asked, AllocError>
-    requires few { length calls.old.calls < 100 }
-    ensures ok { OnOk result (length calls.new.calls ≡ length calls.old.calls + 1) }
+) -> Result<Seen, AllocError> {
+    let name = text(alloc);
+    ask(calls, alloc, Asker::Shell { name }, node, count, places)
+}
+
+/// Asks in the name of the first Eject of a node, from a process of it.
+fn eject_asks(
+    calls: &mut Calls,
+    alloc: Global,
+    (own, process): (u8, u8),
+    node: u8,
+    places: &Places,
+) -> Result<Seen, AllocError> {
+    if own > 8 {
+        return Ok(Seen::Refused);
+    }
+    let uid = uid_at(own);
+    ask(calls, alloc, Asker::Eject { uid, process }, node, 1, places)
+}
+
+fn is_closed(calls: &Calls, number: u32) -> Seen {
+    match calls.call(number) {
+        Some(call) => truth(call.closed),
+        None => Seen::Nothing,
+    }
+}
+
+fn arguments(calls: &Calls, number: u32) -> Seen {
+    match calls.call(number) {
+        Some(call) => Seen::Count {
+            n: call.args.values.len(),
+        },
+        None => Seen::Nothing,
+    }
+}
+
+fn next(calls: &Calls, from: u8, to: u8) -> Seen
+    requires from { from ≤ 8 }
+    requires to { to ≤ 8 }
 {
-    ask(
-        calls,
-        alloc,
-        Asker::Shell { name: text(alloc) },
-        node,
-        count,
-        places,
-    )
+    match calls.next(from, to) {
+        Some(call) => Seen::Call { call },
+        None => Seen::Nothing,
+    }
+}
+
+fn delivered(calls: &mut Calls, from: u8, to: u8) -> Seen
+    requires from { from ≤ 8 }
+    requires to { to ≤ 8 }
+{
+    match calls.deliver(from, to) {
+        Some(Delivery::Request { call }) => Seen::Request { call },
+        Some(
+            Delivery::Reply {
+                call,
+                status,
+                results,
+                was_open,
+                process,
+            },
+        ) => Seen::Reply(Reply {
+            call,
+            status,
+            count: results.values.len(),
+            was_open,
+            by_process: process.is_some(),
+        }),
+        None => Seen::Nothing,
+    }
 }
 
 /// Answers the call with one number.
-fn answer(calls: &mut Calls, alloc: Global, number: u32) -> Result<bool, AllocError> {
+fn answer(calls: &mut Calls, alloc: Global, number: u32) -> Result<Seen, AllocError> {
     let results = numbers(alloc, 1)?;
-    calls.answer(alloc, number, Status::Ok, results)
+    Ok(truth(calls.answer(alloc, number, Status::Ok, results)?))
 }
 
-/// Whether the call is there and has arguments.
-fn has_arguments(calls: &Calls, number: u32) -> bool {
-    match calls.call(number) {
-        Some(call) => !call.args.values.is_empty(),
-        None => false,
+fn broken(numbers: &[u32]) -> Seen {
+    match numbers {
+        [] => Seen::Nothing,
+        [call, ..] => Seen::Broken(numbers.len(), *call),
     }
 }
 
-/// Whether the call is there and closed.
-fn is_closed(calls: &Calls, number: u32) -> bool {
-    match calls.call(number) {
-        Some(call) => call.closed,
-        None => false,
+/// What is seen between two stations.
+fn seen_between(calls: &mut Calls, alloc: Global, step: Step) -> Result<Seen, AllocError> {
+    Ok(match step {
+        Step::Waits(from, to) if from <= 8 && to <= 8 => truth(calls.waiting(from, to)),
+        Step::Next(from, to) if from <= 8 && to <= 8 => next(calls, from, to),
+        Step::Deliver(from, to) if from <= 8 && to <= 8 => delivered(calls, from, to),
+        Step::BreakLink(a, b) if a <= 8 && b <= 8 => {
+            broken(calls.break_link(alloc, a, b)?.as_slice())
+        }
+        Step::BreakNode { node } if node <= 8 => broken(calls.break_node(alloc, node)?.as_slice()),
+        _ => Seen::Refused,
+    })
+}
+
+fn stepped(
+    calls: &mut Calls,
+    alloc: Global,
+    places: &Places,
+    step: Step,
+) -> Result<Seen, AllocError> {
+    match step {
+        Step::ShellAsks(node, count) => shell_asks(calls, alloc, node, count, places),
+        Step::EjectAsks(own, process, node) => {
+            eject_asks(calls, alloc, (own, process), node, places)
+        }
+        Step::IsClosed { call } => Ok(is_closed(calls, call)),
+        Step::Arguments { call } => Ok(arguments(calls, call)),
+        Step::Answer { call } => answer(calls, alloc, call),
+        Step::Orphan { node } => {
+            calls.orphan(uid_at(node));
+            Ok(Seen::Done)
+        }
+        _ => seen_between(calls, alloc, step),
     }
+}
+
+/// The steps are made, and what stands beside them is seen.
+fn takes_steps(
+    rt: &impl Abort,
+    alloc: Global,
+    calls: &mut Calls,
+    places: &Places,
+    steps: &[(Step, Seen)],
+) -> Result<(), AllocError> {
+    for (i, &(step, wanted)) in steps.iter().enumerate() {
+        assert!(rt; stepped(calls, alloc, places, step)? == wanted, "step {i}");
+    }
+    Ok(())
 }
 
 /// Three nodes, of which the first two are up.
@@ -111,161 +274,146 @@ fn two_of_three() -> Places
     places
 }
 
+/// The steps are made from the start, where the first two of three nodes are up.
+fn from_start(rt: &impl Abort, alloc: Global, steps: &[(Step, Seen)]) -> Result<(), AllocError> {
+    takes_steps(rt, alloc, &mut Calls::new(alloc)?, &two_of_three(), steps)
+}
+
+/// Nothing is cut yet.
+const REFUSED: &[(Step, Seen)] = &[
+    // 9 bytes more than 65,529
+    (Step::ShellAsks(1, 7282), Seen::AtOnce(1, Status::TooLarge)),
+    (Step::ShellAsks(1, 7281), Seen::Call { call: 2 }),
+    // down
+    (Step::ShellAsks(3, 1), Seen::AtOnce(3, Status::Unreachable)),
+];
+
+/// The shell does not reach node 2.
+const CUT: &[(Step, Seen)] = &[
+    (Step::ShellAsks(2, 1), Seen::AtOnce(4, Status::Unreachable)),
+    // too large comes first
+    (Step::ShellAsks(2, 7282), Seen::AtOnce(5, Status::TooLarge)),
+    // the shell
+    (Step::ShellAsks(0, 1), Seen::AtOnce(6, Status::Unreachable)),
+    // no station
+    (
+        Step::ShellAsks(200, 1),
+        Seen::AtOnce(7, Status::Unreachable),
+    ),
+    (Step::IsClosed { call: 1 }, Seen::Yes),
+    (Step::IsClosed { call: 2 }, Seen::No),
+    (Step::Waits(0, 2), Seen::No),
+];
+
 #[test]
 fn refused_at_once(rt: HostRuntime) -> Result<(), AllocError> {
     let mut places = two_of_three();
     let mut calls = Calls::new(rt.alloc())?;
-    let large = shell_asks(&mut calls, rt.alloc(), 1, 7282, &places)?;
-    assert_eq!(rt; large.call, 1);
-    assert!(rt;
-        large.at_once == Some(Status::TooLarge),
-        "9 bytes more than 65,529"
-    );
-    let fits = shell_asks(&mut calls, rt.alloc(), 1, 7281, &places)?;
-    assert_eq!(rt; fits.call, 2);
-    assert!(rt; fits.at_once.is_none());
-    let down = shell_asks(&mut calls, rt.alloc(), 3, 1, &places)?;
-    assert!(rt; down.at_once == Some(Status::Unreachable), "down");
+    takes_steps(&rt, rt.alloc(), &mut calls, &places, REFUSED)?;
     places.set_link(0, 2, false);
-    let cut = shell_asks(&mut calls, rt.alloc(), 2, 1, &places)?;
-    assert!(rt; cut.at_once == Some(Status::Unreachable), "cut");
-    let both = shell_asks(&mut calls, rt.alloc(), 2, 7282, &places)?;
-    assert!(rt;
-        both.at_once == Some(Status::TooLarge),
-        "too large comes first"
-    );
-    let nowhere = shell_asks(&mut calls, rt.alloc(), 0, 1, &places)?;
-    assert!(rt; nowhere.at_once == Some(Status::Unreachable), "the shell");
-    let past = shell_asks(&mut calls, rt.alloc(), 200, 1, &places)?;
-    assert!(rt; past.at_once == Some(Status::Unreachable), "no station");
-    assert!(rt; is_closed(&calls, 1));
-    assert!(rt; !is_closed(&calls, 2));
-    assert!(rt; !calls.waiting(0, 2));
-    Ok(())
+    takes_steps(&rt, rt.alloc(), &mut calls, &places, CUT)
 }
+
+const CRASH: &[(Step, Seen)] = &[
+    (Step::ShellAsks(3, 1), Seen::AtOnce(1, Status::Unreachable)),
+    (Step::ShellAsks(1, 1), Seen::Call { call: 2 }),
+    (Step::ShellAsks(2, 1), Seen::Call { call: 3 }),
+    (Step::Waits(0, 1), Seen::Yes),
+    (Step::BreakNode { node: 1 }, Seen::Broken(1, 2)),
+    (Step::Waits(0, 1), Seen::No),
+    (Step::Answer { call: 2 }, Seen::No),
+    (Step::Next(0, 2), Seen::Call { call: 3 }),
+    (Step::Deliver(0, 2), Seen::Request { call: 3 }),
+    (Step::Answer { call: 3 }, Seen::Yes),
+    (Step::IsClosed { call: 3 }, Seen::No),
+    // the shell asked
+    (
+        Step::Deliver(2, 0),
+        Seen::Reply(Reply {
+            call: 3,
+            status: Status::Ok,
+            count: 1,
+            was_open: true,
+            by_process: false,
+        }),
+    ),
+    (Step::IsClosed { call: 3 }, Seen::Yes),
+    (Step::Answer { call: 3 }, Seen::No),
+    (Step::Deliver(2, 0), Seen::Nothing),
+    // the arguments are let go
+    (Step::Arguments { call: 3 }, Seen::Count { n: 0 }),
+    (Step::Arguments { call: 4 }, Seen::Nothing),
+];
 
 #[test]
 fn a_crash_breaks_the_calls_to_its_node(rt: HostRuntime) -> Result<(), AllocError> {
-    let places = two_of_three();
-    let mut calls = Calls::new(rt.alloc())?;
-    let one = shell_asks(&mut calls, rt.alloc(), 3, 1, &places)?;
-    assert!(rt; one.at_once == Some(Status::Unreachable));
-    let two = shell_asks(&mut calls, rt.alloc(), 1, 1, &places)?;
-    assert_eq!(rt; two.call, 2);
-    let three = shell_asks(&mut calls, rt.alloc(), 2, 1, &places)?;
-    assert!(rt; three.at_once.is_none());
-    assert!(rt; calls.waiting(0, 1));
-    let broken = calls.break_node(rt.alloc(), 1)?;
-    assert_eq!(rt; broken.as_slice().len(), 1);
-    assert_eq!(rt; broken.as_slice().first().copied(), Some(2));
-    assert!(rt; !calls.waiting(0, 1));
-    assert!(rt; !answer(&mut calls, rt.alloc(), 2)?);
-    assert_eq!(rt; calls.next(0, 2), Some(3));
-    match calls.deliver(0, 2) {
-        Some(Delivery::Request { call }) => assert_eq!(rt; call, 3),
-        Some(Delivery::Reply { .. }) => panic!(rt; "a reply"),
-        None => panic!(rt; "no message"),
-    }
-    assert!(rt; answer(&mut calls, rt.alloc(), 3)?);
-    assert!(rt; !is_closed(&calls, 3));
-    match calls.deliver(2, 0) {
-        Some(
-            Delivery::Reply {
-                call,
-                status,
-                results,
-                was_open,
-                process,
-            },
-        ) => {
-            assert_eq!(rt; call, 3);
-            assert!(rt; status == Status::Ok);
-            assert_eq!(rt; results.values.len(), 1);
-            assert!(rt; was_open);
-            assert!(rt; process.is_none(), "the shell asked");
-        }
-        Some(Delivery::Request { .. }) => panic!(rt; "a request"),
-        None => panic!(rt; "no message"),
-    }
-    assert!(rt; is_closed(&calls, 3));
-    assert!(rt; !answer(&mut calls, rt.alloc(), 3)?);
-    assert!(rt; calls.deliver(2, 0).is_none());
-    match calls.call(3) {
-        Some(call) => assert!(rt; call.args.values.is_empty(), "the arguments are let go"),
-        None => panic!(rt; "no call"),
-    }
-    assert!(rt; calls.call(4).is_none());
-    Ok(())
+    from_start(&rt, rt.alloc(), CRASH)
 }
+
+const CUT_AND_ORPHAN: &[(Step, Seen)] = &[
+    (Step::ShellAsks(1, 1), Seen::Call { call: 1 }),
+    (Step::ShellAsks(2, 1), Seen::Call { call: 2 }),
+    (Step::EjectAsks(1, 1, 1), Seen::Call { call: 3 }),
+    (Step::Arguments { call: 1 }, Seen::Count { n: 1 }),
+    (Step::BreakLink(1, 0), Seen::Broken(1, 1)),
+    // lost with the request
+    (Step::Arguments { call: 1 }, Seen::Count { n: 0 }),
+    // another link
+    (Step::IsClosed { call: 2 }, Seen::No),
+    // no link
+    (Step::IsClosed { call: 3 }, Seen::No),
+    (Step::BreakLink(1, 1), Seen::Nothing),
+    (Step::Waits(1, 1), Seen::Yes),
+    (Step::Orphan { node: 1 }, Seen::Done),
+    (Step::IsClosed { call: 3 }, Seen::Yes),
+    // the request goes on, with its arguments
+    (Step::Waits(1, 1), Seen::Yes),
+    (Step::Arguments { call: 3 }, Seen::Count { n: 1 }),
+    (Step::Deliver(1, 1), Seen::Request { call: 3 }),
+    (Step::Answer { call: 3 }, Seen::No),
+    (Step::Arguments { call: 3 }, Seen::Count { n: 0 }),
+    // never given, and not yet given
+    (Step::Answer { call: 0 }, Seen::No),
+    (Step::Answer { call: 4 }, Seen::No),
+];
 
 #[test]
 fn a_cut_and_an_orphan(rt: HostRuntime) -> Result<(), AllocError> {
-    let places = two_of_three();
-    let mut calls = Calls::new(rt.alloc())?;
-    shell_asks(&mut calls, rt.alloc(), 1, 1, &places)?;
-    shell_asks(&mut calls, rt.alloc(), 2, 1, &places)?;
-    let asker = Asker::Eject {
-        uid: uid_at(1),
-        process: 1,
-    };
-    ask(&mut calls, rt.alloc(), asker, 1, 1, &places)?;
-    assert!(rt; has_arguments(&calls, 1));
-    let broken = calls.break_link(rt.alloc(), 1, 0)?;
-    assert!(rt; !has_arguments(&calls, 1), "lost with the request");
-    assert_eq!(rt; broken.as_slice().len(), 1);
-    assert_eq!(rt; broken.as_slice().first().copied(), Some(1));
-    assert!(rt; !is_closed(&calls, 2), "another link");
-    assert!(rt; !is_closed(&calls, 3), "no link");
-    let none = calls.break_link(rt.alloc(), 1, 1)?;
-    assert!(rt; none.as_slice().is_empty());
-    assert!(rt; calls.waiting(1, 1));
-    calls.orphan(uid_at(1));
-    assert!(rt; is_closed(&calls, 3));
-    assert!(rt; calls.waiting(1, 1), "the request goes on");
-    assert!(rt; has_arguments(&calls, 3), "with its arguments");
-    assert!(rt; calls.deliver(1, 1).is_some());
-    assert!(rt; !answer(&mut calls, rt.alloc(), 3)?);
-    assert!(rt; !has_arguments(&calls, 3));
-    assert!(rt; !answer(&mut calls, rt.alloc(), 0)?, "never given");
-    assert!(rt; !answer(&mut calls, rt.alloc(), 4)?, "not yet given");
-    Ok(())
+    from_start(&rt, rt.alloc(), CUT_AND_ORPHAN)
 }
 
-/// Asks the first Eject of the node, in its own name, from a process of it.
-fn asks_itself(
-    calls: &mut Calls,
-    alloc: Global,
-    node: u8,
-    process: u8,
-    places: &Places,
-) -> Result<Asked, AllocError>
-    requires few { length calls.old.calls < 100 }
-    requires node { node ≤ 8 }
-    ensures ok { OnOk result (length calls.new.calls ≡ length calls.old.calls + 1) }
-{
-    let uid = uid_at(node);
-    ask(calls, alloc, Asker::Eject { uid, process }, node, 1, places)
-}
+const ORPHANS: &[(Step, Seen)] = &[
+    (Step::EjectAsks(1, 1, 1), Seen::Call { call: 1 }),
+    (Step::EjectAsks(2, 1, 2), Seen::Call { call: 2 }),
+    (Step::EjectAsks(1, 2, 1), Seen::Call { call: 3 }),
+    (Step::EjectAsks(1, 3, 1), Seen::Call { call: 4 }),
+    (Step::Answer { call: 1 }, Seen::Yes),
+    (Step::Deliver(1, 1), Seen::Request { call: 1 }),
+    (Step::Deliver(1, 1), Seen::Request { call: 3 }),
+    (Step::Deliver(1, 1), Seen::Request { call: 4 }),
+    (
+        Step::Deliver(1, 1),
+        Seen::Reply(Reply {
+            call: 1,
+            status: Status::Ok,
+            count: 1,
+            was_open: true,
+            by_process: true,
+        }),
+    ),
+    // the reply has come
+    (Step::IsClosed { call: 1 }, Seen::Yes),
+    (Step::IsClosed { call: 3 }, Seen::No),
+    (Step::Orphan { node: 1 }, Seen::Done),
+    (Step::IsClosed { call: 3 }, Seen::Yes),
+    (Step::IsClosed { call: 4 }, Seen::Yes),
+    // another Eject's
+    (Step::IsClosed { call: 2 }, Seen::No),
+    (Step::Orphan { node: 2 }, Seen::Done),
+    (Step::IsClosed { call: 2 }, Seen::Yes),
+];
 
 #[test]
 fn an_orphan_closes_its_own_calls_alone(rt: HostRuntime) -> Result<(), AllocError> {
-    let places = two_of_three();
-    let mut calls = Calls::new(rt.alloc())?;
-    asks_itself(&mut calls, rt.alloc(), 1, 1, &places)?;
-    asks_itself(&mut calls, rt.alloc(), 2, 1, &places)?;
-    asks_itself(&mut calls, rt.alloc(), 1, 2, &places)?;
-    asks_itself(&mut calls, rt.alloc(), 1, 3, &places)?;
-    assert!(rt; answer(&mut calls, rt.alloc(), 1)?);
-    for _ in 0..4 {
-        assert!(rt; calls.deliver(1, 1).is_some());
-    }
-    assert!(rt; is_closed(&calls, 1), "the reply has come");
-    assert!(rt; !is_closed(&calls, 3));
-    calls.orphan(uid_at(1));
-    assert!(rt; is_closed(&calls, 3));
-    assert!(rt; is_closed(&calls, 4));
-    assert!(rt; !is_closed(&calls, 2), "another Eject's");
-    calls.orphan(uid_at(2));
-    assert!(rt; is_closed(&calls, 2));
-    Ok(())
+    from_start(&rt, rt.alloc(), ORPHANS)
 }

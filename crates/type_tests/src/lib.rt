@@ -2,6 +2,8 @@
 #![tactic(auto)]
 
 #[cfg(test)]
+mod common;
+#[cfg(test)]
 mod coordinator_tests;
 #[cfg(test)]
 mod directory_eject_tests;

@@ -1,12 +1,13 @@
+use crate::common;
 use capability::{Cap, Rights, Uid};
-use eden_value::{Items, Status, Txt, Value, print};
+use eden_value::{Items, Status, Value, print};
 use epl_syntax::{Answer, Effect, Native};
 use std::alloc::{AllocError, Global};
 use std::process::Abort;
 use transput::*;
 
 /// The begin of an operation, or what a turn is told of the effect before.
-#[derive(Clone, Copy, Debug)]
+#[derive(Clone, Copy)]
 enum Told {
     Open,
     Fill,
@@ -30,7 +31,7 @@ const SOURCE: Cap = Cap {
 };
 
 /// Lines is filled with two texts.
-const LINES: [(Told, &str); 15] = [
+const LINES: &[(Told, &str)] = &[
     (Told::Transfer { position: 0 }, r#"return (3, "")"#),
     (Told::Fill, "checkpoint"),
     (Told::Failed, "return (3)"),
@@ -49,7 +50,7 @@ const LINES: [(Told, &str); 15] = [
 ];
 
 /// Take hands on two items.
-const TAKE: [(Told, &str); 9] = [
+const TAKE: &[(Told, &str)] = &[
     (Told::Open, "checkpoint"),
     (Told::Saved, "return (0)"),
     (Told::Transfer { position: 0 }, "invoke 1 Transfer (0)"),
@@ -62,7 +63,7 @@ const TAKE: [(Told, &str); 9] = [
 ];
 
 /// Skip leaves out one item.
-const SKIP: [(Told, &str); 7] = [
+const SKIP: &[(Told, &str)] = &[
     (Told::Open, "checkpoint"),
     (Told::Saved, "return (0)"),
     (Told::Transfer { position: 0 }, "invoke 1 Transfer (0)"),
@@ -73,7 +74,7 @@ const SKIP: [(Told, &str); 7] = [
 ];
 
 /// Only hands on the items that begin with `a`.
-const ONLY: [(Told, &str); 9] = [
+const ONLY: &[(Told, &str)] = &[
     (Told::Open, "checkpoint"),
     (Told::Saved, "return (0)"),
     (Told::Transfer { position: 0 }, "invoke 1 Transfer (0)"),
@@ -86,7 +87,7 @@ const ONLY: [(Told, &str); 9] = [
 ];
 
 /// Number meets all that may go wrong.
-const NUMBER: [(Told, &str); 20] = [
+const NUMBER: &[(Told, &str)] = &[
     (Told::Transfer { position: 0 }, r#"return (3, "")"#),
     (Told::Open, "checkpoint"),
     (Told::Failed, "return (3)"),
@@ -110,7 +111,7 @@ const NUMBER: [(Told, &str); 20] = [
 ];
 
 /// Sink takes two items and meets the end.
-const SINK: [(Told, &str); 17] = [
+const SINK: &[(Told, &str)] = &[
     (Told::Pump { wanted: 1 }, "return (3, 0)"),
     (Told::Open, "checkpoint"),
     (Told::Saved, "return (0)"),
@@ -131,9 +132,8 @@ const SINK: [(Told, &str); 17] = [
 ];
 
 fn text(alloc: Global, text: &str) -> Result<Value, AllocError> {
-    let bytes = Vec::from_slice(alloc, text.as_bytes())?;
     Ok(Value::Text {
-        text: Txt { bytes },
+        text: common::text(alloc, text.as_bytes())?,
     })
 }
 
@@ -185,9 +185,8 @@ fn begun(alloc: Global, stream: Stream, told: Told) -> Result<Option<Stage>, All
         Told::Read => ("Read", no_args(alloc)),
         _ => return Ok(None),
     };
-    let bytes = Vec::from_slice(alloc, name.as_bytes())?;
-    let stage = native_begin(alloc, stream, &Txt { bytes }, &args)?;
-    Ok(Some(stage))
+    let name = common::text(alloc, name.as_bytes())?;
+    Ok(Some(native_begin(alloc, stream, &name, &args)?))
 }
 
 fn answer_of(alloc: Global, told: Told) -> Result<Answer, AllocError> {
@@ -249,129 +248,143 @@ fn shown(alloc: Global, effect: &Effect) -> Result<Vec<u8>, AllocError> {
     Ok(out)
 }
 
-/// A new Eject takes a turn for each row, which ends in the effect of the row.
+/// An Eject takes a turn, which ends in an effect.
+fn turned(
+    alloc: Global,
+    stream: Stream,
+    vars: &mut Items,
+    stage: &mut Stage,
+    told: Told,
+) -> Result<Vec<u8>, AllocError> {
+    if let Some(first) = begun(alloc, stream, told)? {
+        *stage = first;
+    }
+    let answer = answer_of(alloc, told)?;
+    let effect = native_turn(alloc, stream, vars, stage, answer)?;
+    shown(alloc, &effect)
+}
+
+/// An Eject with these values takes a turn for each row, which ends in the effect of the row.
 fn takes_turns(
     rt: &impl Abort,
     alloc: Global,
     stream: Stream,
+    mut vars: Items,
     rows: &[(Told, &'static str)],
 ) -> Result<(), AllocError> {
-    let mut vars = native_values(alloc, stream)?;
     let mut stage = Stage::OfSink {
         stage: SinkStage::Reads,
     };
-    for (i, (told, want)) in rows.iter().enumerate() {
-        if let Some(first) = begun(alloc, stream, *told)? {
-            stage = first;
-        }
-        let answer = answer_of(alloc, *told)?;
-        let effect = native_turn(alloc, stream, &mut vars, &mut stage, answer)?;
-        let text = shown(alloc, &effect)?;
-        assert_eq!(rt; text.as_slice(), want.as_bytes(), "{stream:?}, turn {i}");
+    for (i, &(told, want)) in rows.iter().enumerate() {
+        let effect = turned(alloc, stream, &mut vars, &mut stage, told)?;
+        assert_eq!(rt; effect.as_slice(), want.as_bytes(), "{stream:?}, turn {i}");
     }
     Ok(())
 }
 
 #[test]
 fn each_type_takes_its_turns(rt: HostRuntime) -> Result<(), AllocError> {
-    takes_turns(&rt, rt.alloc(), Stream::Lines, &LINES)?;
-    takes_turns(&rt, rt.alloc(), Stream::Take, &TAKE)?;
-    takes_turns(&rt, rt.alloc(), Stream::Skip, &SKIP)?;
-    takes_turns(&rt, rt.alloc(), Stream::Only, &ONLY)?;
-    takes_turns(&rt, rt.alloc(), Stream::Number, &NUMBER)?;
-    takes_turns(&rt, rt.alloc(), Stream::Sink, &SINK)
-}
-
-#[test]
-fn values_at_first(rt: HostRuntime) -> Result<(), AllocError> {
-    let cases = [
-        (Stream::Lines, "(false, [], true)"),
-        (Stream::Take, r#"(<none>, 0, 0, 0, "", true)"#),
-        (Stream::Skip, r#"(<none>, 0, 0, 0, "", true)"#),
-        (Stream::Only, r#"(<none>, "", 0, 0, "", true)"#),
-        (Stream::Number, r#"(<none>, 0, 0, "", true)"#),
-        (Stream::Sink, "(<none>, [], true)"),
+    let cases = &[
+        (Stream::Lines, LINES),
+        (Stream::Take, TAKE),
+        (Stream::Skip, SKIP),
+        (Stream::Only, ONLY),
+        (Stream::Number, NUMBER),
+        (Stream::Sink, SINK),
     ];
-    for (stream, want) in cases {
-        let mut out = Vec::new(rt.alloc());
-        add_row(rt.alloc(), &native_values(rt.alloc(), stream)?, &mut out)?;
-        assert_eq!(rt; out.as_slice(), want.as_bytes(), "{stream:?}");
-    }
-    Ok(())
-}
-
-#[test]
-fn stored_values_are_all_but_the_last(rt: HostRuntime) -> Result<(), AllocError> {
-    let cases = [
-        (Stream::Lines, "(false, [])"),
-        (Stream::Only, r#"(<none>, "", 0, 0, "")"#),
-        (Stream::Number, r#"(<none>, 0, 0, "")"#),
-        (Stream::Sink, "(<none>, [])"),
-    ];
-    for (stream, want) in cases {
+    for &(stream, rows) in cases {
         let vars = native_values(rt.alloc(), stream)?;
-        let mut out = Vec::new(rt.alloc());
-        add_row(
-            rt.alloc(),
-            &native_durable(rt.alloc(), stream, &vars)?,
-            &mut out,
-        )?;
-        assert_eq!(rt; out.as_slice(), want.as_bytes(), "{stream:?}");
+        takes_turns(&rt, rt.alloc(), stream, vars, rows)?;
     }
     Ok(())
 }
 
+/// The values of a new Eject, those of them that are stored, and those of one that starts from the stored ones.
+fn values_shown(alloc: Global, stream: Stream) -> Result<Vec<u8>, AllocError> {
+    let mut out = Vec::new(alloc);
+    let vars = native_values(alloc, stream)?;
+    add_row(alloc, &vars, &mut out)?;
+    let durable = native_durable(alloc, stream, &vars)?;
+    add_row(alloc, &durable, &mut out)?;
+    let again = native_restart(stream, durable)?;
+    add_row(alloc, &again, &mut out)?;
+    Ok(out)
+}
+
 #[test]
-fn saved_begins_anew(rt: HostRuntime) -> Result<(), AllocError> {
-    let values = vec![in rt.alloc();
-        Value::Cap { cap: None },
-        Value::List {
-            items: no_args(rt.alloc())
-        },
-    ]?;
-    let vars = native_restart(Stream::Sink, Items { values })?;
-    let mut out = Vec::new(rt.alloc());
-    add_row(rt.alloc(), &vars, &mut out)?;
-    assert_eq!(rt; out.as_slice(), b"(<none>, [], true)".as_slice());
+fn values_at_first_stored_and_again(rt: HostRuntime) -> Result<(), AllocError> {
+    let cases = &[
+        (
+            Stream::Lines,
+            "(false, [], true)(false, [])(false, [], true)",
+        ),
+        (
+            Stream::Take,
+            r#"(<none>, 0, 0, 0, "", true)(<none>, 0, 0, 0, "")(<none>, 0, 0, 0, "", true)"#,
+        ),
+        (
+            Stream::Skip,
+            r#"(<none>, 0, 0, 0, "", true)(<none>, 0, 0, 0, "")(<none>, 0, 0, 0, "", true)"#,
+        ),
+        (
+            Stream::Only,
+            r#"(<none>, "", 0, 0, "", true)(<none>, "", 0, 0, "")(<none>, "", 0, 0, "", true)"#,
+        ),
+        (
+            Stream::Number,
+            r#"(<none>, 0, 0, "", true)(<none>, 0, 0, "")(<none>, 0, 0, "", true)"#,
+        ),
+        (
+            Stream::Sink,
+            "(<none>, [], true)(<none>, [])(<none>, [], true)",
+        ),
+    ];
+    for &(stream, want) in cases {
+        let shown = values_shown(rt.alloc(), stream)?;
+        assert_eq!(rt; shown.as_slice(), want.as_bytes(), "{stream:?}");
+    }
     Ok(())
 }
 
 #[test]
 fn two_native_types_are_no_streams(rt: HostRuntime) {
-    let cases = [
+    let cases = &[
         (Native::Cell, None),
         (Native::Directory, None),
         (Native::Lines, Some(Stream::Lines)),
         (Native::Only, Some(Stream::Only)),
         (Native::Sink, Some(Stream::Sink)),
     ];
-    for (native, want) in cases {
+    for &(native, want) in cases {
         assert_eq!(rt; Stream::of(native), want);
     }
 }
 
+/// The stored values of a Number that took in so many items and handed on so many.
+fn counted(alloc: Global, got: i64, made: i64) -> Result<Items, AllocError> {
+    let last = text(alloc, "")?;
+    let values = vec![in alloc;
+        Value::Cap { cap: None },
+        Value::Int { n: got },
+        Value::Int { n: made },
+        last,
+    ]?;
+    Ok(Items { values })
+}
+
 #[test]
 fn no_more_was_handed_on_than_taken_in(rt: HostRuntime) -> Result<(), AllocError> {
-    let cases = [
+    let cases = &[
         (0, 0, true),
         (2, 2, true),
         (2, 1, true),
         (1, 2, false),
         (2, -1, false),
     ];
-    for (got, made, want) in cases {
-        let values = vec![in rt.alloc();
-            Value::Cap { cap: None },
-            Value::Int { n: got },
-            Value::Int { n: made },
-            text(rt.alloc(), "")?,
-        ]?;
-        let durable = Items { values };
-        assert_eq!(rt;
-            native_start(Stream::Number, &durable),
-            want,
-            "at {got} and {made}"
-        );
+    for &(got, made, want) in cases {
+        let durable = counted(rt.alloc(), got, made)?;
+        let starts = native_start(Stream::Number, &durable);
+        assert_eq!(rt; starts, want, "at {got} and {made}");
     }
     assert!(rt; native_start(Stream::Lines, &no_args(rt.alloc())));
     Ok(())
@@ -395,17 +408,16 @@ fn sink_of(alloc: Global, held: u32) -> Result<Items, AllocError> {
 
 #[test]
 fn a_sink_holds_256_items(rt: HostRuntime) -> Result<(), AllocError> {
-    for (held, want) in [(255, "invoke 1 Transfer (255)"), (256, "return (2, 256)")] {
-        let mut vars = sink_of(rt.alloc(), held)?;
-        let mut stage = Stage::OfSink {
-            stage: SinkStage::Pumps { wanted: 1 },
-        };
-        let effect = native_turn(rt.alloc(), Stream::Sink, &mut vars, &mut stage, Answer::Go)?;
-        assert_eq!(rt;
-            shown(rt.alloc(), &effect)?.as_slice(),
-            want.as_bytes(),
-            "at {held}"
-        );
+    let cases: &[(u32, &[(Told, &str)])] = &[
+        (
+            255,
+            &[(Told::Pump { wanted: 1 }, "invoke 1 Transfer (255)")],
+        ),
+        (256, &[(Told::Pump { wanted: 1 }, "return (2, 256)")]),
+    ];
+    for &(held, rows) in cases {
+        let vars = sink_of(rt.alloc(), held)?;
+        takes_turns(&rt, rt.alloc(), Stream::Sink, vars, rows)?;
     }
     Ok(())
 }
