@@ -6,13 +6,17 @@ use eden_script::ScriptCause::{
     NoCommand, NoEnd, UnknownName, UnknownType,
 };
 use eden_script::{ScriptCause, ScriptRefusal, parse_script, read_value};
-use eden_value::print;
+use eden_value::{Txt, print};
 use journal::{Arg, Command, Ref, Script};
 use std::alloc::{AllocError, Global};
+use std::process::Abort;
 use std::test::Fail;
 
-/// What stands before the line that a row tries, which is line 4.
-const BEFORE: &str = "nodes 2\ncreate c 1 Cell\ncall a c.Get()\n";
+/// The first bad line of a script and its cause.
+type At = Option<(u32, ScriptCause)>;
+
+/// What stands before the line that a row tries, which is line 4, and what behind it.
+const AROUND: (&str, &str) = ("nodes 2\ncreate c 1 Cell\ncall a c.Get()\n", "\nend\n");
 
 /// The script, or its first bad line and its cause; line 0 where there was no memory.
 fn parsed(alloc: Global, text: &[u8]) -> Result<Script, (u32, ScriptCause)> {
@@ -26,39 +30,181 @@ fn parsed(alloc: Global, text: &[u8]) -> Result<Script, (u32, ScriptCause)> {
     }
 }
 
-fn cause_of(alloc: Global, text: &[u8]) -> Option<(u32, ScriptCause)> {
-    match parsed(alloc, text) {
-        Ok(_) => None,
-        Err(at) => Some(at),
+/// The text of these pieces, each as often as its number says.
+fn text_of(alloc: Global, pieces: &[(&str, usize)]) -> Result<Vec<u8>, AllocError> {
+    let mut text = Vec::new(alloc);
+    for (piece, times) in pieces {
+        for _ in 0..*times {
+            text.extend_from_slice(piece.as_bytes())?;
+        }
     }
-}
-
-/// A script with this line as its fourth and `end` as its fifth.
-fn around(alloc: Global, line: &[u8]) -> Result<Vec<u8>, AllocError> {
-    let mut text = Vec::from_slice(alloc, BEFORE.as_bytes())?;
-    text.extend_from_slice(line)?;
-    text.extend_from_slice(b"\nend\n")?;
     Ok(text)
 }
 
-/// So many times the byte.
-fn repeated(alloc: Global, byte: u8, times: usize) -> Result<Vec<u8>, AllocError> {
-    let mut bytes = Vec::new(alloc);
-    for _ in 0..times {
-        bytes.push(byte)?;
-    }
-    Ok(bytes)
+/// The text is a script, or has its first bad line and its cause there.
+fn has_cause(rt: &impl Abort, alloc: Global, row: &str, text: &[u8], at: At) {
+    let found = match parsed(alloc, text) {
+        Ok(_) => None,
+        Err(at) => Some(at),
+    };
+    assert_eq!(rt; found, at, "{row}");
 }
 
-fn add_number(alloc: Global, n: u64, out: &mut Vec<u8>) -> Result<(), AllocError> {
+/// What a command says: its word, and what stands behind it in this order.
+#[derive(Drop)]
+struct Parts<'a> {
+    word: &'static str,
+    name: Option<&'a Txt>,
+    target: Option<&'a Ref>,
+    numbers: [Option<u32>; 3],
+    text: Option<&'a Txt>,
+    args: &'a [Arg],
+    mode: Option<ImageMode>,
+}
+
+/// A word, and numbers and a mode behind it.
+fn numbered<'a>(
+    word: &'static str,
+    numbers: [Option<u32>; 3],
+    mode: Option<ImageMode>,
+) -> Parts<'a> {
+    Parts {
+        word,
+        name: None,
+        target: None,
+        numbers,
+        text: None,
+        args: &[],
+        mode,
+    }
+}
+
+/// A word, a name and numbers, and a text behind them.
+fn named<'a>(
+    word: &'static str,
+    name: &'a Txt,
+    numbers: [Option<u32>; 3],
+    text: Option<&'a Txt>,
+) -> Parts<'a> {
+    Parts {
+        word,
+        name: Some(name),
+        target: None,
+        numbers,
+        text,
+        args: &[],
+        mode: None,
+    }
+}
+
+/// Of a command that introduces a name.
+fn naming_parts(command: &Command) -> Parts {
+    match command {
+        Command::Create {
+            name,
+            node,
+            type_name,
+        } => named(
+            "create",
+            name,
+            [Some(u32::from(*node)), None, None],
+            Some(type_name),
+        ),
+        Command::Hold { name, uid } => {
+            let numbers = [Some(u32::from(uid.node)), Some(uid.epoch), Some(uid.serial)];
+            named("hold", name, numbers, None)
+        }
+        Command::Call {
+            name,
+            target,
+            operation,
+            args,
+        } => Parts {
+            target: Some(target),
+            args: &args.args,
+            ..named("call", name, [None; 3], Some(operation))
+        },
+        Command::Restrict { name, target, mask } => Parts {
+            target: Some(target),
+            ..named(
+                "restrict",
+                name,
+                [Some(u32::from(mask.bits)), None, None],
+                None,
+            )
+        },
+        Command::Walk { name, target, path } => Parts {
+            target: Some(target),
+            ..named("walk", name, [None; 3], Some(path))
+        },
+        _ => numbered("end", [None; 3], None),
+    }
+}
+
+fn parts_of(command: &Command) -> Parts {
+    match command {
+        Command::Turn { i } => numbered("turn", [Some(*i), None, None], None),
+        Command::Go { n } => numbered("go", [Some(*n), None, None], None),
+        Command::Crash { node, mode } => {
+            numbered("crash", [Some(u32::from(*node)), None, None], Some(*mode))
+        }
+        Command::Restart { node } => numbered(
+            "restart",
+            [Some(u32::from(*node)), None, None],
+            None,
+        ),
+        Command::Cut { a, b } => {
+            numbered(
+                "cut",
+                [Some(u32::from(*a)), Some(u32::from(*b)), None],
+                None,
+            )
+        }
+        Command::Join { a, b } => {
+            numbered(
+                "join",
+                [Some(u32::from(*a)), Some(u32::from(*b)), None],
+                None,
+            )
+        }
+        Command::Fail { node, after } => {
+            numbered("fail", [Some(u32::from(*node)), Some(*after), None], None)
+        }
+        Command::Stop { node, after, mode } => {
+            numbered(
+                "stop",
+                [Some(u32::from(*node)), Some(*after), None],
+                Some(*mode),
+            )
+        }
+        _ => naming_parts(command),
+    }
+}
+
+/// A blank, and a word or a name.
+fn add_word(word: &[u8], out: &mut Vec<u8>) -> Result<(), AllocError> {
     out.push(b' ')?;
-    out.extend_from_slice(format!(in alloc; "{n}")?.as_bytes())
+    out.extend_from_slice(word)
+}
+
+fn add_number(alloc: Global, n: u32, out: &mut Vec<u8>) -> Result<(), AllocError> {
+    add_word(format!(in alloc; "{n}")?.as_bytes(), out)
 }
 
 fn add_reference(alloc: Global, by: &Ref, out: &mut Vec<u8>) -> Result<(), AllocError> {
-    out.push(b' ')?;
-    out.extend_from_slice(&by.name.bytes)?;
-    add_number(alloc, u64::from(by.result), out)
+    add_word(&by.name.bytes, out)?;
+    add_number(alloc, u32::from(by.result), out)
+}
+
+fn add_mode(alloc: Global, mode: ImageMode, out: &mut Vec<u8>) -> Result<(), AllocError> {
+    match mode {
+        ImageMode::Keep => add_word(b"keep", out),
+        ImageMode::Lose => add_word(b"lose", out),
+        ImageMode::Garble { byte } => {
+            add_word(b"garble", out)?;
+            add_number(alloc, u32::from(byte), out)
+        }
+    }
 }
 
 /// An argument: a value as it is printed, a name and its result, or a list in braces.
@@ -71,9 +217,9 @@ fn add_argument(alloc: Global, arg: &Arg, out: &mut Vec<u8>) -> Result<(), Alloc
         }
         Arg::Named { by } => add_reference(alloc, by, out),
         Arg::List { items } => {
-            out.extend_from_slice(b" {")?;
+            add_word(b"{", out)?;
             add_arguments(alloc, &items.args, out)?;
-            out.extend_from_slice(b" }")
+            add_word(b"}", out)
         }
     }
 }
@@ -86,111 +232,43 @@ fn add_arguments(alloc: Global, args: &[Arg], out: &mut Vec<u8>) -> Result<(), A
     Ok(())
 }
 
-fn add_mode(alloc: Global, mode: ImageMode, out: &mut Vec<u8>) -> Result<(), AllocError> {
-    match mode {
-        ImageMode::Keep => out.extend_from_slice(b" keep"),
-        ImageMode::Lose => out.extend_from_slice(b" lose"),
-        ImageMode::Garble { byte } => {
-            out.extend_from_slice(b" garble")?;
-            add_number(alloc, u64::from(byte), out)
-        }
-    }
-}
-
-/// A word, and numbers behind it.
-fn add_numbers(
-    alloc: Global,
-    word: &str,
-    numbers: &[u32],
-    out: &mut Vec<u8>,
-) -> Result<(), AllocError> {
-    out.extend_from_slice(word.as_bytes())?;
-    for n in numbers {
-        add_number(alloc, u64::from(*n), out)?;
-    }
-    Ok(())
-}
-
-/// A word, and a name behind it.
-fn add_named(word: &str, name: &[u8], out: &mut Vec<u8>) -> Result<(), AllocError> {
-    out.extend_from_slice(word.as_bytes())?;
-    out.push(b' ')?;
-    out.extend_from_slice(name)
-}
-
 /// The parts of a command, parted by blanks.
 fn add_command(alloc: Global, command: &Command, out: &mut Vec<u8>) -> Result<(), AllocError> {
-    match command {
-        Command::Turn { i } => add_numbers(alloc, "turn", &[*i], out),
-        Command::Go { n } => add_numbers(alloc, "go", &[*n], out),
-        Command::Crash { node, mode } => {
-            add_numbers(alloc, "crash", &[u32::from(*node)], out)?;
-            add_mode(alloc, *mode, out)
-        }
-        Command::Restart { node } => add_numbers(alloc, "restart", &[u32::from(*node)], out),
-        Command::Cut { a, b } => add_numbers(alloc, "cut", &[u32::from(*a), u32::from(*b)], out),
-        Command::Join { a, b } => add_numbers(alloc, "join", &[u32::from(*a), u32::from(*b)], out),
-        Command::Fail { node, after } => {
-            add_numbers(alloc, "fail", &[u32::from(*node), *after], out)
-        }
-        Command::Stop { node, after, mode } => {
-            add_numbers(alloc, "stop", &[u32::from(*node), *after], out)?;
-            add_mode(alloc, *mode, out)
-        }
-        Command::End => out.extend_from_slice(b"end"),
-        _ => add_naming(alloc, command, out),
+    let Parts {
+        word,
+        name,
+        target,
+        numbers,
+        text,
+        args,
+        mode,
+    } = parts_of(command);
+    out.extend_from_slice(word.as_bytes())?;
+    if let Some(name) = name {
+        add_word(&name.bytes, out)?;
     }
-}
-
-/// The parts of a command that introduces a name.
-fn add_naming(alloc: Global, command: &Command, out: &mut Vec<u8>) -> Result<(), AllocError> {
-    match command {
-        Command::Create {
-            name,
-            node,
-            type_name,
-        } => {
-            add_named("create", &name.bytes, out)?;
-            add_number(alloc, u64::from(*node), out)?;
-            add_named("", &type_name.bytes, out)
+    if let Some(by) = target {
+        add_reference(alloc, by, out)?;
+    }
+    for number in &numbers {
+        if let Some(n) = number {
+            add_number(alloc, *n, out)?;
         }
-        Command::Hold { name, uid } => {
-            add_named("hold", &name.bytes, out)?;
-            add_numbers(
-                alloc,
-                "",
-                &[u32::from(uid.node), uid.epoch, uid.serial],
-                out,
-            )
-        }
-        Command::Call {
-            name,
-            target,
-            operation,
-            args,
-        } => {
-            add_named("call", &name.bytes, out)?;
-            add_reference(alloc, target, out)?;
-            add_named("", &operation.bytes, out)?;
-            add_arguments(alloc, &args.args, out)
-        }
-        Command::Restrict { name, target, mask } => {
-            add_named("restrict", &name.bytes, out)?;
-            add_reference(alloc, target, out)?;
-            add_number(alloc, u64::from(mask.bits), out)
-        }
-        Command::Walk { name, target, path } => {
-            add_named("walk", &name.bytes, out)?;
-            add_reference(alloc, target, out)?;
-            add_named("", &path.bytes, out)
-        }
-        _ => Ok(()),
+    }
+    if let Some(text) = text {
+        add_word(&text.bytes, out)?;
+    }
+    add_arguments(alloc, args, out)?;
+    match mode {
+        Some(mode) => add_mode(alloc, mode, out),
+        None => Ok(()),
     }
 }
 
 /// The parts of the command on the fourth line of a script.
-fn fourth(alloc: Global, line: &[u8]) -> Result<Vec<u8>, AllocError> {
-    let text = around(alloc, line)?;
+fn fourth(alloc: Global, line: &str) -> Result<Vec<u8>, AllocError> {
+    let (before, behind) = AROUND;
+    let text = text_of(alloc, &[(before, 1), (line, 1), (behind, 1)])?;
     let mut out = Vec::new(alloc);
     if let Ok(script) = parsed(alloc, &text) {
         if let [_, _, command, Command::End] = script.commands.commands.as_slice() {
@@ -200,433 +278,497 @@ fn fourth(alloc: Global, line: &[u8]) -> Result<Vec<u8>, AllocError> {
     Ok(out)
 }
 
+/// A line, and the parts of its command.
+const COMMANDS: &[(&str, &str)] = &[
+    ("create d 2 Cell", "create d 2 Cell"),
+    ("create create 01 Cell", "create create 1 Cell"),
+    ("create x_Y9 2 Cell", "create x_Y9 2 Cell"),
+    ("hold h 1.1.1", "hold h 1 1 1"),
+    (
+        "hold h 2.4294967295.4294967295",
+        "hold h 2 4294967295 4294967295",
+    ),
+    ("call b c.Get()", "call b c 0 Get"),
+    ("call b a.1.Op_9(a.8)", "call b a 1 Op_9 a 8"),
+    ("call b a.8.Op_9(a.1)", "call b a 8 Op_9 a 1"),
+    ("call b c.Set(5)", "call b c 0 Set 5"),
+    ("call b c.Set(-0)", "call b c 0 Set 0"),
+    (
+        "call b c.Set(9223372036854775807)",
+        "call b c 0 Set 9223372036854775807",
+    ),
+    (
+        "call b c.Set(-9223372036854775808)",
+        "call b c 0 Set -9223372036854775808",
+    ),
+    (
+        "call b c.Set(true, false, none)",
+        "call b c 0 Set true false <none>",
+    ),
+    (
+        "call b c.Set(\"\", \"a\\\"b\\\\\")",
+        "call b c 0 Set \"\" \"a\\\"b\\\\\"",
+    ),
+    ("call b c.Set([])", "call b c 0 Set { }"),
+    (
+        "call b c.Set([1, [c, a.2]], c)",
+        "call b c 0 Set { 1 { c 0 a 2 } } c 0",
+    ),
+    (
+        "call b c.Set([[[[7]]]])",
+        "call b c 0 Set { { { { 7 } } } }",
+    ),
+    (
+        "call b c.Set([[[[c]]]])",
+        "call b c 0 Set { { { { c 0 } } } }",
+    ),
+    ("call true c.Get()", "call true c 0 Get"),
+    ("restrict r c 0", "restrict r c 0 0"),
+    ("restrict r a.8 65535", "restrict r a 8 65535"),
+    ("walk w c \"\"", "walk w c 0 "),
+    ("walk w a.1 \"x/y\\\"z\"", "walk w a 1 x/y\"z"),
+    ("turn 0", "turn 0"),
+    ("turn 1000000", "turn 1000000"),
+    ("go 1", "go 1"),
+    ("go 0001000000", "go 1000000"),
+    ("crash 2", "crash 2 lose"),
+    ("crash 2 lose", "crash 2 lose"),
+    ("crash 1 keep", "crash 1 keep"),
+    ("crash 1 garble 0", "crash 1 garble 0"),
+    ("crash 1 garble 255", "crash 1 garble 255"),
+    ("restart 1", "restart 1"),
+    ("restart 2", "restart 2"),
+    ("cut 0 2", "cut 0 2"),
+    ("join 2 0", "join 2 0"),
+    ("fail 1 1", "fail 1 1"),
+    ("fail 2 1000000", "fail 2 1000000"),
+    ("stop 1 1 keep", "stop 1 1 keep"),
+    ("stop 1 1 garble 255", "stop 1 1 garble 255"),
+    ("stop 2 1000000 lose", "stop 2 1000000 lose"),
+    ("stop 2 7 garble 9", "stop 2 7 garble 9"),
+];
+
 #[test]
 fn commands(rt: HostRuntime) -> Result<(), Fail> {
-    for (line, parts) in [
-        ("create d 2 Cell", "create d 2 Cell"),
-        ("create create 01 Cell", "create create 1 Cell"),
-        ("create x_Y9 2 Cell", "create x_Y9 2 Cell"),
-        ("hold h 1.1.1", "hold h 1 1 1"),
-        (
-            "hold h 2.4294967295.4294967295",
-            "hold h 2 4294967295 4294967295",
-        ),
-        ("call b c.Get()", "call b c 0 Get"),
-        ("call b a.1.Op_9(a.8)", "call b a 1 Op_9 a 8"),
-        ("call b a.8.Op_9(a.1)", "call b a 8 Op_9 a 1"),
-        ("call b c.Set(5)", "call b c 0 Set 5"),
-        ("call b c.Set(-0)", "call b c 0 Set 0"),
-        (
-            "call b c.Set(9223372036854775807)",
-            "call b c 0 Set 9223372036854775807",
-        ),
-        (
-            "call b c.Set(-9223372036854775808)",
-            "call b c 0 Set -9223372036854775808",
-        ),
-        (
-            "call b c.Set(true, false, none)",
-            "call b c 0 Set true false <none>",
-        ),
-        (
-            "call b c.Set(\"\", \"a\\\"b\\\\\")",
-            "call b c 0 Set \"\" \"a\\\"b\\\\\"",
-        ),
-        ("call b c.Set([])", "call b c 0 Set { }"),
-        (
-            "call b c.Set([1, [c, a.2]], c)",
-            "call b c 0 Set { 1 { c 0 a 2 } } c 0",
-        ),
-        (
-            "call b c.Set([[[[7]]]])",
-            "call b c 0 Set { { { { 7 } } } }",
-        ),
-        (
-            "call b c.Set([[[[c]]]])",
-            "call b c 0 Set { { { { c 0 } } } }",
-        ),
-        ("call true c.Get()", "call true c 0 Get"),
-        ("restrict r c 0", "restrict r c 0 0"),
-        ("restrict r a.8 65535", "restrict r a 8 65535"),
-        ("walk w c \"\"", "walk w c 0 "),
-        ("walk w a.1 \"x/y\\\"z\"", "walk w a 1 x/y\"z"),
-        ("turn 0", "turn 0"),
-        ("turn 1000000", "turn 1000000"),
-        ("go 1", "go 1"),
-        ("go 0001000000", "go 1000000"),
-        ("crash 2", "crash 2 lose"),
-        ("crash 2 lose", "crash 2 lose"),
-        ("crash 1 keep", "crash 1 keep"),
-        ("crash 1 garble 0", "crash 1 garble 0"),
-        ("crash 1 garble 255", "crash 1 garble 255"),
-        ("restart 1", "restart 1"),
-        ("restart 2", "restart 2"),
-        ("cut 0 2", "cut 0 2"),
-        ("join 2 0", "join 2 0"),
-        ("fail 1 1", "fail 1 1"),
-        ("fail 2 1000000", "fail 2 1000000"),
-        ("stop 1 1 keep", "stop 1 1 keep"),
-        ("stop 1 1 garble 255", "stop 1 1 garble 255"),
-        ("stop 2 1000000 lose", "stop 2 1000000 lose"),
-        ("stop 2 7 garble 9", "stop 2 7 garble 9"),
-    ] {
-        let found = fourth(rt.alloc(), line.as_bytes())?;
-        assert_eq!(rt; found.as_slice(), parts.as_bytes(), "{line}");
+    for &(line, parts) in COMMANDS {
+        let found = fourth(rt.alloc(), line)?;
+        assert!(rt; found.as_slice() == parts.as_bytes(), "{line}");
     }
     Ok(())
 }
 
-#[test]
-fn forms(rt: HostRuntime) -> Result<(), Fail> {
-    for (line, cause) in [
-        (" ", NoCommand),
-        (" go 1", NoCommand),
-        ("frob", NoCommand),
-        ("Go 1", NoCommand),
-        ("goes 1", NoCommand),
-        ("end.", NoCommand),
-        ("create", BadForm),
-        ("create d", BadForm),
-        ("create d 1", BadForm),
-        ("create d 1 Cell ", BadForm),
-        ("create d  1 Cell", BadForm),
-        ("create D 1 Cell", BadForm),
-        ("create _d 1 Cell", BadForm),
-        ("create d 1 cell", BadForm),
-        ("create d x Cell", BadForm),
-        ("create d -1 Cell", BadForm),
-        ("hold", BadForm),
-        ("hold h 1.1", BadForm),
-        ("hold h 1.1.1.1", BadForm),
-        ("hold h 1. 1.1", BadForm),
-        ("call", BadForm),
-        ("call b c.Get", BadForm),
-        ("call b c.Get(", BadForm),
-        ("call b c.Get() ", BadForm),
-        ("call b c.get()", BadForm),
-        ("call b c Get()", BadForm),
-        ("call b c.1.2.Get()", BadForm),
-        ("call b c.Set(1,2)", BadForm),
-        ("call b c.Set(1, 2, )", BadForm),
-        ("call b c.Set(, 1)", BadForm),
-        ("call b c.Set(1 )", BadForm),
-        ("call b c.Set(+1)", BadForm),
-        ("call b c.Set(- 1)", BadForm),
-        ("call b c.Set(--1)", BadForm),
-        ("call b c.Set(1x)", BadForm),
-        ("call b c.Set(Cell)", BadForm),
-        ("call b c.Set(\"a)", BadForm),
-        ("call b c.Set(\"a\\n\")", BadForm),
-        ("call b c.Set(\"a\"b)", BadForm),
-        ("call b c.Set([1)", BadForm),
-        ("call b c.Set([1,2])", BadForm),
-        ("call b c.Set([ ])", BadForm),
-        ("call b c.Set([[[[[]]]]])", BadForm),
-        ("call b c.Set([[[[[]]]]], 99999999999999999999)", BadForm),
-        ("restrict", BadForm),
-        ("restrict r c", BadForm),
-        ("restrict r c -1", BadForm),
-        ("walk", BadForm),
-        ("walk w c x", BadForm),
-        ("walk w c \"x", BadForm),
-        ("walk w c \"x\" ", BadForm),
-        ("turn", BadForm),
-        ("turn -1", BadForm),
-        ("turn 1 ", BadForm),
-        ("go", BadForm),
-        ("go 1 1", BadForm),
-        ("crash", BadForm),
-        ("crash 1 Keep", BadForm),
-        ("crash 1 garble", BadForm),
-        ("crash 1 ", BadForm),
-        ("restart", BadForm),
-        ("restart 1 keep", BadForm),
-        ("cut", BadForm),
-        ("cut 1", BadForm),
-        ("cut 1 1", BadForm),
-        ("cut 1 001", BadForm),
-        ("cut 99 099", BadForm),
-        ("join", BadForm),
-        ("join 2 2", BadForm),
-        ("fail", BadForm),
-        ("fail 1", BadForm),
-        ("fail 1  1", BadForm),
-        ("stop", BadForm),
-        ("stop 1 1", BadForm),
-        ("stop 1 1 garble", BadForm),
-        ("end 1", BadForm),
-        ("nodes 1", Misplaced),
-        ("nodes", Misplaced),
-        ("nodes x", Misplaced),
-    ] {
-        let text = around(rt.alloc(), line.as_bytes())?;
-        assert_eq!(rt; cause_of(rt.alloc(), &text), Some((4, cause)), "{line}");
+/// Each of these lines is refused as the fourth.
+fn lines_have_causes(
+    rt: &impl Abort,
+    alloc: Global,
+    rows: &[(&str, ScriptCause)],
+) -> Result<(), AllocError> {
+    let (before, behind) = AROUND;
+    for &(line, cause) in rows {
+        let text = text_of(alloc, &[(before, 1), (line, 1), (behind, 1)])?;
+        has_cause(rt, alloc, line, &text, Some((4, cause)));
     }
     Ok(())
 }
 
+const FORMS: &[(&str, ScriptCause)] = &[
+    (" ", NoCommand),
+    (" go 1", NoCommand),
+    ("frob", NoCommand),
+    ("Go 1", NoCommand),
+    ("goes 1", NoCommand),
+    ("end.", NoCommand),
+    ("create", BadForm),
+    ("create d", BadForm),
+    ("create d 1", BadForm),
+    ("create d 1 Cell ", BadForm),
+    ("create d  1 Cell", BadForm),
+    ("create D 1 Cell", BadForm),
+    ("create _d 1 Cell", BadForm),
+    ("create d 1 cell", BadForm),
+    ("create d x Cell", BadForm),
+    ("create d -1 Cell", BadForm),
+    ("hold", BadForm),
+    ("hold h 1.1", BadForm),
+    ("hold h 1.1.1.1", BadForm),
+    ("hold h 1. 1.1", BadForm),
+    ("call", BadForm),
+    ("call b c.Get", BadForm),
+    ("call b c.Get(", BadForm),
+    ("call b c.Get() ", BadForm),
+    ("call b c.get()", BadForm),
+    ("call b c Get()", BadForm),
+    ("call b c.1.2.Get()", BadForm),
+    ("call b c.Set(1,2)", BadForm),
+    ("call b c.Set(1, 2, )", BadForm),
+    ("call b c.Set(, 1)", BadForm),
+    ("call b c.Set(1 )", BadForm),
+    ("call b c.Set(+1)", BadForm),
+    ("call b c.Set(- 1)", BadForm),
+    ("call b c.Set(--1)", BadForm),
+    ("call b c.Set(1x)", BadForm),
+    ("call b c.Set(Cell)", BadForm),
+    ("call b c.Set(\"a)", BadForm),
+    ("call b c.Set(\"a\\n\")", BadForm),
+    ("call b c.Set(\"a\"b)", BadForm),
+    ("call b c.Set([1)", BadForm),
+    ("call b c.Set([1,2])", BadForm),
+    ("call b c.Set([ ])", BadForm),
+    ("call b c.Set([[[[[]]]]])", BadForm),
+    ("call b c.Set([[[[[]]]]], 99999999999999999999)", BadForm),
+    ("restrict", BadForm),
+    ("restrict r c", BadForm),
+    ("restrict r c -1", BadForm),
+    ("walk", BadForm),
+    ("walk w c x", BadForm),
+    ("walk w c \"x", BadForm),
+    ("walk w c \"x\" ", BadForm),
+    ("turn", BadForm),
+    ("turn -1", BadForm),
+    ("turn 1 ", BadForm),
+    ("go", BadForm),
+    ("go 1 1", BadForm),
+    ("crash", BadForm),
+    ("crash 1 Keep", BadForm),
+    ("crash 1 garble", BadForm),
+    ("crash 1 ", BadForm),
+    ("restart", BadForm),
+    ("restart 1 keep", BadForm),
+    ("cut", BadForm),
+    ("cut 1", BadForm),
+    ("cut 1 1", BadForm),
+    ("cut 1 001", BadForm),
+    ("cut 99 099", BadForm),
+    ("join", BadForm),
+    ("join 2 2", BadForm),
+    ("fail", BadForm),
+    ("fail 1", BadForm),
+    ("fail 1  1", BadForm),
+    ("stop", BadForm),
+    ("stop 1 1", BadForm),
+    ("stop 1 1 garble", BadForm),
+    ("end 1", BadForm),
+    ("nodes 1", Misplaced),
+    ("nodes", Misplaced),
+    ("nodes x", Misplaced),
+];
+
+const NUMBERS_AND_NAMES: &[(&str, ScriptCause)] = &[
+    ("create d 0 Cell", BadNumber),
+    ("create d 3 Cell", BadNumber),
+    ("create d 99999999999999999999999 Cell", BadNumber),
+    ("hold h 0.1.1", BadNumber),
+    ("hold h 3.1.1", BadNumber),
+    ("hold h 1.0.1", BadNumber),
+    ("hold h 1.1.0", BadNumber),
+    ("hold h 1.4294967296.1", BadNumber),
+    ("hold h 1.1.4294967296", BadNumber),
+    ("call b c.0.Get()", BadNumber),
+    ("call b c.9.Get()", BadNumber),
+    ("call b c.Set(c.0)", BadNumber),
+    ("call b c.Set(c.9)", BadNumber),
+    ("call b c.Set(9223372036854775808)", BadNumber),
+    ("call b c.Set(-9223372036854775809)", BadNumber),
+    ("call b c.Set([1, [9223372036854775808]])", BadNumber),
+    ("restrict r c 65536", BadNumber),
+    ("restrict r c.0 1", BadNumber),
+    ("restrict r c.9 1", BadNumber),
+    ("walk w c.0 \"x\"", BadNumber),
+    ("walk w c.9 \"x\"", BadNumber),
+    ("turn 1000001", BadNumber),
+    ("go 0", BadNumber),
+    ("go 1000001", BadNumber),
+    ("crash 0", BadNumber),
+    ("crash 3", BadNumber),
+    ("crash 1 garble 256", BadNumber),
+    ("restart 0", BadNumber),
+    ("restart 3", BadNumber),
+    ("cut 0 3", BadNumber),
+    ("cut 3 0", BadNumber),
+    ("cut 98 99", BadNumber),
+    ("join 0 3", BadNumber),
+    ("join 3 0", BadNumber),
+    ("fail 1 0", BadNumber),
+    ("fail 1 1000001", BadNumber),
+    ("fail 0 1", BadNumber),
+    ("fail 3 1", BadNumber),
+    ("stop 0 1 keep", BadNumber),
+    ("stop 3 1 keep", BadNumber),
+    ("stop 1 0 keep", BadNumber),
+    ("stop 1 1000001 keep", BadNumber),
+    ("stop 1 1 garble 256", BadNumber),
+    ("call b x.Get()", UnknownName),
+    ("call b b.Get()", UnknownName),
+    ("call b c.Set(x)", UnknownName),
+    ("call b c.Set([[x.1]])", UnknownName),
+    ("call b true.Get()", UnknownName),
+    ("call b c.Set(true.1)", UnknownName),
+    ("restrict r x 1", UnknownName),
+    ("walk w x \"y\"", UnknownName),
+    ("create d 1 Mailbox", UnknownType),
+    ("create c 1 Mailbox", UnknownType),
+    ("create c 1 Cell", DoubledName),
+    ("hold a 1.1.1", DoubledName),
+    ("call a c.Get()", DoubledName),
+    ("restrict c c 1", DoubledName),
+    ("walk c c \"x\"", DoubledName),
+    // The earlier cause of two.
+    ("create d 3 cell", BadForm),
+    ("create c 3 Mailbox", BadNumber),
+    ("call c x.Set(9223372036854775808)", BadNumber),
+    ("call c x.Get(", BadForm),
+    ("call c x.Get()", UnknownName),
+    ("restrict c x 65536", BadNumber),
+    ("restrict c x 1", UnknownName),
+    ("walk c x.9 \"y\"", BadNumber),
+    ("walk c x \"y\"", UnknownName),
+    ("hold c 3.1.1", BadNumber),
+    ("cut 3 3", BadForm),
+    ("nodes 9", Misplaced),
+];
+
 #[test]
-fn numbers_and_names(rt: HostRuntime) -> Result<(), Fail> {
-    for (line, cause) in [
-        ("create d 0 Cell", BadNumber),
-        ("create d 3 Cell", BadNumber),
-        ("create d 99999999999999999999999 Cell", BadNumber),
-        ("hold h 0.1.1", BadNumber),
-        ("hold h 3.1.1", BadNumber),
-        ("hold h 1.0.1", BadNumber),
-        ("hold h 1.1.0", BadNumber),
-        ("hold h 1.4294967296.1", BadNumber),
-        ("hold h 1.1.4294967296", BadNumber),
-        ("call b c.0.Get()", BadNumber),
-        ("call b c.9.Get()", BadNumber),
-        ("call b c.Set(c.0)", BadNumber),
-        ("call b c.Set(c.9)", BadNumber),
-        ("call b c.Set(9223372036854775808)", BadNumber),
-        ("call b c.Set(-9223372036854775809)", BadNumber),
-        ("call b c.Set([1, [9223372036854775808]])", BadNumber),
-        ("restrict r c 65536", BadNumber),
-        ("restrict r c.0 1", BadNumber),
-        ("restrict r c.9 1", BadNumber),
-        ("walk w c.0 \"x\"", BadNumber),
-        ("walk w c.9 \"x\"", BadNumber),
-        ("turn 1000001", BadNumber),
-        ("go 0", BadNumber),
-        ("go 1000001", BadNumber),
-        ("crash 0", BadNumber),
-        ("crash 3", BadNumber),
-        ("crash 1 garble 256", BadNumber),
-        ("restart 0", BadNumber),
-        ("restart 3", BadNumber),
-        ("cut 0 3", BadNumber),
-        ("cut 3 0", BadNumber),
-        ("cut 98 99", BadNumber),
-        ("join 0 3", BadNumber),
-        ("join 3 0", BadNumber),
-        ("fail 1 0", BadNumber),
-        ("fail 1 1000001", BadNumber),
-        ("fail 0 1", BadNumber),
-        ("fail 3 1", BadNumber),
-        ("stop 0 1 keep", BadNumber),
-        ("stop 3 1 keep", BadNumber),
-        ("stop 1 0 keep", BadNumber),
-        ("stop 1 1000001 keep", BadNumber),
-        ("stop 1 1 garble 256", BadNumber),
-        ("call b x.Get()", UnknownName),
-        ("call b b.Get()", UnknownName),
-        ("call b c.Set(x)", UnknownName),
-        ("call b c.Set([[x.1]])", UnknownName),
-        ("call b true.Get()", UnknownName),
-        ("call b c.Set(true.1)", UnknownName),
-        ("restrict r x 1", UnknownName),
-        ("walk w x \"y\"", UnknownName),
-        ("create d 1 Mailbox", UnknownType),
-        ("create c 1 Mailbox", UnknownType),
-        ("create c 1 Cell", DoubledName),
-        ("hold a 1.1.1", DoubledName),
-        ("call a c.Get()", DoubledName),
-        ("restrict c c 1", DoubledName),
-        ("walk c c \"x\"", DoubledName),
-        // The earlier cause of two.
-        ("create d 3 cell", BadForm),
-        ("create c 3 Mailbox", BadNumber),
-        ("call c x.Set(9223372036854775808)", BadNumber),
-        ("call c x.Get(", BadForm),
-        ("call c x.Get()", UnknownName),
-        ("restrict c x 65536", BadNumber),
-        ("restrict c x 1", UnknownName),
-        ("walk c x.9 \"y\"", BadNumber),
-        ("walk c x \"y\"", UnknownName),
-        ("hold c 3.1.1", BadNumber),
-        ("cut 3 3", BadForm),
-        ("nodes 9", Misplaced),
-    ] {
-        let text = around(rt.alloc(), line.as_bytes())?;
-        assert_eq!(rt; cause_of(rt.alloc(), &text), Some((4, cause)), "{line}");
-    }
+fn lines(rt: HostRuntime) -> Result<(), Fail> {
+    lines_have_causes(&rt, rt.alloc(), FORMS)?;
+    lines_have_causes(&rt, rt.alloc(), NUMBERS_AND_NAMES)?;
     Ok(())
 }
+
+const SCRIPTS: &[(&str, At)] = &[
+    ("", Some((1, NoEnd))),
+    ("\n", Some((2, NoEnd))),
+    ("frob\n", Some((1, NoCommand))),
+    ("# x", Some((2, NoEnd))),
+    ("nodes 1", Some((2, NoEnd))),
+    ("nodes 1\n", Some((2, NoEnd))),
+    ("nodes 1\n\n", Some((3, NoEnd))),
+    ("nodes 1\nend", None),
+    ("nodes 8\nend\n", None),
+    ("\n# x\nnodes 1\n\n#\nend\n\n# y", None),
+    ("nodes 0\nend\n", Some((1, BadNumber))),
+    ("nodes 9\nend\n", Some((1, BadNumber))),
+    ("nodes\nend\n", Some((1, BadForm))),
+    ("nodes 1 \nend\n", Some((1, BadForm))),
+    ("end\n", Some((1, Misplaced))),
+    ("end 1\n", Some((1, Misplaced))),
+    ("go 1\nnodes 1\n", Some((1, Misplaced))),
+    ("nodes 1\nnodes 1\nend\n", Some((2, Misplaced))),
+    ("nodes 1\nend\nend\n", Some((3, AfterEnd))),
+    ("nodes 1\nend\nfrob\n", Some((3, AfterEnd))),
+    ("nodes 1\nend\nnodes 1\n", Some((3, AfterEnd))),
+    ("nodes 1\nend\n \n", Some((3, AfterEnd))),
+    ("nodes 1\nend\n\x7f\n", Some((3, BadByte))),
+    ("nodes 1\nend\n#\t\n", Some((3, BadByte))),
+    ("nodes 1\nend\n#\x1f\n", Some((3, BadByte))),
+    ("nodes 1\nend\n# ~\n", None),
+    ("\tfrob\n", Some((1, BadByte))),
+    ("nodes 1\r\nend\n", Some((1, BadByte))),
+    ("nodes 1\ngo 0\nfrob\n", Some((2, BadNumber))),
+    ("nodes 1\ncreate c 2 Cell\nend\n", Some((2, BadNumber))),
+    (
+        "nodes 1\ncreate c 1 Cell\ncreate c 1 Cell\nend\n",
+        Some((3, DoubledName)),
+    ),
+    (
+        "nodes 1\ncall a c.Get()\ncreate c 1 Cell\nend\n",
+        Some((2, UnknownName)),
+    ),
+    (
+        "nodes 1\nhold h 1.1.1\ncall a h.Get()\ncall b a.1.Get(a)\nend\n",
+        None,
+    ),
+    (
+        "nodes 1\nhold h 1.1.1\nrestrict r h 1\nwalk w r \"x\"\ncall b w.2.Get(r)\nend\n",
+        None,
+    ),
+    // A word of values as a name.
+    (
+        "nodes 1\nhold true 1.1.1\ncall b true.Get(true, true.1)\nend\n",
+        None,
+    ),
+];
+
+const EDENTYPES: &[(&str, At)] = &[
+    ("edentype A foo\nendtype\n", Some((1, BadEdentype))),
+    (
+        "# x\nedentype A\n# x\nendtype\nnodes 1\nend\n",
+        Some((3, BadEdentype)),
+    ),
+    // Bad lines inside, before the text is read and behind the place where it is refused.
+    ("\tedentype A\nendtype\n", Some((1, BadByte))),
+    ("edentype A\t\nendtype\n", Some((1, BadByte))),
+    (
+        "edentype A\n\t\nendtype\nnodes 1\nend\n",
+        Some((2, BadByte)),
+    ),
+    (
+        "edentype A x\n\t\nendtype\nnodes 1\nend\n",
+        Some((1, BadEdentype)),
+    ),
+    // Behind nodes and behind end.
+    ("nodes 1\nedentype A\nendtype\nend\n", Some((2, Misplaced))),
+    (
+        "nodes 1\nedentype A\n\t\nendtype\nend\n",
+        Some((2, Misplaced)),
+    ),
+    ("nodes 1\nedentype A\t\nendtype\nend\n", Some((2, BadByte))),
+    (
+        "nodes 1\nend\nedentype Cell\nendtype\n",
+        Some((3, AfterEnd)),
+    ),
+    ("nodes 1\nend\nedentype A\t\nendtype\n", Some((3, BadByte))),
+    // A name that is there.
+    ("edentype Cell\nendtype\n", Some((1, DoubledName))),
+    ("edentype  Cell x\nendtype\n", Some((1, DoubledName))),
+    ("edentype\nCell\nendtype\n", Some((2, DoubledName))),
+    (
+        "edentype A\nendtype\nedentype A\nendtype\n",
+        Some((3, DoubledName)),
+    ),
+    ("edentypeCell\nendtype\n", Some((1, BadEdentype))),
+    (
+        "nodes 1\nedentype Cell\nendtype\nend\n",
+        Some((2, Misplaced)),
+    ),
+    // A broken rule: a limit past 16, a start value of another kind, a name that is not declared.
+    (
+        "edentype A\nclass c limit 17\nendtype\n",
+        Some((2, BadEdentype)),
+    ),
+    (
+        "edentype A\nclass c limit 1\ndurable n : int =\ntrue\nendtype\n",
+        Some((4, BadEdentype)),
+    ),
+    (
+        "edentype A\nendtype\nedentype B\nprocess P\nx := 1\nend\nendtype\n",
+        Some((5, BadEdentype)),
+    ),
+    // Without its end.
+    ("edentype A\n", Some((2, NoEnd))),
+    ("edentype A\nnodes 1\nend\n", Some((4, NoEnd))),
+    ("edentype A\nendtype \n", Some((3, NoEnd))),
+    ("edentype A\n\t\n", Some((2, BadByte))),
+    ("edentype Cell\nendtypes\nfrob", Some((4, NoEnd))),
+    ("nodes 1\nedentype A\nend\n", Some((4, NoEnd))),
+    ("nodes 1\nend\nedentype A\n", Some((4, NoEnd))),
+    ("nodes 1\nend\nedentype A\n# \x7f\n", Some((4, BadByte))),
+    // Lines that end nothing.
+    ("endtype\n", Some((1, NoCommand))),
+    ("nodes 1\nendtype\n", Some((2, NoCommand))),
+];
 
 #[test]
 fn scripts(rt: HostRuntime) -> Result<(), Fail> {
-    for (text, at) in [
-        ("", Some((1, NoEnd))),
-        ("\n", Some((2, NoEnd))),
-        ("frob\n", Some((1, NoCommand))),
-        ("# x", Some((2, NoEnd))),
-        ("nodes 1", Some((2, NoEnd))),
-        ("nodes 1\n", Some((2, NoEnd))),
-        ("nodes 1\n\n", Some((3, NoEnd))),
-        ("nodes 1\nend", None),
-        ("nodes 8\nend\n", None),
-        ("\n# x\nnodes 1\n\n#\nend\n\n# y", None),
-        ("nodes 0\nend\n", Some((1, BadNumber))),
-        ("nodes 9\nend\n", Some((1, BadNumber))),
-        ("nodes\nend\n", Some((1, BadForm))),
-        ("nodes 1 \nend\n", Some((1, BadForm))),
-        ("end\n", Some((1, Misplaced))),
-        ("end 1\n", Some((1, Misplaced))),
-        ("go 1\nnodes 1\n", Some((1, Misplaced))),
-        ("nodes 1\nnodes 1\nend\n", Some((2, Misplaced))),
-        ("nodes 1\nend\nend\n", Some((3, AfterEnd))),
-        ("nodes 1\nend\nfrob\n", Some((3, AfterEnd))),
-        ("nodes 1\nend\nnodes 1\n", Some((3, AfterEnd))),
-        ("nodes 1\nend\n \n", Some((3, AfterEnd))),
-        ("nodes 1\nend\n\x7f\n", Some((3, BadByte))),
-        ("nodes 1\nend\n#\t\n", Some((3, BadByte))),
-        ("nodes 1\nend\n#\x1f\n", Some((3, BadByte))),
-        ("nodes 1\nend\n# ~\n", None),
-        ("\tfrob\n", Some((1, BadByte))),
-        ("nodes 1\r\nend\n", Some((1, BadByte))),
-        ("nodes 1\ngo 0\nfrob\n", Some((2, BadNumber))),
-        ("nodes 1\ncreate c 2 Cell\nend\n", Some((2, BadNumber))),
-        (
-            "nodes 1\ncreate c 1 Cell\ncreate c 1 Cell\nend\n",
-            Some((3, DoubledName)),
-        ),
-        (
-            "nodes 1\ncall a c.Get()\ncreate c 1 Cell\nend\n",
-            Some((2, UnknownName)),
-        ),
-        (
-            "nodes 1\nhold h 1.1.1\ncall a h.Get()\ncall b a.1.Get(a)\nend\n",
-            None,
-        ),
-        (
-            "nodes 1\nhold h 1.1.1\nrestrict r h 1\nwalk w r \"x\"\ncall b w.2.Get(r)\nend\n",
-            None,
-        ),
-        // A word of values as a name.
-        (
-            "nodes 1\nhold true 1.1.1\ncall b true.Get(true, true.1)\nend\n",
-            None,
-        ),
-    ] {
-        assert_eq!(rt; cause_of(rt.alloc(), text.as_bytes()), at, "{text}");
+    for rows in &[SCRIPTS, EDENTYPES] {
+        for &(text, at) in *rows {
+            has_cause(&rt, rt.alloc(), text, text.as_bytes(), at);
+        }
     }
     Ok(())
 }
 
-/// A text with the byte so many times in its middle.
-fn stretched(
+/// The front of a line or a text, a byte of its middle and how often it stands there, and the back.
+type Stretched<'a> = (&'a str, &'a str, usize, &'a str, At);
+
+fn lengths_have_causes(
+    rt: &impl Abort,
     alloc: Global,
-    front: &str,
-    byte: u8,
-    times: usize,
-    back: &str,
-) -> Result<Vec<u8>, AllocError> {
-    let mut text = Vec::from_slice(alloc, front.as_bytes())?;
-    text.extend_from_slice(&repeated(alloc, byte, times)?)?;
-    text.extend_from_slice(back.as_bytes())?;
-    Ok(text)
+    around: (&str, &str),
+    rows: &[Stretched],
+) -> Result<(), AllocError> {
+    let (before, behind) = around;
+    for &(front, byte, times, back, at) in rows {
+        let text = text_of(
+            alloc,
+            &[
+                (before, 1),
+                (front, 1),
+                (byte, times),
+                (back, 1),
+                (behind, 1),
+            ],
+        )?;
+        has_cause(rt, alloc, front, &text, at);
+    }
+    Ok(())
 }
+
+const LINE_LENGTHS: &[Stretched<'static>] = &[
+    ("#", "x", 4095, "", None),
+    ("#", "x", 4096, "", Some((4, LongLine))),
+    ("#", "x", 4096, "\t", Some((4, BadByte))),
+    ("frob", "x", 4093, "", Some((4, LongLine))),
+    ("create ", "d", 32, " 1 Cell", None),
+    ("create ", "d", 33, " 1 Cell", Some((4, BadForm))),
+    ("create d 1 ", "T", 32, "", Some((4, UnknownType))),
+    ("create d 1 ", "T", 33, "", Some((4, BadForm))),
+    ("call b ", "c", 32, ".Get()", Some((4, UnknownName))),
+    ("call b ", "c", 33, ".Get()", Some((4, BadForm))),
+    ("call b c.", "G", 32, "()", None),
+    ("call b c.", "G", 33, "()", Some((4, BadForm))),
+    ("call b c.Set(", "x", 32, ")", Some((4, UnknownName))),
+    ("call b c.Set(", "x", 33, ")", Some((4, BadForm))),
+    ("call b c.Set(\"", "x", 1024, "\")", None),
+    ("call b c.Set(\"", "x", 1025, "\")", Some((4, BadForm))),
+    ("call b c.Set(\"\\\\", "x", 1023, "\")", None),
+    ("call b c.Set(\"\\\\", "x", 1024, "\")", Some((4, BadForm))),
+    ("walk w c \"", "/", 1024, "\"", None),
+    ("walk w c \"", "/", 1025, "\"", Some((4, BadForm))),
+    ("turn ", "0", 4091, "", None),
+    // The items of a list.
+    ("call b c.Set([0", ", 0", 255, "])", None),
+    ("call b c.Set([0", ", 0", 256, "])", Some((4, BadForm))),
+];
+
+const TEXT_LENGTHS: &[Stretched<'static>] = &[
+    ("nodes 1\nend\n", "x", 4096, "", Some((3, AfterEnd))),
+    ("nodes 1\nend\n", "x", 4097, "", Some((3, LongLine))),
+    ("edentype A\n", " ", 4096, "\nendtype\nnodes 1\nend\n", None),
+    (
+        "edentype A\n",
+        " ",
+        4097,
+        "\nendtype\n",
+        Some((2, LongLine)),
+    ),
+    (
+        "edentype A\n",
+        "x",
+        4096,
+        "\nendtype\n",
+        Some((2, BadEdentype)),
+    ),
+    (
+        "edentype A\n",
+        "x",
+        4097,
+        "\nendtype\n",
+        Some((2, LongLine)),
+    ),
+    ("edentype A\n", "x", 4096, "", Some((3, NoEnd))),
+    ("edentype A\n", "x", 4097, "", Some((2, LongLine))),
+    ("edentype ", "A", 32, "\nendtype\nnodes 1\nend\n", None),
+    ("edentype ", "A", 33, "\nendtype\n", Some((1, BadEdentype))),
+    (
+        "nodes 1\nedentype A",
+        " ",
+        4086,
+        "\nendtype\n",
+        Some((2, Misplaced)),
+    ),
+    (
+        "nodes 1\nedentype A",
+        " ",
+        4087,
+        "\nendtype\n",
+        Some((2, LongLine)),
+    ),
+];
 
 #[test]
 fn lengths(rt: HostRuntime) -> Result<(), Fail> {
-    for (front, byte, times, back, at) in [
-        ("#", b'x', 4095, "", None),
-        ("#", b'x', 4096, "", Some((4, LongLine))),
-        ("#", b'x', 4096, "\t", Some((4, BadByte))),
-        ("frob", b'x', 4093, "", Some((4, LongLine))),
-        ("create ", b'd', 32, " 1 Cell", None),
-        ("create ", b'd', 33, " 1 Cell", Some((4, BadForm))),
-        ("create d 1 ", b'T', 32, "", Some((4, UnknownType))),
-        ("create d 1 ", b'T', 33, "", Some((4, BadForm))),
-        ("call b ", b'c', 32, ".Get()", Some((4, UnknownName))),
-        ("call b ", b'c', 33, ".Get()", Some((4, BadForm))),
-        ("call b c.", b'G', 32, "()", None),
-        ("call b c.", b'G', 33, "()", Some((4, BadForm))),
-        ("call b c.Set(", b'x', 32, ")", Some((4, UnknownName))),
-        ("call b c.Set(", b'x', 33, ")", Some((4, BadForm))),
-        ("call b c.Set(\"", b'x', 1024, "\")", None),
-        ("call b c.Set(\"", b'x', 1025, "\")", Some((4, BadForm))),
-        ("call b c.Set(\"\\\\", b'x', 1023, "\")", None),
-        ("call b c.Set(\"\\\\", b'x', 1024, "\")", Some((4, BadForm))),
-        ("walk w c \"", b'/', 1024, "\"", None),
-        ("walk w c \"", b'/', 1025, "\"", Some((4, BadForm))),
-        ("turn ", b'0', 4091, "", None),
-    ] {
-        let line = stretched(rt.alloc(), front, byte, times, back)?;
-        let text = around(rt.alloc(), &line)?;
-        assert_eq!(rt; cause_of(rt.alloc(), &text), at, "{front}");
-    }
-    Ok(())
-}
-
-#[test]
-fn lengths_elsewhere(rt: HostRuntime) -> Result<(), Fail> {
-    for (front, byte, times, back, at) in [
-        ("nodes 1\nend\n", b'x', 4096, "", Some((3, AfterEnd))),
-        ("nodes 1\nend\n", b'x', 4097, "", Some((3, LongLine))),
-        (
-            "edentype A\n",
-            b' ',
-            4096,
-            "\nendtype\nnodes 1\nend\n",
-            None,
-        ),
-        (
-            "edentype A\n",
-            b' ',
-            4097,
-            "\nendtype\n",
-            Some((2, LongLine)),
-        ),
-        (
-            "edentype A\n",
-            b'x',
-            4096,
-            "\nendtype\n",
-            Some((2, BadEdentype)),
-        ),
-        (
-            "edentype A\n",
-            b'x',
-            4097,
-            "\nendtype\n",
-            Some((2, LongLine)),
-        ),
-        ("edentype A\n", b'x', 4096, "", Some((3, NoEnd))),
-        ("edentype A\n", b'x', 4097, "", Some((2, LongLine))),
-        ("edentype ", b'A', 32, "\nendtype\nnodes 1\nend\n", None),
-        ("edentype ", b'A', 33, "\nendtype\n", Some((1, BadEdentype))),
-        (
-            "nodes 1\nedentype A",
-            b' ',
-            4086,
-            "\nendtype\n",
-            Some((2, Misplaced)),
-        ),
-        (
-            "nodes 1\nedentype A",
-            b' ',
-            4087,
-            "\nendtype\n",
-            Some((2, LongLine)),
-        ),
-    ] {
-        let text = stretched(rt.alloc(), front, byte, times, back)?;
-        assert_eq!(rt; cause_of(rt.alloc(), &text), at, "{front}");
-    }
-    Ok(())
-}
-
-/// A call whose one argument is a list of so many zeros.
-fn zeros(alloc: Global, times: usize) -> Result<Vec<u8>, AllocError> {
-    let mut line = Vec::from_slice(alloc, b"call b c.Set([0")?;
-    for _ in 1..times {
-        line.extend_from_slice(b", 0")?;
-    }
-    line.extend_from_slice(b"])")?;
-    around(alloc, &line)
-}
-
-#[test]
-fn lists(rt: HostRuntime) -> Result<(), Fail> {
-    assert_eq!(rt; cause_of(rt.alloc(), &zeros(rt.alloc(), 256)?), None);
-    assert_eq!(rt;
-        cause_of(rt.alloc(), &zeros(rt.alloc(), 257)?),
-        Some((4, BadForm))
-    );
+    lengths_have_causes(&rt, rt.alloc(), AROUND, LINE_LENGTHS)?;
+    lengths_have_causes(&rt, rt.alloc(), ("", ""), TEXT_LENGTHS)?;
     Ok(())
 }
 
@@ -642,193 +784,82 @@ const MAILBOX: &str =
 const HALF: &str =
     "edentype Half\nclass all limit 1\noperation Part needs 1 class all (n : int) returns (int)\nreturn (10 / n)\nend\nendtype\n";
 
-/// A script that declares these types and creates an Eject of one.
-fn creating(alloc: Global, types: &[&str], name: &str) -> Result<Vec<u8>, AllocError> {
-    let mut text = Vec::new(alloc);
-    for declared in types {
-        text.extend_from_slice(declared.as_bytes())?;
-    }
-    text.extend_from_slice(b"nodes 1\ncreate e 1 ")?;
-    text.extend_from_slice(name.as_bytes())?;
-    text.extend_from_slice(b"\nend\n")?;
-    Ok(text)
-}
-
 #[test]
 fn declared_types(rt: HostRuntime) -> Result<(), Fail> {
-    let types = [GATE, PEER, MAILBOX, HALF, "edentype A\nendtype\n"];
-    for name in ["Gate", "Peer", "Mailbox", "Half", "A", "Cell"] {
-        let text = creating(rt.alloc(), &types, name)?;
-        assert_eq!(rt; cause_of(rt.alloc(), &text), None, "{name}");
+    let alloc = rt.alloc();
+    for &name in &["Gate", "Peer", "Mailbox", "Half", "A", "Cell"] {
+        let text = text_of(
+            alloc,
+            &[
+                (GATE, 1),
+                (PEER, 1),
+                (MAILBOX, 1),
+                (HALF, 1),
+                ("edentype A\nendtype\nnodes 1\ncreate e 1 ", 1),
+                (name, 1),
+                ("\nend\n", 1),
+            ],
+        )?;
+        has_cause(&rt, alloc, name, &text, None);
     }
-    let text = creating(rt.alloc(), &[HALF], "Gate")?;
-    assert_eq!(rt; cause_of(rt.alloc(), &text), Some((8, UnknownType)));
+    let text = text_of(alloc, &[(HALF, 1), ("nodes 1\ncreate e 1 Gate\nend\n", 1)])?;
+    has_cause(&rt, alloc, "without Gate", &text, Some((8, UnknownType)));
     Ok(())
 }
 
-/// A script that declares 64 types, each in two lines, and then this.
-fn many_types(alloc: Global, last: &str) -> Result<Vec<u8>, AllocError> {
-    let mut text = Vec::new(alloc);
-    for i in 0..64 {
-        text.extend_from_slice(format!(in alloc; "edentype A{i}\nendtype\n")?.as_bytes())?;
+/// A text that says something of so many names.
+fn many_names(
+    alloc: Global,
+    before: &str,
+    said: (&str, &str),
+    times: u32,
+    behind: &str,
+) -> Result<Vec<u8>, AllocError> {
+    let mut text = Vec::from_slice(alloc, before.as_bytes())?;
+    let (front, back) = said;
+    for i in 0..times {
+        text.extend_from_slice(format!(in alloc; "{front}{i:x}{back}")?.as_bytes())?;
     }
-    text.extend_from_slice(last.as_bytes())?;
-    text.extend_from_slice(b"nodes 1\nend\n")?;
+    text.extend_from_slice(behind.as_bytes())?;
     Ok(text)
 }
+
+/// What stands behind the declarations of 64 types, each of two lines.
+const BEHIND_64: &[(&str, At)] = &[
+    ("nodes 1\nend\n", None),
+    (
+        "edentype B\nendtype\nnodes 1\nend\n",
+        Some((129, BadEdentype)),
+    ),
+    (
+        "edentype B\nx\nendtype\nnodes 1\nend\n",
+        Some((129, BadEdentype)),
+    ),
+    (
+        "edentype A0\nendtype\nnodes 1\nend\n",
+        Some((129, DoubledName)),
+    ),
+    (
+        "edentype\nA0\nendtype\nnodes 1\nend\n",
+        Some((129, BadEdentype)),
+    ),
+];
 
 #[test]
 fn sixty_four_types(rt: HostRuntime) -> Result<(), Fail> {
-    for (last, at) in [
-        ("", None),
-        ("edentype B\nendtype\n", Some((129, BadEdentype))),
-        ("edentype B\nx\nendtype\n", Some((129, BadEdentype))),
-        ("edentype A0\nendtype\n", Some((129, DoubledName))),
-        ("edentype\nA0\nendtype\n", Some((129, BadEdentype))),
-    ] {
-        let text = many_types(rt.alloc(), last)?;
-        assert_eq!(rt; cause_of(rt.alloc(), &text), at, "{last}");
+    for &(behind, at) in BEHIND_64 {
+        let text = many_names(rt.alloc(), "", ("edentype A", "\nendtype\n"), 64, behind)?;
+        has_cause(&rt, rt.alloc(), behind, &text, at);
     }
     Ok(())
-}
-
-#[test]
-fn edentypes(rt: HostRuntime) -> Result<(), Fail> {
-    for (text, at) in [
-        ("edentype A foo\nendtype\n", (1, BadEdentype)),
-        (
-            "# x\nedentype A\n# x\nendtype\nnodes 1\nend\n",
-            (3, BadEdentype),
-        ),
-        // Bad lines inside, before the text is read and behind the place where it is refused.
-        ("\tedentype A\nendtype\n", (1, BadByte)),
-        ("edentype A\t\nendtype\n", (1, BadByte)),
-        ("edentype A\n\t\nendtype\nnodes 1\nend\n", (2, BadByte)),
-        (
-            "edentype A x\n\t\nendtype\nnodes 1\nend\n",
-            (1, BadEdentype),
-        ),
-        // Behind nodes and behind end.
-        ("nodes 1\nedentype A\nendtype\nend\n", (2, Misplaced)),
-        ("nodes 1\nedentype A\n\t\nendtype\nend\n", (2, Misplaced)),
-        ("nodes 1\nedentype A\t\nendtype\nend\n", (2, BadByte)),
-        ("nodes 1\nend\nedentype Cell\nendtype\n", (3, AfterEnd)),
-        ("nodes 1\nend\nedentype A\t\nendtype\n", (3, BadByte)),
-        // A name that is there.
-        ("edentype Cell\nendtype\n", (1, DoubledName)),
-        ("edentype  Cell x\nendtype\n", (1, DoubledName)),
-        ("edentype\nCell\nendtype\n", (2, DoubledName)),
-        (
-            "edentype A\nendtype\nedentype A\nendtype\n",
-            (3, DoubledName),
-        ),
-        ("edentypeCell\nendtype\n", (1, BadEdentype)),
-        ("nodes 1\nedentype Cell\nendtype\nend\n", (2, Misplaced)),
-        // A broken rule: a limit past 16, a start value of another kind, a name that is not declared.
-        ("edentype A\nclass c limit 17\nendtype\n", (2, BadEdentype)),
-        (
-            "edentype A\nclass c limit 1\ndurable n : int =\ntrue\nendtype\n",
-            (4, BadEdentype),
-        ),
-        (
-            "edentype A\nendtype\nedentype B\nprocess P\nx := 1\nend\nendtype\n",
-            (5, BadEdentype),
-        ),
-        // Without its end.
-        ("edentype A\n", (2, NoEnd)),
-        ("edentype A\nnodes 1\nend\n", (4, NoEnd)),
-        ("edentype A\nendtype \n", (3, NoEnd)),
-        ("edentype A\n\t\n", (2, BadByte)),
-        ("edentype Cell\nendtypes\nfrob", (4, NoEnd)),
-        ("nodes 1\nedentype A\nend\n", (4, NoEnd)),
-        ("nodes 1\nend\nedentype A\n", (4, NoEnd)),
-        ("nodes 1\nend\nedentype A\n# \x7f\n", (4, BadByte)),
-        // Lines that end nothing.
-        ("endtype\n", (1, NoCommand)),
-        ("nodes 1\nendtype\n", (2, NoCommand)),
-    ] {
-        assert_eq!(rt; cause_of(rt.alloc(), text.as_bytes()), Some(at), "{text}");
-    }
-    Ok(())
-}
-
-/// What is read of a value that stands alone, printed, or its cause.
-fn alone(alloc: Global, text: &[u8]) -> Result<Result<Vec<u8>, ScriptCause>, AllocError> {
-    match read_value(alloc, text)? {
-        Ok(value) => {
-            let mut out = Vec::new(alloc);
-            print(alloc, &value, &mut out)?;
-            Ok(Ok(out))
-        }
-        Err(cause) => Ok(Err(cause)),
-    }
-}
-
-#[test]
-fn values_alone(rt: HostRuntime) -> Result<(), Fail> {
-    for (text, printed) in [
-        ("5", "5"),
-        ("-007", "-7"),
-        ("9223372036854775807", "9223372036854775807"),
-        ("-9223372036854775808", "-9223372036854775808"),
-        ("true", "true"),
-        ("none", "<none>"),
-        ("\"a\\\\\"", "\"a\\\\\""),
-        ("[]", "[]"),
-        ("[1, [false, \"x\"]]", "[1, [false, \"x\"]]"),
-        ("[[[[]]]]", "[[[[]]]]"),
-    ] {
-        match alone(rt.alloc(), text.as_bytes())? {
-            Ok(found) => assert_eq!(rt; found.as_slice(), printed.as_bytes(), "{text}"),
-            Err(_) => assert!(rt; false, "{text}"),
-        }
-    }
-    for (text, cause) in [
-        ("", BadForm),
-        (" 5", BadForm),
-        ("5 ", BadForm),
-        ("-", BadForm),
-        ("+1", BadForm),
-        ("1, 2", BadForm),
-        ("[1,2]", BadForm),
-        ("[1, 2", BadForm),
-        ("\"a", BadForm),
-        ("c", BadForm),
-        ("c.1", BadForm),
-        ("true.1", BadForm),
-        ("truex", BadForm),
-        ("[c, 9223372036854775808]", BadForm),
-        ("[9223372036854775808, c]", BadForm),
-        ("[[[[[]]]]]", BadForm),
-        ("\"\t\"", BadForm),
-        ("9223372036854775808", BadNumber),
-        ("[1, -9223372036854775809]", BadNumber),
-    ] {
-        match alone(rt.alloc(), text.as_bytes())? {
-            Ok(_) => assert!(rt; false, "{text}"),
-            Err(found) => assert_eq!(rt; found, cause, "{text}"),
-        }
-    }
-    Ok(())
-}
-
-/// A script with so many names, in at most 1,048,576 bytes.
-fn many_names(alloc: Global, times: u32) -> Result<Vec<u8>, AllocError> {
-    let mut text = Vec::from_slice(alloc, b"nodes 1\n")?;
-    for i in 0..times {
-        text.extend_from_slice(b"hold n")?;
-        text.extend_from_slice(format!(in alloc; "{i:x}")?.as_bytes())?;
-        text.extend_from_slice(b" 1.1.1\n")?;
-    }
-    text.extend_from_slice(b"end\n")?;
-    Ok(text)
 }
 
 #[test]
 fn sixty_thousand_names(rt: HostRuntime) -> Result<(), Fail> {
-    let names = many_names(rt.alloc(), 60_000)?;
-    assert!(rt; 1_000_000 < names.len() && names.len() <= 1_048_576);
-    assert_eq!(rt; cause_of(rt.alloc(), &names), None);
+    let said = ("hold n", " 1.1.1\n");
+    let text = many_names(rt.alloc(), "nodes 1\n", said, 60_000, "end\n")?;
+    assert!(rt; 1_000_000 < text.len() && text.len() <= 1_048_576);
+    has_cause(&rt, rt.alloc(), "names", &text, None);
     Ok(())
 }
 
@@ -837,11 +868,74 @@ const SET_THEN_GET: &str =
 
 #[test]
 fn largest_script(rt: HostRuntime) -> Result<(), Fail> {
-    let text = stretched(rt.alloc(), SET_THEN_GET, b'\n', 1_048_503, "")?;
+    let text = text_of(rt.alloc(), &[(SET_THEN_GET, 1), ("\n", 1_048_503)])?;
     assert_eq!(rt; text.len(), 1_048_576);
     match parsed(rt.alloc(), &text) {
         Ok(script) => assert_eq!(rt; script.commands.commands.len(), 6),
         Err(_) => assert!(rt; false),
+    }
+    Ok(())
+}
+
+/// Whether a value that stands alone is printed so, or has that cause.
+fn is_read(
+    alloc: Global,
+    text: &str,
+    wanted: Result<&str, ScriptCause>,
+) -> Result<bool, AllocError> {
+    match read_value(alloc, text.as_bytes())? {
+        Ok(value) => {
+            let mut out = Vec::new(alloc);
+            print(alloc, &value, &mut out)?;
+            match wanted {
+                Ok(printed) => Ok(out.as_slice() == printed.as_bytes()),
+                Err(_) => Ok(false),
+            }
+        }
+        Err(cause) => match wanted {
+            Ok(_) => Ok(false),
+            Err(other) => Ok(cause == other),
+        },
+    }
+}
+
+/// A value that stands alone, and how it is printed, or its cause.
+const VALUES: &[(&str, Result<&str, ScriptCause>)] = &[
+    ("5", Ok("5")),
+    ("-007", Ok("-7")),
+    ("9223372036854775807", Ok("9223372036854775807")),
+    ("-9223372036854775808", Ok("-9223372036854775808")),
+    ("true", Ok("true")),
+    ("none", Ok("<none>")),
+    ("\"a\\\\\"", Ok("\"a\\\\\"")),
+    ("[]", Ok("[]")),
+    ("[1, [false, \"x\"]]", Ok("[1, [false, \"x\"]]")),
+    ("[[[[]]]]", Ok("[[[[]]]]")),
+    ("", Err(BadForm)),
+    (" 5", Err(BadForm)),
+    ("5 ", Err(BadForm)),
+    ("-", Err(BadForm)),
+    ("+1", Err(BadForm)),
+    ("1, 2", Err(BadForm)),
+    ("[1,2]", Err(BadForm)),
+    ("[1, 2", Err(BadForm)),
+    ("\"a", Err(BadForm)),
+    ("c", Err(BadForm)),
+    ("c.1", Err(BadForm)),
+    ("true.1", Err(BadForm)),
+    ("truex", Err(BadForm)),
+    ("[c, 9223372036854775808]", Err(BadForm)),
+    ("[9223372036854775808, c]", Err(BadForm)),
+    ("[[[[[]]]]]", Err(BadForm)),
+    ("\"\t\"", Err(BadForm)),
+    ("9223372036854775808", Err(BadNumber)),
+    ("[1, -9223372036854775809]", Err(BadNumber)),
+];
+
+#[test]
+fn values_alone(rt: HostRuntime) -> Result<(), Fail> {
+    for &(text, wanted) in VALUES {
+        assert!(rt; is_read(rt.alloc(), text, wanted)?, "{text}");
     }
     Ok(())
 }

@@ -1,7 +1,7 @@
 //! A stop in each device call of a run, a power cut behind each turn of another, and what the next run over the same disks finds.
 ghost use Rattle.std.specs.Prelude.{◌≡◌, length};
 
-use crate::eden_shell_tests::blank_disks;
+use crate::fixtures::{blank_disks, words_of};
 use eden_disk::{Disk, ImageMode, SimDisk};
 use eden_io::{MemSink, MemSource};
 use eden_shell::{Outcome, eden};
@@ -13,7 +13,7 @@ use std::test::Fail;
 const DISK_SIZE: u32 = 32_768;
 
 /// How a disk is left, and the words of it in a script.
-const MODES: [(&str, bool); 3] = [("keep", true), ("lose", false), ("garble 225", true)];
+const MODES: &[(&str, bool)] = &[("keep", true), ("lose", false), ("garble 225", true)];
 
 /// A later run, which asks both Cells.
 const ASKS: &str =
@@ -24,7 +24,7 @@ fn run(alloc: Global, script: &str, disks: &mut Vec<SimDisk>) -> Result<Option<V
     requires { length disks.old.items ≡ 8 }
     ensures { length disks.new.items ≡ 8 }
 {
-    let words = vec![in alloc; String::from_str(alloc, "run")?]?;
+    let words = words_of(alloc, &["run"])?;
     let mut source = MemSource::new(script.as_bytes().to_vec(alloc)?, Vec::new(alloc));
     let mut sink = MemSink::new(alloc, 100, 10_000, Vec::new(alloc))?;
     let report = eden(alloc, &words, &mut source, &mut sink, disks);
@@ -41,6 +41,33 @@ fn cut_each(disks: &mut Vec<SimDisk>)
     for disk in disks.iter_mut() {
         disk.cut_power(ImageMode::Lose);
         disk.restart();
+    }
+}
+
+/// Runs a script over blank disks, and then, once the power of each failed, asks both Cells. How often the first disk was stopped, if
+/// the first run came to its end, and the later one to this one: the epoch, and what each Cell answers.
+fn stops_before(
+    alloc: Global,
+    script: &str,
+    epoch: u32,
+    answered: (&str, &str),
+) -> Result<Option<u64>, AllocError> {
+    let mut disks = blank_disks(alloc, DISK_SIZE)?;
+    if run(alloc, script, &mut disks)?.is_none() {
+        return Ok(None);
+    }
+    let Some(first) = disks.first() else {
+        return Ok(None);
+    };
+    let stops = first.stops();
+    cut_each(&mut disks);
+    let (c, x) = answered;
+    let wanted = format!(in alloc; "node 1 up epoch {epoch}\na {c}\nquiet\nb {x}\nquiet\n")?;
+    let later = run(alloc, ASKS, &mut disks)?;
+    if later.is_some_and(|text| text.as_slice() == wanted.as_bytes()) {
+        Ok(Some(stops))
+    } else {
+        Ok(None)
     }
 }
 
@@ -86,29 +113,14 @@ fn answers(call: u32, gate_stays: bool) -> (&'static str, &'static str) {
     }
 }
 
-/// The transcript of the later run.
-fn answered(alloc: Global, epoch: u32, c: &str, x: &str) -> Result<String, AllocError> {
-    format!(in alloc; "node 1 up epoch {epoch}\na {c}\nquiet\nb {x}\nquiet\n")
-}
-
 #[test]
 fn a_stop_in_each_device_call(rt: HostRuntime) -> Result<(), Fail> {
     let alloc = rt.alloc();
     for call in 1..CALLS_OF_SAVES + 1 {
-        for (mode, gate_stays) in MODES {
-            let mut disks = blank_disks(alloc, DISK_SIZE)?;
+        for &(mode, gate_stays) in MODES {
             let script = four_saves(alloc, call, mode)?;
-            let first = run(alloc, script.as_str(), &mut disks)?;
-            assert!(rt; first.is_some());
-            assert!(rt; disks.first().is_some_and(|disk| disk.stops() == 1));
-            cut_each(&mut disks);
-            let (c, x) = answers(call, gate_stays);
-            let wanted = answered(alloc, 2, c, x)?;
-            let second = run(alloc, ASKS, &mut disks)?;
-            assert!(rt;
-                second.is_some_and(|text| text.as_slice() == wanted.as_bytes()),
-                "call {call} {mode}"
-            );
+            let stops = stops_before(alloc, script.as_str(), 2, answers(call, gate_stays))?;
+            assert!(rt; stops == Some(1), "call {call} {mode}");
         }
     }
     Ok(())
@@ -137,20 +149,12 @@ const TURN_OF_THE_GATE: u32 = 7;
 fn a_power_cut_behind_each_turn(rt: HostRuntime) -> Result<(), Fail> {
     let alloc = rt.alloc();
     for turns in 1..TURNS_OF_A_SAVE + 1 {
-        for (mode, gate_stays) in MODES {
-            let mut disks = blank_disks(alloc, DISK_SIZE)?;
+        for &(mode, gate_stays) in MODES {
             let script = two_saves(alloc, turns, mode)?;
-            let first = run(alloc, script.as_str(), &mut disks)?;
-            assert!(rt; first.is_some());
-            cut_each(&mut disks);
             let is_kept = turns > TURN_OF_THE_GATE || turns == TURN_OF_THE_GATE && gate_stays;
             let c = if is_kept { "ok (9)" } else { "ok (5)" };
-            let wanted = answered(alloc, 2, c, "refused 4 gone")?;
-            let second = run(alloc, ASKS, &mut disks)?;
-            assert!(rt;
-                second.is_some_and(|text| text.as_slice() == wanted.as_bytes()),
-                "turns {turns} {mode}"
-            );
+            let stops = stops_before(alloc, script.as_str(), 2, (c, "refused 4 gone"))?;
+            assert!(rt; stops.is_some(), "turns {turns} {mode}");
         }
     }
     Ok(())
@@ -174,27 +178,15 @@ fn second_boot(alloc: Global, call: u32, mode: &str) -> Result<String, AllocErro
 fn a_stop_in_each_device_call_of_a_boot(rt: HostRuntime) -> Result<(), Fail> {
     let alloc = rt.alloc();
     for call in 1..CALLS_OF_A_BOOT + 1 {
-        for (mode, gate_stays) in MODES {
-            let mut disks = blank_disks(alloc, DISK_SIZE)?;
+        for &(mode, gate_stays) in MODES {
             let script = second_boot(alloc, call, mode)?;
-            let first = run(alloc, script.as_str(), &mut disks)?;
-            assert!(rt; first.is_some());
-            assert!(rt;
-                disks.first().is_some_and(|disk| disk.stops() == 1),
-                "call {call} {mode}"
-            );
-            cut_each(&mut disks);
             let epoch = if gate_stays && call >= CALL_OF_THE_EPOCH {
                 3
             } else {
                 2
             };
-            let wanted = answered(alloc, epoch, "ok (5)", "refused 4 gone")?;
-            let second = run(alloc, ASKS, &mut disks)?;
-            assert!(rt;
-                second.is_some_and(|text| text.as_slice() == wanted.as_bytes()),
-                "call {call} {mode}"
-            );
+            let stops = stops_before(alloc, script.as_str(), epoch, ("ok (5)", "refused 4 gone"))?;
+            assert!(rt; stops == Some(1), "call {call} {mode}");
         }
     }
     Ok(())

@@ -1,6 +1,4 @@
-ghost use Rattle.std.specs.Prelude.{◌≡◌, length, IfOk};
-
-use eden_disk::SimDisk;
+use crate::fixtures::{blank_disks, words_of};
 use eden_io::{MemSink, MemSource};
 use eden_script::ScriptCause;
 use eden_shell::*;
@@ -12,26 +10,7 @@ const SCRIPT: &str =
 
 const TRANSCRIPT: &str = "node 1 up epoch 1\nc is 1.1.1\na ok ()\nquiet\nb ok (5)\nquiet\n";
 
-fn words_of(alloc: Global, words: &[&str]) -> Result<Vec<String>, AllocError> {
-    let mut all = Vec::new(alloc);
-    for word in words {
-        all.push(String::from_str(alloc, word)?)?;
-    }
-    Ok(all)
-}
-
-// Eight disks of zero bytes.
-pub(crate) fn blank_disks(alloc: Global, size: u32) -> Result<Vec<SimDisk>, AllocError>
-    ensures { IfOk result (λ disks. length disks.items ≡ 8) }
-{
-    let mut disks = Vec::new(alloc);
-    for _ in 0..8u8 {
-        disks.push(SimDisk::new(alloc, size)?)?;
-    }
-    Ok(disks)
-}
-
-// What a call said.
+/// What a call said.
 #[derive(Drop)]
 struct Said {
     outcome: Outcome,
@@ -39,16 +18,21 @@ struct Said {
     text: Vec<u8>,
 }
 
-// What is said to these words over blank disks, where these reads and writes fail.
+/// What is said to these words over blank disks, where these reads and writes fail. Line ends make the script that long.
 fn call_of(
     alloc: Global,
     words: &[&str],
-    script: Vec<u8>,
-    reads: &[u32],
-    writes: &[u32],
+    script: (&str, usize),
+    failing: (&[u32], &[u32]),
 ) -> Result<Said, AllocError> {
     let words = words_of(alloc, words)?;
-    let mut source = MemSource::new(script, reads.to_vec(alloc)?);
+    let (text, size) = script;
+    let mut bytes = text.as_bytes().to_vec(alloc)?;
+    if bytes.len() < size {
+        bytes.resize(size, b'\n')?;
+    }
+    let (reads, writes) = failing;
+    let mut source = MemSource::new(bytes, reads.to_vec(alloc)?);
     let mut sink = MemSink::new(alloc, 4096, 1_048_576, writes.to_vec(alloc)?)?;
     let mut disks = blank_disks(alloc, 1_048_576)?;
     let report = eden(alloc, &words, &mut source, &mut sink, &mut disks);
@@ -68,89 +52,77 @@ const NO_COMMAND: Outcome = Outcome::BadScript {
 
 const BOOTS: &str = "nodes 1\nend\n";
 
-// The words, the script, the outcome and its status, and what is written.
-const CALLS: [(&[&str], &str, Outcome, u8, &str); 4] = [
-    (&["run"], SCRIPT, Outcome::Ran, 0, TRANSCRIPT),
+/// The words, the script and its size, the outcome and its status, and what is written.
+const CALLS: &[(&[&str], (&str, usize), Outcome, u8, &str)] = &[
+    (&["run"], (SCRIPT, 0), Outcome::Ran, 0, TRANSCRIPT),
     (
         &["run"],
-        "frob",
+        ("frob", 0),
         NO_COMMAND,
         3,
         "bad script line 1: no command\n",
     ),
-    (&["walk"], SCRIPT, Outcome::BadWords, 2, USAGE),
+    (&["walk"], (SCRIPT, 0), Outcome::BadWords, 2, USAGE),
     (
         &["host", "d"],
-        BOOTS,
+        (BOOTS, 0),
         Outcome::Ran,
         0,
         "node 1 up epoch 1\n",
     ),
+    (
+        &["run"],
+        (BOOTS, 1_048_577),
+        Outcome::TooLong,
+        7,
+        "script too long\n",
+    ),
 ];
 
-// How calls end, and what they write.
+/// How calls end, and what they write.
 #[test]
 fn outcomes(rt: HostRuntime) -> Result<(), Fail> {
     let alloc = rt.alloc();
-    for (words, script, outcome, code, text) in CALLS {
-        let said = call_of(alloc, words, script.as_bytes().to_vec(alloc)?, &[], &[])?;
-        assert_eq!(rt; said.outcome, outcome);
-        assert_eq!(rt; status(&said.outcome), code);
-        assert_eq!(rt; said.text.as_slice(), text.as_bytes());
+    for (place, &(words, script, outcome, code, text)) in CALLS.iter().enumerate() {
+        let said = call_of(alloc, words, script, (&[], &[]))?;
+        assert!(rt;
+            said.outcome == outcome && status(&said.outcome) == code,
+            "{place}"
+        );
+        assert!(rt; said.text.as_slice() == text.as_bytes(), "{place}");
     }
     Ok(())
 }
 
-const RUNS: [&[&str]; 4] = [
-    &["run"],
-    &["run", "--trace"],
-    &["host", "d", "--trace"],
-    &["gen", "7"],
+/// The words, the script, the reads and the writes that fail, the outcome, and the least numbers of entries and of bytes. With ample
+/// memory what asks for a run comes to its end: a body that always answers OutOfMemory keeps each clause, and fails here. A read or a
+/// write that fails ends the call; the history is whole behind a write.
+const ENDS: &[(&[&str], &str, (&[u32], &[u32]), Outcome, usize, usize)] = &[
+    (&["run"], SCRIPT, (&[], &[]), Outcome::Ran, 1, 1),
+    (&["run", "--trace"], SCRIPT, (&[], &[]), Outcome::Ran, 1, 1),
+    (
+        &["host", "d", "--trace"],
+        SCRIPT,
+        (&[], &[]),
+        Outcome::Ran,
+        1,
+        1,
+    ),
+    (&["gen", "7"], SCRIPT, (&[], &[]), Outcome::Ran, 1, 1),
+    (&["run"], BOOTS, (&[1], &[]), Outcome::ReadFault, 0, 0),
+    (&["run"], BOOTS, (&[], &[1]), Outcome::WriteFault, 1, 0),
 ];
 
-// With ample memory what asks for a run comes to its end: a body that always answers OutOfMemory keeps each clause, and fails here.
 #[test]
-fn always_out_of_memory(rt: HostRuntime) -> Result<(), Fail> {
+fn runs_and_faults_have_their_ends(rt: HostRuntime) -> Result<(), Fail> {
     let alloc = rt.alloc();
-    for words in RUNS {
-        let said = call_of(alloc, words, SCRIPT.as_bytes().to_vec(alloc)?, &[], &[])?;
-        assert_eq!(rt; said.outcome, Outcome::Ran);
-        assert!(rt; said.entries > 0 && !said.text.is_empty());
+    for (place, &(words, script, failing, outcome, entries, bytes)) in ENDS.iter().enumerate() {
+        let said = call_of(alloc, words, (script, 0), failing)?;
+        assert!(rt; said.outcome == outcome, "{place}");
+        assert!(rt;
+            said.entries >= entries && said.text.len() >= bytes,
+            "{place}"
+        );
     }
-    Ok(())
-}
-
-// The reads and the writes that fail, counted from 1, the outcome, and the least number of entries.
-const FAULTS: [(&[u32], &[u32], Outcome, usize); 2] = [
-    (&[1], &[], Outcome::ReadFault, 0),
-    (&[], &[1], Outcome::WriteFault, 1),
-];
-
-// A read or a write that fails ends the call; the history is whole behind a write.
-#[test]
-fn faults(rt: HostRuntime) -> Result<(), Fail> {
-    let alloc = rt.alloc();
-    for (reads, writes, outcome, entries) in FAULTS {
-        let said = call_of(
-            alloc,
-            &["run"],
-            BOOTS.as_bytes().to_vec(alloc)?,
-            reads,
-            writes,
-        )?;
-        assert_eq!(rt; said.outcome, outcome);
-        assert!(rt; said.entries >= entries);
-    }
-    Ok(())
-}
-
-#[test]
-fn a_script_may_be_too_long(rt: HostRuntime) -> Result<(), Fail> {
-    let alloc = rt.alloc();
-    let mut script = BOOTS.as_bytes().to_vec(alloc)?;
-    script.resize(1_048_577, b'\n')?;
-    let said = call_of(alloc, &["run"], script, &[], &[])?;
-    assert_eq!(rt; said.outcome, Outcome::TooLong);
-    assert_eq!(rt; said.text.as_slice(), b"script too long\n".as_slice());
     Ok(())
 }

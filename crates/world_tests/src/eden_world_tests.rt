@@ -1,15 +1,14 @@
-ghost use Rattle.std.specs.Prelude.{IfOk, IfSome, IsTrue, OnOk};
-ghost use Rattle.std.specs.List.{All};
-ghost use Rattle.journal.specs.Fit.{NumbersFit};
+ghost use Rattle.std.specs.Prelude.{◌≡◌, length, IfOk, IfSome, OnOk};
 ghost use Rattle.eden_world.specs.Listed.{HasTurn};
 ghost use Rattle.eden_world.specs.Seated.{FitsTogether};
 
-use capability::{Rights, Uid, mint};
-use eden_disk::{ImageMode, SimDisk};
-use eden_value::{Txt, Value};
+use crate::fixtures::{blank_disks, by, txt};
+use crate::script_words::{FIRST, Word, carry};
+use capability::mint;
+use eden_disk::SimDisk;
 use eden_world::{Seat, World};
 use epl_syntax::Types;
-use journal::{Arg, Args, Command, Entry, Key, Mode, Ref, line};
+use journal::{Entry, Key, Mode, line};
 use passive_store::{LogStore, Store};
 use runs::{Machine, Run};
 use std::alloc::{AllocError, Global};
@@ -86,157 +85,18 @@ const WALKED: &str = "+ call 5 w
 w ok (0, <1.1.1:ffff>)
 ";
 
-/// The first Eject of node 1.
-const FIRST: Uid = Uid {
-    node: 1,
-    epoch: 1,
-    serial: 1,
-};
-
-/// What a script asks of node 1 and of its Ejects.
-#[derive(Clone, Copy)]
-enum Word<'a> {
-    Restart,
-    Crash,
-    Cut,
-    Join,
-    /// How many device calls away.
-    Fail(u32),
-    Stop(u32),
-    /// How many turns.
-    Go(u32),
-    /// The place of a key.
-    Turn(u32),
-    /// A name and a type.
-    Create(&'a str, &'a str),
-    /// A name for the first Eject.
-    Hold(&'a str),
-    /// A name, a target and an operation.
-    Call(&'a str, &'a str, &'a str),
-    /// A name, a Directory, and a name that is added to it, with what it stands for.
-    Add(&'a str, &'a str, &'a str),
-    /// A name and a target.
-    Restrict(&'a str, &'a str),
-    /// A name, a Directory and a path.
-    Walk(&'a str, &'a str, &'a str),
-    End,
-}
-
 /// A word, and the lines of its entries.
 type Row<'a> = (Word<'a>, &'a str);
 
-fn txt(alloc: Global, text: &str) -> Result<Txt, AllocError> {
-    Ok(Txt {
-        bytes: Vec::from_slice(alloc, text.as_bytes())?,
-    })
-}
-
-fn by(alloc: Global, name: &str) -> Result<Ref, AllocError> {
-    Ok(Ref {
-        name: txt(alloc, name)?,
-        result: 0,
-    })
-}
-
-fn call(
-    alloc: Global,
-    name: &str,
-    target: &str,
-    operation: &str,
-    args: Vec<Arg>,
-) -> Result<Command, AllocError> {
-    Ok(Command::Call {
-        name: txt(alloc, name)?,
-        target: by(alloc, target)?,
-        operation: txt(alloc, operation)?,
-        args: Args { args },
-    })
-}
-
-/// A name as a text, and what it stands for.
-fn entry_of(alloc: Global, name: &str) -> Result<Vec<Arg>, AllocError> {
-    let mut args = Vec::new(alloc);
-    args.push(Arg::Plain {
-        value: Value::Text {
-            text: txt(alloc, name)?,
-        },
-    })?;
-    args.push(Arg::Named {
-        by: by(alloc, name)?,
-    })?;
-    Ok(args)
-}
-
-/// A word that names something.
-fn naming(alloc: Global, word: Word) -> Result<Command, AllocError> {
-    match word {
-        Word::Create(name, kind) => Ok(Command::Create {
-            name: txt(alloc, name)?,
-            node: 1,
-            type_name: txt(alloc, kind)?,
-        }),
-        Word::Hold(name) => Ok(Command::Hold {
-            name: txt(alloc, name)?,
-            uid: FIRST,
-        }),
-        Word::Call(name, target, operation) => call(
-            alloc,
-            name,
-            target,
-            operation,
-            Vec::new(alloc),
-        ),
-        Word::Add(name, target, added) => call(
-            alloc,
-            name,
-            target,
-            "AddEntry",
-            entry_of(alloc, added)?,
-        ),
-        Word::Restrict(name, target) => Ok(Command::Restrict {
-            name: txt(alloc, name)?,
-            target: by(alloc, target)?,
-            mask: Rights { bits: 2 },
-        }),
-        Word::Walk(name, target, path) => Ok(Command::Walk {
-            name: txt(alloc, name)?,
-            target: by(alloc, target)?,
-            path: txt(alloc, path)?,
-        }),
-        _ => Ok(Command::End),
-    }
-}
-
-fn command(alloc: Global, word: Word) -> Result<Command, AllocError> {
-    match word {
-        Word::Restart => Ok(Command::Restart { node: 1 }),
-        Word::Crash => Ok(Command::Crash {
-            node: 1,
-            mode: ImageMode::Lose,
-        }),
-        Word::Cut => Ok(Command::Cut { a: 0, b: 1 }),
-        Word::Join => Ok(Command::Join { a: 0, b: 1 }),
-        Word::Fail(after) => Ok(Command::Fail { node: 1, after }),
-        Word::Stop(after) => Ok(Command::Stop {
-            node: 1,
-            after,
-            mode: ImageMode::Lose,
-        }),
-        Word::Go(n) => Ok(Command::Go { n }),
-        Word::Turn(i) => Ok(Command::Turn { i }),
-        _ => naming(alloc, word),
-    }
-}
-
-/// The commands of a script, and the lines of its entries.
-fn script(alloc: Global, rows: &[Row]) -> Result<(Vec<Command>, Vec<u8>), AllocError> {
-    let mut commands = Vec::new(alloc);
+/// The words of a script, and the lines of its entries.
+fn script<'a>(alloc: Global, rows: &[Row<'a>]) -> Result<(Vec<Word<'a>>, Vec<u8>), AllocError> {
+    let mut words = Vec::new(alloc);
     let mut lines = Vec::new(alloc);
     for (word, text) in rows {
-        commands.push(command(alloc, *word)?)?;
+        words.push(*word)?;
         lines.extend_from_slice(text.as_bytes())?;
     }
-    Ok((commands, lines))
+    Ok((words, lines))
 }
 
 /// The lines of a history, with the disk that each entry shows.
@@ -248,14 +108,6 @@ fn lines_of(alloc: Global, history: &[Entry]) -> Result<Vec<u8>, AllocError> {
     Ok(lines)
 }
 
-fn blank_disks(alloc: Global) -> Result<Vec<SimDisk>, AllocError> {
-    let mut disks = Vec::new(alloc);
-    for _ in 0..8 {
-        disks.push(SimDisk::new(alloc, 4096)?)?;
-    }
-    Ok(disks)
-}
-
 /// A run over eight disks.
 fn begun<St: Store + Drop>(
     alloc: Global,
@@ -263,99 +115,55 @@ fn begun<St: Store + Drop>(
 ) -> Result<Run<World<St>>, AllocError>
 where
     St::Device: Drop,
+    requires { length disks.items ≡ 8 }
     ensures { IfOk result (λ run. FitsTogether St.seen run.machine) }
 {
-    if disks.len() != 8 {
-        return Err(AllocError);
-    }
     match World::<St>::new(alloc, Types::native(alloc)?, disks) {
         Ok(world) => Ok(Run::new(alloc, world)),
         Err((_, _)) => Err(AllocError),
     }
 }
 
-/// Whether the numbers of a command are in their ranges.
-fn fits(command: &Command) -> bool
-    ensures { IsTrue result → NumbersFit 8 command.now }
-{
-    match command {
-        Command::Create { node, .. } => 1 <= *node && *node <= 8,
-        Command::Hold { uid, .. } => {
-            1 <= uid.node && uid.node <= 8 && 1 <= uid.epoch && 1 <= uid.serial
-        }
-        Command::Call { target, .. } => target.result <= 8,
-        Command::Restrict { target, mask, .. } => { target.result <= 8 && mask.bits <= u16::MAX }
-        Command::Walk { target, .. } => target.result <= 8,
-        Command::Go { n } => 1 <= *n && *n <= 1_000_000,
-        Command::Turn { i } => *i <= 1_000_000,
-        Command::Crash {
-            node,
-            mode: ImageMode::Lose,
-        } => 1 <= *node && *node <= 8,
-        Command::Restart { node } => 1 <= *node && *node <= 8,
-        Command::Cut { a, b } => *a <= 8 && *b <= 8,
-        Command::Join { a, b } => *a <= 8 && *b <= 8,
-        Command::Fail { node, after } => {
-            1 <= *node && *node <= 8 && 1 <= *after && *after <= 1_000_000
-        }
-        Command::Stop {
-            node,
-            after,
-            mode: ImageMode::Lose,
-        } => { 1 <= *node && *node <= 8 && 1 <= *after && *after <= 1_000_000 }
-        Command::End => true,
-        _ => false,
-    }
-}
-
-/// Whether those of all are.
-fn all_fit(commands: &[Command]) -> bool
-    ensures { IsTrue result → All (NumbersFit 8) commands.now }
-{
-    for command in commands {
-        if !fits(command) {
-            return false;
-        }
-    }
-    true
-}
-
 /// The lines of a script, and the disks that are given back.
 fn carried<St: Store + Drop>(
     alloc: Global,
     disks: Vec<St::Device>,
-    commands: &[Command],
+    words: &[Word],
 ) -> Result<(Vec<u8>, Vec<St::Device>), AllocError>
 where
     St::Device: Drop,
+    requires { length disks.items ≡ 8 }
+    ensures { IfOk result (λ given. length given.1.items ≡ 8) }
 {
-    if !all_fit(commands) {
-        return Err(AllocError);
-    }
     let mut run = begun::<St>(alloc, disks)?;
-    run.carry_all(alloc, 0, commands)?;
+    carry(alloc, &mut run, 0, words)?;
     let (world, history) = run.into_parts();
     let mut room = Vec::new(alloc);
     room.reserve(8)?;
     Ok((lines_of(alloc, &history)?, world.close(room)))
 }
 
-/// Carries these rows on.
-fn carry<St: Store + Drop>(
-    alloc: Global,
-    run: &mut Run<World<St>>,
-    rows: &[Row],
-) -> Result<(), AllocError>
-where
-    St::Device: Drop,
-    requires { FitsTogether St.seen run.old.machine }
-    ensures { OnOk result (FitsTogether St.seen run.new.machine) }
-{
-    let (commands, _) = script(alloc, rows)?;
-    if !all_fit(&commands) {
-        return Err(AllocError);
-    }
-    run.carry_all(alloc, 0, &commands)
+/// What is asked of a world itself, and answered by whether it is so.
+#[derive(Clone, Copy)]
+enum Ask<'a> {
+    /// That these are carried out.
+    Carry(&'a [Word<'a>]),
+    /// Whether there is a turn, which stands at each place.
+    HasTurn,
+    /// Whether the turn is a delivery to node 1 from the shell. It is taken, and whether it shows these lines.
+    Take(&'a str),
+    /// Whether the node is up.
+    IsUp(u8),
+    /// Whether the call is.
+    IsOpen(u32),
+    /// Whether the name stands for the first Eject, or else for no capability.
+    Means(&'a str, bool),
+    /// Whether the call of the name found something.
+    IsFound(&'a str),
+    /// Whether what it found is the first Eject.
+    FoundFirst(&'a str),
+    /// That the component is looked up there by a call of the name.
+    LookUp(&'a str, &'a str),
 }
 
 /// The key that comes next, which stands at each place as well.
@@ -372,78 +180,115 @@ where
     Ok(next)
 }
 
-/// A Directory that is to hold itself is asked for that. Each of these is to be so.
-fn asked<St: Store + Drop>(
+/// Takes the only turn.
+fn is_taken<St: Store + Drop>(
     alloc: Global,
     run: &mut Run<World<St>>,
-    so: &mut Vec<bool>,
-) -> Result<(), AllocError>
+    lines: &str,
+) -> Result<bool, AllocError>
 where
     St::Device: Drop,
     requires { FitsTogether St.seen run.old.machine }
     ensures { OnOk result (FitsTogether St.seen run.new.machine) }
 {
-    so.push(only_key(alloc, &run.machine)?.is_none())?;
-    let rows = [
-        (Word::Restart, ""),
-        (Word::Create("x", "Directory"), ""),
-        (Word::Add("a", "x", "x"), ""),
-    ];
-    carry(alloc, run, &rows)?;
-    so.push(matches!(run.machine.seat(1), Some(Seat::Up { .. })))?;
-    so.push(run.machine.is_open(1) && !run.machine.is_open(2))?;
-    so.push(run.machine.capability(&by(alloc, "x")?) == Some(mint(FIRST)))?;
-    so.push(run.machine.capability(&by(alloc, "a")?).is_none())?;
     let Some(key) = only_key(alloc, &run.machine)? else {
-        return Err(AllocError);
+        return Ok(false);
     };
-    so.push((key.station, key.kind, key.sender) == (1, 1, 0))?;
     let taken = vec![in alloc; run.machine.take(alloc, key)?]?;
-    so.push(lines_of(alloc, &taken)?.as_slice() == b"+ request 1 0 1\n".as_slice())?;
-    Ok(())
+    let shown = lines_of(alloc, &taken)?;
+    Ok((key.station, key.kind, key.sender) == (1, 1, 0) && shown.as_slice() == lines.as_bytes())
 }
 
-/// Then it is looked up in itself.
-fn looked_up<St: Store + Drop>(
+fn is_so<St: Store + Drop>(
     alloc: Global,
     run: &mut Run<World<St>>,
-    so: &mut Vec<bool>,
-) -> Result<(), AllocError>
+    ask: Ask,
+) -> Result<bool, AllocError>
 where
     St::Device: Drop,
     requires { FitsTogether St.seen run.old.machine }
+    ensures { OnOk result (FitsTogether St.seen run.new.machine) }
 {
-    let directory = Some(mint(FIRST));
-    carry(alloc, run, &[(Word::Go(100), "")])?;
-    so.push(!run.machine.is_open(1) && run.machine.found(&txt(alloc, "a")?))?;
-    let (name, component) = (txt(alloc, "w")?, txt(alloc, "x")?);
-    let _asked = run.machine.look_up(alloc, &name, directory, &component)?;
-    so.push(run.machine.is_open(2) && !run.machine.found(&name))?;
-    carry(alloc, run, &[(Word::Go(100), "")])?;
-    so.push(run.machine.found(&name))?;
-    so.push(run.machine.next_directory(&name) == directory)?;
-    Ok(())
+    match ask {
+        Ask::Carry(words) => {
+            carry(alloc, run, 0, words)?;
+            Ok(true)
+        }
+        Ask::HasTurn => Ok(only_key(alloc, &run.machine)?.is_some()),
+        Ask::Take(lines) => is_taken(alloc, run, lines),
+        Ask::IsUp(node) => Ok(matches!(run.machine.seat(node), Some(Seat::Up { .. }))),
+        Ask::IsOpen(call) => Ok(run.machine.is_open(call)),
+        Ask::Means(name, is_first) => {
+            let wanted = if is_first { Some(mint(FIRST)) } else { None };
+            Ok(run.machine.capability(&by(alloc, name, 0)?) == wanted)
+        }
+        Ask::IsFound(name) => Ok(run.machine.found(&txt(alloc, name)?)),
+        Ask::FoundFirst(name) => {
+            Ok(run.machine.next_directory(&txt(alloc, name)?) == Some(mint(FIRST)))
+        }
+        Ask::LookUp(name, component) => {
+            let (name, component) = (txt(alloc, name)?, txt(alloc, component)?);
+            let _asked = run
+                .machine
+                .look_up(alloc, &name, Some(mint(FIRST)), &component)?;
+            Ok(true)
+        }
+    }
 }
 
-/// What was to be so, one behind the other.
-fn answers<St: Store + Drop>(alloc: Global, disks: Vec<St::Device>) -> Result<Vec<bool>, AllocError>
+/// What is answered, one behind the other.
+fn answers<St: Store + Drop>(
+    alloc: Global,
+    disks: Vec<St::Device>,
+    asks: &[(Ask, bool)],
+) -> Result<Vec<bool>, AllocError>
 where
     St::Device: Drop,
+    requires { length disks.items ≡ 8 }
 {
     let mut run = begun::<St>(alloc, disks)?;
-    let mut so = Vec::new(alloc);
-    asked(alloc, &mut run, &mut so)?;
-    looked_up(alloc, &mut run, &mut so)?;
-    Ok(so)
+    let mut answers = Vec::new(alloc);
+    'asks: for (ask, _) in asks {
+        answers.push(is_so(alloc, &mut run, *ask)?)?;
+    }
+    Ok(answers)
 }
+
+/// A Directory is asked to hold itself, and is then looked up in itself.
+const ASKS: &[(Ask<'static>, bool)] = &[
+    (Ask::HasTurn, false),
+    (
+        Ask::Carry(&[
+            Word::Restart(1),
+            Word::Create("x", "Directory"),
+            Word::Add("a", "x", "x"),
+        ]),
+        true,
+    ),
+    (Ask::IsUp(1), true),
+    (Ask::IsOpen(1), true),
+    (Ask::IsOpen(2), false),
+    (Ask::Means("x", true), true),
+    (Ask::Means("a", false), true),
+    (Ask::Take("+ request 1 0 1\n"), true),
+    (Ask::Carry(&[Word::Go(100)]), true),
+    (Ask::IsOpen(1), false),
+    (Ask::IsFound("a"), true),
+    (Ask::LookUp("w", "x"), true),
+    (Ask::IsOpen(2), true),
+    (Ask::IsFound("w"), false),
+    (Ask::Carry(&[Word::Go(100)]), true),
+    (Ask::IsFound("w"), true),
+    (Ask::FoundFirst("w"), true),
+];
 
 #[test]
 fn the_calls_of_a_machine(rt: HostRuntime) -> Result<(), Fail> {
     let alloc = rt.alloc();
-    let so = answers::<Log>(alloc, blank_disks(alloc)?)?;
-    assert_eq!(rt; so.len(), 11);
-    for (place, is_so) in so.iter().enumerate() {
-        assert!(rt; *is_so, "{place}");
+    let answered = answers::<Log>(alloc, blank_disks(alloc, 4096)?, ASKS)?;
+    assert_eq!(rt; answered.len(), ASKS.len());
+    for (place, (found, (_, wanted))) in answered.iter().zip(ASKS).enumerate() {
+        assert!(rt; found == wanted, "{place}");
     }
     Ok(())
 }
@@ -452,9 +297,9 @@ fn the_calls_of_a_machine(rt: HostRuntime) -> Result<(), Fail> {
 // reads of records. A boot reads the epoch besides, if there is one, and puts the next by four calls. So does a save.
 
 /// A Cell from its creation through a save, a crash and a restart.
-const KEPT: [Row<'static>; 15] = [
-    (Word::Restart, "node 1 up epoch 1\n+ disk 1 11 - yes\n"),
-    (Word::Restart, "node 1 is up\n"),
+const KEPT: &[Row<'static>] = &[
+    (Word::Restart(1), "node 1 up epoch 1\n+ disk 1 11 - yes\n"),
+    (Word::Restart(1), "node 1 is up\n"),
     (Word::Create("c", "Cell"), "c is 1.1.1\n"),
     (Word::Call("a", "c", "Save"), "+ call 1 a\n"),
     (Word::Turn(3), "+ request 1 0 1\n"),
@@ -468,14 +313,14 @@ const KEPT: [Row<'static>; 15] = [
     (Word::Crash, "node 1 is down\n"),
     (Word::Create("h", "Cell"), "h refused 5 unreachable\n"),
     (Word::Call("i", "h", "Get"), "i void\n"),
-    (Word::Restart, "node 1 up epoch 2\n+ disk 1 25 - yes\n"),
+    (Word::Restart(1), "node 1 up epoch 2\n+ disk 1 25 - yes\n"),
     (Word::Call("d", "c", "Get"), "+ call 3 d\n"),
     (Word::Go(100), STARTED),
 ];
 
 /// Then a disk that fails in an activation and stops in a save, a cut link, and a walk.
-const HARMED: [Row<'static>; 19] = [
-    (Word::Restart, "node 1 up epoch 3\n+ disk 1 37 - yes\n"),
+const HARMED: &[Row<'static>] = &[
+    (Word::Restart(1), "node 1 up epoch 3\n+ disk 1 37 - yes\n"),
     (Word::Hold("c"), "+ hold c\n"),
     (Word::Restrict("r", "c"), "+ restrict r\n"),
     (Word::Fail(1), "+ fail 1 1\n+ disk 1 37 - -\n"),
@@ -484,14 +329,14 @@ const HARMED: [Row<'static>; 19] = [
     (Word::Go(100), FAILED),
     (Word::Call("b", "c", "Save"), "+ call 2 b\n"),
     (Word::Go(100), STOPPED),
-    (Word::Restart, "node 1 up epoch 4\n+ disk 1 52 old yes\n"),
+    (Word::Restart(1), "node 1 up epoch 4\n+ disk 1 52 old yes\n"),
     (Word::Call("d", "c", "Get"), "+ call 3 d\n"),
     (Word::Cut, "+ cut 0 1\nd refused 6 broken\n"),
     (Word::Join, "+ join 0 1\n"),
     (Word::Create("x", "Directory"), "x is 1.4.1\n"),
     (Word::Add("e", "x", "c"), "+ call 4 e\n"),
     (Word::Go(100), ADDED),
-    (Word::Walk("w", "x", "c"), WALKED),
+    (Word::Walk("w", "x", 0, "c"), WALKED),
     (Word::Call("f", "c", "Get"), "+ call 6 f\n"),
     (Word::End, "open f\n"),
 ];
@@ -499,14 +344,12 @@ const HARMED: [Row<'static>; 19] = [
 #[test]
 fn a_script_over_the_disks_of_another(rt: HostRuntime) -> Result<(), Fail> {
     let alloc = rt.alloc();
-    let mut disks = blank_disks(alloc)?;
-    let scripts: [&[Row]; 2] = [&KEPT, &HARMED];
-    for rows in scripts {
-        let (commands, lines) = script(alloc, rows)?;
-        let (written, given) = carried::<Log>(alloc, disks, &commands)?;
-        assert_eq!(rt; written, lines);
-        assert_eq!(rt; given.len(), 8);
-        disks = given;
-    }
+    let (words, lines) = script(alloc, KEPT)?;
+    let (written, disks) = carried::<Log>(alloc, blank_disks(alloc, 4096)?, &words)?;
+    assert!(rt; written == lines, "kept");
+    let (words, lines) = script(alloc, HARMED)?;
+    let (written, disks) = carried::<Log>(alloc, disks, &words)?;
+    assert!(rt; written == lines, "harmed");
+    assert_eq!(rt; disks.len(), 8);
     Ok(())
 }

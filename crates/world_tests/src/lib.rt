@@ -10,7 +10,11 @@ mod eden_shell_tests;
 #[cfg(test)]
 mod eden_world_tests;
 #[cfg(test)]
+mod fixtures;
+#[cfg(test)]
 mod runs_tests;
+#[cfg(test)]
+mod script_words;
 #[cfg(test)]
 mod shell_answers_tests;
 #[cfg(test)]

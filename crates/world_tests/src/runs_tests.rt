@@ -3,8 +3,9 @@ ghost use Rattle.journal.specs.declared.event.Entry.{Entry};
 ghost use Rattle.journal.specs.Fit.{NumbersFit};
 ghost use Rattle.journal.specs.Run.{Step};
 ghost use Rattle.runs.specs.Room.{is_single};
-ghost use Rattle.std.specs.Prelude.{ℕ, IsTrue};
+ghost use Rattle.std.specs.Prelude.{ℕ};
 
+use crate::script_words::{Word, carry};
 use capability::{Cap, Uid, mint};
 use eden_value::Txt;
 use journal::{Command, Entry, Event, Key, Names, Ref, Shown};
@@ -44,12 +45,6 @@ fn entry(alloc: Global, event: Event) -> Entry {
             items: Vec::new(alloc),
         },
     }
-}
-
-fn txt(alloc: Global, bytes: &[u8]) -> Result<Txt, AllocError> {
-    Ok(Txt {
-        bytes: Vec::from_slice(alloc, bytes)?,
-    })
 }
 
 impl Machine for Keys {
@@ -120,7 +115,9 @@ impl Machine for Keys {
         directory: Option<Cap>,
         _component: &Txt,
     ) -> Result<Entry, AllocError> {
-        let name = txt(alloc, &name.bytes)?;
+        let name = Txt {
+            bytes: Vec::from_slice(alloc, &name.bytes)?,
+        };
         if directory.is_none() {
             return Ok(entry(alloc, Event::Void { name }));
         }
@@ -189,75 +186,38 @@ fn letters(alloc: Global, history: &[Entry]) -> Result<Vec<u8>, AllocError> {
     Ok(out)
 }
 
-fn walk(alloc: Global, path: &[u8], which: u8) -> Result<Command, AllocError> {
-    Ok(Command::Walk {
-        name: txt(alloc, b"w")?,
-        target: Ref {
-            name: txt(alloc, b"d")?,
-            result: which,
-        },
-        path: txt(alloc, path)?,
-    })
-}
-
-/// Whether the numbers of the command are in their ranges.
-fn fits(command: &Command) -> bool
-    ensures { IsTrue result → NumbersFit 8 command.now }
-{
-    match command {
-        Command::Go { n } => *n >= 1 && *n <= 1_000_000,
-        Command::Turn { i } => *i <= 1_000_000,
-        Command::Restart { node } => *node >= 1 && *node <= 8,
-        Command::Walk { target, .. } => target.result <= 1,
-        _ => false,
-    }
-}
-
+/// The letters of a run over these words, behind so many nodes that are booted.
 fn carried(
     alloc: Global,
-    serials: &[u32],
-    finds: u32,
-    command: Command,
+    run: &mut Run<Keys>,
+    nodes: u8,
+    words: &[Word],
 ) -> Result<Vec<u8>, AllocError> {
-    if !fits(&command) {
-        return Err(AllocError);
-    }
-    let mut run = run_of(alloc, serials, finds)?;
-    let commands = vec![in alloc; command, Command::End]?;
-    run.carry_all(alloc, 2, &commands)?;
+    carry(alloc, run, nodes, words)?;
     letters(alloc, &run.history)
 }
+
+/// The calls that find a directory, a word of a script that begins at two nodes, and what is seen of three keys. A walk waits for
+/// each of its answers, and goes on where something was found.
+const SCRIPTS: &[(u32, Word<'static>, &[u8])] = &[
+    (0, Word::Go(2), b"bb12l"),
+    (0, Word::Go(9), b"bb123ql"),
+    (0, Word::Turn(4), b"bb2l"),
+    (0, Word::Restart(2), b"bbbl"),
+    (9, Word::Walk("w", "d", 0, "x"), b"bba1l"),
+    (9, Word::Walk("w", "d", 0, "x/y"), b"bba1a23l"),
+    (1, Word::Walk("w", "d", 0, "x/y/z"), b"bba1a23l"),
+    (9, Word::Walk("w", "d", 0, "x/y/z"), b"bba1a23aql"),
+    (9, Word::Walk("w", "d", 1, "x/y"), b"bbvl"),
+];
 
 #[test]
 fn a_script_gives_its_entries(rt: HostRuntime) -> Result<(), AllocError> {
     let alloc = rt.alloc();
-    let rows: [(Command, &[u8]); 4] = [
-        (Command::Go { n: 2 }, b"bb12l"),
-        (Command::Go { n: 9 }, b"bb123ql"),
-        (Command::Turn { i: 4 }, b"bb2l"),
-        (Command::Restart { node: 2 }, b"bbbl"),
-    ];
-    for (command, wanted) in rows {
-        let said = carried(alloc, &[1, 2, 3], 0, command)?;
-        assert!(rt; said.as_slice() == wanted);
-    }
-    Ok(())
-}
-
-// A walk waits for each of its answers, and goes on where something was found.
-#[test]
-fn walks(rt: HostRuntime) -> Result<(), AllocError> {
-    let alloc = rt.alloc();
-    let rows: [(&[u8], u32, u8, &[u8]); 5] = [
-        (b"x", 9, 0, b"bba1l"),
-        (b"x/y", 9, 0, b"bba1a23l"),
-        (b"x/y/z", 1, 0, b"bba1a23l"),
-        (b"x/y/z", 9, 0, b"bba1a23aql"),
-        (b"x/y", 9, 1, b"bbvl"),
-    ];
-    for (path, finds, which, wanted) in rows {
-        let said = carried(alloc, &[1, 2, 3], finds, walk(alloc, path, which)?)?;
-        assert!(rt; said.as_slice() == wanted);
+    for (place, &(finds, word, wanted)) in SCRIPTS.iter().enumerate() {
+        let mut run = run_of(alloc, &[1, 2, 3], finds)?;
+        let said = carried(alloc, &mut run, 2, &[word, Word::End])?;
+        assert!(rt; said.as_slice() == wanted, "{place}");
     }
     Ok(())
 }
@@ -267,22 +227,21 @@ fn turns_run_out(rt: HostRuntime) -> Result<(), AllocError> {
     let alloc = rt.alloc();
     let mut run = run_of(alloc, &[1, 2], 0)?;
     run.turns = 99_999;
-    let commands = vec![in alloc; Command::Go { n: 5 }, Command::Turn { i: 0 }, Command::End]?;
-    run.carry_all(alloc, 1, &commands)?;
-    let said = letters(alloc, &run.history)?;
+    let words = &[Word::Go(5), Word::Turn(0), Word::End];
+    let said = carried(alloc, &mut run, 1, words)?;
     assert!(rt; said.as_slice() == b"b1ssl".as_slice());
     Ok(())
 }
 
 #[test]
 fn slashes_part_components(rt: HostRuntime) -> Result<(), AllocError> {
-    let rows: [(&[u8], &[&[u8]]); 4] = [
+    let rows: &[(&[u8], &[&[u8]])] = &[
         (b"", &[b""]),
         (b"a", &[b"a"]),
         (b"ab/c", &[b"ab", b"c"]),
         (b"/a/", &[b"", b"a", b""]),
     ];
-    for (path, wanted) in rows {
+    for &(path, wanted) in rows {
         let parts = components(rt.alloc(), path)?;
         assert!(rt; parts.len() == wanted.len());
         for (part, one) in parts.iter().zip(wanted) {

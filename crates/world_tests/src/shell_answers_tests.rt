@@ -1,3 +1,4 @@
+use crate::fixtures::words_of;
 use eden_io::{MemSink, MemSource};
 use eden_script::ScriptCause;
 use journal::{History, Mode};
@@ -5,116 +6,142 @@ use shell_answers::*;
 use std::alloc::{AllocError, Global};
 use std::test::Fail;
 
-fn words_of(alloc: Global, words: &[&str]) -> Result<Vec<String>, AllocError> {
-    let mut all = Vec::new(alloc);
-    for word in words {
-        all.push(String::from_str(alloc, word)?)?;
-    }
-    Ok(all)
-}
+const PLAIN: Job = Job::Run { mode: Mode::Plain };
+
+const TRACE: Job = Job::Run { mode: Mode::Trace };
+
+/// Words, what they ask for, and the directory that they name.
+const WORDS: &[(&[&str], Option<Job>, Option<&str>)] = &[
+    (&[], None, None),
+    (&["run"], Some(PLAIN), None),
+    (&["run", "--trace"], Some(TRACE), None),
+    (&["run", "--help"], None, None),
+    (&["host", "d"], Some(PLAIN), Some("d")),
+    (&["host", "d", "--trace"], Some(TRACE), Some("d")),
+    (&["host", ""], None, None),
+    (&["host", "-d"], None, None),
+    (&["host", "--trace"], None, None),
+    (&["gen", "0"], Some(Job::Gen { number: 0 }), None),
+    (
+        &["gen", "18446744073709551615"],
+        Some(Job::Gen { number: u64::MAX }),
+        None,
+    ),
+    (&["gen", "18446744073709551616"], None, None),
+    (&["gen", ""], None, None),
+    (&["--version"], None, None),
+];
 
 #[test]
 fn words_ask_for_jobs(rt: HostRuntime) -> Result<(), Fail> {
     let alloc = rt.alloc();
-    let plain = Job::Run { mode: Mode::Plain };
-    let trace = Job::Run { mode: Mode::Trace };
-    let rows: [(&[&str], Option<Job>); 14] = [
-        (&[], None),
-        (&["run"], Some(plain)),
-        (&["run", "--trace"], Some(trace)),
-        (&["run", "--help"], None),
-        (&["host", "d"], Some(plain)),
-        (&["host", "d", "--trace"], Some(trace)),
-        (&["host", ""], None),
-        (&["host", "-d"], None),
-        (&["host", "--trace"], None),
-        (&["gen", "0"], Some(Job::Gen { number: 0 })),
-        (
-            &["gen", "18446744073709551615"],
-            Some(Job::Gen { number: u64::MAX }),
-        ),
-        (&["gen", "18446744073709551616"], None),
-        (&["gen", ""], None),
-        (&["--version"], None),
-    ];
-    for (words, job) in rows {
-        assert_eq!(rt; job_of(&words_of(alloc, words)?), job);
-    }
-    let host = words_of(alloc, &["host", "d", "--trace"])?;
-    assert_eq!(rt; host_dir(&host).map(|dir| dir.as_str()), Some("d"));
-    let run = words_of(alloc, &["run"])?;
-    assert_eq!(rt; host_dir(&run), None);
-    Ok(())
-}
-
-// How a script is read, and what is written of it.
-#[test]
-fn what_is_no_script_is_refused(rt: HostRuntime) -> Result<(), Fail> {
-    let alloc = rt.alloc();
-    let words = words_of(alloc, &["run"])?;
-    let no_command = Outcome::BadScript {
-        line: 1,
-        cause: ScriptCause::NoCommand,
-    };
-    let no_end = Outcome::BadScript {
-        line: 2,
-        cause: ScriptCause::NoEnd,
-    };
-    let rows: [(&str, Outcome, &str); 2] = [
-        ("frob\n", no_command, "bad script line 1: no command\n"),
-        ("nodes 1\n", no_end, "bad script line 2: no end\n"),
-    ];
-    for (script, wanted, text) in rows {
-        let mut source = MemSource::new(script.as_bytes().to_vec(alloc)?, Vec::new(alloc));
-        let mut sink = MemSink::new(alloc, 7, 100, Vec::new(alloc))?;
-        match read_script(alloc, &words, &mut source) {
-            Ok(_) => assert!(rt; false),
-            Err(outcome) => {
-                assert_eq!(rt; outcome, wanted);
-                let report = refuse(alloc, outcome, &mut sink);
-                assert_eq!(rt; report.outcome, wanted);
-                assert_eq!(rt; status(&report.outcome), 3);
-            }
-        }
-        assert_eq!(rt; sink.written(), text.as_bytes());
+    for (place, &(words, job, dir)) in WORDS.iter().enumerate() {
+        let words = words_of(alloc, words)?;
+        assert!(rt; job_of(&words) == job, "{place}");
+        assert!(rt; host_dir(&words).map(|dir| dir.as_str()) == dir, "{place}");
     }
     Ok(())
 }
 
-#[test]
-fn a_script_is_read(rt: HostRuntime) -> Result<(), Fail> {
-    let alloc = rt.alloc();
-    let words = words_of(alloc, &["host", "d", "--trace"])?;
-    let mut source = MemSource::new(b"nodes 2\nend\n".to_vec(alloc)?, Vec::new(alloc));
-    match read_script(alloc, &words, &mut source) {
-        Ok(asked) => {
-            assert_eq!(rt; asked.job, Job::Run { mode: Mode::Trace });
-            assert_eq!(rt; asked.script.nodes, 2);
-        }
-        Err(_) => assert!(rt; false),
-    }
-    Ok(())
+/// What a reading comes to.
+#[derive(Clone, Copy)]
+enum Read<'a> {
+    /// A job, and the number of nodes of its script.
+    Script(Job, u8),
+    /// No script: why, the outcome of the call and its status, and what is written.
+    Refused(Outcome, Outcome, u8, &'a str),
 }
 
-#[test]
-fn a_source_and_a_sink_may_fail(rt: HostRuntime) -> Result<(), Fail> {
-    let alloc = rt.alloc();
-    let words = words_of(alloc, &["run"])?;
-    let mut source = MemSource::new(b"nodes 2\nend\n".to_vec(alloc)?, vec![in alloc; 1]?);
-    assert_eq!(rt;
-        read_script(alloc, &words, &mut source).err(),
-        Some(Outcome::ReadFault)
-    );
-    let mut sink = MemSink::new(alloc, 7, 100, vec![in alloc; 1]?)?;
-    let report = refuse(alloc, Outcome::ReadFault, &mut sink);
-    assert_eq!(rt; report.outcome, Outcome::WriteFault);
-    let carried = Carried {
+/// A history without entries.
+fn nothing(alloc: Global) -> Carried {
+    Carried {
         history: History {
             entries: Vec::new(alloc),
         },
         whole: true,
-    };
-    let report = conclude(alloc, Mode::Plain, carried, &mut sink);
-    assert_eq!(rt; report.outcome, Outcome::Ran);
+    }
+}
+
+/// Whether the words and the bytes come to that, where these reads and writes fail; later writes do not.
+fn is_read(
+    alloc: Global,
+    words: &[&str],
+    bytes: &str,
+    failing: (&[u32], &[u32]),
+    wanted: Read,
+) -> Result<bool, AllocError> {
+    let (reads, writes) = failing;
+    let words = words_of(alloc, words)?;
+    let mut source = MemSource::new(bytes.as_bytes().to_vec(alloc)?, reads.to_vec(alloc)?);
+    let mut sink = MemSink::new(alloc, 7, 100, writes.to_vec(alloc)?)?;
+    match read_script(alloc, &words, &mut source) {
+        Ok(asked) => match wanted {
+            Read::Script(job, nodes) => Ok(asked.job == job && asked.script.nodes == nodes),
+            Read::Refused(_, _, _, _) => Ok(false),
+        },
+        Err(due) => {
+            let report = refuse(alloc, due, &mut sink);
+            let Read::Refused(cause, outcome, code, text) = wanted else {
+                return Ok(false);
+            };
+            let is_written = sink.written() == text.as_bytes();
+            let later = conclude(alloc, Mode::Plain, nothing(alloc), &mut sink);
+            Ok(
+                due == cause
+                    && report.outcome == outcome
+                    && status(&report.outcome) == code
+                    && is_written
+                    && later.outcome == Outcome::Ran,
+            )
+        }
+    }
+}
+
+const NO_COMMAND: Outcome = Outcome::BadScript {
+    line: 1,
+    cause: ScriptCause::NoCommand,
+};
+
+const NO_END: Outcome = Outcome::BadScript {
+    line: 2,
+    cause: ScriptCause::NoEnd,
+};
+
+/// Words, the bytes of a script, the reads and the writes that fail, and what it comes to.
+type Reading<'a> = (&'a [&'a str], &'a str, (&'a [u32], &'a [u32]), Read<'a>);
+
+const READINGS: &[Reading<'static>] = &[
+    (
+        &["host", "d", "--trace"],
+        "nodes 2\nend\n",
+        (&[], &[]),
+        Read::Script(TRACE, 2),
+    ),
+    (
+        &["run"],
+        "frob\n",
+        (&[], &[]),
+        Read::Refused(NO_COMMAND, NO_COMMAND, 3, "bad script line 1: no command\n"),
+    ),
+    (
+        &["run"],
+        "nodes 1\n",
+        (&[], &[]),
+        Read::Refused(NO_END, NO_END, 3, "bad script line 2: no end\n"),
+    ),
+    (
+        &["run"],
+        "nodes 2\nend\n",
+        (&[1], &[1]),
+        Read::Refused(Outcome::ReadFault, Outcome::WriteFault, 5, ""),
+    ),
+];
+
+#[test]
+fn a_script_is_read_or_refused(rt: HostRuntime) -> Result<(), Fail> {
+    let alloc = rt.alloc();
+    for (place, &(words, bytes, failing, wanted)) in READINGS.iter().enumerate() {
+        assert!(rt; is_read(alloc, words, bytes, failing, wanted)?, "{place}");
+    }
     Ok(())
 }

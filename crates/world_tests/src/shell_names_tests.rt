@@ -1,21 +1,10 @@
+use crate::fixtures::{by, txt};
 use capability::{Cap, Rights, Uid};
 use eden_value::{Items, Status, Txt, Value, print};
-use journal::{Arg, Args, Event, Ref};
+use journal::{Arg, Args, Event};
 use shell_names::ShellNames;
 use std::alloc::{AllocError, Global};
-
-fn text(alloc: Global, bytes: &[u8]) -> Result<Txt, AllocError> {
-    Ok(Txt {
-        bytes: Vec::from_slice(alloc, bytes)?,
-    })
-}
-
-fn by(alloc: Global, name: &[u8], k: u8) -> Result<Ref, AllocError> {
-    Ok(Ref {
-        name: text(alloc, name)?,
-        result: k,
-    })
-}
+use std::process::Abort;
 
 fn uid_of(serial: u32) -> Uid {
     Uid {
@@ -25,11 +14,22 @@ fn uid_of(serial: u32) -> Uid {
     }
 }
 
+fn maybe_uid(serial: Option<u32>) -> Option<Uid> {
+    Some(uid_of(serial?))
+}
+
+/// The capability of this serial with these rights.
 fn cap_of(serial: u32, bits: u16) -> Cap {
     Cap {
         uid: uid_of(serial),
         rights: Rights { bits },
     }
+}
+
+/// The same, if there is one.
+fn maybe_cap(of: Option<(u32, u16)>) -> Option<Cap> {
+    let (serial, bits) = of?;
+    Some(cap_of(serial, bits))
 }
 
 /// The number 7, in so many lists.
@@ -72,188 +72,262 @@ fn results(alloc: Global) -> Result<Items, AllocError> {
 /// `a` is a capability, `r` has results, `n` stands for nothing.
 fn some_names(alloc: Global) -> Result<ShellNames, AllocError> {
     let mut names = ShellNames::new(alloc);
-    names.bind_capability(alloc, &text(alloc, b"a")?, cap_of(1, 0xFFFF))?;
-    names.bind_results(alloc, &text(alloc, b"r")?, results(alloc)?)?;
-    names.bind_nothing(alloc, &text(alloc, b"n")?)?;
+    names.bind_capability(alloc, &txt(alloc, "a")?, cap_of(1, 0xFFFF))?;
+    names.bind_results(alloc, &txt(alloc, "r")?, results(alloc)?)?;
+    names.bind_nothing(alloc, &txt(alloc, "n")?)?;
     Ok(names)
 }
 
-fn printed(alloc: Global, value: &Option<Value>) -> Result<Vec<u8>, AllocError> {
+/// A question about a name, with what it is to be answered.
+#[derive(Clone, Copy)]
+enum Ask<'a> {
+    /// The number of a result, and how its value is printed; the empty text where there is none.
+    Value(u8, &'a str),
+    /// The number of a result, and the serial and the rights of the capability that it is.
+    Capability(u8, Option<(u32, u16)>),
+    /// Whether its call found something.
+    IsFound(bool),
+    /// The directory that it found.
+    Next(Option<(u32, u16)>),
+    /// How the number 3 and the result of this number, in so many lists, are printed as arguments.
+    Arguments(u8, u8, &'a str),
+    /// Whether it may be called with the first result of this name.
+    IsReady(&'a str, bool),
+}
+
+/// Whether it is printed so.
+fn is_printed(alloc: Global, value: &Option<Value>, wanted: &str) -> Result<bool, AllocError> {
     let mut out = Vec::new(alloc);
     if let Some(value) = value {
         print(alloc, value, &mut out)?;
     }
-    Ok(out)
+    Ok(out.as_slice() == wanted.as_bytes())
 }
 
-fn printed_items(alloc: Global, items: Option<Items>) -> Result<Vec<u8>, AllocError> {
-    match items {
-        Some(items) => printed(alloc, &Some(Value::List { items })),
-        None => Ok(Vec::new(alloc)),
+/// The number 3, and the result of a name in so many lists.
+fn arguments(alloc: Global, name: &str, k: u8, deep: u8) -> Result<Args, AllocError> {
+    let inner = Arg::Named {
+        by: by(alloc, name, k)?,
+    };
+    let first = Arg::Plain {
+        value: Value::Int { n: 3 },
+    };
+    let second = nested_argument(alloc, inner, deep)?;
+    let args = vec![in alloc; first, second]?;
+    Ok(Args { args })
+}
+
+fn is_so(alloc: Global, names: &ShellNames, name: &str, ask: Ask) -> Result<bool, AllocError> {
+    match ask {
+        Ask::Value(k, wanted) => {
+            let value = names.value(alloc, &txt(alloc, name)?, k)?;
+            is_printed(alloc, &value, wanted)
+        }
+        Ask::Capability(k, wanted) => {
+            Ok(names.capability(&by(alloc, name, k)?) == maybe_cap(wanted))
+        }
+        Ask::IsFound(wanted) => Ok(names.found(&txt(alloc, name)?) == wanted),
+        Ask::Next(wanted) => Ok(names.next_directory(&txt(alloc, name)?) == maybe_cap(wanted)),
+        Ask::Arguments(k, deep, wanted) => {
+            let items = names.arguments(alloc, &arguments(alloc, name, k, deep)?)?;
+            let value = match items {
+                Some(items) => Some(Value::List { items }),
+                None => None,
+            };
+            is_printed(alloc, &value, wanted)
+        }
+        Ask::IsReady(given, wanted) => {
+            let target = by(alloc, name, 0)?;
+            let ready = names.ready(alloc, &target, &arguments(alloc, given, 1, 0)?)?;
+            Ok(ready.is_some() == wanted)
+        }
     }
 }
+
+/// What a name comes to stand for.
+#[derive(Clone, Copy)]
+enum Change {
+    /// The one result 5.
+    Five,
+    /// What is held, of this serial.
+    Hold(u32),
+    /// The result of this number of `r` with two of its rights, which is a capability or is none.
+    Restrict(u8, bool),
+    /// What was created, by its serial, or was refused.
+    Create(Status, Option<u32>),
+    /// A call of this number.
+    Ask(u32),
+    /// The answer to a call that may be open.
+    Hear(Status, bool),
+}
+
+/// Makes the change, and whether its event says so.
+fn is_told(
+    alloc: Global,
+    names: &mut ShellNames,
+    name: &Txt,
+    change: Change,
+) -> Result<bool, AllocError> {
+    match change {
+        Change::Five => {
+            let values = vec![in alloc; Value::Int { n: 5 }]?;
+            names.bind_results(alloc, name, Items { values })?;
+            Ok(true)
+        }
+        Change::Hold(serial) => {
+            let event = names.hold(alloc, name, uid_of(serial))?;
+            Ok(matches!(event, Event::Bound { held: true, .. }))
+        }
+        Change::Restrict(k, is_capability) => {
+            match names.restrict(alloc, name, &by(alloc, "r", k)?, Rights { bits: 3 })? {
+                Event::Bound { held: false, .. } => Ok(is_capability),
+                Event::Void { .. } => Ok(!is_capability),
+                _ => Ok(false),
+            }
+        }
+        Change::Create(status, serial) => {
+            let made = maybe_uid(serial);
+            match names.create(alloc, name, status, made)? {
+                Event::Made {
+                    status: said,
+                    uid,
+                    ..
+                } => Ok(said == status && uid == made),
+                _ => Ok(false),
+            }
+        }
+        Change::Ask(number) => match names.ask(alloc, name, number, None)? {
+            Event::Asked { call, .. } => Ok(call == number),
+            _ => Ok(false),
+        },
+        Change::Hear(status, is_open) => {
+            names.hear(alloc, name, status, &results(alloc)?, is_open)?;
+            Ok(true)
+        }
+    }
+}
+
+/// Changes of names, and then questions about them, each with its name.
+type Row<'a> = (&'a [(&'a str, Change)], &'a [(&'a str, Ask<'a>)]);
+
+fn all_is_so(rt: &impl Abort, alloc: Global, rows: &[Row]) -> Result<(), AllocError> {
+    let mut names = some_names(alloc)?;
+    for (changes, asks) in rows {
+        for &(name, change) in *changes {
+            let is_told = is_told(alloc, &mut names, &txt(alloc, name)?, change)?;
+            assert!(rt; is_told, "{name} is changed");
+        }
+        for (place, &(name, ask)) in asks.iter().enumerate() {
+            let is_so = is_so(alloc, &names, name, ask)?;
+            assert!(rt; is_so, "{name}, question {place}");
+        }
+    }
+    Ok(())
+}
+
+const AT_FIRST: &[(&str, Ask<'static>)] = &[
+    ("a", Ask::Value(0, "<1.1.1:ffff>")),
+    ("a", Ask::Value(1, "")),
+    ("r", Ask::Value(0, "")),
+    ("r", Ask::Value(1, "0")),
+    ("r", Ask::Value(2, "<1.1.2:0006>")),
+    ("r", Ask::Value(4, "[[[7]]]")),
+    ("r", Ask::Value(5, "")),
+    ("n", Ask::Value(0, "")),
+    ("n", Ask::Value(1, "")),
+    ("x", Ask::Value(0, "")),
+    // References.
+    ("a", Ask::Capability(0, Some((1, 0xFFFF)))),
+    ("a", Ask::Capability(1, None)),
+    ("r", Ask::Capability(1, None)),
+    ("r", Ask::Capability(2, Some((2, 6)))),
+    ("r", Ask::Capability(3, None)),
+    ("r", Ask::Capability(5, None)),
+    ("n", Ask::Capability(0, None)),
+    ("x", Ask::Capability(0, None)),
+    // Walks.
+    ("r", Ask::IsFound(true)),
+    ("r", Ask::Next(Some((2, 6)))),
+    ("a", Ask::IsFound(false)),
+    ("a", Ask::Next(None)),
+    // Arguments nest four deep.
+    ("x", Ask::Arguments(0, 1, "")),
+    ("r", Ask::Arguments(4, 0, "[3, [[[7]]]]")),
+    ("r", Ask::Arguments(4, 1, "[3, [[[[7]]]]]")),
+    ("r", Ask::Arguments(4, 2, "")),
+    ("a", Ask::Arguments(0, 4, "[3, [[[[<1.1.1:ffff>]]]]]")),
+    ("a", Ask::Arguments(0, 5, "")),
+    // Calls.
+    ("a", Ask::IsReady("r", true)),
+    ("n", Ask::IsReady("r", false)),
+    ("a", Ask::IsReady("n", false)),
+];
 
 #[test]
 fn names_have_values(rt: HostRuntime) -> Result<(), AllocError> {
-    let names = some_names(rt.alloc())?;
-    let rows = [
-        (b"a", 0, "<1.1.1:ffff>"),
-        (b"a", 1, ""),
-        (b"r", 0, ""),
-        (b"r", 1, "0"),
-        (b"r", 2, "<1.1.2:0006>"),
-        (b"r", 4, "[[[7]]]"),
-        (b"r", 5, ""),
-        (b"n", 0, ""),
-        (b"n", 1, ""),
-        (b"x", 0, ""),
-    ];
-    for (name, k, wanted) in rows {
-        let name = text(rt.alloc(), name)?;
-        let value = names.value(rt.alloc(), &name, k)?;
-        let answer = printed(rt.alloc(), &value)?;
-        assert_eq!(rt; answer.as_slice(), wanted.as_bytes(), "result {k}");
-    }
-    Ok(())
+    all_is_so(&rt, rt.alloc(), &[(&[], AT_FIRST)])
 }
 
-#[test]
-fn references_are_capabilities(rt: HostRuntime) -> Result<(), AllocError> {
-    let names = some_names(rt.alloc())?;
-    let rows = [
-        (b"a", 0, Some(cap_of(1, 0xFFFF))),
-        (b"a", 1, None),
-        (b"r", 1, None),
-        (b"r", 2, Some(cap_of(2, 6))),
-        (b"r", 3, None),
-        (b"r", 5, None),
-        (b"n", 0, None),
-        (b"x", 0, None),
-    ];
-    for (name, k, wanted) in rows {
-        let cap = names.capability(&by(rt.alloc(), name, k)?);
-        assert!(rt; cap == wanted, "result {k}");
-    }
-    let last = text(rt.alloc(), b"r")?;
-    assert!(rt; names.found(&last));
-    assert!(rt; names.next_directory(&last) == Some(cap_of(2, 6)));
-    let other = text(rt.alloc(), b"a")?;
-    assert!(rt; !names.found(&other));
-    assert!(rt; names.next_directory(&other).is_none());
-    Ok(())
-}
+/// The later one counts, and another name is as it was.
+const TWO_MEANINGS: &[Row<'static>] = &[(
+    &[("a", Change::Five)],
+    &[
+        ("a", Ask::Value(1, "5")),
+        ("a", Ask::Capability(0, None)),
+        ("a", Ask::IsFound(false)),
+        ("r", Ask::IsFound(true)),
+    ],
+)];
 
 #[test]
 fn of_two_meanings_the_later_counts(rt: HostRuntime) -> Result<(), AllocError> {
-    let mut names = some_names(rt.alloc())?;
-    let name = text(rt.alloc(), b"a")?;
-    let values = vec![in rt.alloc(); Value::Int { n: 5 }]?;
-    names.bind_results(rt.alloc(), &name, Items { values })?;
-    let value = names.value(rt.alloc(), &name, 1)?;
-    assert_eq!(rt; printed(rt.alloc(), &value)?.as_slice(), b"5".as_slice());
-    assert!(rt; names.capability(&by(rt.alloc(), b"a", 0)?).is_none());
-    assert!(rt; !names.found(&name));
-    let last = text(rt.alloc(), b"r")?;
-    assert!(rt; names.found(&last), "another name");
-    Ok(())
+    all_is_so(&rt, rt.alloc(), TWO_MEANINGS)
 }
 
-#[test]
-fn arguments_nest_four_deep(rt: HostRuntime) -> Result<(), AllocError> {
-    let names = some_names(rt.alloc())?;
-    let rows = [
-        (b"x", 0, 1, ""),
-        (b"r", 4, 0, "[3, [[[7]]]]"),
-        (b"r", 4, 1, "[3, [[[[7]]]]]"),
-        (b"r", 4, 2, ""),
-        (b"a", 0, 4, "[3, [[[[<1.1.1:ffff>]]]]]"),
-        (b"a", 0, 5, ""),
-    ];
-    for (name, k, deep, wanted) in rows {
-        let inner = Arg::Named {
-            by: by(rt.alloc(), name, k)?,
-        };
-        let first = Arg::Plain {
-            value: Value::Int { n: 3 },
-        };
-        let second = nested_argument(rt.alloc(), inner, deep)?;
-        let args = vec![in rt.alloc(); first, second]?;
-        let items = names.arguments(rt.alloc(), &Args { args })?;
-        let answer = printed_items(rt.alloc(), items)?;
-        assert_eq!(rt; answer.as_slice(), wanted.as_bytes(), "in {deep} lists");
-    }
-    Ok(())
-}
+const COMMANDS: &[Row<'static>] = &[(
+    &[
+        ("h", Change::Hold(9)),
+        ("s", Change::Restrict(2, true)),
+        ("v", Change::Restrict(3, false)),
+        ("c", Change::Create(Status::Ok, Some(4))),
+        ("d", Change::Create(Status::Full, None)),
+    ],
+    &[
+        ("h", Ask::Capability(0, Some((9, 0xFFFF)))),
+        ("s", Ask::Capability(0, Some((2, 2)))),
+        ("v", Ask::Capability(0, None)),
+        ("c", Ask::Capability(0, Some((4, 0xFFFF)))),
+        ("d", Ask::Capability(0, None)),
+    ],
+)];
 
 #[test]
 fn commands_bind_their_names(rt: HostRuntime) -> Result<(), AllocError> {
-    let mut names = some_names(rt.alloc())?;
-    let h = text(rt.alloc(), b"h")?;
-    let event = names.hold(rt.alloc(), &h, uid_of(9))?;
-    assert!(rt; matches!(event, Event::Bound { held: true, .. }));
-    let s = text(rt.alloc(), b"s")?;
-    let mask = Rights { bits: 3 };
-    let second = by(rt.alloc(), b"r", 2)?;
-    let event = names.restrict(rt.alloc(), &s, &second, mask)?;
-    assert!(rt; matches!(event, Event::Bound { held: false, .. }));
-    let v = text(rt.alloc(), b"v")?;
-    let third = by(rt.alloc(), b"r", 3)?;
-    let event = names.restrict(rt.alloc(), &v, &third, mask)?;
-    assert!(rt; matches!(event, Event::Void { .. }));
-    let c = text(rt.alloc(), b"c")?;
-    let event = names.create(rt.alloc(), &c, Status::Ok, Some(uid_of(4)))?;
-    assert!(rt;
-        matches!(
-            event,
-            Event::Made {
-                status: Status::Ok,
-                ..
-            }
-        )
-    );
-    let d = text(rt.alloc(), b"d")?;
-    let event = names.create(rt.alloc(), &d, Status::Full, None)?;
-    assert!(rt; matches!(event, Event::Made { uid: None, .. }));
-    let rows = [
-        (b"h", Some(cap_of(9, 0xFFFF))),
-        (b"s", Some(cap_of(2, 2))),
-        (b"v", None),
-        (b"c", Some(cap_of(4, 0xFFFF))),
-        (b"d", None),
-    ];
-    for (name, wanted) in rows {
-        assert!(rt; names.capability(&by(rt.alloc(), name, 0)?) == wanted);
-    }
-    Ok(())
+    all_is_so(&rt, rt.alloc(), COMMANDS)
 }
+
+/// Until it is answered.
+const CALLS: &[Row<'static>] = &[
+    (&[("r", Change::Ask(3))], &[("r", Ask::IsFound(false))]),
+    (
+        &[("r", Change::Hear(Status::Ok, false))],
+        &[("r", Ask::IsFound(false))],
+    ),
+    (
+        &[("r", Change::Hear(Status::Ok, true))],
+        &[("r", Ask::IsFound(true))],
+    ),
+    (
+        &[("r", Change::Hear(Status::Gone, false))],
+        &[("r", Ask::IsFound(true))],
+    ),
+    (
+        &[("r", Change::Hear(Status::Gone, true))],
+        &[("r", Ask::IsFound(false))],
+    ),
+];
 
 #[test]
 fn a_call_stands_for_nothing_until_it_is_answered(rt: HostRuntime) -> Result<(), AllocError> {
-    let mut names = some_names(rt.alloc())?;
-    let rows = [(b"a", b"r", true), (b"n", b"r", false), (b"a", b"n", false)];
-    for (target, given, wanted) in rows {
-        let arg = Arg::Named {
-            by: by(rt.alloc(), given, 1)?,
-        };
-        let args = vec![in rt.alloc(); arg]?;
-        let target = by(rt.alloc(), target, 0)?;
-        let ready = names.ready(rt.alloc(), &target, &Args { args })?;
-        assert_eq!(rt; ready.is_some(), wanted);
-    }
-    let r = text(rt.alloc(), b"r")?;
-    let event = names.ask(rt.alloc(), &r, 3, None)?;
-    assert!(rt; matches!(event, Event::Asked { call: 3, .. }));
-    assert!(rt; !names.found(&r), "asked");
-    let items = results(rt.alloc())?;
-    let replies = [
-        (Status::Ok, false, false),
-        (Status::Ok, true, true),
-        (Status::Gone, false, true),
-        (Status::Gone, true, false),
-    ];
-    for (status, is_open, wanted) in replies {
-        names.hear(rt.alloc(), &r, status, &items, is_open)?;
-        assert_eq!(rt; names.found(&r), wanted);
-    }
-    Ok(())
+    all_is_so(&rt, rt.alloc(), CALLS)
 }

@@ -1,6 +1,6 @@
+use crate::fixtures::txt;
 use capability::Seq;
 use eden_io::{MemSink, Sink};
-use eden_value::Txt;
 use journal::{BootEnd, Entry, Event, History, Mode};
 use std::alloc::{AllocError, Global};
 use std::test::Fail;
@@ -17,12 +17,6 @@ fn entry(alloc: Global, event: Event, node: u8) -> Entry {
     }
 }
 
-fn name(alloc: Global) -> Result<Txt, AllocError> {
-    Ok(Txt {
-        bytes: Vec::from_slice(alloc, b"a")?,
-    })
-}
-
 // A node is booted, a call is asked and delivered, and the node crashes, which breaks the call.
 fn history(alloc: Global) -> Result<History, AllocError> {
     let boot = Event::Boot {
@@ -34,7 +28,7 @@ fn history(alloc: Global) -> Result<History, AllocError> {
     };
     let asked = Event::Asked {
         call: 1,
-        name: name(alloc)?,
+        name: txt(alloc, "a")?,
         at_once: None,
     };
     let request = Event::Request {
@@ -44,7 +38,7 @@ fn history(alloc: Global) -> Result<History, AllocError> {
         refused: None,
     };
     let mut crash = entry(alloc, Event::Crash { node: 1 }, 1);
-    crash.broken.items.push(name(alloc)?)?;
+    crash.broken.items.push(txt(alloc, "a")?)?;
     let mut entries = Vec::new(alloc);
     entries.push(entry(alloc, boot, 1))?;
     entries.push(entry(alloc, asked, 0))?;
@@ -63,44 +57,57 @@ const FULL: &[u8] =
 
 const SUMMARY: &[u8] = b"calls 1 ok 0 refused 1 open 0 turns 1\n";
 
+/// Whether so many bytes of the text are written to a sink, of which a call takes `piece` bytes, and which has this room. Where
+/// it is refused a write has failed.
+fn is_written(
+    alloc: Global,
+    history: &History,
+    mode: Mode,
+    sink: (u32, u32, &[u32]),
+    wanted: (&[u8], usize, bool),
+) -> Result<bool, AllocError> {
+    let (piece, room, failing) = sink;
+    if piece == 0 {
+        return Ok(false);
+    }
+    let (text, count, is_refused) = wanted;
+    let mut sink = MemSink::new(alloc, piece, room, failing.to_vec(alloc)?)?;
+    let answer = write_history(alloc, mode, history, &mut sink);
+    let is_answered = match answer {
+        Ok(()) => !is_refused,
+        Err(refusal) => is_refused && refusal == WriteRefusal::Failed,
+    };
+    Ok(
+        is_answered
+            && sink.written().len() == count
+            && text.starts_with(sink.written())
+            && sink.faults() == u64::from(is_refused),
+    )
+}
+
+/// The most bytes of a call, the room, and the calls that fail; the text, how many of its bytes are written, and whether it is
+/// refused.
+type Row<'a> = (Mode, (u32, u32, &'a [u32]), (&'a [u8], usize, bool));
+
+const ROWS: &[Row<'static>] = &[
+    (Mode::Plain, (7, 1000, &[]), (PLAIN, 55, false)),
+    (Mode::Trace, (7, 1000, &[]), (TRACE, 82, false)),
+    (Mode::Full, (7, 1000, &[]), (FULL, 116, false)),
+    (Mode::Summary, (7, 1000, &[]), (SUMMARY, 38, false)),
+    // A front is written where a write fails.
+    (Mode::Plain, (100, 1000, &[1]), (PLAIN, 0, true)),
+    (Mode::Trace, (10, 1000, &[3]), (TRACE, 20, true)),
+    (Mode::Plain, (100, 25, &[]), (PLAIN, 25, true)),
+    (Mode::Full, (100, 40, &[]), (FULL, 40, true)),
+    (Mode::Summary, (100, 37, &[]), (SUMMARY, 37, true)),
+];
+
 #[test]
 fn a_history_is_written_in_each_mode(rt: HostRuntime) -> Result<(), Fail> {
     let alloc = rt.alloc();
     let history = history(alloc)?;
-    let rows = [
-        (Mode::Plain, PLAIN),
-        (Mode::Trace, TRACE),
-        (Mode::Full, FULL),
-        (Mode::Summary, SUMMARY),
-    ];
-    for (mode, text) in rows {
-        let mut sink = MemSink::new(alloc, 7, 1000, Vec::new(alloc))?;
-        assert_eq!(rt; write_history(alloc, mode, &history, &mut sink), Ok(()));
-        assert_eq!(rt; sink.written(), text);
-        assert_eq!(rt; sink.faults(), 0);
-    }
-    Ok(())
-}
-
-#[test]
-fn a_front_is_written_where_a_write_fails(rt: HostRuntime) -> Result<(), Fail> {
-    let alloc = rt.alloc();
-    let history = history(alloc)?;
-    // The most bytes of a call, the room, the call that fails (0 for none), and how many bytes are written.
-    let rows = [
-        (Mode::Plain, 100, 1000, 1, PLAIN, 0),
-        (Mode::Trace, 10, 1000, 3, TRACE, 20),
-        (Mode::Plain, 100, 25, 0, PLAIN, 25),
-        (Mode::Full, 100, 40, 0, FULL, 40),
-        (Mode::Summary, 100, 37, 0, SUMMARY, 37),
-    ];
-    for (mode, piece, room, failing, text, count) in rows {
-        let mut sink = MemSink::new(alloc, piece, room, vec![in alloc; failing]?)?;
-        let written = write_history(alloc, mode, &history, &mut sink);
-        assert_eq!(rt; written, Err(WriteRefusal::Failed));
-        assert_eq!(rt; sink.written().len(), count);
-        assert!(rt; text.starts_with(sink.written()));
-        assert_eq!(rt; sink.faults(), 1);
+    for (place, &(mode, sink, wanted)) in ROWS.iter().enumerate() {
+        assert!(rt; is_written(alloc, &history, mode, sink, wanted)?, "{place}");
     }
     Ok(())
 }
@@ -109,22 +116,21 @@ fn a_front_is_written_where_a_write_fails(rt: HostRuntime) -> Result<(), Fail> {
 fn a_long_text_is_written_in_pieces(rt: HostRuntime) -> Result<(), Fail> {
     let alloc = rt.alloc();
     let mut entries = Vec::new(alloc);
+    let mut text = Vec::new(alloc);
     for _ in 0..4000 {
         entries.push(entry(alloc, Event::Crash { node: 1 }, 1))?;
+        text.extend_from_slice(b"node 1 down crash\n")?;
     }
     let history = History { entries };
-    // The calls that fail, what the call answers, and how many bytes are written: 18 for each entry.
-    let rows = [
-        (vec![in alloc]?, Ok(()), 72_000),
-        (vec![in alloc; 2]?, Err(WriteRefusal::Failed), 65_538),
-    ];
-    for (failing, answer, count) in rows {
-        let mut sink = MemSink::new(alloc, 100_000, 100_000, failing)?;
-        assert_eq!(rt;
-            write_history(alloc, Mode::Plain, &history, &mut sink),
-            answer
+    // The calls that fail, how many bytes are written, 18 for each entry, and whether it is refused.
+    let rows: &[(&[u32], usize, bool)] = &[(&[], 72_000, false), (&[2], 65_538, true)];
+    for &(failing, count, is_refused) in rows {
+        let sink = (100_000, 100_000, failing);
+        let wanted = (text.as_slice(), count, is_refused);
+        assert!(rt;
+            is_written(alloc, &history, Mode::Plain, sink, wanted)?,
+            "{count}"
         );
-        assert_eq!(rt; sink.written().len(), count);
     }
     Ok(())
 }
