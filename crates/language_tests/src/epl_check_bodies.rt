@@ -1,8 +1,6 @@
 //! Bodies of an operation, by the rule that they break at the mark `|`.
-use crate::marked::{is_answered, types_before};
-use epl_syntax::{Rule, Types};
-use std::alloc::Global;
-use std::test::Fail;
+use crate::marked::{Table, first_other};
+use epl_syntax::{ParseRefusal, Rule};
 
 /// Before a body stand these declarations, in an operation that returns one integer.
 const FRAME: &[u8] =
@@ -14,7 +12,7 @@ const FRAME: &[u8] =
 
 const FRAME_END: &[u8] = b" end endtype";
 
-const KEPT: [&[u8]; 9] = [
+const KEPT: &[&[u8]] = &[
     b"",
     b"return (1)",
     b"n := p + s * 2 - n / 3 mod 4 s := -n b := not b and n < 1 or n = 1 or t <> \"a\" \
@@ -28,7 +26,7 @@ const KEPT: [&[u8]; 9] = [
     b"b := list(list of int) = [list(int), [1]] q := size(list(list of list of list of list of int)) = [[l]][0][0][0]",
 ];
 
-const UNKNOWN: [&[u8]; 29] = [
+const UNKNOWN: &[&[u8]] = &[
     b"|x := 1",
     b"n := |x",
     b"n := n + |x",
@@ -61,7 +59,7 @@ const UNKNOWN: [&[u8]; 29] = [
     b"with |O do end",
 ];
 
-const OPERANDS: [&[u8]; 28] = [
+const OPERANDS: &[&[u8]] = &[
     b"n := |b + 1",
     b"n := 1 + |b",
     b"n := 1 - |t",
@@ -92,7 +90,7 @@ const OPERANDS: [&[u8]; 28] = [
     b"n := l[0] + [l][0][|c]",
 ];
 
-const ARGUMENTS: [&[u8]; 19] = [
+const ARGUMENTS: &[&[u8]] = &[
     b"n := size(|1)",
     b"n := |size(t, t)",
     b"t := str(|t)",
@@ -114,7 +112,7 @@ const ARGUMENTS: [&[u8]; 19] = [
     b"c := |restrict(c, 1, 1)",
 ];
 
-const KINDS: [&[u8]; 27] = [
+const KINDS: &[&[u8]] = &[
     b"n := |true",
     b"b := |n",
     b"t := |c",
@@ -144,7 +142,7 @@ const KINDS: [&[u8]; 27] = [
     b"n := 1 n := |none",
 ];
 
-const UNGUARDED: [&[u8]; 20] = [
+const UNGUARDED: &[&[u8]] = &[
     b"n := |m",
     b"|m := 1",
     b"n := 1 + |m",
@@ -167,84 +165,40 @@ const UNGUARDED: [&[u8]; 20] = [
     b"with N do |wait ready end",
 ];
 
-const NESTED: [&[u8]; 4] = [
+const NESTED: &[&[u8]] = &[
     b"with M do |with M do end end",
     b"with M do if b then |with N do k := 1 end end end",
     b"with M do while b do |with N do end end end",
     b"with M do end with N do if b then else |with M do end end end",
 ];
 
-const FIRST: [(Rule, &[u8]); 9] = [
-    (Rule::UnknownName, b"n := |x b := 1"),
-    (Rule::KindDiffers, b"n := |true x := 1"),
-    (Rule::UnknownName, b"create |B status b gives (n)"),
-    (Rule::Nested, b"with M do |with X do end end"),
-    (Rule::UnknownName, b"with |X do n := m end"),
+/// The tables, and bodies that break two rules, of which the first is answered.
+const TABLES: &[Table] = &[
+    (None, KEPT),
+    (Some(Rule::UnknownName), UNKNOWN),
+    (Some(Rule::KindDiffers), OPERANDS),
+    (Some(Rule::KindDiffers), ARGUMENTS),
+    (Some(Rule::KindDiffers), KINDS),
+    (Some(Rule::Unguarded), UNGUARDED),
+    (Some(Rule::Nested), NESTED),
+    (Some(Rule::UnknownName), &[b"n := |x b := 1"]),
+    (Some(Rule::KindDiffers), &[b"n := |true x := 1"]),
+    (Some(Rule::UnknownName), &[b"create |B status b gives (n)"]),
+    (Some(Rule::Nested), &[b"with M do |with X do end end"]),
+    (Some(Rule::UnknownName), &[b"with |X do n := m end"]),
     // at one place, or two at places that are not in the order of the rules
-    (Rule::KindDiffers, b"b := |m"),
-    (Rule::KindDiffers, b"checkpoint |g"),
-    (Rule::Unguarded, b"|wait ready n := x"),
+    (Some(Rule::KindDiffers), &[b"b := |m"]),
+    (Some(Rule::KindDiffers), &[b"checkpoint |g"]),
+    (Some(Rule::Unguarded), &[b"|wait ready n := x"]),
     (
-        Rule::BadLimit,
-        b"b := size(list(|list of list of list of list of list of int)) = x",
+        Some(Rule::BadLimit),
+        &[b"b := size(list(|list of list of list of list of list of int)) = x"],
     ),
 ];
 
-fn is_body(alloc: Global, types: &Types, rule: Option<Rule>, body: &[u8]) -> Result<bool, Fail> {
-    let mut text = Vec::from_slice(alloc, FRAME)?;
-    text.extend_from_slice(body)?;
-    text.extend_from_slice(FRAME_END)?;
-    is_answered(alloc, types, rule, &text)
-}
-
-/// The number of the first body that neither keeps the rules nor breaks this one at its mark.
-fn first_other(alloc: Global, rule: Option<Rule>, bodies: &[&[u8]]) -> Result<Option<usize>, Fail> {
-    let types = types_before(alloc)?;
-    for i in 0..bodies.len() {
-        if !is_body(alloc, &types, rule, bodies[i])? {
-            return Ok(Some(i));
-        }
-    }
-    Ok(None)
-}
-
 #[test]
-fn bodies_keep_the_rules(rt: HostRuntime) -> Result<(), Fail> {
-    assert_eq!(rt; first_other(rt.alloc(), None, &KEPT)?, None);
-    Ok(())
-}
-
-#[test]
-fn names_are_declared(rt: HostRuntime) -> Result<(), Fail> {
-    let other = first_other(rt.alloc(), Some(Rule::UnknownName), &UNKNOWN)?;
+fn bodies_keep_or_break_the_rules(rt: HostRuntime) -> Result<(), ParseRefusal> {
+    let other = first_other(rt.alloc(), true, [FRAME, FRAME_END], TABLES)?;
     assert_eq!(rt; other, None);
-    Ok(())
-}
-
-#[test]
-fn kinds_fit(rt: HostRuntime) -> Result<(), Fail> {
-    let tables: [&[&[u8]]; 3] = [&OPERANDS, &ARGUMENTS, &KINDS];
-    for bodies in tables {
-        let other = first_other(rt.alloc(), Some(Rule::KindDiffers), bodies)?;
-        assert_eq!(rt; other, None);
-    }
-    Ok(())
-}
-
-#[test]
-fn monitors_are_guarded(rt: HostRuntime) -> Result<(), Fail> {
-    let other = first_other(rt.alloc(), Some(Rule::Unguarded), &UNGUARDED)?;
-    assert_eq!(rt; other, None);
-    let other = first_other(rt.alloc(), Some(Rule::Nested), &NESTED)?;
-    assert_eq!(rt; other, None);
-    Ok(())
-}
-
-#[test]
-fn the_first_broken_rule_is_answered(rt: HostRuntime) -> Result<(), Fail> {
-    let types = types_before(rt.alloc())?;
-    for (rule, body) in FIRST {
-        assert!(rt; is_body(rt.alloc(), &types, Some(rule), body)?);
-    }
     Ok(())
 }

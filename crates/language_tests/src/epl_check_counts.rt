@@ -1,14 +1,14 @@
 //! Types of many parts: one part too many breaks a rule, and a long text is checked in time.
-use crate::marked::{is_answered, types_before};
-use epl_syntax::Rule;
+use crate::marked::is_answered;
+use crate::texts::{Part, built, once};
+use epl_syntax::{ParseRefusal, Rule};
 use std::alloc::Global;
-use std::test::Fail;
 
 /// How often a part may stand in a type, what stands before, the part, what stands between two of
 /// them, and what stands behind. In the part `#` stands for a number, and `|` is the mark.
 type Row = (u32, [&'static [u8]; 4]);
 
-const PARTS_OF_TYPES: [Row; 8] = [
+const PARTS: &[Row] = &[
     (
         64,
         [b"edentype A ", b"durable |v# : int = 0", b" ", b" endtype"],
@@ -55,9 +55,7 @@ const PARTS_OF_TYPES: [Row; 8] = [
         ],
     ),
     (8, [b"edentype A ", b"process |P# end", b" ", b" endtype"]),
-];
-
-const PARTS_OF_BODIES: [Row; 6] = [
+    // parts of bodies
     (
         32,
         [
@@ -114,142 +112,95 @@ const PARTS_OF_BODIES: [Row; 6] = [
     ),
 ];
 
-/// One more part with its number.
-fn append_part(alloc: Global, text: &mut Vec<u8>, part: &[u8], number: u32) -> Result<(), Fail> {
-    for byte in part {
-        if *byte == b'#' {
-            text.extend_from_slice(number.to_string(alloc)?.as_bytes())?;
-        } else {
-            text.push(*byte)?;
-        }
-    }
-    Ok(())
-}
-
-/// A type with so many parts.
-fn with_parts(alloc: Global, texts: [&[u8]; 4], count: u32) -> Result<Vec<u8>, Fail> {
-    let [head, part, between, tail] = texts;
-    let mut text = Vec::from_slice(alloc, head)?;
-    for i in 0..count {
-        if i > 0 {
-            text.extend_from_slice(between)?;
-        }
-        append_part(alloc, &mut text, part, i)?;
-    }
-    text.extend_from_slice(tail)?;
-    Ok(text)
-}
-
 /// Whether a type with so many parts keeps the rules, and in one with one more the last breaks one.
-fn is_limit(alloc: Global, most: u32, texts: [&[u8]; 4]) -> Result<bool, Fail> {
-    let types = types_before(alloc)?;
-    let kept = with_parts(alloc, texts, most)?;
-    let broken = with_parts(alloc, texts, most.saturating_add(1))?;
-    Ok(
-        is_answered(alloc, &types, None, &kept)?
-            && is_answered(alloc, &types, Some(Rule::BadLimit), &broken)?,
-    )
+fn is_limit(alloc: Global, &(most, texts): &Row) -> Result<bool, ParseRefusal> {
+    let [head, part, between, tail] = texts;
+    for (rule, count) in [(None, most), (Some(Rule::BadLimit), most.saturating_add(1))] {
+        let text = built(alloc, &[once(head), (between, part, 0, count), once(tail)])?;
+        if !is_answered(alloc, true, rule, &text)? {
+            return Ok(false);
+        }
+    }
+    Ok(true)
 }
 
 #[test]
-fn each_count_has_its_limit(rt: HostRuntime) -> Result<(), Fail> {
-    for (most, texts) in PARTS_OF_TYPES {
-        assert!(rt; is_limit(rt.alloc(), most, texts)?, "{most}");
-    }
-    for (most, texts) in PARTS_OF_BODIES {
-        assert!(rt; is_limit(rt.alloc(), most, texts)?, "{most}");
+fn each_count_has_its_limit(rt: HostRuntime) -> Result<(), ParseRefusal> {
+    for row in PARTS {
+        assert!(rt; is_limit(rt.alloc(), row)?, "{}", row.0);
     }
     Ok(())
 }
 
-#[test]
-fn at_one_place_the_order_is_that_of_the_rules(rt: HostRuntime) -> Result<(), Fail> {
-    // one class too many, which is also named as the first one
-    let texts: [&[u8]; 4] = [
-        b"edentype A ",
-        b"class c# limit 1",
-        b" ",
-        b" class |c0 limit 1 endtype",
-    ];
-    let text = with_parts(rt.alloc(), texts, 16)?;
-    let types = types_before(rt.alloc())?;
-    assert!(rt; is_answered(rt.alloc(), &types, Some(Rule::Doubled), &text)?);
-    Ok(())
-}
+/// The parts of a long text, how many bytes it has with its marks, and the rule that it breaks.
+type Long = (&'static [Part<'static>], usize, Option<Rule>);
 
-/// A type of 1 MiB of text.
-fn of_a_mebibyte(alloc: Global) -> Result<Vec<u8>, Fail> {
-    let mut text = Vec::from_slice(alloc, b"edentype A process P var s : int = 0")?;
-    let statement: &[u8] = b" s := s + 1";
-    for _ in 0..95_300 {
-        text.extend_from_slice(statement)?;
-    }
-    text.extend_from_slice(b" end endtype")?;
-    for _ in text.len()..1_048_576 {
-        text.push(b' ')?;
-    }
-    Ok(text)
-}
-
-#[test]
-fn a_type_of_a_mebibyte_is_checked(rt: HostRuntime) -> Result<(), Fail> {
-    let types = types_before(rt.alloc())?;
-    let text = of_a_mebibyte(rt.alloc())?;
-    assert_eq!(rt; text.len(), 1_048_576);
-    assert!(rt; is_answered(rt.alloc(), &types, None, &text)?);
-    Ok(())
-}
-
-/// A type with many variables behind a process that holds so many times the same statement. The mark
-/// stands at the first statement, or where `at_limit` is given, at the first variable too many.
-fn of_many_variables(
-    alloc: Global,
-    statement: &[u8],
-    repeats: u32,
-    variables: u32,
-    at_limit: bool,
-) -> Result<Vec<u8>, Fail> {
-    let mut text = Vec::from_slice(alloc, b"edentype A process P |")?;
-    for _ in 0..repeats {
-        text.extend_from_slice(statement)?;
-    }
-    text.extend_from_slice(b"end ")?;
-    for i in 0..variables {
-        let part: &[u8] = if at_limit && i == 64 {
-            b"durable |v# : int = 0 "
-        } else {
-            b"durable v# : int = 0 "
-        };
-        append_part(alloc, &mut text, part, i)?;
-    }
-    text.extend_from_slice(b"endtype")?;
-    Ok(text)
-}
-
-#[test]
-fn names_are_found_among_very_many(rt: HostRuntime) -> Result<(), Fail> {
-    let types = types_before(rt.alloc())?;
-    let known = of_many_variables(rt.alloc(), b"v21999 := v21998 ", 30_000, 22_000, true)?;
-    assert!(rt; is_answered(rt.alloc(), &types, Some(Rule::BadLimit), &known)?);
-    let unknown = of_many_variables(rt.alloc(), b"x := x ", 40_000, 30_000, false)?;
-    assert!(rt; is_answered(rt.alloc(), &types, Some(Rule::UnknownName), &unknown)?);
-    Ok(())
-}
-
-/// A type of very many upgrades, each from another version, and of a last one from the first's.
-fn of_many_upgrades(alloc: Global, count: u32) -> Result<Vec<u8>, Fail> {
-    let mut text = Vec::from_slice(alloc, b"edentype A version 65535 ")?;
-    for i in 1..count {
-        append_part(alloc, &mut text, b"upgrade from # () end ", i)?;
-    }
-    text.extend_from_slice(b"upgrade from |1 () end endtype")?;
-    Ok(text)
-}
+const LONG: &[Long] = &[
+    // one class too many, which is also named as the first one: at one place the order is that of the rules
+    (
+        &[
+            (b"", b"edentype A ", 0, 1),
+            (b" ", b"class c# limit 1", 0, 16),
+            (b"", b" class |c0 limit 1 endtype", 0, 1),
+        ],
+        314,
+        Some(Rule::Doubled),
+    ),
+    // 1 MiB of text
+    (
+        &[
+            (b"", b"edentype A process P var s : int = 0", 0, 1),
+            (b"", b" s := s + 1", 0, 95_300),
+            (b"", b" end endtype", 0, 1),
+            (b"", b" ", 0, 228),
+        ],
+        1_048_576,
+        None,
+    ),
+    // very many variables behind a process that uses the last ones; the mark stands at the first one too many
+    (
+        &[
+            (b"", b"edentype A process P |", 0, 1),
+            (b"", b"v21999 := v21998 ", 0, 30_000),
+            (b"", b"end ", 0, 1),
+            (b"", b"durable v# : int = 0 ", 0, 64),
+            (b"", b"durable |v# : int = 0 ", 64, 65),
+            (b"", b"durable v# : int = 0 ", 65, 22_000),
+            (b"", b"endtype", 0, 1),
+        ],
+        1_048_924,
+        Some(Rule::BadLimit),
+    ),
+    // and behind one that uses none of them
+    (
+        &[
+            (b"", b"edentype A process P |", 0, 1),
+            (b"", b"x := x ", 0, 40_000),
+            (b"", b"end ", 0, 1),
+            (b"", b"durable v# : int = 0 ", 0, 30_000),
+            (b"", b"endtype", 0, 1),
+        ],
+        1_018_923,
+        Some(Rule::UnknownName),
+    ),
+    // very many upgrades, each from another version, and a last one from the first's
+    (
+        &[
+            (b"", b"edentype A version 65535 ", 0, 1),
+            (b"", b"upgrade from # () end ", 1, 40_000),
+            (b"", b"upgrade from |1 () end endtype", 0, 1),
+        ],
+        1_028_923,
+        Some(Rule::Doubled),
+    ),
+];
 
 #[test]
-fn versions_are_found_among_very_many(rt: HostRuntime) -> Result<(), Fail> {
-    let types = types_before(rt.alloc())?;
-    let text = of_many_upgrades(rt.alloc(), 40_000)?;
-    assert!(rt; is_answered(rt.alloc(), &types, Some(Rule::Doubled), &text)?);
+fn long_types_are_checked(rt: HostRuntime) -> Result<(), ParseRefusal> {
+    for &(parts, bytes, rule) in LONG {
+        let text = built(rt.alloc(), parts)?;
+        assert_eq!(rt; text.len(), bytes);
+        assert!(rt; is_answered(rt.alloc(), true, rule, &text)?, "{bytes}");
+    }
     Ok(())
 }

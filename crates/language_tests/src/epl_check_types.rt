@@ -1,48 +1,14 @@
 //! Whole types, by the rule that they break at the mark `|`.
-use crate::marked::{first_other, is_answered, types_before};
-use epl_syntax::{Rule, Types};
-use std::test::Fail;
+use crate::marked::{Table, first_other};
+use crate::texts::{BOXED, GATE, HALF, HOARD, MAILBOX, ONCE, PEER, SPIN, TALLY, TALLY_2};
+use epl_syntax::{ParseRefusal, Rule};
 
-/// The examples of the manual, and other types that keep the rules.
-const EXAMPLES: [&[u8]; 10] = [
-    b"edentype Gate class pass limit 2 class one limit 1 \
-        monitor M working free : bool = false condition c end \
-        operation Pass needs 1 class pass () returns (int) var r : int = 0 with M do while not free do \
-        wait c end r := 1 end return (r) end \
-        operation Open needs 2 class one () returns () with M do free := true signal c end return () end \
-        endtype",
-    b"edentype Peer class all limit 1 \
-        operation Poke needs 1 class all (other : cap, back : cap) returns (int) var s : int = 0 \
-        var r : int = 0 invoke other.Poke(back, other) status s gives (r) return (s) end endtype",
-    b"edentype Mailbox durable box : list of text = list(text) class all limit 1 \
-        operation Deliver needs 1 class all (m : text) returns (int) var s : int = 0 box := box & [m] \
-        checkpoint s return (s) end \
-        operation Read needs 2 class all () returns (list of text) return (box) end endtype",
-    b"edentype Half class all limit 1 operation Part needs 1 class all (n : int) returns (int) return (10 / n) end endtype",
-    b"edentype Spin class all limit 1 \
-        operation Run needs 1 class all (n : int) returns (int) var i : int = 0 while i < n do i := i + 1 \
-        end return (i) end endtype",
-    b"edentype Hoard durable l : list of text = list(text) durable s : text = \"\" class all limit 1 \
-        operation Fill needs 1 class all (n : int, m : int) returns (int) var t : text = \"x\" \
-        var c : int = 0 while size(t) < 1024 do t := t & t end while size(l) < n do l := l & [t] end \
-        s := part(t, 0, m) checkpoint c return (c) end \
-        operation Show needs 2 class all () returns (list of text, text) return (l, s) end endtype",
-    b"edentype Once class all limit 2 monitor M working n : int = 0 end \
-        operation Read needs 1 class all () returns (int) var r : int = 0 with M do r := n end return (r) \
-        end process P with M do n := 7 end end endtype",
-    b"edentype Box durable held : cap = none class all limit 1 \
-        operation Keep needs 1 class all (c : cap) returns (int) var s : int = 0 held := restrict(c, 65535) \
-        checkpoint s return (s) end \
-        operation Fetch needs 2 class all () returns (cap) return (held) end endtype",
-    b"edentype Tally durable n : int = 0 class all limit 1 \
-        operation Add needs 1 class all (k : int) returns (int) var s : int = 0 n := n + k checkpoint s \
-        return (s) end endtype",
-    b"edentype Tally version 2 durable n : int = 0 durable twice : int = 0 class all limit 1 \
-        operation Both needs 1 class all () returns (int, int) return (n, twice) end \
-        upgrade from 1 (old : int) n := old twice := old * 2 end endtype",
+/// The examples of the manual.
+const EXAMPLES: &[&[u8]] = &[
+    GATE, PEER, MAILBOX, HALF, SPIN, HOARD, ONCE, BOXED, TALLY, TALLY_2,
 ];
 
-const KEPT: [&[u8]; 9] = [
+const KEPT: &[&[u8]] = &[
     b"edentype A endtype",
     // at the ends of the limits
     b"edentype A class one limit 1 class many limit 16 \
@@ -68,7 +34,7 @@ const KEPT: [&[u8]; 9] = [
     b"edentype A process R var c : cap = none var s : int = 0 create A status s gives (c) create Older status s gives (c) end endtype",
 ];
 
-const UNKNOWN: [&[u8]; 10] = [
+const UNKNOWN: &[&[u8]] = &[
     b"edentype A operation O needs 1 class |all () returns () end endtype",
     b"edentype A durable all : int = 0 operation O needs 1 class |all () returns () end endtype",
     b"edentype A process R var n : int = 0 end process Q |n := 1 end endtype",
@@ -82,7 +48,7 @@ const UNKNOWN: [&[u8]; 10] = [
     b"edentype A process R var c : cap = none var s : int = 0 create |Oldest status s gives (c) end endtype",
 ];
 
-const KINDS: [&[u8]; 9] = [
+const KINDS: &[&[u8]] = &[
     b"edentype A durable n : int = |true endtype",
     b"edentype A durable b : bool = |-1 endtype",
     b"edentype A working l : list of text = |list(int) endtype",
@@ -94,7 +60,7 @@ const KINDS: [&[u8]; 9] = [
     b"edentype A version 2 durable n : int = 0 upgrade from 1 (a : text) n := |a end endtype",
 ];
 
-const DOUBLED: [&[u8]; 25] = [
+const DOUBLED: &[&[u8]] = &[
     b"edentype A durable n : int = 0 working |n : int = 0 endtype",
     b"edentype A durable n : int = 0 monitor M working |n : int = 0 end endtype",
     b"edentype A durable n : int = 0 class |n limit 1 endtype",
@@ -125,7 +91,7 @@ const DOUBLED: [&[u8]; 25] = [
     b"edentype A version 2 monitor M working a : int = 0 end upgrade from 1 (|a : int) end endtype",
 ];
 
-const LIMITS: [&[u8]; 16] = [
+const LIMITS: &[&[u8]] = &[
     b"edentype A class all limit |0 endtype",
     b"edentype A class all limit |17 endtype",
     b"edentype A class all limit 1 operation O needs |65536 class all () returns () end endtype",
@@ -152,76 +118,55 @@ const LIMITS: [&[u8]; 16] = [
         upgrade from 1 () b := [1] = [size(list(|list of list of list of list of list of int))] end endtype",
 ];
 
-const FIRST: [(Rule, &[u8]); 6] = [
+/// A type that needs the type `Old` before it.
+const YOUNGER: &[&[u8]] = &[
+    b"edentype A process R var c : cap = none var s : int = 0 create |Old status s gives (c) end endtype",
+];
+
+/// The tables, and types that break two rules, of which the first is answered.
+const TABLES: &[Table] = &[
+    (None, EXAMPLES),
+    (None, KEPT),
+    (None, YOUNGER),
+    (Some(Rule::UnknownName), UNKNOWN),
+    (Some(Rule::KindDiffers), KINDS),
+    (Some(Rule::Doubled), DOUBLED),
+    (Some(Rule::BadLimit), LIMITS),
     (
-        Rule::Doubled,
-        b"edentype A durable n : int = 0 durable |n : bool = 1 endtype",
+        Some(Rule::Doubled),
+        &[
+            b"edentype A durable n : int = 0 durable |n : bool = 1 endtype",
+            b"edentype A class c limit 1 class |c limit 0 endtype",
+        ],
     ),
     (
-        Rule::KindDiffers,
-        b"edentype A durable n : int = |true durable n : bool = 1 endtype",
+        Some(Rule::KindDiffers),
+        &[b"edentype A durable n : int = |true durable n : bool = 1 endtype"],
     ),
     (
-        Rule::BadLimit,
-        b"edentype A class c limit |0 class c limit 17 endtype",
+        Some(Rule::BadLimit),
+        &[b"edentype A class c limit |0 class c limit 17 endtype"],
     ),
     (
-        Rule::Doubled,
-        b"edentype A class c limit 1 class |c limit 0 endtype",
-    ),
-    (
-        Rule::UnknownName,
-        b"edentype A process R |x := 1 end durable n : int = true endtype",
-    ),
-    (
-        Rule::UnknownName,
-        b"edentype A operation O needs 1 class |all () returns () end class one limit 0 endtype",
+        Some(Rule::UnknownName),
+        &[
+            b"edentype A process R |x := 1 end durable n : int = true endtype",
+            b"edentype A operation O needs 1 class |all () returns () end class one limit 0 endtype",
+        ],
     ),
 ];
 
 #[test]
-fn types_keep_the_rules(rt: HostRuntime) -> Result<(), Fail> {
-    let types = types_before(rt.alloc())?;
-    let tables: [&[&[u8]]; 2] = [&EXAMPLES, &KEPT];
-    for texts in tables {
-        let other = first_other(rt.alloc(), &types, None, texts)?;
-        assert_eq!(rt; other, None);
-    }
+fn types_keep_or_break_the_rules(rt: HostRuntime) -> Result<(), ParseRefusal> {
+    let other = first_other(rt.alloc(), true, [b"", b""], TABLES)?;
+    assert_eq!(rt; other, None);
     Ok(())
 }
 
 #[test]
-fn types_break_the_rules(rt: HostRuntime) -> Result<(), Fail> {
-    let types = types_before(rt.alloc())?;
-    let tables: [(Rule, &[&[u8]]); 4] = [
-        (Rule::UnknownName, &UNKNOWN),
-        (Rule::KindDiffers, &KINDS),
-        (Rule::Doubled, &DOUBLED),
-        (Rule::BadLimit, &LIMITS),
-    ];
-    for (rule, texts) in tables {
-        let other = first_other(rt.alloc(), &types, Some(rule), texts)?;
-        assert_eq!(rt; other, None, "{rule:?}");
-    }
-    Ok(())
-}
-
-#[test]
-fn the_first_broken_rule_of_a_type_is_answered(rt: HostRuntime) -> Result<(), Fail> {
-    let types = types_before(rt.alloc())?;
-    for (rule, text) in FIRST {
-        assert!(rt; is_answered(rt.alloc(), &types, Some(rule), text)?);
-    }
-    Ok(())
-}
-
-#[test]
-fn types_before_are_seen(rt: HostRuntime) -> Result<(), Fail> {
-    let text: &[u8] =
-        b"edentype A process R var c : cap = none var s : int = 0 create |Old status s gives (c) end endtype";
-    let native = Types::native(rt.alloc())?;
-    assert!(rt; is_answered(rt.alloc(), &native, Some(Rule::UnknownName), text)?);
-    let types = types_before(rt.alloc())?;
-    assert!(rt; is_answered(rt.alloc(), &types, None, text)?);
+fn types_before_are_seen(rt: HostRuntime) -> Result<(), ParseRefusal> {
+    let tables: &[Table] = &[(Some(Rule::UnknownName), YOUNGER)];
+    let other = first_other(rt.alloc(), false, [b"", b""], tables)?;
+    assert_eq!(rt; other, None);
     Ok(())
 }

@@ -1,11 +1,8 @@
 //! Tables of expressions: which tree each has, and where reading stops.
-use epl_parser::parse_edentype;
+use crate::texts::{built, once, parsed};
 use epl_syntax::{Builtin, Const, Expr, Operator, ParseRefusal, Prefix, Program, Stmt, tokens};
 use std::alloc::{AllocError, Global};
 use std::test::Fail;
-
-/// The longest text of a table, in bytes.
-const LONGEST: usize = 1000;
 
 /// What stands before an expression in the type that assigns it.
 const FRONT: &[u8] =
@@ -15,13 +12,8 @@ const BACK: &[u8] = b" return () end endtype";
 
 /// The type with one operation, which assigns the text's expression.
 fn assigning(alloc: Global, text: &[u8]) -> Result<Program, ParseRefusal> {
-    if text.len() > LONGEST {
-        return Err(ParseRefusal::OutOfMemory);
-    }
-    let mut whole = Vec::from_slice(alloc, FRONT)?;
-    whole.extend_from_slice(text)?;
-    whole.extend_from_slice(BACK)?;
-    parse_edentype(alloc, &whole)
+    let whole = built(alloc, &[once(FRONT), once(text), once(BACK)])?;
+    parsed(alloc, &whole)
 }
 
 fn operator_name(operator: Operator) -> &'static [u8] {
@@ -158,7 +150,7 @@ fn shown(alloc: Global, text: &[u8]) -> Result<Vec<u8>, AllocError> {
 
 #[test]
 fn operators_bind_as_the_grammar_says(rt: HostRuntime) -> Result<(), Fail> {
-    let rows: [(&[u8], &[u8]); 29] = [
+    let rows: &[(&[u8], &[u8])] = &[
         (b"1 + 2 * 3", b"(+ 1 (* 2 3))"),
         (b"1 * 2 + 3", b"(+ (* 1 2) 3)"),
         (b"1 - 2 - 3", b"(- (- 1 2) 3)"),
@@ -192,122 +184,98 @@ fn operators_bind_as_the_grammar_says(rt: HostRuntime) -> Result<(), Fail> {
         (b"restrict(self, 7)", b"(restrict self 7)"),
         (b"\"a\\\"b\\\\\" & cut(l, 0)", b"(& 'a\"b\\' (cut l 0))"),
     ];
-    for (text, wanted) in rows {
+    for &(text, wanted) in rows {
         let found = shown(rt.alloc(), text)?;
         assert!(rt; found.as_slice() == wanted);
     }
     Ok(())
 }
 
-/// How a type that assigns a text is read.
-#[derive(Clone, Copy, Debug, PartialEq, Eq)]
-enum End {
-    /// The text is an expression.
-    Read,
-    /// The type cannot go on where so many tokens of the text are left.
-    Bad { left: usize },
-    /// The token where so many of the text are left is too deep.
-    Deep { left: usize },
-    Other,
-}
-
 /// How many tokens the text has from this place of the type on.
 fn left_at(alloc: Global, text: &[u8], place: u32) -> Option<usize> {
     let at = (place as usize).checked_sub(FRONT.len())?;
-    let Some(rest) = text.get(at..) else {
-        return Some(0);
-    };
-    if rest.len() > LONGEST {
+    let rest = text.get(at..).unwrap_or(b"");
+    if rest.len() > 1000 {
         return None;
     }
     Some(tokens(alloc, rest).ok()?.len())
 }
 
-fn end_of(alloc: Global, text: &[u8]) -> End {
-    let (place, is_deep) = match assigning(alloc, text) {
-        Ok(_) => return End::Read,
-        Err(ParseRefusal::BadToken { place }) => (place, false),
-        Err(ParseRefusal::TooDeep { place }) => (place, true),
-        Err(ParseRefusal::OutOfMemory) => return End::Other,
+/// Why a type that assigns a text is refused, with the number of the text's tokens that are left in
+/// place of the place.
+fn refusal(alloc: Global, text: &[u8]) -> Option<ParseRefusal> {
+    let refusal = assigning(alloc, text).err()?;
+    let (ParseRefusal::BadToken { place } | ParseRefusal::TooDeep { place }) = refusal else {
+        return Some(refusal);
     };
-    match left_at(alloc, text, place) {
-        Some(left) if is_deep => End::Deep { left },
-        Some(left) => End::Bad { left },
-        None => End::Other,
+    let place = match left_at(alloc, text, place) {
+        Some(left) if left < 1000 => left as u32,
+        _ => return Some(ParseRefusal::OutOfMemory),
+    };
+    match refusal {
+        ParseRefusal::TooDeep { .. } => Some(ParseRefusal::TooDeep { place }),
+        _ => Some(ParseRefusal::BadToken { place }),
     }
 }
+
+/// A text, and how many of its tokens are left where the type cannot go on.
+const BAD: &[(&[u8], u32)] = &[
+    (b"a > b = c", 2),
+    (b"1 2", 1),
+    (b"a := 1", 2),
+    (b"a )", 1),
+    (b"a or not b then", 1),
+    (b"", 0),
+    (b"1 +", 0),
+    (b"1 + then", 1),
+    (b"a = not b", 2),
+    (b"(a then", 1),
+    (b"[]", 1),
+    (b"size()", 1),
+    (b"size a", 1),
+    (b"list(a)", 2),
+    (b"a[1,2]", 3),
+    (b"Upper", 1),
+];
 
 #[test]
-fn reading_stops_where_an_expression_does(rt: HostRuntime) -> Result<(), Fail> {
-    let rows: [(&[u8], End); 16] = [
-        (b"a > b", End::Read),
-        (b"a > b = c", End::Bad { left: 2 }),
-        (b"1 2", End::Bad { left: 1 }),
-        (b"a := 1", End::Bad { left: 2 }),
-        (b"a )", End::Bad { left: 1 }),
-        (b"a or not b then", End::Bad { left: 1 }),
-        (b"", End::Bad { left: 0 }),
-        (b"1 +", End::Bad { left: 0 }),
-        (b"1 + then", End::Bad { left: 1 }),
-        (b"a = not b", End::Bad { left: 2 }),
-        (b"(a then", End::Bad { left: 1 }),
-        (b"[]", End::Bad { left: 1 }),
-        (b"size()", End::Bad { left: 1 }),
-        (b"size a", End::Bad { left: 1 }),
-        (b"list(a)", End::Bad { left: 2 }),
-        (b"a[1,2]", End::Bad { left: 3 }),
-    ];
-    for (text, wanted) in rows {
-        assert_eq!(rt; end_of(rt.alloc(), text), wanted);
+fn reading_stops_where_an_expression_does(rt: HostRuntime) {
+    assert_eq!(rt; refusal(rt.alloc(), b"a > b"), None);
+    for &(text, place) in BAD {
+        let wanted = Some(ParseRefusal::BadToken { place });
+        assert_eq!(rt; refusal(rt.alloc(), text), wanted);
     }
-    assert_eq!(rt; end_of(rt.alloc(), b"Upper"), End::Bad { left: 1 });
-    Ok(())
 }
 
-/// The front so many times, the middle, and the back so many times.
-fn nested(
-    alloc: Global,
-    front: &[u8],
-    middle: &[u8],
-    back: &[u8],
-    count: u32,
-) -> Result<Vec<u8>, AllocError> {
-    let mut text = Vec::new(alloc);
-    for _ in 0..count {
-        text.extend_from_slice(front)?;
-    }
-    text.extend_from_slice(middle)?;
-    for _ in 0..count {
-        text.extend_from_slice(back)?;
-    }
-    Ok(text)
-}
+/// What stands once, then a front, then once a middle, and a back as often as the front; the greatest
+/// count of them that fits, and how many tokens are left at the first one that is too deep.
+const DEEP: &[(&[u8], &[u8], &[u8], &[u8], u32, u32)] = &[
+    (b"", b"(", b"a", b")", 31, 33),
+    (b"", b"[", b"a", b"]", 31, 33),
+    (b"", b"- ", b"a", b"", 31, 2),
+    (b"", b"not ", b"a", b"", 31, 2),
+    (b"", b"", b"a", b" + a", 31, 2),
+    (b"", b"", b"a", b" or a", 31, 2),
+    (b"", b"", b"a", b"[0]", 30, 2),
+    (b"", b"size(", b"a", b")", 31, 33),
+    (b"list(", b"list of ", b"int)", b"", 31, 2),
+];
 
 #[test]
 fn no_token_is_deeper_than_32(rt: HostRuntime) -> Result<(), Fail> {
-    // The greatest count that fits, and how many tokens are left at the first one that is too deep.
-    let rows: [(&[u8], &[u8], &[u8], u32, usize); 8] = [
-        (b"(", b"a", b")", 31, 33),
-        (b"[", b"a", b"]", 31, 33),
-        (b"- ", b"a", b"", 31, 2),
-        (b"not ", b"a", b"", 31, 2),
-        (b"", b"a", b" + a", 31, 2),
-        (b"", b"a", b" or a", 31, 2),
-        (b"", b"a", b"[0]", 30, 2),
-        (b"size(", b"a", b")", 31, 33),
-    ];
-    for (front, middle, back, count, left) in rows {
-        let fits = nested(rt.alloc(), front, middle, back, count)?;
-        assert_eq!(rt; end_of(rt.alloc(), &fits), End::Read);
-        let deep = nested(rt.alloc(), front, middle, back, count + 1)?;
-        assert_eq!(rt; end_of(rt.alloc(), &deep), End::Deep { left });
-    }
-    for (count, wanted) in [(31, End::Read), (32, End::Deep { left: 2 })] {
-        let mut text = nested(rt.alloc(), b"list of ", b"int)", b"", count)?;
-        text.insert(0, b'(')?;
-        let mut whole = Vec::from_slice(rt.alloc(), b"list")?;
-        whole.extend_from_slice(&text)?;
-        assert_eq!(rt; end_of(rt.alloc(), &whole), wanted);
+    for &(head, front, middle, back, most, place) in DEEP {
+        for (count, wanted) in [
+            (most, None),
+            (
+                most.saturating_add(1),
+                Some(ParseRefusal::TooDeep { place }),
+            ),
+        ] {
+            let front = (b"".as_slice(), front, 0, count);
+            let back = (b"".as_slice(), back, 0, count);
+            let text = built(rt.alloc(), &[once(head), front, once(middle), back])?;
+            assert_eq!(rt; refusal(rt.alloc(), &text), wanted);
+        }
     }
     Ok(())
 }

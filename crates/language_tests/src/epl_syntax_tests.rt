@@ -1,111 +1,114 @@
+use crate::texts::{built, once};
 use epl_syntax::*;
-use std::test::Fail;
+use std::alloc::{AllocError, Global};
 
-fn spans(found: &[Token], wanted: &[(TokenKind, u32, u32)]) -> bool {
-    if found.len() != wanted.len() {
-        return false;
+/// The tokens of a text that is not too long for a test.
+fn read(alloc: Global, text: &[u8]) -> Result<Vec<Token>, ParseRefusal> {
+    if text.len() > 10_000 {
+        return Err(ParseRefusal::OutOfMemory);
     }
-    for (token, (kind, start, end)) in found.iter().zip(wanted) {
-        if token.kind != *kind || token.start != *start || token.end != *end {
+    tokens(alloc, text)
+}
+
+/// What tokens have to be, and where each begins and ends.
+type Spans = &'static [(TokenKind, u32, u32)];
+
+const SPANS: &[(&[u8], Spans)] = &[
+    (b"", &[]),
+    (b" \n ", &[]),
+    (
+        b"a := 1",
+        &[
+            (TokenKind::Lower, 0, 1),
+            (TokenKind::Mark { mark: Mark::Assign }, 2, 4),
+            (TokenKind::Int { n: 1 }, 5, 6),
+        ],
+    ),
+    // a token takes as many bytes as it can
+    (
+        b"ends end A_1<>\"\\\"\"007x",
+        &[
+            (TokenKind::Lower, 0, 4),
+            (TokenKind::Word { word: Word::End }, 5, 8),
+            (TokenKind::Upper, 9, 12),
+            (
+                TokenKind::Mark {
+                    mark: Mark::Different,
+                },
+                12,
+                14,
+            ),
+            (TokenKind::Text, 14, 18),
+            (TokenKind::Int { n: 7 }, 18, 21),
+            (TokenKind::Lower, 21, 22),
+        ],
+    ),
+];
+
+fn are_spans(found: &[Token], wanted: Spans) -> bool {
+    for i in 0..wanted.len() {
+        let (kind, start, end) = wanted[i];
+        if found.get(i) != Some(&Token { kind, start, end }) {
             return false;
         }
     }
-    true
+    found.len() == wanted.len()
 }
 
 #[test]
-fn an_assignment_has_three_tokens(rt: HostRuntime) -> Result<(), Fail> {
-    let found = tokens(rt.alloc(), b"a := 1")?;
-    let wanted = [
-        (TokenKind::Lower, 0, 1),
-        (TokenKind::Mark { mark: Mark::Assign }, 2, 4),
-        (TokenKind::Int { n: 1 }, 5, 6),
-    ];
-    assert!(rt; spans(&found, &wanted));
-    assert!(rt; tokens(rt.alloc(), b"")?.is_empty());
-    assert!(rt; tokens(rt.alloc(), b" \n ")?.is_empty());
+fn tokens_have_their_spans(rt: HostRuntime) -> Result<(), ParseRefusal> {
+    for &(text, wanted) in SPANS {
+        let found = read(rt.alloc(), text)?;
+        assert!(rt; are_spans(&found, wanted));
+    }
     Ok(())
 }
 
-#[test]
-fn a_token_takes_as_many_bytes_as_it_can(rt: HostRuntime) -> Result<(), Fail> {
-    let found = tokens(rt.alloc(), b"ends end A_1<>\"\\\"\"007x")?;
-    let wanted = [
-        (TokenKind::Lower, 0, 4),
-        (TokenKind::Word { word: Word::End }, 5, 8),
-        (TokenKind::Upper, 9, 12),
-        (
-            TokenKind::Mark {
-                mark: Mark::Different,
-            },
-            12,
-            14,
-        ),
-        (TokenKind::Text, 14, 18),
-        (TokenKind::Int { n: 7 }, 18, 21),
-        (TokenKind::Lower, 21, 22),
-    ];
-    assert!(rt; spans(&found, &wanted));
-    Ok(())
-}
+const WORDS: &[u8] =
+    b"edentype endtype version class limit monitor condition operation needs returns process durable working var upgrade from end int bool text cap list of true false none if then else while do with wait signal yield deactivate checkpoint destroy create invoke self status gives return or and not mod size str put cut part restrict";
 
 #[test]
-fn every_word_is_a_word(rt: HostRuntime) -> Result<(), Fail> {
-    let words =
-        b"edentype endtype version class limit monitor condition operation needs returns process durable working var upgrade from end int bool text cap list of true false none if then else while do with wait signal yield deactivate checkpoint destroy create invoke self status gives return or and not mod size str put cut part restrict";
-    let found = tokens(rt.alloc(), words)?;
+fn every_word_is_a_word(rt: HostRuntime) -> Result<(), ParseRefusal> {
+    let found = read(rt.alloc(), WORDS)?;
     assert_eq!(rt; found.len(), 54);
     for token in &found {
-        assert!(rt;
-            matches!(token.kind, TokenKind::Word { .. }),
-            "at {}",
-            token.start
-        );
+        assert!(rt; matches!(token.kind, TokenKind::Word { .. }));
     }
     Ok(())
 }
 
-#[test]
-fn a_text_is_refused_where_no_token_begins(rt: HostRuntime) -> Result<(), Fail> {
-    let refused: [(&[u8], u32); 9] = [
-        (b"a ~", 2),
-        (b"a\tb", 1),
-        (b"_a", 0),
-        (b"9223372036854775808", 0),
-        (b"a abcdefghijklmnopqrstuvwxyz0123456", 2),
-        (b"1 \"open", 2),
-        (b"\"\\n\"", 0),
-        (b"\"\n\"", 0),
-        (b"a := 1;", 6),
-    ];
-    for (text, place) in refused {
-        let answer = tokens(rt.alloc(), text);
-        assert!(rt;
-            matches!(answer, Err(ParseRefusal::BadToken { place: found }) if found == place),
-            "at {place}"
-        );
-    }
-    let taken: [&[u8]; 3] = [
-        b"9223372036854775807",
-        b"abcdefghijklmnopqrstuvwxyz012345",
-        b"( ) [ ] : := . , + - & * / = <> < <= > >=",
-    ];
-    for text in taken {
-        assert!(rt; tokens(rt.alloc(), text).is_ok());
-    }
-    Ok(())
+/// A text, and the place where no token begins.
+const ENDS: &[(&[u8], Option<u32>)] = &[
+    (b"a ~", Some(2)),
+    (b"a\tb", Some(1)),
+    (b"_a", Some(0)),
+    (b"9223372036854775808", Some(0)),
+    (b"a abcdefghijklmnopqrstuvwxyz0123456", Some(2)),
+    (b"1 \"open", Some(2)),
+    (b"\"\\n\"", Some(0)),
+    (b"\"\n\"", Some(0)),
+    (b"a := 1;", Some(6)),
+    (b"9223372036854775807", None),
+    (b"abcdefghijklmnopqrstuvwxyz012345", None),
+    (b"( ) [ ] : := . , + - & * / = <> < <= > >=", None),
+];
+
+/// Why a text is refused.
+fn refusal(alloc: Global, text: &[u8]) -> Option<ParseRefusal> {
+    read(alloc, text).err()
 }
 
 #[test]
-fn a_text_stands_for_so_many_bytes(rt: HostRuntime) -> Result<(), Fail> {
-    // Each two backslashes stand for one.
-    let mut longest = vec![in rt.alloc(); b'\\'; 2050]?;
-    longest[0] = b'"';
-    longest[2049] = b'"';
-    assert!(rt; tokens(rt.alloc(), &longest).is_ok());
-    let mut longer = vec![in rt.alloc(); b'\\'; 2052]?;
-    longer[0] = b'"';
-    longer[2051] = b'"';
-    assert!(rt; tokens(rt.alloc(), &longer).is_err());
+fn a_text_is_refused_where_no_token_begins(rt: HostRuntime) -> Result<(), AllocError> {
+    for &(text, end) in ENDS {
+        let wanted = end.map(|place| ParseRefusal::BadToken { place });
+        assert_eq!(rt; refusal(rt.alloc(), text), wanted);
+    }
+    // A text stands for at most 1,024 bytes. Each two backslashes stand for one.
+    for &(backslashes, is_read) in &[(2048, true), (2050, false)] {
+        let quote = once(b"\"");
+        let text = built(rt.alloc(), &[quote, (b"", b"\\", 0, backslashes), quote])?;
+        assert_eq!(rt; refusal(rt.alloc(), &text).is_none(), is_read);
+    }
     Ok(())
 }

@@ -1,26 +1,9 @@
-use capability::Uid;
-use eden_value::{Items, Kind, Txt, Value, equal};
-use epl_syntax::{
-    Const, Expr, FaultCause, LocalDecl, Name, Number, OpDecl, Operator, ParDecl, Program, Start,
-    VarDecl, WrittenKind,
-};
+use crate::sample::{ME, VALUED, text};
+use crate::texts::parsed;
+use eden_value::{Items, Txt, Value, equal};
+use epl_syntax::{Const, Expr, FaultCause, Operator, ParseRefusal, Program, Stmt};
 use epl_values::*;
 use std::alloc::{AllocError, Global};
-
-fn text(alloc: Global, bytes: &[u8]) -> Result<Txt, AllocError> {
-    let bytes = Vec::from_slice(alloc, bytes)?;
-    Ok(Txt { bytes })
-}
-
-fn name(alloc: Global, bytes: &[u8]) -> Result<Name, AllocError> {
-    let text = text(alloc, bytes)?;
-    Ok(Name { text, place: 0 })
-}
-
-fn named(alloc: Global, bytes: &[u8]) -> Result<Expr, AllocError> {
-    let name = name(alloc, bytes)?;
-    Ok(Expr::Name { name })
-}
 
 fn integer(n: i64) -> Expr {
     Expr::Const {
@@ -29,9 +12,9 @@ fn integer(n: i64) -> Expr {
     }
 }
 
-fn both(alloc: Global, operator: Operator, left: Expr, right: Expr) -> Result<Expr, AllocError> {
-    let left = Box::new(alloc, left)?;
-    let right = Box::new(alloc, right)?;
+fn both(alloc: Global, operator: Operator, left: i64, right: i64) -> Result<Expr, AllocError> {
+    let left = Box::new(alloc, integer(left))?;
+    let right = Box::new(alloc, integer(right))?;
     Ok(Expr::Binary {
         operator,
         left,
@@ -40,179 +23,100 @@ fn both(alloc: Global, operator: Operator, left: Expr, right: Expr) -> Result<Ex
     })
 }
 
-fn numbers() -> WrittenKind {
-    WrittenKind {
-        kind: Kind::Int,
-        place: 0,
-    }
-}
-
-fn zero() -> Start {
-    Start {
-        value: Const::Int { n: 0 },
-        place: 0,
-    }
-}
-
-fn variable(
-    alloc: Global,
-    bytes: &[u8],
-    kind: WrittenKind,
-    start: Start,
-) -> Result<VarDecl, AllocError> {
-    let name = name(alloc, bytes)?;
-    Ok(VarDecl {
-        name,
-        kind,
-        durable: true,
-        start,
-        monitor: 0,
-    })
-}
-
-/// The variable `l`, a list of integers.
-fn list(alloc: Global) -> Result<VarDecl, AllocError> {
-    let of = Box::new(alloc, Kind::Int)?;
-    let kind = Kind::List { of };
-    let value = Const::EmptyList { of: numbers() };
-    variable(
-        alloc,
-        b"l",
-        WrittenKind { kind, place: 0 },
-        Start { value, place: 0 },
-    )
-}
-
-/// An operation with the parameter `p` and the variable `n` of its own.
-fn operation(alloc: Global) -> Result<OpDecl, AllocError> {
-    let parameter = ParDecl {
-        name: name(alloc, b"p")?,
-        kind: numbers(),
-    };
-    let local = LocalDecl {
-        name: name(alloc, b"n")?,
-        kind: numbers(),
-        start: zero(),
-    };
-    Ok(OpDecl {
-        name: name(alloc, b"O")?,
-        needs: Number { n: 1, place: 0 },
-        class: name(alloc, b"all")?,
-        params: vec![in alloc; parameter]?,
-        results: Vec::new(alloc),
-        locals: vec![in alloc; local]?,
-        body: Vec::new(alloc),
-    })
-}
-
-/// A type with the variables `n` and `l`, and that operation.
-fn program(alloc: Global) -> Result<Program, AllocError> {
-    Ok(Program {
-        name: name(alloc, b"A")?,
-        version: None,
-        vars: vec![in alloc; variable(alloc, b"n", numbers(), zero())?, list(alloc)?]?,
-        classes: Vec::new(alloc),
-        monitors: Vec::new(alloc),
-        conditions: Vec::new(alloc),
-        operations: vec![in alloc; operation(alloc)?]?,
-        processes: Vec::new(alloc),
-        upgrades: Vec::new(alloc),
-    })
-}
-
-fn items(alloc: Global, all: &[i64]) -> Result<Items, AllocError> {
-    let mut values = Vec::new(alloc);
-    for n in all {
-        values.push(Value::Int { n: *n })?;
-    }
+/// The list of this number.
+fn only(alloc: Global, n: i64) -> Result<Items, AllocError> {
+    let values = vec![in alloc; Value::Int { n }]?;
     Ok(Items { values })
 }
 
-/// The parameter `p` is 5, the operation's `n` is 6, the Eject's `n` is 7, and its `l` has these numbers.
-fn variables(alloc: Global, list: &[i64]) -> Result<Variables, AllocError> {
-    let mut vars = items(alloc, &[7])?;
-    let list = items(alloc, list)?;
-    vars.values.push(Value::List { items: list })?;
+/// The parameter `p` is 5, the operation's `n` is 6, the Eject's `n` is 7, and its `l` has the number 1.
+fn variables(alloc: Global) -> Result<Variables, AllocError> {
+    let mut vars = only(alloc, 7)?;
+    let items = only(alloc, 1)?;
+    vars.values.push(Value::List { items })?;
     Ok(Variables {
         owner: Owner::Operation { at: 0 },
-        params: items(alloc, &[5])?,
-        locals: items(alloc, &[6])?,
+        params: only(alloc, 5)?,
+        locals: only(alloc, 6)?,
         vars,
-        me: Uid {
-            node: 1,
-            epoch: 1,
-            serial: 1,
-        },
+        me: ME,
     })
 }
 
-/// What an expression comes to, as the rows below have it.
-#[derive(Clone, Copy, Debug, PartialEq, Eq)]
-enum Outcome {
-    Number { n: i64 },
-    Fault { cause: FaultCause },
-    Another,
-}
+/// The number that an expression comes to, or why it faults, or nothing of both.
+type Outcome = Result<i64, Option<FaultCause>>;
 
 fn outcome_of(found: &Result<Value, Stop>) -> Outcome {
     match found {
-        Ok(Value::Int { n }) => Outcome::Number { n: *n },
-        Ok(_) => Outcome::Another,
-        Err(Stop::Fault { cause }) => Outcome::Fault { cause: *cause },
-        Err(Stop::Memory) => Outcome::Another,
+        Ok(Value::Int { n }) => Ok(*n),
+        Err(Stop::Fault { cause }) => Err(Some(*cause)),
+        _ => Err(None),
     }
 }
 
-const OVERFLOW: Outcome = Outcome::Fault {
-    cause: FaultCause::Overflow,
-};
+const OVERFLOW: Outcome = Err(Some(FaultCause::Overflow));
 
-const ZERO_DIVISOR: Outcome = Outcome::Fault {
-    cause: FaultCause::ZeroDivisor,
-};
+const ZERO_DIVISOR: Outcome = Err(Some(FaultCause::ZeroDivisor));
 
 /// An operator, its two numbers, and what comes of it.
-const SUMS: [(Operator, i64, i64, Outcome); 10] = [
-    (Operator::Add, 2, 3, Outcome::Number { n: 5 }),
+const SUMS: &[(Operator, i64, i64, Outcome)] = &[
+    (Operator::Add, 2, 3, Ok(5)),
     (Operator::Add, i64::MAX, 1, OVERFLOW),
     (Operator::Subtract, i64::MIN, 1, OVERFLOW),
     (
         Operator::Multiply,
         -0x8000_0000,
         0x1_0000_0000,
-        Outcome::Number { n: i64::MIN },
+        Ok(i64::MIN),
     ),
     (Operator::Multiply, 0x8000_0000, 0x1_0000_0000, OVERFLOW),
     // division rounds toward 0, and what is left over has the sign of the first number
-    (Operator::Divide, -7, 2, Outcome::Number { n: -3 }),
-    (Operator::Modulo, -7, 2, Outcome::Number { n: -1 }),
+    (Operator::Divide, -7, 2, Ok(-3)),
+    (Operator::Modulo, -7, 2, Ok(-1)),
     (Operator::Divide, 1, 0, ZERO_DIVISOR),
     (Operator::Divide, i64::MIN, -1, OVERFLOW),
-    (Operator::Modulo, i64::MIN, -1, Outcome::Number { n: 0 }),
+    (Operator::Modulo, i64::MIN, -1, Ok(0)),
 ];
 
+/// What an expression comes to.
+fn outcome(alloc: Global, program: &Program, vars: &Variables, e: &Expr) -> Outcome {
+    outcome_of(&value_of(alloc, program, vars, e))
+}
+
 #[test]
-fn numbers_have_64_bits(rt: HostRuntime) -> Result<(), AllocError> {
-    let program = program(rt.alloc())?;
-    let vars = variables(rt.alloc(), &[])?;
-    for (operator, a, b, wanted) in SUMS {
-        let e = both(rt.alloc(), operator, integer(a), integer(b))?;
-        let found = value_of(rt.alloc(), &program, &vars, &e);
-        assert_eq!(rt; outcome_of(&found), wanted);
+fn numbers_have_64_bits(rt: HostRuntime) -> Result<(), ParseRefusal> {
+    let program = parsed(rt.alloc(), VALUED)?;
+    let vars = variables(rt.alloc())?;
+    for &(operator, a, b, wanted) in SUMS {
+        let e = both(rt.alloc(), operator, a, b)?;
+        assert_eq!(rt; outcome(rt.alloc(), &program, &vars, &e), wanted);
     }
-    let all = vec![in rt.alloc(); integer(1), named(rt.alloc(), b"p")?]?;
-    match values_of(rt.alloc(), &program, &vars, &all) {
-        Ok(values) => assert_eq!(rt; values.len(), 2),
-        Err(_) => panic!(rt; "no values"),
+    Ok(())
+}
+
+/// How many values the results of the operation have.
+fn result_count(alloc: Global, program: &Program, vars: &Variables) -> Option<usize> {
+    match program.operations.first()?.body.get(1)? {
+        Stmt::Return { results, .. } => {
+            let values = values_of(alloc, program, vars, results).ok()?;
+            Some(values.len())
+        }
+        _ => None,
     }
-    let constant = Const::Int { n: 3 };
-    let value = value_of_constant(rt.alloc(), &constant)?;
+}
+
+#[test]
+fn constants_and_rows_have_values(rt: HostRuntime) -> Result<(), ParseRefusal> {
+    let program = parsed(rt.alloc(), VALUED)?;
+    let vars = variables(rt.alloc())?;
+    assert_eq!(rt; result_count(rt.alloc(), &program, &vars), Some(2));
+    let value = value_of_constant(rt.alloc(), &Const::Int { n: 3 })?;
     assert!(rt; equal(&value, &Value::Int { n: 3 }));
     Ok(())
 }
 
 /// A name, whether it stands for a variable, the number that it holds, and what it holds after it was set to 9.
-const NAMES: [(&[u8], bool, Option<i64>, Option<i64>); 4] = [
+const NAMES: &[(&[u8], bool, Option<i64>, Option<i64>)] = &[
     (b"p", true, Some(5), Some(9)),
     // of the operation before the Eject
     (b"n", true, Some(6), Some(9)),
@@ -221,70 +125,71 @@ const NAMES: [(&[u8], bool, Option<i64>, Option<i64>); 4] = [
     (b"x", false, None, None),
 ];
 
-fn number_in(value: Option<&Value>) -> Option<i64> {
-    match value {
-        Some(Value::Int { n }) => Some(*n),
+/// The number that a variable holds.
+fn number_named(program: &Program, vars: &Variables, name: &Txt) -> Option<i64> {
+    match value_named(program, vars, name)? {
+        Value::Int { n } => Some(*n),
         _ => None,
     }
 }
 
+/// The number that a copy of a variable holds.
+fn copied_number(alloc: Global, program: &Program, vars: &Variables, name: &Txt) -> Option<i64> {
+    outcome_of(&copy_named(alloc, program, vars, name)).ok()
+}
+
+/// Sets a variable to 9.
+fn set_nine(program: &Program, vars: &mut Variables, name: &Txt) {
+    set(program, vars, name, Value::Int { n: 9 });
+}
+
 #[test]
-fn a_name_stands_for_the_nearest_variable(rt: HostRuntime) -> Result<(), AllocError> {
-    let program = program(rt.alloc())?;
-    for (bytes, is_variable, before, after) in NAMES {
-        let mut vars = variables(rt.alloc(), &[])?;
-        let wanted = text(rt.alloc(), bytes)?;
-        assert_eq!(rt; number_in(value_named(&program, &vars, &wanted)), before);
-        let has_kind = kind_named(&program, &vars, &wanted).is_some();
-        assert_eq!(rt; has_kind, is_variable);
-        let copied = copy_named(rt.alloc(), &program, &vars, &wanted);
-        match before {
-            Some(n) => assert_eq!(rt; outcome_of(&copied), Outcome::Number { n }),
-            None => {}
-        }
-        set(&program, &mut vars, &wanted, Value::Int { n: 9 });
-        assert_eq!(rt; number_in(value_named(&program, &vars, &wanted)), after);
+fn a_name_stands_for_the_nearest_variable(rt: HostRuntime) -> Result<(), ParseRefusal> {
+    let program = parsed(rt.alloc(), VALUED)?;
+    for &(bytes, is_variable, before, after) in NAMES {
+        let mut vars = variables(rt.alloc())?;
+        let name = text(rt.alloc(), bytes)?;
+        assert_eq!(rt; kind_named(&program, &vars, &name).is_some(), is_variable);
+        assert_eq!(rt; number_named(&program, &vars, &name), before);
+        assert_eq!(rt; copied_number(rt.alloc(), &program, &vars, &name), before);
+        set_nine(&program, &mut vars, &name);
+        assert_eq!(rt; number_named(&program, &vars, &name), after);
     }
-    let wanted = text(rt.alloc(), b"l")?;
-    assert_eq!(rt; place_of(&program.vars, &wanted), Some(1));
+    let name = text(rt.alloc(), b"l")?;
+    assert_eq!(rt; place_of(&program.vars, &name), Some(1));
     Ok(())
 }
 
-/// How many items a list has.
-fn length_of(value: Option<&Value>) -> Option<usize> {
-    match value {
-        Some(Value::List { items }) => Some(items.values.len()),
-        _ => None,
+/// Runs the operation's assignment, and answers how many items its list has then, and why it faulted.
+fn grown(
+    alloc: Global,
+    program: &Program,
+    vars: &mut Variables,
+) -> Result<(usize, Option<FaultCause>), AllocError> {
+    let operation = program.operations.first().ok_or(AllocError)?;
+    let Some(Stmt::Assign { name, value }) = operation.body.first() else {
+        return Err(AllocError);
+    };
+    let fault = match assign(alloc, program, vars, &name.text, value) {
+        Ok(()) => None,
+        Err(Stop::Fault { cause }) => Some(cause),
+        Err(Stop::Memory) => return Err(AllocError),
+    };
+    match value_named(program, vars, &name.text) {
+        Some(Value::List { items }) => Ok((items.values.len(), fault)),
+        _ => Err(AllocError),
     }
 }
 
 #[test]
-fn a_list_grows_to_its_limit(rt: HostRuntime) -> Result<(), AllocError> {
-    let program = program(rt.alloc())?;
-    let mut vars = variables(rt.alloc(), &[1])?;
-    let variable = text(rt.alloc(), b"l")?;
-    let last = Expr::ListOf {
-        items: vec![in rt.alloc(); integer(2)]?,
-        place: 0,
-    };
-    let longer = both(rt.alloc(), Operator::Join, named(rt.alloc(), b"l")?, last)?;
-    for _ in 0..255 {
-        let set = assign(rt.alloc(), &program, &mut vars, &variable, &longer);
-        assert!(rt; matches!(set, Ok(())));
+fn a_list_grows_to_its_limit(rt: HostRuntime) -> Result<(), ParseRefusal> {
+    let program = parsed(rt.alloc(), VALUED)?;
+    let mut vars = variables(rt.alloc())?;
+    for length in 2..257 {
+        assert_eq!(rt; grown(rt.alloc(), &program, &mut vars)?, (length, None));
     }
-    let length = length_of(value_named(&program, &vars, &variable));
-    assert_eq!(rt; length, Some(256));
     // where it faults, the list stays
-    let set = assign(rt.alloc(), &program, &mut vars, &variable, &longer);
-    assert!(rt;
-        matches!(
-            set,
-            Err(Stop::Fault {
-                cause: FaultCause::TooLong
-            })
-        )
-    );
-    let length = length_of(value_named(&program, &vars, &variable));
-    assert_eq!(rt; length, Some(256));
+    let wanted = (256, Some(FaultCause::TooLong));
+    assert_eq!(rt; grown(rt.alloc(), &program, &mut vars)?, wanted);
     Ok(())
 }

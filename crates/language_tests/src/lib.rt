@@ -23,3 +23,5 @@ mod epl_values_tests;
 mod marked;
 #[cfg(test)]
 mod sample;
+#[cfg(test)]
+mod texts;

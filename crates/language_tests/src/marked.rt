@@ -1,29 +1,32 @@
 //! Texts of types with a mark `|` before the token at which the one refusal is told.
+use crate::texts::{built, once, parsed};
 use epl_check::{CheckRefusal, check};
-use epl_parser::parse_edentype;
 use epl_syntax::{Checked, ParseRefusal, Program, Rule, Types};
 use std::alloc::{AllocError, Global};
-use std::test::Fail;
 
-/// The type of a text that is not too long for a test.
-fn parsed(alloc: Global, text: &[u8]) -> Result<Program, ParseRefusal> {
-    if text.len() > 2_000_000 {
-        return Err(ParseRefusal::OutOfMemory);
+/// A rule, and texts that each break it at their mark, or without a rule, texts that keep all rules.
+pub(crate) type Table = (Option<Rule>, &'static [&'static [u8]]);
+
+/// Declares the type of a text, which keeps the rules with the types before it.
+fn declare(alloc: Global, types: &mut Types, text: &[u8]) -> Result<(), ParseRefusal> {
+    let program = parsed(alloc, text)?;
+    match check(alloc, &program, types) {
+        Ok(()) => {}
+        Err(_) => return Err(ParseRefusal::OutOfMemory),
     }
-    parse_edentype(alloc, text)
+    if !types.has(&program.name.text) {
+        let checked = Checked::of(program, types);
+        types.add(checked)?;
+    }
+    Ok(())
 }
 
-/// The native types, and `Older` and `Old` before the type that is checked.
-pub(crate) fn types_before(alloc: Global) -> Result<Types, Fail> {
+/// The native types, and where they are asked for, `Older` and `Old` behind them.
+fn types_before(alloc: Global, with_older: bool) -> Result<Types, ParseRefusal> {
     let mut types = Types::native(alloc)?;
-    let texts: [&[u8]; 2] = [b"edentype Older endtype", b"edentype Old endtype"];
-    for text in texts {
-        let program = parsed(alloc, text)?;
-        check(alloc, &program, &types)?;
-        if !types.has(&program.name.text) {
-            let checked = Checked::of(program, &types);
-            types.add(checked)?;
-        }
+    if with_older {
+        declare(alloc, &mut types, b"edentype Older endtype")?;
+        declare(alloc, &mut types, b"edentype Old endtype")?;
     }
     Ok(types)
 }
@@ -42,47 +45,62 @@ fn unmarked(alloc: Global, marked: &[u8]) -> Result<(Vec<u8>, usize), AllocError
     Ok((text, place))
 }
 
-fn is_refusal(refusal: CheckRefusal, rule: Rule, place: usize) -> bool {
-    let (found_rule, found) = match refusal {
-        CheckRefusal::UnknownName { place } => (Rule::UnknownName, place),
-        CheckRefusal::KindDiffers { place } => (Rule::KindDiffers, place),
-        CheckRefusal::Unguarded { place } => (Rule::Unguarded, place),
-        CheckRefusal::Nested { place } => (Rule::Nested, place),
-        CheckRefusal::Doubled { place } => (Rule::Doubled, place),
-        CheckRefusal::BadLimit { place } => (Rule::BadLimit, place),
-        CheckRefusal::OutOfMemory => return false,
-    };
-    found_rule == rule && found as usize == place
+/// Why a type is refused behind the types before it.
+fn refusal(
+    alloc: Global,
+    with_older: bool,
+    program: &Program,
+) -> Result<Option<CheckRefusal>, ParseRefusal> {
+    let types = types_before(alloc, with_older)?;
+    Ok(check(alloc, program, &types).err())
+}
+
+fn rule_of(refusal: CheckRefusal) -> Option<(Rule, u32)> {
+    match refusal {
+        CheckRefusal::UnknownName { place } => Some((Rule::UnknownName, place)),
+        CheckRefusal::KindDiffers { place } => Some((Rule::KindDiffers, place)),
+        CheckRefusal::Unguarded { place } => Some((Rule::Unguarded, place)),
+        CheckRefusal::Nested { place } => Some((Rule::Nested, place)),
+        CheckRefusal::Doubled { place } => Some((Rule::Doubled, place)),
+        CheckRefusal::BadLimit { place } => Some((Rule::BadLimit, place)),
+        CheckRefusal::OutOfMemory => None,
+    }
 }
 
 /// Whether a type keeps the rules, or breaks this one at the mark.
 pub(crate) fn is_answered(
     alloc: Global,
-    types: &Types,
+    with_older: bool,
     rule: Option<Rule>,
     marked: &[u8],
-) -> Result<bool, Fail> {
-    let (text, place) = unmarked(alloc, marked)?;
+) -> Result<bool, ParseRefusal> {
+    let (text, mark) = unmarked(alloc, marked)?;
     let program = parsed(alloc, &text)?;
-    let answer = check(alloc, &program, types);
-    Ok(match (rule, answer) {
-        (None, Ok(())) => true,
-        (Some(rule), Err(refusal)) => is_refusal(refusal, rule, place),
+    let refusal = refusal(alloc, with_older, &program)?;
+    Ok(match (rule, refusal) {
+        (None, None) => true,
+        (Some(rule), Some(refusal)) => match rule_of(refusal) {
+            Some((found, place)) => found == rule && place as usize == mark,
+            None => false,
+        },
         _ => false,
     })
 }
 
-/// Whether all of these types keep the rules, or each breaks this one at its mark; else the number
-/// of the first that does not.
+/// The rule and the number of the first text of the tables that is not answered so between this
+/// front and this back.
 pub(crate) fn first_other(
     alloc: Global,
-    types: &Types,
-    rule: Option<Rule>,
-    texts: &[&[u8]],
-) -> Result<Option<usize>, Fail> {
-    for i in 0..texts.len() {
-        if !is_answered(alloc, types, rule, texts[i])? {
-            return Ok(Some(i));
+    with_older: bool,
+    [front, back]: [&[u8]; 2],
+    tables: &[Table],
+) -> Result<Option<(Option<Rule>, usize)>, ParseRefusal> {
+    for &(rule, texts) in tables {
+        for i in 0..texts.len() {
+            let text = built(alloc, &[once(front), once(texts[i]), once(back)])?;
+            if !is_answered(alloc, with_older, rule, &text)? {
+                return Ok(Some((rule, i)));
+            }
         }
     }
     Ok(None)

@@ -1,19 +1,22 @@
-//! A type whose processes the tests run.
+//! Types whose bodies the tests run.
 use capability::Uid;
 use eden_value::Txt;
-use epl_parser::parse_edentype;
-use epl_syntax::{ParseRefusal, Program};
 use std::alloc::{AllocError, Global};
 
-/// The Eject whose processes run.
+/// The Eject of which they are.
 pub(crate) const ME: Uid = Uid {
     node: 1,
     epoch: 1,
     serial: 1,
 };
 
+/// An operation with the parameter `p` and a variable `n`, which stands before the type's `n`.
+pub(crate) const VALUED: &[u8] =
+    b"edentype A durable n : int = 0 durable l : list of int = list(int) \
+    operation O needs 1 class all (p : int) returns () var n : int = 0 l := l & [2] return (1, p) end endtype";
+
 /// Version 3 of a type with the variables `n`, `m` and `l`.
-const TYPE: &[u8] = b"edentype A version 3 \
+pub(crate) const TURNED: &[u8] = b"edentype A version 3 \
     durable n : int = 0 durable m : int = 0 durable l : list of int = list(int) class all limit 1 \
     monitor M condition ready end \
     operation Adds needs 1 class all (p : int) returns (int) var i : int = 0 l := l & [p] n := l[1] return (n) end \
@@ -32,20 +35,4 @@ const TYPE: &[u8] = b"edentype A version 3 \
 pub(crate) fn text(alloc: Global, bytes: &[u8]) -> Result<Txt, AllocError> {
     let bytes = Vec::from_slice(alloc, bytes)?;
     Ok(Txt { bytes })
-}
-
-/// The type of a text that is not too long for a test.
-fn parsed(alloc: Global, text: &[u8]) -> Result<Program, ParseRefusal> {
-    if text.len() > 10_000 {
-        return Err(ParseRefusal::OutOfMemory);
-    }
-    parse_edentype(alloc, text)
-}
-
-/// The type.
-pub(crate) fn program(alloc: Global) -> Result<Program, AllocError> {
-    match parsed(alloc, TYPE) {
-        Ok(program) => Ok(program),
-        Err(_) => Err(AllocError),
-    }
 }
