@@ -35,12 +35,18 @@ fn a_head_as_bytes(rt: HostRuntime) -> Result<(), Fail> {
 
 #[test]
 fn sizes_of_disks_and_values(rt: HostRuntime) -> Result<(), Fail> {
-    assert!(rt; is_block_size(32_768) && is_block_size(67_108_864));
-    assert!(rt; !is_block_size(0) && !is_block_size(32_769) && !is_block_size(67_141_632));
-    assert_eq!(rt; blocks_of(0), 1);
-    assert_eq!(rt; blocks_of(1022), 1);
-    assert_eq!(rt; blocks_of(1023), 2);
-    assert_eq!(rt; blocks_of(262_144), 257);
+    for &(size, is_allowed) in &[
+        (32_768, true),
+        (67_108_864, true),
+        (0, false),
+        (32_769, false),
+        (67_141_632, false),
+    ] {
+        assert!(rt; is_block_size(size) == is_allowed, "{size}");
+    }
+    for &(size, count) in &[(0, 1), (1022, 1), (1023, 2), (262_144, 257)] {
+        assert_eq!(rt; blocks_of(size), count, "{size}");
+    }
     Ok(())
 }
 
@@ -48,18 +54,21 @@ fn sizes_of_disks_and_values(rt: HostRuntime) -> Result<(), Fail> {
 fn the_greatest_of_numbers_that_are_set(rt: HostRuntime) -> Result<(), Fail> {
     let mut peaks = Peaks::new(rt.alloc(), 70)?;
     assert_eq!(rt; peaks.greatest(), 0);
-    peaks.set(3, 5);
-    peaks.set(4, 2);
-    peaks.set(69, 4);
-    assert_eq!(rt; peaks.greatest(), 5);
-    peaks.set(4, 3);
-    assert_eq!(rt; peaks.greatest(), 5);
-    peaks.set(3, 1);
-    assert_eq!(rt; peaks.greatest(), 4);
-    peaks.set(69, 0);
-    assert_eq!(rt; peaks.greatest(), 3);
-    peaks.set(4, 0);
-    assert_eq!(rt; peaks.greatest(), 1);
+    // a place, the number that is set there, and the greatest one then
+    for &(place, value, greatest) in &[
+        (3, 5, 5),
+        (4, 2, 5),
+        (69, 4, 5),
+        (4, 3, 5),
+        (3, 1, 4),
+        (69, 0, 3),
+        (4, 0, 1),
+    ] {
+        if place < 70 {
+            peaks.set(place, value);
+        }
+        assert_eq!(rt; peaks.greatest(), greatest, "{place} {value}");
+    }
     Ok(())
 }
 
@@ -67,22 +76,32 @@ fn the_greatest_of_numbers_that_are_set(rt: HostRuntime) -> Result<(), Fail> {
 fn the_least_of_a_set(rt: HostRuntime) -> Result<(), Fail> {
     let mut set = NumberSet::new(rt.alloc(), 200)?;
     assert_eq!(rt; set.first(), None);
-    set.insert(130);
-    set.insert(3);
-    set.insert(199);
-    assert_eq!(rt; set.first(), Some(3));
-    assert!(rt; set.contains(130) && !set.contains(131));
-    set.remove(3);
-    assert_eq!(rt; set.first(), Some(130));
+    // a number, whether it is taken in or out, and the least one then
+    for &(number, is_in, first) in &[
+        (130, true, 130),
+        (3, true, 3),
+        (199, true, 3),
+        (3, false, 130),
+    ] {
+        if number < 200 {
+            if is_in {
+                set.insert(number);
+            } else {
+                set.remove(number);
+            }
+        }
+        assert_eq!(rt; set.first(), Some(first), "{number}");
+    }
+    assert!(rt; set.contains(130) && !set.contains(131) && !set.contains(3));
     Ok(())
 }
 
 /// Writes a head and a block, and answers what is then read there.
-fn write_and_read(
-    disk: &mut SimDisk,
+fn write_and_read<D: Disk>(
+    disk: &mut D,
 ) -> Result<(Option<HeadFields>, bool, Option<HeadFields>, u16), StoreRefusal>
-    requires power { IsTrue disk.old.counts.power }
-    requires size { disk.old.counts.size ≡ 32768 }
+    requires power { IsTrue (D.counts disk.old).power }
+    requires size { (D.counts disk.old).size ≡ 32768 }
 {
     write_head(disk, HEAD)?;
     let before = read_head(disk, 1, 1)?;

@@ -1,5 +1,6 @@
-ghost use Rattle.std.specs.Prelude.{◌≡◌, ◌≤◌, IsTrue, length, false, IfOk};
+ghost use Rattle.std.specs.Prelude.{◌≡◌, ◌≤◌, IsTrue, length, IfOk};
 
+use crate::disks::{Harm, arm, counts, counts_behind, cut_power};
 use eden_disk::{
     Arm, Disk, DiskRefusal, ImageMode, SimDisk, calls_are_timed, earlier_moments_stay,
     left_after_a_call, left_in_a_call,
@@ -13,19 +14,17 @@ const GARBLE: ImageMode = ImageMode::Garble { byte: 35 };
 #[test]
 fn a_cut_leaves_what_its_mode_says(rt: HostRuntime) -> Result<(), Fail> {
     let alloc = rt.alloc();
-    for (mode, left) in [
+    for &(mode, left) in &[
         (ImageMode::Lose, 0u8),
         (ImageMode::Keep, 255),
         (ImageMode::Garble { byte: 7 }, 7),
     ] {
         let mut disk = SimDisk::new(alloc, 1024)?;
-        assert_eq!(rt; disk.write(10, &[255]), Ok(()));
+        assert!(rt; disk.write(10, &[255]).is_ok());
         disk.cut_power(mode);
-        let image = disk.image(alloc)?;
-        assert_eq!(rt; image.len(), 1024);
-        for (place, byte) in image.iter().enumerate() {
-            assert_eq!(rt; *byte, if place == 10 { left } else { 0 });
-        }
+        let mut wanted = [0; 1024];
+        wanted[10] = left;
+        assert!(rt; shows(alloc, &disk, &wanted)?, "{mode:?}");
     }
     Ok(())
 }
@@ -44,11 +43,6 @@ fn shows(alloc: Global, disk: &SimDisk, bytes: &[u8]) -> Result<bool, AllocError
     Ok(image.as_slice() == bytes)
 }
 
-/// Clock, faults, stops and wants.
-fn counts<D: Disk>(disk: &D) -> [u64; 4] {
-    [disk.clock(), disk.faults(), disk.stops(), disk.wants()]
-}
-
 /// A write of four bytes, a sync, a write of three and a read of two, up to the first refusal.
 fn run<D: Disk>(disk: &mut D, out: &mut [u8]) -> Result<(), DiskRefusal>
     requires power { IsTrue (D.counts disk.old).power }
@@ -65,51 +59,41 @@ fn run<D: Disk>(disk: &mut D, out: &mut [u8]) -> Result<(), DiskRefusal>
 fn a_run_without_faults(rt: HostRuntime) -> Result<(), Fail> {
     let alloc = rt.alloc();
     let mut disk = dots(alloc)?;
-    assert!(rt; shows(alloc, &disk, b"........")?);
-    assert_eq!(rt; disk.size(), 8);
+    assert!(rt; shows(alloc, &disk, b"........")? && disk.size() == 8);
     let mut out = [0; 2];
-    assert_eq!(rt; run(&mut disk, &mut out), Ok(()));
-    assert!(rt; out.as_slice() == b"xy".as_slice());
-    assert!(rt; shows(alloc, &disk, b"..axyz..")?);
+    assert!(rt; run(&mut disk, &mut out).is_ok());
+    assert!(rt; out.as_slice() == b"xy".as_slice() && shows(alloc, &disk, b"..axyz..")?);
     assert!(rt; counts(&disk) == [4, 0, 0, 0]);
     Ok(())
 }
 
-fn stop_behind(
+/// Sees what a stop or a failure behind so many calls of the run leaves, once the power is cut.
+fn harm_behind(
     rt: &impl Abort,
     alloc: Global,
-    calls: u8,
+    harm: Harm,
+    calls: u32,
     mode: ImageMode,
     image: &str,
 ) -> Result<(), AllocError> {
-    let after = calls as u32 + 1;
+    let after = calls.saturating_add(1);
     let mut disk = dots(alloc)?;
     let mut out = [0; 2];
-    disk.arm(Arm::Stop { after, mode });
-    assert_eq!(rt; run(&mut disk, &mut out), Err(DiskRefusal::Stopped));
-    assert!(rt; shows(alloc, &disk, image.as_bytes())?);
-    assert!(rt; counts(&disk) == [after as u64, 0, 1, 0]);
+    arm(&mut disk, harm, after, mode);
+    let wanted = match harm {
+        Harm::Stop => Err(DiskRefusal::Stopped),
+        Harm::Fail => Err(DiskRefusal::Failed),
+        Harm::Cut => Ok(()),
+    };
+    assert!(rt;
+        run(&mut disk, &mut out) == wanted && out == [0; 2],
+        "{calls}"
+    );
+    assert!(rt; counts(&disk) == counts_behind(harm, after), "{calls}");
+    cut_power(&mut disk, harm, mode);
+    assert!(rt; shows(alloc, &disk, image.as_bytes())?, "{calls} {mode:?}");
     disk.restart();
-    assert_eq!(rt; disk.sync(), Ok(()));
-    Ok(())
-}
-
-fn fail_behind(
-    rt: &impl Abort,
-    alloc: Global,
-    calls: u8,
-    mode: ImageMode,
-    image: &str,
-) -> Result<(), AllocError> {
-    let after = calls as u32 + 1;
-    let mut disk = dots(alloc)?;
-    let mut out = [0; 2];
-    disk.arm(Arm::Fail { after });
-    assert_eq!(rt; run(&mut disk, &mut out), Err(DiskRefusal::Failed));
-    assert!(rt; out == [0; 2]);
-    assert!(rt; counts(&disk) == [after as u64, 1, 0, 0]);
-    disk.cut_power(mode);
-    assert!(rt; shows(alloc, &disk, image.as_bytes())?);
+    assert!(rt; disk.sync().is_ok(), "{calls}");
     Ok(())
 }
 
@@ -117,40 +101,52 @@ fn fail_behind(
 #[test]
 fn a_fault_in_each_call_leaves_its_image(rt: HostRuntime) -> Result<(), Fail> {
     // calls; unsynced bytes kept after a stop, kept after a failure, lost, garbled
-    for (calls, kept, half, lost, garbled) in [
-        (0u8, "..abcd..", "..ab....", "........", "..####.."),
+    for &(calls, kept, half, lost, garbled) in &[
+        (0u32, "..abcd..", "..ab....", "........", "..####.."),
         (1, "..abcd..", "..abcd..", "........", "..####.."),
         (2, "..axyz..", "..axcd..", "..abcd..", "..a###.."),
         (3, "..axyz..", "..axyz..", "..abcd..", "..a###.."),
     ] {
-        stop_behind(&rt, rt.alloc(), calls, ImageMode::Keep, kept)?;
-        stop_behind(&rt, rt.alloc(), calls, ImageMode::Lose, lost)?;
-        stop_behind(&rt, rt.alloc(), calls, GARBLE, garbled)?;
-        fail_behind(&rt, rt.alloc(), calls, ImageMode::Keep, half)?;
-        fail_behind(&rt, rt.alloc(), calls, ImageMode::Lose, lost)?;
-        fail_behind(&rt, rt.alloc(), calls, GARBLE, garbled)?;
+        for &(harm, mode, image) in &[
+            (Harm::Stop, ImageMode::Keep, kept),
+            (Harm::Stop, ImageMode::Lose, lost),
+            (Harm::Stop, GARBLE, garbled),
+            (Harm::Fail, ImageMode::Keep, half),
+            (Harm::Fail, ImageMode::Lose, lost),
+            (Harm::Fail, GARBLE, garbled),
+        ] {
+            harm_behind(&rt, rt.alloc(), harm, calls, mode, image)?;
+        }
     }
     Ok(())
 }
 
+/// A request replaces one of its sort, and a stop goes before a failure: two requests, and how three syncs are refused.
 #[test]
-fn a_request_replaces_one_of_its_sort(rt: HostRuntime) -> Result<(), Fail> {
-    let mut disk = dots(rt.alloc())?;
-    disk.arm(Arm::Fail { after: 1 });
-    disk.arm(Arm::Fail { after: 2 });
-    assert_eq!(rt; disk.sync(), Ok(()));
-    assert_eq!(rt; disk.sync(), Err(DiskRefusal::Failed));
-    assert_eq!(rt; disk.sync(), Ok(()));
-    Ok(())
-}
-
-#[test]
-fn a_stop_goes_before_a_failure(rt: HostRuntime) -> Result<(), Fail> {
-    let mut disk = dots(rt.alloc())?;
+fn two_requests(rt: HostRuntime) -> Result<(), Fail> {
     let mode = ImageMode::Keep;
-    disk.arm(Arm::Stop { after: 1, mode });
-    disk.arm(Arm::Fail { after: 1 });
-    assert_eq!(rt; disk.sync(), Err(DiskRefusal::Stopped));
+    for &(first, second, after, refusals) in &[
+        (
+            Harm::Fail,
+            Harm::Fail,
+            2,
+            [None, Some(DiskRefusal::Failed), None],
+        ),
+        (
+            Harm::Stop,
+            Harm::Fail,
+            1,
+            [Some(DiskRefusal::Stopped), None, None],
+        ),
+    ] {
+        let mut disk = dots(rt.alloc())?;
+        arm(&mut disk, first, 1, mode);
+        arm(&mut disk, second, after, mode);
+        for refusal in refusals {
+            disk.restart();
+            assert!(rt; disk.sync().err() == refusal);
+        }
+    }
     Ok(())
 }
 
@@ -159,11 +155,21 @@ fn a_failed_write_of_one_byte_leaves_its_place_unsynced(rt: HostRuntime) -> Resu
     let alloc = rt.alloc();
     let mut disk = dots(alloc)?;
     disk.arm(Arm::Fail { after: 1 });
-    assert_eq!(rt; disk.write(0, b"a"), Err(DiskRefusal::Failed));
+    assert!(rt; disk.write(0, b"a") == Err(DiskRefusal::Failed));
     assert!(rt; shows(alloc, &disk, b"........")?);
     disk.cut_power(GARBLE);
     assert!(rt; shows(alloc, &disk, b"#.......")?);
     Ok(())
+}
+
+/// Writes bytes at the end of a disk with power, and syncs them.
+fn write_last<D: Disk>(disk: &mut D) -> Result<(), DiskRefusal>
+    requires power { IsTrue (D.counts disk.old).power }
+    requires size { (D.counts disk.old).size ≡ 4194304 }
+    ensures size { (D.counts disk.new).size ≡ 4194304 }
+{
+    disk.write(4_194_000, b"abcd")?;
+    disk.sync()
 }
 
 #[test]
@@ -171,12 +177,24 @@ fn a_large_disk_takes_time_in_what_is_written(rt: HostRuntime) -> Result<(), Fai
     let mut disk = SimDisk::new(rt.alloc(), 4_194_304)?;
     for _ in 0..4096 {
         disk.restart();
-        assert_eq!(rt; disk.write(4_194_000, b"abcd"), Ok(()));
-        assert_eq!(rt; disk.sync(), Ok(()));
+        assert!(rt; write_last(&mut disk).is_ok());
         disk.cut_power(ImageMode::Keep);
     }
     assert_eq!(rt; disk.clock(), 8192);
     Ok(())
+}
+
+/// Reads the end of a disk of zeros, and writes and reads its begin.
+fn read_and_write<D: Disk>(disk: &mut D) -> Result<([u8; 4], [u8; 4]), DiskRefusal>
+    requires power { IsTrue (D.counts disk.old).power }
+    requires size { (D.counts disk.old).size ≡ 67108864 }
+{
+    let mut last = [7; 4];
+    disk.read(67_108_860, &mut last)?;
+    disk.write(0, b"abc")?;
+    let mut first = [7; 4];
+    disk.read(1, &mut first)?;
+    Ok((last, first))
 }
 
 /// A thousand disks of 64 MiB. To write them with zeros would take 128 GiB of writes, more than a test has time for.
@@ -184,12 +202,7 @@ fn a_large_disk_takes_time_in_what_is_written(rt: HostRuntime) -> Result<(), Fai
 fn a_blank_disk_takes_time_and_memory_in_what_is_written(rt: HostRuntime) -> Result<(), Fail> {
     for _ in 0..1024 {
         let mut disk = SimDisk::new(rt.alloc(), 67_108_864)?;
-        let mut out = [7; 4];
-        assert_eq!(rt; disk.read(67_108_860, &mut out), Ok(()));
-        assert!(rt; out == [0; 4]);
-        assert_eq!(rt; disk.write(0, b"abc"), Ok(()));
-        assert_eq!(rt; disk.read(1, &mut out), Ok(()));
-        assert!(rt; out.as_slice() == b"bc\0\0".as_slice());
+        assert!(rt; read_and_write(&mut disk) == Ok(([0; 4], *b"bc\0\0")));
     }
     Ok(())
 }

@@ -4,6 +4,12 @@
 #[cfg(test)]
 mod block_tables_tests;
 #[cfg(test)]
+mod calls;
+#[cfg(test)]
+mod changes;
+#[cfg(test)]
+mod disks;
+#[cfg(test)]
 mod eden_disk_tests;
 #[cfg(test)]
 mod equal_answers_tests;
@@ -11,8 +17,6 @@ mod equal_answers_tests;
 mod file_disk_tests;
 #[cfg(test)]
 mod passive_blocks_conversion;
-#[cfg(test)]
-mod passive_blocks_laws;
 #[cfg(test)]
 mod passive_blocks_opening;
 #[cfg(test)]

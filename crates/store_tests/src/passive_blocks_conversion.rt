@@ -1,79 +1,164 @@
-ghost use Rattle.std.specs.Prelude.{◌≡◌, ◌≤◌, ◌<◌, ◌^◌, IsTrue, length, IfOk, OnOk};
-ghost use Rattle.passive_store.specs.Kept.{Idle};
+ghost use Rattle.std.specs.Prelude.{◌≡◌, ◌<◌, ◌^◌, IsTrue, IfOk};
 
-use capability::{Body, Uid};
-use eden_disk::{Arm, Disk, DiskRefusal, ImageMode, SimDisk};
+use crate::changes::{EPOCH, FIRST, SECOND, THIRD, look, refusal_of};
+use crate::disks::{Bytes, Harm, are_bytes, arm, cut_power, make_bytes};
+use capability::Uid;
+use eden_disk::{Disk, DiskRefusal, ImageMode, SimDisk};
 use passive_blocks::BlockStore;
-use passive_store::{Store, StoreRefusal};
+use passive_store::StoreRefusal;
 use std::alloc::{AllocError, Global};
 use std::test::Fail;
-
-const EPOCH: Uid = Uid {
-    node: 1,
-    epoch: 0,
-    serial: 0,
-};
-
-const FIRST: Uid = Uid {
-    node: 1,
-    epoch: 1,
-    serial: 1,
-};
-
-const SECOND: Uid = Uid {
-    node: 1,
-    epoch: 1,
-    serial: 2,
-};
-
-const THIRD: Uid = Uid {
-    node: 1,
-    epoch: 1,
-    serial: 3,
-};
 
 /// The size of a disk on which a log is converted, and that of its log.
 const WIDE: usize = 4_194_304;
 
 const NARROW: usize = 1_048_576;
 
-/// The device calls of the conversion of `make_log`: sync and read; seven of the walk; of three values a read each, and
+/// The device calls of the conversion of `CHANGES`: sync and read; seven of the walk; of three values a read each, and
 /// five writes of blocks; 128 writes of staged heads and three calls; 128 reads, 128 writes and three calls.
 const CONVERSION: u32 = 407;
 
 /// The device calls of reading it once it is converted: all heads, and five blocks.
-const READING: u32 = 4101;
+const READING: u64 = 4101;
 
-/// Adds a record to a log.
-fn add_record(log: &mut Vec<u8>, uid: Uid, kind: u8, body: &[u8]) -> Result<(), AllocError>
-    requires { length body.now < 2 ^ 32 }
-{
-    let size = body.len() as u32;
-    log.push(0xE1)?;
-    log.extend_from_slice(&size.to_be_bytes())?;
-    log.push(uid.node)?;
-    log.extend_from_slice(&uid.epoch.to_be_bytes())?;
-    log.extend_from_slice(&uid.serial.to_be_bytes())?;
-    log.push(kind)?;
-    log.extend_from_slice(body)
-}
+/// The device call that makes the byte stable which says that the heads are staged: behind 2 and 7 of the look and the walk, 8
+/// of the copies, 128 writes, a sync and the write of the byte.
+const STAGING: u32 = 148;
 
-/// A log without records.
-fn begin_log(alloc: Global) -> Result<Vec<u8>, AllocError> {
-    let mut log = Vec::from_slice(alloc, &[0xED])?;
-    log.extend_from_slice(&[0; 15])?;
-    Ok(log)
-}
+/// A uid, a kind and a body.
+type Record = (Uid, u8, Bytes);
 
 /// A log that keeps the epoch, 3,000 bytes and 1,022 bytes, and has removed one byte.
-fn make_log(alloc: Global) -> Result<Vec<u8>, AllocError> {
-    let mut log = begin_log(alloc)?;
-    add_record(&mut log, EPOCH, 1, &[0, 0, 0, 1])?;
-    add_record(&mut log, SECOND, 1, &[7])?;
-    add_record(&mut log, FIRST, 1, &[1, 2, 3])?;
-    add_record(&mut log, THIRD, 1, &[8; 1022])?;
-    add_record(&mut log, SECOND, 2, &[])?;
-    add_record(&mut log, FIRST, 1, &[9; 3000])?;
+const CHANGES: &[Record] = &[
+    (EPOCH, 1, (&[0, 0, 0, 1], 1)),
+    (SECOND, 1, (&[7], 1)),
+    (FIRST, 1, (&[1, 2, 3], 1)),
+    (THIRD, 1, (&[8], 1022)),
+    (SECOND, 2, (&[], 0)),
+    (FIRST, 1, (&[9], 3000)),
+];
+
+/// What it keeps.
+const KEPT: &[(Uid, Option<Bytes>)] = &[
+    (EPOCH, Some((&[0, 0, 0, 1], 1))),
+    (FIRST, Some((&[9], 3000))),
+    (SECOND, None),
+    (THIRD, Some((&[8], 1022))),
+];
+
+const LONE: &[Record] = &[(EPOCH, 1, (&[0, 0, 0, 1], 1))];
+
+/// A log whose second record has no kind.
+const DAMAGED: &[Record] = &[(EPOCH, 1, (&[0, 0, 0, 1], 1)), (FIRST, 3, (&[5], 1))];
+
+/// A log of four values of 262,000 bytes, which ends 516 bytes before its end, and one more, up to the last byte but one.
+const LONG: &[Record] = &[
+    (EPOCH, 1, (&[0, 0, 0, 1], 1)),
+    (FIRST, 1, (&[6], 262_000)),
+    (SECOND, 1, (&[6], 262_000)),
+    (FIRST, 1, (&[6], 262_000)),
+    (SECOND, 1, (&[6], 262_000)),
+    (THIRD, 1, (&[7], 465)),
+];
+
+/// The same up to the last byte.
+const FULL: &[Record] = &[
+    (EPOCH, 1, (&[0, 0, 0, 1], 1)),
+    (FIRST, 1, (&[6], 262_000)),
+    (SECOND, 1, (&[6], 262_000)),
+    (FIRST, 1, (&[6], 262_000)),
+    (SECOND, 1, (&[6], 262_000)),
+    (THIRD, 1, (&[7], 466)),
+];
+
+/// Records, and how many values of one byte stand behind them, each of which takes a block; the length of the log, and the
+/// size of its disk; how the conversion is refused, and its device calls.
+const LOGS: &[(&[Record], u32, usize, usize, Option<StoreRefusal>, u64)] = &[
+    (CHANGES, 0, 4136, WIDE, None, 407 + READING),
+    // as many blocks as find room: 2,945 reads of the walk; 2,944 values of a read and a write; 4,096 heads and 2,944 blocks
+    (
+        LONE,
+        2943,
+        47_123,
+        WIDE,
+        None,
+        2 + 2945 + 2 * 2944 + 131 + 259 + 4096 + 2944,
+    ),
+    // one block too many
+    (LONE, 2944, 47_139, WIDE, Some(StoreRefusal::Full), 2 + 2946),
+    (
+        DAMAGED,
+        0,
+        51,
+        WIDE,
+        Some(StoreRefusal::Damaged { place: 35 }),
+        4,
+    ),
+    // a disk of another size
+    (
+        CHANGES,
+        0,
+        4136,
+        NARROW,
+        Some(StoreRefusal::Damaged { place: 0 }),
+        2,
+    ),
+    // one byte is left: 257 blocks for each of two values, and one for two more
+    (
+        LONG,
+        0,
+        NARROW - 1,
+        WIDE,
+        None,
+        2 + 7 + 4 + 516 + 131 + 259 + 4096 + 516,
+    ),
+    // the last record ends with the log
+    (
+        FULL,
+        0,
+        NARROW,
+        WIDE,
+        Some(StoreRefusal::Damaged { place: 1_048_095 }),
+        2 + 6,
+    ),
+];
+
+/// Adds a record to a log.
+fn add_record(
+    alloc: Global,
+    log: &mut Vec<u8>,
+    uid: Uid,
+    kind: u8,
+    body: Bytes,
+) -> Result<(), AllocError> {
+    let body = make_bytes(alloc, body)?;
+    let n = (body.len() as u64).to_be_bytes();
+    let e = uid.epoch.to_be_bytes();
+    let s = uid.serial.to_be_bytes();
+    log.extend_from_slice(&[
+        0xE1, n[4], n[5], n[6], n[7], uid.node, e[0], e[1], e[2], e[3], s[0], s[1], s[2], s[3],
+        kind,
+    ])?;
+    log.extend_from_slice(&body)
+}
+
+/// A log of these records, and of so many values of one byte behind them.
+fn make_log(alloc: Global, records: &[Record], values: u32) -> Result<Vec<u8>, AllocError> {
+    let mut log = make_bytes(
+        alloc,
+        (&[0xED, 0, 0, 0, 0, 0, 0, 0, 0, 0, 0, 0, 0, 0, 0, 0], 1),
+    )?;
+    for &(uid, kind, body) in records {
+        add_record(alloc, &mut log, uid, kind, body)?;
+    }
+    for number in 0..values {
+        let uid = Uid {
+            node: 1,
+            epoch: 1,
+            serial: number + 1,
+        };
+        add_record(alloc, &mut log, uid, 1, (&[5], 1))?;
+    }
     Ok(log)
 }
 
@@ -88,193 +173,184 @@ fn disk_of(alloc: Global, bytes: &[u8], size: usize) -> Result<SimDisk, AllocErr
     SimDisk::of(alloc, image)
 }
 
-/// Whether a body is these bytes.
-fn is_body(found: Option<Body>, bytes: &[u8]) -> bool {
-    match found {
-        Some(body) => *body.as_slice() == *bytes,
-        None => false,
-    }
-}
-
-/// What is kept under a uid.
-fn read<St: Store>(alloc: Global, store: &mut St, uid: Uid) -> Result<Option<Body>, StoreRefusal>
-    requires power { IsTrue (St.seen store.old).disk.counts.power }
-    requires idle { (St.seen store.old).work ≡ Idle }
-    ensures power { OnOk result (IsTrue (St.seen store.new).disk.counts.power) }
-    ensures idle { (St.seen store.new).work ≡ Idle }
-{
-    let found = store.get(alloc, uid)?;
-    Ok(found)
-}
-
-/// Whether a store keeps what `make_log` does.
-fn keeps<St: Store>(alloc: Global, store: &mut St) -> Result<bool, StoreRefusal>
-    requires power { IsTrue (St.seen store.old).disk.counts.power }
-    requires idle { (St.seen store.old).work ≡ Idle }
-{
-    let epoch = read(alloc, store, EPOCH)?;
-    let first = read(alloc, store, FIRST)?;
-    let second = read(alloc, store, SECOND)?;
-    let third = read(alloc, store, THIRD)?;
-    let epoch_is = is_body(epoch, &[0, 0, 0, 1]);
-    let first_is = is_body(first, &[9; 3000]);
-    let third_is = is_body(third, &[8; 1022]);
-    Ok(epoch_is && first_is && third_is && second.is_none())
-}
-
-/// Opens a disk and answers it, with the refusal.
-fn open(alloc: Global, disk: SimDisk) -> (SimDisk, Option<StoreRefusal>)
-    requires { IsTrue disk.counts.power }
-{
-    match BlockStore::open_disk(alloc, disk, 1) {
-        Err((disk, refusal)) => (disk, Some(refusal)),
-        Ok(store) => (store.close(), None),
-    }
-}
-
-/// Opens a disk and answers it, and whether it keeps what `make_log` does.
-fn look(alloc: Global, disk: SimDisk) -> (SimDisk, bool)
-    requires { IsTrue disk.counts.power }
-{
-    match BlockStore::open_disk(alloc, disk, 1) {
-        Err((disk, _)) => (disk, false),
-        Ok(mut store) => {
-            let is_kept = keeps(alloc, &mut store) == Ok(true);
-            (store.close(), is_kept)
-        }
-    }
-}
-
 #[test]
-fn a_log_becomes_blocks(rt: HostRuntime) -> Result<(), Fail> {
+fn logs_become_blocks_or_are_refused(rt: HostRuntime) -> Result<(), Fail> {
     let alloc = rt.alloc();
-    let log = make_log(alloc)?;
-    let disk = disk_of(alloc, &log, WIDE)?;
-    let (mut disk, refusal) = open(alloc, disk);
-    assert_eq!(rt; refusal, None);
-    assert_eq!(rt; disk.clock(), (CONVERSION + READING) as u64);
-    disk.restart();
-    let (_, is_kept) = look(alloc, disk);
-    assert!(rt; is_kept);
+    for (row, &(records, values, length, size, wanted, calls)) in LOGS.iter().enumerate() {
+        let log = make_log(alloc, records, values)?;
+        assert_eq!(rt; log.len(), length, "log {row}");
+        let disk = disk_of(alloc, &log, size.min(WIDE))?;
+        let before = disk.image(alloc)?;
+        let (disk, refusal) = refusal_of::<BlockStore<SimDisk>>(alloc, disk);
+        assert!(rt; (refusal, disk.clock()) == (wanted, calls), "log {row}");
+        let after = disk.image(alloc)?;
+        assert!(rt; (after == before) == refusal.is_some(), "log {row}");
+    }
     Ok(())
 }
 
-/// Whether these bytes stand at a place.
-fn stands(image: &[u8], place: usize, bytes: &[u8]) -> bool {
-    match image.get(place..place.saturating_add(bytes.len())) {
-        Some(found) => *found == *bytes,
-        None => false,
+/// Bytes from a place on.
+type Standing = (usize, Bytes);
+
+/// The heads of what `CHANGES` keeps.
+const HEADS: &[Standing] = &[
+    (
+        0,
+        (
+            &[
+                0xE1, 1, 1, 0, 0, 0, 0, 0, 0, 0, 0, 0, 0, 0, 0, 0, 0, 0, 1, 0, 0, 0, 4, 4, 0, 0, 0,
+                0, 0, 0, 0, 0,
+            ],
+            1,
+        ),
+    ),
+    (
+        32,
+        (
+            &[
+                0xE1, 1, 1, 0, 0, 0, 1, 0, 0, 0, 1, 0, 0, 0, 0, 0, 0, 0, 2, 0, 0, 0x0B, 0xB8, 4, 1,
+                0, 0, 0, 0, 0, 0, 0,
+            ],
+            1,
+        ),
+    ),
+    (
+        64,
+        (
+            &[
+                0xE1, 1, 1, 0, 0, 0, 1, 0, 0, 0, 3, 0, 0, 0, 0, 0, 0, 0, 3, 0, 0, 3, 0xFE, 4, 4, 0,
+                0, 0, 0, 0, 0, 0,
+            ],
+            1,
+        ),
+    ),
+    (96, (&[0], 1024)),
+];
+
+/// The gates of the disk, and the bodies of what `CHANGES` keeps on the blocks from 1,024 on, each with the number of the
+/// next one.
+const BODIES: &[Standing] = &[
+    (0, (&[0xED, 0xEB, 0xEA, 0], 1)),
+    (1_048_576, (&[0, 0, 0, 0, 0, 1], 1)),
+    (1_049_600, (&[4, 2], 1)),
+    (1_049_602, (&[9], 1022)),
+    (1_050_624, (&[4, 3], 1)),
+    (1_050_626, (&[9], 1022)),
+    (1_051_648, (&[0, 0], 1)),
+    (1_051_650, (&[9], 956)),
+    (1_052_672, (&[0, 0], 1)),
+    (1_052_674, (&[8], 1022)),
+    (1_053_696, (&[0], 1024)),
+];
+
+/// Whether all these bytes stand on an image, counted from a place on.
+fn all_stand(image: &[u8], from: usize, all: &[Standing]) -> bool {
+    for &(place, bytes) in all {
+        let place = place.saturating_add(from);
+        let count = bytes.0.len().saturating_mul(bytes.1);
+        match image.get(place..place.saturating_add(count)) {
+            Some(found) if are_bytes(found, bytes) => {}
+            _ => return false,
+        }
     }
-}
-
-/// Whether the heads of what `make_log` keeps stand at a place.
-fn heads_stand(image: &[u8], place: u32) -> bool {
-    let place = place as usize;
-    let epoch = [
-        0xE1, 1, 1, 0, 0, 0, 0, 0, 0, 0, 0, 0, 0, 0, 0, 0, 0, 0, 1, 0, 0, 0, 4, 4, 0, 0, 0, 0, 0,
-        0, 0, 0,
-    ];
-    let first = [
-        0xE1, 1, 1, 0, 0, 0, 1, 0, 0, 0, 1, 0, 0, 0, 0, 0, 0, 0, 2, 0, 0, 0x0B, 0xB8, 4, 1, 0, 0,
-        0, 0, 0, 0, 0,
-    ];
-    let third = [
-        0xE1, 1, 1, 0, 0, 0, 1, 0, 0, 0, 3, 0, 0, 0, 0, 0, 0, 0, 3, 0, 0, 3, 0xFE, 4, 4, 0, 0, 0,
-        0, 0, 0, 0,
-    ];
-    stands(image, place, &epoch)
-        && stands(image, place + 32, &first)
-        && stands(image, place + 64, &third)
-        && stands(image, place + 96, &[0; 1024])
-}
-
-/// Whether the bodies of what `make_log` keeps stand on the blocks from 1,024 on, each with the number of the next one.
-fn bodies_stand(image: &[u8]) -> bool {
-    stands(image, 1_048_576, &[0, 0, 0, 0, 0, 1])
-        && stands(image, 1_049_600, &[4, 2])
-        && stands(image, 1_049_602, &[9; 1022])
-        && stands(image, 1_050_624, &[4, 3])
-        && stands(image, 1_050_626, &[9; 1022])
-        && stands(image, 1_051_648, &[0, 0])
-        && stands(image, 1_051_650, &[9; 956])
-        && stands(image, 1_052_672, &[0, 0])
-        && stands(image, 1_052_674, &[8; 1022])
-        && stands(image, 1_053_696, &[0; 1024])
+    true
 }
 
 #[test]
 fn the_bytes_of_a_log_that_became_blocks(rt: HostRuntime) -> Result<(), Fail> {
     let alloc = rt.alloc();
-    let log = make_log(alloc)?;
-    let (disk, _) = open(alloc, disk_of(alloc, &log, WIDE)?);
+    let log = make_log(alloc, CHANGES, 0)?;
+    let (mut disk, _) = refusal_of::<BlockStore<SimDisk>>(alloc, disk_of(alloc, &log, WIDE)?);
     let image = disk.image(alloc)?;
-    assert!(rt; image.len() == WIDE);
-    assert!(rt; stands(&image, 0, &[0xED, 0xEB, 0xEA, 0]));
-    assert!(rt; heads_stand(&image, 1024));
-    assert!(rt; heads_stand(&image, 4_063_232));
-    assert!(rt; bodies_stand(&image));
+    assert!(rt; image.len() == WIDE && all_stand(&image, 0, BODIES));
+    assert!(rt; all_stand(&image, 1024, HEADS) && all_stand(&image, 4_063_232, HEADS));
+    disk.restart();
+    let (_, is_kept) = look::<BlockStore<SimDisk>>(alloc, disk, KEPT);
+    assert!(rt; is_kept);
     Ok(())
 }
 
+/// What befalls a first opening, and how it is refused; and the device calls of a second one. Behind a whole conversion that
+/// converts nothing, and behind a stop once the heads are staged they are moved without the log.
+const OPENINGS: &[(Harm, u32, Option<StoreRefusal>, u64)] = &[
+    (Harm::Cut, 1, None, 2 + READING),
+    (
+        Harm::Stop,
+        STAGING + 1,
+        Some(StoreRefusal::Stopped),
+        2 + 259 + READING,
+    ),
+];
+
 #[test]
-fn a_second_opening_converts_nothing(rt: HostRuntime) -> Result<(), Fail> {
+fn second_openings(rt: HostRuntime) -> Result<(), Fail> {
     let alloc = rt.alloc();
-    let log = make_log(alloc)?;
-    let (mut disk, _) = open(alloc, disk_of(alloc, &log, WIDE)?);
-    disk.restart();
-    let before = disk.clock();
-    let (disk, refusal) = open(alloc, disk);
-    assert_eq!(rt; refusal, None);
-    assert_eq!(rt; disk.clock(), before.saturating_add(2 + READING as u64));
+    let log = make_log(alloc, CHANGES, 0)?;
+    for &(harm, after, wanted, calls) in OPENINGS {
+        let mut disk = disk_of(alloc, &log, WIDE)?;
+        arm(&mut disk, harm, after, ImageMode::Lose);
+        let (mut disk, first) = refusal_of::<BlockStore<SimDisk>>(alloc, disk);
+        disk.restart();
+        let before = disk.clock();
+        let (mut disk, second) = refusal_of::<BlockStore<SimDisk>>(alloc, disk);
+        assert!(rt; (first, second) == (wanted, None));
+        assert_eq!(rt; disk.clock(), before.saturating_add(calls));
+        disk.restart();
+        let (_, is_kept) = look::<BlockStore<SimDisk>>(alloc, disk, KEPT);
+        assert!(rt; is_kept);
+    }
     Ok(())
+}
+
+/// Gives a disk power, and writes bytes that find room on it.
+fn write_at<D: Disk>(disk: &mut D, place: u32, bytes: &[u8]) -> Result<(), DiskRefusal> {
+    disk.restart();
+    if bytes.len().saturating_add(place as usize) > disk.size() as usize {
+        return Err(DiskRefusal::Failed);
+    }
+    disk.write(place, bytes)
 }
 
 /// Writes a log over all that its conversion has changed on a disk.
-fn write_log(disk: &mut SimDisk, log: &[u8]) -> Result<(), DiskRefusal> {
+fn write_log<D: Disk>(disk: &mut D, log: &[u8]) -> Result<(), DiskRefusal> {
     let zeros = [0; 131_072];
-    disk.restart();
-    if disk.size() != 4_194_304 || log.len() > zeros.len() {
-        return Err(DiskRefusal::Failed);
+    for &place in &[1024, 1_048_576, 4_063_232] {
+        write_at(disk, place, &zeros)?;
     }
-    disk.write(1024, &zeros)?;
-    disk.write(1_048_576, &zeros)?;
-    disk.write(4_063_232, &zeros)?;
-    disk.write(0, log)?;
+    write_at(disk, 0, log)?;
+    disk.restart();
     disk.sync()
 }
 
-/// Opens a disk with a log on it that stops at a device call, and again once it is restarted. It answers whether it stopped
-/// there and keeps what `make_log` does.
-fn stop_and_look(alloc: Global, mut disk: SimDisk, after: u32, mode: ImageMode) -> (SimDisk, bool)
-    requires { 1 ≤ after }
-{
+/// Opens a disk with a log on it that a harm befalls in a device call, and again once it is restarted. It answers whether the
+/// first opening is refused so and the second keeps what `CHANGES` does.
+fn harm_and_look(
+    alloc: Global,
+    mut disk: SimDisk,
+    harm: Harm,
+    after: u32,
+    mode: ImageMode,
+) -> (SimDisk, bool) {
     disk.restart();
-    disk.arm(Arm::Stop { after, mode });
-    let (mut disk, refusal) = open(alloc, disk);
+    arm(&mut disk, harm, after, mode);
+    let (mut disk, refusal) = refusal_of::<BlockStore<SimDisk>>(alloc, disk);
+    cut_power(&mut disk, harm, mode);
     disk.restart();
-    let (disk, is_kept) = look(alloc, disk);
-    (disk, is_kept && refusal == Some(StoreRefusal::Stopped))
+    let (disk, is_kept) = look::<BlockStore<SimDisk>>(alloc, disk, KEPT);
+    let wanted = match harm {
+        Harm::Stop => Some(StoreRefusal::Stopped),
+        Harm::Fail => Some(StoreRefusal::Failed),
+        Harm::Cut => None,
+    };
+    (disk, is_kept && refusal == wanted)
 }
 
-/// The same of a failure, and a power cut behind it.
-fn fail_and_look(alloc: Global, mut disk: SimDisk, after: u32, mode: ImageMode) -> (SimDisk, bool)
-    requires { 1 ≤ after }
-{
-    disk.restart();
-    disk.arm(Arm::Fail { after });
-    let (mut disk, refusal) = open(alloc, disk);
-    disk.cut_power(mode);
-    disk.restart();
-    let (disk, is_kept) = look(alloc, disk);
-    (disk, is_kept && refusal == Some(StoreRefusal::Failed))
-}
-
-/// Whether what `make_log` keeps outlives a stop in each device call of its conversion.
-fn outlives_stops(alloc: Global, mode: ImageMode) -> Result<bool, StoreRefusal> {
-    let log = make_log(alloc)?;
+/// Whether what `CHANGES` keeps outlives a harm in each device call of its conversion.
+fn outlives(alloc: Global, harm: Harm, mode: ImageMode) -> Result<bool, StoreRefusal> {
+    let log = make_log(alloc, CHANGES, 0)?;
     let mut disk = disk_of(alloc, &log, WIDE)?;
     for after in 1..=CONVERSION {
-        let (back, is_kept) = stop_and_look(alloc, disk, after, mode);
+        let (back, is_kept) = harm_and_look(alloc, disk, harm, after, mode);
         if !is_kept {
             return Ok(false);
         }
@@ -284,177 +360,28 @@ fn outlives_stops(alloc: Global, mode: ImageMode) -> Result<bool, StoreRefusal> 
     Ok(true)
 }
 
-/// The same of failures.
-fn outlives_failures(alloc: Global, mode: ImageMode) -> Result<bool, StoreRefusal> {
-    let log = make_log(alloc)?;
-    let mut disk = disk_of(alloc, &log, WIDE)?;
-    for after in 1..=CONVERSION {
-        let (back, is_kept) = fail_and_look(alloc, disk, after, mode);
-        if !is_kept {
-            return Ok(false);
-        }
-        disk = back;
-        write_log(&mut disk, &log)?;
-    }
-    Ok(true)
-}
+const GARBLE: ImageMode = ImageMode::Garble { byte: 235 };
 
 #[test]
 fn a_stop_in_each_device_call_loses_nothing(rt: HostRuntime) -> Result<(), Fail> {
-    assert!(rt; outlives_stops(rt.alloc(), ImageMode::Lose)?);
+    assert!(rt; outlives(rt.alloc(), Harm::Stop, ImageMode::Lose)?);
     Ok(())
 }
 
 #[test]
 fn a_stop_in_each_device_call_that_garbles_loses_nothing(rt: HostRuntime) -> Result<(), Fail> {
-    assert!(rt; outlives_stops(rt.alloc(), ImageMode::Garble { byte: 235 })?);
+    assert!(rt; outlives(rt.alloc(), Harm::Stop, GARBLE)?);
     Ok(())
 }
 
 #[test]
 fn a_failure_in_each_device_call_loses_nothing(rt: HostRuntime) -> Result<(), Fail> {
-    assert!(rt; outlives_failures(rt.alloc(), ImageMode::Lose)?);
+    assert!(rt; outlives(rt.alloc(), Harm::Fail, ImageMode::Lose)?);
     Ok(())
 }
 
 #[test]
 fn a_failure_in_each_device_call_that_garbles_loses_nothing(rt: HostRuntime) -> Result<(), Fail> {
-    assert!(rt; outlives_failures(rt.alloc(), ImageMode::Garble { byte: 235 })?);
-    Ok(())
-}
-
-/// The device call that makes the byte stable which says that the heads are staged: behind 2 and 7 of the look and the walk, 8
-/// of the copies, 128 writes, a sync and the write of the byte.
-const STAGING: u32 = 148;
-
-#[test]
-fn staged_heads_are_moved_without_the_log(rt: HostRuntime) -> Result<(), Fail> {
-    let alloc = rt.alloc();
-    let log = make_log(alloc)?;
-    let mut disk = disk_of(alloc, &log, WIDE)?;
-    disk.arm(Arm::Stop {
-        after: STAGING + 1,
-        mode: ImageMode::Lose,
-    });
-    let (mut disk, refusal) = open(alloc, disk);
-    assert_eq!(rt; refusal, Some(StoreRefusal::Stopped));
-    disk.restart();
-    let before = disk.clock();
-    let (mut disk, refusal) = open(alloc, disk);
-    assert_eq!(rt; refusal, None);
-    assert_eq!(rt;
-        disk.clock(),
-        before.saturating_add(2 + 259 + READING as u64)
-    );
-    disk.restart();
-    let (_, is_kept) = look(alloc, disk);
-    assert!(rt; is_kept);
-    Ok(())
-}
-
-/// A log of the epoch and so many values of one byte, each of which takes a block.
-fn make_long_log(alloc: Global, count: u32) -> Result<Vec<u8>, AllocError>
-    requires { count < 100000 }
-{
-    let mut log = begin_log(alloc)?;
-    add_record(&mut log, EPOCH, 1, &[0, 0, 0, 1])?;
-    for number in 0..count {
-        let uid = Uid {
-            node: 1,
-            epoch: 1,
-            serial: number + 1,
-        };
-        add_record(&mut log, uid, 1, &[5])?;
-    }
-    Ok(log)
-}
-
-#[test]
-fn a_log_of_as_many_blocks_as_find_room(rt: HostRuntime) -> Result<(), Fail> {
-    let alloc = rt.alloc();
-    let log = make_long_log(alloc, 2943)?;
-    let (disk, refusal) = open(alloc, disk_of(alloc, &log, WIDE)?);
-    assert_eq!(rt; refusal, None);
-    // 2,945 reads of the walk; 2,944 values of a read and a write; 4,096 heads and 2,944 blocks
-    assert_eq!(rt; disk.clock(), 2 + 2945 + 2 * 2944 + 131 + 259 + 4096 + 2944);
-    Ok(())
-}
-
-#[test]
-fn a_log_of_one_block_too_many(rt: HostRuntime) -> Result<(), Fail> {
-    let alloc = rt.alloc();
-    let log = make_long_log(alloc, 2944)?;
-    let (disk, refusal) = open(alloc, disk_of(alloc, &log, WIDE)?);
-    assert_eq!(rt; refusal, Some(StoreRefusal::Full));
-    assert_eq!(rt; disk.clock(), 2 + 2946);
-    let image = disk.image(alloc)?;
-    let wanted = disk_of(alloc, &log, WIDE)?;
-    assert!(rt; image == wanted.image(alloc)?);
-    Ok(())
-}
-
-/// A log whose one record, of the epoch, ends so many bytes before the log's end.
-fn make_damaged_log(alloc: Global) -> Result<Vec<u8>, AllocError> {
-    let mut log = begin_log(alloc)?;
-    add_record(&mut log, EPOCH, 1, &[0, 0, 0, 1])?;
-    add_record(&mut log, FIRST, 3, &[5])?;
-    Ok(log)
-}
-
-#[test]
-fn a_damaged_log(rt: HostRuntime) -> Result<(), Fail> {
-    let alloc = rt.alloc();
-    let log = make_damaged_log(alloc)?;
-    let (disk, refusal) = open(alloc, disk_of(alloc, &log, WIDE)?);
-    assert_eq!(rt; refusal, Some(StoreRefusal::Damaged { place: 35 }));
-    assert_eq!(rt; disk.clock(), 4);
-    Ok(())
-}
-
-#[test]
-fn a_log_on_a_disk_of_another_size(rt: HostRuntime) -> Result<(), Fail> {
-    let alloc = rt.alloc();
-    let log = make_log(alloc)?;
-    let (disk, refusal) = open(alloc, disk_of(alloc, &log, NARROW)?);
-    assert_eq!(rt; refusal, Some(StoreRefusal::Damaged { place: 0 }));
-    assert_eq!(rt; disk.clock(), 2);
-    Ok(())
-}
-
-/// A log of four values of 262,000 bytes, which ends 516 bytes before its end, and one more.
-fn make_full_log(alloc: Global, last: &[u8]) -> Result<Vec<u8>, AllocError>
-    requires { length last.now < 2 ^ 32 }
-{
-    let long = vec![in alloc; 6u8; 262_000]?;
-    let mut log = begin_log(alloc)?;
-    add_record(&mut log, EPOCH, 1, &[0, 0, 0, 1])?;
-    add_record(&mut log, FIRST, 1, &long)?;
-    add_record(&mut log, SECOND, 1, &long)?;
-    add_record(&mut log, FIRST, 1, &long)?;
-    add_record(&mut log, SECOND, 1, &long)?;
-    add_record(&mut log, THIRD, 1, last)?;
-    Ok(log)
-}
-
-#[test]
-fn a_log_that_has_one_byte_left(rt: HostRuntime) -> Result<(), Fail> {
-    let alloc = rt.alloc();
-    let log = make_full_log(alloc, &[7; 465])?;
-    assert_eq!(rt; log.len(), NARROW - 1);
-    let (disk, refusal) = open(alloc, disk_of(alloc, &log, WIDE)?);
-    assert_eq!(rt; refusal, None);
-    // 257 blocks for each of two values, and one for two more
-    assert_eq!(rt; disk.clock(), 2 + 7 + 4 + 516 + 131 + 259 + 4096 + 516);
-    Ok(())
-}
-
-#[test]
-fn a_record_that_ends_with_the_log(rt: HostRuntime) -> Result<(), Fail> {
-    let alloc = rt.alloc();
-    let log = make_full_log(alloc, &[7; 466])?;
-    assert_eq!(rt; log.len(), NARROW);
-    let (disk, refusal) = open(alloc, disk_of(alloc, &log, WIDE)?);
-    assert_eq!(rt; refusal, Some(StoreRefusal::Damaged { place: 1_048_095 }));
-    assert_eq!(rt; disk.clock(), 2 + 6);
+    assert!(rt; outlives(rt.alloc(), Harm::Fail, GARBLE)?);
     Ok(())
 }

@@ -1,482 +1,325 @@
-ghost use Rattle.std.specs.Prelude.{◌≡◌, ◌≤◌, ◌<◌, ◌+◌, IsTrue, true, false, length, OnOk, Option};
-ghost use Rattle.passive_store.specs.Kept.{IsOwn, Idle, is_busy, is_unsettled, is_synced, calls_left};
+ghost use Rattle.std.specs.Prelude.{◌≤◌, IsTrue};
 
-use capability::{Body, Uid};
-use eden_disk::{Arm, Disk, ImageMode, SimDisk};
-use passive_store::{
-    LogStore, Pick, Progress, Store, StoreRefusal, finish, images_are_told_by_marks,
-    log_layout_is_a_layout, picks_are_told_by_marks, settle_whole,
+use crate::calls::{Answer, Call, play_over};
+use crate::changes::{
+    Asked, COUNT, EPOCH, FIRST, SECOND, keeps_changes, make_changes, make_part, open,
 };
-use std::alloc::Global;
+use crate::disks::{Bytes, Harm, MODES, arm, counts, counts_behind, cut_power};
+use eden_disk::{Disk, ImageMode, SimDisk};
+use passive_blocks::BlockStore;
+use passive_store::{
+    LogStore, Pick, Store, StoreRefusal, images_are_told_by_marks, log_layout_is_a_layout,
+    picks_are_told_by_marks,
+};
+use std::alloc::{AllocError, Global};
+use std::process::Abort;
 use std::test::Fail;
 
-const EPOCH: Uid = Uid {
-    node: 1,
-    epoch: 0,
-    serial: 0,
+/// A layout, the size of a disk of it, and after how many device calls of it a blank one is opened, and each change made.
+#[derive(Clone, Copy)]
+struct Layout {
+    is_log: bool,
+    size: u32,
+    opening: u32,
+    ends: [u32; 5],
+}
+
+const LOG: Layout = Layout {
+    is_log: true,
+    size: 4096,
+    opening: 7,
+    ends: [11, 15, 19, 23, 27],
 };
 
-const FIRST: Uid = Uid {
-    node: 1,
-    epoch: 1,
-    serial: 1,
+/// The least disk of blocks: 32 heads, and 30 blocks for data. The fourth change writes three blocks, and the last closes
+/// the head before it.
+const BLOCKS: Layout = Layout {
+    is_log: false,
+    size: 32_768,
+    opening: 38,
+    ends: [43, 48, 53, 60, 65],
 };
 
-const SECOND: Uid = Uid {
-    node: 1,
-    epoch: 1,
-    serial: 2,
-};
-
-const MODES: [ImageMode; 4] = [
-    ImageMode::Keep,
-    ImageMode::Lose,
-    ImageMode::Garble { byte: 225 },
-    ImageMode::Garble { byte: 0 },
-];
-
-/// The device calls of an opening of a blank disk.
-const OPENING: u32 = 7;
-
-/// The device calls of a change.
-const JOB: u32 = 4;
-
-/// How many changes `change` knows.
-const CHANGES: u32 = 5;
-
-/// One of five changes: the epoch, three puts and a removal.
-fn change<St: Store>(alloc: Global, store: &mut St, number: u32) -> Result<(), StoreRefusal>
-    requires power { IsTrue (St.seen store.old).disk.counts.power }
-    requires idle { (St.seen store.old).work ≡ Idle }
-    requires node { (St.seen store.old).node ≡ 1 }
-    ensures power { OnOk result (IsTrue (St.seen store.new).disk.counts.power) }
-    ensures idle { OnOk result ((St.seen store.new).work ≡ Idle) }
-    ensures node { (St.seen store.new).node ≡ 1 }
-{
-    match number {
-        0 => {
-            store.put(alloc, EPOCH, &[0, 0, 0, 1])?;
-            Ok(())
-        }
-        1 => {
-            store.put(alloc, FIRST, &[1, 2, 3])?;
-            Ok(())
-        }
-        2 => {
-            store.put(alloc, SECOND, &[7])?;
-            Ok(())
-        }
-        3 => {
-            store.put(alloc, FIRST, &[9; 300])?;
-            Ok(())
-        }
-        _ => {
-            store.delete(alloc, SECOND)?;
-            Ok(())
-        }
-    }
-}
-
-/// Begins the job of one of the five changes.
-fn begin<St: Store>(alloc: Global, store: &mut St, number: u32) -> Result<(), StoreRefusal>
-    requires power { IsTrue (St.seen store.old).disk.counts.power }
-    requires idle { (St.seen store.old).work ≡ Idle }
-    requires node { (St.seen store.old).node ≡ 1 }
-    ensures power { IsTrue (St.seen store.new).disk.counts.power }
-    ensures busy { OnOk result (IsTrue (is_busy (St.seen store.new).work)) }
-    ensures calls { OnOk result (1 ≤ calls_left (St.seen store.new).work) }
-{
-    match number {
-        0 => {
-            store.begin_put(alloc, EPOCH, &[0, 0, 0, 1])?;
-            Ok(())
-        }
-        1 => {
-            store.begin_put(alloc, FIRST, &[1, 2, 3])?;
-            Ok(())
-        }
-        2 => {
-            store.begin_put(alloc, SECOND, &[7])?;
-            Ok(())
-        }
-        3 => {
-            store.begin_put(alloc, FIRST, &[9; 300])?;
-            Ok(())
-        }
-        _ => {
-            if !store.holds(SECOND) {
-                return Err(StoreRefusal::Full);
-            }
-            store.begin_delete(alloc, SECOND)?;
-            Ok(())
-        }
-    }
-}
-
-/// Makes the first changes, so many. Where one is refused it answers how many were acknowledged.
-fn make_changes<St: Store>(alloc: Global, store: &mut St, count: u32) -> Result<(), u32>
-    requires power { IsTrue (St.seen store.old).disk.counts.power }
-    requires idle { (St.seen store.old).work ≡ Idle }
-    requires node { (St.seen store.old).node ≡ 1 }
-    ensures power { OnOk result (IsTrue (St.seen store.new).disk.counts.power) }
-    ensures idle { OnOk result ((St.seen store.new).work ≡ Idle) }
-    ensures node { OnOk result ((St.seen store.new).node ≡ 1) }
-{
-    for number in 0..count {
-        match change(alloc, store, number) {
-            Ok(()) => {}
-            Err(_) => return Err(number),
-        }
-    }
-    Ok(())
-}
-
-/// Makes some device calls of a change, one by one.
-fn make_part<St: Store>(
-    alloc: Global,
-    store: &mut St,
-    number: u32,
-    calls: u32,
-) -> Result<(), StoreRefusal>
-    requires power { IsTrue (St.seen store.old).disk.counts.power }
-    requires idle { (St.seen store.old).work ≡ Idle }
-    requires node { (St.seen store.old).node ≡ 1 }
-{
-    begin(alloc, store, number)?;
-    for _ in 0..calls {
-        if let Progress::Done = store.advance()? {
-            return Ok(());
-        }
-    }
-    Ok(())
-}
-
-/// What is kept under a uid.
-fn read<St: Store>(alloc: Global, store: &mut St, uid: Uid) -> Result<Option<Body>, StoreRefusal>
-    requires power { IsTrue (St.seen store.old).disk.counts.power }
-    requires idle { (St.seen store.old).work ≡ Idle }
-    ensures power { OnOk result (IsTrue (St.seen store.new).disk.counts.power) }
-    ensures idle { (St.seen store.new).work ≡ Idle }
-    ensures node { (St.seen store.new).node ≡ (St.seen store.old).node }
-{
-    let found = store.get(alloc, uid)?;
-    Ok(found)
-}
-
-/// Whether a body is there, and is this one; or whether none is.
-fn is_body(found: Option<Body>, kept: bool, bytes: &[u8]) -> bool {
-    match found {
-        Some(body) => kept && *body.as_slice() == *bytes,
-        None => !kept,
-    }
-}
-
-/// Whether a store keeps what so many changes leave.
-fn keeps<St: Store>(alloc: Global, store: &mut St, made: u32) -> Result<bool, StoreRefusal>
-    requires power { IsTrue (St.seen store.old).disk.counts.power }
-    requires idle { (St.seen store.old).work ≡ Idle }
-    ensures power { OnOk result (IsTrue (St.seen store.new).disk.counts.power) }
-    ensures idle { (St.seen store.new).work ≡ Idle }
-{
-    let epoch = read(alloc, store, EPOCH)?;
-    let first = read(alloc, store, FIRST)?;
-    let second = read(alloc, store, SECOND)?;
-    let first_is = if made < 4 {
-        is_body(first, made >= 2, &[1, 2, 3])
+/// How many changes so many device calls make.
+fn acknowledged(layout: Layout, calls: u32) -> u32 {
+    let [first, second, third, fourth, fifth] = layout.ends;
+    if calls < first {
+        0
+    } else if calls < second {
+        1
+    } else if calls < third {
+        2
+    } else if calls < fourth {
+        3
+    } else if calls < fifth {
+        4
     } else {
-        is_body(first, true, &[9; 300])
+        5
+    }
+}
+
+/// The device calls of an opening and of the first changes, so many.
+fn calls_of(layout: Layout, made: u32) -> u32 {
+    match made {
+        0 => layout.opening,
+        1 => layout.ends[0],
+        2 => layout.ends[1],
+        3 => layout.ends[2],
+        4 => layout.ends[3],
+        _ => layout.ends[4],
+    }
+}
+
+/// Opens a disk, makes changes up to the first refusal, and some device calls of the next one. It answers how many were
+/// acknowledged.
+fn run<St: Store>(
+    alloc: Global,
+    disk: St::Device,
+    count: u32,
+    part: Option<u32>,
+) -> (St::Device, u32)
+    requires { IsTrue (St.Device.counts disk).power }
+{
+    let mut store = match open::<St>(alloc, disk) {
+        Ok(store) => store,
+        Err((disk, _)) => return (disk, 0),
     };
-    let epoch_is = is_body(epoch, made >= 1, &[0, 0, 0, 1]);
-    let second_is = is_body(second, made == 3 || made == 4, &[7]);
-    Ok(epoch_is && first_is && second_is)
+    if let Err(made) = make_changes(alloc, &mut store, count) {
+        return (store.close(), made);
+    }
+    if let Some(calls) = part {
+        let _ = make_part(alloc, &mut store, count, calls);
+    }
+    (store.close(), count)
 }
 
-/// Opens a disk, makes the changes up to the first refusal, and answers how many were acknowledged.
-fn run(alloc: Global, disk: SimDisk) -> (SimDisk, u32)
-    requires { IsTrue disk.counts.power }
-{
-    match LogStore::open_disk(alloc, disk, 1) {
-        Err((disk, _)) => (disk, 0),
-        Ok(mut store) => {
-            let made = match make_changes(alloc, &mut store, CHANGES) {
-                Ok(()) => CHANGES,
-                Err(made) => made,
-            };
-            (store.close(), made)
+/// Runs a blank disk into a harm behind so many device calls.
+fn run_into(
+    alloc: Global,
+    layout: Layout,
+    harm: Harm,
+    calls: u32,
+    mode: ImageMode,
+) -> Result<(SimDisk, u32), AllocError> {
+    let mut disk = SimDisk::new(alloc, layout.size)?;
+    arm(&mut disk, harm, calls, mode);
+    let (count, part) = match harm {
+        Harm::Stop | Harm::Fail => (COUNT, None),
+        Harm::Cut => {
+            let count = acknowledged(layout, calls);
+            (count, Some(calls.saturating_sub(calls_of(layout, count))))
         }
+    };
+    if layout.is_log {
+        return Ok(run::<LogStore<SimDisk>>(alloc, disk, count, part));
     }
-}
-
-/// Opens a disk and makes so many device calls of the changes, and answers how many were acknowledged.
-fn run_part(alloc: Global, disk: SimDisk, calls: u32) -> (SimDisk, u32)
-    requires { IsTrue disk.counts.power }
-{
-    match LogStore::open_disk(alloc, disk, 1) {
-        Err((disk, _)) => (disk, 0),
-        Ok(mut store) => {
-            let whole = calls / JOB;
-            if make_changes(alloc, &mut store, whole).is_ok() {
-                let _ = make_part(alloc, &mut store, whole, calls % JOB);
-            }
-            (store.close(), whole)
-        }
-    }
+    Ok(run::<BlockStore<SimDisk>>(alloc, disk, count, part))
 }
 
 /// Whether a disk is opened again and has the acknowledged changes, with or without the next one.
-fn survives(alloc: Global, disk: SimDisk, made: u32) -> bool
-    requires power { IsTrue disk.counts.power }
-    requires few { made < 100 }
+fn survives<St: Store + Drop>(alloc: Global, disk: St::Device, made: u32) -> bool
+where
+    St::Device: Drop,
+    requires { IsTrue (St.Device.counts disk).power }
 {
-    match LogStore::open_disk(alloc, disk, 1) {
+    let Ok(mut store) = open::<St>(alloc, disk) else {
+        return false;
+    };
+    match keeps_changes(alloc, &mut store, made) {
         Err(_) => false,
-        Ok(mut store) => match keeps(alloc, &mut store, made) {
-            Err(_) => false,
-            Ok(true) => true,
-            Ok(false) => keeps(alloc, &mut store, made + 1) == Ok(true),
-        },
+        Ok(true) => true,
+        Ok(false) => keeps_changes(alloc, &mut store, made.saturating_add(1)) == Ok(true),
     }
 }
 
-#[test]
-fn a_stop_in_each_device_call(rt: HostRuntime) -> Result<(), Fail> {
-    let alloc = rt.alloc();
-    for after in 1..=OPENING + CHANGES * JOB {
-        for mode in MODES {
-            let mut disk = SimDisk::new(alloc, 4096)?;
-            disk.arm(Arm::Stop { after, mode });
-            let (mut disk, made) = run(alloc, disk);
-            assert_eq!(rt; disk.stops(), 1);
-            assert_eq!(rt; made, after.saturating_sub(OPENING + 1) / JOB);
-            disk.restart();
-            assert!(rt; made < 100 && survives(alloc, disk, made), "stop {after}");
-        }
-    }
-    Ok(())
-}
-
-#[test]
-fn a_failure_in_each_device_call_and_then_a_power_cut(rt: HostRuntime) -> Result<(), Fail> {
-    let alloc = rt.alloc();
-    for after in 1..=OPENING + CHANGES * JOB {
-        for mode in MODES {
-            let mut disk = SimDisk::new(alloc, 4096)?;
-            disk.arm(Arm::Fail { after });
-            let (mut disk, made) = run(alloc, disk);
-            assert_eq!(rt; disk.faults(), 1);
-            assert_eq!(rt; made, after.saturating_sub(OPENING + 1) / JOB);
-            disk.cut_power(mode);
-            disk.restart();
-            assert!(rt;
-                made < 100 && survives(alloc, disk, made),
-                "failure {after}"
-            );
-        }
-    }
-    Ok(())
-}
-
-#[test]
-fn a_power_cut_between_device_calls(rt: HostRuntime) -> Result<(), Fail> {
-    let alloc = rt.alloc();
-    for calls in 0..=CHANGES * JOB {
-        for mode in MODES {
-            let (mut disk, made) = run_part(alloc, SimDisk::new(alloc, 4096)?, calls);
-            assert_eq!(rt; disk.clock(), (OPENING + calls) as u64);
-            disk.cut_power(mode);
-            disk.restart();
-            assert!(rt;
-                made < 100 && survives(alloc, disk, made),
-                "cut after {calls}"
-            );
-        }
-    }
-    Ok(())
-}
-
-/// A put that is to fail.
-fn fail_to_put<St: Store>(
+/// Sees that a harm behind so many device calls loses no acknowledged change.
+fn outlives(
+    rt: &impl Abort,
     alloc: Global,
-    store: &mut St,
-    uid: Uid,
-    body: &[u8],
-) -> Result<(), StoreRefusal>
-    requires power { IsTrue (St.seen store.old).disk.counts.power }
-    requires idle { (St.seen store.old).work ≡ Idle }
-    requires own { IsOwn (St.seen store.old).node uid (length body.now) }
-    requires limit { length body.now ≤ 262144 }
-    ensures power { OnOk result (IsTrue (St.seen store.new).disk.counts.power) }
-    ensures idle { OnOk result (is_busy (St.seen store.new).work ≡ false) }
-    ensures unsettled { OnOk result (IsTrue (is_unsettled (St.seen store.new).work)) }
-    ensures unsynced { OnOk result (is_synced (St.seen store.new).work ≡ false) }
-    ensures node { (St.seen store.new).node ≡ (St.seen store.old).node }
-{
-    match store.put(alloc, uid, body) {
-        Err(StoreRefusal::Failed) => Ok(()),
-        Err(refusal) => Err(refusal),
-        Ok(()) => Err(StoreRefusal::Full),
-    }
-}
-
-/// Removes the first uid.
-fn remove_first<St: Store>(alloc: Global, store: &mut St) -> Result<(), StoreRefusal>
-    requires power { IsTrue (St.seen store.old).disk.counts.power }
-    requires idle { (St.seen store.old).work ≡ Idle }
-    requires node { (St.seen store.old).node ≡ 1 }
-{
-    store.delete(alloc, FIRST)
-}
-
-/// Settles a store on which no job goes on.
-fn settle_all<St: Store>(store: &mut St) -> Result<(), StoreRefusal>
-    requires power { IsTrue (St.seen store.old).disk.counts.power }
-    requires idle { is_busy (St.seen store.old).work ≡ false }
-    ensures power { OnOk result (IsTrue (St.seen store.new).disk.counts.power) }
-    ensures idle { OnOk result ((St.seen store.new).work ≡ Idle) }
-    ensures node { (St.seen store.new).node ≡ (St.seen store.old).node }
-{
-    store.settle()?;
-    Ok(())
-}
-
-#[test]
-fn the_room_of_a_log(rt: HostRuntime) -> Result<(), Fail> {
-    let alloc = rt.alloc();
-    let body = vec![in alloc; 5u8; 4045]?;
-    let Ok(mut store) = LogStore::open_disk(alloc, SimDisk::new(alloc, 4096)?, 1) else {
-        return Err(StoreRefusal::OutOfMemory)?;
+    layout: Layout,
+    harm: Harm,
+    calls: u32,
+    mode: ImageMode,
+) -> Result<(), AllocError> {
+    let (mut disk, made) = run_into(alloc, layout, harm, calls, mode)?;
+    let (name, done) = match harm {
+        Harm::Stop => ("stop", calls.saturating_sub(1)),
+        Harm::Fail => ("failure", calls.saturating_sub(1)),
+        Harm::Cut => ("cut", calls),
     };
-    change(alloc, &mut store, 0)?;
-    assert_eq!(rt; store.room(), Some(4045));
-    store.disk_mut_arm(Arm::Fail { after: 1 });
-    fail_to_put(alloc, &mut store, FIRST, &body)?;
-    assert_eq!(rt; store.unsure(), Some(FIRST));
-    settle_all(&mut store)?;
-    assert_eq!(rt; store.picked(), Some(Pick::Old));
-    assert!(rt; !store.holds(FIRST));
-    assert_eq!(rt; store.unsure(), None);
-    store.put(alloc, FIRST, &body)?;
-    let found = read(alloc, &mut store, FIRST)?;
-    assert!(rt; is_body(found, true, &body));
-    assert_eq!(rt; store.room(), None);
-    assert_eq!(rt; remove_first(alloc, &mut store), Err(StoreRefusal::Full));
-    Ok(())
-}
-
-/// What a store answers without a device call.
-#[derive(Clone, Copy, Debug, PartialEq, Eq)]
-struct Asked {
-    unsure: Option<Uid>,
-    working_on: Option<Uid>,
-    picked: Option<Pick>,
-    mark: Option<u64>,
-    holds: bool,
-    after: Option<Uid>,
-    room: Option<u32>,
-    clock: u64,
-}
-
-/// Asks a store of a uid.
-fn ask<St: Store>(store: &St, uid: Uid) -> Asked {
-    Asked {
-        unsure: store.unsure(),
-        working_on: store.working_on(),
-        picked: store.picked(),
-        mark: store.mark(uid),
-        holds: store.holds(uid),
-        after: store.after(Some(uid)),
-        room: store.room(),
-        clock: store.disk().clock(),
-    }
-}
-
-/// Makes a change by its steps.
-fn change_by_steps<St: Store>(
-    alloc: Global,
-    store: &mut St,
-    number: u32,
-) -> Result<(), StoreRefusal>
-    requires power { IsTrue (St.seen store.old).disk.counts.power }
-    requires idle { (St.seen store.old).work ≡ Idle }
-    requires node { (St.seen store.old).node ≡ 1 }
-{
-    begin(alloc, store, number)?;
-    finish(store)
-}
-
-/// Settles a store by its steps.
-fn settle_by_steps<St: Store>(store: &mut St) -> Result<(), StoreRefusal>
-    requires power { IsTrue (St.seen store.old).disk.counts.power }
-    requires idle { is_busy (St.seen store.old).work ≡ false }
-    requires unsettled { IsTrue (is_unsettled (St.seen store.old).work) }
-    requires unsynced { is_synced (St.seen store.old).work ≡ false }
-    ensures power { OnOk result (IsTrue (St.seen store.new).disk.counts.power) }
-    ensures idle { OnOk result ((St.seen store.new).work ≡ Idle) }
-    ensures node { (St.seen store.new).node ≡ (St.seen store.old).node }
-{
-    settle_whole(store)?;
-    Ok(())
-}
-
-#[test]
-fn answers_without_a_device_call(rt: HostRuntime) -> Result<(), Fail> {
-    let alloc = rt.alloc();
-    let Ok(mut store) = LogStore::open_disk(alloc, SimDisk::new(alloc, 4096)?, 1) else {
-        return Err(StoreRefusal::OutOfMemory)?;
-    };
-    let Ok(_) = make_changes(alloc, &mut store, 3) else {
-        return Err(StoreRefusal::OutOfMemory)?;
-    };
-    let calm = Asked {
-        unsure: None,
-        working_on: None,
-        picked: None,
-        mark: Some(35),
-        holds: true,
-        after: Some(SECOND),
-        room: Some(4011),
-        clock: 19,
-    };
-    assert_eq!(rt; ask(&store, FIRST), calm);
-    assert_eq!(rt;
-        ask(&store, EPOCH),
-        Asked {
-            mark: Some(16),
-            after: Some(FIRST),
-            ..calm
-        }
+    assert!(rt;
+        counts(&disk) == counts_behind(harm, calls),
+        "{name} {calls}"
     );
-    assert_eq!(rt;
-        ask(&store, SECOND),
-        Asked {
-            mark: Some(53),
+    assert_eq!(rt; made, acknowledged(layout, done), "{name} {calls}");
+    cut_power(&mut disk, harm, mode);
+    disk.restart();
+    let is_kept = if layout.is_log {
+        survives::<LogStore<SimDisk>>(alloc, disk, made)
+    } else {
+        survives::<BlockStore<SimDisk>>(alloc, disk, made)
+    };
+    assert!(rt; is_kept, "{name} {calls}");
+    Ok(())
+}
+
+/// A stop and a failure in each device call, and a power cut between any two of them once the disk is opened.
+fn outlives_all(rt: &impl Abort, alloc: Global, layout: Layout) -> Result<(), AllocError> {
+    for calls in 1..=layout.ends[4] {
+        for &mode in MODES {
+            outlives(rt, alloc, layout, Harm::Stop, calls, mode)?;
+            outlives(rt, alloc, layout, Harm::Fail, calls, mode)?;
+            if calls >= layout.opening {
+                outlives(rt, alloc, layout, Harm::Cut, calls, mode)?;
+            }
+        }
+    }
+    Ok(())
+}
+
+#[test]
+fn a_log_outlives_stops_failures_and_power_cuts(rt: HostRuntime) -> Result<(), Fail> {
+    outlives_all(&rt, rt.alloc(), LOG)?;
+    Ok(())
+}
+
+#[test]
+fn blocks_outlive_stops_failures_and_power_cuts(rt: HostRuntime) -> Result<(), Fail> {
+    outlives_all(&rt, rt.alloc(), BLOCKS)?;
+    Ok(())
+}
+
+/// The longest body that finds room in a log of 4,096 bytes with the epoch.
+const LONGEST: Bytes = (&[5], 4045);
+
+const ROOM: &[(Call, Answer)] = &[
+    (Call::Put(EPOCH, (&[0, 0, 0, 1], 1)), Answer::Made),
+    (Call::Room, Answer::Room(Some(4045))),
+    (
+        Call::FailToPut(FIRST, LONGEST, FIRST),
+        Answer::Asked(Asked {
+            unsure: Some(FIRST),
+            working_on: None,
+            picked: None,
+            mark: None,
+            holds: false,
             after: None,
-            ..calm
-        }
-    );
-    store.disk_mut_arm(Arm::Fail { after: 1 });
-    fail_to_put(alloc, &mut store, SECOND, &[8, 8])?;
-    let failed = Asked {
-        unsure: Some(SECOND),
-        clock: 20,
-        ..calm
-    };
-    assert_eq!(rt; ask(&store, FIRST), failed);
-    settle_by_steps(&mut store)?;
-    let settled = Asked {
-        picked: Some(Pick::Old),
-        clock: 22,
-        ..calm
-    };
-    assert_eq!(rt; ask(&store, FIRST), settled);
-    change_by_steps(alloc, &mut store, 4)?;
-    let removed = Asked {
-        after: None,
-        room: Some(3996),
-        clock: 26,
-        ..settled
-    };
-    assert_eq!(rt; ask(&store, FIRST), removed);
+            room: Some(4045),
+            clock: 12,
+        }),
+    ),
+    (
+        Call::Ask(FIRST),
+        Answer::Asked(Asked {
+            unsure: None,
+            working_on: None,
+            picked: Some(Pick::Old),
+            mark: None,
+            holds: false,
+            after: None,
+            room: Some(4045),
+            clock: 14,
+        }),
+    ),
+    (Call::Put(FIRST, LONGEST), Answer::Made),
+    (Call::Get(FIRST, Some(LONGEST)), Answer::Is(true)),
+    (Call::Room, Answer::Room(None)),
+    (Call::Delete(FIRST), Answer::Refused(StoreRefusal::Full)),
+];
+
+/// All questions, with no change made, behind a put that failed, behind its settling, and behind a removal.
+const QUESTIONS: &[(Call, Answer)] = &[
+    (Call::Put(EPOCH, (&[0, 0, 0, 1], 1)), Answer::Made),
+    (Call::Put(FIRST, (&[1, 2, 3], 1)), Answer::Made),
+    (Call::Put(SECOND, (&[7], 1)), Answer::Made),
+    (
+        Call::Ask(FIRST),
+        Answer::Asked(Asked {
+            unsure: None,
+            working_on: None,
+            picked: None,
+            mark: Some(35),
+            holds: true,
+            after: Some(SECOND),
+            room: Some(4011),
+            clock: 19,
+        }),
+    ),
+    (
+        Call::Ask(EPOCH),
+        Answer::Asked(Asked {
+            unsure: None,
+            working_on: None,
+            picked: None,
+            mark: Some(16),
+            holds: true,
+            after: Some(FIRST),
+            room: Some(4011),
+            clock: 19,
+        }),
+    ),
+    (
+        Call::Ask(SECOND),
+        Answer::Asked(Asked {
+            unsure: None,
+            working_on: None,
+            picked: None,
+            mark: Some(53),
+            holds: true,
+            after: None,
+            room: Some(4011),
+            clock: 19,
+        }),
+    ),
+    (
+        Call::FailAndStep(SECOND, (&[8, 8], 1), FIRST),
+        Answer::Asked(Asked {
+            unsure: Some(SECOND),
+            working_on: None,
+            picked: None,
+            mark: Some(35),
+            holds: true,
+            after: Some(SECOND),
+            room: Some(4011),
+            clock: 20,
+        }),
+    ),
+    (
+        Call::Ask(FIRST),
+        Answer::Asked(Asked {
+            unsure: None,
+            working_on: None,
+            picked: Some(Pick::Old),
+            mark: Some(35),
+            holds: true,
+            after: Some(SECOND),
+            room: Some(4011),
+            clock: 22,
+        }),
+    ),
+    (Call::ChangeBySteps(4), Answer::Made),
+    (
+        Call::Ask(FIRST),
+        Answer::Asked(Asked {
+            unsure: None,
+            working_on: None,
+            picked: Some(Pick::Old),
+            mark: Some(35),
+            holds: true,
+            after: None,
+            room: Some(3996),
+            clock: 26,
+        }),
+    ),
+];
+
+#[test]
+fn what_a_log_answers(rt: HostRuntime) -> Result<(), Fail> {
+    let alloc = rt.alloc();
+    for &calls in &[ROOM, QUESTIONS] {
+        let answered = play_over::<LogStore<SimDisk>>(alloc, SimDisk::new(alloc, LOG.size)?, calls);
+        assert_eq!(rt; answered, Ok(calls.len()));
+    }
     Ok(())
 }
 

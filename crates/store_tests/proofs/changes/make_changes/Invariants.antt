@@ -1,6 +1,6 @@
 use Rattle.std.proofs.Common.{◌≡◌, IsTrue}
 use Rattle.passive_store.specs.Kept.{Idle}
-use Rattle.store_tests.proofs.passive_store_tests.make_changes.Given as goal
+use Rattle.store_tests.proofs.changes.make_changes.Given as goal
 
 abbrev pub invariant-loop-number : goal.invariant-loop-number
 invariant-loop-number g l =
