@@ -3,29 +3,23 @@ ghost use Rattle.eden_value.specs.Shape.{ints};
 ghost use Rattle.epl_syntax.specs.declared.types.Native.TheVariants.{Cell};
 ghost use Rattle.epl_syntax.specs.Edentype.{native};
 ghost use Rattle.epl_syntax.specs.Kinds.{have_shapes};
-ghost use Rattle.eden_disk.specs.Calls.{calls_until};
 ghost use Rattle.passive_store.specs.Kept.{Idle, is_busy, worked_on};
 ghost use Rattle.checkpoint.specs.Asked.{AllOfNode, PowerBehind};
 
+use crate::common::{Amiss, FIRST, Log, SIZE, arm_of, uid_of};
 use capability::{Body, Seq, Uid};
 use checkpoint::{
     BootFall, BootNote, Start, Starter, StepEnd, StoreEnd, Worker, arm, boot, crash, runs_stand,
     start_from,
 };
 use eden_codec::Rep;
-use eden_disk::{Arm, Disk, ImageMode, SimDisk};
+use eden_disk::{Disk, ImageMode, SimDisk};
 use eden_value::{Items, Kind, Txt, Value, has_kind};
 use epl_syntax::same_text;
 use journal::BootEnd;
-use passive_store::{Doubt, LogStore, Pick, Store};
+use passive_store::{Doubt, Pick, Store};
 use std::alloc::{AllocError, Global};
 use std::test::Fail;
-
-const FIRST: Uid = Uid {
-    node: 1,
-    epoch: 1,
-    serial: 1,
-};
 
 const SECOND: Uid = Uid {
     node: 1,
@@ -33,32 +27,16 @@ const SECOND: Uid = Uid {
     serial: 2,
 };
 
-const MODES: [ImageMode; 2] = [ImageMode::Keep, ImageMode::Lose];
+const KEEP: ImageMode = ImageMode::Keep;
 
-/// The size of a disk.
-const SIZE: u32 = 4096;
+const LOSE: ImageMode = ImageMode::Lose;
+
+const MODES: &[ImageMode] = &[KEEP, LOSE];
 
 /// The device calls of an opening of a blank disk, and of a change.
 const OPENING: u32 = 7;
 
 const JOB: u32 = 4;
-
-type Log = LogStore<SimDisk>;
-
-/// What did not go as it was to.
-#[derive(Debug, Drop)]
-enum Amiss {
-    Memory,
-    Boot,
-    Step,
-    Start,
-}
-
-impl From<AllocError> for Amiss {
-    fn from(_: AllocError) -> Amiss {
-        Amiss::Memory
-    }
-}
 
 /// The one type Cell, whose durable value is an integer.
 struct Cells;
@@ -99,16 +77,6 @@ impl Starter for Cells {
         }
         Ok(Some(values))
     }
-}
-
-/// The bytes of a Cell that holds a number.
-fn cell(alloc: Global, number: u8) -> Result<Body, AllocError>
-    ensures { IfOk result (λ body. length body ≡ 18) }
-{
-    let bytes = vec![in alloc;
-        1, 4, b'C', b'e', b'l', b'l', 0, 1, 1, 1, 0, 0, 0, 0, 0, 0, 0, number,
-    ]?;
-    Ok(Seq { items: bytes })
 }
 
 /// How far some steps came: how many they were, what a settling found, and the end of the first request with the
@@ -173,51 +141,195 @@ fn step_on<St: Store>(
     })
 }
 
-/// Makes the steps of the first request, which is to be done.
-fn make<St: Store>(alloc: Global, worker: &mut Worker, store: &mut St) -> Result<Steps, Amiss>
-    requires power { IsTrue (St.seen store.old).disk.counts.power }
-    requires begun { worker.old.begun ≡ is_busy (St.seen store.old).work }
-    requires of_node { AllOfNode (St.seen store.old).node worker.old.requests.items }
-    ensures node { (St.seen store.new).node ≡ (St.seen store.old).node }
-    ensures begun { worker.new.begun ≡ is_busy (St.seen store.new).work }
-    ensures of_node { AllOfNode (St.seen store.new).node worker.new.requests.items }
-    ensures idle { IfOk result (λ _. worked_on (St.seen store.new).work ≡ Option.None) }
-    ensures power { IfOk result (λ _. IsTrue (St.seen store.new).disk.counts.power) }
-{
-    let made = step_on(alloc, worker, store, 100)?;
-    match made.end {
-        Some(StoreEnd::Done) => Ok(made),
-        _ => Err(Amiss::Step),
-    }
+/// What is kept of a Cell that holds 5, and of others.
+const CELL_5: &[u8] = &[
+    1, 4, b'C', b'e', b'l', b'l', 0, 1, 1, 1, 0, 0, 0, 0, 0, 0, 0, 5,
+];
+
+const CELL_6: &[u8] = &[
+    1, 4, b'C', b'e', b'l', b'l', 0, 1, 1, 1, 0, 0, 0, 0, 0, 0, 0, 6,
+];
+
+const CELL_7: &[u8] = &[
+    1, 4, b'C', b'e', b'l', b'l', 0, 1, 1, 1, 0, 0, 0, 0, 0, 0, 0, 7,
+];
+
+const CELL_8: &[u8] = &[
+    1, 4, b'C', b'e', b'l', b'l', 0, 1, 1, 1, 0, 0, 0, 0, 0, 0, 0, 8,
+];
+
+const CELL_9: &[u8] = &[
+    1, 4, b'C', b'e', b'l', b'l', 0, 1, 1, 1, 0, 0, 0, 0, 0, 0, 0, 9,
+];
+
+/// What is done to a store.
+#[derive(Clone, Copy)]
+enum Act {
+    /// A process of the Eject of this serial asks that these bytes are kept of it.
+    Put(u32, u8, &'static [u8]),
+    /// It asks that nothing is.
+    Delete(u32, u8),
+    /// The first Eject goes.
+    Drop,
+    /// The device call that comes so many calls later is to fail, or to stop in this mode.
+    Arm(Option<ImageMode>, u32),
+    /// Steps up to the end of the first request, at most so many.
+    Steps(u32),
+    /// The first process of the first Eject asks for so many zero bytes, and steps that make so many device calls.
+    Zeros(u16, u64),
 }
 
-/// Makes the steps of the first request, which is to be refused so.
-fn refuse<St: Store>(
+/// An act, and the steps that it makes.
+type Row = (Act, Option<Steps>);
+
+/// The Eject of this serial asks that these bytes are kept of it.
+fn ask_put(
+    alloc: Global,
+    worker: &mut Worker,
+    serial: u32,
+    process: u8,
+    bytes: &[u8],
+) -> Result<(), Amiss>
+    ensures begun { worker.new.begun ≡ worker.old.begun }
+    ensures of_node { (n : ℕ) → n ≡ 1 → AllOfNode n worker.old.requests.items → AllOfNode n worker.new.requests.items }
+{
+    if serial < 1 || bytes.len() > 100 {
+        return Err(Amiss::Many);
+    }
+    let items = bytes.to_vec(alloc)?;
+    let uid = Uid {
+        node: 1,
+        epoch: 1,
+        serial,
+    };
+    worker.ask_put(uid, process, Seq { items })?;
+    Ok(())
+}
+
+/// The Eject of this serial asks that nothing is kept of it.
+fn ask_delete(worker: &mut Worker, serial: u32, process: u8) -> Result<(), Amiss>
+    ensures begun { worker.new.begun ≡ worker.old.begun }
+    ensures of_node { (n : ℕ) → n ≡ 1 → AllOfNode n worker.old.requests.items → AllOfNode n worker.new.requests.items }
+{
+    if serial < 1 {
+        return Err(Amiss::Many);
+    }
+    let uid = Uid {
+        node: 1,
+        epoch: 1,
+        serial,
+    };
+    worker.ask_delete(uid, process)?;
+    Ok(())
+}
+
+/// The first Eject goes.
+fn drop_first(worker: &mut Worker)
+    ensures begun { worker.new.begun ≡ worker.old.begun }
+    ensures of_node { (n : ℕ) → n ≡ 1 → AllOfNode n worker.old.requests.items → AllOfNode n worker.new.requests.items }
+{
+    worker.drop_requests(FIRST);
+}
+
+/// Asks for so many zero bytes, and makes the steps, which make so many device calls.
+fn put_zeros<St: Store>(
     alloc: Global,
     worker: &mut Worker,
     store: &mut St,
-    how: StoreEnd,
+    length: u16,
+    calls: u64,
 ) -> Result<Steps, Amiss>
+    requires node { (St.seen store.old).node ≡ 1 }
     requires power { IsTrue (St.seen store.old).disk.counts.power }
     requires begun { worker.old.begun ≡ is_busy (St.seen store.old).work }
     requires of_node { AllOfNode (St.seen store.old).node worker.old.requests.items }
-    ensures node { (St.seen store.new).node ≡ (St.seen store.old).node }
+    ensures node { (St.seen store.new).node ≡ 1 }
     ensures begun { worker.new.begun ≡ is_busy (St.seen store.new).work }
     ensures of_node { AllOfNode (St.seen store.new).node worker.new.requests.items }
-    ensures idle { IfOk result (λ _. worked_on (St.seen store.new).work ≡ Option.None) }
-    ensures power { IfOk result (λ _. PowerBehind how (St.seen store.new).disk.counts) }
+    ensures power { IfOk result (λ r. MatchOption r.end (IsTrue (St.seen store.new).disk.counts.power)
+        (λ e. PowerBehind e (St.seen store.new).disk.counts)) }
 {
-    let made = step_on(alloc, worker, store, 100)?;
-    match made.end {
-        Some(end) => {
-            if end == how {
-                Ok(made)
-            } else {
-                Err(Amiss::Step)
-            }
-        }
-        None => Err(Amiss::Step),
+    let items = vec![in alloc; 0u8; length as usize]?;
+    worker.ask_put(FIRST, 1, Seq { items })?;
+    let clock = store.disk().clock();
+    let steps = step_on(alloc, worker, store, 100)?;
+    if store.disk().clock().saturating_sub(clock) != calls {
+        return Err(Amiss::Put);
     }
+    Ok(steps)
+}
+
+/// Makes an act: the steps that it makes, and whether the disk has power.
+fn take<St: Store>(
+    alloc: Global,
+    worker: &mut Worker,
+    store: &mut St,
+    act: Act,
+) -> Result<(Option<Steps>, bool), Amiss>
+    requires node { (St.seen store.old).node ≡ 1 }
+    requires power { IsTrue (St.seen store.old).disk.counts.power }
+    requires begun { worker.old.begun ≡ is_busy (St.seen store.old).work }
+    requires of_node { AllOfNode (St.seen store.old).node worker.old.requests.items }
+    ensures node { (St.seen store.new).node ≡ 1 }
+    ensures begun { worker.new.begun ≡ is_busy (St.seen store.new).work }
+    ensures of_node { AllOfNode (St.seen store.new).node worker.new.requests.items }
+    ensures power { IfOk result (λ r. IsTrue r.1 → IsTrue (St.seen store.new).disk.counts.power) }
+{
+    let steps = match act {
+        Act::Put(serial, process, bytes) => {
+            ask_put(alloc, worker, serial, process, bytes)?;
+            return Ok((None, true));
+        }
+        Act::Delete(serial, process) => {
+            ask_delete(worker, serial, process)?;
+            return Ok((None, true));
+        }
+        Act::Drop => {
+            drop_first(worker);
+            return Ok((None, true));
+        }
+        Act::Arm(stop, after) => {
+            arm(store, arm_of(stop, after.max(1)));
+            return Ok((None, true));
+        }
+        Act::Steps(most) => step_on(alloc, worker, store, most)?,
+        Act::Zeros(length, calls) => put_zeros(alloc, worker, store, length, calls)?,
+    };
+    match steps.end {
+        None => Ok((Some(steps), true)),
+        Some(StoreEnd::Done) => Ok((Some(steps), true)),
+        Some(StoreEnd::Full) => Ok((Some(steps), true)),
+        Some(StoreEnd::Fault) => Ok((Some(steps), true)),
+        Some(StoreEnd::Stopped) => Ok((Some(steps), false)),
+    }
+}
+
+/// Makes the acts, up to the first behind which the disk has no power. Whether it has.
+fn run<St: Store>(
+    alloc: Global,
+    worker: &mut Worker,
+    store: &mut St,
+    rows: &[Row],
+) -> Result<bool, Amiss>
+    requires node { (St.seen store.old).node ≡ 1 }
+    requires power { IsTrue (St.seen store.old).disk.counts.power }
+    requires begun { worker.old.begun ≡ is_busy (St.seen store.old).work }
+    requires of_node { AllOfNode (St.seen store.old).node worker.old.requests.items }
+    ensures node { (St.seen store.new).node ≡ 1 }
+    ensures begun { worker.new.begun ≡ is_busy (St.seen store.new).work }
+    ensures of_node { AllOfNode (St.seen store.new).node worker.new.requests.items }
+    ensures power { IfOk result (λ up. IsTrue up → IsTrue (St.seen store.new).disk.counts.power) }
+{
+    for (place, &(act, wanted)) in rows.iter().enumerate() {
+        let (steps, up) = take(alloc, worker, store, act)?;
+        if steps != wanted {
+            return Err(Amiss::Row { place });
+        }
+        if !up {
+            return Ok(false);
+        }
+    }
+    Ok(true)
 }
 
 /// Boots a disk, which is to succeed.
@@ -238,8 +350,12 @@ where
     }
 }
 
-/// Boots a blank disk, and keeps 5 of the first Cell and 7 of the second.
-fn two_cells<St: Store + Drop>(alloc: Global, disk: St::Device) -> Result<(St, Worker), Amiss>
+/// Boots a disk, and makes these acts.
+fn begin<St: Store + Drop>(
+    alloc: Global,
+    disk: St::Device,
+    rows: &[Row],
+) -> Result<(St, Worker), Amiss>
 where
     St::Device: Drop,
     ensures node { IfOk result (λ r. (St.seen r.0).node ≡ 1) }
@@ -249,10 +365,9 @@ where
 {
     let (mut store, _) = boot_up::<St>(alloc, disk, None)?;
     let mut worker = Worker::new(alloc);
-    worker.ask_put(FIRST, 1, cell(alloc, 5)?)?;
-    worker.ask_put(SECOND, 2, cell(alloc, 7)?)?;
-    make(alloc, &mut worker, &mut store)?;
-    make(alloc, &mut worker, &mut store)?;
+    if !run(alloc, &mut worker, &mut store, rows)? {
+        return Err(Amiss::Down);
+    }
     Ok((store, worker))
 }
 
@@ -307,36 +422,64 @@ where
     })
 }
 
-/// A first Cell of 5 is to hold 9, or to be removed.
-fn change(alloc: Global, worker: &mut Worker, removal: bool) -> Result<(), AllocError>
-    ensures begun { worker.new.begun ≡ worker.old.begun }
-    ensures of_node { (n : ℕ) → n ≡ 1 → AllOfNode n worker.old.requests.items → AllOfNode n worker.new.requests.items }
-{
-    if removal {
-        worker.ask_delete(FIRST, 3)
-    } else {
-        worker.ask_put(FIRST, 3, cell(alloc, 9)?)
-    }
+/// Steps that settle nothing, how the first request ended, if it did, and the process that it answers.
+fn steps_of(made: u32, end: Option<StoreEnd>, process: Option<u8>) -> Option<Steps> {
+    Some(Steps {
+        made,
+        pick: None,
+        end,
+        process,
+    })
 }
 
-/// A first Cell of 5 is to hold 9, the second 8, and last the first is to be removed, or the second to hold 6.
-fn change_thrice(alloc: Global, worker: &mut Worker, removal: bool) -> Result<(), AllocError>
-    ensures begun { worker.new.begun ≡ worker.old.begun }
-    ensures of_node { (n : ℕ) → n ≡ 1 → AllOfNode n worker.old.requests.items → AllOfNode n worker.new.requests.items }
-{
-    change(alloc, worker, false)?;
-    worker.ask_put(SECOND, 4, cell(alloc, 8)?)?;
+/// The first Cell holds 5 and the second 7.
+const TWO_CELLS: &[Row] = &[
+    (Act::Put(1, 1, CELL_5), None),
+    (Act::Put(2, 2, CELL_7), None),
+    (
+        Act::Steps(100),
+        Some(Steps {
+            made: JOB,
+            pick: None,
+            end: Some(StoreEnd::Done),
+            process: Some(1),
+        }),
+    ),
+    (
+        Act::Steps(100),
+        Some(Steps {
+            made: JOB,
+            pick: None,
+            end: Some(StoreEnd::Done),
+            process: Some(2),
+        }),
+    ),
+];
+
+/// Two Cells are kept, these acts made, and the power cut: how often the disk stopped and failed, and what a boot finds.
+fn cut(alloc: Global, rows: &[Row], mode: ImageMode) -> Result<(u64, u64, Found), Amiss> {
+    let disk = SimDisk::new(alloc, SIZE)?;
+    let (mut store, mut worker) = begin::<Log>(alloc, disk, TWO_CELLS)?;
+    run(alloc, &mut worker, &mut store, rows)?;
+    let (disk, noted) = crash(store, mode);
+    let stops = disk.stops();
+    let faults = disk.faults();
+    Ok((stops, faults, reboot::<Log>(alloc, disk, noted)?))
+}
+
+/// The first Cell is to hold 9, or to be removed.
+fn change(removal: bool) -> Row {
     if removal {
-        change(alloc, worker, true)
+        (Act::Delete(1, 3), None)
     } else {
-        worker.ask_put(SECOND, 5, cell(alloc, 6)?)
+        (Act::Put(1, 3, CELL_9), None)
     }
 }
 
 /// Whether a change is found after so many of its device calls and a power cut: behind the write of its gate, where the
 /// cut keeps what was not synced, and behind the last sync.
 fn is_found(calls: u32, mode: ImageMode) -> bool {
-    calls == JOB || calls == 3 && mode == ImageMode::Keep
+    calls == JOB || calls == 3 && mode == KEEP
 }
 
 /// What is found of a change, in doubt or not.
@@ -353,19 +496,20 @@ fn found_of(removal: bool, made: bool, doubtful: bool) -> Found {
 
 #[test]
 fn a_change_that_a_crash_cuts(rt: HostRuntime) -> Result<(), Fail> {
-    let alloc = rt.alloc();
-    for mode in MODES {
+    for &mode in MODES {
         for calls in 0..=JOB {
-            for removal in [false, true] {
-                let (mut store, mut worker) = two_cells::<Log>(alloc, SimDisk::new(alloc, SIZE)?)?;
-                change(alloc, &mut worker, removal)?;
-                let made = step_on(alloc, &mut worker, &mut store, calls)?;
-                assert_eq!(rt; made.made, calls);
-                let (disk, noted) = crash(store, mode);
+            for &removal in &[false, true] {
+                let made = if calls == JOB {
+                    steps_of(calls, Some(StoreEnd::Done), Some(3))
+                } else {
+                    steps_of(calls, None, None)
+                };
+                let rows = [change(removal), (Act::Steps(calls), made)];
                 let doubtful = 0 < calls && calls < JOB;
+                let found = found_of(removal, is_found(calls, mode), doubtful);
                 assert_eq!(rt;
-                    reboot::<Log>(alloc, disk, noted)?,
-                    found_of(removal, is_found(calls, mode), doubtful),
+                    cut(rt.alloc(), &rows, mode)?,
+                    (0, 0, found),
                     "after {calls}"
                 );
             }
@@ -376,159 +520,220 @@ fn a_change_that_a_crash_cuts(rt: HostRuntime) -> Result<(), Fail> {
 
 #[test]
 fn a_stop_in_each_device_call(rt: HostRuntime) -> Result<(), Fail> {
-    let alloc = rt.alloc();
-    for mode in MODES {
+    for &mode in MODES {
         for after in 1..=JOB {
-            for removal in [false, true] {
-                let (mut store, mut worker) = two_cells::<Log>(alloc, SimDisk::new(alloc, SIZE)?)?;
-                change(alloc, &mut worker, removal)?;
-                arm(&mut store, Arm::Stop { after, mode });
-                let made = step_on(alloc, &mut worker, &mut store, 100)?;
-                assert_eq!(rt; made.made, after);
-                assert_eq!(rt; made.end, Some(StoreEnd::Stopped));
-                let (disk, noted) = crash(store, mode);
-                assert_eq!(rt; (disk.stops(), disk.faults()), (1, 0));
-                assert_eq!(rt;
-                    reboot::<Log>(alloc, disk, noted)?,
-                    found_of(removal, 3 <= after && mode == ImageMode::Keep, true),
-                    "in {after}"
-                );
+            for &removal in &[false, true] {
+                let made = steps_of(after, Some(StoreEnd::Stopped), Some(3));
+                let rows = [
+                    change(removal),
+                    (Act::Arm(Some(mode), after), None),
+                    (Act::Steps(100), made),
+                ];
+                let found = found_of(removal, 3 <= after && mode == KEEP, true);
+                assert_eq!(rt; cut(rt.alloc(), &rows, mode)?, (1, 0, found), "in {after}");
             }
         }
     }
     Ok(())
 }
 
+// The settling of the next request fails too, but for the third time.
 #[test]
 fn a_fault_in_each_device_call(rt: HostRuntime) -> Result<(), Fail> {
-    let alloc = rt.alloc();
     for after in 1..=JOB {
         for settling in 1..=3 {
-            let (mut store, mut worker) = two_cells::<Log>(alloc, SimDisk::new(alloc, SIZE)?)?;
-            change_thrice(alloc, &mut worker, false)?;
-            arm(&mut store, Arm::Fail { after });
-            let made = refuse(alloc, &mut worker, &mut store, StoreEnd::Fault)?;
-            assert_eq!(rt;
-                (made.made, made.pick, made.process),
-                (after, None, Some(3))
-            );
-
-            // The settling of the next request fails too, but for the third time.
+            let fails = settling < 3;
             let pick = if after == JOB { Pick::New } else { Pick::Old };
-            if settling < 3 {
-                arm(&mut store, Arm::Fail { after: settling });
-                let made = refuse(alloc, &mut worker, &mut store, StoreEnd::Fault)?;
-                assert_eq!(rt;
-                    (made.made, made.pick, made.process),
-                    (settling, None, Some(4))
-                );
-            }
-            let made = make(alloc, &mut worker, &mut store)?;
-            assert_eq!(rt; (made.made, made.pick), (2 + JOB, Some(pick)));
-            let (disk, noted) = crash(store, ImageMode::Lose);
-            let found = reboot::<Log>(alloc, disk, noted)?;
+            let (again, refused): (Row, Row) = if fails {
+                let end = Some(StoreEnd::Fault);
+                (
+                    (Act::Arm(None, settling), None),
+                    (Act::Steps(100), steps_of(settling, end, Some(4))),
+                )
+            } else {
+                let none = steps_of(0, None, None);
+                ((Act::Steps(0), none), (Act::Steps(0), none))
+            };
+            let settled = Steps {
+                made: 2 + JOB,
+                pick: Some(pick),
+                end: Some(StoreEnd::Done),
+                process: Some(if fails { 5 } else { 4 }),
+            };
+            let rows = [
+                (Act::Put(1, 3, CELL_9), None),
+                (Act::Put(2, 4, CELL_8), None),
+                (Act::Put(2, 5, CELL_6), None),
+                (Act::Arm(None, after), None),
+                (
+                    Act::Steps(100),
+                    steps_of(after, Some(StoreEnd::Fault), Some(3)),
+                ),
+                again,
+                refused,
+                (Act::Steps(100), Some(settled)),
+            ];
+            let found = Found {
+                epoch: 2,
+                pick: None,
+                first: Some(if after == JOB { 9 } else { 5 }),
+                second: Some(if fails { 6 } else { 8 }),
+            };
+            let faults = if fails { 2 } else { 1 };
             assert_eq!(rt;
-                found.first,
-                Some(if after == JOB { 9 } else { 5 }),
+                cut(rt.alloc(), &rows, LOSE)?,
+                (0, faults, found),
                 "in {after}"
             );
-            assert_eq!(rt; found.second, Some(if settling < 3 { 6 } else { 8 }));
         }
     }
     Ok(())
 }
 
-/// Makes so many steps, in which no request is to end, and then the first Eject goes.
-fn step_and_drop<St: Store>(
-    alloc: Global,
-    worker: &mut Worker,
-    store: &mut St,
-    steps: u32,
-) -> Result<(), Amiss>
-    requires power { IsTrue (St.seen store.old).disk.counts.power }
-    requires begun { worker.old.begun ≡ is_busy (St.seen store.old).work }
-    requires of_node { AllOfNode (St.seen store.old).node worker.old.requests.items }
-    ensures begun { worker.new.begun ≡ is_busy (St.seen store.new).work }
-    ensures of_node { AllOfNode (St.seen store.new).node worker.new.requests.items }
-    ensures power { IfOk result (λ _. IsTrue (St.seen store.new).disk.counts.power) }
-{
-    let made = step_on(alloc, worker, store, steps)?;
-    match made.end {
-        Some(_) => Err(Amiss::Step),
-        None => {
-            worker.drop_requests(FIRST);
-            Ok(())
-        }
-    }
-}
+/// The first Cell is to hold 9, the second 8, and last the first is to be removed; but it goes at once, or in the first request.
+const GOES: &[(&[Row], i64)] = &[
+    (
+        &[
+            (Act::Put(1, 3, CELL_9), None),
+            (Act::Put(2, 4, CELL_8), None),
+            (Act::Delete(1, 3), None),
+            (
+                Act::Steps(0),
+                Some(Steps {
+                    made: 0,
+                    pick: None,
+                    end: None,
+                    process: None,
+                }),
+            ),
+            (Act::Drop, None),
+            (
+                Act::Steps(100),
+                Some(Steps {
+                    made: 4,
+                    pick: None,
+                    end: Some(StoreEnd::Done),
+                    process: Some(4),
+                }),
+            ),
+            (
+                Act::Steps(100),
+                Some(Steps {
+                    made: 0,
+                    pick: None,
+                    end: None,
+                    process: None,
+                }),
+            ),
+        ],
+        5,
+    ),
+    (
+        &[
+            (Act::Put(1, 3, CELL_9), None),
+            (Act::Put(2, 4, CELL_8), None),
+            (Act::Delete(1, 3), None),
+            (
+                Act::Steps(1),
+                Some(Steps {
+                    made: 1,
+                    pick: None,
+                    end: None,
+                    process: None,
+                }),
+            ),
+            (Act::Drop, None),
+            (
+                Act::Steps(100),
+                Some(Steps {
+                    made: 3,
+                    pick: None,
+                    end: Some(StoreEnd::Done),
+                    process: None,
+                }),
+            ),
+            (
+                Act::Steps(100),
+                Some(Steps {
+                    made: 4,
+                    pick: None,
+                    end: Some(StoreEnd::Done),
+                    process: Some(4),
+                }),
+            ),
+            (
+                Act::Steps(100),
+                Some(Steps {
+                    made: 0,
+                    pick: None,
+                    end: None,
+                    process: None,
+                }),
+            ),
+        ],
+        9,
+    ),
+];
 
 #[test]
 fn requests_of_an_eject_that_goes(rt: HostRuntime) -> Result<(), Fail> {
-    let alloc = rt.alloc();
-    for calls in 0..=1 {
-        let (mut store, mut worker) = two_cells::<Log>(alloc, SimDisk::new(alloc, SIZE)?)?;
-        change_thrice(alloc, &mut worker, true)?;
-        step_and_drop(alloc, &mut worker, &mut store, calls)?;
-        if calls == 1 {
-            let made = make(alloc, &mut worker, &mut store)?;
-            assert_eq!(rt; (made.made, made.process), (3, None));
-        }
-        let made = make(alloc, &mut worker, &mut store)?;
-        assert_eq!(rt; (made.made, made.process), (4, Some(4)));
-        assert!(rt; !worker.pending());
-        let (disk, noted) = crash(store, ImageMode::Lose);
-        assert_eq!(rt;
-            reboot::<Log>(alloc, disk, noted)?,
-            Found {
-                epoch: 2,
-                pick: None,
-                first: Some(if calls == 1 { 9 } else { 5 }),
-                second: Some(8),
-            }
-        );
+    for &(rows, first) in GOES {
+        let found = Found {
+            epoch: 2,
+            pick: None,
+            first: Some(first),
+            second: Some(8),
+        };
+        assert_eq!(rt; cut(rt.alloc(), rows, LOSE)?, (0, 0, found));
     }
     Ok(())
 }
 
-/// Puts so many zero bytes under the first uid, and says how many steps and device calls that took.
-fn put_zeros<St: Store>(
-    alloc: Global,
-    worker: &mut Worker,
-    store: &mut St,
-    length: u16,
-    end: StoreEnd,
-) -> Result<(u32, u64), Amiss>
-    requires node { (St.seen store.old).node ≡ 1 }
-    requires power { IsTrue (St.seen store.old).disk.counts.power }
-    requires begun { worker.old.begun ≡ is_busy (St.seen store.old).work }
-    requires of_node { AllOfNode (St.seen store.old).node worker.old.requests.items }
-    ensures node { (St.seen store.new).node ≡ 1 }
-    ensures begun { worker.new.begun ≡ is_busy (St.seen store.new).work }
-    ensures of_node { AllOfNode (St.seen store.new).node worker.new.requests.items }
-    ensures power { IfOk result (λ _. PowerBehind end (St.seen store.new).disk.counts) }
-{
-    let bytes = vec![in alloc; 0u8; length as usize]?;
-    worker.ask_put(FIRST, 1, Seq { items: bytes })?;
-    let clock = store.disk().clock();
-    let made = refuse(alloc, worker, store, end)?;
-    Ok((made.made, store.disk().clock().saturating_sub(clock)))
-}
+// A removal of what is not kept makes no device call, and needs no room.
+const ROOM: &[Row] = &[
+    (
+        Act::Zeros(4046, 0),
+        Some(Steps {
+            made: 1,
+            pick: None,
+            end: Some(StoreEnd::Full),
+            process: Some(1),
+        }),
+    ),
+    (
+        Act::Zeros(4045, JOB as u64),
+        Some(Steps {
+            made: JOB,
+            pick: None,
+            end: Some(StoreEnd::Done),
+            process: Some(1),
+        }),
+    ),
+    (
+        Act::Zeros(0, 0),
+        Some(Steps {
+            made: 1,
+            pick: None,
+            end: Some(StoreEnd::Full),
+            process: Some(1),
+        }),
+    ),
+    (Act::Delete(2, 2), None),
+    (
+        Act::Steps(100),
+        Some(Steps {
+            made: 1,
+            pick: None,
+            end: Some(StoreEnd::Done),
+            process: Some(2),
+        }),
+    ),
+];
 
 #[test]
 fn a_request_without_room(rt: HostRuntime) -> Result<(), Fail> {
     let alloc = rt.alloc();
-    let (mut store, _) = boot_up::<Log>(alloc, SimDisk::new(alloc, SIZE)?, None)?;
-    let mut worker = Worker::new(alloc);
-    let past = put_zeros(alloc, &mut worker, &mut store, 4046, StoreEnd::Full)?;
-    assert_eq!(rt; past, (1, 0));
-    let whole = put_zeros(alloc, &mut worker, &mut store, 4045, StoreEnd::Done)?;
-    assert_eq!(rt; whole, (JOB, JOB as u64));
-    let none = put_zeros(alloc, &mut worker, &mut store, 0, StoreEnd::Full)?;
-    assert_eq!(rt; none, (1, 0));
-
-    // A removal of what is not kept makes no device call, and needs no room.
-    worker.ask_delete(SECOND, 2)?;
-    assert_eq!(rt; make(alloc, &mut worker, &mut store)?.made, 1);
+    begin::<Log>(alloc, SimDisk::new(alloc, SIZE)?, ROOM)?;
     Ok(())
 }
 
@@ -565,153 +770,188 @@ fn activate<St: Store>(
     Ok((came, pick))
 }
 
-/// Boots a blank disk, puts these bytes, and activates what is kept.
-fn kept_came(alloc: Global, bytes: &[u8]) -> Result<(Came, Option<Pick>), Amiss>
-    requires { length bytes.now ≤ 100 }
-{
-    let (mut store, _) = boot_up::<Log>(alloc, SimDisk::new(alloc, SIZE)?, None)?;
-    let mut worker = Worker::new(alloc);
-    worker.ask_put(
-        FIRST,
-        1,
-        Seq {
-            items: bytes.to_vec(alloc)?,
-        },
-    )?;
-    make(alloc, &mut worker, &mut store)?;
-    activate(alloc, &mut store, FIRST)
-}
-
-#[test]
-fn a_start_by_what_is_kept(rt: HostRuntime) -> Result<(), Fail> {
-    let alloc = rt.alloc();
-    let cell = [
-        1, 4, b'C', b'e', b'l', b'l', 0, 1, 1, 1, 0, 0, 0, 0, 0, 0, 1, 2,
-    ];
-    assert_eq!(rt; kept_came(alloc, &cell)?, (Came::Number { n: 258 }, None));
-
-    // Bytes that spell nothing, a type that is not there, another version, and no value.
-    assert_eq!(rt; kept_came(alloc, &cell[..17])?, (Came::Damaged, None));
-    for (place, byte) in [(0, 2), (5, b'k'), (7, 2), (8, 0)] {
-        let mut other = cell;
-        if let Some(found) = other.get_mut(place) {
-            *found = byte;
-        }
-        assert_eq!(rt; kept_came(alloc, &other)?, (Came::Damaged, None), "{place}");
-    }
-    Ok(())
-}
-
-/// Keeps two Cells, fails a device call of a put of 9 for the first, and activates it while a device call is armed.
-fn doubtful_came(
+/// Makes acts on a blank disk, of which none is to stop it, and activates an Eject.
+fn activated(
     alloc: Global,
-    failed: u32,
-    what: Option<Arm>,
+    first: &[Row],
+    second: &[Row],
+    third: &[Row],
     uid: Uid,
-) -> Result<(Came, Option<Pick>), Amiss>
-    requires failed { 1 ≤ failed }
-    requires what { IfSome what (λ a. 1 ≤ calls_until a) }
-{
-    let (mut store, mut worker) = two_cells::<Log>(alloc, SimDisk::new(alloc, SIZE)?)?;
-    change(alloc, &mut worker, false)?;
-    arm(&mut store, Arm::Fail { after: failed });
-    refuse(alloc, &mut worker, &mut store, StoreEnd::Fault)?;
-    if let Some(what) = what {
-        arm(&mut store, what);
+) -> Result<(Came, Option<Pick>), Amiss> {
+    let disk = SimDisk::new(alloc, SIZE)?;
+    let (mut store, mut worker) = begin::<Log>(alloc, disk, first)?;
+    let is_up = run(alloc, &mut worker, &mut store, second)?;
+    if !is_up || !run(alloc, &mut worker, &mut store, third)? {
+        return Err(Amiss::Down);
+    }
+    if store.working_on().is_some() {
+        return Err(Amiss::Put);
     }
     activate(alloc, &mut store, uid)
 }
 
+// Bytes that spell nothing, a type that is not there, another version, and no value.
+const KEPT: &[(&[u8], Came)] = &[
+    (
+        &[
+            1, 4, b'C', b'e', b'l', b'l', 0, 1, 1, 1, 0, 0, 0, 0, 0, 0, 1, 2,
+        ],
+        Came::Number { n: 258 },
+    ),
+    (
+        &[
+            1, 4, b'C', b'e', b'l', b'l', 0, 1, 1, 1, 0, 0, 0, 0, 0, 0, 1,
+        ],
+        Came::Damaged,
+    ),
+    (
+        &[
+            2, 4, b'C', b'e', b'l', b'l', 0, 1, 1, 1, 0, 0, 0, 0, 0, 0, 1, 2,
+        ],
+        Came::Damaged,
+    ),
+    (
+        &[
+            1, 4, b'C', b'e', b'l', b'k', 0, 1, 1, 1, 0, 0, 0, 0, 0, 0, 1, 2,
+        ],
+        Came::Damaged,
+    ),
+    (
+        &[
+            1, 4, b'C', b'e', b'l', b'l', 0, 2, 1, 1, 0, 0, 0, 0, 0, 0, 1, 2,
+        ],
+        Came::Damaged,
+    ),
+    (
+        &[
+            1, 4, b'C', b'e', b'l', b'l', 0, 1, 0, 1, 0, 0, 0, 0, 0, 0, 1, 2,
+        ],
+        Came::Damaged,
+    ),
+];
+
+#[test]
+fn a_start_by_what_is_kept(rt: HostRuntime) -> Result<(), Fail> {
+    for &(bytes, wanted) in KEPT {
+        let rows = [
+            (Act::Put(1, 1, bytes), None),
+            (
+                Act::Steps(100),
+                steps_of(JOB, Some(StoreEnd::Done), Some(1)),
+            ),
+        ];
+        let found = activated(rt.alloc(), &rows, &[], &[], FIRST)?;
+        assert_eq!(rt; found, (wanted, None), "{bytes:?}");
+    }
+    Ok(())
+}
+
+// Of the sync and the read of the settling, and the read of what is kept. Of an Eject of which nothing is kept nothing is read.
+const WAKES: &[(&[Row], u32, Option<Came>, bool)] = &[
+    (&[], 1, None, true),
+    (&[], 2, Some(Came::Number { n: 7 }), true),
+    (&[(Act::Arm(None, 1), None)], 1, Some(Came::Fault), false),
+    (
+        &[(Act::Arm(Some(KEEP), 1), None)],
+        1,
+        Some(Came::Stopped),
+        false,
+    ),
+    (&[(Act::Arm(None, 2), None)], 1, Some(Came::Fault), false),
+    (
+        &[(Act::Arm(Some(KEEP), 2), None)],
+        1,
+        Some(Came::Stopped),
+        false,
+    ),
+    (&[(Act::Arm(None, 3), None)], 1, Some(Came::Fault), true),
+    (
+        &[(Act::Arm(Some(KEEP), 3), None)],
+        1,
+        Some(Came::Stopped),
+        true,
+    ),
+    (&[(Act::Arm(None, 3), None)], 3, Some(Came::Gone), true),
+];
+
 #[test]
 fn a_start_behind_a_settling(rt: HostRuntime) -> Result<(), Fail> {
-    let alloc = rt.alloc();
-    let third = Uid {
-        serial: 3,
-        ..SECOND
-    };
     for failed in 1..=JOB {
         let (pick, n) = if failed == JOB {
             (Some(Pick::New), 9)
         } else {
             (Some(Pick::Old), 5)
         };
-        let first = doubtful_came(alloc, failed, None, FIRST)?;
-        assert_eq!(rt; first, (Came::Number { n }, pick), "{failed}");
-        let second = doubtful_came(alloc, failed, None, SECOND)?;
-        assert_eq!(rt; second, (Came::Number { n: 7 }, pick), "{failed}");
-
-        // Of the sync and the read of the settling, and the read of what is kept.
-        for after in 1..=3 {
-            let found = if after == 3 { pick } else { None };
-            let fault = doubtful_came(alloc, failed, Some(Arm::Fail { after }), FIRST)?;
-            assert_eq!(rt; fault, (Came::Fault, found), "{after}");
-            let mode = ImageMode::Keep;
-            let stop = doubtful_came(alloc, failed, Some(Arm::Stop { after, mode }), FIRST)?;
-            assert_eq!(rt; stop, (Came::Stopped, found), "{after}");
+        let rows = [
+            (Act::Put(1, 3, CELL_9), None),
+            (Act::Arm(None, failed), None),
+            (
+                Act::Steps(100),
+                steps_of(failed, Some(StoreEnd::Fault), Some(3)),
+            ),
+        ];
+        for &(trouble, serial, end, settled) in WAKES {
+            let found = activated(rt.alloc(), TWO_CELLS, &rows, trouble, uid_of(serial))?;
+            let wanted = match end {
+                Some(end) => end,
+                None => Came::Number { n },
+            };
+            let settling = if settled { pick } else { None };
+            assert_eq!(rt; found, (wanted, settling), "{failed}");
         }
-
-        // Of an Eject of which nothing is kept nothing is read.
-        let gone = doubtful_came(alloc, failed, Some(Arm::Fail { after: 3 }), third)?;
-        assert_eq!(rt; gone, (Came::Gone, pick), "{failed}");
     }
     Ok(())
 }
 
-/// A failure, or a stop in this mode, of the device call that comes so many calls later.
-fn arm_of(stop: Option<ImageMode>, after: u32) -> Arm
-    ensures { calls_until result ≡ after }
-{
-    match stop {
-        Some(mode) => Arm::Stop { after, mode },
-        None => Arm::Fail { after },
-    }
-}
-
 /// How a boot of a blank disk goes while a device call is armed, and a boot behind it.
-fn two_boots(alloc: Global, what: Arm) -> Result<(BootFall, u32, Option<Pick>), Amiss>
-    requires { 1 ≤ calls_until what }
+fn two_boots(
+    alloc: Global,
+    stop: Option<ImageMode>,
+    after: u32,
+) -> Result<(BootFall, BootNote), Amiss>
+    requires { 1 ≤ after }
 {
     let mut disk = SimDisk::new(alloc, SIZE)?;
-    disk.arm(what);
+    disk.arm(arm_of(stop, after));
     match boot::<Log>(alloc, disk, 1, None) {
         Ok((_, _)) => Err(Amiss::Boot),
         Err((disk, fall)) => {
             let (_, note) = boot_up::<Log>(alloc, disk, fall.doubt)?;
-            Ok((fall, note.epoch, note.pick))
+            Ok((fall, note))
         }
     }
 }
 
+/// In which mode a disk stops, if it does not fail; how a boot ends in which it does; and from which device call on the next boot
+/// finds what it began.
+const FALLS: &[(Option<ImageMode>, BootEnd, u32)] = &[
+    (None, BootEnd::DiskFault, 11),
+    (Some(KEEP), BootEnd::Stop, 10),
+    (Some(LOSE), BootEnd::Stop, 12),
+];
+
 #[test]
 fn a_boot_that_is_refused_a_device_call(rt: HostRuntime) -> Result<(), Fail> {
-    let alloc = rt.alloc();
     for after in 1..=OPENING + JOB {
-        for (stop, kept) in [
-            (None, after == 11),
-            (Some(ImageMode::Keep), 10 <= after),
-            (Some(ImageMode::Lose), false),
-        ] {
-            let (fall, epoch, pick) = two_boots(alloc, arm_of(stop, after))?;
-            let end = if stop.is_some() {
-                BootEnd::Stop
-            } else {
-                BootEnd::DiskFault
-            };
+        for &(stop, end, kept) in FALLS {
+            let (fall, note) = two_boots(rt.alloc(), stop, after)?;
             let began = OPENING < after;
-            let found = if kept { Pick::New } else { Pick::Old };
-            assert_eq!(rt; fall.end, Some(end), "{after}");
+            let is_kept = kept <= after;
+            let found = if is_kept { Pick::New } else { Pick::Old };
+            let first = BootNote {
+                epoch: began as u32,
+                pick: None,
+                began,
+            };
+            let pick = if began { Some(found) } else { None };
             assert_eq!(rt;
-                (fall.note.epoch, fall.note.pick),
-                (began as u32, None),
+                (
+                    (fall.end, fall.note, fall.doubt.is_some()),
+                    (note.epoch, note.pick)
+                ),
+                ((Some(end), first, began), (1 + is_kept as u32, pick)),
                 "{after}"
             );
-            assert_eq!(rt;
-                (fall.note.began, fall.doubt.is_some()),
-                (began, began),
-                "{after}"
-            );
-            assert_eq!(rt; pick, if began { Some(found) } else { None }, "{after}");
-            assert_eq!(rt; epoch, 1 + kept as u32, "{after}");
         }
     }
     Ok(())
@@ -750,7 +990,7 @@ fn a_boot_by_what_the_disk_holds(rt: HostRuntime) -> Result<(), Fail> {
     let alloc = rt.alloc();
 
     // Another epoch and the last one; a record of another node and one of no kind; and one of no length.
-    for (from, to, byte, end) in [
+    for &(from, to, byte, end) in &[
         (34, 35, 9, BootEnd::Up),
         (31, 35, 255, BootEnd::EpochsSpent),
         (21, 22, 2, BootEnd::Damaged { place: 16 }),
@@ -762,7 +1002,7 @@ fn a_boot_by_what_the_disk_holds(rt: HostRuntime) -> Result<(), Fail> {
     }
 
     // A size that the layout does not allow, and one without room for an epoch.
-    for (size, end) in [
+    for &(size, end) in &[
         (16u8, BootEnd::Damaged { place: 0 }),
         (35, BootEnd::Full),
         (36, BootEnd::Up),

@@ -1,382 +1,136 @@
 //! Every end of a turn of the store, of an activation and of a boot, at each device call, and what the next boot finds.
-ghost use Rattle.std.specs.Prelude.{◌≡◌, ◌<◌, ◌≤◌, true, false, IfOk, OnOk, length};
-ghost use Rattle.eden_disk.specs.Calls.{calls_until};
+ghost use Rattle.std.specs.Prelude.{false};
 ghost use Rattle.eden_disk.specs.SimDisk.{due_of};
-ghost use Rattle.eden_kernel.specs.Stands.{held, IsWhole};
 
-use capability::{Cap, Rights, Uid};
+use crate::common::{Amiss, Log, arm_of};
+use crate::eden_kernel_acts::{
+    Act, CELL, DAMAGED, Seen, Shown, blank, found, run, run_on, seeded, shown, up,
+};
 use eden_disk::{Arm, Disk, DiskRefusal, ImageMode, SimDisk};
 use eden_kernel::{Node, TurnEnd};
-use eden_value::{Items, Txt, Value};
 use epl_syntax::Types;
-use invocation::{Asker, Calls, Delivery};
-use journal::{BootEnd, Event, RequestEnd, StartEnd};
-use locator::Places;
-use passive_store::{Doubt, LogStore, Pick, Store};
-use std::alloc::{AllocError, Global};
+use invocation::Calls;
+use journal::{BootEnd, RequestEnd, StartEnd};
+use passive_store::{LogStore, Pick};
+use std::alloc::Global;
 use std::test::Fail;
 
-/// An Eject of which something is kept.
-const KEPT: Uid = Uid {
-    node: 1,
-    epoch: 1,
-    serial: 1,
-};
-
-/// What is kept of a Cell of 5.
-const CELL: [u8; 18] = [
-    1, 4, b'C', b'e', b'l', b'l', 0, 1, 1, 1, 0, 0, 0, 0, 0, 0, 0, 5,
+/// A Cell of 5 is set to 9, and asks that this is kept.
+const SAVING: &[Act] = &[
+    Act::Ask(1, b"Set", Some(9)),
+    Act::Deliver,
+    Act::Activate,
+    Act::Start,
+    Act::Process,
+    Act::Ask(1, b"Save", None),
+    Act::Deliver,
+    Act::Start,
+    Act::Process,
 ];
 
-/// No representation.
-const DAMAGED: [u8; 1] = [7];
+/// What a boot picks, and the number of the Cell that it finds.
+type Found = (Option<Pick>, Option<i64>);
 
-/// The device calls of a boot over a disk on which an epoch and a Cell are kept.
-const BOOT: u8 = 10;
+/// What a save came to: what its last turn showed, whether a node that is up has more to keep, and what the next boot finds.
+type Saved = (Shown, bool, Found);
 
-type Log = LogStore<SimDisk>;
-
-/// What did not go as it was to.
-#[derive(Debug, Drop)]
-enum Amiss {
-    Memory,
-    Boot,
-    Put,
-    Turn,
-}
-
-impl From<AllocError> for Amiss {
-    fn from(_: AllocError) -> Amiss {
-        Amiss::Memory
-    }
-}
-
-/// The disk of a node in its first epoch, on which these bytes are kept of one Eject.
-fn seeded<St: Store + Drop>(
-    alloc: Global,
-    disk: St::Device,
-    bytes: &[u8],
-) -> Result<St::Device, Amiss>
-where
-    St::Device: Drop,
-    requires { length bytes.now ≤ 100 }
-{
-    match checkpoint::boot::<St>(alloc, disk, 1, None) {
-        Ok((mut store, _)) => match store.put(alloc, KEPT, bytes) {
-            Ok(()) => Ok(store.close()),
-            Err(_) => Err(Amiss::Put),
-        },
-        Err((_, _)) => Err(Amiss::Boot),
-    }
-}
-
-/// A blank disk.
-fn blank(alloc: Global) -> Result<SimDisk, AllocError> {
-    SimDisk::new(alloc, 4096)
-}
-
-/// The one node is up.
-fn places() -> Places {
-    let mut places = Places::new(1);
-    places.set_up(1, true);
-    places
-}
-
-/// Whether there are fewer than a hundred calls.
-fn are_few(calls: &Calls) -> bool
-    ensures { result ≡ true → length calls.now.calls < 100 }
-{
-    match calls.call(100) {
-        Some(_) => false,
-        None => true,
-    }
-}
-
-/// The shell asks the Eject for an operation with this number, or with none.
-fn ask(
-    alloc: Global,
-    calls: &mut Calls,
-    operation: &[u8],
-    number: Option<i64>,
-) -> Result<(), Amiss> {
-    if !are_few(calls) {
-        return Err(Amiss::Turn);
-    }
-    let target = Cap {
-        uid: KEPT,
-        rights: Rights { bits: 65_535 },
-    };
-    let name = Txt {
-        bytes: b"a".to_vec(alloc)?,
-    };
-    let operation = Txt {
-        bytes: operation.to_vec(alloc)?,
-    };
-    let mut values = Vec::new(alloc);
-    if let Some(n) = number {
-        values.reserve(1)?;
-        values.push_reserved(Value::Int { n });
-    }
-    let args = Items { values };
-    let asker = Asker::Shell { name };
-    let _asked = calls.ask(alloc, asker, target, operation, args, &places())?;
-    Ok(())
-}
-
-/// The process takes a turn.
-fn go_on<St: Store>(
-    alloc: Global,
-    node: &mut Node<St>,
-    types: &Types,
-    calls: &mut Calls,
-) -> Result<(), Amiss>
-    requires { IsWhole (held St.seen node.old) }
-    ensures { OnOk result (IsWhole (held St.seen node.new)) }
-{
-    if !are_few(calls) {
-        return Err(Amiss::Turn);
-    }
-    if !node.may_process(KEPT, 1) {
-        return Err(Amiss::Turn);
-    }
-    let _turn = node.process(alloc, types, calls, &places(), KEPT, 1)?;
-    Ok(())
-}
-
-/// The next invocation starts, and takes a turn.
-fn run<St: Store>(
-    alloc: Global,
-    node: &mut Node<St>,
-    types: &Types,
-    calls: &mut Calls,
-) -> Result<(), Amiss>
-    requires { IsWhole (held St.seen node.old) }
-    ensures { OnOk result (IsWhole (held St.seen node.new)) }
-{
-    if !node.may_start(calls, KEPT) {
-        return Err(Amiss::Turn);
-    }
-    let _start = node.start(alloc, types, calls, KEPT)?;
-    go_on(alloc, node, types, calls)
-}
-
-/// A node that boots with its disk in doubt, and what the boot found.
-fn up<St: Store>(
-    alloc: Global,
-    disk: St::Device,
-    doubt: Option<Doubt>,
-) -> Result<(Node<St>, Option<Pick>), Amiss>
-where
-    St::Device: Drop,
-    ensures { IfOk result (λ r. IsWhole (held St.seen r.0)) }
-{
-    match Node::boot(alloc, disk, 1, doubt) {
-        Ok((node, note)) => Ok((node, note.pick)),
-        Err((_, _)) => Err(Amiss::Boot),
-    }
-}
-
-/// The Eject is activated, and its node goes on.
-fn wake<St: Store>(
-    alloc: Global,
-    node: &mut Node<St>,
-    types: &Types,
-    calls: &mut Calls,
-) -> Result<(), Amiss>
-    requires { IsWhole (held St.seen node.old) }
-    ensures { OnOk result (IsWhole (held St.seen node.new)) }
-{
-    if !node.may_activate(KEPT) {
-        return Err(Amiss::Turn);
-    }
-    match node.activate(alloc, types, calls, KEPT)? {
-        (_, TurnEnd::Up) => Ok(()),
-        (_, TurnEnd::Down) => Err(Amiss::Turn),
-    }
-}
-
-/// The number with which the next reply to the shell answers.
-fn answered(calls: &mut Calls) -> Option<i64> {
-    match calls.deliver(1, 0) {
-        Some(Delivery::Reply { results, .. }) => match results.values.as_slice() {
-            [Value::Int { n }] => Some(*n),
-            _ => None,
-        },
-        _ => None,
-    }
-}
-
-/// What a node finds that boots over this disk: what it picks, and the number of the Cell.
-fn found<St: Store + Drop>(
-    alloc: Global,
-    disk: St::Device,
-    doubt: Option<Doubt>,
-) -> Result<(Option<Pick>, Option<i64>), Amiss>
-where
-    St::Device: Drop,
-{
+/// A save with this trouble and these turns of the store, and a power cut, if the node is up then.
+fn saved(alloc: Global, trouble: &[Act], turns: &[Act], mode: ImageMode) -> Result<Saved, Amiss> {
     let types = Types::native(alloc)?;
     let mut calls = Calls::new(alloc)?;
-    let (mut node, pick) = up::<St>(alloc, disk, doubt)?;
-    ask(alloc, &mut calls, b"Get", None)?;
-    let _request = node.deliver(alloc, &types, &mut calls, 0)?;
-    wake(alloc, &mut node, &types, &mut calls)?;
-    run(alloc, &mut node, &types, &mut calls)?;
-    Ok((pick, answered(&mut calls)))
-}
-
-/// A node whose Cell of 5 was set to 9 and has asked that this is kept.
-fn saving<St: Store + Drop>(
-    alloc: Global,
-    types: &Types,
-    calls: &mut Calls,
-    disk: St::Device,
-) -> Result<Node<St>, Amiss>
-where
-    St::Device: Drop,
-    ensures { IfOk result (λ node. IsWhole (held St.seen node)) }
-{
-    let disk = seeded::<St>(alloc, disk, &CELL)?;
-    let (mut node, _) = up::<St>(alloc, disk, None)?;
-    ask(alloc, calls, b"Set", Some(9))?;
-    let _request = node.deliver(alloc, types, calls, 0)?;
-    wake(alloc, &mut node, types, calls)?;
-    run(alloc, &mut node, types, calls)?;
-    ask(alloc, calls, b"Save", None)?;
-    let _request = node.deliver(alloc, types, calls, 0)?;
-    run(alloc, &mut node, types, calls)?;
-    Ok(node)
-}
-
-/// Turns of the store, up to so many, as long as the node goes on. How many it takes.
-fn store_turns<St: Store>(
-    alloc: Global,
-    node: &mut Node<St>,
-    calls: &mut Calls,
-    most: u32,
-) -> Result<(u32, TurnEnd), Amiss>
-    requires { IsWhole (held St.seen node.old) }
-{
-    for taken in 0..most {
-        if !node.pending() {
-            return Err(Amiss::Turn);
-        }
-        match node.store_turn(alloc, calls)? {
-            (_, TurnEnd::Up) => {}
-            (_, TurnEnd::Down) => return Ok((taken + 1, TurnEnd::Down)),
-        }
-    }
-    Ok((most, TurnEnd::Up))
-}
-
-/// A save in which the disk stops behind so many device calls: what the next boot finds.
-fn stopped_behind(
-    alloc: Global,
-    made: u8,
-    mode: ImageMode,
-) -> Result<(Option<Pick>, Option<i64>), Amiss> {
-    let types = Types::native(alloc)?;
-    let mut calls = Calls::new(alloc)?;
-    let disk = blank(alloc)?;
-    let mut node = saving::<Log>(alloc, &types, &mut calls, disk)?;
-    node.arm(Arm::Stop {
-        after: u32::from(made) + 1,
-        mode,
-    });
-    match store_turns(alloc, &mut node, &mut calls, 5)? {
-        (_, TurnEnd::Down) => {
-            let (disk, doubt) = node.close();
-            found::<Log>(alloc, disk, doubt)
-        }
-        (_, TurnEnd::Up) => Err(Amiss::Turn),
-    }
-}
-
-/// A save of so many device calls, and a power cut behind them: what the next boot finds.
-fn cut_behind(
-    alloc: Global,
-    calls_made: u32,
-    mode: ImageMode,
-) -> Result<(Option<Pick>, Option<i64>), Amiss> {
-    let types = Types::native(alloc)?;
-    let mut calls = Calls::new(alloc)?;
-    let disk = blank(alloc)?;
-    let mut node = saving::<Log>(alloc, &types, &mut calls, disk)?;
-    match store_turns(alloc, &mut node, &mut calls, calls_made)? {
-        (_, TurnEnd::Up) => {
-            let (disk, doubt) = node.crash(mode);
-            found::<Log>(alloc, disk, doubt)
-        }
-        (_, TurnEnd::Down) => Err(Amiss::Turn),
-    }
+    let disk = seeded::<Log>(alloc, blank(alloc)?, CELL)?;
+    let (mut node, _, _) = up::<Log>(alloc, disk, None)?;
+    run_on(alloc, &mut node, &types, &mut calls, SAVING)?;
+    run_on(alloc, &mut node, &types, &mut calls, trouble)?;
+    let last = run(alloc, &mut node, &types, &mut calls, turns)?;
+    let is_up = last.1 == TurnEnd::Up;
+    let pending = is_up && node.pending();
+    let (disk, doubt) = if is_up {
+        node.crash(mode)
+    } else {
+        node.close()
+    };
+    Ok((last, pending, found::<Log>(alloc, disk, doubt)?))
 }
 
 const GARBLE: ImageMode = ImageMode::Garble { byte: 225 };
 
-const OLD: (Option<Pick>, Option<i64>) = (Some(Pick::Old), Some(5));
+const OLD: Found = (Some(Pick::Old), Some(5));
 
-const NEW: (Option<Pick>, Option<i64>) = (Some(Pick::New), Some(9));
+const NEW: Found = (Some(Pick::New), Some(9));
+
+const STOP: Shown = (Seen::Store(RequestEnd::Stop), TurnEnd::Down);
+
+const PART: Shown = (Seen::Store(RequestEnd::Part), TurnEnd::Up);
+
+const DONE: Shown = (Seen::Store(RequestEnd::Done), TurnEnd::Up);
+
+const FAULT: Shown = (Seen::Store(RequestEnd::Fault), TurnEnd::Up);
+
+const KEEP: ImageMode = ImageMode::Keep;
+
+const LOSE: ImageMode = ImageMode::Lose;
+
+const STORE: Act = Act::Store;
 
 // A save makes four device calls: the record behind its closed gate, a sync, the open gate, a sync.
-#[test]
-fn a_stop_in_each_device_call_of_a_save(rt: HostRuntime) -> Result<(), Fail> {
-    let rows = [
-        (0, ImageMode::Keep, OLD),
-        (0, ImageMode::Lose, OLD),
-        (0, GARBLE, OLD),
-        (1, ImageMode::Keep, OLD),
-        (1, ImageMode::Lose, OLD),
-        (1, GARBLE, OLD),
-        (2, ImageMode::Keep, NEW),
-        (2, ImageMode::Lose, OLD),
-        (2, GARBLE, NEW),
-        (3, ImageMode::Keep, NEW),
-        (3, ImageMode::Lose, OLD),
-        (3, GARBLE, NEW),
-    ];
-    for (made, mode, wanted) in rows {
-        assert_eq!(rt; stopped_behind(rt.alloc(), made, mode)?, wanted);
-    }
-    Ok(())
-}
+const SAVES: &[(&[Act], &[Act], ImageMode, Saved)] = &[
+    // A stop in each.
+    (&[Act::Stop(0, KEEP)], &[STORE; 5], KEEP, (STOP, false, OLD)),
+    (&[Act::Stop(0, LOSE)], &[STORE; 5], LOSE, (STOP, false, OLD)),
+    (
+        &[Act::Stop(0, GARBLE)],
+        &[STORE; 5],
+        GARBLE,
+        (STOP, false, OLD),
+    ),
+    (&[Act::Stop(1, KEEP)], &[STORE; 5], KEEP, (STOP, false, OLD)),
+    (&[Act::Stop(1, LOSE)], &[STORE; 5], LOSE, (STOP, false, OLD)),
+    (
+        &[Act::Stop(1, GARBLE)],
+        &[STORE; 5],
+        GARBLE,
+        (STOP, false, OLD),
+    ),
+    (&[Act::Stop(2, KEEP)], &[STORE; 5], KEEP, (STOP, false, NEW)),
+    (&[Act::Stop(2, LOSE)], &[STORE; 5], LOSE, (STOP, false, OLD)),
+    (
+        &[Act::Stop(2, GARBLE)],
+        &[STORE; 5],
+        GARBLE,
+        (STOP, false, NEW),
+    ),
+    (&[Act::Stop(3, KEEP)], &[STORE; 5], KEEP, (STOP, false, NEW)),
+    (&[Act::Stop(3, LOSE)], &[STORE; 5], LOSE, (STOP, false, OLD)),
+    (
+        &[Act::Stop(3, GARBLE)],
+        &[STORE; 5],
+        GARBLE,
+        (STOP, false, NEW),
+    ),
+    // A power cut behind each.
+    (
+        &[],
+        &[],
+        KEEP,
+        ((Seen::Nothing, TurnEnd::Up), true, (None, Some(5))),
+    ),
+    (&[], &[STORE; 1], LOSE, (PART, true, OLD)),
+    (&[], &[STORE; 2], GARBLE, (PART, true, OLD)),
+    (&[], &[STORE; 3], KEEP, (PART, true, NEW)),
+    (&[], &[STORE; 3], LOSE, (PART, true, OLD)),
+    (&[], &[STORE; 4], LOSE, (DONE, false, (None, Some(9)))),
+    // A fault in each: a write that fails writes the first half of its bytes, of a gate none.
+    (&[Act::Fail(0)], &[STORE; 1], KEEP, (FAULT, false, OLD)),
+    (&[Act::Fail(1)], &[STORE; 2], KEEP, (FAULT, false, OLD)),
+    (&[Act::Fail(2)], &[STORE; 3], KEEP, (FAULT, false, OLD)),
+    (&[Act::Fail(3)], &[STORE; 4], KEEP, (FAULT, false, NEW)),
+];
 
 #[test]
-fn a_power_cut_behind_each_device_call_of_a_save(rt: HostRuntime) -> Result<(), Fail> {
-    let rows = [
-        (0, ImageMode::Keep, (None, Some(5))),
-        (1, ImageMode::Lose, OLD),
-        (2, GARBLE, OLD),
-        (3, ImageMode::Keep, NEW),
-        (3, ImageMode::Lose, OLD),
-        (4, ImageMode::Lose, (None, Some(9))),
-    ];
-    for (made, mode, wanted) in rows {
-        assert_eq!(rt; cut_behind(rt.alloc(), made, mode)?, wanted);
-    }
-    Ok(())
-}
-
-/// A save of which a device call fails behind so many others, and a power cut: what the next boot finds.
-fn failed_behind(alloc: Global, made: u8) -> Result<(Option<Pick>, Option<i64>), Amiss> {
-    let types = Types::native(alloc)?;
-    let mut calls = Calls::new(alloc)?;
-    let disk = blank(alloc)?;
-    let mut node = saving::<Log>(alloc, &types, &mut calls, disk)?;
-    let after = u32::from(made) + 1;
-    node.arm(Arm::Fail { after });
-    let (_, behind) = store_turns(alloc, &mut node, &mut calls, after)?;
-    if behind == TurnEnd::Down {
-        return Err(Amiss::Turn);
-    }
-    let (disk, doubt) = node.crash(ImageMode::Keep);
-    found::<Log>(alloc, disk, doubt)
-}
-
-// A write that fails writes the first half of its bytes: of a gate none.
-#[test]
-fn a_fault_in_each_device_call_of_a_save(rt: HostRuntime) -> Result<(), Fail> {
-    for (made, wanted) in [(0, OLD), (1, OLD), (2, OLD), (3, NEW)] {
-        assert_eq!(rt; failed_behind(rt.alloc(), made)?, wanted);
+fn each_end_of_a_turn_of_the_store(rt: HostRuntime) -> Result<(), Fail> {
+    for &(trouble, turns, mode, wanted) in SAVES {
+        assert_eq!(rt; saved(rt.alloc(), trouble, turns, mode)?, wanted);
     }
     Ok(())
 }
@@ -453,9 +207,9 @@ impl Disk for Changed {
 fn a_start_reads_the_disk(rt: HostRuntime) -> Result<(), Fail> {
     let alloc = rt.alloc();
     let disk = Changed {
-        disk: SimDisk::new(alloc, 4096)?,
+        disk: blank(alloc)?,
     };
-    let disk = seeded::<LogStore<Changed>>(alloc, disk, &CELL)?;
+    let disk = seeded::<LogStore<Changed>>(alloc, disk, CELL)?;
     assert_eq!(rt;
         found::<LogStore<Changed>>(alloc, disk, None)?,
         (None, Some(6))
@@ -463,178 +217,121 @@ fn a_start_reads_the_disk(rt: HostRuntime) -> Result<(), Fail> {
     Ok(())
 }
 
-/// How the next turn of the store ends of a node that goes on.
-fn store_end<St: Store>(
-    alloc: Global,
-    node: &mut Node<St>,
-    calls: &mut Calls,
-) -> Result<RequestEnd, Amiss>
-    requires { IsWhole (held St.seen node.old) }
-    ensures { OnOk result (IsWhole (held St.seen node.new)) }
-{
-    if !node.pending() {
-        return Err(Amiss::Turn);
-    }
-    match node.store_turn(alloc, calls)? {
-        (Event::Store { end, .. }, TurnEnd::Up) => Ok(end),
-        _ => Err(Amiss::Turn),
-    }
-}
+/// The Eject has a queued call.
+const ASKED: &[Act] = &[Act::Ask(1, b"Get", None), Act::Deliver];
 
-#[test]
-fn a_save_ends_in_its_last_turn(rt: HostRuntime) -> Result<(), Fail> {
-    let alloc = rt.alloc();
-    let types = Types::native(alloc)?;
-    let mut calls = Calls::new(alloc)?;
-    let disk = blank(alloc)?;
-    let mut node = saving::<Log>(alloc, &types, &mut calls, disk)?;
-    assert_eq!(rt; store_end(alloc, &mut node, &mut calls)?, RequestEnd::Part);
-    assert_eq!(rt; store_end(alloc, &mut node, &mut calls)?, RequestEnd::Part);
-    assert_eq!(rt; store_end(alloc, &mut node, &mut calls)?, RequestEnd::Part);
-    assert_eq!(rt; store_end(alloc, &mut node, &mut calls)?, RequestEnd::Done);
-    assert!(rt; !node.pending());
-    Ok(())
-}
+/// It has, behind a save that failed: a sync and a read of the settling come before the read of what is kept.
+const UNSETTLED: &[Act] = &[
+    Act::Ask(1, b"Set", Some(9)),
+    Act::Deliver,
+    Act::Activate,
+    Act::Start,
+    Act::Process,
+    Act::Ask(1, b"Save", None),
+    Act::Deliver,
+    Act::Start,
+    Act::Process,
+    Act::Fail(0),
+    Act::Store,
+    Act::Process,
+    Act::Ask(1, b"Sleep", None),
+    Act::Deliver,
+    Act::Start,
+    Act::Process,
+    Act::Ask(1, b"Get", None),
+    Act::Deliver,
+];
 
-/// What is asked of a disk behind so many device calls.
-#[derive(Clone, Copy)]
-enum Trouble {
-    None,
-    Fault { made: u8 },
-    Stop { made: u8 },
-}
+const WAKE: Act = Act::Activate;
 
-/// Asks it.
-fn arm<St: Store>(node: &mut Node<St>, trouble: Trouble)
-    requires { IsWhole (held St.seen node.old) }
-    ensures { IsWhole (held St.seen node.new) }
-{
-    match trouble {
-        Trouble::None => {}
-        Trouble::Fault { made } => node.arm(Arm::Fail {
-            after: u32::from(made) + 1,
-        }),
-        Trouble::Stop { made } => node.arm(Arm::Stop {
-            after: u32::from(made) + 1,
-            mode: ImageMode::Keep,
-        }),
-    }
-}
+const WOKEN: Shown = (Seen::Activation(StartEnd::Ok), TurnEnd::Up);
 
-/// The Eject has a queued call, and is activated over a disk in trouble: how that ends.
-fn start_end<St: Store>(
-    alloc: Global,
-    node: &mut Node<St>,
-    types: &Types,
-    calls: &mut Calls,
-    trouble: Trouble,
-) -> Result<(StartEnd, TurnEnd), Amiss>
-    requires { IsWhole (held St.seen node.old) }
-{
-    ask(alloc, calls, b"Get", None)?;
-    let _request = node.deliver(alloc, types, calls, 0)?;
-    arm(node, trouble);
-    if !node.may_activate(KEPT) {
-        return Err(Amiss::Turn);
-    }
-    match node.activate(alloc, types, calls, KEPT)? {
-        (Event::Activate { end, .. }, behind) => Ok((end, behind)),
-        _ => Err(Amiss::Turn),
-    }
-}
+const UNREAD: Shown = (Seen::Activation(StartEnd::Fault), TurnEnd::Up);
 
-/// How an activation ends from these bytes.
-fn start_from(alloc: Global, bytes: &[u8], trouble: Trouble) -> Result<(StartEnd, TurnEnd), Amiss>
-    requires { length bytes.now ≤ 100 }
-{
-    let types = Types::native(alloc)?;
-    let mut calls = Calls::new(alloc)?;
-    let disk = seeded::<Log>(alloc, blank(alloc)?, bytes)?;
-    let (mut node, _) = up::<Log>(alloc, disk, None)?;
-    start_end(alloc, &mut node, &types, &mut calls, trouble)
-}
+const HALTED: Shown = (Seen::Activation(StartEnd::Stop), TurnEnd::Down);
 
-/// How one ends behind the settling of a save that failed: a sync and a read come before the read of what is kept.
-fn start_behind_a_settling(alloc: Global, trouble: Trouble) -> Result<(StartEnd, TurnEnd), Amiss> {
-    let types = Types::native(alloc)?;
-    let mut calls = Calls::new(alloc)?;
-    let disk = blank(alloc)?;
-    let mut node = saving::<Log>(alloc, &types, &mut calls, disk)?;
-    arm(&mut node, Trouble::Fault { made: 0 });
-    let _fault = store_end(alloc, &mut node, &mut calls)?;
-    go_on(alloc, &mut node, &types, &mut calls)?;
-    ask(alloc, &mut calls, b"Sleep", None)?;
-    let _request = node.deliver(alloc, &types, &mut calls, 0)?;
-    run(alloc, &mut node, &types, &mut calls)?;
-    start_end(alloc, &mut node, &types, &mut calls, trouble)
-}
+const SPOILT: Shown = (Seen::Activation(StartEnd::Damaged), TurnEnd::Up);
 
-const OK: (StartEnd, TurnEnd) = (StartEnd::Ok, TurnEnd::Up);
-
-const FAULT: (StartEnd, TurnEnd) = (StartEnd::Fault, TurnEnd::Up);
-
-const STOP: (StartEnd, TurnEnd) = (StartEnd::Stop, TurnEnd::Down);
+const ACTIVATIONS: &[(&[u8], &[Act], &[Act], Shown)] = &[
+    (CELL, ASKED, &[WAKE], WOKEN),
+    (CELL, ASKED, &[Act::Fail(0), WAKE], UNREAD),
+    (CELL, ASKED, &[Act::Stop(0, KEEP), WAKE], HALTED),
+    (DAMAGED, ASKED, &[WAKE], SPOILT),
+    (CELL, UNSETTLED, &[WAKE], WOKEN),
+    (CELL, UNSETTLED, &[Act::Fail(0), WAKE], UNREAD),
+    (CELL, UNSETTLED, &[Act::Fail(1), WAKE], UNREAD),
+    (CELL, UNSETTLED, &[Act::Fail(2), WAKE], UNREAD),
+    (CELL, UNSETTLED, &[Act::Stop(0, KEEP), WAKE], HALTED),
+    (CELL, UNSETTLED, &[Act::Stop(1, KEEP), WAKE], HALTED),
+    (CELL, UNSETTLED, &[Act::Stop(2, KEEP), WAKE], HALTED),
+];
 
 #[test]
 fn each_end_of_an_activation(rt: HostRuntime) -> Result<(), Fail> {
-    let alloc = rt.alloc();
-    let damaged = (StartEnd::Damaged, TurnEnd::Up);
-    let rows = [
-        (Trouble::None, OK),
-        (Trouble::Fault { made: 0 }, FAULT),
-        (Trouble::Stop { made: 0 }, STOP),
-    ];
-    for (trouble, wanted) in rows {
-        assert_eq!(rt; start_from(alloc, &CELL, trouble)?, wanted);
-    }
-    assert_eq!(rt; start_from(alloc, &DAMAGED, Trouble::None)?, damaged);
-    let rows = [
-        (Trouble::None, OK),
-        (Trouble::Fault { made: 0 }, FAULT),
-        (Trouble::Fault { made: 1 }, FAULT),
-        (Trouble::Fault { made: 2 }, FAULT),
-        (Trouble::Stop { made: 0 }, STOP),
-        (Trouble::Stop { made: 1 }, STOP),
-        (Trouble::Stop { made: 2 }, STOP),
-    ];
-    for (trouble, wanted) in rows {
-        assert_eq!(rt; start_behind_a_settling(alloc, trouble)?, wanted);
+    for &(bytes, before, acts, wanted) in ACTIVATIONS {
+        assert_eq!(rt; shown(rt.alloc(), bytes, before, acts)?, Some(wanted));
     }
     Ok(())
 }
 
-/// A boot whose disk stops behind so many device calls, or that comes to its end before: how it ends, and the number of the Cell
-/// that the next boot finds.
-fn boot_stopped_behind(
+/// The device calls of a boot over a disk on which an epoch and a Cell are kept.
+const BOOT: u8 = 10;
+
+/// Those of a first boot, up to its end.
+const FIRST_BOOT: u8 = 11;
+
+/// How a boot ends whose disk fails, or stops in this mode, behind so many device calls; how often it failed; and the number of the
+/// Cell, if one is kept, that the next boot finds where this one was cut.
+fn boot_in_trouble(
     alloc: Global,
+    is_kept: bool,
+    stop: Option<ImageMode>,
     made: u8,
-    mode: ImageMode,
-) -> Result<(Option<BootEnd>, Option<i64>), Amiss> {
-    let mut disk = seeded::<Log>(alloc, SimDisk::new(alloc, 4096)?, &CELL)?;
-    disk.arm(Arm::Stop {
-        after: u32::from(made) + 1,
-        mode,
-    });
+) -> Result<(Option<BootEnd>, u64, Option<i64>), Amiss> {
+    let mut disk = blank(alloc)?;
+    if is_kept {
+        disk = seeded::<Log>(alloc, disk, CELL)?;
+    }
+    disk.arm(arm_of(stop, u32::from(made) + 1));
     match Node::<Log>::boot(alloc, disk, 1, None) {
-        Ok((_, _)) => Ok((None, None)),
+        Ok((node, _)) => Ok((Some(BootEnd::Up), node.disk().faults(), None)),
         Err((disk, fall)) => {
+            let faults = disk.faults();
+            if !is_kept {
+                return Ok((fall.end, faults, None));
+            }
             let (_, number) = found::<Log>(alloc, disk, fall.doubt)?;
-            Ok((fall.end, number))
+            Ok((fall.end, faults, number))
         }
     }
 }
 
+/// How a boot in trouble ends, how often its disk failed, and the number that the next one finds.
+type Fall = (BootEnd, u64, Option<i64>);
+
 // Whatever a stop in a boot leaves, the Eject is there at the next one.
+const BOOTS: &[(bool, Option<ImageMode>, u8, Fall)] = &[
+    (false, None, FIRST_BOOT, (BootEnd::DiskFault, 1, None)),
+    (true, Some(KEEP), BOOT, (BootEnd::Stop, 0, Some(5))),
+    (true, Some(LOSE), BOOT, (BootEnd::Stop, 0, Some(5))),
+    (true, Some(GARBLE), BOOT, (BootEnd::Stop, 0, Some(5))),
+];
+
 #[test]
-fn a_stop_in_each_device_call_of_a_boot(rt: HostRuntime) -> Result<(), Fail> {
-    for mode in [ImageMode::Keep, ImageMode::Lose, GARBLE] {
-        for made in 0..BOOT {
+fn trouble_in_each_device_call_of_a_boot(rt: HostRuntime) -> Result<(), Fail> {
+    for &(is_kept, stop, calls, cut) in BOOTS {
+        for made in 0..=calls {
+            let (end, faults, number) = if made < calls {
+                cut
+            } else {
+                (BootEnd::Up, 0, None)
+            };
             assert_eq!(rt;
-                boot_stopped_behind(rt.alloc(), made, mode)?,
-                (Some(BootEnd::Stop), Some(5))
+                boot_in_trouble(rt.alloc(), is_kept, stop, made)?,
+                (Some(end), faults, number),
+                "behind {made}"
             );
         }
-        assert_eq!(rt; boot_stopped_behind(rt.alloc(), BOOT, mode)?, (None, None));
     }
     Ok(())
 }

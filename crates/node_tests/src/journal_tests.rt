@@ -1,6 +1,7 @@
+use crate::common::text;
 use capability::{Seq, Uid};
 use eden_disk::{Arm, ImageMode};
-use eden_value::{Items, Status, Txt, Value};
+use eden_value::{Items, Status, Value};
 use epl_syntax::FaultCause;
 use journal::*;
 use passive_store::Pick;
@@ -17,45 +18,151 @@ const STOP: Arm = Arm::Stop {
     mode: ImageMode::Garble { byte: 225 },
 };
 
-fn txt(alloc: Global, bytes: &[u8]) -> Result<Txt, AllocError> {
-    Ok(Txt {
-        bytes: Vec::from_slice(alloc, bytes)?,
-    })
+/// What is told of an event: the rest is the same in all of a kind.
+#[derive(Clone, Copy)]
+enum Told {
+    Boot(BootEnd),
+    Crash(u8),
+    Still,
+    Cut,
+    Armed,
+    Made,
+    Void,
+    Asked(u32, &'static [u8], Option<Status>),
+    Request(Option<Status>),
+    Reply,
+    Activate(StartEnd, Option<Pick>),
+    Start,
+    Turn(Shown),
+    Store(u64, RequestEnd),
+    Spent,
+    Left,
 }
+
+/// The clock of the disk of node 1, and the name of the call that was broken; or no disk and no call.
+type Touched = Option<(u64, &'static [u8])>;
+
+/// In which modes an entry has its lines.
+type Modes = &'static [(Mode, bool)];
 
 fn names(alloc: Global, one: &[u8]) -> Result<Names, AllocError> {
     Ok(Seq {
-        items: vec![in alloc; txt(alloc, one)?]?,
+        items: vec![in alloc; text(alloc, one)?]?,
     })
 }
 
-// An entry that touched no disk and broke no call.
-fn plain(alloc: Global, event: Event) -> Entry {
-    Entry {
-        event,
-        node: 0,
-        clock: 0,
-        broken: Seq {
-            items: Vec::new(alloc),
+fn reply(alloc: Global) -> Result<Event, AllocError> {
+    let text_value = Value::Text {
+        text: text(alloc, b"a\"b")?,
+    };
+    let values = vec![in alloc; Value::Int { n: -5 }, text_value]?;
+    Ok(Event::Reply {
+        call: 2,
+        from: 1,
+        to: 0,
+        name: Some(text(alloc, b"b")?),
+        status: Status::Ok,
+        results: Items { values },
+    })
+}
+
+fn turn_of(told: Told) -> Event {
+    match told {
+        Told::Activate(end, pick) => Event::Activate {
+            uid: CELL,
+            end,
+            pick,
         },
+        Told::Start => Event::Start {
+            call: 7,
+            uid: CELL,
+            process: 1,
+        },
+        Told::Turn(shown) => Event::Process {
+            uid: CELL,
+            process: 1,
+            shown,
+        },
+        Told::Store(clock, end) => Event::Store {
+            uid: CELL,
+            clock,
+            end,
+            pick: None,
+        },
+        _ => Event::Spent,
     }
 }
 
-fn boot(end: BootEnd) -> Event {
-    Event::Boot {
-        node: 1,
-        epoch: 1,
-        end,
-        pick: None,
-        began: true,
+fn with_name(alloc: Global, told: Told) -> Result<Event, AllocError> {
+    match told {
+        Told::Made => Ok(Event::Made {
+            name: text(alloc, b"x")?,
+            status: Status::TooMany,
+            uid: None,
+        }),
+        Told::Void => Ok(Event::Void {
+            name: text(alloc, b"x")?,
+        }),
+        Told::Asked(call, name, at_once) => Ok(Event::Asked {
+            call,
+            name: text(alloc, name)?,
+            at_once,
+        }),
+        Told::Left => Ok(Event::Left {
+            names: names(alloc, b"f")?,
+        }),
+        Told::Reply => reply(alloc),
+        _ => Ok(turn_of(told)),
     }
 }
 
-fn turn(shown: Shown) -> Event {
-    Event::Process {
-        uid: CELL,
-        process: 1,
-        shown,
+fn event(alloc: Global, told: Told) -> Result<Event, AllocError> {
+    match told {
+        Told::Boot(end) => Ok(Event::Boot {
+            node: 1,
+            epoch: 1,
+            end,
+            pick: None,
+            began: true,
+        }),
+        Told::Crash(node) => Ok(Event::Crash { node }),
+        Told::Still => Ok(Event::Still { node: 1, up: true }),
+        Told::Cut => Ok(Event::Link {
+            a: 1,
+            b: 2,
+            joined: false,
+        }),
+        Told::Armed => Ok(Event::Armed {
+            node: 1,
+            what: STOP,
+        }),
+        Told::Request(refused) => Ok(Event::Request {
+            call: 1,
+            from: 0,
+            to: 1,
+            refused,
+        }),
+        _ => with_name(alloc, told),
+    }
+}
+
+fn entry(alloc: Global, told: Told, touched: Touched) -> Result<Entry, AllocError> {
+    let event = event(alloc, told)?;
+    match touched {
+        None => Ok(Entry {
+            event,
+            node: 0,
+            clock: 0,
+            broken: Seq {
+                items: Vec::new(alloc),
+            },
+        }),
+        Some((clock, broken)) => Ok(Entry {
+            event,
+            node: 1,
+            clock,
+            broken: names(alloc, broken)?,
+        }),
     }
 }
 
@@ -66,222 +173,166 @@ fn has_lines(alloc: Global, mode: Mode, entry: &Entry, wanted: &[u8]) -> Result<
     Ok(out.starts_with(b"a\n") && out.ends_with(wanted) && out.len() == wanted.len() + 2)
 }
 
-#[test]
-fn commands_have_their_lines(rt: HostRuntime) -> Result<(), AllocError> {
-    let rows: [(Event, &[u8]); 9] = [
-        (boot(BootEnd::Up), b"node 1 up epoch 1\n"),
-        (boot(BootEnd::DiskFault), b"node 1 down disk fault\n"),
-        (boot(BootEnd::Stop), b"node 1 down stop\n"),
-        (
-            boot(BootEnd::Damaged { place: 16 }),
-            b"node 1 down damaged 16\n",
-        ),
-        (boot(BootEnd::EpochsSpent), b"node 1 down epochs spent\n"),
-        (boot(BootEnd::Full), b"node 1 down full\n"),
-        (Event::Crash { node: 2 }, b"node 2 down crash\n"),
-        (Event::Still { node: 1, up: true }, b"node 1 is up\n"),
-        (Event::Spent, b"spent\n"),
-    ];
-    for (event, wanted) in rows {
-        let entry = plain(rt.alloc(), event);
-        assert!(rt; has_lines(rt.alloc(), Mode::Plain, &entry, wanted)?);
-        assert!(rt; has_lines(rt.alloc(), Mode::Trace, &entry, wanted)?);
-        assert!(rt; has_lines(rt.alloc(), Mode::Summary, &entry, b"")?);
-    }
-    Ok(())
-}
+/// The lines of commands.
+const COMMAND: Modes = &[
+    (Mode::Plain, true),
+    (Mode::Trace, true),
+    (Mode::Summary, false),
+];
 
-#[test]
-fn turns_have_lines_of_a_trace(rt: HostRuntime) -> Result<(), AllocError> {
-    let rows: [(Event, &[u8]); 10] = [
-        (
-            Event::Link {
-                a: 1,
-                b: 2,
-                joined: false,
-            },
-            b"+ cut 1 2\n",
-        ),
-        (
-            Event::Armed {
-                node: 1,
-                what: STOP,
-            },
-            b"+ stop 1 3 garble 225\n",
-        ),
-        (
-            Event::Request {
-                call: 1,
-                from: 0,
-                to: 1,
-                refused: Some(Status::Gone),
-            },
-            b"+ request 1 0 1 refused 4\n",
-        ),
-        (
-            Event::Activate {
-                uid: CELL,
-                end: StartEnd::Damaged,
-                pick: None,
-            },
-            b"+ activate 1.2.3 damaged\n",
-        ),
-        (
-            Event::Start {
-                call: 7,
-                uid: CELL,
-                process: 1,
-            },
-            b"+ start 7 1.2.3 1\n",
-        ),
-        (
-            turn(Shown::Invoke { call: 8 }),
-            b"+ process 1.2.3 1 invoke 8\n",
-        ),
-        (
-            turn(Shown::Created { uid: CELL }),
-            b"+ process 1.2.3 1 create 1.2.3\n",
-        ),
-        (
-            turn(Shown::Refused {
-                status: Status::TooMany,
-            }),
-            b"+ process 1.2.3 1 create refused 13\n",
-        ),
-        (turn(Shown::Checkpoint), b"+ process 1.2.3 1 checkpoint\n"),
-        (
-            Event::Store {
-                uid: CELL,
-                clock: 15,
-                end: RequestEnd::Part,
-                pick: None,
-            },
-            b"+ store 1.2.3 15 part\n",
-        ),
-    ];
-    for (event, wanted) in rows {
-        let entry = plain(rt.alloc(), event);
-        assert!(rt; has_lines(rt.alloc(), Mode::Trace, &entry, wanted)?);
-        assert!(rt; has_lines(rt.alloc(), Mode::Plain, &entry, b"")?);
-    }
-    Ok(())
-}
+/// Those of turns.
+const TURN: Modes = &[(Mode::Trace, true), (Mode::Plain, false)];
 
-#[test]
-fn a_reply_prints_its_results(rt: HostRuntime) -> Result<(), AllocError> {
-    let alloc = rt.alloc();
-    let text = txt(alloc, b"a\"b")?;
-    let values = vec![in alloc; Value::Int { n: -5 }, Value::Text { text }]?;
-    let name = Some(txt(alloc, b"b")?);
-    let reply = plain(
-        alloc,
-        Event::Reply {
-            call: 2,
-            from: 1,
-            to: 0,
-            name,
-            status: Status::Ok,
-            results: Items { values },
-        },
-    );
-    assert!(rt; has_lines(alloc, Mode::Plain, &reply, b"b ok (-5, \"a\\\"b\")\n")?);
-    Ok(())
-}
+const PLAIN: Modes = &[(Mode::Plain, true)];
 
-#[test]
-fn lines_of_a_trace_come_first_and_disks_last(rt: HostRuntime) -> Result<(), AllocError> {
-    let alloc = rt.alloc();
-    let cause = FaultCause::ZeroDivisor;
-    let mut entry = plain(alloc, turn(Shown::Fault { cause }));
-    let fault = b"+ process 1.2.3 1 fault\neject 1.2.3 fault zero divisor\n";
-    assert!(rt; has_lines(alloc, Mode::Trace, &entry, fault)?);
-    entry.event = Event::Store {
-        uid: CELL,
-        clock: 18,
-        end: RequestEnd::Stop,
-        pick: None,
-    };
-    entry.node = 1;
-    entry.clock = 18;
-    entry.broken = names(alloc, b"f")?;
-    let stop = b"node 1 down stop\nf refused 6 broken\n+ disk 1 18 - -\n";
-    assert!(rt; has_lines(alloc, Mode::Full, &entry, stop)?);
-    entry.event = Event::Activate {
-        uid: CELL,
-        end: StartEnd::Ok,
-        pick: Some(Pick::Old),
-    };
-    let woken = b"+ activate 1.2.3 ok\nf refused 6 broken\n+ disk 1 18 old -\n";
-    assert!(rt; has_lines(alloc, Mode::Full, &entry, woken)?);
-    Ok(())
-}
+const TRACE: Modes = &[(Mode::Trace, true)];
 
-#[test]
-fn commands_show_their_names(rt: HostRuntime) -> Result<(), AllocError> {
-    let alloc = rt.alloc();
-    let mut entry = plain(
-        alloc,
-        Event::Made {
-            name: txt(alloc, b"x")?,
+const FULL: Modes = &[(Mode::Full, true)];
+
+const LINES: &[(Modes, Told, Touched, &[u8])] = &[
+    (
+        COMMAND,
+        Told::Boot(BootEnd::Up),
+        None,
+        b"node 1 up epoch 1\n",
+    ),
+    (
+        COMMAND,
+        Told::Boot(BootEnd::DiskFault),
+        None,
+        b"node 1 down disk fault\n",
+    ),
+    (
+        COMMAND,
+        Told::Boot(BootEnd::Stop),
+        None,
+        b"node 1 down stop\n",
+    ),
+    (
+        COMMAND,
+        Told::Boot(BootEnd::Damaged { place: 16 }),
+        None,
+        b"node 1 down damaged 16\n",
+    ),
+    (
+        COMMAND,
+        Told::Boot(BootEnd::EpochsSpent),
+        None,
+        b"node 1 down epochs spent\n",
+    ),
+    (
+        COMMAND,
+        Told::Boot(BootEnd::Full),
+        None,
+        b"node 1 down full\n",
+    ),
+    (COMMAND, Told::Crash(2), None, b"node 2 down crash\n"),
+    (COMMAND, Told::Still, None, b"node 1 is up\n"),
+    (COMMAND, Told::Spent, None, b"spent\n"),
+    (TURN, Told::Cut, None, b"+ cut 1 2\n"),
+    (TURN, Told::Armed, None, b"+ stop 1 3 garble 225\n"),
+    (
+        TURN,
+        Told::Request(Some(Status::Gone)),
+        None,
+        b"+ request 1 0 1 refused 4\n",
+    ),
+    (
+        TURN,
+        Told::Activate(StartEnd::Damaged, None),
+        None,
+        b"+ activate 1.2.3 damaged\n",
+    ),
+    (TURN, Told::Start, None, b"+ start 7 1.2.3 1\n"),
+    (
+        TURN,
+        Told::Turn(Shown::Invoke { call: 8 }),
+        None,
+        b"+ process 1.2.3 1 invoke 8\n",
+    ),
+    (
+        TURN,
+        Told::Turn(Shown::Created { uid: CELL }),
+        None,
+        b"+ process 1.2.3 1 create 1.2.3\n",
+    ),
+    (
+        TURN,
+        Told::Turn(Shown::Refused {
             status: Status::TooMany,
-            uid: None,
-        },
-    );
-    assert!(rt; has_lines(alloc, Mode::Plain, &entry, b"x refused 13 too many\n")?);
-    entry.event = Event::Void {
-        name: txt(alloc, b"x")?,
-    };
-    assert!(rt; has_lines(alloc, Mode::Plain, &entry, b"x void\n")?);
-    entry.event = Event::Left {
-        names: names(alloc, b"f")?,
-    };
-    assert!(rt; has_lines(alloc, Mode::Plain, &entry, b"open f\n")?);
+        }),
+        None,
+        b"+ process 1.2.3 1 create refused 13\n",
+    ),
+    (
+        TURN,
+        Told::Turn(Shown::Checkpoint),
+        None,
+        b"+ process 1.2.3 1 checkpoint\n",
+    ),
+    (
+        TURN,
+        Told::Store(15, RequestEnd::Part),
+        None,
+        b"+ store 1.2.3 15 part\n",
+    ),
+    // A reply prints its results.
+    (PLAIN, Told::Reply, None, b"b ok (-5, \"a\\\"b\")\n"),
+    // Commands show their names.
+    (PLAIN, Told::Made, None, b"x refused 13 too many\n"),
+    (PLAIN, Told::Void, None, b"x void\n"),
+    (PLAIN, Told::Left, None, b"open f\n"),
+    // Lines of a trace come first, and disks last.
+    (
+        TRACE,
+        Told::Turn(Shown::Fault {
+            cause: FaultCause::ZeroDivisor,
+        }),
+        None,
+        b"+ process 1.2.3 1 fault\neject 1.2.3 fault zero divisor\n",
+    ),
+    (
+        FULL,
+        Told::Store(18, RequestEnd::Stop),
+        Some((18, b"f")),
+        b"node 1 down stop\nf refused 6 broken\n+ disk 1 18 - -\n",
+    ),
+    (
+        FULL,
+        Told::Activate(StartEnd::Ok, Some(Pick::Old)),
+        Some((18, b"f")),
+        b"+ activate 1.2.3 ok\nf refused 6 broken\n+ disk 1 18 old -\n",
+    ),
+];
+
+#[test]
+fn entries_have_their_lines(rt: HostRuntime) -> Result<(), AllocError> {
+    let alloc = rt.alloc();
+    for &(modes, told, touched, lines) in LINES {
+        let entry = entry(alloc, told, touched)?;
+        for &(mode, shown) in modes {
+            let wanted: &[u8] = if shown { lines } else { b"" };
+            assert!(rt; has_lines(alloc, mode, &entry, wanted)?, "{lines:?}");
+        }
+    }
     Ok(())
 }
+
+const HISTORY: &[(Told, Touched)] = &[
+    (Told::Asked(1, b"a", None), None),
+    (Told::Request(None), None),
+    (Told::Crash(1), Some((11, b"a"))),
+    (Told::Asked(2, b"b", Some(Status::Unreachable)), None),
+    (Told::Asked(3, b"d", None), None),
+];
 
 #[test]
 fn a_summary_counts_calls_and_turns(rt: HostRuntime) -> Result<(), AllocError> {
     let alloc = rt.alloc();
     let mut entries = Vec::new(alloc);
-    entries.push(plain(
-        alloc,
-        Event::Asked {
-            call: 1,
-            name: txt(alloc, b"a")?,
-            at_once: None,
-        },
-    ))?;
-    entries.push(plain(
-        alloc,
-        Event::Request {
-            call: 1,
-            from: 0,
-            to: 1,
-            refused: None,
-        },
-    ))?;
-    entries.push(Entry {
-        event: Event::Crash { node: 1 },
-        node: 1,
-        clock: 11,
-        broken: names(alloc, b"a")?,
-    })?;
-    entries.push(plain(
-        alloc,
-        Event::Asked {
-            call: 2,
-            name: txt(alloc, b"b")?,
-            at_once: Some(Status::Unreachable),
-        },
-    ))?;
-    entries.push(plain(
-        alloc,
-        Event::Asked {
-            call: 3,
-            name: txt(alloc, b"d")?,
-            at_once: None,
-        },
-    ))?;
+    for &(told, touched) in HISTORY {
+        entries.push(entry(alloc, told, touched)?)?;
+    }
     let mut out = Vec::from_slice(alloc, b"a\n")?;
     summary(alloc, &History { entries }, &mut out)?;
     assert_eq!(rt;

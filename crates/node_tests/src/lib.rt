@@ -2,7 +2,13 @@
 #![tactic(auto)]
 
 #[cfg(test)]
+mod agenda_tests;
+#[cfg(test)]
 mod checkpoint_tests;
+#[cfg(test)]
+mod common;
+#[cfg(test)]
+mod eden_kernel_acts;
 #[cfg(test)]
 mod eden_kernel_ends;
 #[cfg(test)]

@@ -1,42 +1,42 @@
-ghost use Rattle.std.specs.Prelude.{◌≡◌, ◌<◌, ◌+◌, true, IfOk, OnOk, length};
+ghost use Rattle.std.specs.Prelude.{IfOk, OnOk};
 ghost use Rattle.eden_kernel.specs.Stands.{held, IsWhole};
 
-use capability::{Cap, Rights, Uid};
+use crate::common::{Amiss, FIRST, Log, SIZE, are_few, ask, places, text};
 use eden_disk::{ImageMode, SimDisk};
 use eden_kernel::TurnEnd;
-use eden_value::{Items, Txt, Value};
 use epl_syntax::Types;
-use invocation::{Asker, Calls};
-use locator::Places;
-use passive_store::{LogStore, Store};
+use invocation::Calls;
+use passive_store::{Doubt, Store};
 use scheduled_node::ScheduledNode;
-use std::alloc::{AllocError, Global};
+use std::alloc::Global;
 use std::test::Fail;
 
-type Log = LogStore<SimDisk>;
-
-/// What did not go as it was to.
-#[derive(Debug, Drop)]
-enum Amiss {
-    Memory,
-    Boot,
-    Created,
-    Many,
-    Idle,
-    Down,
+/// What is done to a node, or asked of it.
+#[derive(Clone, Copy)]
+enum Act {
+    /// A new Cell, which is the first Eject.
+    Create,
+    /// The shell asks it for an operation, with this number or with none.
+    Ask(&'static [u8], Option<i64>),
+    Deliver,
+    /// The turn of the next key.
+    Turn,
+    /// The next key.
+    Next,
+    /// Whether there is one key, which is the next and the last.
+    HasOneKey,
+    /// Whether an answer waits for the shell.
+    HasAnswer,
 }
 
-impl From<AllocError> for Amiss {
-    fn from(_: AllocError) -> Amiss {
-        Amiss::Memory
-    }
-}
-
-/// The one node is up.
-fn places() -> Places {
-    let mut places = Places::new(1);
-    places.set_up(1, true);
-    places
+/// What an act showed.
+#[derive(Clone, Copy, PartialEq)]
+enum Seen {
+    Done,
+    /// The kind and the process of a key.
+    Key(u8, u8),
+    NoKey,
+    Is(bool),
 }
 
 /// A node that has come up.
@@ -51,147 +51,150 @@ where
     }
 }
 
-/// A new Cell.
 fn create<St: Store>(
     alloc: Global,
     types: &Types,
     node: &mut ScheduledNode<St>,
-) -> Result<Uid, Amiss>
+) -> Result<Seen, Amiss>
     requires { IsWhole (held St.seen node.old.node) }
     ensures { OnOk result (IsWhole (held St.seen node.new.node)) }
 {
-    let name = Txt {
-        bytes: b"Cell".to_vec(alloc)?,
-    };
-    let Some(kind) = edentypes::find(types, &name) else {
+    let Some(kind) = edentypes::find(types, &text(alloc, b"Cell")?) else {
         return Err(Amiss::Created);
     };
     match node.create(alloc, types, kind)? {
-        Ok(uid) => Ok(uid),
-        Err(_) => Err(Amiss::Created),
-    }
-}
-
-/// The shell asks the Eject for an operation.
-fn ask(
-    alloc: Global,
-    calls: &mut Calls,
-    uid: Uid,
-    operation: &[u8],
-    values: Vec<Value>,
-) -> Result<(), AllocError>
-    requires { length calls.old.calls < 100 }
-    ensures { OnOk result (length calls.new.calls ≡ length calls.old.calls + 1) }
-{
-    let target = Cap {
-        uid,
-        rights: Rights { bits: 65_535 },
-    };
-    let name = Txt {
-        bytes: b"a".to_vec(alloc)?,
-    };
-    let operation = Txt {
-        bytes: operation.to_vec(alloc)?,
-    };
-    let _asked = calls.ask(
-        alloc,
-        Asker::Shell { name },
-        target,
-        operation,
-        Items { values },
-        &places(),
-    )?;
-    Ok(())
-}
-
-/// Whether there are fewer than a hundred calls.
-fn are_few(calls: &Calls) -> bool
-    ensures { result ≡ true → length calls.now.calls < 100 }
-{
-    match calls.call(100) {
-        Some(_) => false,
-        None => true,
+        Ok(FIRST) => Ok(Seen::Done),
+        _ => Err(Amiss::Created),
     }
 }
 
 /// The kind and the process of the next key of a node that goes on, whose turn is taken.
-fn step<St: Store>(
+fn turn<St: Store>(
     alloc: Global,
     types: &Types,
     calls: &mut Calls,
     node: &mut ScheduledNode<St>,
-) -> Result<(u8, u8), Amiss>
+) -> Result<Seen, Amiss>
     requires { IsWhole (held St.seen node.old.node) }
     ensures { OnOk result (IsWhole (held St.seen node.new.node)) }
 {
     let Some(key) = node.next(None) else {
-        return Err(Amiss::Idle);
+        return Err(Amiss::MayNot);
     };
     if !are_few(calls) {
         return Err(Amiss::Many);
     }
     match node.turn(alloc, types, calls, &places(), key)? {
-        (_, TurnEnd::Up) => Ok((key.kind, key.process)),
+        (_, TurnEnd::Up) => Ok(Seen::Key(key.kind, key.process)),
         (_, TurnEnd::Down) => Err(Amiss::Down),
     }
 }
 
-/// One integer.
-fn integer(alloc: Global, n: i64) -> Result<Vec<Value>, AllocError> {
-    let mut values = Vec::new(alloc);
-    values.push(Value::Int { n })?;
-    Ok(values)
+/// Whether there is one key, which is the next and the last.
+fn has_one_key<St: Store>(alloc: Global, node: &ScheduledNode<St>) -> Result<bool, Amiss> {
+    let mut keys = Vec::new(alloc);
+    node.list(&mut keys)?;
+    let first = keys.first().copied();
+    Ok(keys.len() == 1 && node.next(None) == first && node.next(first).is_none())
 }
+
+fn take<St: Store>(
+    alloc: Global,
+    types: &Types,
+    calls: &mut Calls,
+    node: &mut ScheduledNode<St>,
+    act: Act,
+) -> Result<Seen, Amiss>
+    requires { IsWhole (held St.seen node.old.node) }
+    ensures { OnOk result (IsWhole (held St.seen node.new.node)) }
+{
+    match act {
+        Act::Create => create(alloc, types, node),
+        Act::Ask(operation, number) => {
+            ask(alloc, calls, FIRST, operation, number)?;
+            Ok(Seen::Done)
+        }
+        Act::Deliver => {
+            let _request = node.deliver(alloc, types, calls, 0)?;
+            Ok(Seen::Done)
+        }
+        Act::Turn => turn(alloc, types, calls, node),
+        Act::Next => match node.next(None) {
+            Some(key) => Ok(Seen::Key(key.kind, key.process)),
+            None => Ok(Seen::NoKey),
+        },
+        Act::HasOneKey => Ok(Seen::Is(has_one_key(alloc, node)?)),
+        Act::HasAnswer => Ok(Seen::Is(calls.waiting(1, 0))),
+    }
+}
+
+/// A node that boots over a disk, does what stands in these rows and shows what stands there, and crashes.
+fn run<St: Store + Drop>(
+    alloc: Global,
+    disk: St::Device,
+    rows: &[(Act, Seen)],
+) -> Result<(St::Device, Option<Doubt>), Amiss>
+where
+    St::Device: Drop,
+{
+    let types = Types::native(alloc)?;
+    let mut calls = Calls::new(alloc)?;
+    let mut node = up::<St>(alloc, disk)?;
+    for (place, &(act, wanted)) in rows.iter().enumerate() {
+        if take(alloc, &types, &mut calls, &mut node, act)? != wanted {
+            return Err(Amiss::Row { place });
+        }
+    }
+    Ok(node.crash(ImageMode::Lose))
+}
+
+const ANSWERED: &[(Act, Seen)] = &[
+    (Act::Next, Seen::NoKey),
+    (Act::Create, Seen::Done),
+    (Act::Next, Seen::NoKey),
+    (Act::Ask(b"Set", Some(5)), Seen::Done),
+    (Act::Deliver, Seen::Done),
+    (Act::HasOneKey, Seen::Is(true)),
+    (Act::Turn, Seen::Key(3, 0)),
+    (Act::Turn, Seen::Key(4, 1)),
+    (Act::HasAnswer, Seen::Is(true)),
+];
+
+const SAVED: &[(Act, Seen)] = &[
+    (Act::Create, Seen::Done),
+    (Act::Ask(b"Save", None), Seen::Done),
+    (Act::Deliver, Seen::Done),
+    (Act::Turn, Seen::Key(3, 0)),
+    (Act::Turn, Seen::Key(4, 1)),
+    (Act::Turn, Seen::Key(5, 0)),
+    (Act::Turn, Seen::Key(5, 0)),
+    (Act::Turn, Seen::Key(5, 0)),
+    (Act::Turn, Seen::Key(5, 0)),
+    (Act::Turn, Seen::Key(4, 1)),
+];
+
+/// The Eject is passive, and is started by its next call.
+const WOKEN: &[(Act, Seen)] = &[
+    (Act::Next, Seen::NoKey),
+    (Act::Ask(b"Get", None), Seen::Done),
+    (Act::Deliver, Seen::Done),
+    (Act::Turn, Seen::Key(2, 0)),
+    (Act::Turn, Seen::Key(3, 0)),
+    (Act::Turn, Seen::Key(4, 1)),
+];
 
 #[test]
 fn a_cell_from_its_creation_to_its_answer(rt: HostRuntime) -> Result<(), Fail> {
     let alloc = rt.alloc();
-    let types = Types::native(alloc)?;
-    let mut calls = Calls::new(alloc)?;
-    let mut node = up::<Log>(alloc, SimDisk::new(alloc, 4096)?)?;
-    assert!(rt; node.next(None).is_none());
-    let uid = create(alloc, &types, &mut node)?;
-    assert!(rt; node.next(None).is_none());
-    ask(alloc, &mut calls, uid, b"Set", integer(alloc, 5)?)?;
-    let _request = node.deliver(alloc, &types, &mut calls, 0)?;
-    let mut keys = Vec::new(alloc);
-    node.list(&mut keys)?;
-    assert_eq!(rt; keys.len(), 1);
-    assert_eq!(rt; node.next(None), keys.first().copied());
-    assert!(rt; node.next(keys.first().copied()).is_none());
-    assert_eq!(rt; step(alloc, &types, &mut calls, &mut node)?, (3, 0));
-    assert_eq!(rt; step(alloc, &types, &mut calls, &mut node)?, (4, 1));
-    assert!(rt; calls.waiting(1, 0));
+    run::<Log>(alloc, SimDisk::new(alloc, SIZE)?, ANSWERED)?;
     Ok(())
 }
 
 #[test]
 fn a_cell_that_saves_and_a_crash(rt: HostRuntime) -> Result<(), Fail> {
     let alloc = rt.alloc();
-    let types = Types::native(alloc)?;
-    let mut calls = Calls::new(alloc)?;
-    let mut node = up::<Log>(alloc, SimDisk::new(alloc, 4096)?)?;
-    let uid = create(alloc, &types, &mut node)?;
-    ask(alloc, &mut calls, uid, b"Save", Vec::new(alloc))?;
-    let _request = node.deliver(alloc, &types, &mut calls, 0)?;
-    assert_eq!(rt; step(alloc, &types, &mut calls, &mut node)?, (3, 0));
-    assert_eq!(rt; step(alloc, &types, &mut calls, &mut node)?, (4, 1));
-    assert_eq!(rt; step(alloc, &types, &mut calls, &mut node)?, (5, 0));
-    assert_eq!(rt; step(alloc, &types, &mut calls, &mut node)?, (5, 0));
-    assert_eq!(rt; step(alloc, &types, &mut calls, &mut node)?, (5, 0));
-    assert_eq!(rt; step(alloc, &types, &mut calls, &mut node)?, (5, 0));
-    assert_eq!(rt; step(alloc, &types, &mut calls, &mut node)?, (4, 1));
-    let (disk, doubt) = node.crash(ImageMode::Lose);
+    let (disk, doubt) = run::<Log>(alloc, SimDisk::new(alloc, SIZE)?, SAVED)?;
     assert!(rt; doubt.is_none());
-
-    // The Eject is passive, and is started by its next call.
-    let mut again = up::<Log>(alloc, disk)?;
-    assert!(rt; again.next(None).is_none());
-    let mut later = Calls::new(alloc)?;
-    ask(alloc, &mut later, uid, b"Get", Vec::new(alloc))?;
-    let _request = again.deliver(alloc, &types, &mut later, 0)?;
-    assert_eq!(rt; step(alloc, &types, &mut later, &mut again)?, (2, 0));
-    assert_eq!(rt; step(alloc, &types, &mut later, &mut again)?, (3, 0));
-    assert_eq!(rt; step(alloc, &types, &mut later, &mut again)?, (4, 1));
+    run::<Log>(alloc, disk, WOKEN)?;
     Ok(())
 }
