@@ -94,9 +94,7 @@ fn outcomes(rt: HostRuntime) -> Result<(), Fail> {
     Ok(())
 }
 
-/// The words, the script, the reads and the writes that fail, the outcome, and the least numbers of entries and of bytes. With ample
-/// memory what asks for a run comes to its end: a body that always answers OutOfMemory keeps each clause, and fails here. A read or a
-/// write that fails ends the call; the history is whole behind a write.
+/// The words, the script, the reads and the writes that fail, the outcome, and the least numbers of entries and of bytes.
 const ENDS: &[(&[&str], &str, (&[u32], &[u32]), Outcome, usize, usize)] = &[
     (&["run"], SCRIPT, (&[], &[]), Outcome::Ran, 1, 1),
     (&["run", "--trace"], SCRIPT, (&[], &[]), Outcome::Ran, 1, 1),
@@ -113,8 +111,10 @@ const ENDS: &[(&[&str], &str, (&[u32], &[u32]), Outcome, usize, usize)] = &[
     (&["run"], BOOTS, (&[], &[1]), Outcome::WriteFault, 1, 0),
 ];
 
+// With ample memory what asks for a run comes to its end: a body that always answers OutOfMemory keeps each clause, and fails here. A read
+// or a write that fails ends the call; the history is whole behind a write.
 #[test]
-fn runs_and_faults_have_their_ends(rt: HostRuntime) -> Result<(), Fail> {
+fn always_out_of_memory(rt: HostRuntime) -> Result<(), Fail> {
     let alloc = rt.alloc();
     for (place, &(words, script, failing, outcome, entries, bytes)) in ENDS.iter().enumerate() {
         let said = call_of(alloc, words, (script, 0), failing)?;
