@@ -1,8 +1,8 @@
 -- Where the name of a text's type stands: behind `edentype` and blanks.
-use Rattle.std.proofs.Common.{◌≡◌, ◌∙◌, ap, sym, refl, subst, ℕ, zero, suc, ◌+◌, ◌-◌, ◌<◌, ◌≤◌, ◌==◌, Bool, true, false, cond, not, ◌⊎◌}
+use Rattle.std.proofs.Common.{◌≡◌, ◌∙◌, ap, sym, refl, subst, ℕ, zero, suc, ◌+◌, ◌-◌, ◌<◌, ◌≤◌, ◌==◌, Bool, true, false, cond, not}
 use Rattle.std.proofs.Common.{inl, inr, List, [], ◌∷◌, ◌++◌, length, take, drop, codes, Option, Some, None, arith}
-use Rattle.std.specs.Prelude.{◌&&◌, ◌||◌, nat_lt, nat_le, option_and_then, slice_index}
-use Rattle.std.specs.Char.{is_ascii_uppercase, is_ascii_lowercase, is_ascii_alphanumeric}
+use Rattle.std.specs.Prelude.{◌&&◌, nat_lt, nat_le, option_and_then, slice_index}
+use Rattle.std.specs.Char.{is_ascii_uppercase, is_ascii_lowercase}
 use Rattle.std.specs.List.{take_while, list_all}
 use Rattle.std.specs.Str.{bytes_eq}
 use Rattle.std.proofs.lemmas.Bool.{cases_Bool, and_parts, and_from, lt-ltb}
@@ -17,7 +17,7 @@ use Rattle.epl_syntax.specs.declared.token.TokenKind.{TokenKind}
 use Rattle.epl_syntax.specs.declared.token.TokenKind.TheVariants as kind
 use Rattle.epl_syntax.specs.declared.word.Word.{Word}
 use Rattle.epl_syntax.specs.declared.word.Word.TheVariants as word
-use Rattle.eden_script.specs.Form.{starts_with, is_named, is_upper}
+use Rattle.eden_script.specs.Form.{starts_with, is_upper}
 use Rattle.eden_script.specs.Declarations.{declared_name, name_place, name_at}
 
 -- ## The first elements that pass a test

@@ -20,7 +20,7 @@ use crate::flaw::Place;
 use crate::line::Seen;
 use crate::reader::{is_upper, name_length};
 use eden_value::Txt;
-use epl_check::{CheckRefusal, check};
+use epl_check::{CheckRefusal, check, resolve};
 use epl_parser::parse_edentype;
 use epl_syntax::{Checked, ParseRefusal, Types};
 use std::alloc::{AllocError, Global};
@@ -160,12 +160,15 @@ pub fn declared(alloc: Global, types: &Types, text: &[u8]) -> Result<Checked, Re
     ensures declares { IfOk result (λ c. Declares (types_in types.now) text.now (tree.type_tree c.program)) }
     ensures refused { IfErr result (IsRefused (types_in types.now) text.now) }
 {
-    let program = match parse_edentype(alloc, text) {
+    let mut program = match parse_edentype(alloc, text) {
         Ok(program) => program,
         Err(refusal) => return Err(refused_by_grammar(refusal)),
     };
-    match check(alloc, &program, types) {
+    if let Err(refusal) = check(alloc, &program, types) {
+        return Err(refused_by_rule(refusal));
+    }
+    match resolve(alloc, &mut program, text.len()) {
         Ok(()) => Ok(Checked::of(program, types)),
-        Err(refusal) => Err(refused_by_rule(refusal)),
+        Err(_) => Err(Refused::Memory),
     }
 }

@@ -11,6 +11,7 @@ use Rattle.epl_syntax.specs.Edentype.{Edentype, native, declared}
 use Rattle.epl_syntax.specs.Memory.{value_of_constant}
 use Rattle.epl_syntax.specs.Natives.{rule_of}
 use Rattle.epl_syntax.specs.Outline.{Slot, Operation}
+use Rattle.epl_syntax.specs.Bindings.{is_resolved}
 use Rattle.epl_syntax.specs.Tree.{type_tree, constant}
 use Rattle.transput.specs.View.{is_stream}
 use Rattle.edentypes.specs.declared.form.Form.{Form}
@@ -26,6 +27,11 @@ use Rattle.edentypes.specs.declared.native.Operation.{Operation as NativeOperati
 abbrev pub form_of : Form → Edentype
 form_of (form.Native n) = native n
 form_of (form.Declared p) = declared (type_tree p.now)
+
+-- the names of a declared type are resolved
+abbrev pub IsResolved : Form → Type 0
+IsResolved (form.Native n) = Unit {0}
+IsResolved (form.Declared p) = is_resolved p.now ≡ true
 
 -- the kind that one of the tables stands for
 abbrev pub shape_of : Plain → Shape

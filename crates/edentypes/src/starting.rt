@@ -1,9 +1,10 @@
 //! The values with which an Eject starts, and what is kept of them.
-ghost use Rattle.std.specs.Prelude.{◌≡◌, IfOk, map};
+ghost use Rattle.std.specs.Prelude.{◌≡◌, IfOk, map, true};
 ghost use Rattle.std.specs.Option.{option_map};
 ghost use Rattle.epl_syntax.specs.Meaning as meaning;
 ghost use Rattle.epl_syntax.specs.Natives as natives;
 ghost use Rattle.epl_syntax.specs.Edentype.{declared as declared_type, declared_outline};
+ghost use Rattle.epl_syntax.specs.Bindings.{is_resolved};
 ghost use Rattle.epl_syntax.specs.Tree.{type_tree};
 ghost use Rattle.eden_value.specs.View.{datums};
 ghost use Rattle.edentypes.specs.Forms.{slot_of_variable};
@@ -146,6 +147,7 @@ fn declared_upgraded(
     rep: &Rep,
     me: Uid,
 ) -> Result<Option<Items>, AllocError>
+    requires { is_resolved program.now ≡ true }
     ensures { IfOk result (λ made. made ≡ meaning.upgraded (declared_type (type_tree program.now)) rep.now me) }
 {
     match epl_run::upgraded(alloc, program, rep, me)? {

@@ -1,9 +1,10 @@
 //! Turns of processes.
-ghost use Rattle.std.specs.Prelude.{◌≡◌, IfOk};
+ghost use Rattle.std.specs.Prelude.{◌≡◌, IfOk, true};
 ghost use Rattle.epl_syntax.specs.Edentype.{native as native_type, declared as declared_type};
 ghost use Rattle.epl_syntax.specs.Cell as cells;
 ghost use Rattle.epl_syntax.specs.Meaning as meaning;
 ghost use Rattle.epl_syntax.specs.Natives as natives;
+ghost use Rattle.epl_syntax.specs.Bindings.{is_resolved};
 ghost use Rattle.epl_syntax.specs.Tree.{type_tree};
 ghost use Rattle.epl_syntax.specs.declared.types.Native.TheVariants.{Directory};
 ghost use Rattle.directory_eject.specs.Stages as directories;
@@ -99,6 +100,7 @@ fn declared_turn(
     answer: Answer,
     me: Uid,
 ) -> Result<Effect, AllocError>
+    requires { is_resolved program.now ≡ true }
     ensures { IfOk result (λ effect. turned_of vars.new (rest_of (declared_type (type_tree program.now)) rest.new) effect
         ≡ meaning.turn (declared_type (type_tree program.now)) vars.old (rest_of (declared_type (type_tree program.now)) rest.old)
         answer me) }

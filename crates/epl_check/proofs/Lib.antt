@@ -5,3 +5,4 @@ pub mod Items
 pub mod Least
 pub mod Named
 pub mod Rows
+pub mod BindingTurns

@@ -24,6 +24,7 @@ pub(crate) fn without_items(alloc: Global, name: Name, version: Option<Number>) 
         operations: Vec::new(alloc),
         processes: Vec::new(alloc),
         upgrades: Vec::new(alloc),
+        bindings: Vec::new(alloc),
     }
 }
 

@@ -15,7 +15,8 @@ use Rattle.epl_syntax.specs.Statements.{Step, does, no_answer}
 use Rattle.epl_syntax.specs.Turns.{Left, operation_left, process_left, left_of as begun, nothing_left}
 use Rattle.epl_values.specs.declared.variables.Owner.{Owner}
 use Rattle.epl_values.specs.declared.variables.Owner.TheVariants as owner
-use Rattle.epl_values.specs.Variables.{place_of, own_of, locals_with}
+use Rattle.epl_syntax.specs.Bindings.{place_of}
+use Rattle.epl_values.specs.Variables.{own_of, locals_with}
 use Rattle.epl_run.specs.declared.rest.Rest.{Rest}
 use Rattle.epl_run.specs.Begins.{local_starts, IsWhole}
 use Rattle.epl_run.specs.Blocks.{left_of, rest_of, body_steps, has_to_return, awaited}

@@ -6,7 +6,7 @@ use Rattle.std.proofs.lemmas.Iterator.Adapters.{position_from-zero}
 use Rattle.eden_model.specs.Map.{with_item, same_text}
 use Rattle.epl_syntax.specs.declared.tree.Name.{Name}
 use Rattle.epl_syntax.specs.declared.tree.CondDecl.{CondDecl}
-use Rattle.epl_values.specs.Variables.{place_of}
+use Rattle.epl_syntax.specs.Bindings.{place_of}
 
 pub place_within : (t : Name → Bool) (ns : List Name) (n i : ℕ) → position_from t n ns ≡ Some i → i < n + length ns
 place_within t [] n i h = absurd cc
@@ -17,7 +17,7 @@ place_within t (m ∷ ns) n i h = by (t m) h (place_within t ns (n + 1) i)
     by true h k = let e : n ≡ i = cc in omega (arith, e)
     by false h k = omega (arith, k h)
 
-same_position : {X : Type 0} (f : X → Name) (t : Name → Bool) (xs : List X) (n : ℕ)
+pub same_position : {X : Type 0} (f : X → Name) (t : Name → Bool) (xs : List X) (n : ℕ)
     → position_from (λ x. t (f x)) n xs ≡ position_from t n (map f xs)
 same_position f t [] n = refl
 same_position f t (x ∷ xs) n = ap (cond (t (f x)) (Some n)) (same_position f t xs (n + 1))

@@ -1,5 +1,6 @@
 pub mod BeginLaws
 pub mod Counted
+pub mod Found
 pub mod Frames
 pub mod Held
 pub mod Replies

@@ -166,3 +166,17 @@ pub accepted : (gives : List (List ℕ)) (s : Status) (results : List Datum) (m 
     → taken gives s results m ≡ Ok (set_each gives results m)
 accepted gives s results m n is kinds fits =
     taken_ok gives s results m true is (ap (have_shapes results) kinds ∙ sym fits)
+
+-- ---- one more variable gets its value
+pub set_next : (names : List Name) (i : ℕ) (n : Name) (vs rest : List Value) (v : Value) (m new : Memory) → i < length names
+    → n ≡ get_or names i n → 0 < length vs → v ≡ get_or vs 0 v → rest ≡ drop 1 vs → new ≡ set n.text (datum v) m
+    → set_each (map (λ n. n.text) (drop (i + 1) names)) (datums rest) new ≡ set_each (map (λ n. n.text) (drop i names)) (datums vs) m
+set_next [] i n vs rest v m new within at some first others is = absurd (omega arith)
+set_next (x ∷ xs) i n [] rest v m new within at some first others is = absurd (omega arith)
+set_next (x ∷ xs) zero n (y ∷ ys) rest v m new within at some first others is =
+    ap (λ l. set_each (map (λ k. k.text) xs) (datums l) new) others
+    ∙ ap (set_each (map (λ k. k.text) xs) (datums ys)) (is ∙ ap (λ k. set k.text (datum v) m) at ∙ ap (λ u. set x.text (datum u) m) first)
+set_next (x ∷ xs) (suc i) n (y ∷ ys) rest v m new within at some first others is =
+    let e : suc i + 1 ≡ suc (i + 1) = omega arith in
+    ap (λ j. set_each (map (λ k. k.text) (drop j (x ∷ xs))) (datums rest) new) e
+    ∙ set_next xs i n (y ∷ ys) rest v m new (omega arith) at some first others is

@@ -8,7 +8,7 @@ use Rattle.epl_syntax.specs.declared.tree.Stmt as stmt
 use Rattle.epl_syntax.specs.Tree.{TypeTree, statement, statement_row, statements}
 use Rattle.epl_syntax.specs.Statements.{Step, does, leaves, steps, no_answer}
 use Rattle.epl_syntax.proofs.TreeRows.{statement_items}
-use Rattle.epl_run.specs.Blocks.{steps_of, end_of, branch_steps, awaited_of, awaited_before}
+use Rattle.epl_run.specs.Blocks.{steps_of, end_of, branch_steps, inner, awaited_of, awaited_before}
 use Rattle.epl_run.specs.declared.rest.Branch.{Branch}
 use Rattle.epl_run.specs.declared.rest.Branch.TheVariants.{Whole, So, Otherwise, Body, Held}
 use mathlib.Core.Former.{Count}
@@ -60,6 +60,15 @@ branch_none t b [] (Some k) zero h = leave b
 branch_none t b [] (Some k) (suc i) h = refl
 branch_none t b (x ∷ ss) k zero h = absurd (omega arith)
 branch_none t b (x ∷ ss) k (suc i) h = branch_none t b ss k i (omega arith)
+
+-- a branch of a step, as the block that is entered there
+pub inner_is : (t : TypeTree) (b : Branch) (block : List Step) (at : ℕ) (found : Option Step) → slice_get block at ≡ found → (b ≡ Whole → ⊥)
+    → with_item found (branch_steps t b) [] ≡ inner t block at b
+inner_is t Whole block at found is other = absurd (other refl)
+inner_is t So block at found is other = ap (λ o. with_item o (branch_steps t So) []) (sym is)
+inner_is t Otherwise block at found is other = ap (λ o. with_item o (branch_steps t Otherwise) []) (sym is)
+inner_is t Body block at found is other = ap (λ o. with_item o (branch_steps t Body) []) (sym is)
+inner_is t Held block at found is other = ap (λ o. with_item o (branch_steps t Held) []) (sym is)
 
 -- a block's length
 pub steps_length : (ss : List Stmt) (k : Option ℕ) → length (steps_of ss ++ end_of k) ≡ length ss + length (end_of k)

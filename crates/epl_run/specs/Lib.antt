@@ -1,4 +1,5 @@
 pub mod Blocks
+pub mod Found
 pub mod Acts
 pub mod Begins
 pub mod Upgraded

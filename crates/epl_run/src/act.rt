@@ -1,5 +1,6 @@
 //! What a step does.
-ghost use Rattle.std.specs.Prelude.{◌≡◌, List, IfOk};
+ghost use Rattle.std.specs.Prelude.{◌≡◌, List, IfOk, map, true};
+ghost use Rattle.std.specs.List.{list_all};
 ghost use Rattle.eden_value.specs.View.{datum};
 ghost use Rattle.epl_syntax.specs.Tree as tree;
 ghost use Rattle.epl_syntax.specs.Tree.{type_tree};
@@ -8,7 +9,8 @@ ghost use Rattle.epl_syntax.specs.Expressions as expressions;
 ghost use Rattle.epl_syntax.specs.Statements as meaning;
 ghost use Rattle.epl_syntax.specs.Statements.{Step, does};
 ghost use Rattle.epl_values.specs.Comes.{Comes};
-ghost use Rattle.epl_values.specs.Variables.{memory};
+ghost use Rattle.epl_values.specs.Variables.{memory, is_found};
+ghost use Rattle.epl_syntax.specs.Bindings.{each_of_expression, each_of_target, each_of_statement};
 ghost use Rattle.epl_run.specs.Acts as spec;
 ghost use Rattle.epl_run.specs.declared.act.Act.TheVariants.{Enter, End};
 ghost use Rattle.epl_run.specs.Acts.{Behind};
@@ -41,6 +43,7 @@ pub(crate) fn tested(
     vars: &Variables,
     e: &Expr,
 ) -> Result<bool, Stop>
+    requires { each_of_expression (is_found program.now vars.now.owner) (tree.expression e.now) ≡ true }
     ensures { Comes (λ b. b) result
         (found (expressions.value_of (memory (type_tree program.now) vars.now) (tree.expression e.now)) spec.truth_in) }
 {
@@ -54,11 +57,12 @@ pub(crate) fn tested(
 
 /// The capability of the Eject that is invoked.
 fn target_of(program: &Program, vars: &Variables, target: &Target) -> Result<Cap, Stop>
+    requires { each_of_target (is_found program.now vars.now.owner) target.now ≡ true }
     ensures { Comes (λ (c : Capability). c) result (meaning.target_of (memory (type_tree program.now) vars.now) target.now) }
 {
     match target {
         Target::Me { .. } => Ok(mint(vars.me)),
-        Target::Name { name } => match value_named(program, vars, &name.text) {
+        Target::Name { name } => match value_named(program, vars, name) {
             None => Err(Stop::Fault {
                 cause: FaultCause::BadKind,
             }),
@@ -78,6 +82,7 @@ fn copy_text(alloc: Global, text: &Txt) -> Result<Txt, AllocError>
 }
 
 /// An invocation: its target is looked at first, then its arguments.
+#[tactic(auto, using(crate::proofs::Found::row_given))]
 fn invoked(
     alloc: Global,
     program: &Program,
@@ -86,6 +91,8 @@ fn invoked(
     operation: &Txt,
     args: &[Expr],
 ) -> Result<Effect, Stop>
+    requires target { each_of_target (is_found program.now vars.now.owner) target.now ≡ true }
+    requires args { list_all (each_of_expression (is_found program.now vars.now.owner)) (map tree.expression args.now) ≡ true }
     ensures { Comes (λ (e : Happening). e) result
         (spec.invocation (memory (type_tree program.now) vars.now) target.now operation.now (tree.expressions args.now)) }
 {
@@ -113,12 +120,14 @@ fn enters(branch: Branch, again: bool) -> Act
 }
 
 /// What a return gives.
+#[tactic(auto, using(crate::proofs::Found::row_given))]
 fn returned(
     alloc: Global,
     program: &Program,
     vars: &Variables,
     results: &[Expr],
 ) -> Result<Effect, Stop>
+    requires { list_all (each_of_expression (is_found program.now vars.now.owner)) (map tree.expression results.now) ≡ true }
     ensures { Comes (λ (e : Happening). e) result
         (spec.returned (memory (type_tree program.now) vars.now) (tree.expressions results.now)) }
 {
@@ -130,6 +139,7 @@ fn returned(
 
 /// An effect whose answer sets variables.
 fn awaiting(alloc: Global, program: &Program, vars: &Variables, s: &Stmt) -> Result<Act, Stop>
+    requires { each_of_statement (is_found program.now vars.now.owner) (tree.statement s.now) ≡ true }
     ensures { (rest : List Step) → spec.NeedsAnswer (tree.statement s.now)
         → Behind (type_tree program.now) vars.now (does (tree.statement s.now)) rest result
         (meaning.came_of (type_tree program.now) (memory (type_tree program.now) vars.now) (does (tree.statement s.now)) rest) }
@@ -157,14 +167,15 @@ pub(crate) fn made_of(
     vars: &mut Variables,
     s: &Stmt,
 ) -> Result<Act, Stop>
-    requires { IsCounted program.now }
+    requires counted { IsCounted program.now }
+    requires found { each_of_statement (is_found program.now vars.old.owner) (tree.statement s.now) ≡ true }
     ensures behind { (rest : List Step) → Behind (type_tree program.now) vars.new (does (tree.statement s.now)) rest result
         (meaning.came_of (type_tree program.now) (memory (type_tree program.now) vars.old) (does (tree.statement s.now)) rest) }
     ensures owner { vars.new.owner ≡ vars.old.owner }
 {
     match s {
         Stmt::Assign { name, value } => {
-            assign(alloc, program, vars, &name.text, value)?;
+            assign(alloc, program, vars, name, value)?;
             Ok(Act::Next)
         }
         Stmt::If { test: asked, .. } => {
@@ -182,13 +193,13 @@ pub(crate) fn made_of(
             }
         }
         Stmt::With { monitor, .. } => Ok(Act::Lock {
-            monitor: monitor_number(program, &monitor.text),
+            monitor: monitor_number(program, monitor),
         }),
         Stmt::Wait { condition, .. } => Ok(ends(Effect::Wait {
-            condition: condition_number(program, &condition.text),
+            condition: condition_number(program, condition),
         })),
         Stmt::Signal { condition, .. } => Ok(ends(Effect::Signal {
-            condition: condition_number(program, &condition.text),
+            condition: condition_number(program, condition),
         })),
         Stmt::Yield { .. } => Ok(ends(Effect::Yield)),
         Stmt::Deactivate { .. } => Ok(ends(Effect::Deactivate)),

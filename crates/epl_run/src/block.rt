@@ -1,13 +1,18 @@
 //! Blocks of steps, and the places in them.
-ghost use Rattle.std.specs.Prelude.{◌≡◌, ◌↔◌, length, IsTrue};
+ghost use Rattle.std.specs.Prelude.{◌≡◌, ◌↔◌, Bool, true, length, IsTrue};
 ghost use Rattle.epl_syntax.specs.Tree.{type_tree, statement};
 ghost use Rattle.epl_syntax.specs.Statements as meaning;
 ghost use Rattle.epl_run.specs.Blocks as spec;
 ghost use Rattle.epl_run.specs.Blocks.{IsCounted};
+ghost use Rattle.epl_run.specs.Found.{AreOfBody, each_in, each_made};
+ghost use Rattle.epl_syntax.specs.Bindings.{Sort, monitor, condition, each_of_statement};
+ghost use Rattle.epl_syntax.specs.declared.tree.Name.{Name as Written};
+ghost use Rattle.epl_values.specs.Variables.{is_found};
+ghost use Rattle.epl_values.specs.declared.variables.Owner.{Owner};
 
 use crate::rest::{Branch, Frame};
 use eden_value::Txt;
-use epl_syntax::{Program, Stmt};
+use epl_syntax::{Binding, Name, Program, Stmt, binding_at};
 use epl_values::place_of;
 
 /// The steps of a block: its statements, and behind them the end of a `with` that leaves a monitor.
@@ -24,9 +29,9 @@ pub fn is_counted(program: &Program) -> bool
     program.monitors.len() <= u8::MAX as usize && program.conditions.len() <= u8::MAX as usize
 }
 
-/// The number of the monitor of a name, counted from 1.
+/// The number of the monitor of a text, counted from 1.
 #[tactic(auto, using(crate::proofs::Counted::monitor_is, crate::proofs::Counted::place_in))]
-pub(crate) fn monitor_number(program: &Program, text: &Txt) -> u8
+fn monitor_by_name(program: &Program, text: &Txt) -> u8
     requires { IsCounted program.now }
     ensures { result ≡ meaning.monitor_number (type_tree program.now) text.now }
 {
@@ -36,9 +41,22 @@ pub(crate) fn monitor_number(program: &Program, text: &Txt) -> u8
     }
 }
 
-/// The number of the condition of a name, counted from 0.
+/// The number of the monitor of a name, counted from 1.
+#[tactic(auto, using(crate::proofs::Found::monitor_within, crate::proofs::Found::monitor_at))]
+pub(crate) fn monitor_number(program: &Program, name: &Name) -> u8
+    requires counted { IsCounted program.now }
+    requires found { (owner : Owner) × (is_found program.now owner monitor name.now ≡ true) }
+    ensures { result ≡ meaning.monitor_number (type_tree program.now) name.now.text }
+{
+    match binding_at(&program.bindings, name.place) {
+        Binding::Monitor { at } => at as u8 + 1,
+        _ => monitor_by_name(program, &name.text),
+    }
+}
+
+/// The number of the condition of a text, counted from 0.
 #[tactic(auto, using(crate::proofs::Counted::condition_is, crate::proofs::Counted::place_in))]
-pub(crate) fn condition_number(program: &Program, text: &Txt) -> u8
+fn condition_by_name(program: &Program, text: &Txt) -> u8
     requires { IsCounted program.now }
     ensures { result ≡ meaning.condition_number (type_tree program.now) text.now }
 {
@@ -48,8 +66,22 @@ pub(crate) fn condition_number(program: &Program, text: &Txt) -> u8
     }
 }
 
+/// The number of the condition of a name, counted from 0.
+#[tactic(auto, using(crate::proofs::Found::condition_within, crate::proofs::Found::condition_at))]
+pub(crate) fn condition_number(program: &Program, name: &Name) -> u8
+    requires counted { IsCounted program.now }
+    requires found { (owner : Owner) × (is_found program.now owner condition name.now ≡ true) }
+    ensures { result ≡ meaning.condition_number (type_tree program.now) name.now.text }
+{
+    match binding_at(&program.bindings, name.place) {
+        Binding::Condition { at } => at as u8,
+        _ => condition_by_name(program, &name.text),
+    }
+}
+
 fn of(statements: &[Stmt]) -> Block<'_>
-    ensures { spec.steps_in result ≡ spec.steps_of statements.now }
+    ensures steps { spec.steps_in result ≡ spec.steps_of statements.now }
+    ensures statements { result.statements.now ≡ statements.now }
 {
     Block {
         statements,
@@ -60,8 +92,11 @@ fn of(statements: &[Stmt]) -> Block<'_>
 /// The steps of a branch of a statement, none where it has no such branch.
 #[tactic(auto, using(crate::proofs::Rows::row_steps))]
 fn branch_of<'p>(program: &Program, branch: Branch, s: &'p Stmt) -> Block<'p>
-    requires { IsCounted program.now }
-    ensures { spec.steps_in result ≡ spec.branch_steps (type_tree program.now) branch (meaning.does (statement s.now)) }
+    requires counted { IsCounted program.now }
+    requires found { (owner : Owner) × (each_of_statement (is_found program.now owner) (statement s.now) ≡ true) }
+    ensures steps { spec.steps_in result ≡ spec.branch_steps (type_tree program.now) branch (meaning.does (statement s.now)) }
+    ensures each { (test : Sort → Written → Bool) → each_of_statement test (statement s.now) ≡ true
+        → each_in test result.statements.now ≡ true }
 {
     match s {
         Stmt::If { so, otherwise, .. } => match branch {
@@ -76,7 +111,7 @@ fn branch_of<'p>(program: &Program, branch: Branch, s: &'p Stmt) -> Block<'p>
         Stmt::With { monitor, body, .. } => match branch {
             Branch::Held => Block {
                 statements: body,
-                leaves: Some(monitor_number(program, &monitor.text)),
+                leaves: Some(monitor_number(program, monitor)),
             },
             _ => of(&[]),
         },
@@ -86,8 +121,11 @@ fn branch_of<'p>(program: &Program, branch: Branch, s: &'p Stmt) -> Block<'p>
 
 /// The steps of a branch of a block's statement, or the block itself.
 pub(crate) fn inner<'p>(program: &Program, block: Block<'p>, at: usize, branch: Branch) -> Block<'p>
-    requires { IsCounted program.now }
-    ensures { spec.steps_in result ≡ spec.inner (type_tree program.now) (spec.steps_in block.entry) at branch }
+    requires counted { IsCounted program.now }
+    requires found { AreOfBody program.now block.statements.now }
+    ensures steps { spec.steps_in result ≡ spec.inner (type_tree program.now) (spec.steps_in block.entry) at branch }
+    ensures each { (test : Sort → Written → Bool) → each_in test block.entry.statements.now ≡ true
+        → each_in test result.statements.now ≡ true }
 {
     match branch {
         Branch::Whole => block,
@@ -100,8 +138,10 @@ pub(crate) fn inner<'p>(program: &Program, block: Block<'p>, at: usize, branch: 
 
 /// The innermost block of the frames.
 pub(crate) fn block_at<'p>(program: &Program, body: &'p [Stmt], frames: &[Frame]) -> Block<'p>
-    requires { IsCounted program.now }
-    ensures { spec.steps_in result ≡ spec.block_at (type_tree program.now) (spec.steps_of body.now) frames.now }
+    requires counted { IsCounted program.now }
+    requires found { AreOfBody program.now body.now }
+    ensures steps { spec.steps_in result ≡ spec.block_at (type_tree program.now) (spec.steps_of body.now) frames.now }
+    ensures each { (test : Sort → Written → Bool) → each_in test body.now ≡ true → each_in test result.statements.now ≡ true }
 {
     let mut block = of(body);
     for frame in frames {
@@ -117,9 +157,11 @@ pub(crate) fn block_of<'p>(
     frames: &[Frame],
     frame: Frame,
 ) -> Block<'p>
-    requires { IsCounted program.now }
-    ensures { spec.steps_in result ≡ spec.own (type_tree program.now)
+    requires counted { IsCounted program.now }
+    requires found { AreOfBody program.now body.now }
+    ensures steps { spec.steps_in result ≡ spec.own (type_tree program.now)
         (spec.block_at (type_tree program.now) (spec.steps_of body.now) frames.now) frame }
+    ensures each { (test : Sort → Written → Bool) → each_in test body.now ≡ true → each_in test result.statements.now ≡ true }
 {
     let around = block_at(program, body, frames);
     inner(program, around, frame.entered, frame.branch)
@@ -128,7 +170,8 @@ pub(crate) fn block_of<'p>(
 /// The statement before a place of a block.
 #[tactic(auto, using(crate::proofs::Rows::before_first, crate::proofs::Rows::before_statement, crate::proofs::Rows::before_none))]
 fn before<'p>(block: Block<'p>, place: usize) -> Option<&'p Stmt>
-    ensures { spec.awaited_at result ≡ spec.awaited_before (spec.steps_in block.entry) place }
+    ensures awaited { spec.awaited_at result ≡ spec.awaited_before (spec.steps_in block.entry) place }
+    ensures each { (test : Sort → Written → Bool) → each_in test block.entry.statements.now ≡ true → each_made test result ≡ true }
 {
     if place == 0 {
         return None;
@@ -145,8 +188,10 @@ pub(crate) fn last_made<'p>(
     body: &'p [Stmt],
     frames: &[Frame],
 ) -> Option<&'p Stmt>
-    requires { IsCounted program.now }
-    ensures { spec.awaited_at result ≡ spec.awaited (type_tree program.now) (spec.steps_of body.now) frames.now }
+    requires counted { IsCounted program.now }
+    requires found { AreOfBody program.now body.now }
+    ensures awaited { spec.awaited_at result ≡ spec.awaited (type_tree program.now) (spec.steps_of body.now) frames.now }
+    ensures each { (test : Sort → Written → Bool) → each_in test body.now ≡ true → each_made test result ≡ true }
 {
     let mut block = of(body);
     let mut made = None;

@@ -1,10 +1,11 @@
 //! A turn of a process.
-ghost use Rattle.std.specs.Prelude.{◌≡◌, IfOk, map};
+ghost use Rattle.std.specs.Prelude.{◌≡◌, IfOk, map, true};
 ghost use Rattle.epl_syntax.specs.Memory.{variables};
 ghost use Rattle.epl_syntax.specs.Tree.{type_tree, statement};
 ghost use Rattle.epl_syntax.specs.Turns as turns;
 ghost use Rattle.epl_values.specs.Comes.{Moves};
 ghost use Rattle.epl_values.specs.Variables.{memory};
+ghost use Rattle.epl_syntax.specs.Bindings.{is_resolved};
 ghost use Rattle.epl_run.specs.Blocks as blocks;
 ghost use Rattle.epl_run.specs.Blocks.{IsCounted};
 
@@ -48,14 +49,15 @@ fn has_to_return(owner: Owner) -> bool
 }
 
 /// The answer is taken.
-#[tactic(auto, using(crate::proofs::Rows::steps_map, crate::proofs::Turned::told_go))]
+#[tactic(auto, using(crate::proofs::Rows::steps_map, crate::proofs::Turned::told_go, crate::proofs::Found::of_body, crate::proofs::Found::statements_found))]
 fn told(
     program: &Program,
     vars: &mut Variables,
     frames: &[Frame],
     answer: Answer,
 ) -> Result<(), Stop>
-    requires { IsCounted program.now }
+    requires counted { IsCounted program.now }
+    requires resolved { is_resolved program.now ≡ true }
     ensures told { Moves result (memory (type_tree program.now) vars.new) (memory (type_tree program.now) vars.old)
         (turns.told (blocks.awaited (type_tree program.now) (blocks.body_steps (type_tree program.now) vars.old.owner) frames.now)
         answer (memory (type_tree program.now) vars.old)) }
@@ -72,7 +74,7 @@ fn told(
 }
 
 /// The answer is taken, and then steps are made up to the next effect.
-#[tactic(auto, using(crate::proofs::Rows::steps_map))]
+#[tactic(auto, using(crate::proofs::Rows::steps_map, crate::proofs::Found::statements_found))]
 fn go_on(
     alloc: Global,
     program: &Program,
@@ -80,7 +82,8 @@ fn go_on(
     frames: &mut SmallVec<Frame, 8>,
     answer: Answer,
 ) -> Result<Effect, AllocError>
-    requires { IsCounted program.now }
+    requires counted { IsCounted program.now }
+    requires resolved { is_resolved program.now ≡ true }
     ensures came { IfOk result (λ e. blocks.Came (type_tree program.now) (blocks.body_steps (type_tree program.now) vars.old.owner)
         e vars.new frames.new.items
         (blocks.came_to (type_tree program.now) (blocks.has_to_return vars.old.owner)
@@ -124,7 +127,8 @@ pub fn turn(
     answer: Answer,
     me: Uid,
 ) -> Result<Effect, AllocError>
-    requires { IsCounted program.now }
+    requires counted { IsCounted program.now }
+    requires resolved { is_resolved program.now ≡ true }
     ensures { IfOk result (λ e. turns.process_turn (type_tree program.now) vars.old
         (blocks.left_of (type_tree program.now) rest.old) answer me
         ≡ (vars.new, blocks.left_of (type_tree program.now) rest.new, e)) }

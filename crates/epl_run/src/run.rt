@@ -1,10 +1,11 @@
 //! Steps until the next effect.
-ghost use Rattle.std.specs.Prelude.{◌≡◌, ◌<◌, ◌≤◌, ◌^◌, ◌-◌, ◌+◌, ◌*◌, ◌++◌, ◌∷◌, [], ℕ, Bool, List, IfOk, Some, length, slice_get};
+ghost use Rattle.std.specs.Prelude.{◌≡◌, ◌<◌, ◌≤◌, ◌^◌, ◌-◌, ◌+◌, ◌*◌, ◌++◌, ◌∷◌, [], ℕ, Bool, List, IfOk, Some, length, slice_get, true};
 ghost use Rattle.epl_syntax.specs.Tree.{type_tree, statement};
 ghost use Rattle.epl_syntax.specs.Statements as meaning;
 ghost use Rattle.epl_syntax.specs.Statements.{Step};
 ghost use Rattle.epl_syntax.specs.Turns as turns;
-ghost use Rattle.epl_values.specs.Variables.{memory};
+ghost use Rattle.epl_values.specs.Variables.{memory, is_found};
+ghost use Rattle.epl_run.specs.Found.{each_in};
 ghost use Rattle.epl_run.specs.Acts.{Behind};
 ghost use Rattle.epl_run.specs.Blocks as blocks;
 ghost use Rattle.epl_run.specs.Blocks.{IsCounted};
@@ -42,6 +43,7 @@ fn step(
 ) -> Result<Act, Stop>
     requires counted { IsCounted program.now }
     requires within { place < length (blocks.steps_in block) }
+    requires found { each_in (is_found program.now vars.old.owner) block.statements.now ≡ true }
     ensures behind { (s : Step) (rest : List Step) → slice_get (blocks.steps_in block.entry) place ≡ Some s
         → Behind (type_tree program.now) vars.new s rest result
         (meaning.came_of (type_tree program.now) (memory (type_tree program.now) vars.old) s rest) }
@@ -110,6 +112,7 @@ fn run_block(
     requires counted { IsCounted program.now }
     requires block { blocks.steps_in at.1 ≡ blocks.own (type_tree program.now)
         (blocks.block_at (type_tree program.now) (blocks.steps_of body.now) frames.old.items) at.0 }
+    requires found { each_in (is_found program.now vars.old.owner) at.1.statements.now ≡ true }
     ensures went { (returns : Bool) → IfOk result (λ r. blocks.Went (type_tree program.now) (blocks.steps_of body.now) returns r vars.new
         frames.new.items left.new (turns.run left.old (type_tree program.now) returns (memory (type_tree program.now) vars.old)
         (blocks.rest_of (type_tree program.now) (blocks.steps_of body.now) (frames.old.items ++ at.entry.0 ∷ [])))) }
@@ -160,7 +163,8 @@ pub(crate) fn run(
     vars: &mut Variables,
     frames: &mut SmallVec<Frame, 8>,
 ) -> Result<Effect, AllocError>
-    requires { IsCounted program.now }
+    requires counted { IsCounted program.now }
+    requires found { each_in (is_found program.now vars.old.owner) body.now ≡ true }
     ensures came { IfOk result (λ e. blocks.Came (type_tree program.now) (blocks.steps_of body.now) e vars.new frames.new.items
         (turns.run turns.budget (type_tree program.now) returns (memory (type_tree program.now) vars.old)
         (blocks.rest_of (type_tree program.now) (blocks.steps_of body.now) frames.old.items))) }

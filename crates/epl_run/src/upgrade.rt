@@ -1,5 +1,5 @@
 //! Upgrades of what an earlier version of a type has kept.
-ghost use Rattle.std.specs.Prelude.{◌≡◌, map, IfOk, Some, None};
+ghost use Rattle.std.specs.Prelude.{◌≡◌, map, IfOk, Some, None, true};
 ghost use Rattle.eden_model.specs.Map.{with_item};
 ghost use Rattle.eden_value.specs.Shape.{shape};
 ghost use Rattle.eden_value.specs.View.{datums};
@@ -9,7 +9,10 @@ ghost use Rattle.epl_syntax.specs.Tree as tree;
 ghost use Rattle.epl_syntax.specs.Tree.{Upgrade, type_tree, change};
 ghost use Rattle.epl_syntax.specs.Upgrades as meaning;
 ghost use Rattle.epl_values.specs.Comes.{Comes};
-ghost use Rattle.epl_values.specs.Variables.{memory};
+ghost use Rattle.epl_values.specs.Variables.{memory, is_found};
+ghost use Rattle.epl_values.specs.declared.variables.Owner.TheVariants.{Upgrade as OfUpgrade};
+ghost use Rattle.epl_syntax.specs.Bindings.{is_resolved};
+ghost use Rattle.epl_run.specs.Found.{each_change};
 ghost use Rattle.epl_run.specs.Upgraded as spec;
 ghost use Rattle.epl_run.specs.Upgraded.{upgrade_at};
 
@@ -75,12 +78,13 @@ fn assign_each(
     vars: &mut Variables,
     changes: &[Assignment],
 ) -> Result<(), Stop>
+    requires { each_change (is_found program.now vars.old.owner) (map change changes.now) ≡ true }
     ensures made { Comes (λ done. memory (type_tree program.now) vars.new) result
         (meaning.assigned (map change changes.now) (memory (type_tree program.now) vars.old)) }
     ensures owner { vars.new.owner ≡ vars.old.owner }
 {
     for change in changes {
-        match assign(alloc, program, vars, &change.name.text, &change.value) {
+        match assign(alloc, program, vars, &change.name, &change.value) {
             Ok(()) => {}
             Err(stop) => return Err(stop),
         }
@@ -96,7 +100,8 @@ fn seen(
     kept: &Items,
     me: Uid,
 ) -> Result<Variables, AllocError>
-    ensures { (u : Upgrade) → upgrade_at (type_tree program.now) at ≡ Some u
+    ensures owner { IfOk result (λ v. v.owner ≡ OfUpgrade at) }
+    ensures seen { (u : Upgrade) → upgrade_at (type_tree program.now) at ≡ Some u
         → IfOk result (λ v. memory (type_tree program.now) v ≡ meaning.before_upgrade (type_tree program.now) u kept.now me) }
 {
     let params = copy_items(alloc, kept)?;
@@ -122,6 +127,7 @@ fn made_by(
     me: Uid,
 ) -> Result<Option<Items>, AllocError>
     requires there { upgrade_at (type_tree program.now) at ≡ Some (tree.upgrade upgrade.now) }
+    requires resolved { is_resolved program.now ≡ true }
     requires takes { upgrade_at (type_tree program.now) at ≡ meaning.upgrade_for (type_tree program.now) rep.now }
     ensures { IfOk result (λ made. made ≡ meaning.upgraded_by (type_tree program.now) rep.now me) }
 {
@@ -145,6 +151,7 @@ pub fn upgraded(
     rep: &Rep,
     me: Uid,
 ) -> Result<Option<Items>, AllocError>
+    requires { is_resolved program.now ≡ true }
     ensures { IfOk result (λ made. made ≡ meaning.upgraded_by (type_tree program.now) rep.now me) }
 {
     match place_of_upgrade(program, rep) {

@@ -23,3 +23,4 @@ pub mod Order
 pub mod Tally
 pub mod NativeTurns
 pub mod Pipelines
+pub mod Bindings

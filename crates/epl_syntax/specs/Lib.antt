@@ -3,6 +3,7 @@ pub mod Form
 pub mod Words
 pub mod Token
 pub mod Tree
+pub mod Bindings
 pub mod Rules
 pub mod Same
 pub mod Outline

@@ -5,6 +5,7 @@
 //! turn of a process as one definition.
 #![tactic(auto)]
 
+mod binding;
 mod checked;
 mod effect;
 mod law;
@@ -16,6 +17,7 @@ mod tree;
 mod types;
 mod word;
 
+pub use binding::{Binding, binding_at};
 pub use checked::Checked;
 pub use effect::{Answer, Effect, FaultCause};
 pub use law::{

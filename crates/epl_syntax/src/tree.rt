@@ -1,4 +1,5 @@
 //! The tree of a declared type. It follows the grammar; places are those of first tokens.
+use crate::binding::Binding;
 use eden_value::{Kind, Txt};
 
 /// A name as it is written.
@@ -274,6 +275,7 @@ pub struct UpgradeDecl {
 }
 
 /// A declared type, as its text spells it. Without `version` it has version 1. Each list is in the order of the text.
+/// Beside the tree stands what its names stand for: `bindings` has one for each place of the text up to its own end.
 #[derive(Drop)]
 pub struct Program {
     pub name: Name,
@@ -285,4 +287,5 @@ pub struct Program {
     pub operations: Vec<OpDecl>,
     pub processes: Vec<ProcDecl>,
     pub upgrades: Vec<UpgradeDecl>,
+    pub bindings: Vec<Binding>,
 }

@@ -1,9 +1,10 @@
 //! The types of which a script may create Ejects.
-ghost use Rattle.std.specs.Prelude.{◌≡◌, ◌+◌, ◌<◌, ◌^◌, [], map, length, false, IfOk, OnOk, OnErr, option_copied};
+ghost use Rattle.std.specs.Prelude.{◌≡◌, ◌+◌, ◌<◌, ◌^◌, [], map, length, true, false, IfOk, IfSome, OnOk, OnErr, option_copied};
 ghost use Rattle.std.specs.List.{list_any, position_from};
 ghost use Rattle.eden_model.specs.Map.{same_text};
 ghost use Rattle.epl_syntax.specs.Natives as natives;
 ghost use Rattle.epl_syntax.specs.Tree.{type_tree};
+ghost use Rattle.epl_syntax.specs.Bindings.{is_resolved};
 ghost use Rattle.epl_syntax.specs.Rules.InItems.{broken_program};
 ghost use Rattle.epl_syntax.specs.Rules.OfTypes as rules;
 ghost use Rattle.epl_syntax.specs.Rules.OfTypes.{native_only, with_type, names_of, NamesDiffer, place_named};
@@ -182,9 +183,10 @@ impl Types {
         self.native.get(place).copied()
     }
 
-    /// The declared type at a place.
+    /// The declared type at a place, with its names resolved.
     pub fn declared_at(&self, place: usize) -> Option<&Program>
-        ensures { option_copied result ≡ rules.declared_at self.now place }
+        ensures type_at { option_copied result ≡ rules.declared_at self.now place }
+        ensures resolved { IfSome result (λ p. is_resolved p.now ≡ true) }
     {
         if place < self.native.len() {
             return None;

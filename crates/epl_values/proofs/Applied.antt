@@ -1,19 +1,21 @@
 -- Built-in functions of their arguments, and expressions in a row.
 use Rattle.std.proofs.Common.{◌≡◌, ◌≢◌, ℕ, zero, suc, ◌+◌, ◌<◌, ◌≤◌, List, [], ◌∷◌, ◌++◌, length, drop, get_or}
-use Rattle.std.proofs.Common.{Result, Ok, Err, refl, ap, sym}
+use Rattle.std.proofs.Common.{ℤ, Result, Ok, Err, refl, ap, sym}
 use Rattle.std.proofs.Common.{◌∙◌, arith, subst, append_assoc}
-use Rattle.eden_value.specs.Datum.{Datum}
+use Rattle.eden_value.specs.Datum.{Datum, number}
 use Rattle.eden_value.specs.View.{datum, datums}
 use Rattle.eden_value.specs.declared.value.Value.{Value}
 use Rattle.epl_syntax.specs.declared.effect.FaultCause.{FaultCause}
 use Rattle.epl_syntax.specs.declared.effect.FaultCause.TheVariants.{BadKind}
 use Rattle.epl_syntax.specs.declared.tree.Builtin.TheVariants.{Cut, Put}
 use Rattle.epl_syntax.specs.declared.tree.Expr.{Expr}
-use Rattle.epl_syntax.specs.Tree.{expression, expressions}
-use Rattle.epl_syntax.specs.Operators.{applied, found}
+use Rattle.epl_syntax.specs.declared.tree.Operator.{Operator}
+use Rattle.epl_syntax.specs.declared.tree.Operator.TheVariants as operator
+use Rattle.epl_syntax.specs.Tree.{Expression, Binary, expression, expressions}
+use Rattle.epl_syntax.specs.Operators.{applied, found, between, of_both}
 use Rattle.epl_syntax.specs.Memory.{Memory}
 use Rattle.epl_syntax.specs.Expressions.{value_of, values_of}
-use Rattle.epl_values.specs.Comes.{Stops}
+use Rattle.epl_values.specs.Comes.{Stops, Comes, IsNumber}
 use Rattle.epl_values.specs.declared.stop.Stop.{Stop}
 use Rattle.epl_values.specs.declared.stop.Stop.TheVariants as halt
 use Rattle.epl_values.proofs.Operands.{append_datums}
@@ -31,6 +33,35 @@ put_wrong (a ∷ []) h = refl
 put_wrong (a ∷ b ∷ []) h = refl
 put_wrong (a ∷ b ∷ c ∷ []) h = absurd (h refl)
 put_wrong (a ∷ b ∷ c ∷ d ∷ vs) h = refl
+
+-- ---- an operator between two numbers
+numbers_meet : (o : Operator) (a b : ℤ) → between o (number a) (Ok (number b)) ≡ of_both o (number a) (number b)
+numbers_meet operator.Or a b = refl
+numbers_meet operator.And a b = refl
+numbers_meet operator.Equal a b = refl
+numbers_meet operator.Different a b = refl
+numbers_meet operator.Less a b = refl
+numbers_meet operator.LessEqual a b = refl
+numbers_meet operator.Greater a b = refl
+numbers_meet operator.GreaterEqual a b = refl
+numbers_meet operator.Add a b = refl
+numbers_meet operator.Subtract a b = refl
+numbers_meet operator.Join a b = refl
+numbers_meet operator.Multiply a b = refl
+numbers_meet operator.Divide a b = refl
+numbers_meet operator.Modulo a b = refl
+
+pub between_numbers : (m : Memory) (o : Operator) (left right : Expression) (place : ℕ) (e : Expression) (a b : ℤ) (r : Result Value Stop)
+    → e ≡ Binary o left right place → IsNumber m left a → IsNumber m right b → Comes datum r (of_both o (number a) (number b))
+    → Comes datum r (value_of m e)
+between_numbers m o left right place e a b r is one other h =
+    subst (Comes datum r)
+    (sym
+    (ap (value_of m) is
+    ∙ ap (λ x. found x (λ d. between o d (value_of m right))) one
+    ∙ ap (between o (number a)) other
+    ∙ numbers_meet o a b))
+    h
 
 -- ---- rows of expressions
 drop_one : (es : List Expr) (i : ℕ) (e : Expr) → i < length es → e ≡ get_or es i e → drop i es ≡ e ∷ drop (i + 1) es

@@ -14,7 +14,8 @@ use Rattle.epl_syntax.specs.declared.tree.LocalDecl.{LocalDecl}
 use Rattle.epl_syntax.specs.declared.tree.VarDecl.{VarDecl}
 use Rattle.epl_syntax.specs.Tree.{TypeTree, Parameter, Local, Variable, parameter, local_of, variable}
 use Rattle.epl_syntax.specs.Memory.{Memory, Held, is_called, put_into, set, arguments, variables}
-use Rattle.epl_values.specs.Variables.{place_of, value_in, values_with, kind_in, value_as_named, kind_as_named, memory, locals_with}
+use Rattle.epl_syntax.specs.Bindings.{place_of}
+use Rattle.epl_values.specs.Variables.{value_in, values_with, kind_in, value_as_named, kind_as_named, memory, locals_with}
 use Rattle.epl_values.specs.Variables.{parameters_of, locals_of}
 use Rattle.epl_values.specs.declared.variables.Variables.{Variables as Seen}
 
@@ -287,51 +288,75 @@ set_memory t v text d a b h k =
     (any_is (λ (l : Local). l.name) (λ l. l.kind.shape) (locals_of t v.owner) v.locals text ∙ k)
 
 -- a name gets a value: of a parameter
-pub set_param : (t : TypeTree) (v : Seen) (text : List ℕ) (d : Datum) (ps : List ParDecl) (new : List Datum)
-    → map parameter ps ≡ parameters_of t v.owner
+pub put_param : (t : TypeTree) (v : Seen) (text : List ℕ) (d : Datum) (new : List Datum)
     → is_some (value_in (map (λ p. p.name) (parameters_of t v.owner)) v.params text) ≡ true
-    → new ≡ values_with (map (λ p. p.name) ps) text d v.params
+    → new ≡ values_with (map (λ p. p.name) (parameters_of t v.owner)) text d v.params
     → memory t (record v { params = new }) ≡ set text d (memory t v)
 unfolding memory
-set_param t v text d ps new is h e =
-    let names : map (λ p. p.name) ps ≡ map (λ p. p.name) (parameters_of t v.owner) =
-    sym (param_names ps) ∙ ap (λ (l : List Parameter). map (λ p. p.name) l) is in
-    ap (λ l. memory t (record v { params = l })) (e ∙ ap (λ ns. values_with ns text d v.params) names)
+put_param t v text d new h e =
+    ap (λ l. memory t (record v { params = l })) e
     ∙ ap (λ l. three l (locals_with (locals_of t v.owner) v.locals) (variables t.vars v.vars) v.me)
     (sym (put_is (λ (p : Parameter). p.name) (λ p. p.kind.shape) (parameters_of t v.owner) v.params text d))
     ∙ sym (set_memory t v text d true (is_some (value_in (map (λ l. l.name) (locals_of t v.owner)) v.locals text)) h refl)
 
 -- of a variable of the body
+pub put_local : (t : TypeTree) (v : Seen) (text : List ℕ) (d : Datum) (new : List Datum)
+    → is_some (value_in (map (λ p. p.name) (parameters_of t v.owner)) v.params text) ≡ false
+    → is_some (value_in (map (λ l. l.name) (locals_of t v.owner)) v.locals text) ≡ true
+    → new ≡ values_with (map (λ l. l.name) (locals_of t v.owner)) text d v.locals
+    → memory t (record v { locals = new }) ≡ set text d (memory t v)
+unfolding memory
+put_local t v text d new h k e =
+    ap (λ l. memory t (record v { locals = l })) e
+    ∙ ap (λ l. three (arguments (parameters_of t v.owner) v.params) l (variables t.vars v.vars) v.me)
+    (sym (put_is (λ (l : Local). l.name) (λ l. l.kind.shape) (locals_of t v.owner) v.locals text d))
+    ∙ sym (set_memory t v text d false true h k)
+
+-- of a variable of the Eject
+pub put_var : (t : TypeTree) (v : Seen) (text : List ℕ) (d : Datum) (new : List Datum)
+    → is_some (value_in (map (λ p. p.name) (parameters_of t v.owner)) v.params text) ≡ false
+    → is_some (value_in (map (λ l. l.name) (locals_of t v.owner)) v.locals text) ≡ false
+    → new ≡ values_with (map (λ x. x.name) t.vars) text d v.vars
+    → memory t (record v { vars = new }) ≡ set text d (memory t v)
+unfolding memory
+put_var t v text d new h k e =
+    ap (λ l. memory t (record v { vars = l })) e
+    ∙ ap (λ l. three (arguments (parameters_of t v.owner) v.params) (locals_with (locals_of t v.owner) v.locals) l v.me)
+    (sym (put_is (λ (x : Variable). x.name) (λ x. x.kind.shape) t.vars v.vars text d))
+    ∙ sym (set_memory t v text d false false h k)
+
+-- where the declarations are those of the code
+pub set_param : (t : TypeTree) (v : Seen) (text : List ℕ) (d : Datum) (ps : List ParDecl) (new : List Datum)
+    → map parameter ps ≡ parameters_of t v.owner
+    → is_some (value_in (map (λ p. p.name) (parameters_of t v.owner)) v.params text) ≡ true
+    → new ≡ values_with (map (λ p. p.name) ps) text d v.params
+    → memory t (record v { params = new }) ≡ set text d (memory t v)
+set_param t v text d ps new is h e =
+    let names : map (λ p. p.name) ps ≡ map (λ p. p.name) (parameters_of t v.owner) =
+    sym (param_names ps) ∙ ap (λ (l : List Parameter). map (λ p. p.name) l) is in
+    put_param t v text d new h (e ∙ ap (λ ns. values_with ns text d v.params) names)
+
 pub set_local : (t : TypeTree) (v : Seen) (text : List ℕ) (d : Datum) (ls : List LocalDecl) (new : List Datum)
     → map local_of ls ≡ locals_of t v.owner
     → is_some (value_in (map (λ p. p.name) (parameters_of t v.owner)) v.params text) ≡ false
     → is_some (value_in (map (λ l. l.name) (locals_of t v.owner)) v.locals text) ≡ true
     → new ≡ values_with (map (λ l. l.name) ls) text d v.locals
     → memory t (record v { locals = new }) ≡ set text d (memory t v)
-unfolding memory
 set_local t v text d ls new is h k e =
     let names : map (λ l. l.name) ls ≡ map (λ l. l.name) (locals_of t v.owner) =
     sym (local_names ls) ∙ ap (λ (l : List Local). map (λ p. p.name) l) is in
-    ap (λ l. memory t (record v { locals = l })) (e ∙ ap (λ ns. values_with ns text d v.locals) names)
-    ∙ ap (λ l. three (arguments (parameters_of t v.owner) v.params) l (variables t.vars v.vars) v.me)
-    (sym (put_is (λ (l : Local). l.name) (λ l. l.kind.shape) (locals_of t v.owner) v.locals text d))
-    ∙ sym (set_memory t v text d false true h k)
+    put_local t v text d new h k (e ∙ ap (λ ns. values_with ns text d v.locals) names)
 
--- of a variable of the Eject
 pub set_var : (t : TypeTree) (v : Seen) (text : List ℕ) (d : Datum) (vs : List VarDecl) (new : List Datum)
     → map variable vs ≡ t.vars
     → is_some (value_in (map (λ p. p.name) (parameters_of t v.owner)) v.params text) ≡ false
     → is_some (value_in (map (λ l. l.name) (locals_of t v.owner)) v.locals text) ≡ false
     → new ≡ values_with (map (λ x. x.name) vs) text d v.vars
     → memory t (record v { vars = new }) ≡ set text d (memory t v)
-unfolding memory
 set_var t v text d vs new is h k e =
     let names : map (λ x. x.name) vs ≡ map (λ x. x.name) t.vars =
     sym (var_names vs) ∙ ap (λ (l : List Variable). map (λ p. p.name) l) is in
-    ap (λ l. memory t (record v { vars = l })) (e ∙ ap (λ ns. values_with ns text d v.vars) names)
-    ∙ ap (λ l. three (arguments (parameters_of t v.owner) v.params) (locals_with (locals_of t v.owner) v.locals) l v.me)
-    (sym (put_is (λ (x : Variable). x.name) (λ x. x.kind.shape) t.vars v.vars text d))
-    ∙ sym (set_memory t v text d false false h k)
+    put_var t v text d new h k (e ∙ ap (λ ns. values_with ns text d v.vars) names)
 
 -- ---- a place that was found
 pub put_there : {X : Type 0} (n : X → Name) (xs : List X) (ds : List Datum) (text : List ℕ) (d : Datum) (i : ℕ)

@@ -1,9 +1,10 @@
 //! Assignments. A text or a list that grows behind its own value stays where it is.
-ghost use Rattle.std.specs.Prelude.{◌≡◌, suc, nat_lt, is_some, Ok, IsTrue};
+ghost use Rattle.std.specs.Prelude.{◌≡◌, true, suc, nat_lt, is_some, Ok, IsTrue};
 ghost use Rattle.eden_value.specs.Datum.{text, list, data_of};
 ghost use Rattle.eden_value.specs.Limits.{depth, depth_of};
 ghost use Rattle.eden_value.specs.View.{datum, datums};
 ghost use Rattle.epl_syntax.specs.Tree as tree;
+ghost use Rattle.epl_syntax.specs.Bindings.{variable, each_of_expression};
 ghost use Rattle.epl_syntax.specs.Memory as variables;
 ghost use Rattle.epl_syntax.specs.Operators as operators;
 ghost use Rattle.epl_syntax.specs.Operators.{found};
@@ -16,7 +17,7 @@ use crate::operator::joined;
 use crate::stop::Stop;
 use crate::variables::{Variables, replace, set, value_named};
 use eden_value::{DEPTH_LIMIT, Items, LIST_LIMIT, TEXT_LIMIT, Txt, Value};
-use epl_syntax::{Expr, FaultCause, Operator, Program, same_text};
+use epl_syntax::{Expr, FaultCause, Name, Operator, Program, same_text};
 use std::alloc::Global;
 
 /// Whether lists nest at most `most` deep in a value.
@@ -83,31 +84,38 @@ fn may_join(a: &Value, b: &Value) -> Result<(), FaultCause>
 fn may_grow(
     program: &Program,
     vars: &Variables,
-    text: &Txt,
+    name: &Name,
     right: &Value,
 ) -> Result<(), FaultCause>
-    ensures { Joins result (found (variables.value_as (spec.memory (tree.type_tree program.now) vars.now) text.now)
+    requires { spec.is_found program.now vars.now.owner variable name.now ≡ true }
+    ensures { Joins result (found (variables.value_as (spec.memory (tree.type_tree program.now) vars.now) name.now.text)
         (λ d. operators.joined d (datum right.now))) }
 {
-    match value_named(program, vars, text) {
+    match value_named(program, vars, name) {
         Some(left) => may_join(left, right),
         None => Err(FaultCause::BadKind),
     }
 }
 
 /// A value goes behind that of a variable, where it may.
-fn put_behind(program: &Program, vars: &mut Variables, text: &Txt, right: Value) -> Result<(), Stop>
-    requires { Joins (Ok (tt)) (found (variables.value_as (spec.memory (tree.type_tree program.now) vars.old) text.now)
+fn put_behind(
+    program: &Program,
+    vars: &mut Variables,
+    name: &Name,
+    right: Value,
+) -> Result<(), Stop>
+    requires name { spec.is_found program.now vars.old.owner variable name.now ≡ true }
+    requires joins { Joins (Ok (tt)) (found (variables.value_as (spec.memory (tree.type_tree program.now) vars.old) name.now.text)
         (λ d. operators.joined d (datum right))) }
     ensures moves { Moves result (spec.memory (tree.type_tree program.now) vars.new) (spec.memory (tree.type_tree program.now) vars.old)
-        (found (found (variables.value_as (spec.memory (tree.type_tree program.now) vars.old) text.now)
-        (λ d. operators.joined d (datum right))) (setting text.now (spec.memory (tree.type_tree program.now) vars.old))) }
+        (found (found (variables.value_as (spec.memory (tree.type_tree program.now) vars.old) name.now.text)
+        (λ d. operators.joined d (datum right))) (setting name.now.text (spec.memory (tree.type_tree program.now) vars.old))) }
     ensures owner { vars.new.owner ≡ vars.old.owner }
 {
-    match replace(program, vars, text, Value::Int { n: 0 }) {
+    match replace(program, vars, name, Value::Int { n: 0 }) {
         Some(left) => match joined(left, right) {
             Ok(longer) => {
-                set(program, vars, text, longer);
+                set(program, vars, name, longer);
                 Ok(())
             }
             Err(stop) => Err(stop),
@@ -128,10 +136,11 @@ fn is_named(e: &Expr, text: &Txt) -> bool
     }
 }
 
-fn has_value(program: &Program, vars: &Variables, text: &Txt) -> bool
-    ensures { result ≡ is_some (spec.value_as_named (spec.memory (tree.type_tree program.now) vars.now) text.now) }
+fn has_value(program: &Program, vars: &Variables, name: &Name) -> bool
+    requires { spec.is_found program.now vars.now.owner variable name.now ≡ true }
+    ensures { result ≡ is_some (spec.value_as_named (spec.memory (tree.type_tree program.now) vars.now) name.now.text) }
 {
-    match value_named(program, vars, text) {
+    match value_named(program, vars, name) {
         Some(_) => true,
         None => false,
     }
@@ -142,24 +151,26 @@ fn grow(
     alloc: Global,
     program: &Program,
     vars: &mut Variables,
-    text: &Txt,
+    name: &Name,
     right: &Expr,
 ) -> Result<(), Stop>
+    requires name { spec.is_found program.now vars.old.owner variable name.now ≡ true }
+    requires value { each_of_expression (spec.is_found program.now vars.old.owner) (tree.expression right.now) ≡ true }
     ensures moves { Moves result (spec.memory (tree.type_tree program.now) vars.new) (spec.memory (tree.type_tree program.now) vars.old)
-        (found (found (variables.value_as (spec.memory (tree.type_tree program.now) vars.old) text.now)
+        (found (found (variables.value_as (spec.memory (tree.type_tree program.now) vars.old) name.now.text)
         (λ d. found (meaning.value_of (spec.memory (tree.type_tree program.now) vars.old) (tree.expression right.now))
         (operators.joined d)))
-        (setting text.now (spec.memory (tree.type_tree program.now) vars.old))) }
+        (setting name.now.text (spec.memory (tree.type_tree program.now) vars.old))) }
     ensures owner { vars.new.owner ≡ vars.old.owner }
 {
-    if !has_value(program, vars, text) {
+    if !has_value(program, vars, name) {
         return Err(Stop::Fault {
             cause: FaultCause::BadKind,
         });
     }
     match value_of(alloc, program, vars, right) {
-        Ok(right) => match may_grow(program, vars, text, &right) {
-            Ok(()) => put_behind(program, vars, text, right),
+        Ok(right) => match may_grow(program, vars, name, &right) {
+            Ok(()) => put_behind(program, vars, name, right),
             Err(cause) => Err(Stop::Fault { cause }),
         },
         Err(stop) => Err(stop),
@@ -171,16 +182,18 @@ fn overwrite(
     alloc: Global,
     program: &Program,
     vars: &mut Variables,
-    text: &Txt,
+    name: &Name,
     e: &Expr,
 ) -> Result<(), Stop>
+    requires name { spec.is_found program.now vars.old.owner variable name.now ≡ true }
+    requires value { each_of_expression (spec.is_found program.now vars.old.owner) (tree.expression e.now) ≡ true }
     ensures moves { Moves result (spec.memory (tree.type_tree program.now) vars.new) (spec.memory (tree.type_tree program.now) vars.old)
         (found (meaning.value_of (spec.memory (tree.type_tree program.now) vars.old) (tree.expression e.now))
-        (setting text.now (spec.memory (tree.type_tree program.now) vars.old))) }
+        (setting name.now.text (spec.memory (tree.type_tree program.now) vars.old))) }
     ensures owner { vars.new.owner ≡ vars.old.owner }
 {
     let value = value_of(alloc, program, vars, e)?;
-    set(program, vars, text, value);
+    set(program, vars, name, value);
     Ok(())
 }
 
@@ -189,12 +202,14 @@ pub fn assign(
     alloc: Global,
     program: &Program,
     vars: &mut Variables,
-    text: &Txt,
+    name: &Name,
     e: &Expr,
 ) -> Result<(), Stop>
+    requires name { spec.is_found program.now vars.old.owner variable name.now ≡ true }
+    requires value { each_of_expression (spec.is_found program.now vars.old.owner) (tree.expression e.now) ≡ true }
     ensures moves { Moves result (spec.memory (tree.type_tree program.now) vars.new) (spec.memory (tree.type_tree program.now) vars.old)
         (found (meaning.value_of (spec.memory (tree.type_tree program.now) vars.old) (tree.expression e.now))
-        (setting text.now (spec.memory (tree.type_tree program.now) vars.old))) }
+        (setting name.now.text (spec.memory (tree.type_tree program.now) vars.old))) }
     ensures owner { vars.new.owner ≡ vars.old.owner }
 {
     match e {
@@ -204,12 +219,12 @@ pub fn assign(
             right,
             ..
         } => {
-            if is_named(left, text) {
-                grow(alloc, program, vars, text, right)
+            if is_named(left, &name.text) {
+                grow(alloc, program, vars, name, right)
             } else {
-                overwrite(alloc, program, vars, text, e)
+                overwrite(alloc, program, vars, name, e)
             }
         }
-        _ => overwrite(alloc, program, vars, text, e),
+        _ => overwrite(alloc, program, vars, name, e),
     }
 }

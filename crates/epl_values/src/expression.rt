@@ -1,7 +1,8 @@
 //! Values of expressions.
-ghost use Rattle.std.specs.Prelude.{◌≡◌, Ok, IfSome};
+ghost use Rattle.std.specs.Prelude.{◌≡◌, true, Ok, IfSome};
 ghost use Rattle.eden_value.specs.View.{datum, datums};
 ghost use Rattle.epl_syntax.specs.Tree as tree;
+ghost use Rattle.epl_syntax.specs.Bindings.{variable, each_of_expression, each_of_expressions};
 ghost use Rattle.epl_syntax.specs.Operators as operators;
 ghost use Rattle.epl_syntax.specs.Memory as memory;
 ghost use Rattle.epl_syntax.specs.Expressions as meaning;
@@ -14,8 +15,8 @@ use crate::operator::{before_operand, list_of, of_both, of_integers};
 use crate::stop::Stop;
 use crate::variables::{Variables, value_named};
 use capability::mint;
-use eden_value::{Txt, Value, copy};
-use epl_syntax::{Const, Expr, FaultCause, Operator, Program};
+use eden_value::{Value, copy};
+use epl_syntax::{Const, Expr, FaultCause, Name, Operator, Program};
 use std::alloc::Global;
 
 /// A copy of the value of a variable.
@@ -23,11 +24,12 @@ pub fn copy_named(
     alloc: Global,
     program: &Program,
     vars: &Variables,
-    text: &Txt,
+    name: &Name,
 ) -> Result<Value, Stop>
-    ensures { Comes datum result (memory.value_as (spec.memory (tree.type_tree program.now) vars.now) text.now) }
+    requires { spec.is_found program.now vars.now.owner variable name.now ≡ true }
+    ensures { Comes datum result (memory.value_as (spec.memory (tree.type_tree program.now) vars.now) name.now.text) }
 {
-    match value_named(program, vars, text) {
+    match value_named(program, vars, name) {
         Some(value) => Ok(copy(alloc, value)?),
         None => Err(Stop::Fault {
             cause: FaultCause::BadKind,
@@ -48,6 +50,7 @@ fn is_decided(operator: Operator, left: &Value) -> bool
 
 /// The number that a constant or a variable is, if it is one. Nothing is copied.
 fn number_in(program: &Program, vars: &Variables, e: &Expr) -> Option<i64>
+    requires { each_of_expression (spec.is_found program.now vars.now.owner) (tree.expression e.now) ≡ true }
     ensures { IfSome result (IsNumber (spec.memory (tree.type_tree program.now) vars.now) (tree.expression e.now)) }
 {
     match e {
@@ -55,7 +58,7 @@ fn number_in(program: &Program, vars: &Variables, e: &Expr) -> Option<i64>
             value: Const::Int { n },
             ..
         } => Some(*n),
-        Expr::Name { name } => match value_named(program, vars, &name.text) {
+        Expr::Name { name } => match value_named(program, vars, name) {
             Some(Value::Int { n }) => Some(*n),
             _ => None,
         },
@@ -65,6 +68,8 @@ fn number_in(program: &Program, vars: &Variables, e: &Expr) -> Option<i64>
 
 /// The numbers on both sides of an operator, if each is a constant or a variable that is one.
 fn numbers_in(program: &Program, vars: &Variables, left: &Expr, right: &Expr) -> Option<(i64, i64)>
+    requires left { each_of_expression (spec.is_found program.now vars.now.owner) (tree.expression left.now) ≡ true }
+    requires right { each_of_expression (spec.is_found program.now vars.now.owner) (tree.expression right.now) ≡ true }
     ensures left { IfSome result (λ it. IsNumber (spec.memory (tree.type_tree program.now) vars.now) (tree.expression left.now) it.0) }
     ensures right { IfSome result (λ it. IsNumber (spec.memory (tree.type_tree program.now) vars.now) (tree.expression right.now) it.1) }
 {
@@ -76,11 +81,12 @@ fn numbers_in(program: &Program, vars: &Variables, left: &Expr, right: &Expr) ->
 /// The value of an expression. An operator between two numbers, as most of a turn has them, is worked out without copies of them.
 #[cycle(expression)]
 pub fn value_of(alloc: Global, program: &Program, vars: &Variables, e: &Expr) -> Result<Value, Stop>
+    requires { each_of_expression (spec.is_found program.now vars.now.owner) (tree.expression e.now) ≡ true }
     ensures { Comes datum result (meaning.value_of (spec.memory (tree.type_tree program.now) vars.now) (tree.expression e.now)) }
 {
     match e {
         Expr::Const { value, .. } => Ok(value_of_constant(alloc, value)?),
-        Expr::Name { name } => copy_named(alloc, program, vars, &name.text),
+        Expr::Name { name } => copy_named(alloc, program, vars, name),
         Expr::Me { .. } => Ok(Value::Cap {
             cap: Some(mint(vars.me)),
         }),
@@ -128,6 +134,7 @@ pub fn values_of(
     vars: &Variables,
     es: &[Expr],
 ) -> Result<Vec<Value>, Stop>
+    requires { each_of_expressions (spec.is_found program.now vars.now.owner) (tree.expressions es.now) ≡ true }
     ensures { Comes (λ v. datums v.items) result
         (meaning.values_of (spec.memory (tree.type_tree program.now) vars.now) (tree.expressions es.now)) }
 {

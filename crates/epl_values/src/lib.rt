@@ -3,6 +3,7 @@
 
 mod assignment;
 mod builtin;
+mod by_name;
 mod constant;
 mod expression;
 mod named;

@@ -1,6 +1,6 @@
 //! What has a name, and where a name stands in a list.
 ghost use Rattle.std.specs.Prelude.{◌≡◌, map};
-ghost use Rattle.epl_values.specs.Variables as variables;
+ghost use Rattle.epl_syntax.specs.Bindings as bindings;
 
 use eden_value::{Kind, Txt};
 use epl_syntax::{CondDecl, LocalDecl, Name, OpDecl, ParDecl, VarDecl, same_text};
@@ -101,7 +101,7 @@ impl Kinded for VarDecl {
 
 /// Where a name stands first in a list, counted from 0.
 pub fn place_of<T: Named>(items: &[T], text: &Txt) -> Option<usize>
-    ensures { result ≡ variables.place_of (map T.named items.now) text.now }
+    ensures { result ≡ bindings.place_of (map T.named items.now) text.now }
 {
     for (i, item) in items.iter().enumerate() {
         if same_text(&item.name().text, text) {

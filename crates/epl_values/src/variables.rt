@@ -1,16 +1,18 @@
 //! The variables that a process sees.
-ghost use Rattle.std.specs.Prelude.{◌≡◌, ◌<◌, map, length, slice_get, slice_set, Some, None, IfSome};
+ghost use Rattle.std.specs.Prelude.{◌≡◌, ◌<◌, map, length, slice_get, slice_set, Some, true};
 ghost use Rattle.std.specs.Option.{option_map};
 ghost use Rattle.epl_syntax.specs.Tree.{type_tree, parameter, local_of};
 ghost use Rattle.eden_value.specs.Shape.{shape};
 ghost use Rattle.eden_value.specs.View.{datum};
 ghost use Rattle.epl_syntax.specs.Memory as meaning;
+ghost use Rattle.epl_syntax.specs.Bindings.{variable};
 ghost use Rattle.epl_values.specs.Variables as spec;
 
-use crate::named::{Kinded, Named, place_of};
+use crate::by_name::{kind_by_name, replace_by_name, value_by_name};
+use crate::named::Kinded;
 use capability::Uid;
-use eden_value::{Items, Kind, Txt, Value};
-use epl_syntax::{LocalDecl, ParDecl, Program};
+use eden_value::{Items, Kind, Value};
+use epl_syntax::{Binding, LocalDecl, Name, ParDecl, Program, binding_at};
 use std::mem;
 
 /// Whose body runs: nobody's, or that of the operation, process or upgrade at this place in its list.
@@ -33,7 +35,8 @@ pub struct Variables {
     pub me: Uid,
 }
 
-fn params_of(program: &Program, owner: Owner) -> &[ParDecl]
+/// The parameters of a body.
+pub(crate) fn params_of(program: &Program, owner: Owner) -> &[ParDecl]
     ensures { map parameter result.now ≡ spec.parameters_of (type_tree program.now) owner }
 {
     match owner {
@@ -49,7 +52,8 @@ fn params_of(program: &Program, owner: Owner) -> &[ParDecl]
     }
 }
 
-fn locals_of(program: &Program, owner: Owner) -> &[LocalDecl]
+/// The variables that a body has of its own.
+pub(crate) fn locals_of(program: &Program, owner: Owner) -> &[LocalDecl]
     ensures { map local_of result.now ≡ spec.locals_of (type_tree program.now) owner }
 {
     match owner {
@@ -65,68 +69,34 @@ fn locals_of(program: &Program, owner: Owner) -> &[LocalDecl]
     }
 }
 
-/// The value of a name among these.
-fn value_in<'a, T: Named>(declared: &[T], values: &'a Items, text: &Txt) -> Option<&'a Value>
-    ensures { spec.lent result ≡ spec.value_in (map T.named declared.now) values.now text.now }
+/// The value for which a binding stands, if there is one.
+fn value_at<'a>(vars: &'a Variables, binding: Binding) -> Option<&'a Value>
+    ensures { spec.lent result ≡ spec.value_at vars.now binding }
 {
-    let place = place_of(declared, text)?;
-    values.values.get(place)
-}
-
-#[tactic(auto, using(crate::proofs::Places::param_names))]
-fn param_named<'a>(program: &Program, vars: &'a Variables, text: &Txt) -> Option<&'a Value>
-    ensures { spec.lent result
-        ≡ spec.value_in (map (λ p. p.name) (spec.parameters_of (type_tree program.now) vars.now.owner)) vars.now.params text.now }
-{
-    value_in(params_of(program, vars.owner), &vars.params, text)
-}
-
-#[tactic(auto, using(crate::proofs::Places::local_names))]
-fn local_named<'a>(program: &Program, vars: &'a Variables, text: &Txt) -> Option<&'a Value>
-    ensures { spec.lent result
-        ≡ spec.value_in (map (λ v. v.name) (spec.locals_of (type_tree program.now) vars.now.owner)) vars.now.locals text.now }
-{
-    value_in(locals_of(program, vars.owner), &vars.locals, text)
-}
-
-#[tactic(auto, using(crate::proofs::Places::var_names))]
-fn var_named<'a>(program: &Program, vars: &'a Variables, text: &Txt) -> Option<&'a Value>
-    ensures { spec.lent result ≡ spec.value_in (map (λ v. v.name) (type_tree program.now).vars) vars.now.vars text.now }
-{
-    value_in(&program.vars, &vars.vars, text)
-}
-
-/// The value of a variable: a parameter, one of the body, or one of the Eject.
-#[tactic(auto, using(crate::proofs::Places::named_is))]
-pub fn value_named<'a>(program: &Program, vars: &'a Variables, text: &Txt) -> Option<&'a Value>
-    ensures { spec.lent result ≡ spec.value_as_named (spec.memory (type_tree program.now) vars.now) text.now }
-{
-    if let Some(value) = param_named(program, vars, text) {
-        return Some(value);
+    match binding {
+        Binding::Parameter { at } => vars.params.values.get(usize::from(at)),
+        Binding::Local { at } => vars.locals.values.get(usize::from(at)),
+        Binding::Variable { at } => vars.vars.values.get(usize::from(at)),
+        _ => None,
     }
-    if let Some(value) = local_named(program, vars, text) {
-        return Some(value);
-    }
-    var_named(program, vars, text)
 }
 
-/// The place of the value of a name among these.
-fn held_at<T: Named>(declared: &[T], values: &Items, text: &Txt) -> Option<usize>
-    ensures place { IfSome result (λ i. spec.place_of (map T.named declared.now) text.now ≡ Some i) }
-    ensures within { IfSome result (λ i. i < length values.now) }
-    ensures none { (result ≡ None) → spec.value_in (map T.named declared.now) values.now text.now ≡ None }
+/// The value of a variable: a parameter, one of the body, or one of the Eject. It is read by the name's binding; where that
+/// has no value, the name is looked up.
+#[tactic(auto, using(crate::proofs::Bindings::value_found))]
+pub fn value_named<'a>(program: &Program, vars: &'a Variables, name: &Name) -> Option<&'a Value>
+    requires { spec.is_found program.now vars.now.owner variable name.now ≡ true }
+    ensures { spec.lent result ≡ spec.value_as_named (spec.memory (type_tree program.now) vars.now) name.now.text }
 {
-    let place = place_of(declared, text)?;
-    if place < values.values.len() {
-        Some(place)
-    } else {
-        None
+    match value_at(vars, binding_at(&program.bindings, name.place)) {
+        Some(value) => Some(value),
+        None => value_by_name(program, vars, &name.text),
     }
 }
 
 /// Another value at a place, and the one before.
 #[tactic(auto, using(crate::proofs::Operands::set_datums, crate::proofs::Operands::get_datums))]
-fn swap_in(values: &mut Items, at: usize, value: Value) -> Value
+pub(crate) fn swap_in(values: &mut Items, at: usize, value: Value) -> Value
     requires { at < length values.old }
     ensures new { values.new ≡ slice_set values.old at (datum value) }
     ensures old { Some (datum result) ≡ slice_get values.old at }
@@ -134,103 +104,91 @@ fn swap_in(values: &mut Items, at: usize, value: Value) -> Value
     mem::replace(&mut values.values[at], value)
 }
 
-/// Another value at the place of a name among these, and the one before.
-#[tactic(auto, using(crate::proofs::Operands::set_datums, crate::proofs::Places::put_past))]
-fn put<T: Named>(declared: &[T], values: &mut Items, text: &Txt, value: Value) -> Option<Value>
-    ensures new { values.new ≡ spec.values_with (map T.named declared.now) text.now (datum value) values.old }
-    ensures old { option_map datum result ≡ spec.value_in (map T.named declared.now) values.old text.now }
-{
-    match place_of(declared, text) {
-        Some(place) => {
-            if place < values.values.len() {
-                Some(mem::replace(&mut values.values[place], value))
-            } else {
-                None
-            }
-        }
-        None => None,
-    }
-}
-
-/// A variable gets a value: a parameter before one of the body, and that before one of the Eject. The value before.
+/// A variable gets a value, by the name's binding, or where the name is found. The value before.
 pub(crate) fn replace(
     program: &Program,
     vars: &mut Variables,
-    text: &Txt,
+    name: &Name,
     value: Value,
 ) -> Option<Value>
+    requires { spec.is_found program.now vars.old.owner variable name.now ≡ true }
     ensures memory { spec.memory (type_tree program.now) vars.new
-        ≡ meaning.set text.now (datum value) (spec.memory (type_tree program.now) vars.old) }
-    ensures before { option_map datum result ≡ spec.value_as_named (spec.memory (type_tree program.now) vars.old) text.now }
+        ≡ meaning.set name.now.text (datum value) (spec.memory (type_tree program.now) vars.old) }
+    ensures before { option_map datum result ≡ spec.value_as_named (spec.memory (type_tree program.now) vars.old) name.now.text }
     ensures owner { vars.new.owner ≡ vars.old.owner }
 {
-    let params = params_of(program, vars.owner);
-    if let Some(at) = held_at(params, &vars.params, text) {
-        return Some(swap_in(&mut vars.params, at, value));
+    match binding_at(&program.bindings, name.place) {
+        Binding::Parameter { at } if usize::from(at) < vars.params.values.len() => {
+            Some(swap_in(&mut vars.params, usize::from(at), value))
+        }
+        Binding::Local { at } if usize::from(at) < vars.locals.values.len() => {
+            Some(swap_in(&mut vars.locals, usize::from(at), value))
+        }
+        Binding::Variable { at } if usize::from(at) < vars.vars.values.len() => {
+            Some(swap_in(&mut vars.vars, usize::from(at), value))
+        }
+        _ => replace_by_name(program, vars, &name.text, value),
     }
-    let locals = locals_of(program, vars.owner);
-    if let Some(at) = held_at(locals, &vars.locals, text) {
-        return Some(swap_in(&mut vars.locals, at, value));
-    }
-    put(&program.vars, &mut vars.vars, text, value)
 }
 
 /// A variable gets a value.
-pub fn set(program: &Program, vars: &mut Variables, text: &Txt, value: Value)
+pub fn set(program: &Program, vars: &mut Variables, name: &Name, value: Value)
+    requires { spec.is_found program.now vars.old.owner variable name.now ≡ true }
     ensures memory { spec.memory (type_tree program.now) vars.new
-        ≡ meaning.set text.now (datum value) (spec.memory (type_tree program.now) vars.old) }
+        ≡ meaning.set name.now.text (datum value) (spec.memory (type_tree program.now) vars.old) }
     ensures owner { vars.new.owner ≡ vars.old.owner }
 {
-    replace(program, vars, text, value);
+    replace(program, vars, name, value);
 }
 
-/// The kind of what has a value among these.
-fn kind_in<'a, T: Kinded>(declared: &'a [T], values: &Items, text: &Txt) -> Option<&'a Kind>
-    ensures { spec.lent_kind result
-        ≡ spec.kind_in (map T.named declared.now) (map (λ x. shape (T.kinded x)) declared.now) values.now text.now }
+/// The kind of what has a value at a place among these.
+pub(crate) fn kind_there<'a, T: Kinded>(
+    declared: &'a [T],
+    values: &Items,
+    at: usize,
+) -> Option<&'a Kind>
+    ensures { spec.lent_kind result ≡ spec.kind_there (map (λ x. shape (T.kinded x)) declared.now) values.now at }
 {
-    let place = place_of(declared, text)?;
-    if place < values.values.len() {
-        Some(declared.get(place)?.kind())
+    if at < values.values.len() {
+        Some(declared.get(at)?.kind())
     } else {
         None
     }
 }
 
-#[tactic(auto, using(crate::proofs::Places::param_names, crate::proofs::Places::param_kinds))]
-fn param_kind<'a>(program: &'a Program, vars: &Variables, text: &Txt) -> Option<&'a Kind>
-    ensures { spec.lent_kind result ≡ spec.kind_in (map (λ p. p.name) (spec.parameters_of (type_tree program.now) vars.now.owner))
-        (map (λ p. p.kind.shape) (spec.parameters_of (type_tree program.now) vars.now.owner)) vars.now.params text.now }
+/// The kind of what has a value by a binding.
+#[tactic(auto, using(crate::proofs::Places::param_kinds, crate::proofs::Places::local_kinds, crate::proofs::Places::var_kinds))]
+fn kind_at<'a>(program: &'a Program, vars: &Variables, binding: Binding) -> Option<&'a Kind>
+    ensures { spec.lent_kind result ≡ spec.kind_at (type_tree program.now) vars.now binding }
 {
-    kind_in(params_of(program, vars.owner), &vars.params, text)
-}
-
-#[tactic(auto, using(crate::proofs::Places::local_names, crate::proofs::Places::local_kinds))]
-fn local_kind<'a>(program: &'a Program, vars: &Variables, text: &Txt) -> Option<&'a Kind>
-    ensures { spec.lent_kind result ≡ spec.kind_in (map (λ v. v.name) (spec.locals_of (type_tree program.now) vars.now.owner))
-        (map (λ v. v.kind.shape) (spec.locals_of (type_tree program.now) vars.now.owner)) vars.now.locals text.now }
-{
-    kind_in(locals_of(program, vars.owner), &vars.locals, text)
-}
-
-#[tactic(auto, using(crate::proofs::Places::var_names, crate::proofs::Places::var_kinds))]
-fn var_kind<'a>(program: &'a Program, vars: &Variables, text: &Txt) -> Option<&'a Kind>
-    ensures { spec.lent_kind result ≡ spec.kind_in (map (λ v. v.name) (type_tree program.now).vars)
-        (map (λ v. v.kind.shape) (type_tree program.now).vars) vars.now.vars text.now }
-{
-    kind_in(&program.vars, &vars.vars, text)
+    match binding {
+        Binding::Parameter { at } => {
+            kind_there(
+                params_of(program, vars.owner),
+                &vars.params,
+                usize::from(at),
+            )
+        }
+        Binding::Local { at } => {
+            kind_there(
+                locals_of(program, vars.owner),
+                &vars.locals,
+                usize::from(at),
+            )
+        }
+        Binding::Variable { at } => kind_there(&program.vars, &vars.vars, usize::from(at)),
+        _ => None,
+    }
 }
 
 /// The kind of a variable.
-#[tactic(auto, using(crate::proofs::Places::kind_named_is))]
-pub fn kind_named<'a>(program: &'a Program, vars: &Variables, text: &Txt) -> Option<&'a Kind>
-    ensures { spec.lent_kind result ≡ spec.kind_as_named (spec.memory (type_tree program.now) vars.now) text.now }
+#[tactic(auto, using(crate::proofs::Bindings::kind_found))]
+pub fn kind_named<'a>(program: &'a Program, vars: &Variables, name: &Name) -> Option<&'a Kind>
+    requires { spec.is_found program.now vars.now.owner variable name.now ≡ true }
+    ensures { spec.lent_kind result ≡ spec.kind_as_named (spec.memory (type_tree program.now) vars.now) name.now.text }
 {
-    if let Some(kind) = param_kind(program, vars, text) {
-        return Some(kind);
+    match kind_at(program, vars, binding_at(&program.bindings, name.place)) {
+        Some(kind) => Some(kind),
+        None => kind_by_name(program, vars, &name.text),
     }
-    if let Some(kind) = local_kind(program, vars, text) {
-        return Some(kind);
-    }
-    var_kind(program, vars, text)
 }

@@ -1,5 +1,8 @@
+ghost use Rattle.std.specs.Prelude.{◌≡◌, true};
+ghost use Rattle.epl_syntax.specs.Bindings.{is_resolved};
+
 use crate::sample::{ME, TURNED, text};
-use crate::texts::parsed;
+use crate::texts::resolved;
 use eden_codec::Rep;
 use eden_value::{Items, Status, Value};
 use epl_run::*;
@@ -68,7 +71,9 @@ fn next(
     vars: &mut Items,
     rest: &mut Rest,
     answer: Answer,
-) -> Result<Effect, AllocError> {
+) -> Result<Effect, AllocError>
+    requires { is_resolved program.now ≡ true }
+{
     if !is_counted(program) {
         return Err(AllocError);
     }
@@ -133,7 +138,7 @@ const TURNS: &[Row] = &[
 
 #[test]
 fn processes_take_their_turns(rt: HostRuntime) -> Result<(), ParseRefusal> {
-    let program = parsed(rt.alloc(), TURNED)?;
+    let program = resolved(rt.alloc(), TURNED)?;
     for &(operation, status, effects, n, m) in TURNS {
         let mut vars = start(rt.alloc())?;
         let mut rest = beginning(rt.alloc(), &program, operation)?;
@@ -167,7 +172,9 @@ fn made_of(
     program: &Program,
     version: u16,
     n: i64,
-) -> Result<Option<(usize, Option<i64>)>, AllocError> {
+) -> Result<Option<(usize, Option<i64>)>, AllocError>
+    requires { is_resolved program.now ≡ true }
+{
     let kept = Rep {
         type_name: text(alloc, b"A")?,
         version,
@@ -181,7 +188,7 @@ fn made_of(
 
 #[test]
 fn an_upgrade_makes_values_of_what_was_kept(rt: HostRuntime) -> Result<(), ParseRefusal> {
-    let program = parsed(rt.alloc(), TURNED)?;
+    let program = resolved(rt.alloc(), TURNED)?;
     for &(version, n, wanted) in KEPT {
         assert_eq!(rt; made_of(rt.alloc(), &program, version, n)?, wanted);
     }

@@ -1,7 +1,7 @@
-use crate::sample::{ME, VALUED, text};
+use crate::sample::{ME, VALUED, named, text};
 use crate::texts::parsed;
-use eden_value::{Items, Txt, Value, equal};
-use epl_syntax::{Const, Expr, FaultCause, Operator, ParseRefusal, Program, Stmt};
+use eden_value::{Items, Value, equal};
+use epl_syntax::{Const, Expr, FaultCause, Name, Operator, ParseRefusal, Program, Stmt};
 use epl_values::*;
 use std::alloc::{AllocError, Global};
 
@@ -78,8 +78,12 @@ const SUMS: &[(Operator, i64, i64, Outcome)] = &[
     (Operator::Modulo, i64::MIN, -1, Ok(0)),
 ];
 
-/// What an expression comes to.
+/// What an expression comes to, in a type whose names are looked up.
+#[tactic(auto, using(epl_values::proofs::Bindings::expression_looked_up))]
 fn outcome(alloc: Global, program: &Program, vars: &Variables, e: &Expr) -> Outcome {
+    if !program.bindings.is_empty() {
+        return Err(None);
+    }
     outcome_of(&value_of(alloc, program, vars, e))
 }
 
@@ -95,9 +99,10 @@ fn numbers_have_64_bits(rt: HostRuntime) -> Result<(), ParseRefusal> {
 }
 
 /// How many values the results of the operation have.
+#[tactic(auto, using(epl_values::proofs::Bindings::row_looked_up))]
 fn result_count(alloc: Global, program: &Program, vars: &Variables) -> Option<usize> {
     match program.operations.first()?.body.get(1)? {
-        Stmt::Return { results, .. } => {
+        Stmt::Return { results, .. } if program.bindings.is_empty() => {
             let values = values_of(alloc, program, vars, results).ok()?;
             Some(values.len())
         }
@@ -126,7 +131,11 @@ const NAMES: &[(&[u8], bool, Option<i64>, Option<i64>)] = &[
 ];
 
 /// The number that a variable holds.
-fn number_named(program: &Program, vars: &Variables, name: &Txt) -> Option<i64> {
+#[tactic(auto, using(epl_values::proofs::Bindings::name_looked_up))]
+fn number_named(program: &Program, vars: &Variables, name: &Name) -> Option<i64> {
+    if !program.bindings.is_empty() {
+        return None;
+    }
     match value_named(program, vars, name)? {
         Value::Int { n } => Some(*n),
         _ => None,
@@ -134,22 +143,35 @@ fn number_named(program: &Program, vars: &Variables, name: &Txt) -> Option<i64> 
 }
 
 /// The number that a copy of a variable holds.
-fn copied_number(alloc: Global, program: &Program, vars: &Variables, name: &Txt) -> Option<i64> {
+#[tactic(auto, using(epl_values::proofs::Bindings::name_looked_up))]
+fn copied_number(alloc: Global, program: &Program, vars: &Variables, name: &Name) -> Option<i64> {
+    if !program.bindings.is_empty() {
+        return None;
+    }
     outcome_of(&copy_named(alloc, program, vars, name)).ok()
 }
 
 /// Sets a variable to 9.
-fn set_nine(program: &Program, vars: &mut Variables, name: &Txt) {
-    set(program, vars, name, Value::Int { n: 9 });
+#[tactic(auto, using(epl_values::proofs::Bindings::name_looked_up))]
+fn set_nine(program: &Program, vars: &mut Variables, name: &Name) {
+    if program.bindings.is_empty() {
+        set(program, vars, name, Value::Int { n: 9 });
+    }
+}
+
+/// Whether a variable has this name.
+#[tactic(auto, using(epl_values::proofs::Bindings::name_looked_up))]
+fn is_variable(program: &Program, vars: &Variables, name: &Name) -> bool {
+    program.bindings.is_empty() && kind_named(program, vars, name).is_some()
 }
 
 #[test]
 fn a_name_stands_for_the_nearest_variable(rt: HostRuntime) -> Result<(), ParseRefusal> {
     let program = parsed(rt.alloc(), VALUED)?;
-    for &(bytes, is_variable, before, after) in NAMES {
+    for &(bytes, has_kind, before, after) in NAMES {
         let mut vars = variables(rt.alloc())?;
-        let name = text(rt.alloc(), bytes)?;
-        assert_eq!(rt; kind_named(&program, &vars, &name).is_some(), is_variable);
+        let name = named(rt.alloc(), bytes)?;
+        assert_eq!(rt; is_variable(&program, &vars, &name), has_kind);
         assert_eq!(rt; number_named(&program, &vars, &name), before);
         assert_eq!(rt; copied_number(rt.alloc(), &program, &vars, &name), before);
         set_nine(&program, &mut vars, &name);
@@ -161,21 +183,25 @@ fn a_name_stands_for_the_nearest_variable(rt: HostRuntime) -> Result<(), ParseRe
 }
 
 /// Runs the operation's assignment, and answers how many items its list has then, and why it faulted.
+#[tactic(auto, using(epl_values::proofs::Bindings::name_looked_up, epl_values::proofs::Bindings::expression_looked_up))]
 fn grown(
     alloc: Global,
     program: &Program,
     vars: &mut Variables,
 ) -> Result<(usize, Option<FaultCause>), AllocError> {
+    if !program.bindings.is_empty() {
+        return Err(AllocError);
+    }
     let operation = program.operations.first().ok_or(AllocError)?;
     let Some(Stmt::Assign { name, value }) = operation.body.first() else {
         return Err(AllocError);
     };
-    let fault = match assign(alloc, program, vars, &name.text, value) {
+    let fault = match assign(alloc, program, vars, name, value) {
         Ok(()) => None,
         Err(Stop::Fault { cause }) => Some(cause),
         Err(Stop::Memory) => return Err(AllocError),
     };
-    match value_named(program, vars, &name.text) {
+    match value_named(program, vars, name) {
         Some(Value::List { items }) => Ok((items.values.len(), fault)),
         _ => Err(AllocError),
     }

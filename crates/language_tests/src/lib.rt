@@ -2,6 +2,8 @@
 #![tactic(auto)]
 
 #[cfg(test)]
+mod epl_check_bindings;
+#[cfg(test)]
 mod epl_check_bodies;
 #[cfg(test)]
 mod epl_check_counts;

@@ -1,6 +1,6 @@
 //! Texts of types with a mark `|` before the token at which the one refusal is told.
 use crate::texts::{built, once, parsed};
-use epl_check::{CheckRefusal, check};
+use epl_check::{CheckRefusal, check, resolve};
 use epl_syntax::{Checked, ParseRefusal, Program, Rule, Types};
 use std::alloc::{AllocError, Global};
 
@@ -9,12 +9,13 @@ pub(crate) type Table = (Option<Rule>, &'static [&'static [u8]]);
 
 /// Declares the type of a text, which keeps the rules with the types before it.
 fn declare(alloc: Global, types: &mut Types, text: &[u8]) -> Result<(), ParseRefusal> {
-    let program = parsed(alloc, text)?;
+    let mut program = parsed(alloc, text)?;
     match check(alloc, &program, types) {
         Ok(()) => {}
         Err(_) => return Err(ParseRefusal::OutOfMemory),
     }
     if !types.has(&program.name.text) {
+        resolve(alloc, &mut program, text.len())?;
         let checked = Checked::of(program, types);
         types.add(checked)?;
     }

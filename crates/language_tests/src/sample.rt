@@ -1,6 +1,7 @@
 //! Types whose bodies the tests run.
 use capability::Uid;
 use eden_value::Txt;
+use epl_syntax::Name;
 use std::alloc::{AllocError, Global};
 
 /// The Eject of which they are.
@@ -35,4 +36,10 @@ pub(crate) const TURNED: &[u8] = b"edentype A version 3 \
 pub(crate) fn text(alloc: Global, bytes: &[u8]) -> Result<Txt, AllocError> {
     let bytes = Vec::from_slice(alloc, bytes)?;
     Ok(Txt { bytes })
+}
+
+/// A name that stands nowhere in a text.
+pub(crate) fn named(alloc: Global, bytes: &[u8]) -> Result<Name, AllocError> {
+    let text = text(alloc, bytes)?;
+    Ok(Name { text, place: 0 })
 }

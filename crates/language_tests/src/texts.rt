@@ -1,4 +1,8 @@
 //! Texts of types: the examples of the manual, texts of many parts, and how a text is read.
+ghost use Rattle.std.specs.Prelude.{◌≡◌, IfOk, true};
+ghost use Rattle.epl_syntax.specs.Bindings.{is_resolved};
+
+use epl_check::resolve;
 use epl_parser::parse_edentype;
 use epl_syntax::{ParseRefusal, Program};
 use std::alloc::{AllocError, Global};
@@ -58,6 +62,15 @@ pub(crate) fn parsed(alloc: Global, text: &[u8]) -> Result<Program, ParseRefusal
         return Err(ParseRefusal::OutOfMemory);
     }
     parse_edentype(alloc, text)
+}
+
+/// The type of a text, with its names resolved.
+pub(crate) fn resolved(alloc: Global, text: &[u8]) -> Result<Program, ParseRefusal>
+    ensures { IfOk result (λ p. is_resolved p ≡ true) }
+{
+    let mut program = parsed(alloc, text)?;
+    resolve(alloc, &mut program, text.len())?;
+    Ok(program)
 }
 
 /// A part of a text: what stands before each of its copies but number 0, the copy, in which `#`

@@ -10,14 +10,15 @@ use Rattle.eden_script.proofs.declared.declared.Goals as goal
 pub returns-in-Err-clause-refused : goal.returns-in-Err-clause-refused
 returns-in-Err-clause-refused c = c.refused_by_grammar.ensures (types_in c.args.types.now) c.args.text.now c.in-Err.ensures.answers
 
-pub returns-in-Ok-check-clause-declares : goal.returns-in-Ok-check-clause-declares
-returns-in-Ok-check-clause-declares c =
-    subst (λ (p : Program). Declares (types_in c.args.types.now) c.args.text.now (tree.type_tree p)) (sym c.of.ensures) (record {
+pub returns-in-Ok-resolve-clause-declares : goal.returns-in-Ok-resolve-clause-declares
+returns-in-Ok-resolve-clause-declares c =
+    subst (λ (p : Program). Declares (types_in c.args.types.now) c.args.text.now (tree.type_tree p)) (sym c.of.ensures)
+    (subst (Declares (types_in c.args.types.now) c.args.text.now) (sym c.resolve.ensures.tree) (record {
       spelled = c.in-Ok.ensures.answers;
       keeps_rules =
           ap (λ (names : List (List ℕ)). broken_program names (tree.type_tree c.in-Ok.program)) (sym (same_names c.args.types.now))
-          ∙ c.in-Ok-check.ensures.ok;
-    })
+          ∙ c.in_default.ensures.ok;
+    }))
 
 pub returns-in-Err-check-clause-refused : goal.returns-in-Err-check-clause-refused
 returns-in-Err-check-clause-refused c =

@@ -10,4 +10,4 @@ returns c =
     all_fit c.results.inside.values.items c.args.results.now c.loop-name.next c.len.result
     (memory (type_tree c.args.program.now) c.args.vars.now) c.args.gives.now c.loop-name.name-index c.results.view_is size
     c.loop-name-test.false
-    ∙ c.loop-name.invariant
+    ∙ c.loop-name.invariant.so_far

@@ -13,8 +13,8 @@ pub returns-then-not-are_fit-clause-told : goal.returns-then-not-are_fit-clause-
 returns-then-not-are_fit-clause-told c =
     let m = memory (type_tree c.args.program.now) c.args.vars.now in
     let is : c.args.code ≡ status.Ok = same_true the_type (search rules) _ _ (not_false _ c.if-ne.ensures) in (
-      refused (map (λ n. n.text) c.args.gives.now) c.args.code c.args.results (set c.args.status.now (code c.args.code) m) m is
-          (set_kinds c.args.status.now (code c.args.code) m (map (λ n. n.text) c.args.gives.now)) c.if-not-are_fit.ensures,
+      refused (map (λ n. n.text) c.args.gives.now) c.args.code c.args.results (set c.args.status.now.text (code c.args.code) m) m is
+          (set_kinds c.args.status.now.text (code c.args.code) m (map (λ n. n.text) c.args.gives.now)) c.if-not-are_fit.ensures,
       refl,
     )
 
@@ -22,7 +22,7 @@ pub returns-clause-told : goal.returns-clause-told
 returns-clause-told c =
     let m = memory (type_tree c.args.program.now) c.args.vars.now in
     let is : c.args.code ≡ status.Ok = same_true the_type (search rules) _ _ (not_false _ c.if-ne.ensures) in
-    accepted (map (λ n. n.text) c.args.gives.now) c.args.code c.args.results (set c.args.status.now (code c.args.code) m) m is
-    (set_kinds c.args.status.now (code c.args.code) m (map (λ n. n.text) c.args.gives.now)) c.if-not-are_fit.ensures
+    accepted (map (λ n. n.text) c.args.gives.now) c.args.code c.args.results (set c.args.status.now.text (code c.args.code) m) m is
+    (set_kinds c.args.status.now.text (code c.args.code) m (map (λ n. n.text) c.args.gives.now)) c.if-not-are_fit.ensures
     ∙ ap Ok (ap (set_each (map (λ n. n.text) c.args.gives.now) c.args.results) (sym c.set_code-2.ensures.memory)
     ∙ sym c.set_each.ensures.memory)

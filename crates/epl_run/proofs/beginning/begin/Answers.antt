@@ -2,7 +2,7 @@ use Rattle.std.proofs.Common.{◌≡◌, ◌<◌, Some, None, length, map, ap, s
 use Rattle.std.proofs.lemmas.Result.{IfOk-weaker}
 use Rattle.epl_syntax.specs.Tree.{type_tree, local_of}
 use Rattle.epl_syntax.specs.Turns.{operation_left}
-use Rattle.epl_values.specs.Variables.{place_of}
+use Rattle.epl_syntax.specs.Bindings.{place_of}
 use Rattle.epl_run.specs.Begins.{local_starts}
 use Rattle.epl_run.proofs.BeginLaws.{begun_is, none_begun, op_at}
 use Rattle.epl_run.proofs.Counted.{place_in}

@@ -1,8 +1,15 @@
-use Rattle.std.proofs.Common.{◌≡◌, drop}
+use Rattle.std.proofs.Common.{◌≡◌, Bool, true, drop}
+use Rattle.epl_syntax.specs.declared.tree.Name.{Name}
+use Rattle.epl_syntax.specs.Bindings.{Sort}
 use Rattle.epl_syntax.specs.Tree.{type_tree}
 use Rattle.epl_run.specs.Blocks.{steps_of, steps_in, awaited, awaited_at, awaited_from}
+use Rattle.epl_run.specs.Found.{each_in, each_made}
 use Rattle.epl_run.proofs.block.last_made.Given as goal
 
 abbrev pub invariant-loop-frame : goal.invariant-loop-frame
-invariant-loop-frame l = awaited_from (type_tree l.program) (steps_in l.block) (awaited_at l.made) (drop l.frame-index l.frames)
-    ≡ awaited (type_tree l.program) (steps_of l.body) l.frames
+invariant-loop-frame l = record {
+  so_far : awaited_from (type_tree l.program) (steps_in l.block) (awaited_at l.made) (drop l.frame-index l.frames)
+      ≡ awaited (type_tree l.program) (steps_of l.body) l.frames;
+  each : (test : Sort → Name → Bool) → each_in test l.body ≡ true → each_in test l.block.statements.now ≡ true;
+  made : (test : Sort → Name → Bool) → each_in test l.body ≡ true → each_made test l.made ≡ true;
+}

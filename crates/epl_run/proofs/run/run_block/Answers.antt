@@ -1,10 +1,11 @@
-use Rattle.std.proofs.Common.{◌≡◌, ◌+◌, drop, ◌++◌, ◌∷◌, ◌<◌, ◌≤◌, ◌≢◌, [], length, refl, ap, subst, ◌∙◌, arith, rules, List, Some, Ok, Err}
+use Rattle.std.proofs.Common.{◌≡◌, ◌+◌, drop, ◌++◌, ◌∷◌, ◌<◌, ◌≤◌, ◌≢◌, [], length, refl, ap, sym, subst, ◌∙◌, arith, rules, List, Some, Ok, Err}
 use Rattle.std.proofs.Common.{true, false}
 use Rattle.epl_syntax.specs.Tree.{type_tree}
 use Rattle.std.specs.Prelude.{slice_get}
 use Rattle.epl_syntax.specs.Statements.{Step, came_of}
 use Rattle.epl_values.specs.declared.stop.Stop.TheVariants as stop
-use Rattle.epl_values.specs.Variables.{memory}
+use Rattle.epl_values.specs.Variables.{memory, is_found}
+use Rattle.epl_run.specs.Found.{each_in}
 use Rattle.epl_run.specs.declared.act.Act.TheVariants as act
 use Rattle.epl_run.specs.Acts.{Behind}
 use Rattle.epl_run.specs.Blocks.{steps_of, steps_in, rest_of}
@@ -43,6 +44,9 @@ loop-frame-preserved-in-Ok-Next c =
           c.loop-frame.invariant.block (c.loop-frame.invariant.so_far true) false c.kept-frame.result c.kept-frame.ensures;
       fewer = omega (arith, c.loop-frame.invariant.fewer);
       owner = c.step.ensures.owner ∙ c.loop-frame.invariant.owner;
+      found =
+          subst (λ owner. each_in (is_found c.args.program.now owner) c.loop-frame.block.statements.now ≡ true) (sym c.step.ensures.owner)
+          c.loop-frame.invariant.found;
     }
 
 pub loop-frame-preserved : goal.loop-frame-preserved
@@ -73,7 +77,7 @@ loop-frame-preserved c =
           some acts made c.entered-frame.ensures;
       block = entered_block t body fs f (fs ++ (f ∷ [])) block c.loop-frame.left true c.loop-frame.vars _ refl
           c.loop-frame.invariant.block (c.loop-frame.invariant.so_far true) again b mid g (steps_in c.inner-block.result) made
-          c.entered-frame.ensures c.inner-block.ensures;
+          c.entered-frame.ensures c.inner-block.ensures.steps;
       fewer = omega (
         arith,
         c.loop-frame.invariant.fewer,
@@ -82,6 +86,9 @@ loop-frame-preserved c =
         some_left c.loop-frame.left some,
       );
       owner = c.step.ensures.owner ∙ c.loop-frame.invariant.owner;
+      found =
+          subst (λ owner. each_in (is_found c.args.program.now owner) c.inner-block.result.statements.now ≡ true) (sym c.step.ensures.owner)
+          (c.inner-block.ensures.each (is_found c.args.program.now c.loop-frame.vars.owner) c.loop-frame.invariant.found);
     }
 
 pub returns-in-Ok-End-clause-went : goal.returns-in-Ok-End-clause-went

@@ -1,8 +1,9 @@
-use Rattle.std.proofs.Common.{◌≡◌, ◌+◌, ◌*◌, ◌++◌, ◌∷◌, ◌≤◌, [], length, Bool}
+use Rattle.std.proofs.Common.{◌≡◌, ◌+◌, ◌*◌, ◌++◌, ◌∷◌, ◌≤◌, [], length, Bool, true}
 use Rattle.epl_syntax.specs.Tree.{type_tree}
 use Rattle.epl_syntax.specs.Turns.{run}
-use Rattle.epl_values.specs.Variables.{memory}
+use Rattle.epl_values.specs.Variables.{memory, is_found}
 use Rattle.epl_run.specs.Blocks.{steps_of, steps_in, own, block_at, rest_of}
+use Rattle.epl_run.specs.Found.{each_in}
 use Rattle.epl_run.proofs.run.run_block.Given as goal
 
 abbrev pub invariant-loop-frame : goal.invariant-loop-frame
@@ -14,6 +15,7 @@ invariant-loop-frame l = record {
   block : steps_in l.block ≡ own (type_tree l.program) (block_at (type_tree l.program) (steps_of l.body) l.frames.items) l.frame;
   fewer : 2 * l.left + length l.frames.items ≤ 2 * l.fn.left + length l.fn.frames.items;
   owner : l.vars.owner ≡ l.fn.vars.owner;
+  found : each_in (is_found l.program l.vars.owner) l.block.statements.now ≡ true;
 }
 
 abbrev pub decreases-loop-frame : goal.decreases-loop-frame

@@ -15,8 +15,8 @@ returns-then-is_named-clause-moves c =
     let right = value_of m (expression c.deref-then-is_named.result.now) in
     let both : value_of m (expression c.args.e.now) ≡ found (value_of m (expression c.deref.result.now)) (λ d. between Join d right) =
     search (rules, the_lemmas) in
-    let same : value_of m (expression c.args.e.now) ≡ found (value_as m c.args.text.now) (λ d. found right (joined d)) =
+    let same : value_of m (expression c.args.e.now) ≡ found (value_as m c.args.name.now.text) (λ d. found right (joined d)) =
     both ∙ ap (λ r. found r (λ d. between Join d right)) (c.if-is_named.ensures refl m) in
-    subst (λ r. Moves c.grow.result (memory (type_tree c.args.program.now) c.grow.new.vars) m (found r (setting c.args.text.now m)))
+    subst (λ r. Moves c.grow.result (memory (type_tree c.args.program.now) c.grow.new.vars) m (found r (setting c.args.name.now.text m)))
     (sym same)
     c.grow.ensures.moves

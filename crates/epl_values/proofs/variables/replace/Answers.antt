@@ -1,83 +1,69 @@
-use Rattle.std.proofs.Common.{sym, ◌∙◌, ap, map, Some, None}
+use Rattle.std.proofs.Common.{sym, ap}
 use Rattle.eden_value.specs.View.{datum}
-use Rattle.epl_syntax.specs.Tree.{type_tree, variable}
-use Rattle.epl_syntax.specs.declared.tree.ParDecl.{ParDecl}
-use Rattle.epl_syntax.specs.declared.tree.LocalDecl.{LocalDecl}
-use Rattle.epl_values.proofs.Places.{set_param, set_local, set_var, old_param, old_local, old_var, put_there, value_there}
-use Rattle.epl_values.proofs.Places.{in_params, in_locals}
+use Rattle.epl_syntax.specs.declared.binding.Binding.TheVariants.{Parameter, Local, Variable}
+use Rattle.epl_syntax.specs.Tree.{type_tree}
+use Rattle.epl_values.proofs.Bindings.{right_at, value_found, set_at_param, set_at_local, set_at_var}
 use Rattle.epl_values.proofs.variables.replace.Goals as goal
 
-pub returns-in-Some-clause-memory : goal.returns-in-Some-clause-memory
-returns-in-Some-clause-memory c =
-    let t = type_tree c.args.program.now in
+pub returns-in-Parameter-clause-memory : goal.returns-in-Parameter-clause-memory
+returns-in-Parameter-clause-memory c =
+    let p = c.args.program.now in
     let v = c.args.vars.now in
-    let ps = c.params_of-params.result.now in
-    let there = value_there (λ (p : ParDecl). p.name) ps v.params c.args.text.now c.in-Some.at c.in-Some.ensures.place in
-    set_param t v c.args.text.now (datum c.args.value) ps c.swap_in.new.values c.params_of-params.ensures
-    (in_params t v c.args.text.now ps (Some (datum c.swap_in.result)) c.params_of-params.ensures (c.swap_in.ensures.old ∙ there))
-    (c.swap_in.ensures.new
-    ∙ put_there (λ (p : ParDecl). p.name) ps v.params c.args.text.now (datum c.args.value) c.in-Some.at c.in-Some.ensures.place)
+    let name = c.args.name.now in
+    let at = c.from-in-Parameter.result in
+    let right = right_at p v.owner name c.deref.result.now (Parameter c.in-Parameter.at) (Parameter at) c.requires c.deref.ensures.value
+    c.in-Parameter.ensures (ap Parameter c.from-in-Parameter.ensures) in
+    set_at_param (type_tree p) v name.text at (datum c.swap_in.result) (datum c.args.value) c.swap_in.new.values right
+    c.swap_in.ensures.old c.swap_in.ensures.new
 
-pub returns-in-Some-clause-before : goal.returns-in-Some-clause-before
-returns-in-Some-clause-before c =
-    let t = type_tree c.args.program.now in
+pub returns-in-Parameter-clause-before : goal.returns-in-Parameter-clause-before
+returns-in-Parameter-clause-before c =
+    let p = c.args.program.now in
     let v = c.args.vars.now in
-    let ps = c.params_of-params.result.now in
-    let there = value_there (λ (p : ParDecl). p.name) ps v.params c.args.text.now c.in-Some.at c.in-Some.ensures.place in
-    c.swap_in.ensures.old ∙ there
-    ∙ old_param t v c.args.text.now ps c.params_of-params.ensures
-    (in_params t v c.args.text.now ps (Some (datum c.swap_in.result)) c.params_of-params.ensures (c.swap_in.ensures.old ∙ there))
+    let name = c.args.name.now in
+    let at = c.from-in-Parameter.result in
+    let right = right_at p v.owner name c.deref.result.now (Parameter c.in-Parameter.at) (Parameter at) c.requires c.deref.ensures.value
+    c.in-Parameter.ensures (ap Parameter c.from-in-Parameter.ensures) in
+    sym (value_found (type_tree p) v name.text (Parameter at) (datum c.swap_in.result) right c.swap_in.ensures.old)
 
-pub returns-in-Some-held_at-clause-memory : goal.returns-in-Some-held_at-clause-memory
-returns-in-Some-held_at-clause-memory c =
-    let t = type_tree c.args.program.now in
+pub returns-in-Local-clause-memory : goal.returns-in-Local-clause-memory
+returns-in-Local-clause-memory c =
+    let p = c.args.program.now in
     let v = c.args.vars.now in
-    let text = c.args.text.now in
-    let ls = c.locals_of-locals.result.now in
-    let at = c.in-Some-held_at.at in
-    let new = c.swap_in-in-Some-held_at.ensures.new in
-    let old = c.swap_in-in-Some-held_at.ensures.old in
-    let there = value_there (λ (l : LocalDecl). l.name) ls v.locals text at c.in-Some-held_at.ensures.place in
-    let no_param = in_params t v text c.params_of-params.result.now None c.params_of-params.ensures
-    (sym (c.held_at.ensures.none c.in_default.is)) in
-    set_local t v text (datum c.args.value) ls c.swap_in-in-Some-held_at.new.values c.locals_of-locals.ensures no_param
-    (in_locals t v text ls (Some (datum c.swap_in-in-Some-held_at.result)) c.locals_of-locals.ensures (old ∙ there))
-    (new ∙ put_there (λ (l : LocalDecl). l.name) ls v.locals text (datum c.args.value) at c.in-Some-held_at.ensures.place)
+    let name = c.args.name.now in
+    let at = c.from-in-Local.result in
+    let right = right_at p v.owner name c.deref.result.now (Local c.in-Local.at) (Local at) c.requires c.deref.ensures.value
+    c.in-Local.ensures (ap Local c.from-in-Local.ensures) in
+    set_at_local (type_tree p) v name.text at (datum c.swap_in-in-Local.result) (datum c.args.value) c.swap_in-in-Local.new.values right
+    c.swap_in-in-Local.ensures.old c.swap_in-in-Local.ensures.new
 
-pub returns-in-Some-held_at-clause-before : goal.returns-in-Some-held_at-clause-before
-returns-in-Some-held_at-clause-before c =
-    let t = type_tree c.args.program.now in
+pub returns-in-Local-clause-before : goal.returns-in-Local-clause-before
+returns-in-Local-clause-before c =
+    let p = c.args.program.now in
     let v = c.args.vars.now in
-    let text = c.args.text.now in
-    let ls = c.locals_of-locals.result.now in
-    let old = c.swap_in-in-Some-held_at.ensures.old in
-    let there = value_there (λ (l : LocalDecl). l.name) ls v.locals text c.in-Some-held_at.at c.in-Some-held_at.ensures.place in
-    let no_param = in_params t v text c.params_of-params.result.now None c.params_of-params.ensures
-    (sym (c.held_at.ensures.none c.in_default.is)) in
-    old ∙ there
-    ∙ old_local t v text ls c.locals_of-locals.ensures no_param
-    (in_locals t v text ls (Some (datum c.swap_in-in-Some-held_at.result)) c.locals_of-locals.ensures (old ∙ there))
+    let name = c.args.name.now in
+    let at = c.from-in-Local.result in
+    let right = right_at p v.owner name c.deref.result.now (Local c.in-Local.at) (Local at) c.requires c.deref.ensures.value
+    c.in-Local.ensures (ap Local c.from-in-Local.ensures) in
+    sym (value_found (type_tree p) v name.text (Local at) (datum c.swap_in-in-Local.result) right c.swap_in-in-Local.ensures.old)
 
-pub returns-clause-memory : goal.returns-clause-memory
-returns-clause-memory c =
-    let t = type_tree c.args.program.now in
+pub returns-in-Variable-clause-memory : goal.returns-in-Variable-clause-memory
+returns-in-Variable-clause-memory c =
+    let p = c.args.program.now in
     let v = c.args.vars.now in
-    let text = c.args.text.now in
-    let no_param = in_params t v text c.params_of-params.result.now None c.params_of-params.ensures
-    (sym (c.held_at.ensures.none c.in_default.is)) in
-    let no_local = in_locals t v text c.locals_of-locals.result.now None c.locals_of-locals.ensures
-    (sym (c.held_at-2.ensures.none c.in_default-held_at.is)) in
-    set_var t v text (datum c.args.value) c.deref.result.now c.put.new.values (ap (map variable) c.deref.ensures.value) no_param no_local
-    c.put.ensures.new
+    let name = c.args.name.now in
+    let at = c.from-in-Variable.result in
+    let right = right_at p v.owner name c.deref.result.now (Variable c.in-Variable.at) (Variable at) c.requires c.deref.ensures.value
+    c.in-Variable.ensures (ap Variable c.from-in-Variable.ensures) in
+    set_at_var (type_tree p) v name.text at (datum c.swap_in-in-Variable.result) (datum c.args.value) c.swap_in-in-Variable.new.values right
+    c.swap_in-in-Variable.ensures.old c.swap_in-in-Variable.ensures.new
 
-pub returns-clause-before : goal.returns-clause-before
-returns-clause-before c =
-    let t = type_tree c.args.program.now in
+pub returns-in-Variable-clause-before : goal.returns-in-Variable-clause-before
+returns-in-Variable-clause-before c =
+    let p = c.args.program.now in
     let v = c.args.vars.now in
-    let text = c.args.text.now in
-    let no_param = in_params t v text c.params_of-params.result.now None c.params_of-params.ensures
-    (sym (c.held_at.ensures.none c.in_default.is)) in
-    let no_local = in_locals t v text c.locals_of-locals.result.now None c.locals_of-locals.ensures
-    (sym (c.held_at-2.ensures.none c.in_default-held_at.is)) in
-    c.put.ensures.old
-    ∙ old_var t v text c.deref.result.now (ap (map variable) c.deref.ensures.value) no_param no_local
+    let name = c.args.name.now in
+    let at = c.from-in-Variable.result in
+    let right = right_at p v.owner name c.deref.result.now (Variable c.in-Variable.at) (Variable at) c.requires c.deref.ensures.value
+    c.in-Variable.ensures (ap Variable c.from-in-Variable.ensures) in
+    sym (value_found (type_tree p) v name.text (Variable at) (datum c.swap_in-in-Variable.result) right c.swap_in-in-Variable.ensures.old)
