@@ -31,7 +31,7 @@ may-carry : {T D : Type 0} (tells obeys : Bool) (layout : Layout) (seen : T → 
     (names_of script.types) script.nodes script.commands
 may-carry tells obeys layout seen look script before after run order new =
     may-begin (Stands tells layout seen look) run layout script runs order.its_layout order.handed_in order.fit
-    (let nodes : script.nodes ≤ 8 = order.fit.nodes.1 in omega (arith, nodes, opened.eight)) new.history new.turns new.last (
+    (let nodes : script.nodes ≤ 8 = order.fit.nodes.1 in omega (arith, nodes, opened.eight)) new.history new.turns new.last new.again (
       most,
       omega arith,
       begins-stands tells layout seen look script.types before run.machine new.begins script runs most order.telling refl

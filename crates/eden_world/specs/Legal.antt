@@ -1,5 +1,5 @@
 -- A whole run of a program over disks: what is taken for granted of it, and its disks as they were seen before it and are seen after it.
-use Rattle.std.specs.Prelude.{◌≡◌, ◌≤◌, ℕ, Bool, List, [], ◌∷◌, length, None, IsTrue, IfSome, slice_get}
+use Rattle.std.specs.Prelude.{◌≡◌, ◌≤◌, ℕ, Bool, false, List, [], ◌∷◌, length, None, IsTrue, IfSome, slice_get}
 use Rattle.eden_disk.specs.Told.{contents}
 use Rattle.passive_store.specs.Kept.{Layout}
 use Rattle.passive_store.specs.Layout.{IsLayout}
@@ -65,3 +65,4 @@ pub record IsAtStart {T D : Type 0} (script : Script) (before : List D) (run : R
   pub history : run.history.items ≡ []
   pub turns : run.turns ≡ 0
   pub last : run.last ≡ None
+  pub again : run.again ≡ false

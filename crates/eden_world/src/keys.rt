@@ -132,8 +132,8 @@ where
         None
     }
 
-    // Whether it has the turn of this key.
-    fn has_turn(&self, key: Key) -> bool
+    /// Whether it has the turn of this key.
+    pub fn has_turn(&self, key: Key) -> bool
         ensures { IsTrue result ↔ HasTurn self.now key }
     {
         if key.station > 0 {

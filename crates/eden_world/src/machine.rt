@@ -35,6 +35,10 @@ where
         self.key_following(last)
     }
 
+    fn may_take(&self, key: Key) -> bool {
+        self.has_turn(key)
+    }
+
     fn item(&self, alloc: Global, i: u32) -> Result<Option<Key>, AllocError> {
         self.key_at(alloc, i)
     }

@@ -1,5 +1,5 @@
 -- Commands where they are due, all boots, and then all commands.
-use Rattle.std.proofs.Common.{◌≡◌, ◌<◌, ℕ, suc, ◌+◌, ◌-◌, true, List, [], ◌∷◌, length, get_or, drop, drop-cons, add-one, Some}
+use Rattle.std.proofs.Common.{◌≡◌, ◌<◌, ℕ, suc, ◌+◌, ◌-◌, true, false, List, [], ◌∷◌, length, get_or, drop, drop-cons, add-one, Some}
 use Rattle.std.proofs.Common.{refl, sym, ◌∙◌, ap, subst, arith}
 use Rattle.std.specs.List.{All}
 use Rattle.std.proofs.lemmas.List.Elements.{All-nil}
@@ -44,6 +44,7 @@ module _ {M : Type 0} (stands : Stands M) (did : Did M) where
   on-command o others old new p q c e on took due leads_to world = on-push stands did o (suc others) others old new p q (next p.world
       (Some c) e) e on
       (due took.allowed) took.grew leads_to world took.stays took.does took.turns took.last
+      (λ is. absurd (let bad : false ≡ true = sym took.again ∙ is in cc bad))
 
   module _ (old new : Run M) (c : Command) (single : is_single c ≡ true) where
     single-on : (o : Origin M) (others : ℕ) (w : World) (cs : List Command)
@@ -100,6 +101,7 @@ module _ {M : Type 0} (stands : Stands M) (did : Did M) (starved : Starved M) (o
       came = subst (λ h. DidAll did old.machine (steps start h) old.machine) (sym at.history) refl;
       turns = ap (λ (w : World). w.turns) (world-booting 1 (nodes - 0) opening cs) ∙ at.turns.1 ∙ sym at.turns.0;
       last = ap (λ (w : World). w.last) (world-booting 1 (nodes - 0) opening cs) ∙ at.last.1 ∙ sym at.last.0;
+      again = λ is. absurd (let bad : false ≡ true = sym at.again ∙ is in cc bad);
     },
   )
     where

@@ -36,7 +36,7 @@ module _ {M : Type 0} (stands : Stands M) (did : Did M) (o : Origin M) (others :
       → IsOn stands did o others new q
   on-took p q choose went e on took due leads_to world = on-push stands did o others others old new p q (next p.world None e) e on
       (due took.turn) took.grew
-      leads_to world took.stays took.does took.turns took.last
+      leads_to world took.stays took.does took.turns took.last took.again
 
   pub went-on : (w : World) (n : ℕ) (cs : List Command) (went : Bool) (e : Entry)
       → IsOn stands did o others old (due_in w (turns (suc n)) cs)

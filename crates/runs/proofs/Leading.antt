@@ -2,7 +2,7 @@
 use Rattle.std.proofs.Common.{◌≡◌, ◌≤◌, ◌<◌, ℕ, zero, suc, ◌+◌, ◌-◌, Bool, true, false, cond, List, [], ◌∷◌, ◌++◌, length, Option, None}
 use Rattle.std.proofs.Common.{Some}
 use Rattle.std.proofs.Common.{refl, sym, ◌∙◌, ap, subst, arith, inl}
-use Rattle.std.specs.Prelude.{is_some, slice_get, ◌%◌, Result, Ok, Err, OnOk, OnErr}
+use Rattle.std.specs.Prelude.{is_some, slice_get, ◌%◌, Result, Ok, Err, OnOk, OnErr, IsTrue}
 use Rattle.std.proofs.lemmas.Bool.Decides.{nat_tests}
 use Rattle.std.specs.List.{Contains, find, filter_map}
 use Rattle.eden_model.specs.Map.{first}
@@ -13,14 +13,14 @@ use Rattle.journal.specs.declared.event.Event.TheVariants as event
 use Rattle.journal.specs.declared.event.Entry.{Entry}
 use Rattle.journal.specs.declared.event.Key.{Key}
 use Rattle.journal.specs.World.{World}
-use Rattle.journal.specs.Step.{Allows, counted, clocked, happened}
+use Rattle.journal.specs.Step.{Allows, next, key_of, counted, clocked, happened}
 use Rattle.journal.specs.Enabled.{enabled, following, is_past}
 use Rattle.journal.specs.Fit.{IsFitCommand}
 use Rattle.journal.specs.Run.{Position, Step, IdleIf, idle, IsDue, Leads, end_of, lead, steps, is_spent, taken_key, most_turns}
 use Rattle.runs.specs.Reached.{IsReached, IsFitIn}
 use Rattle.runs.specs.Machines.{Stands, Did, Starved, Shows, Whole, Leaves}
 use Rattle.runs.specs.Machines.{step, plain, TakesKey, CarriesOut, StandsWith, DidStep, DidAll, DidPart, ShowsOne, ShowsAll, IsLeft}
-use Rattle.runs.specs.Runs.{Origin, room, IsOn, chosen_by, Took, TookCommand, Failed, EndsShort, KeepsShown, KeepsShownSoFar}
+use Rattle.runs.specs.Runs.{Origin, room, IsOn, Repeats, chosen_by, Took, TookCommand, Failed, EndsShort, KeepsShown, KeepsShownSoFar}
 use Rattle.runs.specs.declared.run.Choice.{Choice}
 use Rattle.runs.specs.declared.run.Choice.TheVariants.{Following, Item}
 use Rattle.runs.specs.declared.run.Run.{Run}
@@ -138,6 +138,7 @@ module _ {M : Type 0} (stands : Stands M) (did : Did M) (o : Origin M) where
     came = on.came;
     turns = on.turns;
     last = on.last;
+    again = on.again;
   }
 
   -- the run goes on by an entry that is due
@@ -146,8 +147,8 @@ module _ {M : Type 0} (stands : Stands M) (did : Did M) (o : Origin M) where
       → new.history.items ≡ old.history.items ++ e ∷ [] → lead p e ≡ q → q.world ≡ later
       → StandsWith stands new.machine (room new others) later
       → DidStep did old.machine (step p.world e later) new.machine → later.turns ≡ new.turns → later.last ≡ new.last
-      → IsOn stands did o others new q
-  on-push before others old new p q later e on due grew leads_to world machine done same_turns same_last = record {
+      → (IsTrue new.again → Repeats later) → IsOn stands did o others new q
+  on-push before others old new p q later e on due grew leads_to world machine done same_turns same_last repeats = record {
     reached = on.reached;
     leads = subst (Leads o.start) (sym grew) (leads-push o.start old.history.items e on.leads (subst (λ x. IsDue x e) (sym on.at) due));
     at = ap (end_of o.start) grew ∙ end-push o.start old.history.items e ∙ ap (λ x. lead x e) on.at ∙ leads_to;
@@ -160,6 +161,7 @@ module _ {M : Type 0} (stands : Stands M) (did : Did M) (o : Origin M) where
         (x : Position). x.world) leads_to ∙ world)) done))));
     turns = ap (λ (x : World). x.turns) world ∙ same_turns;
     last = ap (λ (x : World). x.last) world ∙ same_last;
+    again = λ is. subst Repeats (sym world) (repeats is);
   }
 
   -- memory was wanting before the entry
@@ -180,8 +182,9 @@ module _ {M : Type 0} (stands : Stands M) (did : Did M) (o : Origin M) (others :
       (subst (λ t. StandsWith stands old.machine ((most_turns - t) + others) p.world) (sym same_turns) on.machine)
 
   pub took-spent : 100000 ≤ old.turns → new.history.items ≡ old.history.items ++ plain event.Spent ∷ [] → new.machine ≡ old.machine
-      → new.turns ≡ old.turns → new.last ≡ old.last → (e : Entry) × Took stands did others old new p.world choose false e
-  took-spent many grew machine same_turns same_last = (
+      → new.turns ≡ old.turns → new.last ≡ old.last → new.again ≡ old.again
+      → (e : Entry) × Took stands did others old new p.world choose false e
+  took-spent many grew machine same_turns same_last same_again = (
     plain event.Spent,
     record {
       grew = grew;
@@ -196,6 +199,7 @@ module _ {M : Type 0} (stands : Stands M) (did : Did M) (o : Origin M) (others :
       does = machine;
       turns = on.turns ∙ sym same_turns;
       last = on.last ∙ sym same_last;
+      again = λ is. on.again (subst IsTrue same_again is);
     },
   )
     where
@@ -212,9 +216,9 @@ module _ {M : Type 0} (stands : Stands M) (did : Did M) (o : Origin M) (others :
   few-spent few = rw on.turns (grind (arith, nat_tests))
 
   pub took-quiet : old.turns < 100000 → None ≡ choose (enabled p.world) → new.history.items ≡ old.history.items ++ plain event.Quiet ∷ []
-      → new.machine ≡ old.machine → new.turns ≡ old.turns → new.last ≡ old.last
+      → new.machine ≡ old.machine → new.turns ≡ old.turns → new.last ≡ old.last → new.again ≡ old.again
       → (e : Entry) × Took stands did others old new p.world choose false e
-  took-quiet few none grew machine same_turns same_last = (
+  took-quiet few none grew machine same_turns same_last same_again = (
     plain event.Quiet,
     record {
       grew = grew;
@@ -229,6 +233,7 @@ module _ {M : Type 0} (stands : Stands M) (did : Did M) (o : Origin M) (others :
       does = machine;
       turns = on.turns ∙ sym same_turns;
       last = on.last ∙ sym same_last;
+      again = λ is. on.again (subst IsTrue same_again is);
     },
   )
     where
@@ -241,8 +246,9 @@ module _ {M : Type 0} (stands : Stands M) (did : Did M) (o : Origin M) (others :
   pub took-key : old.turns < 100000 → (k : Key) (e : Entry) → Some k ≡ choose (enabled p.world)
       → ((more : ℕ) → stands old.machine (suc more) p.world → TakesKey stands did old.machine new.machine more p.world k e)
       → new.history.items ≡ old.history.items ++ e ∷ [] → new.turns ≡ old.turns + 1 → new.last ≡ Some k
+      → (Allows p.world None e → key_of e.event ≡ Some k → IsTrue new.again → Repeats (next p.world None e))
       → (e : Entry) × Took stands did others old new p.world choose true e
-  took-key few k e chosen steps grew one_more now_last =
+  took-key few k e chosen steps grew one_more now_last repeats =
       less-room stands old.machine (room new others) p.world ((e : Entry) × Took stands did others old new p.world choose true e)
       (on.machine.0, omega (arith, few, one_more, on.machine.1), on.machine.2) (λ more le at. (e, one more le (steps more at)))
     where
@@ -265,6 +271,7 @@ module _ {M : Type 0} (stands : Stands M) (did : Did M) (o : Origin M) (others :
         turns = ap (λ o. (counted o (clocked e.node e.clock (happened p.world None e.event))).turns) took.takes
             ∙ ap (λ m. m + 1) (ap (λ (x : ℕ × Option Key × List Edentype). x.0) (turns-kept p.world e) ∙ on.turns) ∙ sym one_more;
         last = ap (λ o. (counted o (clocked e.node e.clock (happened p.world None e.event))).last) took.takes ∙ sym now_last;
+        again = repeats took.allowed took.takes;
       }
 
 -- 6. One command
@@ -273,9 +280,9 @@ module _ {M : Type 0} (stands : Stands M) (did : Did M) (o : Origin M) (others :
     (c : Command) (on : IsOn stands did o (suc others) old p) where
   pub took-command : (e : Entry) → ((more : ℕ) → stands old.machine (suc more) p.world → CarriesOut stands did old.machine new.machine
       more p.world c e)
-      → new.history.items ≡ old.history.items ++ e ∷ [] → new.turns ≡ old.turns → new.last ≡ old.last
+      → new.history.items ≡ old.history.items ++ e ∷ [] → new.turns ≡ old.turns → new.last ≡ old.last → new.again ≡ false
       → TookCommand stands did others old new p.world c e
-  took-command e carries grew same_turns same_last =
+  took-command e carries grew same_turns same_last not_again =
       less-room stands old.machine (room new others) p.world (TookCommand stands did others old new p.world c e)
       (on.machine.0, omega (arith, same_turns, on.machine.1), on.machine.2) (λ more le at. one more le (carries more at))
     where
@@ -288,6 +295,7 @@ module _ {M : Type 0} (stands : Stands M) (did : Did M) (o : Origin M) (others :
         does = rw (busy-command p.world c e.event took.allowed.event) took.does;
         turns = ap (λ (x : ℕ × Option Key × List Edentype). x.0) kept ∙ on.turns ∙ sym same_turns;
         last = ap (λ (x : ℕ × Option Key × List Edentype). x.1) kept ∙ on.last ∙ sym same_last;
+        again = not_again;
       }
 
 -- 7. Where memory was wanting, what needs room for one entry was begun, or nothing was

@@ -8,3 +8,4 @@ pub mod Epochs
 pub mod Reaching
 pub mod Few
 pub mod Numbers
+pub mod Repeating

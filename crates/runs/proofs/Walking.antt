@@ -69,9 +69,9 @@ module _ {M : Type 0} (stands : Stands M) (did : Did M) (o : Origin M) (others :
     (name : List ℕ) (directory : Option Cap) (c : List ℕ) (more : List (List ℕ)) (cs : List Command)
     (on : IsOn stands did o (suc others) old (due_in w (looks_up name directory (c ∷ more)) cs)) where
   pub asked-on : (e : Entry) → ((n : ℕ) → stands old.machine (suc n) w → LooksUp stands did old.machine new.machine n w name directory c e)
-      → new.history.items ≡ old.history.items ++ e ∷ [] → new.turns ≡ old.turns → new.last ≡ old.last
+      → new.history.items ≡ old.history.items ++ e ∷ [] → new.turns ≡ old.turns → new.last ≡ old.last → new.again ≡ false
       → (later : World) × IsOn stands did o others new (asking (sent e.event) later name more cs)
-  asked-on e asks grew same_turns same_last = less-room stands old.machine (room new others) w
+  asked-on e asks grew same_turns same_last not_again = less-room stands old.machine (room new others) w
       ((later : World) × IsOn stands did o others new (asking (sent e.event) later name more cs))
       (on.machine.0, omega (arith, same_turns, on.machine.1), on.machine.2) (λ n le at. (later, one n le (asks n at)))
     where
@@ -90,6 +90,7 @@ module _ {M : Type 0} (stands : Stands M) (did : Did M) (o : Origin M) (others :
           (subst (λ v. did old.machine (step w e v) new.machine) (look-more w name directory c more e.event) looks.does))
           (ap (λ (x : ℕ × Option Key × List Edentype). x.0) kept ∙ on.turns ∙ sym same_turns)
           (ap (λ (x : ℕ × Option Key × List Edentype). x.1) kept ∙ on.last ∙ sym same_last)
+          (λ is. absurd (let bad : false ≡ true = sym not_again ∙ is in cc bad))
 
 -- 2. Its answer is waited for
 

@@ -1,11 +1,14 @@
 -- A run on its way through a script.
-use Rattle.std.specs.Prelude.{◌≡◌, ◌⊎◌, ◌≤◌, ℕ, zero, suc, ◌+◌, ◌-◌, Bool, true, false, List, [], ◌∷◌, ◌++◌, Option, None, Some, is_some}
+use Rattle.std.specs.Prelude.{◌≡◌, ◌⊎◌, ◌≤◌, ℕ, zero, suc, ◌+◌, ◌-◌, Bool, true, false, List, [], ◌∷◌, ◌++◌, Option, None, Some, is_some, IsTrue}
 use Rattle.std.specs.List.{All}
+use Rattle.capability.specs.declared.Uid.{Uid}
 use Rattle.journal.specs.declared.command.Command.{Command}
 use Rattle.journal.specs.declared.event.Entry.{Entry}
+use Rattle.journal.specs.declared.event.Event.TheVariants as event
+use Rattle.journal.specs.declared.event.Shown.TheVariants.{Yield}
 use Rattle.journal.specs.declared.event.Key.{Key}
 use Rattle.journal.specs.World.{World}
-use Rattle.journal.specs.Enabled.{following, item}
+use Rattle.journal.specs.Enabled.{following, item, enabled}
 use Rattle.journal.specs.Fit.{IsFitCommand}
 use Rattle.journal.specs.Step.{Allows, next, key_of}
 use Rattle.journal.specs.Run.{Position, Due, turns, Leads, end_of, steps, at_commands, IsTurn, beginning, Follows, FollowsSoFar}
@@ -37,6 +40,14 @@ pub record Origin (M : Type 0) : Type 0 where
 abbrev pub room : {M : Type 0} → Run M → ℕ → ℕ
 room run others = (most_turns - run.turns) + others
 
+-- the key that was taken last follows itself
+abbrev pub Repeats : World → Type 0
+Repeats w = following w.last (enabled w) ≡ w.last
+
+-- a process let others go on
+abbrev pub IsYield : Entry → Type 0
+IsYield e = (u : Uid) × (p : ℕ) × (e.event ≡ event.Process u p Yield)
+
 -- its history leads to a position, for whose world the machine stands, and by whose steps it came to what it is
 pub record IsOn {M : Type 0} (stands : Stands M) (did : Did M) (o : Origin M) (others : ℕ) (run : Run M) (p : Position) : Type 0 where
   pub reached : AreReachedFrom o.types o.nodes o.start
@@ -46,6 +57,7 @@ pub record IsOn {M : Type 0} (stands : Stands M) (did : Did M) (o : Origin M) (o
   pub came : DidAll did o.first (steps o.start run.history.items) run.machine
   pub turns : p.world.turns ≡ run.turns
   pub last : p.world.last ≡ run.last
+  pub again : IsTrue run.again → Repeats p.world
 
 abbrev pub due_in : World → Due → List Command → Position
 due_in w due cs = record { world = w; due = due; commands = cs }
@@ -66,6 +78,7 @@ pub record Took {M : Type 0} (stands : Stands M) (did : Did M) (others : ℕ) (o
   pub does : DidStep did old.machine (step w e (next w None e)) new.machine
   pub turns : (next w None e).turns ≡ new.turns
   pub last : (next w None e).last ≡ new.last
+  pub again : IsTrue new.again → Repeats (next w None e)
 
 abbrev pub TakesTurn : {M : Type 0} → Stands M → Did M → Run M → Run M → Choice → Bool → Type 0
 TakesTurn stands did old new choice went = (o : Origin _) (others : ℕ) (p : Position) → IsOn stands did o others old p
@@ -80,6 +93,7 @@ pub record TookCommand {M : Type 0} (stands : Stands M) (did : Did M) (others : 
   pub does : DidStep did old.machine (step w e (next w (Some c) e)) new.machine
   pub turns : (next w (Some c) e).turns ≡ new.turns
   pub last : (next w (Some c) e).last ≡ new.last
+  pub again : new.again ≡ false
 
 abbrev pub TakesCommand : {M : Type 0} → Stands M → Did M → Run M → Run M → Command → Type 0
 TakesCommand stands did old new c = (o : Origin _) (others : ℕ) (p : Position) → IsFitCommand o.types o.nodes c
@@ -150,6 +164,7 @@ pub record MayBegin {M : Type 0} (stands : Stands M) (run : Run M) (opening : Wo
   pub history : run.history.items ≡ []
   pub turns : (run.turns ≡ 0) × (opening.turns ≡ 0)
   pub last : (run.last ≡ None) × (opening.last ≡ None)
+  pub again : run.again ≡ false
   pub machine : StandsWith stands run.machine (most_entries nodes cs) opening
   pub commands : All (IsFitCommand types nodes) cs
   pub reached : AreReachedFrom types nodes (beginning opening nodes cs)

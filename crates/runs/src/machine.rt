@@ -48,6 +48,11 @@ pub trait Machine {
         ensures follows { (more : ℕ) (w : World) → IsReached w → stands self.now more w → result ≡ following last (enabled w) }
         ensures enabled { IfSome result (λ key. enables self.now key) };
 
+    /// Whether it has the turn of a key.
+    fn may_take(&self, key: Key) -> bool
+        requires whole { whole self.now }
+        ensures { IsTrue result → enables self.now key };
+
     /// The enabled key at this place, counted round. Memory is for a list of the keys; the machine stays as it is.
     fn item(&self, alloc: Global, i: u32) -> Result<Option<Key>, AllocError>
         requires whole { whole self.now }

@@ -1,16 +1,17 @@
 //! A run: a machine that takes turns and carries commands out, and the history so far.
-ghost use Rattle.std.specs.Prelude.{◌≡◌, ◌<◌, ◌≤◌, ◌+◌, [], ℕ, List, None, IfOk, IfSome, OnOk, OnErr, IsTrue};
+ghost use Rattle.std.specs.Prelude.{◌≡◌, ◌<◌, ◌≤◌, ◌+◌, [], ℕ, List, None, Some, false, IfOk, IfSome, OnOk, OnErr, IsTrue};
 ghost use Rattle.std.specs.List.{All, Contains};
 ghost use Rattle.journal.specs.World.{World};
 ghost use Rattle.journal.specs.Run.{turn_is, turns};
-ghost use Rattle.journal.specs.Enabled.{enabled};
+ghost use Rattle.journal.specs.Enabled.{enabled, following};
 ghost use Rattle.journal.specs.Fit.{NumbersFit};
 ghost use Rattle.runs.specs.Reached.{IsReached};
 ghost use Rattle.runs.specs.Machines.{plain, IsLeft};
 ghost use Rattle.runs.specs.Room.{is_single};
+ghost use Rattle.runs.specs.Runs.{IsYield};
 
 use crate::machine::Machine;
-use journal::{Command, Entry, Event, Key, Names};
+use journal::{Command, Entry, Event, Key, Names, Shown};
 use std::alloc::{AllocError, Global};
 
 // The greatest number of turns of a script.
@@ -26,6 +27,8 @@ pub struct Run<M> {
     pub turns: u32,
     /// The key of the last of them.
     pub last: Option<Key>,
+    /// Whether it is known that this key follows itself, so that none is looked for.
+    pub again: bool,
 }
 
 // An entry that touches no disk and breaks no call.
@@ -51,6 +54,19 @@ pub enum Choice {
     Item { i: u32 },
 }
 
+// Whether a process let others go on.
+fn is_yield(entry: &Entry) -> bool
+    ensures { IsTrue result → IsYield entry.now }
+{
+    match entry.event {
+        Event::Process {
+            shown: Shown::Yield,
+            ..
+        } => true,
+        _ => false,
+    }
+}
+
 // Whether a command gives one entry.
 pub fn is_single(command: &Command) -> bool
     ensures { result ≡ is_single command.now }
@@ -65,7 +81,8 @@ pub fn is_single(command: &Command) -> bool
 
 impl<M: Machine> Run<M> {
     ghost use Rattle.runs.specs.Runs.{TakesTurn, TurnFails, TakesCommand, CommandFails, DoesDue, PartOfDue, CarriesCommand, PartOfCommand};
-    ghost use Rattle.runs.specs.Runs.{KeepsShown, KeepsShownSoFar, CarriesAll, CarriesPart, chosen_by};
+    ghost use Rattle.runs.specs.Runs.{KeepsShown, KeepsShownSoFar, CarriesAll, CarriesPart, chosen_by, Repeats};
+    ghost use Rattle.runs.specs.declared.run.Choice.TheVariants.{Following};
 
     /// A run of which nothing has happened yet.
     pub fn new(alloc: Global, machine: M) -> Run<M>
@@ -73,12 +90,14 @@ impl<M: Machine> Run<M> {
         ensures history { result.history.items ≡ [] }
         ensures turns { result.turns ≡ 0 }
         ensures last { result.last ≡ None }
+        ensures again { result.again ≡ false }
     {
         Run {
             machine,
             history: Vec::new(alloc),
             turns: 0,
             last: None,
+            again: false,
         }
     }
 
@@ -92,18 +111,43 @@ impl<M: Machine> Run<M> {
             history,
             turns: _,
             last: _,
+            again: _,
         } = self;
         (machine, history)
+    }
+
+    // The key that follows the last one. Where that follows itself, it is not looked for.
+    fn following(&self) -> Option<Key>
+        requires whole { M.whole self.now.machine }
+        ensures follows { (more : ℕ) (w : World) → IsReached w → M.stands self.now.machine more w → w.last ≡ self.now.last
+            → (IsTrue self.now.again → Repeats w) → result ≡ following w.last (enabled w) }
+        ensures enabled { IfSome result (λ key. M.enables self.now.machine key) }
+    {
+        match self.last {
+            Some(key) if self.again && self.machine.may_take(key) => Some(key),
+            last => self.machine.following(last),
+        }
+    }
+
+    // Whether the key whose turn was taken by this entry is known to follow itself: it followed the last one, which is the same, and what
+    // is enabled is as it was.
+    fn repeats(&self, choice: Choice, key: Key, entry: &Entry) -> bool
+        ensures { IsTrue result → (choice ≡ Following) × (self.now.last ≡ Some key) × IsYield entry.now }
+    {
+        match (choice, self.last) {
+            (Choice::Following, Some(last)) => last == key && is_yield(entry),
+            _ => false,
+        }
     }
 
     fn choose(&self, alloc: Global, choice: Choice) -> Result<Option<Key>, AllocError>
         requires whole { M.whole self.now.machine }
         ensures chosen { IfOk result (λ key. (more : ℕ) (w : World) → IsReached w → M.stands self.now.machine more w
-            → w.last ≡ self.now.last → key ≡ chosen_by choice w (enabled w)) }
+            → w.last ≡ self.now.last → (IsTrue self.now.again → Repeats w) → key ≡ chosen_by choice w (enabled w)) }
         ensures enabled { IfOk result (λ it. IfSome it (λ key. M.enables self.now.machine key)) }
     {
         match choice {
-            Choice::Following => Ok(self.machine.following(self.last)),
+            Choice::Following => Ok(self.following()),
             Choice::Item { i } => self.machine.item(alloc, i),
         }
     }
@@ -128,6 +172,7 @@ impl<M: Machine> Run<M> {
         match self.choose(alloc, choice)? {
             Some(key) => {
                 let entry = self.machine.take(alloc, key)?;
+                self.again = self.repeats(choice, key, &entry);
                 self.history.push_reserved(entry);
                 self.turns += 1;
                 self.last = Some(key);
@@ -184,6 +229,7 @@ impl<M: Machine> Run<M> {
     {
         self.history.reserve(1)?;
         let entry = self.machine.carry_out(alloc, command)?;
+        self.again = false;
         self.history.push_reserved(entry);
         Ok(())
     }

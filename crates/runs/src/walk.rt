@@ -49,6 +49,7 @@ impl<M: Machine> Run<M> {
         self.history.reserve(1)?;
         let entry = self.machine.look_up(alloc, name, directory, component)?;
         let call = sent(&entry);
+        self.again = false;
         self.history.push_reserved(entry);
         Ok(call)
     }

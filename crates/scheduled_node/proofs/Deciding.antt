@@ -4,10 +4,11 @@ use Rattle.std.specs.Prelude.{is_some, IsSomeAnd}
 use Rattle.std.specs.List.{list_any}
 use Rattle.std.specs.Option.{option_map}
 use Rattle.capability.specs.declared.Uid.{Uid}
-use Rattle.eden_model.specs.Crew.{startable}
+use Rattle.eden_model.specs.Crew.{Crew, startable}
 use Rattle.eden_model.specs.Map.{first, value_at, uid_cmp, with_item}
 use Rattle.eden_model.specs.Traffic.{Call, Traffic, call_at}
-use Rattle.journal.specs.World.{Active, Eject, Site, eject_in}
+use Rattle.epl_syntax.specs.Edentype.{Edentype}
+use Rattle.journal.specs.World.{Eject, Site, eject_in}
 use Rattle.journal.specs.Enabled.{is_ready}
 use Rattle.journal.specs.Processes.{invocation}
 use Rattle.active_part.specs.Body.{Body, active_of}
@@ -19,39 +20,41 @@ use Rattle.ejects.proofs.Started.{same-classes}
 use Rattle.agenda.specs.Keys.{Indices, IsAgenda}
 use Rattle.agenda.specs.Marks.{MayBut}
 use Rattle.agenda.proofs.Marked.{same-test}
-use Rattle.scheduled_node.specs.Others.{deciding, SameBut}
+use Rattle.scheduled_node.specs.Others.{part_of, deciding, SameBut}
 
 -- 1. The tests, by what decides them
 
-abbrev wakes : Option Active × List ℕ → Bool
+abbrev wakes : Option (Edentype × Crew) × List ℕ → Bool
 wakes x = not (is_some x.0) && is_some (first x.1)
 
-abbrev starts : Traffic → Option Active × List ℕ → Bool
-starts t x = with_item x.0 (λ it. is_some (startable it.crew (map (invocation it.kind t) x.1))) false
+abbrev starts : Traffic → Option (Edentype × Crew) × List ℕ → Bool
+starts t x = with_item x.0 (λ it. is_some (startable it.1 (map (invocation it.0 t) x.1))) false
 
-abbrev runs : Option Active × List ℕ → Bool
-runs x = with_item x.0 (λ it. list_any (λ q. is_ready q.1.waits) it.crew.processes) false
+abbrev runs : Option (Edentype × Crew) × List ℕ → Bool
+runs x = with_item x.0 (λ it. list_any (λ q. is_ready q.1.waits) it.1.processes) false
 
-known-decides : (o : Option Eject) → deciding o ≡ ((known o).active, (known o).queued)
+known-decides : (o : Option Eject) → deciding o ≡ (option_map part_of (known o).active, (known o).queued)
 known-decides None = refl
 known-decides (Some e) = refl
 
-abbrev held-at : Parts → Uid → Option Active × List ℕ
-held-at n v = (option_map active_of (body_at n v), queue_at n v)
+abbrev held-at : Parts → Uid → Option (Edentype × Crew) × List ℕ
+held-at n v = (option_map part_of (option_map active_of (body_at n v)), queue_at n v)
 
 -- what the node has of an Eject decides its turns at the site
 decides : (n : Parts) (s : Site) (v : Uid) → Stands n s → deciding (eject_in s v) ≡ held-at n v
-decides n s v h = known-decides (eject_in s v) ∙ ap (λ (k : Known). (k.active, k.queued)) (h.ejects v)
+decides n s v h = known-decides (eject_in s v) ∙ ap (λ (k : Known). (option_map part_of k.active, k.queued)) (h.ejects v)
 
-wakes-by : (n : Parts) (v : Uid) → wakes (option_map active_of (body_at n v), queue_at n v) ≡ may_wake n v
-wakes-by n v = ap (λ b. not b && is_some (first (queue_at n v))) (some-mapped active_of (body_at n v))
+wakes-by : (n : Parts) (v : Uid) → wakes (held-at n v) ≡ may_wake n v
+wakes-by n v =
+    ap (λ b. not b && is_some (first (queue_at n v))) (some-mapped part_of (option_map active_of (body_at n v))
+    ∙ some-mapped active_of (body_at n v))
 
 starts-by : (t : Traffic) (o : Option Body) (waiting : Option (List ℕ)) → HasClasses t o
-    → starts t (option_map active_of o, queue_of o waiting) ≡ may_start o
+    → starts t (option_map part_of (option_map active_of o), queue_of o waiting) ≡ may_start o
 starts-by t None waiting c = refl
 starts-by t (Some b) waiting c = rw (same-classes t b.kind b.crew.queued c) refl
 
-runs-by : (o : Option Body) (queued : List ℕ) → runs (option_map active_of o, queued) ≡ may_run o
+runs-by : (o : Option Body) (queued : List ℕ) → runs (option_map part_of (option_map active_of o), queued) ≡ may_run o
 runs-by None queued = refl
 runs-by (Some b) queued = refl
 

@@ -50,7 +50,7 @@ use Rattle.journal.specs.Starts.{start_of, misfits_answered, fits_at, activated,
 use Rattle.journal.proofs.Frame.{eject-on_eject}
 use Rattle.journal.proofs.KeptTurns.{value-each}
 use Rattle.checkpoint.specs.Turns.{with_clock}
-use Rattle.scheduled_node.specs.Others.{deciding, SameBut}
+use Rattle.scheduled_node.specs.Others.{part_of, deciding, SameBut}
 
 -- a node that crashed is down
 pub down-crashed : (s : Site) → (crashed s).node.up ≡ true → {A : Type 0} → A
@@ -66,7 +66,7 @@ module _ (those : Uid → Bool) where
   pub same-then : (s mid t : Site) → SameBut those s mid → SameBut those mid t → SameBut those s t
   same-then s mid t a b = record { at = λ v other. b.at v other ∙ a.at v other }
 
-  same-item : {X : Type 0} (s : Site) (o : Option X) (f : X → Site) → ((x : X) → o ≡ Some x → SameBut those s (f x))
+  pub same-item : {X : Type 0} (s : Site) (o : Option X) (f : X → Site) → ((x : X) → o ≡ Some x → SameBut those s (f x))
       → SameBut those s (with_item o f s)
   same-item s None f each = same-here s
   same-item s (Some x) f each = each x refl
@@ -88,6 +88,23 @@ module _ (those : Uid → Bool) where
 
   pub same-eject : (u : Uid) (f : Eject → Eject) (s : Site) → those u ≡ true → SameBut those s (on_eject u f s)
   same-eject u f s on = then-eject u f s s on (same-here s)
+
+  -- a turn itself leaves the type, the processes and the queue of its Eject
+  pub same-turned : (u : Uid) (p : ℕ) (t : Turned) (s : Site) → SameBut those s (on_eject u (on_active (turned p t)) s)
+  same-turned u p t s = record {
+    at = λ v other. ap deciding (eject-on_eject u v (on_active (turned p t)) s) ∙ go (eq_by_cmp uid_cmp v u) (eject_in s v);
+  }
+    where
+      one : (it : Option Active) (queued : List ℕ) (kept : Option (List ℕ)) (doubt : Option Change)
+          → deciding (Some (on_active (turned p t) (record { active = it; queued = queued; kept = kept; doubt = doubt })))
+          ≡ (option_map part_of it, queued)
+      one None queued kept doubt = refl
+      one (Some it) queued kept doubt = refl
+
+      go : (b : Bool) (o : Option Eject) → deciding (cond b (option_map (on_active (turned p t)) o) o) ≡ deciding o
+      go false o = refl
+      go true None = refl
+      go true (Some e) = one e.active e.queued e.kept e.doubt
 
   then-traffic : (f : Traffic → Traffic) (s mid : Site) → SameBut those s mid → SameBut those s (on_traffic f mid)
   unfolding on_traffic

@@ -1,17 +1,19 @@
 -- A turn changes what the Ejects may do that its event is about, and no others.
-use Rattle.std.proofs.Common.{◌≡◌, ◌-◌, ◌≤◌, ℕ, zero, suc, Bool, true, false, List, Option, None, Some, Ok, refl, sym, ◌∙◌, ap}
+use Rattle.std.proofs.Common.{◌≡◌, ◌-◌, ◌≤◌, ℕ, zero, suc, Bool, true, false, List, Option, None, Some, Result, Ok, Err, refl, sym, ◌∙◌, ap}
 use Rattle.std.proofs.Common.{subst, arith}
 use Rattle.std.specs.Prelude.{IsSomeAnd, ◌||◌, slice_get}
 use Rattle.std.specs.Option.{option_map}
 use Rattle.std.proofs.lemmas.Cmp.{tied_itself}
 use Rattle.capability.specs.declared.Uid.{Uid}
 use Rattle.capability.proofs.Uids.{uid_cmp_total}
-use Rattle.eden_model.specs.Crew.{Process as Worker}
+use Rattle.eden_value.specs.declared.status.Status.{Status}
+use Rattle.eden_model.specs.Crew.{Invocation, Process as Worker}
 use Rattle.eden_model.specs.Map.{with_item}
 use Rattle.eden_model.specs.Traffic as traffic
 use Rattle.eden_model.specs.Traffic.{Traffic, call_at}
 use Rattle.epl_syntax.specs.Meaning.{Turned}
 use Rattle.epl_syntax.specs.Rules.OfTypes.{TypeList}
+use Rattle.epl_syntax.specs.declared.effect.Effect.{Effect}
 use Rattle.epl_syntax.specs.declared.effect.Effect.TheVariants as effect
 use Rattle.invocation.specs.Carries.{Carries}
 use Rattle.invocation.specs.Mail.{Mail}
@@ -22,9 +24,10 @@ use Rattle.passive_store.specs.Kept.{Layout}
 use Rattle.journal.specs.declared.event.Event.{Event}
 use Rattle.journal.specs.declared.event.Event.TheVariants as event
 use Rattle.journal.specs.declared.event.Shown.{Shown}
+use Rattle.journal.specs.declared.event.Shown.TheVariants as shown
 use Rattle.journal.specs.World.{Active, Eject, StoreRequest, Site, eject_in, on_eject, on_node}
 use Rattle.journal.specs.Ejects.{on_active, next_uid}
-use Rattle.journal.specs.Processes.{AllowsTurn, worker_at, turn_of, turned, shown_of, shown_creation}
+use Rattle.journal.specs.Processes.{AllowsTurn, worker_at, turn_of, turned, serving, effected, process_turn, shown_of, shown_creation}
 use Rattle.journal.specs.Settling.{first_request}
 use Rattle.journal.specs.Sites.{IsSoundSite, CallsGoOn, GoesOn}
 use Rattle.journal.specs.Step.{AllowsAt, site_turn}
@@ -38,10 +41,10 @@ use Rattle.agenda.specs.Indexed.{is_it}
 use Rattle.agenda.specs.Marks.{MayBut}
 use Rattle.eden_kernel.specs.Stands.{Held, NodeStands}
 use Rattle.eden_kernel.specs.Turns.{Turns, clock_of}
-use Rattle.scheduled_node.specs.Others.{SameBut, eject_of, concerned, created_in, uid_shown, is_either}
+use Rattle.scheduled_node.specs.Others.{SameBut, eject_of, concerned, turn_about, created_in, uid_shown, is_either}
 use Rattle.scheduled_node.proofs.Deciding.{may-but}
 use Rattle.scheduled_node.proofs.Others.{down-crashed, same-clock, same-requested, same-heard, same-start, same-process_turn}
-use Rattle.scheduled_node.proofs.Others.{same-store_turn, same-activation, same-boot}
+use Rattle.scheduled_node.proofs.Others.{same-store_turn, same-activation, same-boot, same-item, same-turned}
 
 -- 1. Those that an event is about
 
@@ -90,23 +93,59 @@ module _ (reach : ℕ → Bool) (s : Site) (m : Mail) (sound : IsSoundSite s) wh
   abbrev next : Event → Site
   next e = site_turn reach e s
 
-  -- what a process is shown to have created
-  shows : (u : Uid) (p : ℕ) (said : Shown) → AllowsAt s (event.Process u p said) → (e : Eject) → eject_in s u ≡ Some e → (it : Active)
-      → e.active ≡ Some it → (t : Turned) → turn_of u it p ≡ Some t → (name : List ℕ) → t.effect ≡ effect.Create name
-      → said ≡ shown_creation (next_uid s)
-  shows u p said allowed e is it is_it t is_t name creates = worker (worker_at it p)
+  -- what is shown of a process
+  tells : (u : Uid) (p : ℕ) (said : Shown) → AllowsAt s (event.Process u p said) → (e : Eject) → eject_in s u ≡ Some e → (it : Active)
+      → e.active ≡ Some it → (t : Turned) → turn_of u it p ≡ Some t → (i : Option Invocation) × (said ≡ shown_of s i t.effect)
+  tells u p said allowed e is it is_it t is_t = worker (worker_at it p)
       (subst (λ o. IsSomeAnd o (λ it. IsSomeAnd (worker_at it p) (λ q. AllowsTurn s u p said it q))) is_it
       (subst (λ o. IsSomeAnd o (λ e. IsSomeAnd e.active (λ it. IsSomeAnd (worker_at it p) (λ q. AllowsTurn s u p said it q)))) is allowed))
     where
-      worker : (o : Option Worker) → IsSomeAnd o (λ q. AllowsTurn s u p said it q) → said ≡ shown_creation (next_uid s)
+      worker : (o : Option Worker) → IsSomeAnd o (λ q. AllowsTurn s u p said it q)
+          → (i : Option Invocation) × (said ≡ shown_of s i t.effect)
       worker None a = absurd a
-      worker (Some q) a = subst (λ o. IsSomeAnd o (λ t. said ≡ shown_of s q.serves t.effect)) is_t a.shows
-          ∙ ap (shown_of s q.serves) creates
+      worker (Some q) a = (q.serves, subst (λ o. IsSomeAnd o (λ t. said ≡ shown_of s q.serves t.effect)) is_t a.shows)
+
+  -- what it is shown to have created
+  shows : (u : Uid) (p : ℕ) (said : Shown) → AllowsAt s (event.Process u p said) → (e : Eject) → eject_in s u ≡ Some e → (it : Active)
+      → e.active ≡ Some it → (t : Turned) → turn_of u it p ≡ Some t → (name : List ℕ) → t.effect ≡ effect.Create name
+      → said ≡ shown_creation (next_uid s)
+  shows u p said allowed e is it is_it t is_t name creates =
+      let r = tells u p said allowed e is it is_it t is_t in r.1 ∙ ap (shown_of s r.0) creates
+
+  -- a turn that shows a yield has that effect
+  yields : (i : Option Invocation) (f : Effect) → shown.Yield ≡ shown_of s i f → f ≡ effect.Yield
+  yields i effect.Yield is = refl
+  yields None (effect.Return results) is = absurd (cc is)
+  yields (Some k) (effect.Return results) is = absurd (cc is)
+  yields i (effect.Create name) is = absurd (no_creation (next_uid s) is)
+    where
+      no_creation : (r : Result Uid Status) → shown.Yield ≡ shown_creation r → ⊥
+      no_creation (Ok v) is = cc is
+      no_creation (Err why) is = cc is
+  yields i effect.Checkpoint is = absurd (cc is)
+  yields i effect.Deactivate is = absurd (cc is)
+  yields i effect.Destroy is = absurd (cc is)
+  yields i effect.End is = absurd (cc is)
+  yields i (effect.Fault cause) is = absurd (cc is)
+  yields i (effect.Invoke target operation args) is = absurd (cc is)
+  yields i (effect.Lock m) is = absurd (cc is)
+  yields i (effect.Leave m) is = absurd (cc is)
+  yields i (effect.Wait c) is = absurd (cc is)
+  yields i (effect.Signal c) is = absurd (cc is)
+
+  -- a process that let others go on
+  yielded : (but : Uid → Bool) (u : Uid) (p : ℕ) → AllowsAt s (event.Process u p shown.Yield) → SameBut but s (process_turn reach u p s)
+  yielded but u p allowed = same-item but s (eject_in s u) _ (λ e is. same-item but s e.active _ (λ it is_it.
+      same-item but s (turn_of u it p) _ (λ t is_t.
+      let r = tells u p shown.Yield allowed e is it is_it t is_t in
+      let now : Site = on_eject u (on_active (turned p t)) s in
+      subst (λ f. SameBut but s (effected reach u p (serving it p) it.kind t.vars f now)) (sym (yields r.0 t.effect r.1))
+      (same-turned but u p t s))))
 
   created : (u : Uid) (p : ℕ) (said : Shown) → AllowsAt s (event.Process u p said) → (e : Eject) → eject_in s u ≡ Some e → (it : Active)
       → e.active ≡ Some it → (t : Turned) → turn_of u it p ≡ Some t → (name : List ℕ) → t.effect ≡ effect.Create name → (w : Uid)
       → next_uid (on_eject u (on_active (turned p t)) s) ≡ Ok w → those (event.Process u p said) w ≡ true
-  created u p said allowed e is it is_it t is_t name creates w comes = hit-other (Some u) (uid_shown said) w
+  created u p said allowed e is it is_it t is_t name creates w comes = hit-other (turn_about u said) (uid_shown said) w
       (ap uid_shown (shows u p said allowed e is it is_it t is_t name creates
       ∙ ap shown_creation (sym (next-active u (turned p t) s sound.node.in_order) ∙ comes)))
 
@@ -126,8 +165,9 @@ module _ (reach : ℕ → Bool) (s : Site) (m : Mail) (sound : IsSoundSite s) wh
   turned-but (event.Activate u how p) allowed carries up =
       same-activation (those (event.Activate u how p)) u how p s (hit-one (Some u) None u refl) up
   turned-but (event.Start k u p) allowed carries up = same-start (those (event.Start k u p)) u k p s (hit-one (Some u) None u refl)
+  turned-but (event.Process u p shown.Yield) allowed carries up = yielded (those (event.Process u p shown.Yield)) u p allowed
   turned-but (event.Process u p said) allowed carries up =
-      same-process_turn (those (event.Process u p said)) reach u p s (hit-one (Some u) (uid_shown said) u refl)
+      same-process_turn (those (event.Process u p said)) reach u p s (hit-one (turn_about u said) (uid_shown said) u refl)
       (λ e is it is_it t is_t name creates w comes. created u p said allowed e is it is_it t is_t name creates w comes)
   turned-but (event.Store u clock how p) allowed carries up =
       same-store_turn (those (event.Store u clock how p)) how p s (λ r is.

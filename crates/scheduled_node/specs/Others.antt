@@ -2,9 +2,11 @@
 use Rattle.std.specs.Prelude.{◌≡◌, ℕ, Bool, false, ◌||◌, List, [], Option, None, Some}
 use Rattle.std.specs.Option.{option_map}
 use Rattle.capability.specs.declared.Uid.{Uid}
+use Rattle.eden_model.specs.Crew.{Crew}
 use Rattle.eden_model.specs.Map.{with_item}
 use Rattle.eden_model.specs.declared.Asker.{Asker}
 use Rattle.eden_model.specs.declared.Asker.TheVariants.{Shell, Eject as Process}
+use Rattle.epl_syntax.specs.Edentype.{Edentype}
 use Rattle.invocation.specs.Mail.{Mail}
 use Rattle.invocation.specs.Numbers.{item_in}
 use Rattle.journal.specs.declared.event.Event.{Event}
@@ -14,10 +16,13 @@ use Rattle.journal.specs.declared.event.Shown.TheVariants as shown
 use Rattle.journal.specs.World.{Active, Eject, Site, eject_in}
 use Rattle.agenda.specs.Indexed.{is_it}
 
--- what decides the turns of an Eject: its active part and its queue
-abbrev pub deciding : Option Eject → Option Active × List ℕ
+-- what decides the turns of an Eject: of its active part the type, the processes and who waits for whom; and its queue
+abbrev pub part_of : Active → Edentype × Crew
+part_of it = (it.kind, it.crew)
+
+abbrev pub deciding : Option Eject → Option (Edentype × Crew) × List ℕ
 deciding None = (None, [])
-deciding (Some e) = (e.active, e.queued)
+deciding (Some e) = (option_map part_of e.active, e.queued)
 
 -- it is the same at both sites, but for these Ejects
 pub record SameBut (those : Uid → Bool) (s t : Site) : Type 0 where
@@ -28,13 +33,18 @@ abbrev pub eject_of : Asker → Option Uid
 eject_of (Shell name) = None
 eject_of (Process u p) = Some u
 
+-- the Eject of a process, where its turn may have changed what the Eject may do: it has not where the process let others go on
+abbrev pub turn_about : Uid → Shown → Option Uid
+turn_about u shown.Yield = None
+turn_about u _ = Some u
+
 -- The Eject that an event is about, by the calls behind it: the target of a request, the asker of a reply, or the Eject that took its turn.
 abbrev pub concerned : Mail → Event → Option Uid
 concerned m (event.Request k a b refused) = option_map (λ c. c.target.uid) (item_in k m.calls)
 concerned m (event.Reply k a b name status values) = with_item (item_in k m.calls) (λ c. eject_of c.asker) None
 concerned m (event.Activate u how p) = Some u
 concerned m (event.Start k u p) = Some u
-concerned m (event.Process u p said) = Some u
+concerned m (event.Process u p said) = turn_about u said
 concerned m (event.Store u clock how p) = Some u
 concerned m _ = None
 

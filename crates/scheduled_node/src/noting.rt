@@ -10,7 +10,7 @@ ghost use Rattle.agenda.specs.Indexed.{indices_of};
 ghost use Rattle.agenda.specs.Keys.{IsAgenda};
 ghost use Rattle.agenda.specs.Marks.{MayBut};
 ghost use Rattle.eden_kernel.specs.declared.stores.TurnEnd.TheVariants.{Up};
-ghost use Rattle.scheduled_node.specs.Others.{eject_of as eject_asking, concerned as about, uid_shown, created_in as created_by, is_either};
+ghost use Rattle.scheduled_node.specs.Others.{eject_of as eject_asking, concerned as about, turn_about, uid_shown, created_in as created_by, is_either};
 
 use agenda::Agenda;
 use capability::Uid;
@@ -50,6 +50,16 @@ fn asker_of(calls: &Calls, number: u32) -> Option<Uid>
     }
 }
 
+// The Eject of a process, where its turn may have changed what the Eject may do. It has not where the process let others go on.
+fn changed_by(uid: Uid, shown: &Shown) -> Option<Uid>
+    ensures { result ≡ turn_about uid shown.now }
+{
+    match shown {
+        Shown::Yield => None,
+        _ => Some(uid),
+    }
+}
+
 // The Eject that an event is about.
 fn concerned(calls: &Calls, event: &Event) -> Option<Uid>
     ensures { result ≡ about calls.now event.now }
@@ -59,7 +69,7 @@ fn concerned(calls: &Calls, event: &Event) -> Option<Uid>
         Event::Reply { call, .. } => asker_of(calls, *call),
         Event::Activate { uid, .. } => Some(*uid),
         Event::Start { uid, .. } => Some(*uid),
-        Event::Process { uid, .. } => Some(*uid),
+        Event::Process { uid, shown, .. } => changed_by(*uid, shown),
         Event::Store { uid, .. } => Some(*uid),
         _ => None,
     }

@@ -75,6 +75,10 @@ impl Machine for Keys {
         first
     }
 
+    fn may_take(&self, key: Key) -> bool {
+        self.keys.contains(&key)
+    }
+
     fn item(&self, _alloc: Global, i: u32) -> Result<Option<Key>, AllocError> {
         if self.keys.is_empty() {
             return Ok(None);

@@ -55,6 +55,7 @@ returns-clause-carried g c =
       history = c.new-run.ensures.history;
       turns = c.new-run.ensures.turns;
       last = c.new-run.ensures.last;
+      again = c.new-run.ensures.again;
     }) (subst (λ p. AreGiven seen look p after) c.into_parts-world.ensures.machine c.close.ensures.disks) c.carry_all.result
     c.if-ended.result
     (λ whole. elim c.if-ended.branch [

@@ -15,7 +15,7 @@ returns-clause-done g c o others w more cs named text on =
     rw c.sent-call.ensures (asked-on g.M.Machine.stands g.M.Machine.did o others c.args.self.now _ w c.args.name.now c.args.directory
     c.args.component.now more cs on
     c.in_ok-entry.entry (λ n at. c.in_ok-entry.ensures.looked n w here at named text)
-    (rw (c.push_reserved.ensures.items, c.reserve.ensures.items) refl) refl refl)
+    (rw (c.push_reserved.ensures.items, c.reserve.ensures.items) refl) refl refl refl)
 
 pub returns-clause-shown : goal.returns-clause-shown
 returns-clause-shown g c = shown-push g.M.Machine.shows c.args.self.now c.in_ok-entry.entry c.push_reserved.new.self.items

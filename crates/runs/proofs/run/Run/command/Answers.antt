@@ -16,7 +16,7 @@ returns-clause-done g c o others p fit on =
       took-command g.M.Machine.stands g.M.Machine.did o others c.args.self.now _ p c.args.command.now on c.in_ok-entry.entry
           (λ more at. c.in_ok-entry.ensures.carried more p.world here at
           (on-fit g.M.Machine.stands g.M.Machine.did o _ c.args.self.now p c.args.command.now on fit))
-          (rw (c.push_reserved.ensures.items, c.reserve.ensures.items) refl) refl refl,
+          (rw (c.push_reserved.ensures.items, c.reserve.ensures.items) refl) refl refl refl,
     )
 
 pub returns-clause-shown : goal.returns-clause-shown
