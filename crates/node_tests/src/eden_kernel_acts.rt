@@ -3,11 +3,12 @@ ghost use Rattle.std.specs.Prelude.{IfOk, OnOk};
 ghost use Rattle.eden_kernel.specs.Stands.{held, IsWhole};
 ghost use Rattle.eden_kernel.specs.DiskTurns.{IsWholeBehind};
 
-use crate::common::{Amiss, FIRST, Log, are_few, arm_of, ask, number_in, places, uid_of};
+use crate::common::{are_few, ask, number_in, places};
 use eden_disk::{ImageMode, SimDisk};
 use eden_kernel::{Node, TurnEnd};
 use eden_value::Status;
 use epl_syntax::Types;
+use history_tests::common::{Amiss, FIRST, Log, arm_of, uid_of};
 use invocation::{Calls, Delivery};
 use journal::{Event, RequestEnd, StartEnd};
 use passive_store::{Doubt, Pick, Store};

@@ -2,13 +2,13 @@
 ghost use Rattle.std.specs.Prelude.{false};
 ghost use Rattle.eden_disk.specs.SimDisk.{due_of};
 
-use crate::common::{Amiss, Log, arm_of};
 use crate::eden_kernel_acts::{
     Act, CELL, DAMAGED, Seen, Shown, blank, found, run, run_on, seeded, shown, up,
 };
 use eden_disk::{Arm, Disk, DiskRefusal, ImageMode, SimDisk};
 use eden_kernel::{Node, TurnEnd};
 use epl_syntax::Types;
+use history_tests::common::{Amiss, Log, arm_of};
 use invocation::Calls;
 use journal::{BootEnd, RequestEnd, StartEnd};
 use passive_store::{LogStore, Pick};

@@ -1,8 +1,8 @@
-use crate::common::{Amiss, Log};
 use crate::eden_kernel_acts::{Act, DAMAGED, Seen, Shown, blank, seeded, shown, up};
 use eden_disk::{Arm, Disk, ImageMode, SimDisk};
 use eden_kernel::{Node, TurnEnd};
 use eden_value::Status;
+use history_tests::common::{Amiss, Log};
 use journal::BootEnd;
 use passive_store::Doubt;
 use std::alloc::Global;

@@ -1,10 +1,11 @@
-use crate::common::{Amiss, FIRST, are_few, ask, integers, number_in, places, text, uid_of};
+use crate::common::{are_few, ask, integers, number_in, places};
 use capability::Uid;
 use checkpoint::{StoreEnd, Worker};
 use eden_value::Status;
 use edentypes::{Kind, find};
 use ejects::*;
 use epl_syntax::Types;
+use history_tests::common::{Amiss, FIRST, text, uid_of};
 use invocation::{Calls, Delivery};
 use journal::{Event, Shown};
 use std::alloc::Global;

@@ -4,8 +4,6 @@
 #[cfg(test)]
 mod agenda_tests;
 #[cfg(test)]
-mod checkpoint_tests;
-#[cfg(test)]
 mod common;
 #[cfg(test)]
 mod eden_kernel_acts;
@@ -15,7 +13,5 @@ mod eden_kernel_ends;
 mod eden_kernel_tests;
 #[cfg(test)]
 mod ejects_tests;
-#[cfg(test)]
-mod journal_tests;
 #[cfg(test)]
 mod scheduled_node_tests;

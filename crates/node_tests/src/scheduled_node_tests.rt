@@ -1,10 +1,11 @@
 ghost use Rattle.std.specs.Prelude.{IfOk, OnOk};
 ghost use Rattle.eden_kernel.specs.Stands.{held, IsWhole};
 
-use crate::common::{Amiss, FIRST, Log, SIZE, are_few, ask, places, text};
+use crate::common::{are_few, ask, places};
 use eden_disk::{ImageMode, SimDisk};
 use eden_kernel::TurnEnd;
 use epl_syntax::Types;
+use history_tests::common::{Amiss, FIRST, Log, SIZE, text};
 use invocation::Calls;
 use passive_store::{Doubt, Store};
 use scheduled_node::ScheduledNode;

@@ -1,8 +1,6 @@
-//! Tests of scripts, the world and the whole call.
+//! Tests of the world and the whole call.
 #![tactic(auto)]
 
-#[cfg(test)]
-mod eden_script_tests;
 #[cfg(test)]
 mod eden_shell_stops;
 #[cfg(test)]
@@ -19,5 +17,3 @@ mod script_words;
 mod shell_answers_tests;
 #[cfg(test)]
 mod shell_names_tests;
-#[cfg(test)]
-mod transcript_tests;

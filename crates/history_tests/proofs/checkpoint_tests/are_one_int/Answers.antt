@@ -3,7 +3,7 @@ use Rattle.eden_value.specs.declared.value.Value.{Value}
 use Rattle.eden_value.specs.View.{datum, datums}
 use Rattle.eden_value.specs.Shape.{ints, has_shape}
 use Rattle.epl_syntax.specs.Kinds.{have_shapes}
-use Rattle.node_tests.proofs.checkpoint_tests.are_one_int.Goals as goal
+use Rattle.history_tests.proofs.checkpoint_tests.are_one_int.Goals as goal
 
 and-false : (b : Bool) → (b && false) ≡ false
 and-false true = refl

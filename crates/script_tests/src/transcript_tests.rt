@@ -1,6 +1,6 @@
-use crate::fixtures::txt;
 use capability::Seq;
 use eden_io::{MemSink, Sink};
+use eden_value::Txt;
 use journal::{BootEnd, Entry, Event, History, Mode};
 use std::alloc::{AllocError, Global};
 use std::test::Fail;
@@ -17,6 +17,13 @@ fn entry(alloc: Global, event: Event, node: u8) -> Entry {
     }
 }
 
+/// The name of the one call.
+fn caller(alloc: Global) -> Result<Txt, AllocError> {
+    Ok(Txt {
+        bytes: b"a".to_vec(alloc)?,
+    })
+}
+
 // A node is booted, a call is asked and delivered, and the node crashes, which breaks the call.
 fn history(alloc: Global) -> Result<History, AllocError> {
     let boot = Event::Boot {
@@ -28,7 +35,7 @@ fn history(alloc: Global) -> Result<History, AllocError> {
     };
     let asked = Event::Asked {
         call: 1,
-        name: txt(alloc, "a")?,
+        name: caller(alloc)?,
         at_once: None,
     };
     let request = Event::Request {
@@ -38,7 +45,7 @@ fn history(alloc: Global) -> Result<History, AllocError> {
         refused: None,
     };
     let mut crash = entry(alloc, Event::Crash { node: 1 }, 1);
-    crash.broken.items.push(txt(alloc, "a")?)?;
+    crash.broken.items.push(caller(alloc)?)?;
     let mut entries = Vec::new(alloc);
     entries.push(entry(alloc, boot, 1))?;
     entries.push(entry(alloc, asked, 0))?;

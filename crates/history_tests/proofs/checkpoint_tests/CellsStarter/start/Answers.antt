@@ -10,7 +10,7 @@ use Rattle.epl_syntax.specs.declared.types.Native.TheVariants.{Cell}
 use Rattle.epl_syntax.specs.Edentype.{Edentype, native}
 use Rattle.epl_syntax.specs.Kinds.{have_shapes}
 use Rattle.epl_syntax.specs.Meaning.{started_from}
-use Rattle.node_tests.proofs.checkpoint_tests.CellsStarter.start.Goals as goal
+use Rattle.history_tests.proofs.checkpoint_tests.CellsStarter.start.Goals as goal
 
 -- a Cell starts from its own representations alone
 cells : (a b c : Bool) (rep : Rep) (me : Uid) → same_text (codes "Cell") rep.type_name ≡ a → (rep.version == 1) ≡ b
