@@ -25,7 +25,7 @@ use Rattle.journal.specs.declared.event.StartEnd.TheVariants as end
 use Rattle.journal.specs.World.{Eject, Site, StoreRequest, eject_in, on_node}
 use Rattle.journal.specs.Settling.{first_request, is_working, to_settle, settled, unsynced, settled_eject}
 use Rattle.journal.specs.Starts.{start_of, StartsSo, FailsSettling, StartsFrom, is_worked_on, start_settled, AllowsActivate}
-use Rattle.journal.proofs.KeptTurns.{value-each}
+use Rattle.history_laws.proofs.KeptTurns.{value-each}
 use Rattle.checkpoint.specs.Changes.{facts_of, facts_in}
 use Rattle.checkpoint.specs.StoreStands.{RequestsStand, IsUnderWay}
 use Rattle.checkpoint.specs.Asked.{StandsNow}

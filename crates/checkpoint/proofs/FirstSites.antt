@@ -24,7 +24,7 @@ use Rattle.checkpoint.specs.StoreStands.{bytes_of_epoch, change_of_epoch, MapSta
 use Rattle.checkpoint.specs.Turns.{RestStands}
 use Rattle.checkpoint.specs.HandedIn.{IsAtHand}
 use Rattle.checkpoint.specs.BarredBoots.{Bar, damaged, overfull, IsBarred, KnowsBar, BarStands, IsBarredAtHand}
-use Rattle.journal.proofs.Ordered.{order-passive}
+use Rattle.history_laws.proofs.Ordered.{order-passive}
 use Rattle.std.proofs.lemmas.Bool.{eqb-true}
 
 -- 1. The Ejects of an image

@@ -18,10 +18,10 @@ use Rattle.journal.specs.World.{Site, Node, Eject, Active, StoreRequest, eject_i
 use Rattle.journal.specs.Ejects.{with_active, with_queued, on_active, told, tells, dropped_of, without_requests, deactivated, turned_away}
 use Rattle.journal.specs.Stores.{tells_code, request_ended, removed}
 use Rattle.checkpoint.specs.Changes.{Facts, facts_of, facts_in}
-use Rattle.journal.proofs.Frame.{eject-on_eject}
-use Rattle.journal.proofs.KeptTurns.{value-each}
+use Rattle.history_laws.proofs.Frame.{eject-on_eject}
+use Rattle.history_laws.proofs.KeptTurns.{value-each}
 use Rattle.journal.specs.Sites.{InOrder}
-use Rattle.journal.proofs.Ordered.{order-each, order-changed}
+use Rattle.history_laws.proofs.Ordered.{order-each, order-changed}
 
 -- 1. From one site to another
 

@@ -35,7 +35,7 @@ use Rattle.checkpoint.specs.StoreStands.{state_of, NodeOnDisk, Wrote, MapStands,
 use Rattle.checkpoint.specs.Turns.{with_clock, TurnsStore, TurnsDown, IsNextCall, IsNoted, RestStands}
 use Rattle.checkpoint.proofs.Throughout.{stands-more}
 use Rattle.checkpoint.proofs.Stretches.{one-call, no-call}
-use Rattle.journal.proofs.KeptTurns.{value-each}
+use Rattle.history_laws.proofs.KeptTurns.{value-each}
 use Rattle.checkpoint.proofs.Shifts.{Shift, same_facts, same_requests, facts_at, shift-ended, shift-at, shift-each, shift-requests}
 use Rattle.checkpoint.proofs.MapStands.{state-is}
 use Rattle.checkpoint.proofs.Changed.{AtMost, ordered-shift, map-same, map-synced, map-clock, map-doubted, map-stored, map-settled}

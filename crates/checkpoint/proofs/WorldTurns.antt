@@ -47,8 +47,8 @@ use Rattle.checkpoint.specs.StoreStands.{state_of, NodeOnDisk, Wrote, MapStands,
 use Rattle.checkpoint.specs.Turns.{with_clock, with_removal, RestStands, TurnsStore, TurnsDown, ClockStands}
 use Rattle.checkpoint.specs.Boots.{put_after, BootsNot}
 use Rattle.checkpoint.specs.Throughout.{StepOnDisk, EndsOnDisk}
-use Rattle.journal.proofs.SiteFrames.{keeps-site}
-use Rattle.journal.proofs.Frame.{after_at, node-at_same, node-at_other, other-node}
+use Rattle.history_laws.proofs.SiteFrames.{keeps-site}
+use Rattle.history_laws.proofs.Frame.{after_at, node-at_same, node-at_other, other-node}
 use Rattle.checkpoint.proofs.Shifts.{Shift, same_facts, same_requests, shift-tells, shift-removed, shift-item, shift-both}
 use Rattle.checkpoint.proofs.Shifts.{shift-turned_away}
 use Rattle.passive_store.specs.Seen.{Seen}

@@ -27,7 +27,7 @@ use Rattle.journal.specs.Boots.{boot_turn}
 use Rattle.journal.specs.Ejects.{stored_epoch}
 use Rattle.epl_syntax.specs.Meaning.{types_in}
 use Rattle.journal.specs.Settling.{epoch_uid, settled, settled_eject}
-use Rattle.journal.proofs.KeptTurns.{value-each}
+use Rattle.history_laws.proofs.KeptTurns.{value-each}
 use Rattle.checkpoint.specs.Asked.{StandsNow, requests_of}
 use Rattle.checkpoint.specs.Boots.{BootsUp, put_after}
 use Rattle.checkpoint.specs.Changes.{Facts, facts_of}

@@ -33,7 +33,7 @@ use Rattle.journal.specs.Ejects.{with_active, on_active, newborn, born, fresh, n
 use Rattle.journal.specs.Processes.{turn_of, turned, process_turn, worker_at, creates, AllowsTurn, CreatesKnown}
 use Rattle.journal.specs.Settling.{epoch_uid}
 use Rattle.journal.specs.Step.{AllowsAt, site_turn}
-use Rattle.journal.proofs.Ordered.{order-put}
+use Rattle.history_laws.proofs.Ordered.{order-put}
 use Rattle.checkpoint.specs.Asked.{StandsNow}
 use Rattle.checkpoint.specs.Changes.{Facts, facts_of, facts_in}
 use Rattle.checkpoint.specs.StoreStands.{IsOrdered, doubt_of}

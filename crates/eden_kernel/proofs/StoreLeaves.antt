@@ -22,7 +22,7 @@ use Rattle.journal.specs.Stores.{syncs, reads, unkept, without_room, calls, work
 use Rattle.journal.specs.Stores.{tells_code, request_ended}
 use Rattle.journal.specs.Stores.{Work as Works}
 use Rattle.journal.specs.Standing.{Stands, with_changes}
-use Rattle.journal.proofs.Frame.{eject-on_eject}
+use Rattle.history_laws.proofs.Frame.{eject-on_eject}
 use Rattle.checkpoint.specs.Asked.{StandsNow, requests_of}
 use Rattle.checkpoint.specs.Queues.{left_in}
 use Rattle.checkpoint.specs.declared.worker.Request.{Request}

@@ -20,7 +20,7 @@ use Rattle.journal.specs.Stores.{syncs, reads, unkept, without_room, calls, work
 use Rattle.journal.specs.Stores.{store_turn, worked}
 use Rattle.journal.specs.Stores.{Work as Works}
 use Rattle.journal.specs.Step.{AllowsAt, site_turn}
-use Rattle.journal.proofs.KeptTurns.{value-each}
+use Rattle.history_laws.proofs.KeptTurns.{value-each}
 use Rattle.checkpoint.specs.Asked.{StandsNow, StepsTo, requests_of, request_of, made_in, body_asked, noted_in, PowerBehind, OneCall}
 use Rattle.checkpoint.specs.Asked.{call_end}
 use Rattle.checkpoint.specs.Changes.{Facts, facts_of, facts_in}

@@ -24,7 +24,7 @@ use Rattle.journal.specs.Step.{AllowsEvent, ClockFits, StoreClock, breaks, clock
 use Rattle.journal.specs.Step.{next}
 use Rattle.journal.specs.Step.{touched}
 use Rattle.journal.specs.World.{World, Site, Node, node_at, site_of}
-use Rattle.journal.proofs.Frame.{other-node}
+use Rattle.history_laws.proofs.Frame.{other-node}
 use Rattle.checkpoint.specs.BarredBoots.{Bar, damaged, overfull, KnowsBar, BarStands}
 use Rattle.checkpoint.specs.StoreStands.{MapStands, NodeOnDisk, state_of}
 use Rattle.checkpoint.specs.Throughout.{StepOnDisk}

@@ -31,8 +31,8 @@ use Rattle.journal.specs.Settling.{settled, settled_eject}
 use Rattle.journal.specs.Sites.{Everywhere, HasEpochs}
 use Rattle.journal.specs.Standing.{state, unfinished}
 use Rattle.journal.specs.Step.{Allows, ClockFits, StoreClock, breaks, touched, happened, next, key_of, site_turn}
-use Rattle.journal.proofs.KeptTurns.{value-each}
-use Rattle.journal.proofs.SiteFrames.{keeps-site}
+use Rattle.history_laws.proofs.KeptTurns.{value-each}
+use Rattle.history_laws.proofs.SiteFrames.{keeps-site}
 use Rattle.checkpoint.specs.BarredBoots.{Bar, BarStands, FallsBarred, StaysBarred}
 use Rattle.checkpoint.specs.Boots.{put_after, BootsDown, FallsTo}
 use Rattle.checkpoint.specs.StoreStands.{NodeOnDisk}

@@ -38,7 +38,7 @@ use Rattle.journal.specs.Step.{AllowsAt, AllowsEvent, AllowsInTurn, StoreClock, 
 use Rattle.journal.specs.Step.{stopped_at, touched, touches_start}
 use Rattle.journal.specs.Step.{touches_store, node_if, StoreClockFits, clock_before, one_more}
 use Rattle.journal.specs.Stores.{Work, syncs, reads, unkept, without_room, calls, work_of, makes_call, EndsSo, AllowsStore}
-use Rattle.journal.proofs.StaysUp.{up-store_turn, up-activation}
+use Rattle.history_laws.proofs.StaysUp.{up-store_turn, up-activation}
 use Rattle.checkpoint.specs.Asked.{noted_in}
 use Rattle.checkpoint.specs.StoreStands.{NodeOnDisk, state_of}
 use Rattle.checkpoint.specs.Turns.{with_clock, RestStands}

@@ -26,7 +26,7 @@ use Rattle.journal.specs.Commands.{made as made_in_world, born_as as born_in_wor
 use Rattle.journal.specs.Ejects.{born, fresh}
 use Rattle.journal.specs.References.{meaning_of}
 use Rattle.journal.specs.World.{World, Site, capability, nothing, site_of}
-use Rattle.journal.proofs.Frame.{only-at_node}
+use Rattle.history_laws.proofs.Frame.{only-at_node}
 use Rattle.agenda.specs.Indexed.{indices_of}
 use Rattle.agenda.specs.Keys.{IsAgenda}
 use Rattle.ejects.specs.Creations.{HasNewUid}

@@ -27,9 +27,9 @@ use Rattle.journal.specs.Sites.{Everywhere, with_changes_of}
 use Rattle.journal.specs.Standing.{DiskRun}
 use Rattle.journal.specs.Step.{Allows, clocked, counted, happened, key_of, next, site_turn}
 use Rattle.epl_syntax.specs.Meaning.{first_values}
-use Rattle.journal.proofs.EveryNode.{IsKeptAt, all-next, all-same_nodes}
-use Rattle.journal.proofs.Runs.{Any, IsKept, IsOf, each-step, nodes-looked_up}
-use Rattle.journal.proofs.SiteFrames.{keeps-site, leaves-born, leaves-crashed, leaves-tells}
+use Rattle.history_laws.proofs.EveryNode.{IsKeptAt, all-next, all-same_nodes}
+use Rattle.history_laws.proofs.Runs.{Any, IsKept, IsOf, each-step, nodes-looked_up}
+use Rattle.history_laws.proofs.SiteFrames.{keeps-site, leaves-born, leaves-crashed, leaves-tells}
 use Rattle.checkpoint.specs.Throughout.{RunOnDisk}
 
 -- 1. A node that has a clock keeps one

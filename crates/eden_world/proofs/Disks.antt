@@ -10,7 +10,7 @@ use Rattle.journal.specs.Step.{happened, next}
 use Rattle.journal.specs.Run.{Step}
 use Rattle.journal.specs.Standing.{state, kept_of_node, nothing_stands}
 use Rattle.journal.specs.Settling.{doubts}
-use Rattle.journal.proofs.Frame.{node-at_other}
+use Rattle.history_laws.proofs.Frame.{node-at_other}
 use Rattle.checkpoint.specs.Throughout.{StepOnDisk}
 use Rattle.checkpoint.proofs.Lifts.{lift-elsewhere}
 use Rattle.checkpoint.proofs.WorldTurns.{node-next_other}

@@ -12,7 +12,7 @@ use Rattle.passive_store.specs.Seen.{Seen, DiskSeen}
 use Rattle.journal.specs.declared.event.Key.{Key}
 use Rattle.journal.specs.World.{World, Node, node_at, site_of}
 use Rattle.journal.specs.Enabled.{deliveries, enabled, following, item, node_keys}
-use Rattle.journal.proofs.EntryLists.{all-found}
+use Rattle.history_laws.proofs.EntryLists.{all-found}
 use Rattle.runs.specs.Reached.{IsReached}
 use Rattle.runs.proofs.Leading.{following-Contains, item-Contains}
 use Rattle.eden_world.specs.Worlds.{eight}

@@ -30,8 +30,8 @@ use Rattle.journal.specs.World.{World, Site, Node, Eject, StoreRequest, node_at,
 use Rattle.journal.specs.Step.{AllowsAt, StoreClock, StoreClockFits, clock_before, one_more, touched, touches_start}
 use Rattle.journal.specs.Step.{touches_store, node_if}
 use Rattle.journal.specs.Sites.{AllSound, AllThere, IsSoundSite}
-use Rattle.journal.proofs.EntryLists.{first-passes}
-use Rattle.journal.proofs.SiteRuns.{both-true, on-call}
+use Rattle.history_laws.proofs.EntryLists.{first-passes}
+use Rattle.history_laws.proofs.SiteRuns.{both-true, on-call}
 use Rattle.eden_kernel.specs.DiskTurns.{call_of_request}
 use Rattle.eden_kernel.specs.Stands.{Held, IsWhole, NodeStands}
 use Rattle.eden_kernel.specs.Turns.{clock_of}

@@ -14,7 +14,7 @@ use Rattle.journal.specs.World.{World, Node, Site, Eject, Active, node_at, site_
 use Rattle.journal.specs.Enabled.{delivery, deliveries, enabled, is_to_activate, is_startable, activity, ready, is_ready, no_uid, node_keys}
 use Rattle.journal.specs.Enabled.{activations, starts, processes, store_of, stations}
 use Rattle.journal.specs.Sites.{IsSoundSite}
-use Rattle.journal.proofs.EntryLists.{all-found}
+use Rattle.history_laws.proofs.EntryLists.{all-found}
 use Rattle.runs.specs.Reached.{IsReached}
 use Rattle.scheduled_node.specs.Keys.{IsKeyOf}
 use Rattle.eden_world.specs.Worlds.{eight}

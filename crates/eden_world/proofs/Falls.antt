@@ -25,9 +25,9 @@ use Rattle.journal.specs.Standing.{state, epoch_put, unfinished}
 use Rattle.journal.specs.Step.{AllowsAt, AllowsEvent, ClockFits, StoreClock, breaks, touched, happened}
 use Rattle.journal.specs.Step.{next}
 use Rattle.journal.specs.Step.{key_of, site_turn, stopped_at}
-use Rattle.journal.proofs.Falling.{falls-turn, quiet-before}
-use Rattle.journal.proofs.Frame.{after_at, node-at_same, node-at_other}
-use Rattle.journal.proofs.SiteFrames.{keeps-site}
+use Rattle.history_laws.proofs.Falling.{falls-turn, quiet-before}
+use Rattle.history_laws.proofs.Frame.{after_at, node-at_same, node-at_other}
+use Rattle.history_laws.proofs.SiteFrames.{keeps-site}
 use Rattle.checkpoint.specs.Throughout.{StepOnDisk, EndsOnDisk}
 use Rattle.checkpoint.specs.StoreStands.{NodeOnDisk}
 use Rattle.checkpoint.specs.Turns.{with_clock, RestStands}

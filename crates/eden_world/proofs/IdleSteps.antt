@@ -13,7 +13,7 @@ use Rattle.journal.specs.Settling.{doubts}
 use Rattle.journal.specs.Standing.{Standing, state, kept_of_node, nothing_stands}
 use Rattle.journal.specs.Step.{Allows, touched, next, counted, clocked, happened, key_of}
 use Rattle.journal.specs.Run.{Position, Step, Leads, EachStep, IsPlain, looked_up, steps}
-use Rattle.journal.proofs.Runs.{Any, IsKept, IsOf, each-step, nodes-looked_up}
+use Rattle.history_laws.proofs.Runs.{Any, IsKept, IsOf, each-step, nodes-looked_up}
 use Rattle.disk_faults.specs.Elsewhere.{shown_of}
 use Rattle.runs.specs.Machines.{is_idle}
 

@@ -17,7 +17,7 @@ use Rattle.journal.specs.declared.event.Key.{Key}
 use Rattle.journal.specs.World.{World, Meaning, Site, Node, node_at, site_of, reaches, is_up, is_cut}
 use Rattle.journal.specs.References.{meaning_of}
 use Rattle.journal.specs.Step.{counted}
-use Rattle.journal.proofs.Frame.{other-node}
+use Rattle.history_laws.proofs.Frame.{other-node}
 use Rattle.ejects.proofs.KeptClasses.{Keeps}
 use Rattle.eden_world.specs.Worlds.{eight, Seat, InHand, SeatStands, IsNumber, WorldStands}
 use Rattle.eden_world.specs.Steps.{TakesMail}

@@ -18,7 +18,7 @@ use Rattle.journal.specs.World.{World, Node, Site, Eject, node_at, site_of}
 use Rattle.journal.specs.Enabled.{delivery, deliveries, enabled, is_past, is_to_activate, is_startable, activity, ready, node_keys}
 use Rattle.journal.specs.Enabled.{activations, starts, processes, store_of, no_uid}
 use Rattle.journal.specs.Sites.{Sound}
-use Rattle.journal.proofs.EntryLists.{all-found}
+use Rattle.history_laws.proofs.EntryLists.{all-found}
 use Rattle.eden_kernel.specs.Boots.{IsAsleep, IsIdle}
 use Rattle.runs.specs.Reached.{IsReached}
 use Rattle.eden_world.specs.Worlds.{InHand, WorldStands, DownStands, DiskStands, eight}

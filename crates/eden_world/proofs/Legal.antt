@@ -17,8 +17,8 @@ use Rattle.journal.specs.Run.{Position, Step, EachStep, FollowsSoFar, beginning}
 use Rattle.journal.specs.Standing.{DiskRun, StandsThroughout, nothing_added, unfinished}
 use Rattle.journal.specs.Step.{clock_before}
 use Rattle.journal.specs.World.{World, Node}
-use Rattle.journal.proofs.LegalRuns.{runs-are-legal, runs-are-legal-so-far}
-use Rattle.journal.proofs.Runs.{of-any, world-booting}
+use Rattle.history_laws.proofs.LegalRuns.{runs-are-legal, runs-are-legal-so-far}
+use Rattle.history_laws.proofs.Runs.{of-any, world-booting}
 use Rattle.checkpoint.specs.Throughout.{StandsFirst}
 use Rattle.runs.specs.Machines.{DidAll, ShowsAll, ShowsPart}
 use Rattle.runs.specs.Runs.{IsCutShort, IsDone}

@@ -19,7 +19,7 @@ use Rattle.journal.specs.World.{World, Node, Site, Eject, site_of}
 use Rattle.journal.specs.Opening.{most_changes, node_of, node_from, entries_of, ledger_of, passive, passive_entry}
 use Rattle.journal.specs.Standing.{DiskRun}
 use Rattle.journal.specs.LegalRun.{AreHandedIn, EachDisk, IsHandedIn, images, numbered, opening_world}
-use Rattle.journal.proofs.AtTheOpening.{at-the-opening}
+use Rattle.history_laws.proofs.AtTheOpening.{at-the-opening}
 use Rattle.checkpoint.specs.BarredBoots.{damaged, overfull}
 use Rattle.checkpoint.specs.Throughout.{StandsFirst}
 use Rattle.checkpoint.proofs.FirstSites.{rests-first, barred-first}

@@ -17,7 +17,7 @@ use Rattle.epl_syntax.specs.Meaning.{types_in}
 use Rattle.journal.specs.declared.event.Key.{Key}
 use Rattle.journal.specs.World.{World, Meaning, Site, Node, node_at, site_of, at_node, is_up, joins}
 use Rattle.journal.specs.Step.{clocked}
-use Rattle.journal.proofs.Frame.{after_at, node-at_same, node-at_other, other-node}
+use Rattle.history_laws.proofs.Frame.{after_at, node-at_same, node-at_other, other-node}
 use Rattle.ejects.proofs.KeptClasses.{Keeps}
 use Rattle.eden_world.specs.Worlds.{Seat, InHand, WorldStands, SeatStands, eight}
 use Rattle.eden_world.specs.Told.{Reseats, marked}

@@ -4,7 +4,7 @@ use Rattle.std.proofs.Common.{None, Some}
 use Rattle.std.proofs.Common.{Result, Ok, Err, is_some, refl, sym, ◌∙◌, ap, subst, arith}
 use Rattle.std.specs.Ordering.{nat_cmp, eq_by_cmp}
 use Rattle.eden_model.proofs.Numbers.{same-self}
-use Rattle.journal.proofs.Frame.{other-node}
+use Rattle.history_laws.proofs.Frame.{other-node}
 use Rattle.capability.specs.declared.Uid.{Uid}
 use Rattle.capability.specs.Capability.{full}
 use Rattle.eden_value.specs.declared.status.Status.{Status}
@@ -27,9 +27,9 @@ use Rattle.journal.specs.Sites.{AllSound, Everywhere}
 use Rattle.journal.specs.Standing.{Standing, state, nothing_stands}
 use Rattle.journal.specs.World.{World, Meaning, Site, Node, capability, nothing, node_at, site_of, site_at, at_node}
 use Rattle.journal.specs.World.{on_node}
-use Rattle.journal.proofs.EveryNode.{next-following}
-use Rattle.journal.proofs.SiteFrames.{leaves-born}
-use Rattle.journal.proofs.SiteTurns.{IsNew}
+use Rattle.history_laws.proofs.EveryNode.{next-following}
+use Rattle.history_laws.proofs.SiteFrames.{leaves-born}
+use Rattle.history_laws.proofs.SiteTurns.{IsNew}
 use Rattle.checkpoint.specs.StoreStands.{MapStands, state_of}
 use Rattle.checkpoint.specs.Throughout.{StepOnDisk}
 use Rattle.checkpoint.proofs.Lifts.{lift-elsewhere}

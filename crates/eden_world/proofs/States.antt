@@ -19,7 +19,7 @@ use Rattle.journal.specs.Crashes.{tells_each}
 use Rattle.journal.specs.Settling.{kept_entry, doubt_entry, epoch_entries, epoch_doubts}
 use Rattle.journal.specs.Sites.{InOrder}
 use Rattle.journal.specs.Standing.{Standing, state, nothing_stands}
-use Rattle.journal.proofs.Frame.{node-at_node, after_at}
+use Rattle.history_laws.proofs.Frame.{node-at_node, after_at}
 use Rattle.checkpoint.specs.StoreStands.{state_of}
 
 is-less : (o : Ordering) → T (is_lt o) → o ≡ Less

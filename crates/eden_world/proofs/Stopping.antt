@@ -20,7 +20,7 @@ use Rattle.journal.specs.declared.event.Event.TheVariants as event
 use Rattle.journal.specs.declared.event.Key.{Key}
 use Rattle.journal.specs.declared.event.RequestEnd.TheVariants as request_end
 use Rattle.journal.specs.declared.event.StartEnd.TheVariants as start_end
-use Rattle.journal.proofs.StaysUp.{up-requested, up-heard, up-start, up-process_turn}
+use Rattle.history_laws.proofs.StaysUp.{up-requested, up-heard, up-start, up-process_turn}
 use Rattle.eden_kernel.specs.Stands.{Held, held, NodeStands}
 use Rattle.eden_kernel.specs.Turns.{clock_of}
 use Rattle.eden_kernel.specs.declared.stores.TurnEnd.TheVariants as turn_end

@@ -28,8 +28,8 @@ use Rattle.journal.specs.World.{World, Node, Site, Eject, Active, node_at, site_
 use Rattle.journal.specs.Ejects.{tells, told, on_active, with_active}
 use Rattle.journal.specs.Crashes.{tells_each}
 use Rattle.journal.specs.Sites.{active_in}
-use Rattle.journal.proofs.Frame.{node-at_node, after_at, eject-on_eject}
-use Rattle.journal.proofs.SiteWorlds.{at-none, traffic-tells}
+use Rattle.history_laws.proofs.Frame.{node-at_node, after_at, eject-on_eject}
+use Rattle.history_laws.proofs.SiteWorlds.{at-none, traffic-tells}
 use Rattle.active_part.specs.Body.{active_of}
 use Rattle.ejects.specs.Parts.{Parts, Stands, Known, known, body_at}
 use Rattle.ejects.specs.View.{parts_of}

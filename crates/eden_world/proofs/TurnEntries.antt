@@ -19,9 +19,9 @@ use Rattle.journal.specs.Step.{counted}
 use Rattle.journal.specs.Step.{clocked, key_of, breaks, touched}
 use Rattle.journal.specs.Sites.{AllSound, IsSoundSite, GoesOn, with_changes_of}
 use Rattle.journal.specs.Standing.{epoch_put}
-use Rattle.journal.proofs.EventCalls.{calls-go-on}
-use Rattle.journal.proofs.Lifts.{holds-at_site}
-use Rattle.journal.proofs.SiteFrames.{keeps-site}
+use Rattle.history_laws.proofs.EventCalls.{calls-go-on}
+use Rattle.history_laws.proofs.Lifts.{holds-at_site}
+use Rattle.history_laws.proofs.SiteFrames.{keeps-site}
 use Rattle.checkpoint.specs.StoreStands.{NodeOnDisk}
 use Rattle.checkpoint.specs.Throughout.{StepOnDisk}
 use Rattle.checkpoint.specs.Turns.{with_clock}

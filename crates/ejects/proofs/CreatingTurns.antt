@@ -21,8 +21,8 @@ use Rattle.journal.specs.World.{Active, Eject, Site, eject_in, on_eject, on_node
 use Rattle.journal.specs.Ejects.{on_active, next_uid}
 use Rattle.journal.specs.Processes.{CreatesKnown, creates, shown_creation, shown_of, turn_of, turned, process_turn}
 use Rattle.journal.specs.Sites.{IsSoundSite}
-use Rattle.journal.proofs.Creations.{next-active}
-use Rattle.journal.proofs.Ordered.{order-changed}
+use Rattle.history_laws.proofs.Creations.{next-active}
+use Rattle.history_laws.proofs.Ordered.{order-changed}
 use Rattle.active_part.specs.Body.{Body, active_of}
 use Rattle.active_part.specs.Bodies.{turned_body, serves_of}
 use Rattle.ejects.specs.Creations.{HasNewUid, CreatedFor}

@@ -25,7 +25,7 @@ use Rattle.journal.specs.Ejects.{turned_away}
 use Rattle.journal.specs.Settling.{written_with}
 use Rattle.journal.specs.Sites.{IsSoundSite, IsHeldAt, runs_of}
 use Rattle.journal.specs.Stores.{doubted, stored, tells_code, request_ended}
-use Rattle.journal.proofs.SiteCrews.{runs-set}
+use Rattle.history_laws.proofs.SiteCrews.{runs-set}
 use Rattle.active_part.specs.Body.{Body, active_of, calls_of}
 use Rattle.active_part.specs.Bodies.{told_body}
 use Rattle.ejects.specs.Parts.{Parts, Known, known, body_at, queue_of, queue_at, held_of, HasClasses, Stands, IsAt}

@@ -21,7 +21,7 @@ use Rattle.journal.specs.Stores.{Work, syncs, reads, unkept, without_room, calls
 use Rattle.journal.specs.Step.{AllowsAt, site_turn}
 use Rattle.journal.specs.declared.event.Event.TheVariants as event
 use Rattle.journal.specs.declared.event.RequestEnd.TheVariants as end
-use Rattle.journal.proofs.KeptTurns.{value-each}
+use Rattle.history_laws.proofs.KeptTurns.{value-each}
 use Rattle.active_part.specs.Body.{Body, active_of}
 use Rattle.ejects.specs.Parts.{Parts, Known, known, body_at, held_of, HasClasses, Stands, IsAt}
 use Rattle.ejects.specs.StoreEnds.{SettlesAt}

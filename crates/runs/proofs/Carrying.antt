@@ -11,7 +11,7 @@ use Rattle.journal.specs.Fit.{IsFitCommand}
 use Rattle.journal.specs.Step.{Allows, next}
 use Rattle.journal.specs.Run.{Position, command_is, boots, IsDue, lead, Leads, end_of, steps, at_commands, booting, beginning}
 use Rattle.journal.specs.Run.{most_turns}
-use Rattle.journal.proofs.Runs.{world-at_commands, world-booting}
+use Rattle.history_laws.proofs.Runs.{world-at_commands, world-booting}
 use Rattle.runs.specs.Machines.{Stands, Did, Starved}
 use Rattle.runs.specs.Machines.{StandsWith, DidAll}
 use Rattle.runs.specs.Room.{is_single, entries_of, entries_in}

@@ -28,7 +28,7 @@ use Rattle.journal.specs.References.{with_name, cap_at}
 use Rattle.journal.specs.Commands.{born_as, made, asked, ready_call, asked_by, restricted_by, held_by, bound, type_name_of, AllowsCommand}
 use Rattle.journal.specs.Step.{Allows, next, key_of, counted, clocked, happened, after_turn, after_command, stopped_at, site_turn}
 use Rattle.journal.specs.Run.{looked_up}
-use Rattle.journal.proofs.Runs.{no-turn}
+use Rattle.history_laws.proofs.Runs.{no-turn}
 use Rattle.runs.specs.Machines.{is_idle}
 
 -- 1. Events

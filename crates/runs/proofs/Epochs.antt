@@ -39,11 +39,11 @@ use Rattle.journal.specs.Standing.{DiskRun}
 use Rattle.journal.specs.LegalRun.{AreHandedIn, numbered, images, opening_world, last_world}
 use Rattle.journal.specs.Laws.{Begins}
 use Rattle.journal.specs.Sites.{Everywhere}
-use Rattle.journal.proofs.NoUidTwice.{disk-node}
-use Rattle.journal.proofs.EveryNode.{IsKeptAt, all-next, all-same_nodes}
-use Rattle.journal.proofs.Runs.{Any, of-any, end-keeps, world-booting, nodes-looked_up}
-use Rattle.journal.proofs.SiteFrames.{Leaves, keeps-site, leaves-crashed, leaves-tells, leaves-born, leaves-turned_away, leaves-awake}
-use Rattle.journal.proofs.SiteFrames.{leaves-done, leaves-ended, leaves-doubted, leaves-on_eject}
+use Rattle.history_laws.proofs.NoUidTwice.{disk-node}
+use Rattle.history_laws.proofs.EveryNode.{IsKeptAt, all-next, all-same_nodes}
+use Rattle.history_laws.proofs.Runs.{Any, of-any, end-keeps, world-booting, nodes-looked_up}
+use Rattle.history_laws.proofs.SiteFrames.{Leaves, keeps-site, leaves-crashed, leaves-tells, leaves-born, leaves-turned_away, leaves-awake}
+use Rattle.history_laws.proofs.SiteFrames.{leaves-done, leaves-ended, leaves-doubted, leaves-on_eject}
 use Rattle.runs.specs.Reached.{NextInDoubt}
 
 -- 1. Changes that leave both

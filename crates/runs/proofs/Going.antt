@@ -10,7 +10,7 @@ use Rattle.journal.specs.World.{World}
 use Rattle.journal.specs.Enabled.{following, item}
 use Rattle.journal.specs.Step.{next, key_of}
 use Rattle.journal.specs.Run.{Position, turns, turn_is, IsTurn, IsDue, lead, at_commands, going}
-use Rattle.journal.proofs.Runs.{world-at_commands}
+use Rattle.history_laws.proofs.Runs.{world-at_commands}
 use Rattle.runs.specs.Runs.{Origin, IsOn, due_in, Took, TakesTurn, TurnFails, gone_on, DoesDue, PartOfDue, CarriesCommand, PartOfCommand}
 use Rattle.runs.specs.declared.run.Choice.TheVariants.{Following, Item}
 use Rattle.runs.specs.declared.run.Run.{Run}

@@ -28,9 +28,9 @@ use Rattle.journal.specs.Run.{beginning}
 use Rattle.journal.specs.Standing.{DiskRun}
 use Rattle.journal.specs.LegalRun.{AreHandedIn, numbered_from, images, opening_world, last_world}
 use Rattle.journal.specs.Sites.{SoundWorld}
-use Rattle.journal.proofs.Runs.{Any, of-any, end-keeps, world-booting}
-use Rattle.journal.proofs.SiteRuns.{KnownWorld, known-opening, known-next, known-looked_up, new-by, sites-are-sound}
-use Rattle.journal.proofs.EpochBounds.{epochs-are-bounded}
+use Rattle.history_laws.proofs.Runs.{Any, of-any, end-keeps, world-booting}
+use Rattle.history_laws.proofs.SiteRuns.{KnownWorld, known-opening, known-next, known-looked_up, new-by, sites-are-sound}
+use Rattle.history_laws.proofs.EpochBounds.{epochs-are-bounded}
 use Rattle.runs.specs.Reached.{is_node}
 use Rattle.journal.specs.Fit.{IsFit}
 use Rattle.runs.specs.Machines.{Stands, StandsWith}

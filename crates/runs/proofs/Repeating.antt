@@ -1,6 +1,6 @@
 -- A process that lets others go on leaves the enabled keys as they are.
 use Rattle.std.proofs.Common.{◌≡◌, ℕ, Bool, true, false, cond, T, ◌&&◌, List, [], ◌∷◌, ◌++◌, map, Option, None, Some, refl, ap, sym, ◌∙◌}
-use Rattle.std.proofs.Common.{subst, is_some, Result, Ok, Err}
+use Rattle.std.proofs.Common.{subst, is_some}
 use Rattle.std.specs.Prelude.{IsSomeAnd}
 use Rattle.std.specs.List.{filter, flat_map}
 use Rattle.std.specs.declared.cmp.Ordering.{Ordering}
@@ -10,11 +10,9 @@ use Rattle.std.specs.Cmp.{IsTotalOrder, nat_cmp_total}
 use Rattle.std.specs.FinMap.Entries.{find, put, below_all, is_sorted, by_order, is_sorted-put}
 use Rattle.capability.specs.declared.Uid.{Uid}
 use Rattle.capability.proofs.Uids.{uid_cmp_total}
-use Rattle.eden_value.specs.declared.status.Status.{Status}
 use Rattle.eden_model.specs.Map.{with_item, uid_cmp, value_at, changed_at}
-use Rattle.eden_model.specs.Crew.{Invocation, Process as Worker}
+use Rattle.eden_model.specs.Crew.{Process as Worker}
 use Rattle.eden_model.specs.Traffic.{next_message}
-use Rattle.epl_syntax.specs.declared.effect.Effect.{Effect}
 use Rattle.epl_syntax.specs.declared.effect.Effect.TheVariants as effect
 use Rattle.epl_syntax.specs.Meaning.{Turned}
 use Rattle.journal.specs.declared.event.Entry.{Entry}
@@ -22,11 +20,12 @@ use Rattle.journal.specs.declared.event.Event.TheVariants.{Process}
 use Rattle.journal.specs.declared.event.Key.{Key}
 use Rattle.journal.specs.declared.event.Shown.TheVariants.{Yield}
 use Rattle.journal.specs.World.{World, Site, Node, Eject, Active, site_of, site_at, node_at, eject_in, on_eject, at_node, with_site, reaches}
-use Rattle.journal.specs.Ejects.{on_active, next_uid}
+use Rattle.journal.specs.Ejects.{on_active}
 use Rattle.journal.specs.Enabled.{delivery, activity, is_to_activate, is_startable, ready, activations, starts, store_of, node_keys}
 use Rattle.journal.specs.Enabled.{stations, deliveries, enabled, following}
-use Rattle.journal.specs.Processes.{AllowsTurn, turned, turn_of, serving, worker_at, effected, active_turn, turn_taken, process_turn, shown_of, shown_creation}
+use Rattle.journal.specs.Processes.{AllowsTurn, turned, turn_of, serving, worker_at, effected, active_turn, turn_taken, process_turn, shown_of}
 use Rattle.journal.specs.Step.{Allows, AllowsAt, AllowsEvent, next, counted, clocked, key_of, touched, happened, after_turn}
+use Rattle.journal.proofs.Shows.{yields}
 use Rattle.runs.specs.Reached.{IsReached}
 use Rattle.runs.specs.Runs.{IsYield, Repeats}
 
@@ -122,27 +121,6 @@ module _ (s : Site) (u : Uid) (p : ℕ) (t : Turned) (e : Eject) (it : Active) (
 some_and : {X : Type 0} (o : Option X) (P : X → Type 0) → IsSomeAnd o P → (x : X) × (o ≡ Some x) × P x
 some_and None P h = absurd h
 some_and (Some x) P h = (x, refl, h)
-
--- a turn that shows a yield has that effect
-yields : (s : Site) (i : Option Invocation) (f : Effect) → Yield ≡ shown_of s i f → f ≡ effect.Yield
-yields s i effect.Yield h = refl
-yields s None (effect.Return results) h = absurd (cc h)
-yields s (Some k) (effect.Return results) h = absurd (cc h)
-yields s i effect.Checkpoint h = absurd (cc h)
-yields s i effect.Deactivate h = absurd (cc h)
-yields s i effect.Destroy h = absurd (cc h)
-yields s i (effect.Create type_name) h = absurd (created (next_uid s) h)
-  where
-    created : (r : Result Uid Status) → Yield ≡ shown_creation r → ⊥
-    created (Ok u) h = cc h
-    created (Err why) h = cc h
-yields s i (effect.Lock m) h = absurd (cc h)
-yields s i (effect.Leave m) h = absurd (cc h)
-yields s i (effect.Wait c) h = absurd (cc h)
-yields s i (effect.Signal c) h = absurd (cc h)
-yields s i effect.End h = absurd (cc h)
-yields s i (effect.Fault cause) h = absurd (cc h)
-yields s i (effect.Invoke target operation args) h = absurd (cc h)
 
 module _ (w : World) (u : Uid) (p : ℕ) (t : Turned) (n : Node) (e : Eject) (it : Active) (ordered : T (is_sorted nat_cmp w.nodes))
     (sorted : T (is_sorted uid_cmp n.ejects)) (at : node_at w u.node ≡ Some n) (there : value_at uid_cmp u n.ejects ≡ Some e)

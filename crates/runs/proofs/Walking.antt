@@ -21,7 +21,7 @@ use Rattle.journal.specs.Fit.{IsFitCommand}
 use Rattle.journal.specs.Step.{next, key_of}
 use Rattle.journal.specs.Run.{looks_up, waits_for, AllowsLookUp, looked_up, sent_look_up, walking, walked, at_commands, components}
 use Rattle.journal.specs.Run.{is_open_call, is_found, next_directory}
-use Rattle.journal.proofs.Runs.{world-at_commands}
+use Rattle.history_laws.proofs.Runs.{world-at_commands}
 use Rattle.journal.proofs.FitValues.{components-are-texts}
 use Rattle.runs.specs.Reached.{IsReached, IsNamed}
 use Rattle.runs.specs.Machines.{Stands, Did, Starved}

@@ -47,8 +47,8 @@ use Rattle.journal.specs.Boots.{booted_node, boot_turn}
 use Rattle.journal.specs.declared.event.BootEnd.{BootEnd}
 use Rattle.journal.specs.declared.event.BootEnd.TheVariants as boot_end
 use Rattle.journal.specs.Starts.{start_of, misfits_answered, fits_at, activated, activation_turn, start_settled}
-use Rattle.journal.proofs.Frame.{eject-on_eject}
-use Rattle.journal.proofs.KeptTurns.{value-each}
+use Rattle.history_laws.proofs.Frame.{eject-on_eject}
+use Rattle.history_laws.proofs.KeptTurns.{value-each}
 use Rattle.checkpoint.specs.Turns.{with_clock}
 use Rattle.scheduled_node.specs.Others.{part_of, deciding, SameBut}
 

@@ -18,7 +18,7 @@ use Rattle.journal.specs.Ejects.{fresh, told, on_active}
 use Rattle.journal.specs.World.{Eject, Site, eject_in, on_node}
 use Rattle.journal.specs.Sites.{IsSoundSite}
 use Rattle.journal.specs.Step.{AllowsAt}
-use Rattle.journal.proofs.Frame.{traffic-on_eject}
+use Rattle.history_laws.proofs.Frame.{traffic-on_eject}
 use Rattle.checkpoint.specs.Turns.{with_clock}
 use Rattle.checkpoint.specs.declared.up.BootNote.{BootNote}
 use Rattle.ejects.specs.Creations.{born_as}

@@ -1,19 +1,17 @@
 -- A turn changes what the Ejects may do that its event is about, and no others.
-use Rattle.std.proofs.Common.{◌≡◌, ◌-◌, ◌≤◌, ℕ, zero, suc, Bool, true, false, List, Option, None, Some, Result, Ok, Err, refl, sym, ◌∙◌, ap}
+use Rattle.std.proofs.Common.{◌≡◌, ◌-◌, ◌≤◌, ℕ, zero, suc, Bool, true, false, List, Option, None, Some, Ok, refl, sym, ◌∙◌, ap}
 use Rattle.std.proofs.Common.{subst, arith}
 use Rattle.std.specs.Prelude.{IsSomeAnd, ◌||◌, slice_get}
 use Rattle.std.specs.Option.{option_map}
 use Rattle.std.proofs.lemmas.Cmp.{tied_itself}
 use Rattle.capability.specs.declared.Uid.{Uid}
 use Rattle.capability.proofs.Uids.{uid_cmp_total}
-use Rattle.eden_value.specs.declared.status.Status.{Status}
 use Rattle.eden_model.specs.Crew.{Invocation, Process as Worker}
 use Rattle.eden_model.specs.Map.{with_item}
 use Rattle.eden_model.specs.Traffic as traffic
 use Rattle.eden_model.specs.Traffic.{Traffic, call_at}
 use Rattle.epl_syntax.specs.Meaning.{Turned}
 use Rattle.epl_syntax.specs.Rules.OfTypes.{TypeList}
-use Rattle.epl_syntax.specs.declared.effect.Effect.{Effect}
 use Rattle.epl_syntax.specs.declared.effect.Effect.TheVariants as effect
 use Rattle.invocation.specs.Carries.{Carries}
 use Rattle.invocation.specs.Mail.{Mail}
@@ -32,8 +30,9 @@ use Rattle.journal.specs.Settling.{first_request}
 use Rattle.journal.specs.Sites.{IsSoundSite, CallsGoOn, GoesOn}
 use Rattle.journal.specs.Step.{AllowsAt, site_turn}
 use Rattle.journal.specs.Stores.{AllowsStore}
-use Rattle.journal.proofs.Creations.{next-active}
-use Rattle.journal.proofs.EventCalls.{calls-go-on}
+use Rattle.history_laws.proofs.Creations.{next-active}
+use Rattle.history_laws.proofs.EventCalls.{calls-go-on}
+use Rattle.journal.proofs.Shows.{yields}
 use Rattle.checkpoint.specs.Turns.{with_clock}
 use Rattle.ejects.specs.View.{parts_of}
 use Rattle.ejects.proofs.KeptClasses.{Keeps}
@@ -112,34 +111,13 @@ module _ (reach : ℕ → Bool) (s : Site) (m : Mail) (sound : IsSoundSite s) wh
   shows u p said allowed e is it is_it t is_t name creates =
       let r = tells u p said allowed e is it is_it t is_t in r.1 ∙ ap (shown_of s r.0) creates
 
-  -- a turn that shows a yield has that effect
-  yields : (i : Option Invocation) (f : Effect) → shown.Yield ≡ shown_of s i f → f ≡ effect.Yield
-  yields i effect.Yield is = refl
-  yields None (effect.Return results) is = absurd (cc is)
-  yields (Some k) (effect.Return results) is = absurd (cc is)
-  yields i (effect.Create name) is = absurd (no_creation (next_uid s) is)
-    where
-      no_creation : (r : Result Uid Status) → shown.Yield ≡ shown_creation r → ⊥
-      no_creation (Ok v) is = cc is
-      no_creation (Err why) is = cc is
-  yields i effect.Checkpoint is = absurd (cc is)
-  yields i effect.Deactivate is = absurd (cc is)
-  yields i effect.Destroy is = absurd (cc is)
-  yields i effect.End is = absurd (cc is)
-  yields i (effect.Fault cause) is = absurd (cc is)
-  yields i (effect.Invoke target operation args) is = absurd (cc is)
-  yields i (effect.Lock m) is = absurd (cc is)
-  yields i (effect.Leave m) is = absurd (cc is)
-  yields i (effect.Wait c) is = absurd (cc is)
-  yields i (effect.Signal c) is = absurd (cc is)
-
   -- a process that let others go on
   yielded : (but : Uid → Bool) (u : Uid) (p : ℕ) → AllowsAt s (event.Process u p shown.Yield) → SameBut but s (process_turn reach u p s)
   yielded but u p allowed = same-item but s (eject_in s u) _ (λ e is. same-item but s e.active _ (λ it is_it.
       same-item but s (turn_of u it p) _ (λ t is_t.
       let r = tells u p shown.Yield allowed e is it is_it t is_t in
       let now : Site = on_eject u (on_active (turned p t)) s in
-      subst (λ f. SameBut but s (effected reach u p (serving it p) it.kind t.vars f now)) (sym (yields r.0 t.effect r.1))
+      subst (λ f. SameBut but s (effected reach u p (serving it p) it.kind t.vars f now)) (sym (yields s r.0 t.effect r.1))
       (same-turned but u p t s))))
 
   created : (u : Uid) (p : ℕ) (said : Shown) → AllowsAt s (event.Process u p said) → (e : Eject) → eject_in s u ≡ Some e → (it : Active)

@@ -14,7 +14,7 @@ use Rattle.journal.specs.declared.event.Event.TheVariants as event
 use Rattle.journal.specs.declared.event.Key.{Key}
 use Rattle.journal.specs.declared.event.RequestEnd.TheVariants as request_end
 use Rattle.journal.specs.declared.event.StartEnd.TheVariants as start_end
-use Rattle.journal.proofs.Frame.{only-at_node}
+use Rattle.history_laws.proofs.Frame.{only-at_node}
 use Rattle.shell_names.specs.Events.{may_bind, OthersBindNone, StandAfterEntries}
 use Rattle.shell_names.proofs.Worlds.{same-names}
 

@@ -10,7 +10,7 @@ use Rattle.epl_syntax.specs.Meaning.{type_of, first_values}
 use Rattle.journal.specs.Commands.{born_as, made}
 use Rattle.journal.specs.Ejects.{fresh, born}
 use Rattle.journal.specs.World.{World, Meaning, capability}
-use Rattle.journal.proofs.Frame.{only-at_node}
+use Rattle.history_laws.proofs.Frame.{only-at_node}
 use Rattle.shell_names.specs.Names.{Names, NamesStand, Binds, StandsWith}
 
 -- 1. Worlds with the same names

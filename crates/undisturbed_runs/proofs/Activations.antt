@@ -16,8 +16,8 @@ use Rattle.journal.specs.Starts.{start_of, StartsSo, FailsSettling, StartsFrom, 
 use Rattle.journal.specs.Starts.{misfits_answered}
 use Rattle.journal.specs.Granted.{kept_settled}
 use Rattle.journal.specs.Sites.{active_in}
-use Rattle.journal.proofs.SiteParts.{eject-here}
-use Rattle.journal.proofs.Frame.{eject-on_traffic}
+use Rattle.history_laws.proofs.SiteParts.{eject-here}
+use Rattle.history_laws.proofs.Frame.{eject-on_traffic}
 use Rattle.undisturbed_runs.specs.Turns.{start_end_of}
 
 -- 1. How it ends

@@ -12,8 +12,8 @@ use Rattle.journal.specs.World.{World, Node, Site, node_at, site_at, site_of, re
 use Rattle.journal.specs.Step.{AllowsAt, Allows, site_turn, next}
 use Rattle.journal.specs.Monitors.{active_at}
 use Rattle.journal.specs.Sites.{Everywhere, active_in}
-use Rattle.journal.proofs.EveryNode.{IsKeptBy, all-next_by}
-use Rattle.journal.proofs.SiteRuns.{SiteWorld, site-next}
+use Rattle.history_laws.proofs.EveryNode.{IsKeptBy, all-next_by}
+use Rattle.history_laws.proofs.SiteRuns.{SiteWorld, site-next}
 use Rattle.epl_syntax.specs.Meaning.{first_values}
 use Rattle.epl_syntax.specs.declared.effect.Answer.TheVariants.{Reply as Told}
 use Rattle.epl_syntax.specs.Edentype.{Edentype}

@@ -38,8 +38,8 @@ use Rattle.journal.specs.LegalRun.{AreHandedIn, opening_world, run_over}
 use Rattle.journal.specs.Laws.{Begins}
 use Rattle.journal.specs.Monitors.{active_at}
 use Rattle.journal.specs.Sites.{active_in}
-use Rattle.journal.proofs.Runs.{Any, of-any, each-step, no-turn, nodes-looked_up, world-booting}
-use Rattle.journal.proofs.SiteRuns.{SiteWorld, site-next, site-looked_up, site-opening}
+use Rattle.history_laws.proofs.Runs.{Any, of-any, each-step, no-turn, nodes-looked_up, world-booting}
+use Rattle.history_laws.proofs.SiteRuns.{SiteWorld, site-next, site-looked_up, site-opening}
 use Rattle.undisturbed_runs.specs.Puts.{IsPutOf, Includes, Awaits, spelled_by, EndsPut, EndsBehind, CheckpointEnds, EachWithRest}
 use Rattle.undisturbed_runs.proofs.Disks.{NoneShown, each-quiet}
 use Rattle.undisturbed_runs.proofs.Laters.{at-later}

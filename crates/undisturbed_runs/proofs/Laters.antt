@@ -13,8 +13,8 @@ use Rattle.journal.specs.World.{World, Node, Active, Site, node_at, site_of, at_
 use Rattle.journal.specs.Step.{counted, clocked}
 use Rattle.journal.specs.Monitors.{active_at}
 use Rattle.journal.specs.Sites.{active_in}
-use Rattle.journal.proofs.Frame.{node-at_same, after_at}
-use Rattle.journal.proofs.NoneRolledBack.{with_clock}
+use Rattle.history_laws.proofs.Frame.{node-at_same, after_at}
+use Rattle.history_laws.proofs.NoneRolledBack.{with_clock}
 
 -- P holds of the node whatever its clock is
 abbrev pub IsTimeless : (Node → Type 0) → Type 0

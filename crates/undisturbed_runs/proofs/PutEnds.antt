@@ -26,10 +26,10 @@ use Rattle.journal.specs.Step.{AllowsAt, AllowsEvent, at_site, clocked, counted,
 use Rattle.journal.specs.Faults.{shows_fault, shows_stop}
 use Rattle.journal.specs.LegalRun.{kept_at}
 use Rattle.journal.specs.Sites.{IsManned, IsSoundSite, WaitsIn, at_store, active_in}
-use Rattle.journal.proofs.KeptLaw.{kept_of_eject}
-use Rattle.journal.proofs.Runs.{no-turn}
-use Rattle.journal.proofs.SiteRuns.{SiteWorld, all-sound}
-use Rattle.journal.proofs.SiteStores.{first-is, at-own}
+use Rattle.history_laws.proofs.KeptLaw.{kept_of_eject}
+use Rattle.history_laws.proofs.Runs.{no-turn}
+use Rattle.history_laws.proofs.SiteRuns.{SiteWorld, all-sound}
+use Rattle.history_laws.proofs.SiteStores.{first-is, at-own}
 use Rattle.undisturbed_runs.specs.Turns.{LacksRoom}
 use Rattle.undisturbed_runs.specs.Puts.{IsPutOf, IsAnswered, IsAcknowledged, IsRefused, EndsPut}
 use Rattle.undisturbed_runs.proofs.Laters.{IsTimeless, at-later, HasActive, has-active}

@@ -50,9 +50,9 @@ use Rattle.journal.specs.Starts.{start_of, misfits_answered, activated, start_se
 use Rattle.journal.specs.Boots.{booted_node, boot_turn}
 use Rattle.journal.specs.Step.{AllowsAt, site_turn}
 use Rattle.journal.specs.Sites.{active_in}
-use Rattle.journal.proofs.Frame.{eject-on_eject, eject-on_traffic}
-use Rattle.journal.proofs.KeptTurns.{value-each}
-use Rattle.journal.proofs.SiteStores.{first-is}
+use Rattle.history_laws.proofs.Frame.{eject-on_eject, eject-on_traffic}
+use Rattle.history_laws.proofs.KeptTurns.{value-each}
+use Rattle.history_laws.proofs.SiteStores.{first-is}
 use Rattle.undisturbed_runs.specs.Puts.{IsPutOf, Includes}
 
 abbrev pub is_part : RequestEnd → Bool

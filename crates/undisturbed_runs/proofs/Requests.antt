@@ -25,8 +25,8 @@ use Rattle.journal.specs.Stores.{is_kept_in}
 use Rattle.journal.specs.Stores.{tells_code, request_ended, removed, worked, store_turn}
 use Rattle.journal.specs.Sites.{active_in}
 use Rattle.journal.proofs.Same.{equal}
-use Rattle.journal.proofs.SiteParts.{eject-here}
-use Rattle.journal.proofs.KeptLaw.{kept_of_eject, kept_in, kept-tells}
+use Rattle.history_laws.proofs.SiteParts.{eject-here}
+use Rattle.history_laws.proofs.KeptLaw.{kept_of_eject, kept_in, kept-tells}
 use Rattle.undisturbed_runs.specs.Turns.{LacksRoom, EndsByRoom, IsTold}
 
 -- 1. Room

@@ -35,7 +35,7 @@ use Rattle.journal.specs.Faults.{shows_fault, shows_stop}
 use Rattle.journal.specs.Granted.{kept_settled, kept_after_pick}
 use Rattle.journal.specs.Monitors.{active_at}
 use Rattle.journal.specs.Sites.{active_in}
-use Rattle.journal.proofs.Runs.{Any, of-any, each-step, no-turn}
+use Rattle.history_laws.proofs.Runs.{Any, of-any, each-step, no-turn}
 use Rattle.undisturbed_runs.specs.Turns.{EndsByRoom, IsTold, Tells, FindsWhatIsKept, IsStarted, start_end_of, BootsByItsDisk}
 use Rattle.undisturbed_runs.specs.Turns.{IsUpIn}
 use Rattle.undisturbed_runs.specs.Puts.{AtTheStore}

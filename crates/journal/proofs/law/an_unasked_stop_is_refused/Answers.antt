@@ -1,5 +1,0 @@
-use Rattle.journal.proofs.RefusedRuns.{unasked-stop-is-refused}
-use Rattle.journal.proofs.law.an_unasked_stop_is_refused.Goals as goal
-
-pub returns : goal.returns
-returns c = unasked-stop-is-refused

@@ -1,5 +1,0 @@
-use Rattle.journal.proofs.StartsWholeLaw.{starts-are-whole}
-use Rattle.journal.proofs.law.every_start_is_whole.Goals as goal
-
-pub returns : goal.returns
-returns c = starts-are-whole

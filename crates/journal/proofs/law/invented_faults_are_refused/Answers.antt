@@ -1,5 +1,0 @@
-use Rattle.journal.proofs.RefusedRuns.{invented-faults-are-refused}
-use Rattle.journal.proofs.law.invented_faults_are_refused.Goals as goal
-
-pub returns : goal.returns
-returns c = invented-faults-are-refused

@@ -1,7 +1,0 @@
-use Rattle.journal.specs.LegalRun.{opening_world}
-use Rattle.journal.proofs.SafeRuns.{each-none-rolled-back}
-use Rattle.journal.proofs.law.no_eject_rolled_back.Goals as goal
-
-pub returns : goal.returns
-returns c = λ layout script disks history begins. each-none-rolled-back
-    (opening_world layout script disks) script.nodes script.commands history begins

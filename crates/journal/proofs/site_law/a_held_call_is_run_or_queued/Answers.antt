@@ -1,5 +1,0 @@
-use Rattle.journal.proofs.HeldRuns.{held-calls-are-work}
-use Rattle.journal.proofs.site_law.a_held_call_is_run_or_queued.Goals as goal
-
-pub returns : goal.returns
-returns c = held-calls-are-work

@@ -1,5 +1,0 @@
-use Rattle.journal.proofs.Elsewhere.{states-stay-elsewhere}
-use Rattle.journal.proofs.site_law.an_entry_elsewhere_leaves_a_state.Goals as goal
-
-pub returns : goal.returns
-returns c = states-stay-elsewhere

@@ -1,5 +1,0 @@
-use Rattle.journal.proofs.EpochBounds.{epochs-are-bounded}
-use Rattle.journal.proofs.site_law.every_epoch_is_bounded.Goals as goal
-
-pub returns : goal.returns
-returns c = epochs-are-bounded

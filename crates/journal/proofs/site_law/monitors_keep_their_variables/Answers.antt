@@ -1,6 +1,0 @@
-use Rattle.journal.proofs.MonitorTurns.{monitors-keep-variables}
-use Rattle.journal.proofs.VariableRuns.{variables-stay}
-use Rattle.journal.proofs.site_law.monitors_keep_their_variables.Goals as goal
-
-pub returns : goal.returns
-returns c = record { turns = monitors-keep-variables; entries = variables-stay }
