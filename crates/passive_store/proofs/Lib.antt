@@ -2,6 +2,7 @@ mod Getting
 mod Jobs
 mod Ordered
 mod Pendings
+mod Settling
 mod Spelling
 mod Writing
 pub mod Changing

@@ -1,0 +1,152 @@
+-- The work of a log, told from the stage of its pending record, and the log through a call of its job or of its settling.
+use Rattle.std.proofs.Common.{◌≡◌, ℕ, Bool, true, false, IsTrue, List, refl, sym, ap, subst, ◌∙◌, inl, inr}
+use Rattle.std.specs.Prelude.{Option, Some, None, Ok, Err, nat_le}
+use Rattle.std.specs.BTreeMap.{BTreeMap}
+use Rattle.std.proofs.lemmas.Bool.{false≢true}
+use Rattle.capability.specs.declared.Uid.{Uid}
+use Rattle.eden_disk.specs.Told.{Told, contents}
+use Rattle.eden_disk.specs.Calls.{Counts, end_of}
+use Rattle.eden_disk.specs.declared.disk.DiskRefusal.{DiskRefusal}
+use Rattle.eden_disk.specs.declared.disk.DiskRefusal.TheVariants.{Failed as DiskFailed, Stopped as DiskStopped}
+use Rattle.passive_store.specs.Kept.{Change, Work, Unsettled, is_unsettled, unsynced, IsDiskRefusal, refused, end_of_store}
+use Rattle.passive_store.specs.Kept.{Idle, is_busy, calls_left, progress_at, work_advanced}
+use Rattle.passive_store.specs.declared.store.StoreRefusal.{StoreRefusal}
+use Rattle.passive_store.specs.declared.store.Progress.TheVariants.{Going, Done}
+use Rattle.passive_store.specs.declared.index.Slot.{Slot}
+use Rattle.passive_store.specs.declared.log_store.Pending.{Pending}
+use Rattle.passive_store.specs.declared.log_store.Stage.{Stage}
+use Rattle.passive_store.specs.declared.log_store.Stage.TheVariants.{Begun, Written, Synced, Opened, Ended}
+use Rattle.passive_store.specs.LogState.{pending_work, staged, stage_ended, stage_synced, change_of, IsPlaced, IsLog, IsStaged}
+use Rattle.passive_store.specs.LogState.{IsUntouched, stage_after}
+use Rattle.passive_store.proofs.Pendings.{Keeps, keeps_log, with_stage}
+
+staged_unsettled : (tail : ℕ) (bytes : List ℕ) (c : Change) (stage : Stage) → is_unsettled (staged tail bytes c stage) ≡ stage_ended stage
+staged_unsettled tail bytes c Begun = refl
+staged_unsettled tail bytes c Written = refl
+staged_unsettled tail bytes c Synced = refl
+staged_unsettled tail bytes c Opened = refl
+staged_unsettled tail bytes c (Ended synced) = refl
+
+-- whether the pending record is in doubt
+pub unsettled_pending : (tail : ℕ) (q : Option Pending) (p : Pending) → q ≡ Some p
+    → is_unsettled (pending_work tail q) ≡ stage_ended p.stage
+unsettled_pending tail q p e = ap (λ x. is_unsettled (pending_work tail x)) e
+    ∙ staged_unsettled tail p.bytes.items (change_of tail p) p.stage
+
+staged_going : (tail : ℕ) (bytes : List ℕ) (c : Change) (stage : Stage) → stage_ended stage ≡ false
+    → staged tail bytes c stage ≡ unsynced (staged tail bytes c stage)
+staged_going tail bytes c Begun going = refl
+staged_going tail bytes c Written going = refl
+staged_going tail bytes c Synced going = refl
+staged_going tail bytes c Opened going = refl
+staged_going tail bytes c (Ended synced) going = absurd (false≢true (sym going))
+
+-- a job that goes on has no sync of a settling
+pub unsynced_pending : (tail : ℕ) (q : Option Pending) (p : Pending) → q ≡ Some p → stage_ended p.stage ≡ false
+    → pending_work tail (Some p) ≡ unsynced (pending_work tail q)
+unsynced_pending tail q p e going = staged_going tail p.bytes.items (change_of tail p) p.stage going
+    ∙ ap (λ x. unsynced (pending_work tail x)) (sym e)
+
+staged_ended : (tail : ℕ) (bytes : List ℕ) (c : Change) (stage : Stage) → stage_ended stage ≡ true
+    → staged tail bytes c stage ≡ Unsettled c (stage_synced stage)
+staged_ended tail bytes c Begun over = absurd (false≢true over)
+staged_ended tail bytes c Written over = absurd (false≢true over)
+staged_ended tail bytes c Synced over = absurd (false≢true over)
+staged_ended tail bytes c Opened over = absurd (false≢true over)
+staged_ended tail bytes c (Ended synced) over = refl
+
+-- the work of a record in doubt
+pub in_doubt : (tail : ℕ) (q : Option Pending) (p : Pending) → q ≡ Some p → stage_ended p.stage ≡ true
+    → pending_work tail q ≡ Unsettled (change_of tail p) (stage_synced p.stage)
+in_doubt tail q p e over = ap (pending_work tail) e ∙ staged_ended tail p.bytes.items (change_of tail p) p.stage over
+
+-- its settling begins anew
+pub ended_pending : (tail : ℕ) (q : Option Pending) (p : Pending) → q ≡ Some p → stage_ended p.stage ≡ true
+    → Unsettled (change_of tail p) false ≡ unsynced (pending_work tail q)
+ended_pending tail q p e over = ap unsynced (sym (in_doubt tail q p e over))
+
+-- and where its sync is done, or not
+pub in_doubt_at : (tail : ℕ) (q : Option Pending) (p : Pending) (synced : Bool) → q ≡ Some p → is_unsettled (pending_work tail q) ≡ true
+    → stage_synced p.stage ≡ synced → pending_work tail q ≡ Unsettled (change_of tail p) synced
+in_doubt_at tail q p synced e unsettled at = in_doubt tail q p e (sym (unsettled_pending tail q p e) ∙ unsettled)
+    ∙ ap (Unsettled (change_of tail p)) at
+
+-- a refusal of the disk, as a store passes it on
+pub refused_only : (e : DiskRefusal) → IsDiskRefusal (refused e)
+refused_only DiskFailed = inl refl
+refused_only DiskStopped = inr refl
+
+pub refused_end : (T U : Type 0) (e : DiskRefusal) → end_of {T = T} (Err e) ≡ end_of_store {T = U} (Err (refused e))
+refused_end T U DiskFailed = refl
+refused_end T U DiskStopped = refl
+
+-- a log whose pending record has another stage behind a device call
+pub restaged_log : (tells power : Bool) (node size tail : ℕ) (old new : Told) (before after : Counts) (index : BTreeMap Uid (Option Slot))
+    (q : Option Pending) (p : Pending) (stage : Stage) → q ≡ Some p → IsPlaced size tail before index q → after.size ≡ before.size
+    → (IsTrue tells → Keeps node size tail old new before after index q p) → (IsTrue tells → IsUntouched tail (contents new) stage)
+    → (IsTrue tells → IsTrue power → IsStaged tail (contents new) (Some (with_stage p stage))) →
+    IsPlaced size tail after index (Some (with_stage p stage))
+    × (IsTrue tells → IsLog node size tail (contents new) index (Some (with_stage p stage)))
+    × (IsTrue tells → IsTrue power → IsStaged tail (contents new) (Some (with_stage p stage)))
+restaged_log tells power node size tail old new before after index q p stage e placed sized keeps untouched at =
+    let now : IsPlaced size tail before index (Some p) = subst (IsPlaced size tail before index) e placed in (
+      record { sized = sized ∙ now.sized; begins = now.begins; ends = now.ends; slots = now.slots; placed = now.placed },
+      λ told. keeps_log node size tail old new before after index q p stage (keeps told) (untouched told),
+      at,
+    )
+
+staged_next : (tail : ℕ) (bytes : List ℕ) (c : Change) (stage next : Stage) → stage_after stage ≡ Some next
+    → (staged tail bytes c next ≡ work_advanced (staged tail bytes c stage) (Ok Going))
+    × (Going ≡ progress_at (nat_le (calls_left (staged tail bytes c stage)) 1))
+staged_next tail bytes c Begun next e =
+    let is : Written ≡ next = cc in (ap (staged tail bytes c) (sym is), refl)
+staged_next tail bytes c Written next e =
+    let is : Synced ≡ next = cc in (ap (staged tail bytes c) (sym is), refl)
+staged_next tail bytes c Synced next e =
+    let is : Opened ≡ next = cc in (ap (staged tail bytes c) (sym is), refl)
+staged_next tail bytes c Opened next e = absurd cc
+staged_next tail bytes c (Ended synced) next e = absurd cc
+
+-- a call of a job, behind which it goes on
+pub next_work : (tail : ℕ) (q : Option Pending) (p : Pending) (next : Stage) → q ≡ Some p → stage_after p.stage ≡ Some next
+    → (pending_work tail (Some (with_stage p next)) ≡ work_advanced (pending_work tail q) (Ok Going))
+    × (Going ≡ progress_at (nat_le (calls_left (pending_work tail q)) 1))
+next_work tail q p next e after =
+    let staged_as = staged_next tail p.bytes.items (change_of tail p) p.stage next after in (
+      staged_as.0 ∙ ap (λ x. work_advanced (pending_work tail x) (Ok Going)) (sym e),
+      staged_as.1 ∙ ap (λ x. progress_at (nat_le (calls_left (pending_work tail x)) 1)) (sym e),
+    )
+
+staged_over : (tail : ℕ) (bytes : List ℕ) (c : Change) (stage : Stage) → stage_after stage ≡ None
+    → is_busy (staged tail bytes c stage) ≡ true →
+    (Idle ≡ work_advanced (staged tail bytes c stage) (Ok Done)) × (Done ≡ progress_at (nat_le (calls_left (staged tail bytes c stage)) 1))
+staged_over tail bytes c Begun e busy = absurd cc
+staged_over tail bytes c Written e busy = absurd cc
+staged_over tail bytes c Synced e busy = absurd cc
+staged_over tail bytes c Opened e busy = (refl, refl)
+staged_over tail bytes c (Ended synced) e busy = absurd (false≢true busy)
+
+-- the last call of a job
+pub last_work : (tail : ℕ) (q : Option Pending) (p : Pending) → q ≡ Some p → stage_after p.stage ≡ None
+    → is_busy (pending_work tail q) ≡ true →
+    (Idle ≡ work_advanced (pending_work tail q) (Ok Done)) × (Done ≡ progress_at (nat_le (calls_left (pending_work tail q)) 1))
+last_work tail q p e after busy =
+    let over = staged_over tail p.bytes.items (change_of tail p) p.stage after (ap (λ x. is_busy (pending_work tail x)) (sym e) ∙ busy) in (
+      over.0 ∙ ap (λ x. work_advanced (pending_work tail x) (Ok Done)) (sym e),
+      over.1 ∙ ap (λ x. progress_at (nat_le (calls_left (pending_work tail x)) 1)) (sym e),
+    )
+
+staged_refused : (tail : ℕ) (bytes : List ℕ) (c : Change) (stage : Stage) (refusal : StoreRefusal)
+    → is_busy (staged tail bytes c stage) ≡ true → Unsettled c false ≡ work_advanced (staged tail bytes c stage) (Err refusal)
+staged_refused tail bytes c Begun refusal busy = refl
+staged_refused tail bytes c Written refusal busy = refl
+staged_refused tail bytes c Synced refusal busy = refl
+staged_refused tail bytes c Opened refusal busy = refl
+staged_refused tail bytes c (Ended synced) refusal busy = absurd (false≢true busy)
+
+-- a call of a job that is refused
+pub refused_call_work : (tail : ℕ) (q : Option Pending) (p : Pending) (refusal : StoreRefusal) → q ≡ Some p
+    → is_busy (pending_work tail q) ≡ true → Unsettled (change_of tail p) false ≡ work_advanced (pending_work tail q) (Err refusal)
+refused_call_work tail q p refusal e busy =
+    staged_refused tail p.bytes.items (change_of tail p) p.stage refusal (ap (λ x. is_busy (pending_work tail x)) (sym e) ∙ busy)
+    ∙ ap (λ x. work_advanced (pending_work tail x) (Err refusal)) (sym e)
