@@ -1,16 +1,18 @@
 -- The work of a log, told from the stage of its pending record, and the log through a call of its job or of its settling.
 use Rattle.std.proofs.Common.{◌≡◌, ℕ, Bool, true, false, IsTrue, List, refl, sym, ap, subst, ◌∙◌, inl, inr}
-use Rattle.std.specs.Prelude.{Option, Some, None, Ok, Err, nat_le}
+use Rattle.std.specs.Prelude.{Option, Some, None, Result, Ok, Err, IfErr, ◌⊎◌, nat_le}
 use Rattle.std.specs.BTreeMap.{BTreeMap}
 use Rattle.std.proofs.lemmas.Bool.{false≢true}
 use Rattle.capability.specs.declared.Uid.{Uid}
-use Rattle.eden_disk.specs.Told.{Told, contents}
+use Rattle.eden_disk.specs.Told.{Told, contents, LeavesOnly}
 use Rattle.eden_disk.specs.Calls.{Counts, end_of}
 use Rattle.eden_disk.specs.declared.disk.DiskRefusal.{DiskRefusal}
 use Rattle.eden_disk.specs.declared.disk.DiskRefusal.TheVariants.{Failed as DiskFailed, Stopped as DiskStopped}
 use Rattle.passive_store.specs.Kept.{Change, Work, Unsettled, is_unsettled, unsynced, IsDiskRefusal, refused, end_of_store}
-use Rattle.passive_store.specs.Kept.{Idle, is_busy, calls_left, progress_at, work_advanced}
+use Rattle.passive_store.specs.Kept.{Kept, Stands, Idle, changes_in, doubt_in, is_busy, calls_left, progress_at, work_advanced}
 use Rattle.passive_store.specs.declared.store.StoreRefusal.{StoreRefusal}
+use Rattle.passive_store.specs.declared.store.StoreRefusal.TheVariants.{Full}
+use Rattle.passive_store.specs.LogLayout.{log_layout, log_changes}
 use Rattle.passive_store.specs.declared.store.Progress.TheVariants.{Going, Done}
 use Rattle.passive_store.specs.declared.index.Slot.{Slot}
 use Rattle.passive_store.specs.declared.log_store.Pending.{Pending}
@@ -150,3 +152,18 @@ pub refused_call_work : (tail : ℕ) (q : Option Pending) (p : Pending) (refusal
 refused_call_work tail q p refusal e busy =
     staged_refused tail p.bytes.items (change_of tail p) p.stage refusal (ap (λ x. is_busy (pending_work tail x)) (sym e) ∙ busy)
     ∙ ap (λ x. work_advanced (pending_work tail x) (Err refusal)) (sym e)
+
+-- what a crash leaves, where nothing that is seen of the store has changed
+pub leaves_as_before : (n m : ℕ) (s t : Kept) (w v : Work) (old new : Told) → m ≡ n → t ≡ s → v ≡ w → new ≡ old
+    → LeavesOnly (Stands log_layout n log_changes s (changes_in (doubt_in w))) (contents old)
+    → LeavesOnly (Stands log_layout m log_changes t (changes_in (doubt_in v))) (contents new)
+leaves_as_before n m s t w v old new nodes kept works told leaves =
+    subst (λ x. LeavesOnly (Stands log_layout m log_changes t (changes_in (doubt_in v))) (contents x)) (sym told)
+    (subst (λ x. LeavesOnly (Stands log_layout m log_changes t (changes_in (doubt_in x))) (contents old)) (sym works)
+    (subst (λ (x : Kept). LeavesOnly (Stands log_layout m log_changes x (changes_in (doubt_in w))) (contents old)) (sym kept)
+    (subst (λ x. LeavesOnly (Stands log_layout x log_changes s (changes_in (doubt_in w))) (contents old)) (sym nodes) leaves)))
+
+-- a refusal that only the disk makes
+pub disk_or_full : (T : Type 0) (r : Result T StoreRefusal) → IfErr r IsDiskRefusal → IfErr r (λ e. IsDiskRefusal e ⊎ (e ≡ Full))
+disk_or_full T (Ok done) only = tt
+disk_or_full T (Err e) only = inl only
