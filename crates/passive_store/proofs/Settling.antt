@@ -1,6 +1,6 @@
 -- The work of a log, told from the stage of its pending record, and the log through a call of its job or of its settling.
 use Rattle.std.proofs.Common.{◌≡◌, ℕ, Bool, true, false, IsTrue, List, refl, sym, ap, subst, ◌∙◌, inl, inr}
-use Rattle.std.specs.Prelude.{Option, Some, None, Result, Ok, Err, IfErr, ◌⊎◌, nat_le}
+use Rattle.std.specs.Prelude.{Option, Some, None, Result, Ok, Err, IfErr, ◌⊎◌, is_some, nat_le}
 use Rattle.std.specs.BTreeMap.{BTreeMap}
 use Rattle.std.proofs.lemmas.Bool.{false≢true}
 use Rattle.capability.specs.declared.Uid.{Uid}
@@ -167,3 +167,8 @@ leaves_as_before n m s t w v old new nodes kept works told leaves =
 pub disk_or_full : (T : Type 0) (r : Result T StoreRefusal) → IfErr r IsDiskRefusal → IfErr r (λ e. IsDiskRefusal e ⊎ (e ≡ Full))
 disk_or_full T (Ok done) only = tt
 disk_or_full T (Err e) only = inl only
+
+-- what is not there
+pub none_there : {A : Type 0} (x : Option A) → is_some x ≡ false → x ≡ None
+none_there None e = refl
+none_there (Some a) e = absurd (false≢true (sym e))

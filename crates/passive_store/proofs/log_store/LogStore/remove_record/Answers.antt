@@ -5,7 +5,7 @@ use Rattle.std.specs.Prelude.{is_some, Err}
 use Rattle.std.proofs.lemmas.Result.{err_from_is_err_and}
 use Rattle.eden_disk.specs.Told.{contents, EachMoment}
 use Rattle.eden_disk.proofs.Held.{moments_join, moments_weaker, obeyed_more}
-use Rattle.eden_disk.specs.Calls.{End, DeviceCalls, Obeyed}
+use Rattle.eden_disk.specs.Calls.{End, Fine, DeviceCalls, Obeyed}
 use Rattle.passive_store.specs.Kept.{Kept, Change, settling_of, job_left, end_of_store, changes_begun, Busy, Stands, Ran, changes_in}
 use Rattle.passive_store.specs.Kept.{change_in, doubt_in, settled, settling_calls, calls_left, work_finished, kept_finished}
 use Rattle.passive_store.specs.Kept.{work_changed, kept_changed, IsAnyOf, body_at}
@@ -18,7 +18,8 @@ use Rattle.passive_store.specs.declared.store.StoreRefusal.TheVariants.{Full}
 use Rattle.passive_store.proofs.Joining.{as_before, stands_weaker, none_refused, settled_now, calls_told_more}
 use Rattle.passive_store.proofs.Changing.{fresh_settled, fresh_idle, fresh_finished, unchanged_work, begun_order, settling_order}
 use Rattle.passive_store.proofs.Changing.{moments_more, begun_moments, settled_then, idle_then, work_then, shown_then, match_disk}
-use Rattle.passive_store.proofs.Changing.{refused_more, full_ran, done_ran, room_had}
+use Rattle.passive_store.proofs.Changing.{refused_more, full_ran, done_ran, room_had, first_refused, first_settled}
+use Rattle.passive_store.proofs.Settling.{leaves_as_before, disk_or_full, none_there}
 use Rattle.passive_store.proofs.log_store.LogStore.remove_record.Goals as goal
 
 pub returns-in_err-start-clause-changes : goal.returns-in_err-start-clause-changes
@@ -188,3 +189,103 @@ returns-clause-obeyed g c = λ so.
     obeyed_more e.ran.made f.ran.made _ _ _ _ _ _ end e.ran.counts
     (subst (λ d. DeviceCalls f.ran.made (g.D.Disk.counts d) (g.D.Disk.counts last) end) began f.ran.counts) (e.obeyed so)
     (subst (λ d. Obeyed (g.D.Disk.due d) (g.D.Disk.due last) (g.D.Disk.counts d) (g.D.Disk.counts last) end) began (f.goes.obeyed so))
+
+pub returns-in_err-settle_log-clause-node : goal.returns-in_err-settle_log-clause-node
+returns-in_err-settle_log-clause-node g c = c.in_err-settle_log.ensures.node
+
+pub returns-in_err-settle_log-clause-obeyed : goal.returns-in_err-settle_log-clause-obeyed
+returns-in_err-settle_log-clause-obeyed g c =
+    let p = err_from_is_err_and c.from_residual.result c.from_residual.ensures.1 in
+    rw (p.1, p.2) (λ so. c.in_err-settle_log.ensures.obeyed so)
+
+pub returns-in_err-settle_log-clause-timed : goal.returns-in_err-settle_log-clause-timed
+returns-in_err-settle_log-clause-timed g c = λ tells. c.in_err-settle_log.ensures.timed tells
+
+pub returns-in_err-settle_log-clause-picked : goal.returns-in_err-settle_log-clause-picked
+returns-in_err-settle_log-clause-picked g c =
+    let p = err_from_is_err_and c.from_residual.result c.from_residual.ensures.1 in
+    rw (p.1, p.2) (first_refused (Unit {0}) _ c.args.self.now.work _ c.in_err-settle_log.ensures.only c.in_err-settle_log.ensures.picked)
+
+pub returns-in_err-settle_log-clause-undamaged : goal.returns-in_err-settle_log-clause-undamaged
+returns-in_err-settle_log-clause-undamaged g c =
+    let p = err_from_is_err_and c.from_residual.result c.from_residual.ensures.1 in
+    rw (p.1, p.2) (inl c.in_err-settle_log.ensures.only)
+
+pub returns-in_err-settle_log-clause-stands : goal.returns-in_err-settle_log-clause-stands
+returns-in_err-settle_log-clause-stands g c = λ tells. c.in_err-settle_log.ensures.stands tells
+
+pub returns-in_err-start-clause-node : goal.returns-in_err-start-clause-node
+returns-in_err-start-clause-node g c = c.in_err-start.ensures.node ∙ c.in_ok-settle_log.ensures.node
+
+pub returns-in_err-start-clause-obeyed : goal.returns-in_err-start-clause-obeyed
+returns-in_err-start-clause-obeyed g c =
+    let p = err_from_is_err_and c.from_residual-in_err-start.result c.from_residual-in_err-start.ensures.1 in
+    let old = c.args.self.now.device in
+    rw (p.1, p.2, c.in_err-start.ensures.only) (λ so.
+    subst (λ d. Obeyed (g.D.Disk.due old) (g.D.Disk.due d) (g.D.Disk.counts old) (g.D.Disk.counts d) Fine)
+    (sym c.in_err-start.ensures.device) (c.in_ok-settle_log.ensures.obeyed so))
+
+pub returns-in_err-start-clause-timed : goal.returns-in_err-start-clause-timed
+returns-in_err-start-clause-timed g c = λ tells.
+    let old = c.args.self.now.device in
+    subst (λ d. Timed (g.D.Disk.counts old).clock (g.D.Disk.told old) (g.D.Disk.counts d).clock (g.D.Disk.told d))
+    (sym c.in_err-start.ensures.device) (c.in_ok-settle_log.ensures.timed tells)
+
+pub returns-in_err-start-clause-picked : goal.returns-in_err-start-clause-picked
+returns-in_err-start-clause-picked g c =
+    let p = err_from_is_err_and c.from_residual-in_err-start.result c.from_residual-in_err-start.ensures.1 in
+    rw (p.1, p.2, c.in_err-start.ensures.only) (ap is_some c.in_err-start.ensures.picked ∙ c.in_ok-settle_log.ensures.picked)
+
+pub returns-in_err-start-clause-undamaged : goal.returns-in_err-start-clause-undamaged
+returns-in_err-start-clause-undamaged g c =
+    let p = err_from_is_err_and c.from_residual-in_err-start.result c.from_residual-in_err-start.ensures.1 in
+    rw (p.1, p.2, c.in_err-start.ensures.only) (inr refl)
+
+pub returns-in_err-start-clause-stands : goal.returns-in_err-start-clause-stands
+returns-in_err-start-clause-stands g c = λ tells.
+    leaves_as_before c.settle_log.new.self.node c.start.new.self.node (state_kept g.D.Disk.told c.settle_log.new.self)
+    (state_kept g.D.Disk.told c.start.new.self) c.settle_log.new.self.work c.start.new.self.work _ _ c.in_err-start.ensures.node
+    (c.in_err-start.ensures.kept tells) c.in_err-start.ensures.work (ap g.D.Disk.told c.in_err-start.ensures.device)
+    (c.in_ok-settle_log.ensures.stands tells)
+
+pub returns-clause-node : goal.returns-clause-node
+returns-clause-node g c = c.finish_job.ensures.goes.node ∙ c.in_ok-start.ensures.node ∙ c.in_ok-settle_log.ensures.node
+
+pub returns-clause-picked : goal.returns-clause-picked
+returns-clause-picked g c = first_settled _ c.args.self.now.work c.finish_job.result
+    (match_disk c.finish_job.result c.finish_job.ensures.only)
+    (ap is_some (c.finish_job.ensures.picked ∙ c.in_ok-start.ensures.picked) ∙ c.in_ok-settle_log.ensures.picked)
+
+pub returns-clause-undamaged : goal.returns-clause-undamaged
+returns-clause-undamaged g c = disk_or_full (Unit {0}) c.finish_job.result c.finish_job.ensures.only
+
+pub returns-clause-stands : goal.returns-clause-stands
+returns-clause-stands g c = λ tells. c.finish_job.ensures.goes.stands tells
+
+pub returns-then-not-is_kept : goal.returns-then-not-is_kept
+returns-then-not-is_kept g c =
+    let w = c.args.self.now.work in
+    let settled_ok = c.in_ok-settle_log.ensures in
+    record {
+      node = settled_ok.node;
+      changes = inl (
+        record {
+          ran = settled_ok.ran;
+          order = λ tells. settled_ok.order tells;
+          work = settled_ok.work;
+          kept = λ tells. settled_ok.kept tells;
+          moments = λ tells. settled_ok.moments tells;
+        },
+        tt,
+        λ tells. ap (λ (x : Kept). body_at x c.args.uid) (sym (settled_ok.kept tells))
+            ∙ none_there (body_at (state_kept g.D.Disk.told c.settle_log.new.self) c.args.uid)
+            (sym (c.is_kept.ensures tells) ∙ c.if-not-is_kept.true),
+      );
+      obeyed = λ so. settled_ok.obeyed so;
+      timed = λ tells. settled_ok.timed tells;
+      picked = settled_ok.picked;
+      undamaged = tt;
+      fresh = λ tells. fresh_settled _ w _ (state_kept g.D.Disk.told c.args.self.now) _ settled_ok.work (settled_ok.kept tells)
+          (settled_ok.fresh tells);
+      stands = λ tells. settled_ok.stands tells;
+    }
