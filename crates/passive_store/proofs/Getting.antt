@@ -118,11 +118,16 @@ refused_read T U DiskFailed before after d =
 refused_read T U DiskStopped before after d =
     record { made = 1; number = (omega arith, omega arith); counts = calls_one before after AtStop d }
 
--- nothing is read where the index has no slot, and one read is made where it has one
+-- nothing is kept where the index has no slot
+pub body_none : (index : BTreeMap Uid (Option Slot)) (kept : Kept) (tail : ℕ) (bytes : List ℕ) (uid : Uid)
+    → IsIndex index kept tail bytes → slot_at index uid ≡ None → finite.get kept.bodies uid ≡ None
+body_none index kept tail bytes uid i none = i.bodies uid
+    ∙ ap (option_map (λ (s : Slot). slice_range bytes (s.gate + 15) (s.gate + 15 + s.length))) none
+
+-- nothing is read there, and one read is made where it has one
 pub reads_none : (index : BTreeMap Uid (Option Slot)) (kept : Kept) (tail : ℕ) (bytes : List ℕ) (uid : Uid)
     → IsIndex index kept tail bytes → slot_at index uid ≡ None → reads_for (finite.get kept.bodies uid) ≡ 0
-reads_none index kept tail bytes uid i none = ap reads_for
-    (i.bodies uid ∙ ap (option_map (λ (s : Slot). slice_range bytes (s.gate + 15) (s.gate + 15 + s.length))) none)
+reads_none index kept tail bytes uid i none = ap reads_for (body_none index kept tail bytes uid i none)
 
 pub reads_some : (index : BTreeMap Uid (Option Slot)) (kept : Kept) (tail : ℕ) (bytes : List ℕ) (uid : Uid) (slot : Slot)
     → IsIndex index kept tail bytes → slot_at index uid ≡ Some slot →

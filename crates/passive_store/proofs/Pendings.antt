@@ -558,23 +558,33 @@ stands_at node size tail c counts index q r e placed l =
     subst (λ x. LeavesOnly (Stands log_layout node log_changes (kept_from nothing_kept (records_before node tail c.now))
     (changes_in (doubt_in (pending_work tail x)))) c) e (log_stands node size tail c counts index q placed l)
 
-pub stands_anew : (node size tail : ℕ) (c : Contents) (counts : Counts) (index : BTreeMap Uid (Option Slot)) (q : Option Pending)
-    (p : Pending) → q ≡ Some p → IsPlaced size tail counts index q → IsLog node size tail c index q →
-    LeavesOnly (Stands log_layout node log_changes (kept_from nothing_kept (records_before node tail c.now))
-    (changes_in (doubt_in (pending_work tail (Some (with_stage p (Ended false))))))) c
-stands_anew node size tail c counts index q p e placed l =
-    let pp : IsPlaced size tail counts index (Some p) = subst (IsPlaced size tail counts index) e placed in
+-- the log of a record in doubt, whose settling begins anew
+pub anew_log : (node size tail : ℕ) (c : Contents) (index : BTreeMap Uid (Option Slot)) (q : Option Pending) (p : Pending) → q ≡ Some p
+    → IsLog node size tail c index q → IsLog node size tail c index (Some (with_stage p (Ended false)))
+anew_log node size tail c index q p e l =
     let lp : IsLog node size tail c index (Some p) = subst (IsLog node size tail c index) e l in
-    log_stands node size tail c counts index (Some (with_stage p (Ended false)))
-    (record { sized = pp.sized; begins = pp.begins; ends = pp.ends; slots = pp.slots; placed = pp.placed })
-    (record {
+    record {
       whole = lp.whole;
       header = lp.header;
       front = lp.front;
       indexed = lp.indexed;
       sum = lp.sum;
       end = (lp.end.0, restaged node tail (kept_from nothing_kept (records_before node tail c.now)) p (Ended false) lp.end.1, tt);
-    })
+    }
+
+pub anew_placed : (size tail : ℕ) (counts : Counts) (index : BTreeMap Uid (Option Slot)) (q : Option Pending) (p : Pending) → q ≡ Some p
+    → IsPlaced size tail counts index q → IsPlaced size tail counts index (Some (with_stage p (Ended false)))
+anew_placed size tail counts index q p e placed =
+    let pp : IsPlaced size tail counts index (Some p) = subst (IsPlaced size tail counts index) e placed in
+    record { sized = pp.sized; begins = pp.begins; ends = pp.ends; slots = pp.slots; placed = pp.placed }
+
+pub stands_anew : (node size tail : ℕ) (c : Contents) (counts : Counts) (index : BTreeMap Uid (Option Slot)) (q : Option Pending)
+    (p : Pending) → q ≡ Some p → IsPlaced size tail counts index q → IsLog node size tail c index q →
+    LeavesOnly (Stands log_layout node log_changes (kept_from nothing_kept (records_before node tail c.now))
+    (changes_in (doubt_in (pending_work tail (Some (with_stage p (Ended false))))))) c
+stands_anew node size tail c counts index q p e placed l =
+    log_stands node size tail c counts index (Some (with_stage p (Ended false))) (anew_placed size tail counts index q p e placed)
+    (anew_log node size tail c index q p e l)
 
 pub anew_doubt : (w v : Work) → v ≡ unsynced w → doubt_in v ≡ doubt_in w
 anew_doubt Idle v e = ap doubt_in e

@@ -1,15 +1,22 @@
 -- The work of a log, told from the stage of its pending record, and the log through a call of its job or of its settling.
 use Rattle.std.proofs.Common.{◌≡◌, ℕ, Bool, true, false, IsTrue, List, refl, sym, ap, subst, ◌∙◌, inl, inr}
-use Rattle.std.specs.Prelude.{Option, Some, None, Result, Ok, Err, IfErr, ◌⊎◌, is_some, nat_le}
+use Rattle.std.specs.Prelude.{Option, Some, None, Result, Ok, Err, IfErr, OnErr, IfSome, ◌⊎◌, ◌&&◌, is_some, is_ok, nat_le}
 use Rattle.std.specs.BTreeMap.{BTreeMap}
 use Rattle.std.proofs.lemmas.Bool.{false≢true}
 use Rattle.capability.specs.declared.Uid.{Uid}
-use Rattle.eden_disk.specs.Told.{Told, contents, LeavesOnly}
-use Rattle.eden_disk.specs.Calls.{Counts, end_of}
+use Rattle.eden_disk.specs.Told.{Told, contents, LeavesOnly, EachMoment}
+use Rattle.eden_disk.specs.Calls.{Counts, Obeyed, end_of}
+use Rattle.eden_disk.specs.Timed.{Timed}
 use Rattle.eden_disk.specs.declared.disk.DiskRefusal.{DiskRefusal}
 use Rattle.eden_disk.specs.declared.disk.DiskRefusal.TheVariants.{Failed as DiskFailed, Stopped as DiskStopped}
 use Rattle.passive_store.specs.Kept.{Change, Work, Unsettled, is_unsettled, unsynced, IsDiskRefusal, refused, end_of_store}
-use Rattle.passive_store.specs.Kept.{Kept, Stands, Idle, changes_in, doubt_in, is_busy, calls_left, progress_at, work_advanced}
+use Rattle.passive_store.specs.Kept.{Kept, Stands, Idle, Busy, changes_in, doubt_in, is_busy, calls_left, progress_at, work_advanced}
+use Rattle.passive_store.specs.Kept.{IsFresh, Ran, settled, settling_calls, settling_of, work_settled}
+use Rattle.passive_store.specs.Acts.{CallsTold}
+use Rattle.passive_store.specs.Seen.{Seen, DiskSeen, Settled}
+use Rattle.passive_store.specs.declared.store.Pick.{Pick}
+use Rattle.passive_store.specs.declared.store.Pick.TheVariants.{Old, New}
+use Rattle.passive_store.proofs.Joining.{as_before}
 use Rattle.passive_store.specs.declared.store.StoreRefusal.{StoreRefusal}
 use Rattle.passive_store.specs.declared.store.StoreRefusal.TheVariants.{Full}
 use Rattle.passive_store.specs.LogLayout.{log_layout, log_changes}
@@ -81,6 +88,18 @@ refused_only DiskStopped = inr refl
 pub refused_end : (T U : Type 0) (e : DiskRefusal) → end_of {T = T} (Err e) ≡ end_of_store {T = U} (Err (refused e))
 refused_end T U DiskFailed = refl
 refused_end T U DiskStopped = refl
+
+-- a log whose pending record is as it was
+pub same_pending : (tells power : Bool) (node size tail : ℕ) (told : Told) (counts : Counts) (index : BTreeMap Uid (Option Slot))
+    (q r : Option Pending) → q ≡ r → IsPlaced size tail counts index q → (IsTrue tells → IsLog node size tail (contents told) index q)
+    → (IsTrue tells → IsTrue power → IsStaged tail (contents told) q) →
+    IsPlaced size tail counts index r × (IsTrue tells → IsLog node size tail (contents told) index r)
+    × (IsTrue tells → IsTrue power → IsStaged tail (contents told) r)
+same_pending tells power node size tail told counts index q r e placed log at = (
+  subst (IsPlaced size tail counts index) e placed,
+  λ so. subst (IsLog node size tail (contents told) index) e (log so),
+  λ so on. subst (IsStaged tail (contents told)) e (at so on),
+)
 
 -- a log whose pending record has another stage behind a device call
 pub restaged_log : (tells power : Bool) (node size tail : ℕ) (old new : Told) (before after : Counts) (index : BTreeMap Uid (Option Slot))
@@ -172,3 +191,57 @@ disk_or_full T (Err e) only = inl only
 pub none_there : {A : Type 0} (x : Option A) → is_some x ≡ false → x ≡ None
 none_there None e = refl
 none_there (Some a) e = absurd (false≢true (sym e))
+
+-- A settling that begins anew is settled as the one before it.
+anew_same : {A : Type 0} (f : Work → A) (w v : Work) → ((c : Change) (synced : Bool) → f (Unsettled c false) ≡ f (Unsettled c synced))
+    → v ≡ unsynced w → f v ≡ f w
+anew_same f Idle v same e = ap f e
+anew_same f (Busy c made left) v same e = ap f e
+anew_same f (Unsettled c synced) v same e = ap f e ∙ same c synced
+
+settled_same : (pick : Option Pick) (kept : Kept) (c : Change) (synced : Bool)
+    → settled pick (Unsettled c false) kept ≡ settled pick (Unsettled c synced) kept
+settled_same None kept c synced = refl
+settled_same (Some Old) kept c synced = refl
+settled_same (Some New) kept c synced = refl
+
+work_same : (pick : Option Pick) (c : Change) (synced : Bool)
+    → work_settled pick (Unsettled c false) ≡ work_settled pick (Unsettled c synced)
+work_same None c synced = refl
+work_same (Some pick) c synced = refl
+
+pub settled_anew : (tells obeys : Bool) (r : Result (Unit {0}) StoreRefusal) (old begun new : Seen) → begun.node ≡ old.node
+    → begun.disk ≡ old.disk → begun.more ≡ old.more → begun.refused_at ≡ old.refused_at → (IsTrue tells → begun.kept ≡ old.kept)
+    → begun.work ≡ unsynced old.work → (IsTrue tells → IfSome (doubt_in old.work) (λ c. IsFresh c old.kept)) →
+    Settled tells obeys log_layout r begun new → Settled tells obeys log_layout r old new
+settled_anew tells obeys r old begun new nodes disk mores ats kept work fresh s =
+    let doubts : doubt_in begun.work ≡ doubt_in old.work = anew_same doubt_in old.work begun.work (λ c synced. refl) work in
+    let unsettled : is_unsettled begun.work ≡ is_unsettled old.work =
+    anew_same is_unsettled old.work begun.work (λ c synced. refl) work in
+    record {
+      goes = record {
+        node = s.goes.node ∙ nodes;
+        obeyed = λ so. subst (λ (d : DiskSeen). Obeyed d.due new.disk.due d.counts new.disk.counts (end_of_store r)) disk (s.goes.obeyed so);
+        timed = λ so. subst (λ (d : DiskSeen). Timed d.counts.clock d.told new.disk.counts.clock new.disk.told) disk (s.goes.timed so);
+        stands = s.goes.stands;
+      };
+      only = s.only;
+      refused = subst (λ b. OnErr r (IsTrue b)) unsettled s.refused;
+      ran = subst (λ (d : DiskSeen). Ran (settling_calls old.work) 0 r d.counts new.disk.counts) disk
+          (subst (λ n. Ran n 0 r begun.disk.counts new.disk.counts)
+          (anew_same settling_calls old.work begun.work (λ c synced. refl) work) s.ran);
+      order = λ so. subst (λ (d : DiskSeen). CallsTold (settling_of old.work) d.told new.disk.told (end_of_store r)) disk
+          (subst (λ l. CallsTold l begun.disk.told new.disk.told (end_of_store r))
+          (anew_same settling_of old.work begun.work (λ c synced. refl) work) (s.order so));
+      work = s.work ∙ anew_same (work_settled new.picked) old.work begun.work (work_same new.picked) work;
+      picked = subst (λ b. is_some new.picked ≡ (is_ok r && b)) unsettled s.picked;
+      more = s.more ∙ mores;
+      at = s.at ∙ ats;
+      kept = λ so. s.kept so ∙ anew_same (λ w. settled new.picked w begun.kept) old.work begun.work (settled_same new.picked begun.kept) work
+          ∙ ap (settled new.picked old.work) (kept so);
+      fresh = fresh;
+      moments = λ so. subst (λ (d : DiskSeen). EachMoment (Stands log_layout old.node old.more old.kept (changes_in (doubt_in old.work)))
+          d.told new.disk.told) disk
+          (as_before log_layout old.node begun.node old.more begun.more old.kept begun.kept (doubt_in old.work) (doubt_in begun.work)
+          begun.disk.told new.disk.told nodes mores (kept so) doubts (s.moments so));
+    }

@@ -79,11 +79,7 @@ fn parse_header(fields: &[u8], node: u8, left: u32) -> Option<Header>
         serial: number_at(fields, 9),
     };
     let kind = fields[13];
-    let fits = length as u64 + 15 <= left as u64;
-    let known_kind = kind == VALUE || kind == DELETED && length == 0;
-    let reserved = uid.epoch == 0 && uid.serial == 0 && kind == VALUE && length == 4;
-    let eject = uid.epoch != 0 && uid.serial != 0;
-    if fits && length <= BODY_LIMIT && known_kind && uid.node == node && (reserved || eject) {
+    if length as u64 + 15 <= left as u64 && are_of_format(node, length, uid, kind) {
         Some(Header {
             uid,
             removal: kind != VALUE,
@@ -92,6 +88,17 @@ fn parse_header(fields: &[u8], node: u8, left: u32) -> Option<Header>
     } else {
         None
     }
+}
+
+/// Whether the fields of a record are of the format.
+fn are_of_format(node: u8, length: u32, uid: Uid, kind: u8) -> bool
+    ensures format { result ≡ are_fields node length uid kind }
+    ensures limit { IsTrue result → length ≤ 262144 }
+{
+    let known_kind = kind == VALUE || kind == DELETED && length == 0;
+    let reserved = uid.epoch == 0 && uid.serial == 0 && kind == VALUE && length == 4;
+    let eject = uid.epoch != 0 && uid.serial != 0;
+    length <= BODY_LIMIT && known_kind && uid.node == node && (reserved || eject)
 }
 
 /// Reads the place of a record of a log in the first `size` bytes of a disk: its header, or None where its gate is closed.

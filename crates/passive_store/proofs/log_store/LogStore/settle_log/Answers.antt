@@ -1,119 +1,184 @@
-use Rattle.std.proofs.Common.{◌≡◌, refl, sym, subst, ◌∙◌, arith}
+use Rattle.std.proofs.Common.{◌≡◌, true, refl, sym, ap, subst, ◌∙◌}
+use Rattle.std.specs.Prelude.{Ok, Err}
 use Rattle.std.proofs.lemmas.Result.{err_from_is_err_and}
-use Rattle.eden_disk.specs.Told.{EachMoment}
-use Rattle.eden_disk.proofs.Timed.{timed_join}
-use Rattle.eden_disk.proofs.Held.{moments_join, calls_more}
-use Rattle.passive_store.specs.declared.store.Progress.{Progress}
-use Rattle.passive_store.specs.Kept.{Kept, Stands, changes_in, doubt_in}
-use Rattle.passive_store.specs.LogLayout.{log_layout, log_changes}
-use Rattle.passive_store.specs.LogState.{state_kept}
-use Rattle.passive_store.proofs.Joining.{sync_was_refused, read_was_refused, both_were_made, has_synced, as_before, sync_keeps}
-use Rattle.passive_store.proofs.Joining.{none_settled, refused_ran}
-use Rattle.passive_store.proofs.Pendings.{anew_unsettled, anew_doubt, two_calls}
+use Rattle.passive_store.specs.Kept.{is_unsettled}
+use Rattle.passive_store.specs.LogLayout.{log_layout}
+use Rattle.passive_store.specs.LogState.{log_seen, HasEntry}
+use Rattle.passive_store.specs.Seen.{Seen, SettlesOneCall, disk_seen}
+use Rattle.passive_store.proofs.Joining.{sync_refused, read_refused, both_settled}
+use Rattle.passive_store.proofs.Pendings.{anew_unsettled}
+use Rattle.passive_store.proofs.Settling.{settled_anew}
 use Rattle.passive_store.proofs.log_store.LogStore.settle_log.Goals as goal
 
-pub returns-in_err-settle_once-2-clause-moments : goal.returns-in_err-settle_once-2-clause-moments
-returns-in_err-settle_once-2-clause-moments g c = λ tells.
-    let w = c.args.self.now.work in
-    let s0 : Kept = state_kept g.D.Disk.told c.args.self.now in
-    let sb : Kept = state_kept g.D.Disk.told c.begin_settling.new.self in
-    let s1 : Kept = state_kept g.D.Disk.told c.settle_once.new.self in
-    let u = anew_unsettled w c.begin_settling.new.self.work c.begin_settling.ensures.work
-    (sym c.begin_settling.ensures.unsettled ∙ c.if-begin_settling.true) in
-    let doubt_b : doubt_in c.begin_settling.new.self.work ≡ doubt_in w =
-    anew_doubt w c.begin_settling.new.self.work c.begin_settling.ensures.work in
-    let doubt_1 : doubt_in c.settle_once.new.self.work ≡ doubt_in c.begin_settling.new.self.work =
-    sync_keeps _ _ _ u.0 u.1 c.in_ok-settle_once.ensures.last c.in_ok-settle_once.ensures.work in
-    let kept_1 : s1 ≡ sb = none_settled _ _ sb s1 c.in_ok-settle_once.ensures.picked u.1 (c.in_ok-settle_once.ensures.kept tells) in
-    moments_join (Stands log_layout c.args.self.now.node log_changes s0 (changes_in (doubt_in w))) (g.D.Disk.told c.args.self.now.device)
-    (g.D.Disk.told c.settle_once.new.self.device) (g.D.Disk.told c.settle_once-then-begin_settling.new.self.device)
-    (subst (λ d. EachMoment (Stands log_layout c.args.self.now.node log_changes s0 (changes_in (doubt_in w))) (g.D.Disk.told d)
-    (g.D.Disk.told c.settle_once.new.self.device)) c.begin_settling.ensures.device
-    (as_before log_layout c.args.self.now.node c.begin_settling.new.self.node log_changes log_changes s0 sb (doubt_in w)
-    (doubt_in c.begin_settling.new.self.work) _ _ c.begin_settling.ensures.node refl (c.begin_settling.ensures.kept tells) doubt_b
-    (c.in_ok-settle_once.ensures.moments tells)))
-    (as_before log_layout c.args.self.now.node c.settle_once.new.self.node log_changes log_changes s0 s1 (doubt_in w)
-    (doubt_in c.settle_once.new.self.work) _ _ (c.in_ok-settle_once.ensures.node ∙ c.begin_settling.ensures.node) refl
-    (kept_1 ∙ c.begin_settling.ensures.kept tells) (doubt_1 ∙ doubt_b) (c.in_err-settle_once-2.ensures.moments tells))
-
-pub returns-in_ok-settle_once-2-clause-moments : goal.returns-in_ok-settle_once-2-clause-moments
-returns-in_ok-settle_once-2-clause-moments g c = λ tells.
-    let w = c.args.self.now.work in
-    let s0 : Kept = state_kept g.D.Disk.told c.args.self.now in
-    let sb : Kept = state_kept g.D.Disk.told c.begin_settling.new.self in
-    let s1 : Kept = state_kept g.D.Disk.told c.settle_once.new.self in
-    let u = anew_unsettled w c.begin_settling.new.self.work c.begin_settling.ensures.work
-    (sym c.begin_settling.ensures.unsettled ∙ c.if-begin_settling.true) in
-    let doubt_b : doubt_in c.begin_settling.new.self.work ≡ doubt_in w =
-    anew_doubt w c.begin_settling.new.self.work c.begin_settling.ensures.work in
-    let doubt_1 : doubt_in c.settle_once.new.self.work ≡ doubt_in c.begin_settling.new.self.work =
-    sync_keeps _ _ _ u.0 u.1 c.in_ok-settle_once.ensures.last c.in_ok-settle_once.ensures.work in
-    let kept_1 : s1 ≡ sb = none_settled _ _ sb s1 c.in_ok-settle_once.ensures.picked u.1 (c.in_ok-settle_once.ensures.kept tells) in
-    moments_join (Stands log_layout c.args.self.now.node log_changes s0 (changes_in (doubt_in w))) (g.D.Disk.told c.args.self.now.device)
-    (g.D.Disk.told c.settle_once.new.self.device) (g.D.Disk.told c.settle_once-then-begin_settling.new.self.device)
-    (subst (λ d. EachMoment (Stands log_layout c.args.self.now.node log_changes s0 (changes_in (doubt_in w))) (g.D.Disk.told d)
-    (g.D.Disk.told c.settle_once.new.self.device)) c.begin_settling.ensures.device
-    (as_before log_layout c.args.self.now.node c.begin_settling.new.self.node log_changes log_changes s0 sb (doubt_in w)
-    (doubt_in c.begin_settling.new.self.work) _ _ c.begin_settling.ensures.node refl (c.begin_settling.ensures.kept tells) doubt_b
-    (c.in_ok-settle_once.ensures.moments tells)))
-    (as_before log_layout c.args.self.now.node c.settle_once.new.self.node log_changes log_changes s0 s1 (doubt_in w)
-    (doubt_in c.settle_once.new.self.work) _ _ (c.in_ok-settle_once.ensures.node ∙ c.begin_settling.ensures.node) refl
-    (kept_1 ∙ c.begin_settling.ensures.kept tells) (doubt_1 ∙ doubt_b) (c.in_ok-settle_once-2.ensures.moments tells))
-
-pub returns-in_err-settle_once-2-clause-ran : goal.returns-in_err-settle_once-2-clause-ran
-returns-in_err-settle_once-2-clause-ran g c =
-    let p = err_from_is_err_and c.from_residual-in_err-settle_once-2.result c.from_residual-in_err-settle_once-2.ensures.1 in
-    let two = two_calls c.args.self.now.work (sym c.begin_settling.ensures.unsettled ∙ c.if-begin_settling.true) in
-    rw (p.1, p.2, two, ← c.begin_settling.ensures.device)
-    (refused_ran Progress (Unit {0}) 2 0 2 _ _ _ c.in_err-settle_once-2.ensures.only (omega arith) (omega arith)
-    (calls_more 1 1 _ _ _ _ c.in_ok-settle_once.ensures.counts c.in_err-settle_once-2.ensures.counts))
-
-pub returns-in_ok-settle_once-2-clause-ran : goal.returns-in_ok-settle_once-2-clause-ran
-returns-in_ok-settle_once-2-clause-ran g c =
-    let two = two_calls c.args.self.now.work (sym c.begin_settling.ensures.unsettled ∙ c.if-begin_settling.true) in
-    rw (two, ← c.begin_settling.ensures.device)
-    (record {
-      made = 2;
-      number = refl;
-      counts =
-          calls_more 1 1 _ _ _ _ c.in_ok-settle_once.ensures.counts c.in_ok-settle_once-2.ensures.counts;
+pub returns-in_err-settle_once : goal.returns-in_err-settle_once
+returns-in_err-settle_once g c =
+    let seen = log_seen g.D.Disk.counts g.D.Disk.told g.D.Disk.due in
+    let old : Seen = seen c.args.self.now in
+    let begun : Seen = seen c.begin_settling.new.self in
+    let mid : Seen = seen c.settle_once.new.self in
+    let p = err_from_is_err_and c.from_residual.result c.from_residual.ensures.1 in
+    let begin = c.begin_settling.ensures in
+    let unsettled : is_unsettled old.work ≡ true = sym begin.unsettled ∙ c.if-begin_settling.true in
+    let u = anew_unsettled old.work begun.work begin.work unsettled in
+    let first : SettlesOneCall g.D.Disk.tells g.D.Disk.obeys log_layout (Err _) begun mid =
+    let e = c.in_err-settle_once.ensures in
+    record {
+      goes = record { node = e.node; obeyed = e.obeyed; timed = e.timed; stands = e.stands };
+      only = e.only;
+      counts = e.counts;
+      last = e.last;
+      told = e.told;
+      work = e.work;
+      picked = e.picked;
+      more = refl;
+      at = refl;
+      kept = e.kept;
+      fresh = e.fresh;
+      moments = e.moments;
+    } in
+    let s = settled_anew g.D.Disk.tells g.D.Disk.obeys _ old begun mid begin.node
+    (ap (disk_seen g.D.Disk.counts g.D.Disk.told g.D.Disk.due) begin.device) refl refl begin.kept begin.work begin.fresh
+    (sync_refused _ _ log_layout begun mid _ u.0 u.1 first) in
+    rw (p.1, p.2) (record {
+      node = s.goes.node;
+      order = s.order;
+      ran = s.ran;
+      obeyed = s.goes.obeyed;
+      timed = s.goes.timed;
+      only = s.only;
+      refused = s.refused;
+      picked = s.picked;
+      work = s.work;
+      entries = λ q h. c.in_err-settle_once.ensures.entries q (subst (λ l. HasEntry l q) (sym begin.entries) h);
+      kept = s.kept;
+      fresh = s.fresh;
+      stands = s.goes.stands;
+      moments = s.moments;
     })
 
-pub returns-in_err-settle_once-2-clause-timed : goal.returns-in_err-settle_once-2-clause-timed
-returns-in_err-settle_once-2-clause-timed g c = λ tells. rw (← c.begin_settling.ensures.device)
-    (timed_join _ _ _ _ _ _ (c.in_ok-settle_once.ensures.timed tells) (c.in_err-settle_once-2.ensures.timed tells))
-
-pub returns-in_ok-settle_once-2-clause-timed : goal.returns-in_ok-settle_once-2-clause-timed
-returns-in_ok-settle_once-2-clause-timed g c = λ tells. rw (← c.begin_settling.ensures.device)
-    (timed_join _ _ _ _ _ _ (c.in_ok-settle_once.ensures.timed tells) (c.in_ok-settle_once-2.ensures.timed tells))
-
-pub returns-in_err-settle_once-clause-order : goal.returns-in_err-settle_once-clause-order
-returns-in_err-settle_once-clause-order g c =
-    let w = c.args.self.now.work in
-    let p = err_from_is_err_and c.from_residual.result c.from_residual.ensures.1 in
-    let unsettled = sym c.begin_settling.ensures.unsettled ∙ c.if-begin_settling.true in
-    let u = anew_unsettled w c.begin_settling.new.self.work c.begin_settling.ensures.work unsettled in
-    rw (p.1, p.2, ← c.begin_settling.ensures.device)
-    (λ tells. sync_was_refused w c.begin_settling.new.self.work _ _ _ _ unsettled u.1 c.in_err-settle_once.ensures.only
-    (c.in_err-settle_once.ensures.told tells))
-
-pub returns-in_err-settle_once-2-clause-order : goal.returns-in_err-settle_once-2-clause-order
-returns-in_err-settle_once-2-clause-order g c =
-    let w = c.args.self.now.work in
+pub returns-in_err-settle_once-2 : goal.returns-in_err-settle_once-2
+returns-in_err-settle_once-2 g c =
+    let seen = log_seen g.D.Disk.counts g.D.Disk.told g.D.Disk.due in
+    let old : Seen = seen c.args.self.now in
+    let begun : Seen = seen c.begin_settling.new.self in
+    let mid : Seen = seen c.settle_once.new.self in
+    let new : Seen = seen c.settle_once-then-begin_settling.new.self in
     let p = err_from_is_err_and c.from_residual-in_err-settle_once-2.result c.from_residual-in_err-settle_once-2.ensures.1 in
-    let unsettled = sym c.begin_settling.ensures.unsettled ∙ c.if-begin_settling.true in
-    let u = anew_unsettled w c.begin_settling.new.self.work c.begin_settling.ensures.work unsettled in
-    let v = has_synced _ _ _ u.0 u.1 c.in_ok-settle_once.ensures.last c.in_ok-settle_once.ensures.work in
-    rw (p.1, p.2, ← c.begin_settling.ensures.device) (λ tells.
-    read_was_refused w c.begin_settling.new.self.work c.settle_once.new.self.work _ _ _ _ _ _ unsettled u.1 v
-    c.in_err-settle_once-2.ensures.only (c.in_ok-settle_once.ensures.told tells) (c.in_err-settle_once-2.ensures.told tells))
+    let begin = c.begin_settling.ensures in
+    let unsettled : is_unsettled old.work ≡ true = sym begin.unsettled ∙ c.if-begin_settling.true in
+    let u = anew_unsettled old.work begun.work begin.work unsettled in
+    let first : SettlesOneCall g.D.Disk.tells g.D.Disk.obeys log_layout (Ok _) begun mid =
+    let e = c.in_ok-settle_once.ensures in
+    record {
+      goes = record { node = e.node; obeyed = e.obeyed; timed = e.timed; stands = e.stands };
+      only = e.only;
+      counts = e.counts;
+      last = e.last;
+      told = e.told;
+      work = e.work;
+      picked = e.picked;
+      more = refl;
+      at = refl;
+      kept = e.kept;
+      fresh = e.fresh;
+      moments = e.moments;
+    } in
+    let second : SettlesOneCall g.D.Disk.tells g.D.Disk.obeys log_layout (Err _) mid new =
+    let e = c.in_err-settle_once-2.ensures in
+    record {
+      goes = record { node = e.node; obeyed = e.obeyed; timed = e.timed; stands = e.stands };
+      only = e.only;
+      counts = e.counts;
+      last = e.last;
+      told = e.told;
+      work = e.work;
+      picked = e.picked;
+      more = refl;
+      at = refl;
+      kept = e.kept;
+      fresh = e.fresh;
+      moments = e.moments;
+    } in
+    let s = settled_anew g.D.Disk.tells g.D.Disk.obeys _ old begun new begin.node
+    (ap (disk_seen g.D.Disk.counts g.D.Disk.told g.D.Disk.due) begin.device) refl refl begin.kept begin.work begin.fresh
+    (read_refused _ _ log_layout begun mid new _ _ u.0 u.1 first second) in
+    rw (p.1, p.2) (record {
+      node = s.goes.node;
+      order = s.order;
+      ran = s.ran;
+      obeyed = s.goes.obeyed;
+      timed = s.goes.timed;
+      only = s.only;
+      refused = s.refused;
+      picked = s.picked;
+      work = s.work;
+      entries = λ q h. c.in_err-settle_once-2.ensures.entries q (c.in_ok-settle_once.ensures.entries q
+          (subst (λ l. HasEntry l q) (sym begin.entries) h));
+      kept = s.kept;
+      fresh = s.fresh;
+      stands = s.goes.stands;
+      moments = s.moments;
+    })
 
-pub returns-in_ok-settle_once-2-clause-order : goal.returns-in_ok-settle_once-2-clause-order
-returns-in_ok-settle_once-2-clause-order g c =
-    let w = c.args.self.now.work in
-    let unsettled = sym c.begin_settling.ensures.unsettled ∙ c.if-begin_settling.true in
-    let u = anew_unsettled w c.begin_settling.new.self.work c.begin_settling.ensures.work unsettled in
-    let v = has_synced _ _ _ u.0 u.1 c.in_ok-settle_once.ensures.last c.in_ok-settle_once.ensures.work in
-    rw (← c.begin_settling.ensures.device) (λ tells.
-    both_were_made w c.begin_settling.new.self.work c.settle_once.new.self.work _ _ _ _ _ unsettled u.1 v
-    (c.in_ok-settle_once.ensures.told tells) (c.in_ok-settle_once-2.ensures.told tells))
+pub returns-in_ok-settle_once-2 : goal.returns-in_ok-settle_once-2
+returns-in_ok-settle_once-2 g c =
+    let seen = log_seen g.D.Disk.counts g.D.Disk.told g.D.Disk.due in
+    let old : Seen = seen c.args.self.now in
+    let begun : Seen = seen c.begin_settling.new.self in
+    let mid : Seen = seen c.settle_once.new.self in
+    let new : Seen = seen c.settle_once-then-begin_settling.new.self in
+    let begin = c.begin_settling.ensures in
+    let unsettled : is_unsettled old.work ≡ true = sym begin.unsettled ∙ c.if-begin_settling.true in
+    let u = anew_unsettled old.work begun.work begin.work unsettled in
+    let first : SettlesOneCall g.D.Disk.tells g.D.Disk.obeys log_layout (Ok _) begun mid =
+    let e = c.in_ok-settle_once.ensures in
+    record {
+      goes = record { node = e.node; obeyed = e.obeyed; timed = e.timed; stands = e.stands };
+      only = e.only;
+      counts = e.counts;
+      last = e.last;
+      told = e.told;
+      work = e.work;
+      picked = e.picked;
+      more = refl;
+      at = refl;
+      kept = e.kept;
+      fresh = e.fresh;
+      moments = e.moments;
+    } in
+    let second : SettlesOneCall g.D.Disk.tells g.D.Disk.obeys log_layout (Ok _) mid new =
+    let e = c.in_ok-settle_once-2.ensures in
+    record {
+      goes = record { node = e.node; obeyed = e.obeyed; timed = e.timed; stands = e.stands };
+      only = e.only;
+      counts = e.counts;
+      last = e.last;
+      told = e.told;
+      work = e.work;
+      picked = e.picked;
+      more = refl;
+      at = refl;
+      kept = e.kept;
+      fresh = e.fresh;
+      moments = e.moments;
+    } in
+    let s = settled_anew g.D.Disk.tells g.D.Disk.obeys _ old begun new begin.node
+    (ap (disk_seen g.D.Disk.counts g.D.Disk.told g.D.Disk.due) begin.device) refl refl begin.kept begin.work begin.fresh
+    (both_settled _ _ log_layout begun mid new _ _ u.0 u.1 first second) in
+    record {
+      node = s.goes.node;
+      order = s.order;
+      ran = s.ran;
+      obeyed = s.goes.obeyed;
+      timed = s.goes.timed;
+      only = s.only;
+      refused = s.refused;
+      picked = s.picked;
+      work = s.work;
+      entries = λ q h. c.in_ok-settle_once-2.ensures.entries q (c.in_ok-settle_once.ensures.entries q
+          (subst (λ l. HasEntry l q) (sym begin.entries) h));
+      kept = s.kept;
+      fresh = s.fresh;
+      stands = s.goes.stands;
+      moments = s.moments;
+    }
