@@ -18,7 +18,7 @@ use Rattle.passive_store.specs.declared.store.Pick.{Pick}
 use Rattle.passive_store.specs.declared.store.Pick.TheVariants.{Old, New}
 use Rattle.passive_store.proofs.Joining.{as_before}
 use Rattle.passive_store.specs.declared.store.StoreRefusal.{StoreRefusal}
-use Rattle.passive_store.specs.declared.store.StoreRefusal.TheVariants.{Full}
+use Rattle.passive_store.specs.declared.store.StoreRefusal.TheVariants.{Full, Damaged}
 use Rattle.passive_store.specs.LogLayout.{log_layout, log_changes}
 use Rattle.passive_store.specs.declared.store.Progress.TheVariants.{Going, Done}
 use Rattle.passive_store.specs.declared.index.Slot.{Slot}
@@ -84,6 +84,10 @@ in_doubt_at tail q p synced e unsettled at = in_doubt tail q p e (sym (unsettled
 pub refused_only : (e : DiskRefusal) → IsDiskRefusal (refused e)
 refused_only DiskFailed = inl refl
 refused_only DiskStopped = inr refl
+
+pub refused_undamaged : (e : DiskRefusal) (place : ℕ) → refused e ≡ Damaged place → ⊥
+refused_undamaged DiskFailed place is = cc
+refused_undamaged DiskStopped place is = cc
 
 pub refused_end : (T U : Type 0) (e : DiskRefusal) → end_of {T = T} (Err e) ≡ end_of_store {T = U} (Err (refused e))
 refused_end T U DiskFailed = refl

@@ -1,15 +1,13 @@
 use Rattle.std.proofs.Common.{◌≡◌, ◌+◌, true, false, IsTrue, None, Some, take, refl, sym, ap, subst, ◌∙◌, arith}
-use Rattle.std.specs.Prelude.{Err}
 use Rattle.std.proofs.lemmas.Bool.{false≢true}
 use Rattle.eden_disk.specs.Told.{Told, contents}
 use Rattle.eden_disk.specs.Calls.{Counts, DeviceCalls, Obeyed}
 use Rattle.passive_store.specs.declared.log_store.Pending.{Pending}
 use Rattle.passive_store.specs.declared.log_store.Stage.TheVariants.{Ended}
-use Rattle.passive_store.specs.Kept.{is_busy, refused, work_advanced}
+use Rattle.passive_store.specs.Kept.{is_busy, refused}
 use Rattle.passive_store.specs.LogLayout.{log_kept}
 use Rattle.passive_store.specs.LogState.{IsPlaced, IsLog, IsStaged, SetsSlot, pending_work, stage_call}
 use Rattle.passive_store.specs.declared.store.Progress.{Progress}
-use Rattle.passive_store.specs.declared.store.Progress.TheVariants.{Done}
 use Rattle.passive_store.proofs.Tails.{log_stands, placed_more}
 use Rattle.passive_store.proofs.Pendings.{Keeps, keeps_of, keeps_placed, keeps_log, keeps_shown, step_moments, next_told, told_refused}
 use Rattle.passive_store.proofs.Pendings.{keeps_next, job_at, front_long, job_done, with_stage, shown_refused, shown_going, shown_done}

@@ -1,4 +1,4 @@
-use Rattle.std.proofs.Common.{◌≡◌, true, false, Some, None, refl, sym, ap, subst, ◌∙◌}
+use Rattle.std.proofs.Common.{◌≡◌, true, false, Some, None, refl, sym, ap, ◌∙◌}
 use Rattle.eden_disk.specs.Told.{contents}
 use Rattle.passive_store.specs.Kept.{is_unsettled, unsynced}
 use Rattle.passive_store.specs.LogState.{pending_work, stage_ended}

@@ -1,16 +1,16 @@
-use Rattle.std.proofs.Common.{◌≡◌, ◌+◌, Bool, true, false, IsTrue, None, Some, Option, refl, sym, ap, subst, ◌∙◌, inl, arith}
-use Rattle.std.specs.Prelude.{Ok, Err, ◌&&◌, is_ok}
+use Rattle.std.proofs.Common.{◌≡◌, ◌+◌, Bool, true, false, IsTrue, None, Some, refl, sym, ap, subst, ◌∙◌, arith}
+use Rattle.std.specs.Prelude.{Ok, Err}
 use Rattle.std.proofs.lemmas.Bool.{false≢true}
-use Rattle.eden_disk.specs.Told.{Told, contents, at_rest}
+use Rattle.eden_disk.specs.Told.{Told, contents}
 use Rattle.eden_disk.proofs.Held.{calls_one, obeyed_one}
 use Rattle.eden_disk.proofs.Timed.{timed_sync}
-use Rattle.eden_disk.specs.Calls.{Counts, End, Fine, DeviceCalls, Obeyed, SyncTold, ReadTold, end_of}
+use Rattle.eden_disk.specs.Calls.{Counts, Fine, DeviceCalls, Obeyed, SyncTold, ReadTold}
 use Rattle.passive_store.specs.declared.log_store.Pending.{Pending}
 use Rattle.passive_store.specs.declared.log_store.Stage.TheVariants.{Ended}
 use Rattle.passive_store.specs.declared.store.Progress.{Progress}
 use Rattle.passive_store.specs.declared.store.Progress.TheVariants.{Going, Done}
 use Rattle.passive_store.specs.Acts.{CallTold, settling_call}
-use Rattle.passive_store.specs.Kept.{Work, Unsettled, is_unsettled, is_synced, progress_at, work_stepped, refused, end_of_store}
+use Rattle.passive_store.specs.Kept.{Unsettled, is_unsettled, is_synced, progress_at, work_stepped, refused, end_of_store}
 use Rattle.passive_store.specs.LogLayout.{log_kept}
 use Rattle.passive_store.specs.LogState.{IsPlaced, IsLog, IsStaged, SetsSlot, pending_work, change_of}
 use Rattle.passive_store.proofs.Tails.{log_stands, placed_more}
@@ -204,8 +204,7 @@ invariant_of-self-in-Ok-false g c =
     let none : c.take.new.self ≡ None = c.take.ensures.after in
     let done = λ (tells : IsTrue g.D.Disk.tells).
     settled_old s.node s.size s.tail t0 t1 k0 k1 s.index s.pending p (keeps tells) (c.in-Ok-false.ensures.told tells) (rest tells)
-    (sym (c.in-Ok-false.ensures.gate tells) ∙ c.in-Ok-false.field-0-test) in
-    (
+    (sym (c.in-Ok-false.ensures.gate tells) ∙ c.in-Ok-false.field-0-test) in (
       subst (IsPlaced s.size s.tail k1 s.index) (sym none)
           (record {
             sized = c.in-Ok-false.ensures.counts.size ∙ c.self.invariant.0.sized;
