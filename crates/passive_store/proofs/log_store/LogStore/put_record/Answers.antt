@@ -2,18 +2,19 @@ use Rattle.std.proofs.Common.{◌≡◌, ◌+◌, ℕ, false, IsTrue, inl, inr, 
 use Rattle.eden_disk.specs.Timed.{Timed}
 use Rattle.eden_disk.proofs.Timed.{timed_join}
 use Rattle.std.specs.Prelude.{slice_range, Err, is_some}
+use Rattle.std.proofs.lemmas.Bool.{false≢true}
 use Rattle.std.proofs.lemmas.Result.{err_from_is_err_and}
 use Rattle.eden_disk.specs.Told.{contents, EachMoment}
 use Rattle.eden_disk.proofs.Held.{moments_join, moments_weaker, obeyed_more}
 use Rattle.eden_disk.specs.Calls.{End, Fine, DeviceCalls, Obeyed}
 use Rattle.passive_store.specs.Kept.{Kept, Change, settling_of, job_left, end_of_store, changes_begun, Busy, Stands, Ran, changes_in}
-use Rattle.passive_store.specs.Kept.{change_in, doubt_in, settled, settling_calls, calls_left, work_finished, kept_finished}
+use Rattle.passive_store.specs.Kept.{change_in, is_busy, doubt_in, settled, settling_calls, calls_left, work_finished, kept_finished}
 use Rattle.passive_store.specs.Kept.{work_changed, kept_changed, IsAnyOf}
 use Rattle.passive_store.specs.Acts.{DiskCall, AllTold, CallsTold}
 use Rattle.passive_store.proofs.Pendings.{job_bounded, log_job_is}
 use Rattle.passive_store.specs.Log.{log_map, log_grows}
 use Rattle.passive_store.specs.LogLayout.{log_layout, log_changes, record_job, log_job, within_room, log_room}
-use Rattle.passive_store.specs.LogState.{state_kept}
+use Rattle.passive_store.specs.LogState.{state_kept, IsRecordOf}
 use Rattle.passive_store.specs.declared.store.StoreRefusal.TheVariants.{Full}
 use Rattle.passive_store.proofs.Joining.{as_before, stands_weaker, none_refused, settled_now, calls_told_more}
 use Rattle.passive_store.proofs.Changing.{fresh_settled, fresh_idle, fresh_finished, begun_order, refused_order, moments_more}
@@ -281,3 +282,24 @@ returns-clause-full g c = λ tells.
 
 pub returns-clause-stands : goal.returns-clause-stands
 returns-clause-stands g c = λ tells. c.finish_job.ensures.goes.stands tells
+
+pub start-requires-clause-idle : goal.start-requires-clause-idle
+start-requires-clause-idle g c = idle_then _ c.args.self.now.work _ c.requires.idle c.in_ok-settle_log.ensures.picked
+    c.in_ok-settle_log.ensures.work
+
+pub start-requires-clause-entry : goal.start-requires-clause-entry
+start-requires-clause-entry g c = c.in_ok-settle_log.ensures.entries c.args.uid c.requires.entry
+
+pub start-requires-clause-spelled : goal.start-requires-clause-spelled
+start-requires-clause-spelled g c = subst (λ n. IsRecordOf n c.args.record_bytes.items c.args.uid false c.args.length)
+    (sym c.in_ok-settle_log.ensures.node) c.requires.spelled
+
+pub start-requires-clause-kept : goal.start-requires-clause-kept
+start-requires-clause-kept g c = λ no. absurd (false≢true no)
+
+pub finish_job-requires-clause-power : goal.finish_job-requires-clause-power
+finish_job-requires-clause-power g c = subst (λ d. IsTrue (g.D.Disk.counts d).power) (sym c.in_ok-start.ensures.device)
+    c.in_ok-settle_log.ensures.ran.counts.power
+
+pub finish_job-requires-clause-busy : goal.finish_job-requires-clause-busy
+finish_job-requires-clause-busy g c = ap is_busy c.in_ok-start.ensures.work
