@@ -12,6 +12,9 @@ pub enum Given {
     Number { n: i64 },
     Name { bytes: &'static [u8] },
     NoCap,
+    /// A capability of node 1 with this serial and all rights.
+    FullCap { serial: u32 },
+    True,
     Names { all: &'static [&'static [u8]] },
     /// Capabilities of node 1 with these serials, or none.
     Caps { all: &'static [Option<u32>] },
@@ -70,6 +73,10 @@ fn value_of(alloc: Global, given: Given) -> Result<Value, AllocError> {
         Given::Number { n } => Ok(Value::Int { n }),
         Given::Name { bytes } => name(alloc, bytes),
         Given::NoCap => Ok(Value::Cap { cap: None }),
+        Given::FullCap { serial } => Ok(Value::Cap {
+            cap: cap_of(Some((1, serial, 0xFFFF))),
+        }),
+        Given::True => Ok(Value::Bool { b: true }),
         Given::Names { all } => Ok(Value::List {
             items: names(alloc, all)?,
         }),

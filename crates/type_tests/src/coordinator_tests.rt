@@ -5,7 +5,6 @@ use capability::Seq;
 use coordinator::*;
 use std::alloc::{AllocError, Global};
 use std::mem::size_of;
-use std::process::Abort;
 
 /// A question to a coordinator, or something that happens.
 #[derive(Clone, Copy)]
@@ -166,16 +165,14 @@ fn stepped(c: &mut Coordinator, step: Step) -> Result<Seen, AllocError> {
     })
 }
 
-/// The coordinator takes the steps, and answers what stands beside them.
-fn takes_steps(
-    rt: &impl Abort,
-    c: &mut Coordinator,
-    steps: &[(Step, Seen)],
-) -> Result<(), AllocError> {
+/// The first of the steps that the coordinator does not answer with what stands beside it.
+fn first_other(c: &mut Coordinator, steps: &[(Step, Seen)]) -> Result<Option<usize>, AllocError> {
     for (i, &(step, wanted)) in steps.iter().enumerate() {
-        assert!(rt; stepped(c, step)? == wanted, "step {i}");
+        if stepped(c, step)? != wanted {
+            return Ok(Some(i));
+        }
     }
-    Ok(())
+    Ok(None)
 }
 
 /// A coordinator of one class with this limit, and of no process, monitor or condition.
@@ -238,41 +235,59 @@ const FULL: &[(Step, Seen)] = &[
     (Step::Start, Seen::Nothing),
 ];
 
+/// The first of the calls from 100 on that finds the coordinator full or is not taken, or the one past the last.
+fn first_not_taken(c: &mut Coordinator, past: u32) -> Result<u32, AllocError> {
+    for call in 100..past {
+        if c.is_full() || offered(c, call)? != Seen::Yes {
+            return Ok(call);
+        }
+    }
+    Ok(past)
+}
+
+/// Of a coordinator with limit 1: the first call that is not taken, the first other step, and whether 63 calls are left.
+fn filled(alloc: Global) -> Result<(u32, Option<usize>, bool), AllocError> {
+    let mut c = idle(alloc, 1)?;
+    let call = first_not_taken(&mut c, 164)?;
+    let other = first_other(&mut c, FULL)?;
+    Ok((call, other, leaves(c, 1, 63, 101)))
+}
+
 #[test]
 fn one_of_a_class_with_limit_one(rt: HostRuntime) -> Result<(), AllocError> {
-    let mut c = idle(rt.alloc(), 1)?;
-    for call in 100..164 {
-        assert!(rt; stepped(&mut c, Step::IsFull)? == Seen::No, "at {call}");
-        assert!(rt;
-            stepped(&mut c, Step::Offer { call })? == Seen::Yes,
-            "at {call}"
-        );
-    }
-    takes_steps(&rt, &mut c, FULL)?;
-    assert!(rt; leaves(c, 1, 63, 101));
+    assert_eq!(rt; filled(rt.alloc())?, (164, None, true));
     Ok(())
+}
+
+/// The first of the processes from 1 on that does not start with the call of its place, or the one past the last.
+fn first_not_started(c: &mut Coordinator, past: u8) -> Result<u8, AllocError> {
+    for process in 1..past {
+        if started(c)? != Seen::Started(99 + u32::from(process), process) {
+            return Ok(process);
+        }
+    }
+    Ok(past)
+}
+
+/// Sixteen calls have started.
+const SIXTEEN: &[(Step, Seen)] = &[
+    (Step::Start, Seen::Nothing),
+    (Step::NextReady { after: 15 }, Seen::Number { n: 16 }),
+];
+
+/// Of a coordinator with limit 16: the first call that is not taken, the first process that does not start, the first other
+/// step, and whether one call is left.
+fn sixteen(alloc: Global) -> Result<(u32, u8, Option<usize>, bool), AllocError> {
+    let mut c = idle(alloc, 16)?;
+    let call = first_not_taken(&mut c, 117)?;
+    let process = first_not_started(&mut c, 17)?;
+    let other = first_other(&mut c, SIXTEEN)?;
+    Ok((call, process, other, leaves(c, 16, 1, 116)))
 }
 
 #[test]
 fn room_grows_to_sixteen_processes(rt: HostRuntime) -> Result<(), AllocError> {
-    let mut c = idle(rt.alloc(), 16)?;
-    for call in 100..117 {
-        assert!(rt;
-            stepped(&mut c, Step::Offer { call })? == Seen::Yes,
-            "at {call}"
-        );
-    }
-    for process in 1..17u8 {
-        let call = 99 + u32::from(process);
-        let wanted = Seen::Started(call, process);
-        assert!(rt; stepped(&mut c, Step::Start)? == wanted, "at {call}");
-    }
-    let steps = &[
-        (Step::Start, Seen::Nothing),
-        (Step::NextReady { after: 15 }, Seen::Number { n: 16 }),
-    ];
-    takes_steps(&rt, &mut c, steps)?;
-    assert!(rt; leaves(c, 16, 1, 116));
+    assert_eq!(rt; sixteen(rt.alloc())?, (117, 17, None, true));
     Ok(())
 }
 
@@ -324,13 +339,13 @@ const PASSES: &[(Step, Seen)] = &[
 
 #[test]
 fn a_monitor_passes_in_order(rt: HostRuntime) -> Result<(), AllocError> {
-    takes_steps(&rt, &mut monitored(rt.alloc())?, PASSES)
+    let other = first_other(&mut monitored(rt.alloc())?, PASSES)?;
+    assert_eq!(rt; other, None);
+    Ok(())
 }
 
 #[test]
 fn sizes_of_its_parts(rt: HostRuntime) {
-    assert_eq!(rt; size_of::<Coordinator>(), 144);
-    assert_eq!(rt; size_of::<Slot>(), 16);
-    assert_eq!(rt; size_of::<Monitor>(), 32);
-    assert_eq!(rt; size_of::<Condition>(), 32);
+    assert!(rt; size_of::<Coordinator>() == 144 && size_of::<Slot>() == 16);
+    assert!(rt; size_of::<Monitor>() == 32 && size_of::<Condition>() == 32);
 }

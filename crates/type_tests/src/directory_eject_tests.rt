@@ -1,5 +1,6 @@
-ghost use Rattle.std.specs.Prelude.{◌≡◌, true};
+ghost use Rattle.std.specs.Prelude.{◌≡◌, ◌∷◌, [], true, IfOk};
 ghost use Rattle.directory_eject.specs.Stages.{are_taken};
+ghost use Rattle.eden_value.specs.Datum.{text as text_datum, cap as cap_datum};
 
 use crate::common::{Given, cap_of, items_of, printed, returned, text};
 use capability::Cap;
@@ -7,7 +8,6 @@ use directory_eject::*;
 use eden_value::{Items, Status, Txt, Value};
 use epl_syntax::{Answer, Effect};
 use std::alloc::{AllocError, Global};
-use std::process::Abort;
 
 /// An operation takes a turn.
 fn turned(
@@ -40,6 +40,26 @@ fn carried_out(
     }
 }
 
+/// The values of an operation that takes a name.
+fn named(alloc: Global, name: &[u8]) -> Result<Items, AllocError>
+    ensures { IfOk result (λ items. items ≡ text_datum name.now ∷ []) }
+{
+    let name = Value::Text {
+        text: text(alloc, name)?,
+    };
+    let values = vec![in alloc; name]?;
+    Ok(Items { values })
+}
+
+/// The values of an operation that takes a name and a capability.
+fn entry(alloc: Global, name: &[u8], cap: Option<Cap>) -> Result<Items, AllocError>
+    ensures { IfOk result (λ items. items ≡ text_datum name.now ∷ cap_datum cap ∷ []) }
+{
+    let mut items = named(alloc, name)?;
+    items.values.push(Value::Cap { cap })?;
+    Ok(items)
+}
+
 fn add(
     alloc: Global,
     directory: &mut Directory,
@@ -48,20 +68,14 @@ fn add(
     status: Status,
 ) -> Result<Vec<u8>, AllocError> {
     let operation = text(alloc, b"AddEntry")?;
-    let name = Value::Text {
-        text: text(alloc, name)?,
-    };
-    let values = vec![in alloc; name, Value::Cap { cap }]?;
-    carried_out(alloc, directory, &operation, &Items { values }, status)
+    let args = entry(alloc, name, cap)?;
+    carried_out(alloc, directory, &operation, &args, status)
 }
 
 fn look_up(alloc: Global, directory: &mut Directory, name: &[u8]) -> Result<Vec<u8>, AllocError> {
     let operation = text(alloc, b"LookUp")?;
-    let name = Value::Text {
-        text: text(alloc, name)?,
-    };
-    let values = vec![in alloc; name]?;
-    carried_out(alloc, directory, &operation, &Items { values }, Status::Ok)
+    let args = named(alloc, name)?;
+    carried_out(alloc, directory, &operation, &args, Status::Ok)
 }
 
 fn delete(
@@ -71,11 +85,8 @@ fn delete(
     status: Status,
 ) -> Result<Vec<u8>, AllocError> {
     let operation = text(alloc, b"DeleteEntry")?;
-    let name = Value::Text {
-        text: text(alloc, name)?,
-    };
-    let values = vec![in alloc; name]?;
-    carried_out(alloc, directory, &operation, &Items { values }, status)
+    let args = named(alloc, name)?;
+    carried_out(alloc, directory, &operation, &args, status)
 }
 
 fn list(alloc: Global, directory: &mut Directory) -> Result<Vec<u8>, AllocError> {
@@ -104,18 +115,29 @@ fn called(alloc: Global, directory: &mut Directory, call: Call) -> Result<Vec<u8
     }
 }
 
-/// The directory answers each call with what stands beside it.
-fn answers(
-    rt: &impl Abort,
+/// Whether the directory answers a call with this.
+fn is_answered(
+    alloc: Global,
+    directory: &mut Directory,
+    call: Call,
+    wanted: &str,
+) -> Result<bool, AllocError> {
+    let answer = called(alloc, directory, call)?;
+    Ok(answer.as_slice() == wanted.as_bytes())
+}
+
+/// The first of the calls that the directory does not answer with what stands beside it.
+fn first_other(
     alloc: Global,
     directory: &mut Directory,
     calls: &[(Call, &'static str)],
-) -> Result<(), AllocError> {
-    for &(call, wanted) in calls {
-        let answer = called(alloc, directory, call)?;
-        assert_eq!(rt; answer.as_slice(), wanted.as_bytes(), "at {wanted}");
+) -> Result<Option<usize>, AllocError> {
+    for (i, &(call, wanted)) in calls.iter().enumerate() {
+        if !is_answered(alloc, directory, call, wanted)? {
+            return Ok(Some(i));
+        }
     }
-    Ok(())
+    Ok(None)
 }
 
 const CALLS: &[(Call, &str)] = &[
@@ -139,7 +161,8 @@ const CALLS: &[(Call, &str)] = &[
 #[test]
 fn names_keep_their_order(rt: HostRuntime) -> Result<(), AllocError> {
     let mut directory = Directory::new(rt.alloc());
-    answers(&rt, rt.alloc(), &mut directory, CALLS)
+    assert_eq!(rt; first_other(rt.alloc(), &mut directory, CALLS)?, None);
+    Ok(())
 }
 
 /// Calls of a directory with 256 entries, of which `aa` is one.
@@ -150,15 +173,35 @@ const FULL: &[(Call, &str)] = &[
     (Call::Add(b"more", None, Status::Ok), "[0]"),
 ];
 
+/// Whether the entry is added whose two letters spell a number.
+fn adds(alloc: Global, directory: &mut Directory, number: u8) -> Result<bool, AllocError> {
+    let name = [b'a' + number / 16, b'a' + number % 16];
+    let answer = add(alloc, directory, &name, None, Status::Ok)?;
+    Ok(answer.as_slice() == b"[0]".as_slice())
+}
+
+/// How many of 256 entries are added, up to the first that is not.
+fn count_added(alloc: Global, directory: &mut Directory) -> Result<u32, AllocError> {
+    for number in 0..256u32 {
+        if !adds(alloc, directory, number as u8)? {
+            return Ok(number);
+        }
+    }
+    Ok(256)
+}
+
+/// How many entries a new directory takes, and the first other call of `FULL` behind them.
+fn filled(alloc: Global) -> Result<(u32, Option<usize>), AllocError> {
+    let mut directory = Directory::new(alloc);
+    let count = count_added(alloc, &mut directory)?;
+    let other = first_other(alloc, &mut directory, FULL)?;
+    Ok((count, other))
+}
+
 #[test]
 fn a_directory_has_256_entries_at_most(rt: HostRuntime) -> Result<(), AllocError> {
-    let mut directory = Directory::new(rt.alloc());
-    for i in 0..256u16 {
-        let name = [b'a' + (i / 16) as u8, b'a' + (i % 16) as u8];
-        let answer = add(rt.alloc(), &mut directory, &name, None, Status::Ok)?;
-        assert_eq!(rt; answer.as_slice(), b"[0]".as_slice(), "at {i}");
-    }
-    answers(&rt, rt.alloc(), &mut directory, FULL)
+    assert_eq!(rt; filled(rt.alloc())?, (256, None));
+    Ok(())
 }
 
 /// Stored names and capabilities, and whether a directory starts from them.
@@ -199,13 +242,18 @@ const STORED: &[(&[Given], bool)] = &[
     ),
 ];
 
+/// Whether a directory starts from these values.
+fn starts(alloc: Global, given: &[Given]) -> Result<bool, AllocError> {
+    let values = items_of(alloc, given)?;
+    Ok(native_start(&values))
+}
+
 #[test]
 fn stored_values_have_as_many_capabilities_as_names_and_no_name_twice(
     rt: HostRuntime,
 ) -> Result<(), AllocError> {
     for (i, &(given, wanted)) in STORED.iter().enumerate() {
-        let values = items_of(rt.alloc(), given)?;
-        assert_eq!(rt; native_start(&values), wanted, "at {i}");
+        assert!(rt; starts(rt.alloc(), given)? == wanted, "at {i}");
     }
     Ok(())
 }
@@ -239,17 +287,20 @@ fn values_of(alloc: Global, directory: &Directory) -> Result<Vec<u8>, AllocError
     printed(alloc, directory.values(alloc)?)
 }
 
+/// Whether the directory that was kept takes an entry and has it behind the first.
+fn starts_and_adds(alloc: Global) -> Result<bool, AllocError> {
+    let Some(mut directory) = kept(alloc)? else {
+        return Ok(false);
+    };
+    let call = Call::Add(b"bob", Some((1, 2, 3)), Status::Ok);
+    let is_added = is_answered(alloc, &mut directory, call, "[0]")?;
+    let values = values_of(alloc, &directory)?;
+    let wanted = b"[[\"ann\", \"bob\"], [<none>, <1.1.2:0003>]]";
+    Ok(is_added && values.as_slice() == wanted.as_slice())
+}
+
 #[test]
 fn a_directory_starts_from_what_was_kept(rt: HostRuntime) -> Result<(), AllocError> {
-    let Some(mut directory) = kept(rt.alloc())? else {
-        panic!(rt; "no start");
-    };
-    let calls = &[(Call::Add(b"bob", Some((1, 2, 3)), Status::Ok), "[0]")];
-    answers(&rt, rt.alloc(), &mut directory, calls)?;
-    let values = values_of(rt.alloc(), &directory)?;
-    assert_eq!(rt;
-        values.as_slice(),
-        b"[[\"ann\", \"bob\"], [<none>, <1.1.2:0003>]]".as_slice()
-    );
+    assert!(rt; starts_and_adds(rt.alloc())?);
     Ok(())
 }

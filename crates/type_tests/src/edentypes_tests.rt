@@ -6,7 +6,6 @@ use eden_value::{Items, Status, Txt};
 use edentypes::*;
 use epl_syntax::{Answer, Effect, Types};
 use std::alloc::{AllocError, Global};
-use std::process::Abort;
 
 const ME: Uid = Uid {
     node: 1,
@@ -15,7 +14,9 @@ const ME: Uid = Uid {
 };
 
 /// A name, the place of its type, and how many variables that has, of which so many are durable.
-const NAMES: &[(&[u8], Option<usize>, usize, usize)] = &[
+type Named = (&'static [u8], Option<usize>, usize, usize);
+
+const NAMES: &[Named] = &[
     (b"Cell", Some(0), 1, 1),
     (b"Directory", Some(1), 2, 2),
     (b"Lines", Some(2), 3, 2),
@@ -47,6 +48,21 @@ fn is_kept(kept: &Rep, name: &Txt, durable: usize) -> bool {
     kept.type_name.bytes == name.bytes && kept.version == 1 && kept.values.values.len() == durable
 }
 
+/// Whether an Eject starts from what is kept with the first values of its type, which are so many.
+fn starts_at_first(
+    alloc: Global,
+    types: &Types,
+    kind: Kind,
+    kept: &Rep,
+    variables: usize,
+) -> Result<bool, AllocError> {
+    let before = first_items(alloc, types, kind)?;
+    let count = before.values.len();
+    let before = printed(alloc, before)?;
+    let after = printed(alloc, items_again(alloc, types, kind, kept)?)?;
+    Ok(count == variables && before == after)
+}
+
 /// Whether an Eject that has its first values, and so many, starts from what is kept of it with the same values.
 fn starts_as_kept(
     alloc: Global,
@@ -56,12 +72,7 @@ fn starts_as_kept(
     (variables, durable): (usize, usize),
 ) -> Result<bool, AllocError> {
     let kept = kept_at_first(alloc, types, kind)?;
-    let before = first_items(alloc, types, kind)?;
-    let after = items_again(alloc, types, kind, &kept)?;
-    let count = before.values.len();
-    let before = printed(alloc, before)?;
-    let after = printed(alloc, after)?;
-    Ok(count == variables && is_kept(&kept, name, durable) && before == after)
+    Ok(is_kept(&kept, name, durable) && starts_at_first(alloc, types, kind, &kept, variables)?)
 }
 
 /// Whether it has no processes, one class and no monitors.
@@ -73,24 +84,35 @@ fn is_plain(alloc: Global, types: &Types, kind: Kind) -> Result<bool, AllocError
     Ok(begun.is_empty() && classes == 1 && crew.monitors() == 0)
 }
 
+/// Whether the name is that of the type at its place, which starts, or of none.
+fn is_named(
+    alloc: Global,
+    types: &Types,
+    &(name, place, variables, durable): &Named,
+) -> Result<bool, AllocError> {
+    let name = text(alloc, name)?;
+    let Some(kind) = find(types, &name) else {
+        return Ok(place.is_none());
+    };
+    if place != Some(kind.place) || !is_plain(alloc, types, kind)? {
+        return Ok(false);
+    }
+    starts_as_kept(alloc, types, kind, &name, (variables, durable))
+}
+
 #[test]
 fn every_native_type_starts(rt: HostRuntime) -> Result<(), AllocError> {
     let types = Types::native(rt.alloc())?;
-    for &(name, place, variables, durable) in NAMES {
-        let name = text(rt.alloc(), name)?;
-        let found = find(&types, &name);
-        assert_eq!(rt; found.map(|kind| kind.place), place);
-        if let Some(kind) = found {
-            let numbers = (variables, durable);
-            assert!(rt; starts_as_kept(rt.alloc(), &types, kind, &name, numbers)?);
-            assert!(rt; is_plain(rt.alloc(), &types, kind)?);
-        }
+    for (i, named) in NAMES.iter().enumerate() {
+        assert!(rt; is_named(rt.alloc(), &types, named)?, "at {i}");
     }
     Ok(())
 }
 
 /// The place of a type, the rights of the capability, an operation, the values that it is given, and what is wrong.
-const CALLS: &[(usize, u16, &[u8], &[Given], Option<Status>)] = &[
+type Asked = (usize, u16, &'static [u8], &'static [Given], Option<Status>);
+
+const CALLS: &[Asked] = &[
     (0, 1, b"Set", &[Given::Number { n: 5 }], None),
     (
         0,
@@ -128,19 +150,27 @@ fn is_fit(fit: Fit, wrong: Option<Status>) -> bool {
     }
 }
 
+/// Whether a call of a native type fits, or this is wrong with it.
+fn is_judged(
+    alloc: Global,
+    types: &Types,
+    &(place, bits, operation, args, wrong): &Asked,
+) -> Result<bool, AllocError> {
+    let target = Cap {
+        uid: ME,
+        rights: Rights { bits },
+    };
+    let operation = text(alloc, operation)?;
+    let args = items_of(alloc, args)?;
+    let fit = fit_call(alloc, types, Kind { place }, target, &operation, &args)?;
+    Ok(is_fit(fit, wrong))
+}
+
 #[test]
 fn calls_fit_or_not(rt: HostRuntime) -> Result<(), AllocError> {
-    let alloc = rt.alloc();
-    let types = Types::native(alloc)?;
-    for (i, &(place, bits, operation, args, wrong)) in CALLS.iter().enumerate() {
-        let target = Cap {
-            uid: ME,
-            rights: Rights { bits },
-        };
-        let operation = text(alloc, operation)?;
-        let args = items_of(alloc, args)?;
-        let fit = fit_call(alloc, &types, Kind { place }, target, &operation, &args)?;
-        assert!(rt; is_fit(fit, wrong), "call {i}");
+    let types = Types::native(rt.alloc())?;
+    for (i, asked) in CALLS.iter().enumerate() {
+        assert!(rt; is_judged(rt.alloc(), &types, asked)?, "call {i}");
     }
     Ok(())
 }
@@ -207,19 +237,28 @@ fn is_started(found: &Option<(usize, Vec<u8>)>, wanted: Option<(usize, &[u8])>) 
     }
 }
 
+/// Whether an Eject starts from what is kept as it has to, or does not.
+fn starts_so(
+    alloc: Global,
+    types: &Types,
+    &(name, version, values, wanted): &Kept,
+) -> Result<bool, AllocError> {
+    let type_name = text(alloc, name)?;
+    let values = items_of(alloc, values)?;
+    let kept = Rep {
+        type_name,
+        version,
+        values,
+    };
+    let found = started(alloc, types, &kept)?;
+    Ok(is_started(&found, wanted))
+}
+
 #[test]
 fn ejects_start_from_what_is_kept(rt: HostRuntime) -> Result<(), AllocError> {
     let types = Types::native(rt.alloc())?;
-    for (i, &(name, version, values, wanted)) in KEPT.iter().enumerate() {
-        let type_name = text(rt.alloc(), name)?;
-        let values = items_of(rt.alloc(), values)?;
-        let kept = Rep {
-            type_name,
-            version,
-            values,
-        };
-        let found = started(rt.alloc(), &types, &kept)?;
-        assert!(rt; is_started(&found, wanted), "at {i}");
+    for (i, kept) in KEPT.iter().enumerate() {
+        assert!(rt; starts_so(rt.alloc(), &types, kept)?, "at {i}");
     }
     Ok(())
 }
@@ -238,6 +277,34 @@ fn turned(
     turn(alloc, types, kind, vars, rest, answer, ME)
 }
 
+/// The process of an operation with its arguments.
+fn begun(
+    alloc: Global,
+    (types, kind): (&Types, Kind),
+    operation: &[u8],
+    args: &[Given],
+) -> Result<Rest, AllocError> {
+    let operation = text(alloc, operation)?;
+    let args = items_of(alloc, args)?;
+    begin(alloc, types, kind, &operation, &args)
+}
+
+/// The effect behind one: the process of a checkpoint or of the end of what is kept is answered with the status.
+fn behind(
+    alloc: Global,
+    (types, kind): (&Types, Kind),
+    vars: &mut Values,
+    rest: &mut Rest,
+    (effect, status): (Effect, Status),
+) -> Result<Effect, AllocError> {
+    match effect {
+        Effect::Checkpoint | Effect::Destroy => {
+            turned(alloc, (types, kind), vars, rest, Answer::Code { status })
+        }
+        effect => Ok(effect),
+    }
+}
+
 /// What an operation returns, as the text of a list, or that it ends the active part.
 fn carried_out(
     alloc: Global,
@@ -245,17 +312,10 @@ fn carried_out(
     vars: &mut Values,
     (operation, args, status): Call,
 ) -> Result<Vec<u8>, AllocError> {
-    let operation = text(alloc, operation)?;
-    let args = items_of(alloc, args)?;
-    let mut rest = begin(alloc, types, kind, &operation, &args)?;
-    match turned(alloc, (types, kind), vars, &mut rest, Answer::Go)? {
-        Effect::Checkpoint | Effect::Destroy => {
-            let answer = Answer::Code { status };
-            let effect = turned(alloc, (types, kind), vars, &mut rest, answer)?;
-            returned(alloc, effect)
-        }
-        effect => returned(alloc, effect),
-    }
+    let mut rest = begun(alloc, (types, kind), operation, args)?;
+    let effect = turned(alloc, (types, kind), vars, &mut rest, Answer::Go)?;
+    let last = behind(alloc, (types, kind), vars, &mut rest, (effect, status))?;
+    returned(alloc, last)
 }
 
 /// An operation of a Cell of value 3, the value after it, and what it returns at last.
@@ -271,16 +331,39 @@ const CELL: &[(Call, &[u8], &[u8])] = &[
     ((b"Kill", &[], Status::Full), b"[3]", b"[12]"),
 ];
 
+/// The values of a Cell of value 3.
+fn cell_of_three(alloc: Global) -> Result<Values, AllocError> {
+    let items = items_of(alloc, &[Given::Number { n: 3 }])?;
+    Ok(Values::plain(items))
+}
+
+/// The values of an Eject, as the text of a list.
+fn shown(alloc: Global, vars: &Values) -> Result<Vec<u8>, AllocError> {
+    printed(alloc, vars.items(alloc)?)
+}
+
+/// Whether an operation of a Cell of value 3 leaves this value and returns this.
+fn cell_answers(
+    alloc: Global,
+    types: &Types,
+    call: Call,
+    after: &[u8],
+    wanted: &[u8],
+) -> Result<bool, AllocError> {
+    let mut vars = cell_of_three(alloc)?;
+    let answer = carried_out(alloc, (types, Kind { place: 0 }), &mut vars, call)?;
+    let values = shown(alloc, &vars)?;
+    Ok(answer.as_slice() == wanted && values.as_slice() == after)
+}
+
 #[test]
 fn a_cell_takes_its_turns(rt: HostRuntime) -> Result<(), AllocError> {
-    let alloc = rt.alloc();
-    let types = Types::native(alloc)?;
+    let types = Types::native(rt.alloc())?;
     for (i, &(call, after, wanted)) in CELL.iter().enumerate() {
-        let mut vars = Values::plain(items_of(alloc, &[Given::Number { n: 3 }])?);
-        let answer = carried_out(alloc, (&types, Kind { place: 0 }), &mut vars, call)?;
-        assert_eq!(rt; answer.as_slice(), wanted, "operation {i}");
-        let values = printed(alloc, vars.items(alloc)?)?;
-        assert_eq!(rt; values.as_slice(), after, "operation {i}");
+        assert!(rt;
+            cell_answers(rt.alloc(), &types, call, after, wanted)?,
+            "operation {i}"
+        );
     }
     Ok(())
 }
@@ -344,27 +427,39 @@ fn starts_again(
     Ok(started(alloc, types, &kept)?.is_some())
 }
 
-/// A new Eject carries out the operations, and an Eject starts from what is kept after each.
-fn carries_out(
-    rt: &impl Abort,
+/// Whether an operation returns this, and an Eject starts from what is kept after it.
+fn answers(
+    alloc: Global,
+    (types, kind): (&Types, Kind),
+    vars: &mut Values,
+    call: Call,
+    wanted: &[u8],
+) -> Result<bool, AllocError> {
+    let answer = carried_out(alloc, (types, kind), vars, call)?;
+    Ok(answer.as_slice() == wanted && starts_again(alloc, types, kind, vars)?)
+}
+
+/// A new Eject carries out the operations, up to the first after which it is not as it has to be.
+fn first_other(
     alloc: Global,
     (types, kind): (&Types, Kind),
     calls: &[(Call, &'static [u8])],
-) -> Result<(), AllocError> {
+) -> Result<Option<usize>, AllocError> {
     let mut vars = first_values(alloc, types, kind)?;
     for (i, &(call, wanted)) in calls.iter().enumerate() {
-        let answer = carried_out(alloc, (types, kind), &mut vars, call)?;
-        assert_eq!(rt; answer.as_slice(), wanted, "operation {i}");
-        assert!(rt; starts_again(alloc, types, kind, &vars)?, "operation {i}");
+        if !answers(alloc, (types, kind), &mut vars, call, wanted)? {
+            return Ok(Some(i));
+        }
     }
-    Ok(())
+    Ok(None)
 }
 
 #[test]
 fn native_types_carry_out_operations(rt: HostRuntime) -> Result<(), AllocError> {
     let types = Types::native(rt.alloc())?;
     for &(place, calls) in &[(1, DIRECTORY), (2, LINES), (7, SINK)] {
-        carries_out(&rt, rt.alloc(), (&types, Kind { place }), calls)?;
+        let other = first_other(rt.alloc(), (&types, Kind { place }), calls)?;
+        assert!(rt; other.is_none(), "{place} {other:?}");
     }
     Ok(())
 }

@@ -194,17 +194,27 @@ fn standings_change(rt: HostRuntime) -> Result<(), AllocError> {
     takes_steps(&rt, rt.alloc(), &mut table, STANDINGS)
 }
 
+/// How many Ejects are created, of at most so many, up to the first that has not the next serial.
+fn count_created(table: &mut EjectTable<u32>, alloc: Global, most: u32) -> Result<u32, AllocError> {
+    for value in 0..most {
+        let wanted = Seen::Number { n: value + 1 };
+        if created(table, alloc, value)? != wanted {
+            return Ok(value);
+        }
+    }
+    Ok(most)
+}
+
+/// How many Ejects a new table creates, and whether one more is refused.
+fn filled(alloc: Global) -> Result<(u32, bool), AllocError> {
+    let mut table = EjectTable::new(alloc, 1, 1, 0)?;
+    let count = count_created(&mut table, alloc, 4096)?;
+    let wanted = Seen::Full(CreateRefusal::TooMany);
+    Ok((count, created(&mut table, alloc, 8)? == wanted))
+}
+
 #[test]
 fn at_most_so_many(rt: HostRuntime) -> Result<(), AllocError> {
-    let mut table = EjectTable::new(rt.alloc(), 1, 1, 0)?;
-    for value in 0..4096 {
-        let wanted = Seen::Number { n: value + 1 };
-        assert!(rt;
-            created(&mut table, rt.alloc(), value)? == wanted,
-            "at {value}"
-        );
-    }
-    let wanted = Seen::Full(CreateRefusal::TooMany);
-    assert!(rt; created(&mut table, rt.alloc(), 8)? == wanted);
+    assert_eq!(rt; filled(rt.alloc())?, (4096, true));
     Ok(())
 }

@@ -1,9 +1,7 @@
-use crate::common;
-use capability::{Cap, Rights, Uid};
+use crate::common::{Given, items_of, text};
 use eden_value::{Items, Status, Value, print};
 use epl_syntax::{Answer, Effect, Native};
 use std::alloc::{AllocError, Global};
-use std::process::Abort;
 use transput::*;
 
 /// The begin of an operation, or what a turn is told of the effect before.
@@ -21,14 +19,8 @@ enum Told {
     Broken,
 }
 
-const SOURCE: Cap = Cap {
-    uid: Uid {
-        node: 1,
-        epoch: 1,
-        serial: 1,
-    },
-    rights: Rights { bits: 0xFFFF },
-};
+/// The stage before.
+const SOURCE: Given = Given::FullCap { serial: 1 };
 
 /// Lines is filled with two texts.
 const LINES: &[(Told, &str)] = &[
@@ -131,62 +123,60 @@ const SINK: &[(Told, &str)] = &[
     (Told::Read, r#"return (["x", "y"])"#),
 ];
 
-fn text(alloc: Global, text: &str) -> Result<Value, AllocError> {
-    Ok(Value::Text {
-        text: common::text(alloc, text.as_bytes())?,
-    })
-}
-
-/// The arguments of `Open`: the stage before, and the argument where there is one.
-fn open_args(alloc: Global, stream: Stream) -> Result<Items, AllocError> {
-    let mut values = vec![in alloc; Value::Cap { cap: Some(SOURCE) }]?;
-    match stream {
-        Stream::Take => values.push(Value::Int { n: 2 })?,
-        Stream::Skip => values.push(Value::Int { n: 1 })?,
-        Stream::Only => values.push(text(alloc, "a")?)?,
-        _ => {}
-    }
-    Ok(Items { values })
-}
-
-fn number_args(alloc: Global, n: i64) -> Result<Items, AllocError> {
-    let values = vec![in alloc; Value::Int { n }]?;
-    Ok(Items { values })
-}
-
-fn fill_args(alloc: Global) -> Result<Items, AllocError> {
-    let texts = vec![in alloc; text(alloc, "x")?, text(alloc, "y")?]?;
-    let items = Items { values: texts };
-    let values = vec![in alloc; Value::List { items }]?;
-    Ok(Items { values })
-}
-
-fn no_args(alloc: Global) -> Items {
-    Items {
-        values: Vec::new(alloc),
-    }
-}
-
-fn reply(alloc: Global, code: i64, item: &str) -> Result<Answer, AllocError> {
-    let values = vec![in alloc; Value::Int { n: code }, text(alloc, item)?]?;
+fn reply(alloc: Global, status: Status, results: &[Given]) -> Result<Answer, AllocError> {
     Ok(Answer::Reply {
-        status: Status::Ok,
-        results: Items { values },
+        status,
+        results: items_of(alloc, results)?,
     })
+}
+
+/// The stage in which an operation of this name begins with these arguments.
+fn began(
+    alloc: Global,
+    stream: Stream,
+    name: &[u8],
+    args: &[Given],
+) -> Result<Option<Stage>, AllocError> {
+    let name = text(alloc, name)?;
+    let args = items_of(alloc, args)?;
+    Ok(Some(native_begin(alloc, stream, &name, &args)?))
+}
+
+/// The stage in which `Open` begins: it is given the stage before, and the argument where there is one.
+fn opened(alloc: Global, stream: Stream) -> Result<Option<Stage>, AllocError> {
+    match stream {
+        Stream::Take => began(alloc, stream, b"Open", &[SOURCE, Given::Number { n: 2 }]),
+        Stream::Skip => began(alloc, stream, b"Open", &[SOURCE, Given::Number { n: 1 }]),
+        Stream::Only => began(
+            alloc,
+            stream,
+            b"Open",
+            &[SOURCE, Given::Name { bytes: b"a" }],
+        ),
+        _ => began(alloc, stream, b"Open", &[SOURCE]),
+    }
 }
 
 /// The stage in which an operation begins, if one does.
 fn begun(alloc: Global, stream: Stream, told: Told) -> Result<Option<Stage>, AllocError> {
-    let (name, args) = match told {
-        Told::Open => ("Open", open_args(alloc, stream)?),
-        Told::Fill => ("Fill", fill_args(alloc)?),
-        Told::Transfer { position } => ("Transfer", number_args(alloc, position)?),
-        Told::Pump { wanted } => ("Pump", number_args(alloc, wanted)?),
-        Told::Read => ("Read", no_args(alloc)),
-        _ => return Ok(None),
-    };
-    let name = common::text(alloc, name.as_bytes())?;
-    Ok(Some(native_begin(alloc, stream, &name, &args)?))
+    match told {
+        Told::Open => opened(alloc, stream),
+        Told::Fill => began(
+            alloc,
+            stream,
+            b"Fill",
+            &[Given::Names { all: &[b"x", b"y"] }],
+        ),
+        Told::Transfer { position } => began(
+            alloc,
+            stream,
+            b"Transfer",
+            &[Given::Number { n: position }],
+        ),
+        Told::Pump { wanted } => began(alloc, stream, b"Pump", &[Given::Number { n: wanted }]),
+        Told::Read => began(alloc, stream, b"Read", &[]),
+        _ => Ok(None),
+    }
 }
 
 fn answer_of(alloc: Global, told: Told) -> Result<Answer, AllocError> {
@@ -195,12 +185,17 @@ fn answer_of(alloc: Global, told: Told) -> Result<Answer, AllocError> {
         Told::Failed => Ok(Answer::Code {
             status: Status::StoreFault,
         }),
-        Told::Item { text } => reply(alloc, 0, text),
-        Told::End => reply(alloc, 1, ""),
-        Told::Broken => Ok(Answer::Reply {
-            status: Status::Broken,
-            results: no_args(alloc),
-        }),
+        Told::Item { text } => {
+            let item = Given::Name {
+                bytes: text.as_bytes(),
+            };
+            reply(alloc, Status::Ok, &[Given::Number { n: 0 }, item])
+        }
+        Told::End => {
+            let nothing = Given::Name { bytes: b"" };
+            reply(alloc, Status::Ok, &[Given::Number { n: 1 }, nothing])
+        }
+        Told::Broken => reply(alloc, Status::Broken, &[]),
         _ => Ok(Answer::Go),
     }
 }
@@ -248,55 +243,83 @@ fn shown(alloc: Global, effect: &Effect) -> Result<Vec<u8>, AllocError> {
     Ok(out)
 }
 
-/// An Eject takes a turn, which ends in an effect.
+/// The effect in which a turn ends.
 fn turned(
     alloc: Global,
     stream: Stream,
     vars: &mut Items,
     stage: &mut Stage,
     told: Told,
-) -> Result<Vec<u8>, AllocError> {
+) -> Result<Effect, AllocError> {
+    let answer = answer_of(alloc, told)?;
+    native_turn(alloc, stream, vars, stage, answer)
+}
+
+/// Whether a turn, which may be the first of an operation, ends in this effect.
+fn ends_in(
+    alloc: Global,
+    stream: Stream,
+    vars: &mut Items,
+    stage: &mut Stage,
+    (told, want): (Told, &str),
+) -> Result<bool, AllocError> {
     if let Some(first) = begun(alloc, stream, told)? {
         *stage = first;
     }
-    let answer = answer_of(alloc, told)?;
-    let effect = native_turn(alloc, stream, vars, stage, answer)?;
-    shown(alloc, &effect)
+    let effect = turned(alloc, stream, vars, stage, told)?;
+    let shown = shown(alloc, &effect)?;
+    Ok(shown.as_slice() == want.as_bytes())
 }
 
-/// An Eject with these values takes a turn for each row, which ends in the effect of the row.
-fn takes_turns(
-    rt: &impl Abort,
+/// An Eject with these values takes a turn for each row, up to the first that does not end in the effect of the row.
+fn first_other(
     alloc: Global,
     stream: Stream,
     mut vars: Items,
     rows: &[(Told, &'static str)],
-) -> Result<(), AllocError> {
+) -> Result<Option<usize>, AllocError> {
     let mut stage = Stage::OfSink {
         stage: SinkStage::Reads,
     };
-    for (i, &(told, want)) in rows.iter().enumerate() {
-        let effect = turned(alloc, stream, &mut vars, &mut stage, told)?;
-        assert_eq!(rt; effect.as_slice(), want.as_bytes(), "{stream:?}, turn {i}");
+    for (i, &row) in rows.iter().enumerate() {
+        if !ends_in(alloc, stream, &mut vars, &mut stage, row)? {
+            return Ok(Some(i));
+        }
+    }
+    Ok(None)
+}
+
+/// The turns of each stream.
+const TURNS: &[(Stream, &[(Told, &str)])] = &[
+    (Stream::Lines, LINES),
+    (Stream::Take, TAKE),
+    (Stream::Skip, SKIP),
+    (Stream::Only, ONLY),
+    (Stream::Number, NUMBER),
+    (Stream::Sink, SINK),
+];
+
+#[test]
+fn each_type_takes_its_turns(rt: HostRuntime) -> Result<(), AllocError> {
+    for &(stream, rows) in TURNS {
+        let vars = native_values(rt.alloc(), stream)?;
+        let other = first_other(rt.alloc(), stream, vars, rows)?;
+        assert!(rt; other.is_none(), "{stream:?}, turn {other:?}");
     }
     Ok(())
 }
 
-#[test]
-fn each_type_takes_its_turns(rt: HostRuntime) -> Result<(), AllocError> {
-    let cases = &[
-        (Stream::Lines, LINES),
-        (Stream::Take, TAKE),
-        (Stream::Skip, SKIP),
-        (Stream::Only, ONLY),
-        (Stream::Number, NUMBER),
-        (Stream::Sink, SINK),
-    ];
-    for &(stream, rows) in cases {
-        let vars = native_values(rt.alloc(), stream)?;
-        takes_turns(&rt, rt.alloc(), stream, vars, rows)?;
-    }
-    Ok(())
+/// Those of the values that are stored, and the values of an Eject that starts from the stored ones.
+fn add_stored(
+    alloc: Global,
+    stream: Stream,
+    vars: &Items,
+    out: &mut Vec<u8>,
+) -> Result<(), AllocError> {
+    let durable = native_durable(alloc, stream, vars)?;
+    add_row(alloc, &durable, out)?;
+    let again = native_restart(stream, durable)?;
+    add_row(alloc, &again, out)
 }
 
 /// The values of a new Eject, those of them that are stored, and those of one that starts from the stored ones.
@@ -304,120 +327,117 @@ fn values_shown(alloc: Global, stream: Stream) -> Result<Vec<u8>, AllocError> {
     let mut out = Vec::new(alloc);
     let vars = native_values(alloc, stream)?;
     add_row(alloc, &vars, &mut out)?;
-    let durable = native_durable(alloc, stream, &vars)?;
-    add_row(alloc, &durable, &mut out)?;
-    let again = native_restart(stream, durable)?;
-    add_row(alloc, &again, &mut out)?;
+    add_stored(alloc, stream, &vars, &mut out)?;
     Ok(out)
 }
 
+/// What `values_shown` shows of each stream.
+const VALUES: &[(Stream, &str)] = &[
+    (
+        Stream::Lines,
+        "(false, [], true)(false, [])(false, [], true)",
+    ),
+    (
+        Stream::Take,
+        r#"(<none>, 0, 0, 0, "", true)(<none>, 0, 0, 0, "")(<none>, 0, 0, 0, "", true)"#,
+    ),
+    (
+        Stream::Skip,
+        r#"(<none>, 0, 0, 0, "", true)(<none>, 0, 0, 0, "")(<none>, 0, 0, 0, "", true)"#,
+    ),
+    (
+        Stream::Only,
+        r#"(<none>, "", 0, 0, "", true)(<none>, "", 0, 0, "")(<none>, "", 0, 0, "", true)"#,
+    ),
+    (
+        Stream::Number,
+        r#"(<none>, 0, 0, "", true)(<none>, 0, 0, "")(<none>, 0, 0, "", true)"#,
+    ),
+    (
+        Stream::Sink,
+        "(<none>, [], true)(<none>, [])(<none>, [], true)",
+    ),
+];
+
 #[test]
 fn values_at_first_stored_and_again(rt: HostRuntime) -> Result<(), AllocError> {
-    let cases = &[
-        (
-            Stream::Lines,
-            "(false, [], true)(false, [])(false, [], true)",
-        ),
-        (
-            Stream::Take,
-            r#"(<none>, 0, 0, 0, "", true)(<none>, 0, 0, 0, "")(<none>, 0, 0, 0, "", true)"#,
-        ),
-        (
-            Stream::Skip,
-            r#"(<none>, 0, 0, 0, "", true)(<none>, 0, 0, 0, "")(<none>, 0, 0, 0, "", true)"#,
-        ),
-        (
-            Stream::Only,
-            r#"(<none>, "", 0, 0, "", true)(<none>, "", 0, 0, "")(<none>, "", 0, 0, "", true)"#,
-        ),
-        (
-            Stream::Number,
-            r#"(<none>, 0, 0, "", true)(<none>, 0, 0, "")(<none>, 0, 0, "", true)"#,
-        ),
-        (
-            Stream::Sink,
-            "(<none>, [], true)(<none>, [])(<none>, [], true)",
-        ),
-    ];
-    for &(stream, want) in cases {
+    for &(stream, want) in VALUES {
         let shown = values_shown(rt.alloc(), stream)?;
-        assert_eq!(rt; shown.as_slice(), want.as_bytes(), "{stream:?}");
+        assert!(rt; shown.as_slice() == want.as_bytes(), "{stream:?}");
     }
     Ok(())
 }
 
+/// Native types, and the stream that each one is.
+const NATIVE: &[(Native, Option<Stream>)] = &[
+    (Native::Cell, None),
+    (Native::Directory, None),
+    (Native::Lines, Some(Stream::Lines)),
+    (Native::Only, Some(Stream::Only)),
+    (Native::Sink, Some(Stream::Sink)),
+];
+
 #[test]
 fn two_native_types_are_no_streams(rt: HostRuntime) {
-    let cases = &[
-        (Native::Cell, None),
-        (Native::Directory, None),
-        (Native::Lines, Some(Stream::Lines)),
-        (Native::Only, Some(Stream::Only)),
-        (Native::Sink, Some(Stream::Sink)),
-    ];
-    for &(native, want) in cases {
-        assert_eq!(rt; Stream::of(native), want);
+    for &(native, want) in NATIVE {
+        assert!(rt; Stream::of(native) == want, "{want:?}");
     }
 }
 
-/// The stored values of a Number that took in so many items and handed on so many.
-fn counted(alloc: Global, got: i64, made: i64) -> Result<Items, AllocError> {
-    let last = text(alloc, "")?;
-    let values = vec![in alloc;
-        Value::Cap { cap: None },
-        Value::Int { n: got },
-        Value::Int { n: made },
-        last,
-    ]?;
-    Ok(Items { values })
+/// How many items a Number took in and how many it handed on, and whether it starts from that.
+const COUNTED: &[(i64, i64, bool)] = &[
+    (0, 0, true),
+    (2, 2, true),
+    (2, 1, true),
+    (1, 2, false),
+    (2, -1, false),
+];
+
+/// Whether a stream starts from these stored values.
+fn starts(alloc: Global, stream: Stream, stored: &[Given]) -> Result<bool, AllocError> {
+    let durable = items_of(alloc, stored)?;
+    Ok(native_start(stream, &durable))
 }
 
 #[test]
 fn no_more_was_handed_on_than_taken_in(rt: HostRuntime) -> Result<(), AllocError> {
-    let cases = &[
-        (0, 0, true),
-        (2, 2, true),
-        (2, 1, true),
-        (1, 2, false),
-        (2, -1, false),
-    ];
-    for &(got, made, want) in cases {
-        let durable = counted(rt.alloc(), got, made)?;
-        let starts = native_start(Stream::Number, &durable);
-        assert_eq!(rt; starts, want, "at {got} and {made}");
+    for &(got, made, want) in COUNTED {
+        let stored = [
+            Given::NoCap,
+            Given::Number { n: got },
+            Given::Number { n: made },
+            Given::Name { bytes: b"" },
+        ];
+        assert!(rt;
+            starts(rt.alloc(), Stream::Number, &stored)? == want,
+            "at {got} and {made}"
+        );
     }
-    assert!(rt; native_start(Stream::Lines, &no_args(rt.alloc())));
+    assert!(rt; starts(rt.alloc(), Stream::Lines, &[])?);
     Ok(())
 }
 
-/// A Sink with so many items, which were saved.
-fn sink_of(alloc: Global, held: u32) -> Result<Items, AllocError> {
-    let mut texts = Vec::new(alloc);
-    for _ in 0..held {
-        texts.push(text(alloc, "x")?)?;
-    }
-    let values = vec![in alloc;
-        Value::Cap { cap: Some(SOURCE) },
-        Value::List {
-            items: Items { values: texts }
-        },
-        Value::Bool { b: true },
-    ]?;
-    Ok(Items { values })
-}
+/// The one item that a Sink holds many times.
+const ITEM: &[u8] = b"x";
+
+/// The items of a Sink, which were saved, and the turn that it takes.
+const HELD: &[(&[&[u8]], &[(Told, &str)])] = &[
+    (
+        &[ITEM; 255],
+        &[(Told::Pump { wanted: 1 }, "invoke 1 Transfer (255)")],
+    ),
+    (
+        &[ITEM; 256],
+        &[(Told::Pump { wanted: 1 }, "return (2, 256)")],
+    ),
+];
 
 #[test]
 fn a_sink_holds_256_items(rt: HostRuntime) -> Result<(), AllocError> {
-    let cases: &[(u32, &[(Told, &str)])] = &[
-        (
-            255,
-            &[(Told::Pump { wanted: 1 }, "invoke 1 Transfer (255)")],
-        ),
-        (256, &[(Told::Pump { wanted: 1 }, "return (2, 256)")]),
-    ];
-    for &(held, rows) in cases {
-        let vars = sink_of(rt.alloc(), held)?;
-        takes_turns(&rt, rt.alloc(), Stream::Sink, vars, rows)?;
+    for &(all, rows) in HELD {
+        let vars = items_of(rt.alloc(), &[SOURCE, Given::Names { all }, Given::True])?;
+        let other = first_other(rt.alloc(), Stream::Sink, vars, rows)?;
+        assert!(rt; other.is_none(), "of {}", all.len());
     }
     Ok(())
 }
