@@ -1,7 +1,7 @@
+use capability::Cap;
 use eden_codec::*;
 use eden_value::Value;
 use std::alloc::{AllocError, Global};
-use std::test::Fail;
 
 /// A Cell of version 1 that holds the number 5.
 const CELL: [u8; 18] = [1, 4, 67, 101, 108, 108, 0, 1, 1, 1, 0, 0, 0, 0, 0, 0, 0, 5];
@@ -25,6 +25,24 @@ fn written_again(alloc: Global, bytes: &[u8]) -> Option<Vec<u8>> {
     }
 }
 
+/// Whether bytes are read, and what is read has the same bytes.
+fn is_written_again(alloc: Global, bytes: &[u8]) -> bool {
+    match written_again(alloc, bytes) {
+        Some(found) => found.as_slice() == bytes,
+        None => false,
+    }
+}
+
+/// Adds a text of one letter, so many times, to the bytes of a representation.
+fn add_text(bytes: &mut Vec<u8>, letter: u8, length: u16) -> Result<(), AllocError> {
+    bytes.push(3)?;
+    bytes.extend_from_slice(&length.to_be_bytes())?;
+    for _ in 0..length {
+        bytes.push(letter)?;
+    }
+    Ok(())
+}
+
 /// A type of version 1 that holds a list of so many texts of 1,024 bytes, and one of `last` bytes.
 fn texts(alloc: Global, name: &[u8], count: u8, last: u16) -> Result<Vec<u8>, AllocError> {
     let mut bytes = Vec::new(alloc);
@@ -34,28 +52,24 @@ fn texts(alloc: Global, name: &[u8], count: u8, last: u16) -> Result<Vec<u8>, Al
     bytes.extend_from_slice(&[0, 1, 1, 6])?;
     bytes.extend_from_slice(&(u16::from(count) + 1).to_be_bytes())?;
     for _ in 0..count {
-        bytes.extend_from_slice(&[3, 4, 0])?;
-        for _ in 0..1024 {
-            bytes.push(b'x')?;
-        }
+        add_text(&mut bytes, b'x', 1024)?;
     }
-    bytes.push(3)?;
-    bytes.extend_from_slice(&last.to_be_bytes())?;
-    for _ in 0..last {
-        bytes.push(b'y')?;
-    }
+    add_text(&mut bytes, b'y', last)?;
     Ok(bytes)
 }
 
+/// Whether these bytes are read as those of `CELL` have to be.
+fn is_read_as_cell(alloc: Global, bytes: &[u8]) -> bool {
+    let Ok(rep) = decode_rep(alloc, bytes) else {
+        return false;
+    };
+    let is_number = matches!(rep.values.values.as_slice(), [Value::Int { n: 5 }]);
+    is_number && rep.version == 1 && rep.type_name.bytes.as_slice() == b"Cell".as_slice()
+}
+
 #[test]
-fn a_cell_is_read_and_written(rt: HostRuntime) -> Result<(), Fail> {
-    let rep = decode_rep(rt.alloc(), &CELL)
-        .ok()
-        .ok_or("a representation")?;
-    assert_eq!(rt; rep.type_name.bytes.as_slice(), b"Cell".as_slice());
-    assert_eq!(rt; (rep.version, rep.values.values.len()), (1, 1));
-    assert!(rt; matches!(rep.values.values.first(), Some(Value::Int { n: 5 })));
-    Ok(())
+fn a_cell_is_read_and_written(rt: HostRuntime) {
+    assert!(rt; is_read_as_cell(rt.alloc(), &CELL));
 }
 
 /// The first bad place of a Cell with another byte.
@@ -84,19 +98,35 @@ const CHANGED: &[(usize, u8, u32)] = &[
 ];
 
 #[test]
-fn a_changed_byte_is_found_at_its_place(rt: HostRuntime) {
+fn a_prefix_ends_at_its_bad_place(rt: HostRuntime) {
     for place in 0..CELL.len() {
-        // a prefix ends at its bad place
-        let found = bad_place(rt.alloc(), &CELL[..place]);
-        assert_eq!(rt; found, Some(place as u32));
-        // With 255 in its place a byte of the version or of the number spells another representation.
+        assert!(rt;
+            bad_place(rt.alloc(), &CELL[..place]) == Some(place as u32),
+            "at {place}"
+        );
+    }
+}
+
+/// With 255 in its place a byte of the version or of the number spells another representation.
+#[test]
+fn a_byte_of_255_is_found_unless_it_spells_another(rt: HostRuntime) {
+    for place in 0..CELL.len() {
         let spells = place == 6 || place == 7 || place > 9;
         let want = if spells { None } else { Some(place as u32) };
-        assert_eq!(rt; bad_place_with(rt.alloc(), place, 255), want, "at {place}");
+        assert!(rt;
+            bad_place_with(rt.alloc(), place, 255) == want,
+            "at {place}"
+        );
     }
+}
+
+#[test]
+fn a_changed_byte_is_found_at_its_place(rt: HostRuntime) {
     for &(place, byte, want) in CHANGED {
-        let found = bad_place_with(rt.alloc(), place, byte);
-        assert_eq!(rt; found, Some(want), "at {place}");
+        assert!(rt;
+            bad_place_with(rt.alloc(), place, byte) == Some(want),
+            "at {place}"
+        );
     }
 }
 
@@ -133,26 +163,33 @@ const REFUSED: &[(&[u8], u32)] = &[
 #[test]
 fn values_have_their_spellings(rt: HostRuntime) {
     for &bytes in SPELLED {
-        let again = written_again(rt.alloc(), bytes);
-        assert!(rt; matches!(&again, Some(found) if found.as_slice() == bytes));
-    }
-    for &(bytes, want) in REFUSED {
-        assert_eq!(rt; bad_place(rt.alloc(), bytes), Some(want));
+        assert!(rt; is_written_again(rt.alloc(), bytes));
     }
 }
 
 #[test]
-fn rights_are_kept(rt: HostRuntime) -> Result<(), Fail> {
-    let bytes: &[u8] = &[1, 1, 65, 0, 1, 1, 5, 8, 0, 0, 0, 2, 0, 0, 1, 0, 0, 2];
-    let rep = decode_rep(rt.alloc(), bytes)
-        .ok()
-        .ok_or("a representation")?;
-    let Some(Value::Cap { cap: Some(cap) }) = rep.values.values.first() else {
-        return Err(Fail::from("a capability"));
-    };
-    let found = (cap.rights.bits, cap.uid.epoch, cap.uid.serial);
-    assert_eq!(rt; found, (2, 2, 256));
-    Ok(())
+fn bytes_that_spell_no_values_are_refused(rt: HostRuntime) {
+    for (i, &(bytes, want)) in REFUSED.iter().enumerate() {
+        assert!(rt; bad_place(rt.alloc(), bytes) == Some(want), "at {i}");
+    }
+}
+
+/// A representation of one capability.
+const HELD: &[u8] = &[1, 1, 65, 0, 1, 1, 5, 8, 0, 0, 0, 2, 0, 0, 1, 0, 0, 2];
+
+/// The capability that is first in a representation.
+fn first_cap(alloc: Global, bytes: &[u8]) -> Option<Cap> {
+    let rep = decode_rep(alloc, bytes).ok()?;
+    match rep.values.values.first() {
+        Some(Value::Cap { cap }) => *cap,
+        _ => None,
+    }
+}
+
+#[test]
+fn rights_are_kept(rt: HostRuntime) {
+    let cap = first_cap(rt.alloc(), HELD).expect(&rt, "a capability");
+    assert!(rt; (cap.rights.bits, cap.uid.epoch, cap.uid.serial) == (2, 2, 256));
 }
 
 /// A name, how many texts of 1,024 bytes and how long a last one stand in its list, and how many bytes it all has.
@@ -161,14 +198,31 @@ const LONG: &[(&[u8], u8, u16, usize)] = &[
     (b"Hoard", 255, 243, 262_144),
 ];
 
+/// Whether a type with so many texts has so many bytes, and is read.
+fn has_length(
+    alloc: Global,
+    name: &[u8],
+    count: u8,
+    last: u16,
+    length: usize,
+) -> Result<bool, AllocError> {
+    let bytes = texts(alloc, name, count, last)?;
+    Ok(bytes.len() == length && is_written_again(alloc, &bytes))
+}
+
 #[test]
 fn long_representations(rt: HostRuntime) -> Result<(), AllocError> {
     for &(name, count, last, length) in LONG {
-        let bytes = texts(rt.alloc(), name, count, last)?;
-        assert_eq!(rt; bytes.len(), length);
-        let again = written_again(rt.alloc(), &bytes);
-        assert!(rt; matches!(&again, Some(found) if found.as_slice() == bytes.as_slice()));
+        assert!(rt;
+            has_length(rt.alloc(), name, count, last, length)?,
+            "{length}"
+        );
     }
+    Ok(())
+}
+
+#[test]
+fn a_representation_past_the_limit(rt: HostRuntime) -> Result<(), AllocError> {
     let past = texts(rt.alloc(), b"Hoard", 255, 244)?;
     assert!(rt; matches!(decode_rep(rt.alloc(), &past), Err(DecodeRefusal::TooLarge)));
     Ok(())
@@ -185,5 +239,5 @@ fn sizes_of_values(rt: HostRuntime) {
     // the number 1, a text of 10 bytes, and the list of the absent capability and of true
     let bytes: &[u8] =
         b"\x01\x01A\0\x01\x03\x01\0\0\0\0\0\0\0\x01\x03\0\x0axxxxxxxxxx\x06\0\x02\x04\x02\x01";
-    assert_eq!(rt; size_of(rt.alloc(), bytes), Some(28));
+    assert!(rt; size_of(rt.alloc(), bytes) == Some(28));
 }

@@ -37,17 +37,26 @@ const TEXTS: &[(&[u8], u8, u32, Option<ValueRefusal>)] = &[
     (b"a", 0x7F, 1, Some(ValueRefusal::BadByte)),
 ];
 
+/// Why a text is refused that begins so, with a byte so many times behind it.
+fn text_refusal(
+    alloc: Global,
+    front: &[u8],
+    byte: u8,
+    count: u32,
+) -> Result<Option<ValueRefusal>, AllocError> {
+    let mut bytes = Vec::from_slice(alloc, front)?;
+    for _ in 0..count {
+        bytes.push(byte)?;
+    }
+    Ok(text_of(alloc, &bytes).err())
+}
+
 #[test]
 fn texts_have_printable_bytes_and_a_greatest_length(rt: HostRuntime) -> Result<(), AllocError> {
-    for &(front, byte, count, want) in TEXTS {
-        let mut bytes = Vec::from_slice(rt.alloc(), front)?;
-        for _ in 0..count {
-            bytes.push(byte)?;
-        }
-        assert_eq!(rt;
-            text_of(rt.alloc(), &bytes).err(),
-            want,
-            "{byte} {count} times"
+    for (i, &(front, byte, count, want)) in TEXTS.iter().enumerate() {
+        assert!(rt;
+            text_refusal(rt.alloc(), front, byte, count)? == want,
+            "at {i}"
         );
     }
     Ok(())
@@ -63,52 +72,103 @@ fn nested(alloc: Global, lists: u32) -> Result<Vec<Value>, AllocError> {
     Ok(values)
 }
 
-#[test]
-fn lists_have_a_greatest_length_and_depth(rt: HostRuntime) -> Result<(), AllocError> {
-    for &(length, want) in &[(0, None), (256, None), (257, Some(ValueRefusal::TooLong))] {
-        let mut values = Vec::new(rt.alloc());
-        for _ in 0..length {
-            values.push(Value::Bool { b: true })?;
-        }
-        assert_eq!(rt; list_of(values).err(), want, "at {length}");
+/// So many items.
+fn flat(alloc: Global, length: u32) -> Result<Vec<Value>, AllocError> {
+    let mut values = Vec::new(alloc);
+    for _ in 0..length {
+        values.push(Value::Bool { b: true })?;
     }
-    for &(depth, want) in &[(3, None), (4, Some(ValueRefusal::TooDeep))] {
-        let values = nested(rt.alloc(), depth)?;
-        assert_eq!(rt; list_of(values).err(), want, "at {depth}");
+    Ok(values)
+}
+
+/// Why a list of these values is refused.
+fn list_refusal(values: Vec<Value>) -> Option<ValueRefusal> {
+    list_of(values).err()
+}
+
+#[test]
+fn lists_have_a_greatest_length(rt: HostRuntime) -> Result<(), AllocError> {
+    for &(length, want) in &[(0, None), (256, None), (257, Some(ValueRefusal::TooLong))] {
+        assert!(rt;
+            list_refusal(flat(rt.alloc(), length)?) == want,
+            "at {length}"
+        );
     }
     Ok(())
+}
+
+#[test]
+fn lists_have_a_greatest_depth(rt: HostRuntime) -> Result<(), AllocError> {
+    for &(depth, want) in &[(3, None), (4, Some(ValueRefusal::TooDeep))] {
+        assert!(rt;
+            list_refusal(nested(rt.alloc(), depth)?) == want,
+            "at {depth}"
+        );
+    }
+    Ok(())
+}
+
+/// Whether a value is the one of these bytes.
+fn equals(alloc: Global, found: &Value, spelled: &[u8]) -> Result<bool, AllocError> {
+    let wanted = value(alloc, spelled)?;
+    Ok(equal(found, &wanted))
+}
+
+/// Whether the value of these bytes equals its copy.
+fn equals_its_copy(alloc: Global, spelled: &[u8]) -> Result<bool, AllocError> {
+    let whole = value(alloc, spelled)?;
+    let other = copy(alloc, &whole)?;
+    Ok(equal(&whole, &other))
 }
 
 #[test]
 fn a_copy_equals_its_value(rt: HostRuntime) -> Result<(), AllocError> {
+    assert!(rt; equals_its_copy(rt.alloc(), MIXED)?);
     let mixed = value(rt.alloc(), MIXED)?;
-    let other = copy(rt.alloc(), &mixed)?;
-    assert!(rt; equal(&mixed, &other));
-    assert!(rt; !equal(&mixed, &value(rt.alloc(), ONE)?));
+    assert!(rt; !equals(rt.alloc(), &mixed, ONE)?);
     Ok(())
+}
+
+/// Values of different kinds.
+const COPIED: &[&[u8]] = &[MIXED, TRUE];
+
+/// The values of these bytes, copied.
+fn copies(alloc: Global, all: &[&[u8]]) -> Result<Items, AllocError> {
+    let mut values = Vec::new(alloc);
+    for &spelled in all {
+        values.push(value(alloc, spelled)?)?;
+    }
+    copy_items(alloc, &Items { values })
+}
+
+/// Whether values are those of these bytes.
+fn all_equal(alloc: Global, values: &[Value], all: &[&[u8]]) -> Result<bool, AllocError> {
+    for (found, &spelled) in values.iter().zip(all) {
+        if !equals(alloc, found, spelled)? {
+            return Ok(false);
+        }
+    }
+    Ok(values.len() == all.len())
 }
 
 #[test]
 fn copied_items_equal_what_was_copied(rt: HostRuntime) -> Result<(), AllocError> {
-    let rows: &[&[u8]] = &[MIXED, TRUE];
-    let mut values = Vec::new(rt.alloc());
-    for &spelled in rows {
-        values.push(value(rt.alloc(), spelled)?)?;
-    }
-    let copied = copy_items(rt.alloc(), &Items { values })?;
-    assert_eq!(rt; copied.values.len(), rows.len());
-    for (found, &spelled) in copied.values.iter().zip(rows) {
-        assert!(rt; equal(found, &value(rt.alloc(), spelled)?));
-    }
+    let copied = copies(rt.alloc(), COPIED)?;
+    assert!(rt; all_equal(rt.alloc(), &copied.values, COPIED)?);
     Ok(())
+}
+
+/// Whether the value of these bytes has two capabilities, of these rights.
+fn has_rights(alloc: Global, spelled: &[u8], rights: [u16; 2]) -> Result<bool, AllocError> {
+    let held = value(alloc, spelled)?;
+    let found = caps(alloc, &held)?;
+    let [first, second] = rights;
+    Ok(found.len() == 2 && found[0].rights.bits == first && found[1].rights.bits == second)
 }
 
 #[test]
 fn present_capabilities_are_listed(rt: HostRuntime) -> Result<(), AllocError> {
-    let held = value(rt.alloc(), HELD)?;
-    let found = caps(rt.alloc(), &held)?;
-    assert_eq!(rt; found.len(), 2);
-    assert_eq!(rt; (found[0].rights.bits, found[1].rights.bits), (2, 1));
+    assert!(rt; has_rights(rt.alloc(), HELD, [2, 1])?);
     Ok(())
 }
 
@@ -120,23 +180,30 @@ const OF_KINDS: &[(&[u8], [bool; 4])] = &[
     (MIXED, [false, false, false, false]),
 ];
 
+/// Whether the value of these bytes is a list of items of a kind.
+fn is_list_of(alloc: Global, spelled: &[u8], kind: Kind) -> Result<bool, AllocError> {
+    let list = Kind::List {
+        of: Box::new(alloc, kind)?,
+    };
+    let v = value(alloc, spelled)?;
+    Ok(has_kind(&v, &list))
+}
+
+/// Whether the value of these bytes is of the four kinds.
+fn kinds_of(alloc: Global, spelled: &[u8]) -> Result<[bool; 4], AllocError> {
+    let v = value(alloc, spelled)?;
+    Ok([
+        is_list_of(alloc, spelled, Kind::Int)?,
+        is_list_of(alloc, spelled, Kind::Text)?,
+        has_kind(&v, &Kind::Int),
+        has_kind(&v, &Kind::Cap),
+    ])
+}
+
 #[test]
 fn values_are_of_their_kind(rt: HostRuntime) -> Result<(), AllocError> {
-    let integers = Kind::List {
-        of: Box::new(rt.alloc(), Kind::Int)?,
-    };
-    let texts = Kind::List {
-        of: Box::new(rt.alloc(), Kind::Text)?,
-    };
-    for &(spelled, wanted) in OF_KINDS {
-        let v = value(rt.alloc(), spelled)?;
-        let found = [
-            has_kind(&v, &integers),
-            has_kind(&v, &texts),
-            has_kind(&v, &Kind::Int),
-            has_kind(&v, &Kind::Cap),
-        ];
-        assert_eq!(rt; found, wanted);
+    for (i, &(spelled, wanted)) in OF_KINDS.iter().enumerate() {
+        assert!(rt; kinds_of(rt.alloc(), spelled)? == wanted, "at {i}");
     }
     Ok(())
 }
@@ -150,12 +217,18 @@ const PRINTED: &[(&[u8], &[u8])] = &[
     (b"\x06\0\x01\x06\0\x01\x06\0\0", b"= [[[]]]"),
 ];
 
+/// Whether this is there once the value of these bytes is printed behind two bytes.
+fn prints(alloc: Global, spelled: &[u8], want: &[u8]) -> Result<bool, AllocError> {
+    let v = value(alloc, spelled)?;
+    let mut out = Vec::from_slice(alloc, b"= ")?;
+    print(alloc, &v, &mut out)?;
+    Ok(out.as_slice() == want)
+}
+
 #[test]
 fn printed_values(rt: HostRuntime) -> Result<(), AllocError> {
-    for &(spelled, want) in PRINTED {
-        let mut out = Vec::from_slice(rt.alloc(), b"= ")?;
-        print(rt.alloc(), &value(rt.alloc(), spelled)?, &mut out)?;
-        assert_eq!(rt; out.as_slice(), want);
+    for (i, &(spelled, want)) in PRINTED.iter().enumerate() {
+        assert!(rt; prints(rt.alloc(), spelled, want)?, "at {i}");
     }
     Ok(())
 }
@@ -181,6 +254,9 @@ const STATUSES: &[(Status, u8, &str)] = &[
 #[test]
 fn statuses_have_numbers_and_words(rt: HostRuntime) {
     for &(status, number, word) in STATUSES {
-        assert_eq!(rt; (status.number(), status.word()), (number, word));
+        assert!(rt;
+            status.number() == number && status.word() == word,
+            "{number}"
+        );
     }
 }
