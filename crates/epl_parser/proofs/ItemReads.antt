@@ -25,7 +25,7 @@ use Rattle.epl_parser.specs.declared.item.ItemHead.{ItemHead}
 use Rattle.epl_parser.specs.declared.item.ItemHead.TheVariants as item
 use Rattle.epl_parser.specs.declared.item.MemberHead.{MemberHead}
 use Rattle.epl_parser.specs.declared.item.MemberHead.TheVariants as member
-use Rattle.epl_syntax.specs.Tree.{PlacedShape, Statement, Upgrade, TypeTree}
+use Rattle.epl_syntax.specs.Tree.{PlacedShape, Local, Parameter, Statement, Upgrade, TypeTree}
 use Rattle.epl_parser.specs.Heads.{ties}
 use Rattle.epl_parser.specs.OneToken.{the_mark, if_mark, the_word, the_lower, if_lower, headed, OneAt, look_one}
 use Rattle.epl_parser.specs.WrittenKinds.{kind_head, IsKind, int_kind, bool_kind, text_kind, cap_kind, list_kind}
@@ -40,16 +40,19 @@ use Rattle.epl_parser.specs.Items.{MemberRest, IsMember, item_head, ItemRest, Is
 use Rattle.epl_parser.specs.Items.{IsEdentype}
 use Rattle.epl_parser.specs.ItemReader.{lower_kind, read_binding, read_local, read_locals, read_parameter}
 use Rattle.epl_parser.specs.ItemReader.{read_parameters, read_parameter_list, read_kinds, read_results, read_class}
-use Rattle.epl_parser.specs.ItemReader.{read_operation, read_process, read_variable, read_condition, read_member_rest}
+use Rattle.epl_parser.specs.ItemReader.{read_signature, read_code, read_operation, read_process, read_variable}
+use Rattle.epl_parser.specs.ItemReader.{read_condition, read_member_rest}
 use Rattle.epl_parser.specs.ItemReader.{read_member, read_members, read_monitor, read_item_rest, read_item}
-use Rattle.epl_parser.specs.ItemReader.{read_items, read_change, read_changes, read_upgrade, read_upgrades}
+use Rattle.epl_parser.specs.ItemReader.{read_items, read_change, read_changes, read_conversion, read_upgrade, read_upgrades}
 use Rattle.epl_parser.specs.ItemReader.{read_version, read_edentype}
 use Rattle.epl_parser.proofs.KindReader.{sample, written_kind_reads}
+use Rattle.epl_parser.proofs.Nested.{three_steps, alike_reads}
 use Rattle.epl_parser.proofs.SingleTokens.{the_mark_is, is_the_word}
 use Rattle.epl_parser.proofs.ConstantReads.{constant_reads}
 use Rattle.epl_parser.proofs.ExpressionReads.{expression_reads}
 use Rattle.epl_parser.proofs.Follows.{is_not, no_mark, no_word, is_headed_kind, before_word, EndsBlock}
-use Rattle.epl_parser.proofs.TokenReads.{word_reads, mark_reads, lower_reads, upper_reads, number_reads, before_token}
+use Rattle.epl_parser.proofs.TokenReads.{word_reads, mark_reads, lower_reads, upper_reads, before_token}
+use Rattle.epl_parser.proofs.TokenReads.{lower_behind_reads, number_behind_reads}
 use Rattle.epl_parser.proofs.TokenReads.{part_reads, end_reads, other_word, parens_reads, separated_begins}
 use Rattle.epl_parser.proofs.StatementReads.{end_block, close_no_comma, statement_begins, statements_reads}
 
@@ -124,13 +127,16 @@ steps_follow f G n begins goes a ps b (step_on {b = c} {front = front} {back = b
 module _ (bytes : List ℕ) (turns : ℕ) where
   -- ---- variables and parameters
   pub binding_reads : {m : List Token → Type 0} → Reads 32 turns (IsBinding bytes) m (read_binding bytes turns)
-  unfolding read_binding
+  unfolding read_binding read_parameter
   binding_reads =
-      lower_reads turns 0 bytes (λ name.
+      alike_reads 32 turns
+      (lower_reads turns 0 bytes (λ name.
       mark_reads turns 0 mark.Colon (λ c.
       and_reads 32 turns (written_kind_reads 0 turns) (λ of_kind.
       mark_reads turns 0 mark.Equal (λ q. end_reads turns (λ start. record { name = name; kind = of_kind; start = start })
-      (constant_reads bytes 0 turns) (λ v k. tt)))))
+      (constant_reads bytes 0 turns) (λ v k. tt))))))
+      (three_steps {D = Parameter} (look_one 0 (the_lower bytes)) (λ name. look_one 0 (the_mark mark.Colon))
+      (λ name c. read_written_kind 0) (λ name c of_kind. record { name = name; kind = of_kind }) _)
 
   local_reads : Reads 32 turns (IsLocal bytes) Anything (read_local bytes turns)
   unfolding read_local
@@ -189,8 +195,7 @@ module _ (bytes : List ℕ) (turns : ℕ) where
   unfolding read_class
   class_reads =
       lower_reads turns 0 bytes (λ name.
-      word_reads turns 0 word.Limit (λ l.
-      number_reads turns 0 (λ limit. value_reads 32 turns (record { name = name; limit = limit }))))
+      number_behind_reads turns 0 word.Limit (λ limit. value_reads 32 turns (record { name = name; limit = limit })))
 
   body_reads : Reads 32 turns (Row (IsStatement bytes 1)) EndsBlock (read_body bytes turns)
   unfolding read_body
@@ -222,19 +227,29 @@ module _ (bytes : List ℕ) (turns : ℕ) where
         (statement_begins bytes turns (expression_reads bytes turns) 1) no_var q.front q.first q.begins (bare q.back ++ v)
         (before_token NoVar 0 (the_word word.End) end_no_var _ q.back b q.goes_on v)))
 
+  code_reads : {B : Type 0} (f : List Local → List Statement → B) {m : List Token → Type 0}
+      → Reads 32 turns (Then (Row (IsLocal bytes)) (λ locals. Ended (f locals))) m
+      (look_both (read_code bytes turns) (λ c. look_here (f c.0 c.1)))
+  unfolding read_code
+  code_reads f {m = m} =
+      alike_reads 32 turns
+      (then_reads 32 turns turns 0 (Row (IsLocal bytes)) (λ locals. Ended (f locals)) NoVar m (read_locals bytes turns) _ locals_reads
+      (λ ps locals p. ended_reads (f locals)) (λ ps locals p. omega arith) (omega arith)
+      (λ ps locals p qs b q v k. ended_no_var (f locals) qs b q v))
+      (three_steps (read_locals bytes turns) (λ locals. read_body bytes turns) (λ locals body. look_one 0 (the_word word.End))
+      (λ locals body e. (locals, body)) _)
+
   operation_reads : {m : List Token → Type 0} → Reads 32 turns (OperationRest bytes) m (read_operation bytes turns)
-  unfolding read_operation
-  operation_reads {m = m} =
+  unfolding read_operation read_signature
+  operation_reads =
       upper_reads turns 0 bytes (λ name.
-      word_reads turns 0 word.Needs (λ n.
-      number_reads turns 0 (λ needs.
-      word_reads turns 0 word.Class (λ c.
-      lower_reads turns 0 bytes (λ class.
-      and_reads 32 turns parameter_list_reads (λ params.
+      number_behind_reads turns 0 word.Needs (λ needs.
+      lower_behind_reads turns 0 word.Class bytes (λ class.
+      alike_reads 32 turns
+      (and_reads 32 turns parameter_list_reads (λ params.
       word_reads turns 0 word.Returns (λ r.
       and_reads 32 turns results_reads (λ results.
-      then_reads 32 turns turns 0 (Row (IsLocal bytes)) _ NoVar m (read_locals bytes turns) _ locals_reads
-      (λ ps locals p. ended_reads (λ body. record {
+      code_reads (λ locals body. record {
         name = name;
         needs = needs;
         class = class;
@@ -242,19 +257,13 @@ module _ (bytes : List ℕ) (turns : ℕ) where
         results = results;
         locals = locals;
         body = body;
-      }))
-      (λ ps locals p. omega arith) (omega arith)
-      (λ ps locals p qs b q v k. ended_no_var (λ body. record
-      { name = name; needs = needs; class = class; params = params; results = results; locals = locals; body = body }) qs b q v)))))))))
+      })))))
+      (three_steps (read_parameter_list bytes turns) (λ params. look_one 0 (the_word word.Returns)) (λ params r. read_results bytes turns)
+      (λ params r results. (params, results)) _))))
 
   process_reads : {m : List Token → Type 0} → Reads 32 turns (ProcessRest bytes) m (read_process bytes turns)
   unfolding read_process
-  process_reads {m = m} =
-      upper_reads turns 0 bytes (λ name.
-      then_reads 32 turns turns 0 (Row (IsLocal bytes)) _ NoVar m (read_locals bytes turns) _ locals_reads
-      (λ ps locals p. ended_reads (λ body. record { name = name; locals = locals; body = body })) (λ ps locals p. omega arith)
-      (omega arith)
-      (λ ps locals p qs b q v k. ended_no_var (λ body. record { name = name; locals = locals; body = body }) qs b q v))
+  process_reads = upper_reads turns 0 bytes (λ name. code_reads (λ locals body. record { name = name; locals = locals; body = body }))
 
   -- ---- parts of monitors
   variable_reads : (durable : Bool) (number : ℕ) (e : TypeTree)
@@ -349,15 +358,17 @@ module _ (bytes : List ℕ) (turns : ℕ) where
   end_change t u w e = (before_word word.End refl t u w e, not_by lower_kind word.End refl t u e)
 
   upgrade_reads : Reads 32 turns (IsUpgrade bytes) Anything (read_upgrade bytes turns)
-  unfolding read_upgrade
+  unfolding read_upgrade read_conversion
   upgrade_reads =
       word_reads turns 0 word.Upgrade (λ first.
-      word_reads turns 0 word.From (λ f.
-      number_reads turns 0 (λ from.
-      and_reads 32 turns parameter_list_reads (λ params.
+      number_behind_reads turns 0 word.From (λ from.
+      alike_reads 32 turns
+      (and_reads 32 turns parameter_list_reads (λ params.
       part_reads turns 0 (the_word word.End) changes_reads end_change (λ changes.
       word_reads turns 0 word.End (λ u. value_reads 32 turns
-      (record { from = from; params = params; changes = changes; place = first.start })))))))
+      (record { from = from; params = params; changes = changes; place = first.start })))))
+      (three_steps (read_parameter_list bytes turns) (λ params. read_changes bytes turns)
+      (λ params changes. look_one 0 (the_word word.End)) (λ params changes u. (params, changes)) _)))
 
   abbrev pub NoUpgrade : List Token → Type 0
   NoUpgrade = EndsBefore (the_word word.Upgrade)
@@ -379,8 +390,7 @@ module _ (bytes : List ℕ) (turns : ℕ) where
   unfolding read_version
   version_reads =
       if_reads 32 turns (the_word word.Version) None _ NoVersion _
-      (word_reads turns 0 word.Version (λ w.
-      number_reads turns 0 (λ number. value_reads 32 turns (Some number))))
+      (number_behind_reads turns 0 word.Version (λ number. value_reads 32 turns (Some number)))
       (λ ps b p. then_begins (λ u. 0) (the_word word.Version) _ ps b p) (λ v k. k)
 
   -- upgrades and the end of the type

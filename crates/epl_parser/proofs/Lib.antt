@@ -12,6 +12,7 @@ pub mod InnerLevels
 pub mod ItemReads
 pub mod KindReader
 pub mod Loops
+pub mod Nested
 pub mod OneAnswer
 pub mod Ranks
 pub mod RowLoops

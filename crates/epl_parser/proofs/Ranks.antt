@@ -4,7 +4,7 @@ use Rattle.epl_parser.specs.declared.head.Level.{Level}
 use Rattle.epl_parser.specs.declared.head.Level.TheVariants as level
 
 abbrev pub chain_rank : Level → ℕ
-chain_rank level.Or = 16
-chain_rank level.And = 13
-chain_rank level.Sum = 8
-chain_rank level.Term = 5
+chain_rank level.Or = 17
+chain_rank level.And = 14
+chain_rank level.Sum = 9
+chain_rank level.Term = 6

@@ -1,11 +1,10 @@
 -- One turn of a loop of the parser that collects what it reads is one step of its reader.
 use Rattle.std.proofs.Common.{◌≡◌, ℕ, zero, suc, ◌+◌, ◌-◌, ◌<◌, List, [], ◌∷◌, ◌++◌, Option, Some, None, Ok, refl}
 use Rattle.std.proofs.Common.{sym, ap, ◌∙◌, arith, add-one}
-use Rattle.grammar.specs.Depths.{Look, Looker, look_then, look_both, led, look_mapped, look_here, look_if, look_many}
-use Rattle.grammar.specs.Separated.{look_next}
+use Rattle.grammar.specs.Depths.{Look, Looker, look_then, look_both, led, look_mapped, look_here, look_if}
 use Rattle.grammar.specs.Sequences.{look_row}
 use Rattle.epl_syntax.specs.declared.token.Token.{Token}
-use Rattle.epl_parser.specs.OneToken.{peeked, look_one}
+use Rattle.epl_parser.specs.OneToken.{peeked}
 use Rattle.epl_syntax.specs.Tree.{block_of}
 use Rattle.epl_parser.specs.StatementReader.{read_statements_by, inner_block, read_statements}
 use Rattle.epl_parser.proofs.Loops.{steps_on}
@@ -26,15 +25,6 @@ module _ {A K : Type 0} (f : Token → Option K) (R : Looker Token A) where
       let one : suc n - 1 ≡ n = omega arith in
       sym e ∙ ap (λ o. led o (look_both (look_mapped (λ x. had ++ x ∷ []) R) (look_row f R n)) (Ok (had, t ∷ ts)) (t ∷ ts)) h
       ∙ ap (λ m. look_then (look_then (R (t ∷ ts)) (λ x. look_here (had ++ x ∷ []))) (look_row f R m)) (sym one)
-
--- ---- with a symbol between each two
-module _ {A K : Type 0} (place : ℕ) (f : Token → Option K) (R : Looker Token A) where
-  pub parted_on : (n : ℕ) (had : List A) (ts us : List Token) (k j : K) (a : A) (v : List Token) (whole : Look Token (List A)) → 0 < n
-      → peeked f ts ≡ Some k → look_one place f ts ≡ Ok (j, us) → R us ≡ Ok (a, v)
-      → look_many f (look_next 32 place f R) n had ts ≡ whole → look_many f (look_next 32 place f R) (n - 1) (had ++ a ∷ []) v ≡ whole
-  parted_on n had ts us k j a v whole some h s r e =
-      steps_on f (look_next 32 place f R) n had ts k (had ++ a ∷ []) v whole some h
-      (ap (λ z. look_then z (λ i. look_mapped (λ x. had ++ x ∷ []) R)) s ∙ ap (λ z. look_then z (λ x. look_here (had ++ x ∷ []))) r) e
 
 -- ---- a part that may be left out
 pub if_over : {A K : Type 0} (f : Token → Option K) (a : A) (R : Looker Token A) (ts : List Token) → peeked f ts ≡ None

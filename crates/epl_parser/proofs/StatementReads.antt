@@ -1,14 +1,14 @@
 -- The readers of statements read their grammar.
 use Rattle.std.proofs.Common.{◌≡◌, ℕ, zero, suc, ◌+◌, ◌≤◌, ◌<◌, List, [], ◌∷◌, ◌++◌, Some, None, refl, sym, subst, arith}
 use Rattle.grammar.specs.Grammar.{Grammar, Nothing, Then, Mapped}
-use Rattle.grammar.specs.Depths.{Placed, bare, Perhaps, Looker, look_if, Reads}
+use Rattle.grammar.specs.Depths.{Placed, bare, Perhaps, Looker, look_both, look_here, look_if, Reads}
 use Rattle.grammar.proofs.Lookers.{then_reads}
 use Rattle.grammar.specs.Choices.{BeginsBy}
 use Rattle.grammar.proofs.Choices.{Anything, same_reads, mapped_reads, before_less, at_reads, EndsBefore, if_reads}
 use Rattle.grammar.proofs.Leads.{lead_reads}
 use Rattle.grammar.specs.Sequences.{Row}
 use Rattle.grammar.proofs.Sequences.{symbol_reads, and_reads, value_reads, then_begins, all_reads}
-use Rattle.grammar.specs.Separated.{Separated}
+use Rattle.grammar.specs.Separated.{Separated, look_closed}
 use Rattle.grammar.proofs.Separated.{separated_reads}
 use Rattle.epl_syntax.specs.declared.token.Mark.TheVariants as mark
 use Rattle.epl_syntax.specs.declared.token.Token.{Token}
@@ -27,16 +27,17 @@ use Rattle.epl_parser.specs.ExpressionReader.{read_expression, EndsExpression}
 use Rattle.epl_parser.specs.Statements.{statement_head, the_target, InParens, IsGives, PlainRest, IsStatement, IsElse}
 use Rattle.epl_parser.specs.Statements.{no_else, or_else, IsBlock, no_statement}
 use Rattle.epl_parser.specs.StatementReader.{not_mark, look_in_parens, read_expressions, read_names, read_gives}
-use Rattle.epl_parser.specs.StatementReader.{read_name_for, read_assign, read_create, read_invoke, read_return}
+use Rattle.epl_parser.specs.StatementReader.{read_name_for, read_assign, read_receiver, read_create, read_request, read_invoke, read_return}
 use Rattle.epl_parser.specs.StatementReader.{read_else_by, read_if_by, read_while_by, read_with_by, read_rest_by}
 use Rattle.epl_parser.specs.StatementReader.{read_statement_by, read_statements_by, inner_block, read_statement}
 use Rattle.epl_parser.specs.StatementReader.{read_statements}
 use Rattle.epl_parser.proofs.KindReader.{sample}
+use Rattle.epl_parser.proofs.Nested.{in_step, two_steps, three_steps, alike_reads}
 use Rattle.epl_parser.proofs.SingleTokens.{the_mark_is, the_word_is}
 use Rattle.epl_parser.proofs.Firsts.{FirstIs, BeginsExpression, expression_first, no_close}
 use Rattle.epl_parser.proofs.Follows.{is_not, no_head, before_word, before_mark, EndsStatement, EndsBlock, statement_goes}
 use Rattle.epl_parser.proofs.TokenReads.{word_reads, mark_reads, lower_reads, upper_reads, before_token, part_reads}
-use Rattle.epl_parser.proofs.TokenReads.{end_reads, other_mark, other_word, parens_reads, separated_begins}
+use Rattle.epl_parser.proofs.TokenReads.{lower_behind_reads, end_reads, other_mark, other_word, parens_reads, separated_begins}
 use Rattle.epl_parser.proofs.StatementForms.{token_then, word_then, Rest, Form, to_statement, from_statement}
 use Rattle.epl_parser.proofs.StatementForms.{to_block, from_block, ElseForm, to_else, from_else}
 
@@ -125,15 +126,19 @@ module _ (bytes : List ℕ) (turns : ℕ) (reads : (outer : ℕ)
   assign_reads d t = mark_reads turns d mark.Assign (λ a. end_reads turns (λ value. Assign (name_at bytes t) value) (reads d) (λ v k. k.0))
 
   create_reads : (d : ℕ) (t : Token) → Reads 32 turns (PlainRest bytes d head.Create t) EndsStatement (read_create bytes turns d t)
-  unfolding read_create
+  unfolding read_create read_receiver
   create_reads d t =
       upper_reads turns d bytes (λ type_name.
-      word_reads turns d word.Status (λ w.
-      lower_reads turns d bytes (λ status.
-      word_reads turns d word.Gives (λ g.
+      lower_behind_reads turns d word.Status bytes (λ status.
+      alike_reads 32 turns
+      (word_reads turns d word.Gives (λ g.
       mark_reads turns d mark.Open (λ o.
       lower_reads turns d bytes (λ gives.
-      mark_reads turns d mark.Close (λ c. value_reads 32 turns (Create type_name status gives t.start))))))))
+      mark_reads turns d mark.Close (λ c. value_reads 32 turns (Create type_name status gives t.start))))))
+      (in_step (look_one d (the_word word.Gives)) (λ g. look_both (look_one d (the_mark mark.Open))
+      (λ o. look_both (look_one d (the_lower bytes)) (λ n. look_both (look_one d (the_mark mark.Close)) (λ c. look_here n)))) _
+      (λ g. three_steps (look_one d (the_mark mark.Open)) (λ o. look_one d (the_lower bytes)) (λ o gives. look_one d (the_mark mark.Close))
+      (λ o gives c. gives) _))))
 
   some_gives : (d : ℕ) → Reads 32 turns (Perhaps [] (IsGives bytes d)) EndsStatement
       (look_if (the_word word.Gives) [] (read_gives bytes turns d))
@@ -142,15 +147,17 @@ module _ (bytes : List ℕ) (turns : ℕ) (reads : (outer : ℕ)
       (λ ps b p. then_begins (λ u. d) (the_word word.Gives) _ ps b p) (λ v k. k.1)
 
   invoke_reads : (d : ℕ) (t : Token) → Reads 32 turns (PlainRest bytes d head.Invoke t) EndsStatement (read_invoke bytes turns d t)
-  unfolding read_invoke the_target
+  unfolding read_invoke read_request the_target
   invoke_reads d t =
       symbol_reads 32 turns (λ u. d) (the_target bytes) (sample (kind.Word word.Me)) (target.Me 0) refl (λ whom.
-      mark_reads turns d mark.Dot (λ dot.
+      alike_reads 32 turns
+      (mark_reads turns d mark.Dot (λ dot.
       upper_reads turns d bytes (λ operation.
       and_reads 32 turns (args_reads d) (λ args.
-      word_reads turns d word.Status (λ w.
-      lower_reads turns d bytes (λ status. end_reads turns (λ gives. Invoke whom operation args status gives t.start) (some_gives d)
-      (λ v k. k)))))))
+      lower_behind_reads turns d word.Status bytes (λ status.
+      end_reads turns (λ gives. Invoke whom operation args status gives t.start) (some_gives d) (λ v k. k))))))
+      (three_steps (look_one d (the_mark mark.Dot)) (λ dot. look_one d (the_upper bytes))
+      (λ dot operation. look_in_parens d (read_expressions bytes turns d)) (λ dot operation args. (operation, args)) _))
 
   return_reads : (d : ℕ) (t : Token) → Reads 32 turns (PlainRest bytes d head.Return t) EndsStatement (read_return bytes turns d t)
   unfolding read_return
@@ -181,28 +188,41 @@ module _ (bytes : List ℕ) (turns : ℕ) (reads : (outer : ℕ)
 
     if_rest_reads : (t : Token) → Reads 32 turns (Rest bytes d head.If t) EndsStatement (read_if_by bytes turns block d t)
     if_rest_reads t =
-        part_reads turns d (the_word word.Then) (reads d) then_ends (λ test.
+        alike_reads 32 turns
+        (part_reads turns d (the_word word.Then) (reads d) then_ends (λ test.
         word_reads turns d word.Then (λ u.
-        then_reads 32 turns turns 0 (IsBlock bytes (suc d)) _ EndsBlock EndsStatement block _ k
+        alike_reads 32 turns
+        (then_reads 32 turns turns 0 (IsBlock bytes (suc d)) _ EndsBlock EndsStatement block _ k
         (λ ps so p. part_reads turns d (the_word word.End) else_reads end_else
         (λ otherwise. word_reads turns d word.End (λ v. value_reads 32 turns (If test so otherwise t.start))))
         (λ ps so p. omega arith) (omega arith)
         (λ ps so p qs s q v h. subst (λ l. EndsBlock (bare l ++ v)) (sym q.whole)
-        (else_or_end (λ o u. Nothing (If test so o t.start)) q.front q.back q.first s q.begins q.goes_on v))))
+        (else_or_end (λ o u. Nothing (If test so o t.start)) q.front q.back q.first s q.begins q.goes_on v)))
+        (three_steps block (λ so. read_else_by bytes turns block d) (λ so otherwise. look_one d (the_word word.End))
+        (λ so otherwise u. (so, otherwise)) _))))
+        (two_steps (read_expression bytes turns d) (λ test. look_one d (the_word word.Then)) (λ test u. test) _)
+
+    -- the statements inside, up to the end
+    ended_reads : (f : Statements → Statement)
+        → Reads 32 turns (Then (IsBlock bytes (suc d)) (λ body. Then (OneAt d (the_word word.End)) (λ u. Nothing (f body)))) EndsStatement
+        (look_both (look_closed 32 d (the_word word.End) block) (λ body. look_here (f body)))
+    ended_reads f =
+        alike_reads 32 turns
+        (part_reads turns d (the_word word.End) k (λ t u w e. end_block t u w e) (λ body.
+        word_reads turns d word.End (λ v. value_reads 32 turns (f body))))
+        (two_steps block (λ body. look_one d (the_word word.End)) (λ body u. body) _)
 
     while_rest_reads : (t : Token) → Reads 32 turns (Rest bytes d head.While t) EndsStatement (read_while_by bytes turns block d t)
     while_rest_reads t =
-        part_reads turns d (the_word word.Do) (reads d) do_ends (λ test.
-        word_reads turns d word.Do (λ u.
-        part_reads turns d (the_word word.End) k (λ t u w e. end_block t u w e) (λ body.
-        word_reads turns d word.End (λ v. value_reads 32 turns (While test body t.start)))))
+        alike_reads 32 turns
+        (part_reads turns d (the_word word.Do) (reads d) do_ends (λ test.
+        word_reads turns d word.Do (λ u. ended_reads (λ body. While test body t.start))))
+        (two_steps (read_expression bytes turns d) (λ test. look_one d (the_word word.Do)) (λ test u. test) _)
 
     with_rest_reads : (t : Token) → Reads 32 turns (Rest bytes d head.With t) EndsStatement (read_with_by bytes turns block d t)
     with_rest_reads t =
         upper_reads turns d bytes (λ monitor.
-        word_reads turns d word.Do (λ u.
-        part_reads turns d (the_word word.End) k (λ t u w e. end_block t u w e) (λ body.
-        word_reads turns d word.End (λ v. value_reads 32 turns (With monitor body t.start)))))
+        word_reads turns d word.Do (λ u. ended_reads (λ body. With monitor body t.start)))
 
     rest_reads : (h : StatementHead) (t : Token) → Reads 32 turns (Rest bytes d h t) EndsStatement (read_rest_by bytes turns block d h t)
     rest_reads head.If t = if_rest_reads t

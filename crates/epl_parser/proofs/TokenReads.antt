@@ -15,9 +15,11 @@ use Rattle.epl_syntax.specs.declared.tree.Name.{Name}
 use Rattle.epl_syntax.specs.declared.tree.Number.{Number}
 use Rattle.epl_syntax.specs.declared.word.Word.{Word}
 use Rattle.epl_parser.specs.OneToken.{name_at, the_mark, if_mark, the_word, if_word, the_lower, the_upper, the_number, OneAt, look_one}
+use Rattle.epl_parser.specs.OneToken.{lower_behind, number_behind}
 use Rattle.epl_parser.specs.Statements.{InParens}
 use Rattle.epl_parser.specs.StatementReader.{unless, not_mark, look_in_parens}
 use Rattle.epl_parser.proofs.KindReader.{sample}
+use Rattle.epl_parser.proofs.Nested.{alike, in_step, alike_reads}
 use Rattle.epl_parser.proofs.SingleTokens.{is_the_mark, the_mark_is, is_the_word, the_word_is}
 use Rattle.epl_parser.proofs.StatementForms.{next_token}
 
@@ -51,6 +53,24 @@ module _ (fuel d : ℕ) {B : Type 0} {m : List Token → Type 0} where
       → Reads 32 fuel (Then (OneAt d the_number) H) m (look_both (look_one d the_number) T)
   unfolding the_number
   number_reads g = symbol_reads 32 fuel (λ u. d) the_number (sample (kind.Int 0)) (record { n = 0; place = 0 }) refl g
+
+-- ---- one behind a word
+module _ (fuel d : ℕ) {B : Type 0} {m : List Token → Type 0} (w : Word) where
+  pub lower_behind_reads : (bytes : List ℕ) {H : Name → Grammar (Placed Token) B} {T : Name → Looker Token B}
+      → ((n : Name) → Reads 32 fuel (H n) m (T n))
+      → Reads 32 fuel (Then (OneAt d (the_word w)) (λ u. Then (OneAt d (the_lower bytes)) H)) m (look_both (lower_behind bytes w d) T)
+  unfolding lower_behind
+  lower_behind_reads bytes {T = T} g =
+      alike_reads 32 fuel (word_reads fuel d w (λ u. lower_reads fuel d bytes g))
+      (in_step (look_one d (the_word w)) (λ u. look_one d (the_lower bytes)) T (λ u. alike (λ v. refl)))
+
+  pub number_behind_reads : {H : Number → Grammar (Placed Token) B} {T : Number → Looker Token B}
+      → ((n : Number) → Reads 32 fuel (H n) m (T n))
+      → Reads 32 fuel (Then (OneAt d (the_word w)) (λ u. Then (OneAt d the_number) H)) m (look_both (number_behind w d) T)
+  unfolding number_behind
+  number_behind_reads {T = T} g =
+      alike_reads 32 fuel (word_reads fuel d w (λ u. number_reads fuel d g))
+      (in_step (look_one d (the_word w)) (λ u. look_one d the_number) T (λ u. alike (λ v. refl)))
 
 -- ---- a part before a token, and a part at the end
 pub before_token : {A B : Type 0} (n : List Token → Type 0) (d : ℕ) (f : Token → Option A)

@@ -3,7 +3,7 @@ use Rattle.std.specs.Prelude.{ℕ, ◌+◌, Bool, true, false, List, [], length,
 use Rattle.grammar.specs.Blocks.{◌>>=◌, ◌>>◌}
 use Rattle.grammar.specs.Depths.{Looker, look_here, look_if, look_many}
 use Rattle.grammar.specs.FirstFault.{look_whole}
-use Rattle.grammar.specs.Separated.{look_separated}
+use Rattle.grammar.specs.Separated.{look_closed, look_separated}
 use Rattle.grammar.specs.Sequences.{look_row}
 use Rattle.epl_syntax.specs.declared.token.Mark.TheVariants as mark
 use Rattle.epl_syntax.specs.declared.token.Token.{Token}
@@ -16,8 +16,8 @@ use Rattle.epl_parser.specs.declared.item.ItemHead.{ItemHead}
 use Rattle.epl_parser.specs.declared.item.ItemHead.TheVariants as item
 use Rattle.epl_parser.specs.declared.item.MemberHead.{MemberHead}
 use Rattle.epl_parser.specs.declared.item.MemberHead.TheVariants as member
-use Rattle.epl_syntax.specs.Tree.{PlacedShape, Local, Parameter, Operation, Process, Change, Upgrade, TypeTree}
-use Rattle.epl_parser.specs.OneToken.{the_mark, the_word, the_lower, the_upper, the_number, look_one}
+use Rattle.epl_syntax.specs.Tree.{PlacedShape, Local, Parameter, Statement, Operation, Process, Change, Upgrade, TypeTree}
+use Rattle.epl_parser.specs.OneToken.{the_mark, the_word, the_lower, the_upper, look_one, lower_behind, number_behind}
 use Rattle.epl_parser.specs.WrittenKinds.{read_written_kind}
 use Rattle.epl_parser.specs.Constants.{read_constant}
 use Rattle.epl_parser.specs.ExpressionReader.{read_expression}
@@ -33,20 +33,24 @@ lower_kind _ = None
 unfoldable pub read_version : Looker Token (Option Number)
 read_version =
     look_if (the_word word.Version) None (do
-      look_one 0 (the_word word.Version)
-      number ← look_one 0 the_number
+      number ← number_behind word.Version 0
       look_here (Some number))
 
 module _ (bytes : List ℕ) (turns : ℕ) where
   -- ---- variables and parameters
-  unfoldable pub read_binding : Looker Token Local
-  read_binding = do
+  unfoldable pub read_parameter : Looker Token Parameter
+  read_parameter = do
     name ← look_one 0 (the_lower bytes)
     look_one 0 (the_mark mark.Colon)
     of_kind ← read_written_kind 0
+    look_here (record { name = name; kind = of_kind })
+
+  unfoldable pub read_binding : Looker Token Local
+  read_binding = do
+    x ← read_parameter
     look_one 0 (the_mark mark.Equal)
     start ← read_constant bytes 0
-    look_here (record { name = name; kind = of_kind; start = start })
+    look_here (record { name = x.name; kind = x.kind; start = start })
 
   unfoldable pub read_local : Looker Token Local
   read_local = do
@@ -55,13 +59,6 @@ module _ (bytes : List ℕ) (turns : ℕ) where
 
   unfoldable pub read_locals : Looker Token (List Local)
   read_locals = look_row (the_word word.Var) read_local turns []
-
-  unfoldable pub read_parameter : Looker Token Parameter
-  read_parameter = do
-    name ← look_one 0 (the_lower bytes)
-    look_one 0 (the_mark mark.Colon)
-    of_kind ← read_written_kind 0
-    look_here (record { name = name; kind = of_kind })
 
   unfoldable pub read_parameters : Looker Token (List Parameter)
   read_parameters = look_separated 32 0 (the_mark mark.Comma) turns read_parameter
@@ -79,32 +76,39 @@ module _ (bytes : List ℕ) (turns : ℕ) where
   unfoldable pub read_class : Looker Token ClassDecl
   read_class = do
     name ← look_one 0 (the_lower bytes)
-    look_one 0 (the_word word.Limit)
-    limit ← look_one 0 the_number
+    limit ← number_behind word.Limit 0
     look_here (record { name = name; limit = limit })
+
+  -- parameters and results
+  unfoldable pub read_signature : Looker Token (List Parameter × List PlacedShape)
+  read_signature = do
+    params ← read_parameter_list
+    look_one 0 (the_word word.Returns)
+    results ← read_results
+    look_here (params, results)
+
+  -- variables, statements and the end behind them
+  unfoldable pub read_code : Looker Token (List Local × List Statement)
+  read_code = do
+    locals ← read_locals
+    body ← read_body bytes turns
+    look_one 0 (the_word word.End)
+    look_here (locals, body)
 
   unfoldable pub read_operation : Looker Token Operation
   read_operation = do
     name ← look_one 0 (the_upper bytes)
-    look_one 0 (the_word word.Needs)
-    needs ← look_one 0 the_number
-    look_one 0 (the_word word.Class)
-    class ← look_one 0 (the_lower bytes)
-    params ← read_parameter_list
-    look_one 0 (the_word word.Returns)
-    results ← read_results
-    locals ← read_locals
-    body ← read_body bytes turns
-    look_one 0 (the_word word.End)
-    look_here (record { name = name; needs = needs; class = class; params = params; results = results; locals = locals; body = body })
+    needs ← number_behind word.Needs 0
+    class ← lower_behind bytes word.Class 0
+    s ← read_signature
+    c ← read_code
+    look_here (record { name = name; needs = needs; class = class; params = s.0; results = s.1; locals = c.0; body = c.1 })
 
   unfoldable pub read_process : Looker Token Process
   read_process = do
     name ← look_one 0 (the_upper bytes)
-    locals ← read_locals
-    body ← read_body bytes turns
-    look_one 0 (the_word word.End)
-    look_here (record { name = name; locals = locals; body = body })
+    c ← read_code
+    look_here (record { name = name; locals = c.0; body = c.1 })
 
   -- a variable, added to the type
   unfoldable pub read_variable : Bool → ℕ → TypeTree → Looker Token TypeTree
@@ -133,9 +137,7 @@ module _ (bytes : List ℕ) (turns : ℕ) where
   unfoldable pub read_monitor : TypeTree → Looker Token TypeTree
   read_monitor e = do
     name ← look_one 0 (the_upper bytes)
-    inside ← read_members (length e.monitors + 1) (with_monitor name e)
-    look_one 0 (the_word word.End)
-    look_here inside
+    look_closed 32 0 (the_word word.End) (read_members (length e.monitors + 1) (with_monitor name e))
 
   abbrev pub read_item_rest : TypeTree → ItemHead → Looker Token TypeTree
   read_item_rest e item.Durable = read_variable true 0 e
@@ -170,15 +172,20 @@ module _ (bytes : List ℕ) (turns : ℕ) where
   unfoldable pub read_changes : Looker Token (List Change)
   read_changes = look_row (λ t. lower_kind t.kind) read_change turns []
 
-  unfoldable pub read_upgrade : Looker Token Upgrade
-  read_upgrade = do
-    first ← look_one 0 (the_word word.Upgrade)
-    look_one 0 (the_word word.From)
-    from ← look_one 0 the_number
+  -- parameters, assignments and the end behind them
+  unfoldable pub read_conversion : Looker Token (List Parameter × List Change)
+  read_conversion = do
     params ← read_parameter_list
     changes ← read_changes
     look_one 0 (the_word word.End)
-    look_here (record { from = from; params = params; changes = changes; place = first.start })
+    look_here (params, changes)
+
+  unfoldable pub read_upgrade : Looker Token Upgrade
+  read_upgrade = do
+    first ← look_one 0 (the_word word.Upgrade)
+    from ← number_behind word.From 0
+    c ← read_conversion
+    look_here (record { from = from; params = c.0; changes = c.1; place = first.start })
 
   unfoldable pub read_upgrades : Looker Token (List Upgrade)
   read_upgrades = look_row (the_word word.Upgrade) read_upgrade turns []

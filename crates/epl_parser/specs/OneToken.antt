@@ -1,6 +1,7 @@
 -- Single tokens: a mark or word that is wanted, a name, a number.
 use Rattle.std.specs.Prelude.{ℕ, ◌-◌, List, [], ◌∷◌, take, drop, Option, Some, None, Err, if◌then◌else◌}
 use denote.Enum.Bare.{sameb}
+use Rattle.grammar.specs.Blocks.{◌>>◌}
 use Rattle.grammar.specs.Depths.{Placed, At, bad, Looker, look_at, found_at}
 use Rattle.grammar.specs.Grammar.{Grammar}
 use Rattle.epl_syntax.specs.contracts.token.Mark.{the_type as the_marks}
@@ -73,6 +74,18 @@ OneAt place f = At (λ a. place) f
 
 abbrev pub look_one : {A : Type 0} → ℕ → (Token → Option A) → Looker Token A
 look_one place f = look_at 32 (λ a. place) f
+
+-- the name with a small first letter behind a word
+unfoldable pub lower_behind : List ℕ → Word → ℕ → Looker Token Name
+lower_behind bytes w d = do
+  look_one d (the_word w)
+  look_one d (the_lower bytes)
+
+-- the number behind a word
+unfoldable pub number_behind : Word → ℕ → Looker Token Number
+number_behind w d = do
+  look_one d (the_word w)
+  look_one d the_number
 
 -- what f has for a token's kind, with the token
 abbrev pub with_token : {A : Type 0} → Option A → Token → Option (A × Token)

@@ -2,18 +2,19 @@
 use Rattle.std.specs.Prelude.{ℕ, zero, suc, List, [], Option, Some, None}
 use Rattle.grammar.specs.Blocks.{◌>>=◌, ◌>>◌}
 use Rattle.grammar.specs.Depths.{Looker, look_both, look_here, look_mapped, look_if}
-use Rattle.grammar.specs.Separated.{look_separated}
+use Rattle.grammar.specs.Separated.{look_closed, look_separated}
 use Rattle.grammar.specs.Sequences.{look_row}
 use Rattle.epl_syntax.specs.declared.token.Mark.TheVariants as mark
 use Rattle.epl_syntax.specs.declared.token.Mark.{Mark}
 use Rattle.epl_syntax.specs.declared.token.Token.{Token}
 use Rattle.epl_syntax.specs.declared.tree.Name.{Name}
+use Rattle.epl_syntax.specs.declared.word.Word.{Word}
 use Rattle.epl_syntax.specs.declared.word.Word.TheVariants as word
 use Rattle.epl_parser.specs.declared.statement.StatementHead.{StatementHead}
 use Rattle.epl_parser.specs.declared.statement.StatementHead.TheVariants as head
 use Rattle.epl_syntax.specs.Tree.{Expression, Statement, Statements, Assign, If, While, With, Wait, Signal, Yield}
 use Rattle.epl_syntax.specs.Tree.{Deactivate, Checkpoint, Destroy, Create, Invoke, Return, no_statements, block_of}
-use Rattle.epl_parser.specs.OneToken.{name_at, the_mark, the_word, the_lower, the_upper, headed, look_one}
+use Rattle.epl_parser.specs.OneToken.{name_at, the_mark, the_word, the_lower, the_upper, headed, look_one, lower_behind}
 use Rattle.epl_parser.specs.WrittenKinds.{out_of_steps}
 use Rattle.epl_parser.specs.ExpressionReader.{read_expression}
 use Rattle.epl_parser.specs.Statements.{statement_head, the_target}
@@ -60,27 +61,37 @@ module _ (bytes : List ℕ) (turns : ℕ) where
     value ← read_expression bytes turns d
     look_here (Assign (name_at bytes t) value)
 
+  -- the one variable that takes a result
+  unfoldable pub read_receiver : ℕ → Looker Token Name
+  read_receiver d = do
+    look_one d (the_word word.Gives)
+    look_one d (the_mark mark.Open)
+    name ← look_one d (the_lower bytes)
+    look_one d (the_mark mark.Close)
+    look_here name
+
   unfoldable pub read_create : ℕ → Token → Looker Token Statement
   read_create d t = do
     type_name ← look_one d (the_upper bytes)
-    look_one d (the_word word.Status)
-    status ← look_one d (the_lower bytes)
-    look_one d (the_word word.Gives)
-    look_one d (the_mark mark.Open)
-    gives ← look_one d (the_lower bytes)
-    look_one d (the_mark mark.Close)
+    status ← lower_behind bytes word.Status d
+    gives ← read_receiver d
     look_here (Create type_name status gives t.start)
+
+  -- an operation and its arguments
+  unfoldable pub read_request : ℕ → Looker Token (Name × List Expression)
+  read_request d = do
+    look_one d (the_mark mark.Dot)
+    operation ← look_one d (the_upper bytes)
+    args ← look_in_parens d (read_expressions d)
+    look_here (operation, args)
 
   unfoldable pub read_invoke : ℕ → Token → Looker Token Statement
   read_invoke d t = do
     whom ← look_one d (the_target bytes)
-    look_one d (the_mark mark.Dot)
-    operation ← look_one d (the_upper bytes)
-    args ← look_in_parens d (read_expressions d)
-    look_one d (the_word word.Status)
-    status ← look_one d (the_lower bytes)
+    r ← read_request d
+    status ← lower_behind bytes word.Status d
     gives ← look_if (the_word word.Gives) [] (read_gives d)
-    look_here (Invoke whom operation args status gives t.start)
+    look_here (Invoke whom r.0 r.1 status gives t.start)
 
   unfoldable pub read_return : ℕ → Token → Looker Token Statement
   read_return d t = do
@@ -108,29 +119,35 @@ module _ (bytes : List ℕ) (turns : ℕ) where
         look_one d (the_word word.Else)
         block)
 
-  abbrev pub read_if_by : Looker Token Statements → ℕ → Token → Looker Token Statement
-  read_if_by block d t = do
-    test ← read_expression bytes turns d
-    look_one d (the_word word.Then)
+  -- the expression that is tested, before this word
+  abbrev pub read_tested : Word → ℕ → Looker Token Expression
+  read_tested w d = look_closed 32 d (the_word w) (read_expression bytes turns d)
+
+  -- the statements behind "then" and those behind "else", up to the end
+  abbrev pub read_branches_by : Looker Token Statements → ℕ → Looker Token (Statements × Statements)
+  read_branches_by block d = do
     so ← block
     otherwise ← read_else_by block d
     look_one d (the_word word.End)
-    look_here (If test so otherwise t.start)
+    look_here (so, otherwise)
+
+  abbrev pub read_if_by : Looker Token Statements → ℕ → Token → Looker Token Statement
+  read_if_by block d t = do
+    test ← read_tested word.Then d
+    b ← read_branches_by block d
+    look_here (If test b.0 b.1 t.start)
 
   abbrev pub read_while_by : Looker Token Statements → ℕ → Token → Looker Token Statement
   read_while_by block d t = do
-    test ← read_expression bytes turns d
-    look_one d (the_word word.Do)
-    body ← block
-    look_one d (the_word word.End)
+    test ← read_tested word.Do d
+    body ← look_closed 32 d (the_word word.End) block
     look_here (While test body t.start)
 
   abbrev pub read_with_by : Looker Token Statements → ℕ → Token → Looker Token Statement
   read_with_by block d t = do
     monitor ← look_one d (the_upper bytes)
     look_one d (the_word word.Do)
-    body ← block
-    look_one d (the_word word.End)
+    body ← look_closed 32 d (the_word word.End) block
     look_here (With monitor body t.start)
 
   abbrev pub read_rest_by : Looker Token Statements → ℕ → StatementHead → Token → Looker Token Statement
@@ -162,6 +179,9 @@ module _ (bytes : List ℕ) (turns : ℕ) where
 
   unfoldable pub read_else : ℕ → ℕ → Looker Token Statements
   read_else n d = read_else_by (inner_block n (suc d)) d
+
+  unfoldable pub read_branches : ℕ → ℕ → Looker Token (Statements × Statements)
+  read_branches n d = read_branches_by (inner_block n (suc d)) d
 
   unfoldable pub read_if : ℕ → ℕ → Token → Looker Token Statement
   read_if n d t = read_if_by (inner_block n (suc d)) d t

@@ -1,14 +1,17 @@
 //! Reading expressions: a function for each rule of the grammar.
-ghost use Rattle.std.specs.Prelude.{◌≡◌, ◌≤◌, ◌+◌, IfOk, map};
+ghost use Rattle.std.specs.Prelude.{◌≡◌, ◌≤◌, ◌+◌, suc, max, IfOk, map};
+ghost use Rattle.grammar.specs.Depths.{look_here, look_mapped};
+ghost use Rattle.grammar.specs.Separated.{look_closed};
 ghost use Rattle.grammar.specs.Tells.{Tells};
-ghost use Rattle.epl_syntax.specs.Tree.{constant, text, Const_, Name_, expression};
-ghost use Rattle.epl_parser.specs.OneToken.{peeked, headed, look_one, name_at};
+ghost use Rattle.epl_syntax.specs.Tree.{constant, text, empty_list, Const_, Name_, expression};
+ghost use Rattle.epl_parser.specs.declared.head.PrimaryHead.TheVariants as head;
+ghost use Rattle.epl_parser.specs.OneToken.{peeked, headed, look_one, name_at, the_mark};
 ghost use Rattle.epl_parser.specs.Heads.{operator_at, comparison, primary_head};
-ghost use Rattle.epl_parser.specs.Constants.{text_at};
+ghost use Rattle.epl_parser.specs.Constants.{text_at, read_kind_in_parens};
 ghost use Rattle.epl_parser.specs.Expressions.{joined, prefixed, at_index, single};
 ghost use Rattle.epl_parser.specs.ExpressionReader.{IsClosing, parsed, read_step, read_index, read_exprs_to, inner};
 ghost use Rattle.epl_parser.specs.ExpressionReader.{read_part, read_chain, read_neg, read_cmp, read_unit};
-ghost use Rattle.epl_parser.specs.ExpressionReader.{read_indexed, read_primary, read_expression};
+ghost use Rattle.epl_parser.specs.ExpressionReader.{read_indexed, read_primary, read_primary_rest, read_expression};
 
 use crate::build::{apply, binary, index as index_of, list_of, unary};
 use crate::constant_parser::{kind_in_parens, text_value};
@@ -16,9 +19,9 @@ use crate::head::{Level, PrimaryHead, comparison, operator_at, primary_head};
 use crate::reading::{
     DEPTH_LIMIT, Source, name_of, peek_mark, peek_word, take_found, take_mark, take_word,
 };
-use epl_syntax::{Const, Expr, Mark, Operator, Prefix, Token, Word};
+use epl_syntax::{Builtin, Const, Expr, Mark, Operator, Prefix, Token, Word};
 use grammar::Halt;
-use std::alloc::{AllocError, Global};
+use std::alloc::Global;
 
 /// An expression, the depth of a token behind it that goes on with it, and the place of its first
 /// token.
@@ -79,42 +82,62 @@ fn take_primary(depth: u32, tokens: &[Token]) -> Result<((PrimaryHead, Token), &
     take_found(depth, found, tokens)
 }
 
-// ---- what is made of parts
+// ---- what is made of parts, with the tokens behind it
 
-fn join(alloc: Global, operator: Operator, left: Found, right: Found) -> Result<Found, AllocError>
-    ensures made { IfOk result (λ x. parsed x ≡ joined operator (parsed left) (parsed right)) }
-    ensures behind { IfOk result (λ x. x.behind ≡ right.behind) }
+fn join<'a>(
+    alloc: Global,
+    operator: Operator,
+    left: Found,
+    right: Found,
+    rest: &'a [Token],
+) -> Result<(Found, &'a [Token]), Halt>
+    ensures made { Tells (λ x. (parsed x.0, x.1.now)) result (look_here (joined operator (parsed left) (parsed right)) rest.now) }
+    ensures behind { IfOk result (λ x. x.0.behind ≡ right.behind) }
 {
     let begins = left.begins;
-    Ok(Found {
+    let found = Found {
         tree: binary(alloc, operator, left.tree, right.tree, begins)?,
         behind: right.behind,
         begins,
-    })
+    };
+    Ok((found, rest))
 }
 
-fn prefix(alloc: Global, prefix: Prefix, token: Token, of: Found) -> Result<Found, AllocError>
-    ensures made { IfOk result (λ x. parsed x ≡ prefixed prefix token (parsed of)) }
-    ensures behind { IfOk result (λ x. x.behind ≡ of.behind) }
+fn prefix<'a>(
+    alloc: Global,
+    prefix: Prefix,
+    token: Token,
+    of: Found,
+    rest: &'a [Token],
+) -> Result<(Found, &'a [Token]), Halt>
+    ensures made { Tells (λ x. (parsed x.0, x.1.now)) result (look_here (prefixed prefix token (parsed of)) rest.now) }
+    ensures behind { IfOk result (λ x. x.0.behind ≡ of.behind) }
 {
-    Ok(Found {
+    let found = Found {
         tree: unary(alloc, prefix, of.tree, token.start)?,
         behind: of.behind,
         begins: token.start,
-    })
+    };
+    Ok((found, rest))
 }
 
-fn item(alloc: Global, of: Found, at: Found) -> Result<Found, AllocError>
+fn item<'a>(
+    alloc: Global,
+    of: Found,
+    at: Found,
+    rest: &'a [Token],
+) -> Result<(Found, &'a [Token]), Halt>
     requires { of.behind ≤ 32 }
-    ensures made { IfOk result (λ x. parsed x ≡ at_index (parsed of) (parsed at)) }
-    ensures behind { IfOk result (λ x. x.behind ≡ of.behind + 1) }
+    ensures made { Tells (λ x. (parsed x.0, x.1.now)) result (look_here (at_index (parsed of) (parsed at)) rest.now) }
+    ensures behind { IfOk result (λ x. x.0.behind ≡ of.behind + 1) }
 {
     let begins = of.begins;
-    Ok(Found {
+    let found = Found {
         tree: index_of(alloc, of.tree, at.tree, begins)?,
         behind: of.behind + 1,
         begins,
-    })
+    };
+    Ok((found, rest))
 }
 
 fn one(tree: Expr, token: Token, depth: u32) -> Found
@@ -140,21 +163,33 @@ fn value(value: Const, token: Token, depth: u32) -> Found
 }
 
 /// The text that a token stands for.
-fn text(source: &Source<'_>, token: Token, depth: u32) -> Result<Found, AllocError>
-    ensures made { IfOk result (λ x. parsed x ≡ single (Const_ (text (text_at source.now.text.now token)) token.start) token depth) }
-    ensures behind { IfOk result (λ x. x.behind ≡ depth) }
+fn text<'a>(
+    source: &Source<'_>,
+    token: Token,
+    depth: u32,
+    rest: &'a [Token],
+) -> Result<(Found, &'a [Token]), Halt>
+    ensures made { Tells (λ x. (parsed x.0, x.1.now)) result
+        (look_here (single (Const_ (text (text_at source.now.text.now token)) token.start) token depth) rest.now) }
+    ensures behind { IfOk result (λ x. x.0.behind ≡ depth) }
 {
     let text = text_value(source.alloc, source.text, token)?;
-    Ok(value(Const::Text { text }, token, depth))
+    Ok((value(Const::Text { text }, token, depth), rest))
 }
 
 /// The variable whose name a token is.
-fn variable(source: &Source<'_>, token: Token, depth: u32) -> Result<Found, AllocError>
-    ensures made { IfOk result (λ x. parsed x ≡ single (Name_ (name_at source.now.text.now token)) token depth) }
-    ensures behind { IfOk result (λ x. x.behind ≡ depth) }
+fn variable<'a>(
+    source: &Source<'_>,
+    token: Token,
+    depth: u32,
+    rest: &'a [Token],
+) -> Result<(Found, &'a [Token]), Halt>
+    ensures made { Tells (λ x. (parsed x.0, x.1.now)) result
+        (look_here (single (Name_ (name_at source.now.text.now token)) token depth) rest.now) }
+    ensures behind { IfOk result (λ x. x.0.behind ≡ depth) }
 {
     let name = name_of(source.alloc, source.text, token)?;
-    Ok(one(Expr::Name { name }, token, depth))
+    Ok((one(Expr::Name { name }, token, depth), rest))
 }
 
 // ---- the rules
@@ -214,7 +249,7 @@ fn step<'a>(
     let depth = found.behind + 1;
     let (operator, rest) = take_operator(level, outer.max(depth), tokens)?;
     let (right, rest) = part(level, source, levels, outer, depth, rest)?;
-    Ok((join(source.alloc, operator, found, right)?, rest))
+    join(source.alloc, operator, found, right, rest)
 }
 
 /// What stands between the operators of a level.
@@ -264,7 +299,7 @@ fn negation<'a>(
     };
     let (token, rest) = take_word(Word::Not, outer.max(depth + 1), tokens)?;
     let (of, rest) = negation(source, levels - 1, outer, depth + 1, rest)?;
-    Ok((prefix(source.alloc, Prefix::Not, token, of)?, rest))
+    prefix(source.alloc, Prefix::Not, token, of, rest)
 }
 
 /// A sum, or two that are compared.
@@ -290,7 +325,7 @@ fn compared<'a>(
     let inner = found.behind + 1;
     let (operator, rest) = take_comparison(outer.max(inner), rest)?;
     let (right, rest) = chain(Level::Sum, source, levels, outer, inner, rest)?;
-    Ok((join(source.alloc, operator, found, right)?, rest))
+    join(source.alloc, operator, found, right, rest)
 }
 
 /// An operand with a minus before it, or with its indices.
@@ -315,7 +350,7 @@ fn unit<'a>(
     };
     let (token, rest) = take_mark(Mark::Minus, outer.max(depth + 1), tokens)?;
     let (of, rest) = unit(source, levels - 1, outer, depth + 1, rest)?;
-    Ok((prefix(source.alloc, Prefix::Negate, token, of)?, rest))
+    prefix(source.alloc, Prefix::Negate, token, of, rest)
 }
 
 /// An operand and the indices behind it.
@@ -368,9 +403,8 @@ fn index<'a>(
 {
     let depth = found.behind + 1;
     let (_, rest) = take_mark(Mark::OpenList, outer.max(depth), tokens)?;
-    let (at, rest) = inside(source, levels, outer, depth + 1, rest)?;
-    let (_, rest) = take_mark(Mark::CloseList, outer.max(depth), rest)?;
-    Ok((item(source.alloc, found, at)?, rest))
+    let (at, rest) = closed(Mark::CloseList, source, levels, outer, depth, rest)?;
+    item(source.alloc, found, at, rest)
 }
 
 /// An operand without prefixes and indices.
@@ -390,34 +424,123 @@ fn primary<'a>(
     ensures small { IfOk result (λ x. x.0.behind ≤ 32) }
     ensures great { IfOk result (λ x. depth ≤ x.0.behind) }
 {
-    let place = outer.max(depth);
-    let ((head, token), rest) = take_primary(place, tokens)?;
+    let ((head, token), rest) = take_primary(outer.max(depth), tokens)?;
     match head {
         PrimaryHead::Int { n } => Ok((value(Const::Int { n }, token, depth), rest)),
-        PrimaryHead::Text => Ok((text(source, token, depth)?, rest)),
+        PrimaryHead::Text => text(source, token, depth, rest),
         PrimaryHead::Bool { b } => Ok((value(Const::Bool { b }, token, depth), rest)),
         PrimaryHead::Absent => Ok((value(Const::Absent, token, depth), rest)),
         PrimaryHead::Me => Ok((one(Expr::Me { place: token.start }, token, depth), rest)),
-        PrimaryHead::Name => Ok((variable(source, token, depth)?, rest)),
-        PrimaryHead::Parens => {
-            let (found, rest) = inside(source, levels, outer, depth + 1, rest)?;
-            let (_, rest) = take_mark(Mark::Close, place, rest)?;
-            Ok((one(found.tree, token, depth), rest))
-        }
-        PrimaryHead::List => {
-            let (items, rest) = items(Mark::CloseList, source, levels, outer, depth, rest)?;
-            Ok((one(list_of(items, token.start), token, depth), rest))
-        }
-        PrimaryHead::EmptyList => {
-            let (of, rest) = kind_in_parens(source.alloc, place, rest)?;
-            Ok((value(Const::EmptyList { of }, token, depth), rest))
-        }
+        PrimaryHead::Name => variable(source, token, depth, rest),
+        PrimaryHead::Parens => grouped(source, levels, outer, depth, token, rest),
+        PrimaryHead::List => list(source, levels, outer, depth, token, rest),
+        PrimaryHead::EmptyList => empty_list(source, outer, depth, token, rest),
         PrimaryHead::Apply { builtin } => {
-            let (_, rest) = take_mark(Mark::Open, place, rest)?;
-            let (args, rest) = items(Mark::Close, source, levels, outer, depth, rest)?;
-            Ok((one(apply(builtin, args, token.start), token, depth), rest))
+            applied(builtin, source, levels, outer, depth, token, rest)
         }
     }
+}
+
+/// The rest of an expression in parentheses.
+#[cycle(expression)]
+fn grouped<'a>(
+    source: &Source<'_>,
+    levels: u32,
+    outer: u32,
+    depth: u32,
+    token: Token,
+    tokens: &'a [Token],
+) -> Result<(Found, &'a [Token]), Halt>
+    requires depth { depth ≤ 32 }
+    requires levels { 33 ≤ depth + levels }
+    ensures read { Tells (λ x. (parsed x.0, x.1.now)) result
+        (read_primary_rest source.now.text.now source.now.turns outer
+        (inner source.now.text.now source.now.turns outer levels).expr depth head.Parens token tokens.now) }
+    ensures behind { IfOk result (λ x. x.0.behind ≡ depth) }
+{
+    let (found, rest) = closed(Mark::Close, source, levels, outer, depth, tokens)?;
+    Ok((one(found.tree, token, depth), rest))
+}
+
+/// The rest of a list with items.
+#[cycle(expression)]
+fn list<'a>(
+    source: &Source<'_>,
+    levels: u32,
+    outer: u32,
+    depth: u32,
+    token: Token,
+    tokens: &'a [Token],
+) -> Result<(Found, &'a [Token]), Halt>
+    requires depth { depth ≤ 32 }
+    requires levels { 33 ≤ depth + levels }
+    ensures read { Tells (λ x. (parsed x.0, x.1.now)) result
+        (read_primary_rest source.now.text.now source.now.turns outer
+        (inner source.now.text.now source.now.turns outer levels).expr depth head.List token tokens.now) }
+    ensures behind { IfOk result (λ x. x.0.behind ≡ depth) }
+{
+    let (items, rest) = items(Mark::CloseList, source, levels, outer, depth, tokens)?;
+    Ok((one(list_of(items, token.start), token, depth), rest))
+}
+
+/// The rest of a list without items, which is the kind of its items.
+fn empty_list<'a>(
+    source: &Source<'_>,
+    outer: u32,
+    depth: u32,
+    token: Token,
+    tokens: &'a [Token],
+) -> Result<(Found, &'a [Token]), Halt>
+    ensures read { Tells (λ x. (parsed x.0, x.1.now)) result
+        (look_mapped (λ k. single (Const_ (empty_list k) token.start) token depth) (read_kind_in_parens (max outer depth)) tokens.now) }
+    ensures behind { IfOk result (λ x. x.0.behind ≡ depth) }
+{
+    let (of, rest) = kind_in_parens(source.alloc, outer.max(depth), tokens)?;
+    Ok((value(Const::EmptyList { of }, token, depth), rest))
+}
+
+/// The arguments of a built-in function.
+#[cycle(expression)]
+fn applied<'a>(
+    builtin: Builtin,
+    source: &Source<'_>,
+    levels: u32,
+    outer: u32,
+    depth: u32,
+    token: Token,
+    tokens: &'a [Token],
+) -> Result<(Found, &'a [Token]), Halt>
+    requires depth { depth ≤ 32 }
+    requires levels { 33 ≤ depth + levels }
+    ensures read { Tells (λ x. (parsed x.0, x.1.now)) result
+        (read_primary_rest source.now.text.now source.now.turns outer
+        (inner source.now.text.now source.now.turns outer levels).expr depth (head.Apply builtin) token tokens.now) }
+    ensures behind { IfOk result (λ x. x.0.behind ≡ depth) }
+{
+    let (_, rest) = take_mark(Mark::Open, outer.max(depth), tokens)?;
+    let (args, rest) = items(Mark::Close, source, levels, outer, depth, rest)?;
+    Ok((one(apply(builtin, args, token.start), token, depth), rest))
+}
+
+/// An expression one level further in, and the mark behind it.
+#[cycle(expression)]
+fn closed<'a>(
+    mark: Mark,
+    source: &Source<'_>,
+    levels: u32,
+    outer: u32,
+    depth: u32,
+    tokens: &'a [Token],
+) -> Result<(Found, &'a [Token]), Halt>
+    requires depth { depth ≤ 32 }
+    requires levels { 33 ≤ depth + levels }
+    ensures { Tells (λ x. (parsed x.0, x.1.now)) result
+        (look_closed 32 (max outer depth) (the_mark mark)
+        ((inner source.now.text.now source.now.turns outer levels).expr (suc depth)) tokens.now) }
+{
+    let (found, rest) = inside(source, levels, outer, depth + 1, tokens)?;
+    let (_, rest) = take_mark(mark, outer.max(depth), rest)?;
+    Ok((found, rest))
 }
 
 /// An expression one level further in.

@@ -6,7 +6,7 @@ ghost use Rattle.epl_parser.specs.Heads.{operator_at, comparison, primary_head, 
 use epl_syntax::{Builtin, INT_LIMIT, Mark, Operator, TokenKind, Word};
 
 /// What a kind begins with.
-#[derive(Clone, Copy, Debug)]
+#[derive(Clone, Copy)]
 pub(crate) enum KindHead {
     Int,
     Bool,
@@ -30,7 +30,7 @@ pub(crate) fn kind_head(kind: TokenKind) -> Option<KindHead>
 }
 
 /// Operators that group to the left, from the loosest to the closest.
-#[derive(Clone, Copy, Debug)]
+#[derive(Clone, Copy)]
 pub(crate) enum Level {
     Or,
     And,
@@ -39,7 +39,7 @@ pub(crate) enum Level {
 }
 
 /// What an operand begins with, behind its prefixes.
-#[derive(Clone, Copy, Debug)]
+#[derive(Clone, Copy)]
 pub(crate) enum PrimaryHead {
     Int { n: i64 },
     Text,
@@ -54,7 +54,7 @@ pub(crate) enum PrimaryHead {
 }
 
 /// What the constant of a declaration begins with.
-#[derive(Clone, Copy, Debug)]
+#[derive(Clone, Copy)]
 pub(crate) enum ConstantHead {
     Int { n: i64 },
     Minus,

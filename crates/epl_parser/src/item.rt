@@ -1,16 +1,18 @@
 //! Reading the items and upgrades of an Edentype.
 ghost use Rattle.std.specs.Prelude.{◌≡◌, ◌<◌, ◌+◌, ◌^◌, length, map};
+ghost use Rattle.grammar.specs.Separated.{look_closed};
 ghost use Rattle.grammar.specs.Tells.{Tells};
-ghost use Rattle.epl_syntax.specs.Tree.{PlacedShape, Parameter, written, local_of, parameter};
+ghost use Rattle.epl_syntax.specs.declared.word.Word.TheVariants as word;
+ghost use Rattle.epl_syntax.specs.Tree.{PlacedShape, Parameter, written, local_of, parameter, statement};
 ghost use Rattle.epl_syntax.specs.Tree.{operation, process, change, upgrade, type_tree};
-ghost use Rattle.epl_parser.specs.OneToken.{peeked, look_one};
+ghost use Rattle.epl_parser.specs.OneToken.{peeked, the_word, look_one};
 ghost use Rattle.epl_parser.specs.Items.{item_head, member_head};
 ghost use Rattle.epl_parser.specs.WrittenKinds.{read_written_kind};
 ghost use Rattle.epl_parser.specs.ItemReader.{lower_kind, read_version, read_binding, read_local, read_locals};
 ghost use Rattle.epl_parser.specs.ItemReader.{read_parameter};
-ghost use Rattle.epl_parser.specs.ItemReader.{read_class, read_operation, read_process, read_variable};
+ghost use Rattle.epl_parser.specs.ItemReader.{read_class, read_signature, read_code, read_operation, read_process, read_variable};
 ghost use Rattle.epl_parser.specs.ItemReader.{read_condition, read_member, read_members, read_monitor, read_item};
-ghost use Rattle.epl_parser.specs.ItemReader.{read_items, read_change, read_changes, read_upgrade, read_upgrades};
+ghost use Rattle.epl_parser.specs.ItemReader.{read_items, read_change, read_changes, read_conversion, read_upgrade, read_upgrades};
 ghost use Rattle.epl_parser.specs.ItemReader.{read_edentype};
 
 use crate::collect::{
@@ -21,17 +23,19 @@ use crate::constant_parser::constant;
 use crate::expression_parser::expression;
 use crate::kind_parser::written_kind;
 use crate::lists::{Part, in_parens};
-use crate::parens::{take_lower, take_upper};
-use crate::reading::{Source, peek_mark, peek_word, take_found, take_mark, take_number, take_word};
+use crate::parens::{lower_behind, take_lower, take_upper};
+use crate::reading::{
+    Source, number_behind, peek_mark, peek_word, take_found, take_mark, take_word,
+};
 use crate::statement::body;
 use epl_syntax::{
     Assignment, ClassDecl, CondDecl, LocalDecl, Mark, Number, OpDecl, ParDecl, ProcDecl, Program,
-    Token, TokenKind, UpgradeDecl, VarDecl, Word, WrittenKind,
+    Stmt, Token, TokenKind, UpgradeDecl, VarDecl, Word, WrittenKind,
 };
 use grammar::Halt;
 
 /// What an item begins with.
-#[derive(Clone, Copy, Debug)]
+#[derive(Clone, Copy)]
 pub(crate) enum ItemHead {
     Durable,
     Working,
@@ -42,7 +46,7 @@ pub(crate) enum ItemHead {
 }
 
 /// What a part of a monitor begins with.
-#[derive(Clone, Copy, Debug)]
+#[derive(Clone, Copy)]
 pub(crate) enum MemberHead {
     Durable,
     Working,
@@ -94,14 +98,23 @@ fn member_head(kind: TokenKind) -> Option<MemberHead>
 
 // ---- variables and parameters
 
+/// A name and its kind.
+#[tactic(auto, unfolding(crate::specs::ItemReader::read_parameter))]
+fn parameter<'a>(source: &Source<'_>, tokens: &'a [Token]) -> Result<(ParDecl, &'a [Token]), Halt>
+    ensures { Tells (λ x. (parameter x.0, x.1.now)) result (read_parameter source.now.text.now source.now.turns tokens.now) }
+{
+    let (name, rest) = take_lower(source, 0, tokens)?;
+    let (_, rest) = take_mark(Mark::Colon, 0, rest)?;
+    let (kind, rest) = written_kind(source.alloc, 0, rest)?;
+    Ok((ParDecl { name, kind }, rest))
+}
+
 /// A name, its kind and what it holds at first.
 #[tactic(auto, unfolding(crate::specs::ItemReader::read_binding))]
 fn binding<'a>(source: &Source<'_>, tokens: &'a [Token]) -> Result<(LocalDecl, &'a [Token]), Halt>
     ensures { Tells (λ x. (local_of x.0, x.1.now)) result (read_binding source.now.text.now source.now.turns tokens.now) }
 {
-    let (name, rest) = take_lower(source, 0, tokens)?;
-    let (_, rest) = take_mark(Mark::Colon, 0, rest)?;
-    let (kind, rest) = written_kind(source.alloc, 0, rest)?;
+    let (ParDecl { name, kind }, rest) = parameter(source, tokens)?;
     let (_, rest) = take_mark(Mark::Equal, 0, rest)?;
     let (start, rest) = constant(source, 0, rest)?;
     Ok((LocalDecl { name, kind, start }, rest))
@@ -136,16 +149,6 @@ fn locals<'a>(
         left -= 1;
     }
     unreachable!()
-}
-
-#[tactic(auto, unfolding(crate::specs::ItemReader::read_parameter))]
-fn parameter<'a>(source: &Source<'_>, tokens: &'a [Token]) -> Result<(ParDecl, &'a [Token]), Halt>
-    ensures { Tells (λ x. (parameter x.0, x.1.now)) result (read_parameter source.now.text.now source.now.turns tokens.now) }
-{
-    let (name, rest) = take_lower(source, 0, tokens)?;
-    let (_, rest) = take_mark(Mark::Colon, 0, rest)?;
-    let (kind, rest) = written_kind(source.alloc, 0, rest)?;
-    Ok((ParDecl { name, kind }, rest))
 }
 
 impl Part for ParDecl {
@@ -187,26 +190,49 @@ fn class<'a>(source: &Source<'_>, tokens: &'a [Token]) -> Result<(ClassDecl, &'a
     ensures { Tells (λ x. (x.0, x.1.now)) result (read_class source.now.text.now source.now.turns tokens.now) }
 {
     let (name, rest) = take_lower(source, 0, tokens)?;
-    let (_, rest) = take_word(Word::Limit, 0, rest)?;
-    let (limit, rest) = take_number(0, rest)?;
+    let (limit, rest) = number_behind(Word::Limit, 0, rest)?;
     Ok((ClassDecl { name, limit }, rest))
 }
 
-#[tactic(auto, unfolding(crate::specs::ItemReader::read_operation, crate::specs::ItemReader::read_parameter_list, crate::specs::ItemReader::read_parameters, crate::specs::ItemReader::read_results, crate::specs::ItemReader::read_kinds))]
+/// The parameters and the results of an operation.
+#[tactic(auto, unfolding(crate::specs::ItemReader::read_signature, crate::specs::ItemReader::read_parameter_list, crate::specs::ItemReader::read_parameters, crate::specs::ItemReader::read_results, crate::specs::ItemReader::read_kinds))]
+fn signature<'a>(
+    source: &Source<'_>,
+    tokens: &'a [Token],
+) -> Result<((Vec<ParDecl>, Vec<WrittenKind>), &'a [Token]), Halt>
+    ensures { Tells (λ x. ((map parameter x.0.0.items, map written x.0.1.items), x.1.now)) result
+        (read_signature source.now.text.now source.now.turns tokens.now) }
+{
+    let (params, rest) = in_parens(source, 0, tokens)?;
+    let (_, rest) = take_word(Word::Returns, 0, rest)?;
+    let (results, rest) = in_parens(source, 0, rest)?;
+    Ok(((params, results), rest))
+}
+
+/// The variables and the statements of an operation or a process, up to its end.
+#[tactic(auto, unfolding(crate::specs::ItemReader::read_code))]
+fn code<'a>(
+    source: &Source<'_>,
+    tokens: &'a [Token],
+) -> Result<((Vec<LocalDecl>, Vec<Stmt>), &'a [Token]), Halt>
+    ensures { Tells (λ x. ((map local_of x.0.0.items, map statement x.0.1.items), x.1.now)) result
+        (read_code source.now.text.now source.now.turns tokens.now) }
+{
+    let (locals, rest) = locals(source, tokens)?;
+    let (body, rest) = body(source, rest)?;
+    let (_, rest) = take_word(Word::End, 0, rest)?;
+    Ok(((locals, body), rest))
+}
+
+#[tactic(auto, unfolding(crate::specs::ItemReader::read_operation))]
 fn operation<'a>(source: &Source<'_>, tokens: &'a [Token]) -> Result<(OpDecl, &'a [Token]), Halt>
     ensures { Tells (λ x. (operation x.0, x.1.now)) result (read_operation source.now.text.now source.now.turns tokens.now) }
 {
     let (name, rest) = take_upper(source, 0, tokens)?;
-    let (_, rest) = take_word(Word::Needs, 0, rest)?;
-    let (needs, rest) = take_number(0, rest)?;
-    let (_, rest) = take_word(Word::Class, 0, rest)?;
-    let (class, rest) = take_lower(source, 0, rest)?;
-    let (params, rest) = in_parens(source, 0, rest)?;
-    let (_, rest) = take_word(Word::Returns, 0, rest)?;
-    let (results, rest) = in_parens(source, 0, rest)?;
-    let (locals, rest) = locals(source, rest)?;
-    let (body, rest) = body(source, rest)?;
-    let (_, rest) = take_word(Word::End, 0, rest)?;
+    let (needs, rest) = number_behind(Word::Needs, 0, rest)?;
+    let (class, rest) = lower_behind(Word::Class, source, 0, rest)?;
+    let ((params, results), rest) = signature(source, rest)?;
+    let ((locals, body), rest) = code(source, rest)?;
     Ok((
         OpDecl {
             name,
@@ -226,9 +252,7 @@ fn process<'a>(source: &Source<'_>, tokens: &'a [Token]) -> Result<(ProcDecl, &'
     ensures { Tells (λ x. (process x.0, x.1.now)) result (read_process source.now.text.now source.now.turns tokens.now) }
 {
     let (name, rest) = take_upper(source, 0, tokens)?;
-    let (locals, rest) = locals(source, rest)?;
-    let (body, rest) = body(source, rest)?;
-    let (_, rest) = take_word(Word::End, 0, rest)?;
+    let ((locals, body), rest) = code(source, rest)?;
     Ok((ProcDecl { name, locals, body }, rest))
 }
 
@@ -328,6 +352,21 @@ fn members<'a>(
     unreachable!()
 }
 
+/// The parts of the monitor of this number, up to its end.
+fn ended_members<'a>(
+    source: &Source<'_>,
+    monitor: u32,
+    program: Program,
+    tokens: &'a [Token],
+) -> Result<(Program, &'a [Token]), Halt>
+    ensures { Tells (λ x. (type_tree x.0, x.1.now)) result (look_closed 32 0 (the_word word.End)
+        (read_members source.now.text.now source.now.turns monitor (type_tree program)) tokens.now) }
+{
+    let (program, rest) = members(source, monitor, program, tokens)?;
+    let (_, rest) = take_word(Word::End, 0, rest)?;
+    Ok((program, rest))
+}
+
 /// What stands behind `monitor`.
 #[tactic(auto, unfolding(crate::specs::ItemReader::read_monitor))]
 fn monitor<'a>(
@@ -342,9 +381,7 @@ fn monitor<'a>(
     let (name, rest) = take_upper(source, 0, tokens)?;
     let number = next_number(program.monitors.len());
     let program = with_monitor(program, name)?;
-    let (program, rest) = members(source, number, program, rest)?;
-    let (_, rest) = take_word(Word::End, 0, rest)?;
-    Ok((program, rest))
+    ended_members(source, number, program, rest)
 }
 
 /// The number behind `count`.
@@ -470,16 +507,28 @@ fn changes<'a>(
     unreachable!()
 }
 
-#[tactic(auto, unfolding(crate::specs::ItemReader::read_upgrade, crate::specs::ItemReader::read_parameter_list, crate::specs::ItemReader::read_parameters))]
+/// The parameters and the assignments of an upgrade, up to its end.
+#[tactic(auto, unfolding(crate::specs::ItemReader::read_conversion, crate::specs::ItemReader::read_parameter_list, crate::specs::ItemReader::read_parameters))]
+fn conversion<'a>(
+    source: &Source<'_>,
+    tokens: &'a [Token],
+) -> Result<((Vec<ParDecl>, Vec<Assignment>), &'a [Token]), Halt>
+    ensures { Tells (λ x. ((map parameter x.0.0.items, map change x.0.1.items), x.1.now)) result
+        (read_conversion source.now.text.now source.now.turns tokens.now) }
+{
+    let (params, rest) = in_parens(source, 0, tokens)?;
+    let (assignments, rest) = changes(source, rest)?;
+    let (_, rest) = take_word(Word::End, 0, rest)?;
+    Ok(((params, assignments), rest))
+}
+
+#[tactic(auto, unfolding(crate::specs::ItemReader::read_upgrade))]
 fn upgrade<'a>(source: &Source<'_>, tokens: &'a [Token]) -> Result<(UpgradeDecl, &'a [Token]), Halt>
     ensures { Tells (λ x. (upgrade x.0, x.1.now)) result (read_upgrade source.now.text.now source.now.turns tokens.now) }
 {
     let (first, rest) = take_word(Word::Upgrade, 0, tokens)?;
-    let (_, rest) = take_word(Word::From, 0, rest)?;
-    let (from, rest) = take_number(0, rest)?;
-    let (params, rest) = in_parens(source, 0, rest)?;
-    let (assignments, rest) = changes(source, rest)?;
-    let (_, rest) = take_word(Word::End, 0, rest)?;
+    let (from, rest) = number_behind(Word::From, 0, rest)?;
+    let ((params, assignments), rest) = conversion(source, rest)?;
     let place = first.start;
     Ok((
         UpgradeDecl {
@@ -525,8 +574,7 @@ fn version(tokens: &[Token]) -> Result<(Option<Number>, &[Token]), Halt>
     let Some(_) = peek_word(Word::Version, tokens) else {
         return Ok((None, tokens));
     };
-    let (_, rest) = take_word(Word::Version, 0, tokens)?;
-    let (number, rest) = take_number(0, rest)?;
+    let (number, rest) = number_behind(Word::Version, 0, tokens)?;
     Ok((Some(number), rest))
 }
 

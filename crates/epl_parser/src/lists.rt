@@ -1,8 +1,8 @@
 //! Lists with a comma between each two of their parts.
-ghost use Rattle.std.specs.Prelude.{◌≡◌, map, []};
+ghost use Rattle.std.specs.Prelude.{◌≡◌, ◌<◌, map, [], length, IfOk};
 ghost use Rattle.grammar.specs.Tells.{Tells};
 ghost use Rattle.grammar.specs.Depths.{look_if};
-ghost use Rattle.grammar.specs.Separated.{look_separated};
+ghost use Rattle.grammar.specs.Separated.{look_next, look_separated};
 ghost use Rattle.epl_syntax.specs.declared.token.Mark.TheVariants as mark;
 ghost use Rattle.epl_parser.specs.OneToken.{the_mark, peeked};
 ghost use Rattle.epl_parser.specs.StatementReader.{not_mark, look_in_parens};
@@ -53,13 +53,30 @@ pub(crate) fn separated<'a, T: Part>(
         let Some(_) = peek_mark(Mark::Comma, rest) else {
             return Ok((found, rest));
         };
-        let (_, behind) = take_mark(Mark::Comma, depth, rest)?;
-        let (next, behind) = T::read(source, depth, behind)?;
-        found.push(next)?;
+        let (more, behind) = one_more(source, depth, found, rest)?;
+        found = more;
         rest = behind;
         left -= 1;
     }
     unreachable!()
+}
+
+/// The parts that were found and one more, behind a comma.
+fn one_more<'a, T: Part>(
+    source: &Source<'_>,
+    depth: u32,
+    mut found: Vec<T>,
+    tokens: &'a [Token],
+) -> Result<(Vec<T>, &'a [Token]), Halt>
+    ensures tells { Tells (λ x. (map T.tree x.0.items, x.1.now)) result
+        (look_next 32 depth (the_mark mark.Comma) (T.reader source.now.text.now source.now.turns depth) (map T.tree found.items)
+        tokens.now) }
+    ensures behind { IfOk result (λ x. length x.1.now < length tokens.now) }
+{
+    let (_, rest) = take_mark(Mark::Comma, depth, tokens)?;
+    let (next, rest) = T::read(source, depth, rest)?;
+    found.push(next)?;
+    Ok((found, rest))
 }
 
 /// Whether something else than a closing parenthesis comes.

@@ -5,7 +5,7 @@ ghost use Rattle.grammar.specs.Depths.{look_if};
 ghost use Rattle.epl_syntax.specs.declared.tree.Name.{Name};
 ghost use Rattle.epl_syntax.specs.declared.word.Word.TheVariants as word;
 ghost use Rattle.epl_syntax.specs.Tree.{Expression, expression};
-ghost use Rattle.epl_parser.specs.OneToken.{the_lower, the_upper, the_word, look_one};
+ghost use Rattle.epl_parser.specs.OneToken.{the_lower, the_upper, the_word, look_one, lower_behind};
 ghost use Rattle.epl_parser.specs.ExpressionReader.{read_expression};
 ghost use Rattle.epl_parser.specs.StatementReader.{read_gives};
 
@@ -55,6 +55,20 @@ pub(crate) fn take_upper<'a>(
         return Err(Halt::Deep { left: tokens.len() });
     }
     Ok((name_of(source.alloc, source.text, *token)?, rest))
+}
+
+/// The name with a small first letter behind a word, and the tokens behind it.
+#[tactic(auto, unfolding(crate::specs::OneToken::lower_behind))]
+pub(crate) fn lower_behind<'a>(
+    word: Word,
+    source: &Source<'_>,
+    depth: u32,
+    tokens: &'a [Token],
+) -> Result<(Name, &'a [Token]), Halt>
+    ensures { Tells (λ x. (x.0, x.1.now)) result (lower_behind source.now.text.now word depth tokens.now) }
+{
+    let (_, rest) = take_word(word, depth, tokens)?;
+    take_lower(source, depth, rest)
 }
 
 impl Part for Name {

@@ -2,7 +2,7 @@
 ghost use Rattle.std.specs.Prelude.{◌≡◌, ◌≤◌, ◌^◌, IfOk, drop, take};
 ghost use Rattle.grammar.specs.Tells.{Tells};
 ghost use Rattle.epl_parser.specs.OneToken.{bytes_at, name_at, the_mark, the_word, the_lower, the_upper, the_number};
-ghost use Rattle.epl_parser.specs.OneToken.{peeked, take_found, look_one};
+ghost use Rattle.epl_parser.specs.OneToken.{peeked, take_found, look_one, number_behind};
 
 use eden_value::Txt;
 use epl_syntax::{Mark, Name, Number, Token, TokenKind, Word};
@@ -119,6 +119,19 @@ pub(crate) fn take_number(depth: u32, tokens: &[Token]) -> Result<(Number, &[Tok
         None => None,
     };
     take_found(depth, found, tokens)
+}
+
+/// The number behind a word, and the tokens behind it.
+#[tactic(auto, unfolding(crate::specs::OneToken::number_behind))]
+pub(crate) fn number_behind(
+    word: Word,
+    depth: u32,
+    tokens: &[Token],
+) -> Result<(Number, &[Token]), Halt>
+    ensures { Tells (λ x. (x.0, x.1.now)) result (number_behind word depth tokens.now) }
+{
+    let (_, rest) = take_word(word, depth, tokens)?;
+    take_number(depth, rest)
 }
 
 /// The bytes from a place on; none behind the end.

@@ -1,23 +1,26 @@
 //! Reading statements.
 ghost use Rattle.std.specs.Prelude.{◌≡◌, ◌<◌, ◌≤◌, ◌+◌, suc, IfOk, map};
+ghost use Rattle.grammar.specs.Separated.{look_closed};
 ghost use Rattle.grammar.specs.Tells.{Tells};
-ghost use Rattle.epl_syntax.specs.Tree.{statement, statements};
-ghost use Rattle.epl_parser.specs.OneToken.{peeked, headed, look_one};
+ghost use Rattle.epl_syntax.specs.declared.word.Word.TheVariants as word;
+ghost use Rattle.epl_syntax.specs.Tree.{expression, statement, statements};
+ghost use Rattle.epl_parser.specs.OneToken.{peeked, headed, the_word, look_one};
 ghost use Rattle.epl_parser.specs.Statements.{statement_head, the_target, IsPlain};
-ghost use Rattle.epl_parser.specs.StatementReader.{read_assign, read_create, read_invoke, read_return, read_plain};
-ghost use Rattle.epl_parser.specs.StatementReader.{read_else, read_if, read_while, read_with, inner_block};
+ghost use Rattle.epl_parser.specs.StatementReader.{read_assign, read_receiver, read_create, read_request, read_invoke};
+ghost use Rattle.epl_parser.specs.StatementReader.{read_return, read_plain};
+ghost use Rattle.epl_parser.specs.StatementReader.{read_else, read_tested, read_branches, read_if, read_while, read_with, inner_block};
 ghost use Rattle.epl_parser.specs.StatementReader.{read_statement, read_statements, read_body};
 
 use crate::build::{make_if, make_while, make_with};
 use crate::expression_parser::expression;
 use crate::lists::in_parens;
-use crate::parens::{optional_gives, take_lower, take_upper};
+use crate::parens::{lower_behind, optional_gives, take_lower, take_upper};
 use crate::reading::{DEPTH_LIMIT, Source, name_of, peek_word, take_found, take_mark, take_word};
-use epl_syntax::{Mark, Stmt, Target, Token, TokenKind, Word};
+use epl_syntax::{Expr, Mark, Name, Stmt, Target, Token, TokenKind, Word};
 use grammar::Halt;
 
 /// What a statement begins with.
-#[derive(Clone, Copy, Debug)]
+#[derive(Clone, Copy)]
 pub(crate) enum StatementHead {
     Assign,
     If,
@@ -125,6 +128,22 @@ fn assign<'a>(
     Ok((Stmt::Assign { name, value }, rest))
 }
 
+/// The one variable that takes what a `create` gives.
+#[tactic(auto, unfolding(crate::specs::StatementReader::read_receiver))]
+fn receiver<'a>(
+    source: &Source<'_>,
+    depth: u32,
+    tokens: &'a [Token],
+) -> Result<(Name, &'a [Token]), Halt>
+    ensures { Tells (λ x. (x.0, x.1.now)) result (read_receiver source.now.text.now source.now.turns depth tokens.now) }
+{
+    let (_, rest) = take_word(Word::Gives, depth, tokens)?;
+    let (_, rest) = take_mark(Mark::Open, depth, rest)?;
+    let (name, rest) = take_lower(source, depth, rest)?;
+    let (_, rest) = take_mark(Mark::Close, depth, rest)?;
+    Ok((name, rest))
+}
+
 #[tactic(auto, unfolding(crate::specs::StatementReader::read_create))]
 fn create<'a>(
     source: &Source<'_>,
@@ -135,12 +154,8 @@ fn create<'a>(
     ensures { Tells (λ x. (statement x.0, x.1.now)) result (read_create source.now.text.now source.now.turns depth token tokens.now) }
 {
     let (type_name, rest) = take_upper(source, depth, tokens)?;
-    let (_, rest) = take_word(Word::Status, depth, rest)?;
-    let (status, rest) = take_lower(source, depth, rest)?;
-    let (_, rest) = take_word(Word::Gives, depth, rest)?;
-    let (_, rest) = take_mark(Mark::Open, depth, rest)?;
-    let (gives, rest) = take_lower(source, depth, rest)?;
-    let (_, rest) = take_mark(Mark::Close, depth, rest)?;
+    let (status, rest) = lower_behind(Word::Status, source, depth, rest)?;
+    let (gives, rest) = receiver(source, depth, rest)?;
     let place = token.start;
     Ok((
         Stmt::Create {
@@ -153,7 +168,23 @@ fn create<'a>(
     ))
 }
 
-#[tactic(auto, unfolding(crate::specs::StatementReader::read_invoke, crate::specs::StatementReader::read_expressions))]
+/// The operation that is invoked, and its arguments.
+#[tactic(auto, unfolding(crate::specs::StatementReader::read_request, crate::specs::StatementReader::read_expressions))]
+fn request<'a>(
+    source: &Source<'_>,
+    depth: u32,
+    tokens: &'a [Token],
+) -> Result<((Name, Vec<Expr>), &'a [Token]), Halt>
+    ensures { Tells (λ x. ((x.0.0, map expression x.0.1.items), x.1.now)) result
+        (read_request source.now.text.now source.now.turns depth tokens.now) }
+{
+    let (_, rest) = take_mark(Mark::Dot, depth, tokens)?;
+    let (operation, rest) = take_upper(source, depth, rest)?;
+    let (args, rest) = in_parens(source, depth, rest)?;
+    Ok(((operation, args), rest))
+}
+
+#[tactic(auto, unfolding(crate::specs::StatementReader::read_invoke))]
 fn invoke<'a>(
     source: &Source<'_>,
     depth: u32,
@@ -163,11 +194,8 @@ fn invoke<'a>(
     ensures { Tells (λ x. (statement x.0, x.1.now)) result (read_invoke source.now.text.now source.now.turns depth token tokens.now) }
 {
     let (target, rest) = take_target(source, depth, tokens)?;
-    let (_, rest) = take_mark(Mark::Dot, depth, rest)?;
-    let (operation, rest) = take_upper(source, depth, rest)?;
-    let (args, rest) = in_parens(source, depth, rest)?;
-    let (_, rest) = take_word(Word::Status, depth, rest)?;
-    let (status, rest) = take_lower(source, depth, rest)?;
+    let ((operation, args), rest) = request(source, depth, rest)?;
+    let (status, rest) = lower_behind(Word::Status, source, depth, rest)?;
     let (gives, rest) = optional_gives(source, depth, rest)?;
     let place = token.start;
     Ok((
@@ -240,9 +268,24 @@ fn plain<'a>(
 
 // ---- statements in statements
 
+/// The expression that is tested, and the word behind it.
+fn tested<'a>(
+    word: Word,
+    source: &Source<'_>,
+    depth: u32,
+    tokens: &'a [Token],
+) -> Result<(Expr, &'a [Token]), Halt>
+    ensures { Tells (λ x. (expression x.0, x.1.now)) result
+        (read_tested source.now.text.now source.now.turns word depth tokens.now) }
+{
+    let (test, rest) = expression(source, depth, tokens)?;
+    let (_, rest) = take_word(word, depth, rest)?;
+    Ok((test, rest))
+}
+
 /// What stands behind `if`.
 #[cycle(statement)]
-#[tactic(auto, unfolding(crate::specs::StatementReader::read_if, crate::specs::StatementReader::read_else))]
+#[tactic(auto, unfolding(crate::specs::StatementReader::read_if, crate::specs::StatementReader::read_branches))]
 fn if_rest<'a>(
     source: &Source<'_>,
     levels: u32,
@@ -254,12 +297,29 @@ fn if_rest<'a>(
     requires inside { 0 < levels }
     ensures { Tells (λ x. (statement x.0, x.1.now)) result (read_if source.now.text.now source.now.turns levels depth token tokens.now) }
 {
-    let (test, rest) = expression(source, depth, tokens)?;
-    let (_, rest) = take_word(Word::Then, depth, rest)?;
-    let (so, rest) = block(source, levels, depth, rest)?;
+    let (test, rest) = tested(Word::Then, source, depth, tokens)?;
+    let ((so, otherwise), rest) = branches(source, levels, depth, rest)?;
+    Ok((make_if(test, so, otherwise, token.start), rest))
+}
+
+/// The statements behind `then` and those behind `else`, up to the end.
+#[cycle(statement)]
+#[tactic(auto, unfolding(crate::specs::StatementReader::read_branches, crate::specs::StatementReader::read_else))]
+fn branches<'a>(
+    source: &Source<'_>,
+    levels: u32,
+    depth: u32,
+    tokens: &'a [Token],
+) -> Result<((Vec<Stmt>, Vec<Stmt>), &'a [Token]), Halt>
+    requires depth { depth + levels ≡ 33 }
+    requires inside { 0 < levels }
+    ensures { Tells (λ x. ((statements x.0.0.items, statements x.0.1.items), x.1.now)) result
+        (read_branches source.now.text.now source.now.turns levels depth tokens.now) }
+{
+    let (so, rest) = block(source, levels, depth, tokens)?;
     let (otherwise, rest) = otherwise(source, levels, depth, rest)?;
     let (_, rest) = take_word(Word::End, depth, rest)?;
-    Ok((make_if(test, so, otherwise, token.start), rest))
+    Ok(((so, otherwise), rest))
 }
 
 /// The statements behind `else`, or none.
@@ -296,10 +356,8 @@ fn while_rest<'a>(
     requires inside { 0 < levels }
     ensures { Tells (λ x. (statement x.0, x.1.now)) result (read_while source.now.text.now source.now.turns levels depth token tokens.now) }
 {
-    let (test, rest) = expression(source, depth, tokens)?;
-    let (_, rest) = take_word(Word::Do, depth, rest)?;
-    let (body, rest) = block(source, levels, depth, rest)?;
-    let (_, rest) = take_word(Word::End, depth, rest)?;
+    let (test, rest) = tested(Word::Do, source, depth, tokens)?;
+    let (body, rest) = ended_block(source, levels, depth, rest)?;
     Ok((make_while(test, body, token.start), rest))
 }
 
@@ -319,9 +377,26 @@ fn with_rest<'a>(
 {
     let (monitor, rest) = take_upper(source, depth, tokens)?;
     let (_, rest) = take_word(Word::Do, depth, rest)?;
-    let (body, rest) = block(source, levels, depth, rest)?;
-    let (_, rest) = take_word(Word::End, depth, rest)?;
+    let (body, rest) = ended_block(source, levels, depth, rest)?;
     Ok((make_with(monitor, body, token.start), rest))
+}
+
+/// The statements in one at this depth, up to its end.
+#[cycle(statement)]
+fn ended_block<'a>(
+    source: &Source<'_>,
+    levels: u32,
+    depth: u32,
+    tokens: &'a [Token],
+) -> Result<(Vec<Stmt>, &'a [Token]), Halt>
+    requires depth { depth + levels ≡ 33 }
+    requires inside { 0 < levels }
+    ensures { Tells (λ x. (statements x.0.items, x.1.now)) result (look_closed 32 depth (the_word word.End)
+        (inner_block source.now.text.now source.now.turns levels (suc depth)) tokens.now) }
+{
+    let (found, rest) = block(source, levels, depth, tokens)?;
+    let (_, rest) = take_word(Word::End, depth, rest)?;
+    Ok((found, rest))
 }
 
 /// The statements in one at this depth.

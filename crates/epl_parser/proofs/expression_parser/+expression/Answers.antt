@@ -1,16 +1,18 @@
 use Rattle.std.proofs.Common.{◌≡◌, ◌∙◌, List, sym, ap, subst, rules, map, Some, None, ◌<◌, length, arith, max, suc}
-use Rattle.grammar.specs.Depths.{Look, look_mapped}
+use Rattle.grammar.specs.Depths.{Look, look_then, look_here, look_mapped}
 use Rattle.grammar.specs.Separated.{look_next}
-use Rattle.grammar.specs.Tells.{Tells}
+use Rattle.grammar.specs.Tells.{Tells, Halts}
+use Rattle.grammar.specs.declared.halt.Halt.{Halt}
 use Rattle.epl_syntax.specs.declared.token.Mark.TheVariants as mark
 use Rattle.epl_syntax.specs.declared.token.Token.{Token}
 use Rattle.epl_syntax.specs.Tree.{Expression, expression}
 use Rattle.epl_parser.specs.OneToken.{peeked, the_mark, look_one}
 use Rattle.epl_parser.specs.Heads.{comparison, operator_at}
-use Rattle.epl_parser.specs.Expressions.{Parsed}
-use Rattle.epl_parser.specs.ExpressionReader.{parsed, inner, read_step, read_part, read_index}
+use Rattle.epl_parser.specs.Expressions.{Parsed, joined}
+use Rattle.epl_parser.specs.ExpressionReader.{parsed, inner, read_step, read_part, read_chain, read_index, read_indexed}
 use Rattle.epl_syntax.proofs.TreeRows.{expressions_push}
 use Rattle.epl_parser.proofs.ExpressionSteps.{compared_step, items_turn, items_over}
+use Rattle.epl_parser.proofs.Loops.{steps_on, steps_halt}
 use Rattle.epl_parser.proofs.Turns.{never_spent, none_left, none_left_before}
 use Rattle.epl_parser.proofs.ExpressionReads.{level_reads, index_row_reads, part_row_reads}
 use Rattle.epl_parser.proofs.expression_parser.+expression.Goals as goal
@@ -29,7 +31,9 @@ compared-returns-clause-read t c =
     let s = compared_step c.args.source.now.text.now c.args.source.now.turns c.args.outer c.args.levels c.args.depth c.args.tokens.now
     c.in_ok-found.rest.now c.in_ok-operator.rest.now (parsed c.in_ok-found.found)
     c.in-Some.field-0 c.in_ok-operator.operator (search rules) some (search rules) in
-    s ∙ search rules
+    let joining = s ∙ ap (λ r. look_then r (λ (y : Parsed). look_here (joined c.in_ok-operator.operator (parsed c.in_ok-found.found) y)))
+    c.in_ok-right.ensures.read in
+    subst (λ (r : Look Token Parsed). Tells (λ x. (parsed x.0, x.1.now)) c.join.result r) (sym joining) c.join.ensures.made
 
 pub items-returns-in_err-rest : goal.items-returns-in_err-rest
 items-returns-in_err-rest t c =
@@ -49,6 +53,61 @@ items-loop-left-preserved t c =
     c.in-Some.field-0 c.in_ok-behind.field-0-0 (parsed c.in_ok-next.next)
     (map expression c.push-in-loop-left.new.self.items) _ c.loop-left-test.true some (search rules) (search rules)
     (ap (map expression) c.in_ok-push-2.ensures.items ∙ expressions_push _ _) c.loop-left.invariant
+
+pub chain-loop-left-preserved : goal.chain-loop-left-preserved
+chain-loop-left-preserved t c =
+    let s = c.args.source.now in
+    let i = c.loop-left.invariant in
+    record {
+      read = steps_on (λ (t : Token). operator_at c.args.level t.kind)
+          (read_step s.text.now s.turns c.args.outer c.args.level
+          (read_part s.text.now s.turns c.args.outer c.args.level c.args.levels)) c.loop-left.left (parsed c.loop-left.found)
+          c.loop-left.rest.now c.in-Some.field-0 (parsed c.in_ok-next.next) c.in_ok-next.behind.now
+          (read_chain s.text.now s.turns c.args.outer c.args.level c.args.levels c.args.depth c.args.tokens.now) c.loop-left-test.true
+          (sym c.in-Some.ensures) c.in_ok-next.ensures.read i.read;
+      small = c.in_ok-next.ensures.small;
+      great = omega (arith, i.great, c.in_ok-next.ensures.great);
+    }
+
+pub indexed-loop-left-preserved : goal.indexed-loop-left-preserved
+indexed-loop-left-preserved t c =
+    let s = c.args.source.now in
+    let i = c.loop-left.invariant in
+    record {
+      read = steps_on (the_mark mark.OpenList)
+          (read_index s.text.now s.turns c.args.outer (inner s.text.now s.turns c.args.outer c.args.levels).expr)
+          c.loop-left.left (parsed c.loop-left.found) c.loop-left.rest.now c.in-Some.field-0 (parsed c.in_ok-next.next)
+          c.in_ok-next.behind.now
+          (read_indexed s.text.now s.turns c.args.outer c.args.levels c.args.depth c.args.tokens.now) c.loop-left-test.true
+          (sym c.in-Some.ensures) c.in_ok-next.ensures.read i.read;
+      small = c.in_ok-next.ensures.small;
+      great = omega (arith, i.great, c.in_ok-next.ensures.great);
+    }
+
+pub chain-returns-in_err-next-clause-read : goal.chain-returns-in_err-next-clause-read
+chain-returns-in_err-next-clause-read t c =
+    let s = c.args.source.now in
+    let whole = read_chain s.text.now s.turns c.args.outer c.args.level c.args.levels c.args.depth c.args.tokens.now in
+    let halt : Halt = c.in_err-next.field-0.0 in
+    let stops : Halts halt whole =
+    steps_halt (λ (t : Token). operator_at c.args.level t.kind)
+    (read_step s.text.now s.turns c.args.outer c.args.level
+    (read_part s.text.now s.turns c.args.outer c.args.level c.args.levels)) c.loop-left.left (parsed c.loop-left.found)
+    c.loop-left.rest.now c.in-Some.field-0 halt whole c.loop-left-test.true (sym c.in-Some.ensures) c.in_err-next.ensures.read
+    c.loop-left.invariant.read in
+    search (rules, stops)
+
+pub indexed-returns-in_err-next-clause-read : goal.indexed-returns-in_err-next-clause-read
+indexed-returns-in_err-next-clause-read t c =
+    let s = c.args.source.now in
+    let whole = read_indexed s.text.now s.turns c.args.outer c.args.levels c.args.depth c.args.tokens.now in
+    let halt : Halt = c.in_err-next.field-0.0 in
+    let stops : Halts halt whole =
+    steps_halt (the_mark mark.OpenList)
+    (read_index s.text.now s.turns c.args.outer (inner s.text.now s.turns c.args.outer c.args.levels).expr)
+    c.loop-left.left (parsed c.loop-left.found) c.loop-left.rest.now c.in-Some.field-0 halt whole c.loop-left-test.true
+    (sym c.in-Some.ensures) c.in_err-next.ensures.read c.loop-left.invariant.read in
+    search (rules, stops)
 
 pub chain-unreachable-requires : goal.chain-unreachable-requires
 chain-unreachable-requires t c =

@@ -8,20 +8,32 @@ use Rattle.epl_parser.proofs.expression_parser.+expression.Given as goal
 abbrev pub decreases-inside : goal.decreases-inside
 decreases-inside l = 20 * l.levels
 
-abbrev pub decreases-index : goal.decreases-index
-decreases-index l = 20 * l.levels + 1
+abbrev pub decreases-closed : goal.decreases-closed
+decreases-closed l = 20 * l.levels + 1
 
 abbrev pub decreases-items : goal.decreases-items
 decreases-items l = 20 * l.levels + 1
 
+abbrev pub decreases-index : goal.decreases-index
+decreases-index l = 20 * l.levels + 2
+
+abbrev pub decreases-grouped : goal.decreases-grouped
+decreases-grouped l = 20 * l.levels + 2
+
+abbrev pub decreases-list : goal.decreases-list
+decreases-list l = 20 * l.levels + 2
+
+abbrev pub decreases-applied : goal.decreases-applied
+decreases-applied l = 20 * l.levels + 2
+
 abbrev pub decreases-primary : goal.decreases-primary
-decreases-primary l = 20 * l.levels + 2
+decreases-primary l = 20 * l.levels + 3
 
 abbrev pub decreases-indexed : goal.decreases-indexed
-decreases-indexed l = 20 * l.levels + 3
+decreases-indexed l = 20 * l.levels + 4
 
 abbrev pub decreases-unit : goal.decreases-unit
-decreases-unit l = 20 * l.levels + 4
+decreases-unit l = 20 * l.levels + 5
 
 abbrev pub decreases-part : goal.decreases-part
 decreases-part l = 20 * l.levels + chain_rank l.level
@@ -33,10 +45,10 @@ abbrev pub decreases-chain : goal.decreases-chain
 decreases-chain l = 20 * l.levels + chain_rank l.level + 2
 
 abbrev pub decreases-compared : goal.decreases-compared
-decreases-compared l = 20 * l.levels + 11
+decreases-compared l = 20 * l.levels + 12
 
 abbrev pub decreases-negation : goal.decreases-negation
-decreases-negation l = 20 * l.levels + 12
+decreases-negation l = 20 * l.levels + 13
 
 abbrev pub invariant-chain-loop-left : goal.invariant-chain-loop-left
 invariant-chain-loop-left l = record {
