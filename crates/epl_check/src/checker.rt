@@ -118,8 +118,18 @@ fn check_upgrade_numbers(
     check_doubled_numbers(alloc, &program.upgrades, first)
 }
 
-/// What the operations, the processes and the upgrades of a type break.
+/// What the operations, the processes and the upgrades of a type break, whose names are numbered.
 #[tactic(auto, using(crate::proofs::Least::least_append))]
+fn check_each_body(around: &Surroundings<'_>, first: &mut Option<Broken>) -> Result<(), AllocError>
+    ensures { OnOk result (first.new ≡ least first.old
+        (broken_bodies (names_of around.now.earlier.now) (tree.type_tree around.now.program.now))) }
+{
+    check_operations(around, first)?;
+    check_processes(around, first)?;
+    check_upgrades(around, first)
+}
+
+/// What the operations, the processes and the upgrades of a type break.
 fn check_bodies(
     alloc: Global,
     program: &Program,
@@ -142,9 +152,7 @@ fn check_bodies(
         conditions: &conditions,
         none: &none,
     };
-    check_operations(&around, first)?;
-    check_processes(&around, first)?;
-    check_upgrades(&around, first)
+    check_each_body(&around, first)
 }
 
 /// Tells the first rule that a type breaks.

@@ -1,21 +1,23 @@
 //! The rules that an expression breaks, and its kind.
-ghost use Rattle.std.specs.Prelude.{◌≡◌, ◌+◌, length, IfOk, OnOk};
+ghost use Rattle.std.specs.Prelude.{◌≡◌, ◌==◌, ◌++◌, length, not, IfOk, OnOk, None, Some};
 ghost use Rattle.epl_syntax.specs.Tree as tree;
-ghost use Rattle.epl_syntax.specs.Rules.First.{least};
+ghost use Rattle.epl_syntax.specs.declared.rule.Rule.TheVariants.{KindDiffers};
+ghost use Rattle.epl_syntax.specs.Rules.First.{least, broken_if};
 ghost use Rattle.epl_syntax.specs.Rules.KindsOf as kinds;
 ghost use Rattle.epl_syntax.specs.Rules.InExpressions as rules;
 ghost use Rattle.epl_syntax.specs.Rules.InStatements as statements;
+ghost use Rattle.eden_value.specs.Shape.{ints, shape};
 ghost use Rattle.epl_check.specs.View.{found, first_of, seen, seen_of};
 
 use crate::first::tell_if;
 use crate::fit::{
-    Operand, arity, check_constant, fit, fit_argument, fit_known, fit_list, fit_operands,
-    kind_of_application, kind_of_operation, kind_of_prefix,
+    Operand, arity, check_constant, fit, fit_argument, fit_known, fit_list, kind_of_application,
+    kind_of_prefix, operated,
 };
 use crate::kinds::{copy_of, if_listed, item_of};
 use crate::scope::{Scope, Variable};
 use eden_value::Kind;
-use epl_syntax::{Broken, Builtin, Expr, Name, Rule};
+use epl_syntax::{Broken, Builtin, Expr, Name, Prefix, Rule};
 use std::alloc::{AllocError, Global};
 
 /// The place of an expression's first token.
@@ -135,12 +137,7 @@ pub(crate) fn check_expression(
         }
         Expr::Name { name } => check_use(scope, held, name, first),
         Expr::Me { .. } => Ok(Some(Kind::Cap)),
-        Expr::Unary { prefix, of, .. } => {
-            let wanted = kind_of_prefix(*prefix);
-            let kind = check_expression(scope, held, of, first)?;
-            fit(&wanted, &kind, place_of(of), first);
-            Ok(Some(wanted))
-        }
+        Expr::Unary { prefix, of, .. } => check_prefixed(scope, held, *prefix, of, first),
         Expr::Binary {
             operator,
             left,
@@ -149,22 +146,15 @@ pub(crate) fn check_expression(
         } => {
             let left_kind = check_expression(scope, held, left, first)?;
             let right_kind = check_expression(scope, held, right, first)?;
-            let left = Operand {
-                kind: &left_kind,
-                place: place_of(left),
-            };
             let right = Operand {
                 kind: &right_kind,
                 place: place_of(right),
             };
-            fit_operands(*operator, left, right, first);
-            Ok(kind_of_operation(*operator, left_kind))
+            Ok(operated(*operator, left_kind, place_of(left), right, first))
         }
         Expr::Index { of, at, .. } => {
-            let kind = check_expression(scope, held, of, first)?;
-            fit_list(&kind, place_of(of), first);
-            let index = check_expression(scope, held, at, first)?;
-            fit(&Kind::Int, &index, place_of(at), first);
+            let kind = check_list(scope, held, of, first)?;
+            check_number(scope, held, at, first)?;
             Ok(item_of(kind))
         }
         Expr::ListOf { items, .. } => {
@@ -175,17 +165,93 @@ pub(crate) fn check_expression(
             builtin,
             args,
             place,
-        } => {
-            tell_if(
-                args.len() != arity(*builtin),
-                Rule::KindDiffers,
-                *place,
-                first,
-            );
-            let of_first = check_arguments(scope, held, *builtin, args, first)?;
-            Ok(kind_of_application(*builtin, of_first))
-        }
+        } => check_application(scope, held, *builtin, args, *place, first),
     }
+}
+
+/// An operand behind a prefix, and the kind of the whole.
+#[cycle(expression)]
+#[tactic(auto, using(crate::proofs::Least::least_append))]
+fn check_prefixed(
+    scope: &Scope<'_>,
+    held: Option<usize>,
+    prefix: Prefix,
+    of: &Expr,
+    first: &mut Option<Broken>,
+) -> Result<Option<Kind>, AllocError>
+    ensures kind { IfOk result (λ k. found k ≡ Some (kinds.kind_of_prefix prefix)) }
+    ensures told { OnOk result (first.new ≡ least first.old
+        (statements.broken_as (kinds.kind_of_prefix prefix) (seen scope.now) held (tree.expression of.now))) }
+{
+    let wanted = kind_of_prefix(prefix);
+    let kind = check_expression(scope, held, of, first)?;
+    fit(&wanted, &kind, place_of(of), first);
+    Ok(Some(wanted))
+}
+
+/// An expression that has to be a list, and its kind.
+#[cycle(expression)]
+#[tactic(auto, using(crate::proofs::Least::least_append))]
+fn check_list(
+    scope: &Scope<'_>,
+    held: Option<usize>,
+    e: &Expr,
+    first: &mut Option<Broken>,
+) -> Result<Option<Kind>, AllocError>
+    ensures kind { IfOk result (λ k. found k ≡ kinds.kind_of (seen scope.now) (tree.expression e.now)) }
+    ensures told { OnOk result (first.new ≡ least first.old
+        (rules.broken_expression (seen scope.now) held (tree.expression e.now)
+        ++ rules.failing kinds.is_list (kinds.kind_of (seen scope.now) (tree.expression e.now))
+        (rules.place_of (tree.expression e.now)))) }
+{
+    let kind = check_expression(scope, held, e, first)?;
+    fit_list(&kind, place_of(e), first);
+    Ok(kind)
+}
+
+/// An expression that has to be a number, as the place in a list is.
+#[cycle(expression)]
+#[tactic(auto, using(crate::proofs::Least::least_append))]
+fn check_number(
+    scope: &Scope<'_>,
+    held: Option<usize>,
+    e: &Expr,
+    first: &mut Option<Broken>,
+) -> Result<(), AllocError>
+    ensures { OnOk result (first.new ≡ least first.old
+        (statements.broken_as ints (seen scope.now) held (tree.expression e.now))) }
+{
+    let kind = check_expression(scope, held, e, first)?;
+    fit(&Kind::Int, &kind, place_of(e), first);
+    Ok(())
+}
+
+/// What a built-in function gives of its arguments, of which there are as many as it takes.
+#[cycle(expression)]
+#[tactic(auto, using(crate::proofs::Least::least_append))]
+fn check_application(
+    scope: &Scope<'_>,
+    held: Option<usize>,
+    builtin: Builtin,
+    args: &[Expr],
+    place: u32,
+    first: &mut Option<Broken>,
+) -> Result<Option<Kind>, AllocError>
+    ensures kind { IfOk result (λ k. found k ≡ kinds.kind_of_application builtin
+        (kinds.kind_of_first (seen scope.now) (tree.expressions args.now))) }
+    ensures told { OnOk result (first.new ≡ least first.old
+        (broken_if (not (length args.now == length (kinds.argument_tests builtin None))) KindDiffers place
+        ++ rules.broken_arguments (seen scope.now) held
+        (kinds.argument_tests builtin (kinds.kind_of_first (seen scope.now) (tree.expressions args.now))) (tree.expressions args.now))) }
+{
+    tell_if(
+        args.len() != arity(builtin),
+        Rule::KindDiffers,
+        place,
+        first,
+    );
+    let of_first = check_arguments(scope, held, builtin, args, first)?;
+    Ok(kind_of_application(builtin, of_first))
 }
 
 /// The items of a list, which are of the kind of the first one; that kind.

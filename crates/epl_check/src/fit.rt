@@ -85,7 +85,7 @@ fn fit_both(wanted: &Kind, left: Operand<'_>, right: Operand<'_>, first: &mut Op
 
 /// Tells which operands of an operator do not fit.
 #[tactic(auto, using(crate::proofs::Least::least_append))]
-pub(crate) fn fit_operands(
+fn fit_operands(
     operator: Operator,
     left: Operand<'_>,
     right: Operand<'_>,
@@ -126,7 +126,7 @@ pub(crate) fn kind_of_prefix(prefix: Prefix) -> Kind
 }
 
 /// What an operator gives.
-pub(crate) fn kind_of_operation(operator: Operator, left: Option<Kind>) -> Option<Kind>
+fn kind_of_operation(operator: Operator, left: Option<Kind>) -> Option<Kind>
     ensures { found result ≡ kinds.kind_of_operation operator (found left) }
 {
     match operator {
@@ -145,6 +145,26 @@ pub(crate) fn kind_of_operation(operator: Operator, left: Option<Kind>) -> Optio
         | Operator::Divide
         | Operator::Modulo => Some(Kind::Int),
     }
+}
+
+/// What an operator gives, where its operands are told that do not fit.
+pub(crate) fn operated(
+    operator: Operator,
+    left: Option<Kind>,
+    left_place: u32,
+    right: Operand<'_>,
+    first: &mut Option<Broken>,
+) -> Option<Kind>
+    ensures kind { found result ≡ kinds.kind_of_operation operator (found left) }
+    ensures told { first.new ≡ least first.old
+        (rules.misfit_operands operator (found left) left_place (found right.entry.kind.now) right.entry.place) }
+{
+    let operand = Operand {
+        kind: &left,
+        place: left_place,
+    };
+    fit_operands(operator, operand, right, first);
+    kind_of_operation(operator, left)
 }
 
 /// What a built-in function gives, by the kind of its first argument.

@@ -1,11 +1,11 @@
 //! The rules that a statement breaks.
-ghost use Rattle.std.specs.Prelude.{◌≡◌, length, map, OnOk};
+ghost use Rattle.std.specs.Prelude.{◌≡◌, ◌++◌, length, map, OnOk};
 ghost use Rattle.std.specs.List.{flat_map};
 ghost use Rattle.epl_syntax.specs.Tree as tree;
 ghost use Rattle.epl_syntax.specs.Rules.First.{least};
 ghost use Rattle.epl_syntax.specs.Rules.InExpressions as expressions;
 ghost use Rattle.epl_syntax.specs.Rules.InStatements as rules;
-ghost use Rattle.eden_value.specs.Shape.{shape};
+ghost use Rattle.eden_value.specs.Shape.{shape, truths};
 ghost use Rattle.epl_check.specs.View.{results_of, seen, broken_value, kind_wanted};
 
 use crate::expression::{check_expression, check_use, place_of, stands_in};
@@ -284,18 +284,14 @@ fn check_statement(
             otherwise,
             ..
         } => {
-            check_as(&Kind::Bool, scope, held, test, first)?;
-            check_block(scope, held, so, first)?;
+            check_tested(scope, held, so, test, first)?;
             check_block(scope, held, otherwise, first)
         }
         Stmt::While {
             test: going,
             body,
             ..
-        } => {
-            check_as(&Kind::Bool, scope, held, going, first)?;
-            check_block(scope, held, body, first)
-        }
+        } => check_tested(scope, held, body, going, first),
         Stmt::With {
             monitor,
             body,
@@ -327,6 +323,23 @@ fn check_statement(
         } => check_invoke(scope, held, target, args, status, gives, first),
         Stmt::Return { results, place } => check_return(scope, held, results, *place, first),
     }
+}
+
+/// A block, and the test that stands before it.
+#[cycle(statement)]
+#[tactic(auto, using(crate::proofs::Least::least_append))]
+fn check_tested(
+    scope: &Scope<'_>,
+    held: Option<usize>,
+    body: &[Stmt],
+    asked: &Expr,
+    first: &mut Option<Broken>,
+) -> Result<(), AllocError>
+    ensures { OnOk result (first.new ≡ least first.old (rules.broken_as truths (seen scope.now) held (tree.expression asked.now)
+        ++ rules.broken_block (seen scope.now) held (tree.statements body.now))) }
+{
+    check_as(&Kind::Bool, scope, held, asked, first)?;
+    check_block(scope, held, body, first)
 }
 
 #[cycle(statement)]

@@ -46,8 +46,26 @@ check_expression-returns-in_ok-item-in-ListOf-clause-kind t c = search (rules, t
 pub check_expression-returns-in_ok-item-in-ListOf-clause-told : goal.check_expression-returns-in_ok-item-in-ListOf-clause-told
 check_expression-returns-in_ok-item-in-ListOf-clause-told t c = search (rules, the_lemmas, row_items)
 
-pub check_expression-returns-in_ok-of_first-in-Apply-clause-kind : goal.check_expression-returns-in_ok-of_first-in-Apply-clause-kind
-check_expression-returns-in_ok-of_first-in-Apply-clause-kind t c = search (rules, the_lemmas, row_items)
+pub check_expression-returns-in-Apply-clause-kind : goal.check_expression-returns-in-Apply-clause-kind
+check_expression-returns-in-Apply-clause-kind t c = search (rules, the_lemmas, row_items)
 
-pub check_expression-returns-in_ok-of_first-in-Apply-clause-told : goal.check_expression-returns-in_ok-of_first-in-Apply-clause-told
-check_expression-returns-in_ok-of_first-in-Apply-clause-told t c = search (rules, the_lemmas, row_items, count_is, least_append)
+pub check_expression-returns-in-Apply-clause-told : goal.check_expression-returns-in-Apply-clause-told
+check_expression-returns-in-Apply-clause-told t c = search (rules, the_lemmas, row_items, count_is, least_append)
+
+pub check_prefixed-returns-clause-told : goal.check_prefixed-returns-clause-told
+check_prefixed-returns-clause-told t c = search (rules, least_append)
+
+pub check_number-returns : goal.check_number-returns
+check_number-returns t c = search (rules, least_append)
+
+pub check_list-returns-clause-told : goal.check_list-returns-clause-told
+check_list-returns-clause-told t c = search (rules, least_append)
+
+pub check_expression-returns-in_ok-right_kind-in-Binary-clause-told : goal.check_expression-returns-in_ok-right_kind-in-Binary-clause-told
+check_expression-returns-in_ok-right_kind-in-Binary-clause-told t c = search (rules, the_lemmas, least_append)
+
+pub check_expression-returns-in_ok-check_number-in-Index-clause-told : goal.check_expression-returns-in_ok-check_number-in-Index-clause-told
+check_expression-returns-in_ok-check_number-in-Index-clause-told t c = search (rules, the_lemmas, least_append)
+
+pub check_application-returns-clause-told : goal.check_application-returns-clause-told
+check_application-returns-clause-told t c = search (rules, least_append)

@@ -1,10 +1,11 @@
-use Rattle.std.proofs.Common.{None, map, sym, ap, ◌∙◌}
+use Rattle.std.proofs.Common.{None, map, sym, ap, ◌∙◌, rules}
 use Rattle.epl_syntax.specs.Tree.{expression, variable}
 use Rattle.epl_syntax.specs.Rules.KindsOf.{kind_of}
 use Rattle.epl_syntax.specs.Rules.InExpressions.{place_of, broken_expression}
 use Rattle.epl_syntax.specs.Rules.InItems.{durable_named}
 use Rattle.epl_check.specs.View.{seen, is_past}
 use Rattle.epl_check.proofs.Items.{change_past}
+use Rattle.epl_check.proofs.Least.{least_append}
 use Rattle.epl_check.proofs.item.check_change.Goals as goal
 
 pub returns-then-is_past-2 : goal.returns-then-is_past-2
@@ -17,3 +18,6 @@ returns-then-is_past-2 c =
     (broken_expression scope None e) name.place (place_of e)
     (sym c.if-is_past.ensures) (ap (is_past o) (sym c.place_of-place.ensures) ∙ sym c.if-is_past-2.ensures)
     c.in_ok-check_expression.ensures.told
+
+pub returns : goal.returns
+returns c = search (rules, least_append)
