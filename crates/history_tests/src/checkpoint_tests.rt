@@ -6,7 +6,7 @@ ghost use Rattle.epl_syntax.specs.Kinds.{have_shapes};
 ghost use Rattle.passive_store.specs.Kept.{Idle, is_busy, worked_on};
 ghost use Rattle.checkpoint.specs.Asked.{AllOfNode, PowerBehind};
 
-use crate::common::{Amiss, FIRST, Log, SIZE, arm_of, uid_of};
+use crate::common::{Amiss, FIRST, Log, arm_of, blank, uid_of};
 use capability::{Body, Seq, Uid};
 use checkpoint::{
     BootFall, BootNote, Start, Starter, StepEnd, StoreEnd, Worker, arm, boot, crash, runs_stand,
@@ -456,15 +456,27 @@ const TWO_CELLS: &[Row] = &[
     ),
 ];
 
-/// Two Cells are kept, these acts made, and the power cut: how often the disk stopped and failed, and what a boot finds.
-fn cut(alloc: Global, rows: &[Row], mode: ImageMode) -> Result<(u64, u64, Found), Amiss> {
-    let disk = SimDisk::new(alloc, SIZE)?;
-    let (mut store, mut worker) = begin::<Log>(alloc, disk, TWO_CELLS)?;
+/// Two Cells are kept on a disk, these acts made, and the power cut: how often the disk stopped and failed, and what a boot finds.
+fn cut_on<St: Store + Drop>(
+    alloc: Global,
+    disk: St::Device,
+    rows: &[Row],
+    mode: ImageMode,
+) -> Result<(u64, u64, Found), Amiss>
+where
+    St::Device: Drop,
+{
+    let (mut store, mut worker) = begin::<St>(alloc, disk, TWO_CELLS)?;
     run(alloc, &mut worker, &mut store, rows)?;
     let (disk, noted) = crash(store, mode);
     let stops = disk.stops();
     let faults = disk.faults();
-    Ok((stops, faults, reboot::<Log>(alloc, disk, noted)?))
+    Ok((stops, faults, reboot::<St>(alloc, disk, noted)?))
+}
+
+/// The same of a blank disk.
+fn cut(alloc: Global, rows: &[Row], mode: ImageMode) -> Result<(u64, u64, Found), Amiss> {
+    cut_on::<Log>(alloc, blank(alloc)?, rows, mode)
 }
 
 /// The first Cell is to hold 9, or to be removed.
@@ -494,22 +506,31 @@ fn found_of(removal: bool, made: bool, doubtful: bool) -> Found {
     }
 }
 
+/// Whether a change that a power cut ends behind so many of its device calls is found as it has to be.
+fn is_found_behind(
+    alloc: Global,
+    mode: ImageMode,
+    calls: u32,
+    removal: bool,
+) -> Result<bool, Amiss> {
+    let made = if calls == JOB {
+        steps_of(calls, Some(StoreEnd::Done), Some(3))
+    } else {
+        steps_of(calls, None, None)
+    };
+    let rows = [change(removal), (Act::Steps(calls), made)];
+    let doubtful = 0 < calls && calls < JOB;
+    let found = found_of(removal, is_found(calls, mode), doubtful);
+    Ok(cut(alloc, &rows, mode)? == (0, 0, found))
+}
+
 #[test]
 fn a_change_that_a_crash_cuts(rt: HostRuntime) -> Result<(), Fail> {
     for &mode in MODES {
         for calls in 0..=JOB {
             for &removal in &[false, true] {
-                let made = if calls == JOB {
-                    steps_of(calls, Some(StoreEnd::Done), Some(3))
-                } else {
-                    steps_of(calls, None, None)
-                };
-                let rows = [change(removal), (Act::Steps(calls), made)];
-                let doubtful = 0 < calls && calls < JOB;
-                let found = found_of(removal, is_found(calls, mode), doubtful);
-                assert_eq!(rt;
-                    cut(rt.alloc(), &rows, mode)?,
-                    (0, 0, found),
+                assert!(rt;
+                    is_found_behind(rt.alloc(), mode, calls, removal)?,
                     "after {calls}"
                 );
             }
@@ -518,23 +539,88 @@ fn a_change_that_a_crash_cuts(rt: HostRuntime) -> Result<(), Fail> {
     Ok(())
 }
 
+/// Whether a change that a stop in one of its device calls ends is found as it has to be.
+fn outlives_a_stop(
+    alloc: Global,
+    mode: ImageMode,
+    after: u32,
+    removal: bool,
+) -> Result<bool, Amiss> {
+    let rows = [
+        change(removal),
+        (Act::Arm(Some(mode), after), None),
+        (
+            Act::Steps(100),
+            steps_of(after, Some(StoreEnd::Stopped), Some(3)),
+        ),
+    ];
+    let found = found_of(removal, 3 <= after && mode == KEEP, true);
+    Ok(cut(alloc, &rows, mode)? == (1, 0, found))
+}
+
 #[test]
 fn a_stop_in_each_device_call(rt: HostRuntime) -> Result<(), Fail> {
     for &mode in MODES {
         for after in 1..=JOB {
             for &removal in &[false, true] {
-                let made = steps_of(after, Some(StoreEnd::Stopped), Some(3));
-                let rows = [
-                    change(removal),
-                    (Act::Arm(Some(mode), after), None),
-                    (Act::Steps(100), made),
-                ];
-                let found = found_of(removal, 3 <= after && mode == KEEP, true);
-                assert_eq!(rt; cut(rt.alloc(), &rows, mode)?, (1, 0, found), "in {after}");
+                assert!(rt;
+                    outlives_a_stop(rt.alloc(), mode, after, removal)?,
+                    "in {after}"
+                );
             }
         }
     }
     Ok(())
+}
+
+/// A fault in a device call of the settling, and the request that fails with it; but for the third time nothing is done.
+fn second_fault(settling: u32) -> (Row, Row) {
+    if settling < 3 {
+        let end = Some(StoreEnd::Fault);
+        return (
+            (Act::Arm(None, settling), None),
+            (Act::Steps(100), steps_of(settling, end, Some(4))),
+        );
+    }
+    let none = steps_of(0, None, None);
+    ((Act::Steps(0), none), (Act::Steps(0), none))
+}
+
+/// What is found behind a fault in a device call of a change, whether or not the next request fails too.
+fn found_behind(after: u32, fails: bool) -> Found {
+    Found {
+        epoch: 2,
+        pick: None,
+        first: Some(if after == JOB { 9 } else { 5 }),
+        second: Some(if fails { 6 } else { 8 }),
+    }
+}
+
+/// Whether faults in a device call of a change, and in one of the settling behind it, lose nothing that is kept.
+fn outlives_faults(alloc: Global, after: u32, settling: u32) -> Result<bool, Amiss> {
+    let fails = settling < 3;
+    let (again, refused) = second_fault(settling);
+    let settled = Steps {
+        made: 2 + JOB,
+        pick: Some(if after == JOB { Pick::New } else { Pick::Old }),
+        end: Some(StoreEnd::Done),
+        process: Some(if fails { 5 } else { 4 }),
+    };
+    let rows = [
+        (Act::Put(1, 3, CELL_9), None),
+        (Act::Put(2, 4, CELL_8), None),
+        (Act::Put(2, 5, CELL_6), None),
+        (Act::Arm(None, after), None),
+        (
+            Act::Steps(100),
+            steps_of(after, Some(StoreEnd::Fault), Some(3)),
+        ),
+        again,
+        refused,
+        (Act::Steps(100), Some(settled)),
+    ];
+    let faults = if fails { 2 } else { 1 };
+    Ok(cut(alloc, &rows, LOSE)? == (0, faults, found_behind(after, fails)))
 }
 
 // The settling of the next request fails too, but for the third time.
@@ -542,48 +628,9 @@ fn a_stop_in_each_device_call(rt: HostRuntime) -> Result<(), Fail> {
 fn a_fault_in_each_device_call(rt: HostRuntime) -> Result<(), Fail> {
     for after in 1..=JOB {
         for settling in 1..=3 {
-            let fails = settling < 3;
-            let pick = if after == JOB { Pick::New } else { Pick::Old };
-            let (again, refused): (Row, Row) = if fails {
-                let end = Some(StoreEnd::Fault);
-                (
-                    (Act::Arm(None, settling), None),
-                    (Act::Steps(100), steps_of(settling, end, Some(4))),
-                )
-            } else {
-                let none = steps_of(0, None, None);
-                ((Act::Steps(0), none), (Act::Steps(0), none))
-            };
-            let settled = Steps {
-                made: 2 + JOB,
-                pick: Some(pick),
-                end: Some(StoreEnd::Done),
-                process: Some(if fails { 5 } else { 4 }),
-            };
-            let rows = [
-                (Act::Put(1, 3, CELL_9), None),
-                (Act::Put(2, 4, CELL_8), None),
-                (Act::Put(2, 5, CELL_6), None),
-                (Act::Arm(None, after), None),
-                (
-                    Act::Steps(100),
-                    steps_of(after, Some(StoreEnd::Fault), Some(3)),
-                ),
-                again,
-                refused,
-                (Act::Steps(100), Some(settled)),
-            ];
-            let found = Found {
-                epoch: 2,
-                pick: None,
-                first: Some(if after == JOB { 9 } else { 5 }),
-                second: Some(if fails { 6 } else { 8 }),
-            };
-            let faults = if fails { 2 } else { 1 };
-            assert_eq!(rt;
-                cut(rt.alloc(), &rows, LOSE)?,
-                (0, faults, found),
-                "in {after}"
+            assert!(rt;
+                outlives_faults(rt.alloc(), after, settling)?,
+                "in {after}, {settling}"
             );
         }
     }
@@ -684,7 +731,7 @@ fn requests_of_an_eject_that_goes(rt: HostRuntime) -> Result<(), Fail> {
             first: Some(first),
             second: Some(8),
         };
-        assert_eq!(rt; cut(rt.alloc(), rows, LOSE)?, (0, 0, found));
+        assert!(rt; cut(rt.alloc(), rows, LOSE)? == (0, 0, found));
     }
     Ok(())
 }
@@ -730,10 +777,23 @@ const ROOM: &[Row] = &[
     ),
 ];
 
+/// Boots a disk, and makes these acts.
+fn begins_on<St: Store + Drop>(alloc: Global, disk: St::Device, rows: &[Row]) -> Result<(), Amiss>
+where
+    St::Device: Drop,
+{
+    begin::<St>(alloc, disk, rows)?;
+    Ok(())
+}
+
+/// The same with a blank disk.
+fn begins(alloc: Global, rows: &[Row]) -> Result<(), Amiss> {
+    begins_on::<Log>(alloc, blank(alloc)?, rows)
+}
+
 #[test]
 fn a_request_without_room(rt: HostRuntime) -> Result<(), Fail> {
-    let alloc = rt.alloc();
-    begin::<Log>(alloc, SimDisk::new(alloc, SIZE)?, ROOM)?;
+    begins(rt.alloc(), ROOM)?;
     Ok(())
 }
 
@@ -770,16 +830,19 @@ fn activate<St: Store>(
     Ok((came, pick))
 }
 
-/// Makes acts on a blank disk, of which none is to stop it, and activates an Eject.
-fn activated(
+/// Makes acts on a disk, of which none is to stop it, and activates an Eject.
+fn activated_on<St: Store + Drop>(
     alloc: Global,
+    disk: St::Device,
     first: &[Row],
     second: &[Row],
     third: &[Row],
     uid: Uid,
-) -> Result<(Came, Option<Pick>), Amiss> {
-    let disk = SimDisk::new(alloc, SIZE)?;
-    let (mut store, mut worker) = begin::<Log>(alloc, disk, first)?;
+) -> Result<(Came, Option<Pick>), Amiss>
+where
+    St::Device: Drop,
+{
+    let (mut store, mut worker) = begin::<St>(alloc, disk, first)?;
     let is_up = run(alloc, &mut worker, &mut store, second)?;
     if !is_up || !run(alloc, &mut worker, &mut store, third)? {
         return Err(Amiss::Down);
@@ -788,6 +851,17 @@ fn activated(
         return Err(Amiss::Put);
     }
     activate(alloc, &mut store, uid)
+}
+
+/// The same on a blank disk.
+fn activated(
+    alloc: Global,
+    first: &[Row],
+    second: &[Row],
+    third: &[Row],
+    uid: Uid,
+) -> Result<(Came, Option<Pick>), Amiss> {
+    activated_on::<Log>(alloc, blank(alloc)?, first, second, third, uid)
 }
 
 // Bytes that spell nothing, a type that is not there, another version, and no value.
@@ -830,24 +904,30 @@ const KEPT: &[(&[u8], Came)] = &[
     ),
 ];
 
+/// Whether an Eject of which these bytes are kept comes so.
+fn comes(alloc: Global, bytes: &'static [u8], wanted: Came) -> Result<bool, Amiss> {
+    let rows = [
+        (Act::Put(1, 1, bytes), None),
+        (
+            Act::Steps(100),
+            steps_of(JOB, Some(StoreEnd::Done), Some(1)),
+        ),
+    ];
+    Ok(activated(alloc, &rows, &[], &[], FIRST)? == (wanted, None))
+}
+
 #[test]
 fn a_start_by_what_is_kept(rt: HostRuntime) -> Result<(), Fail> {
-    for &(bytes, wanted) in KEPT {
-        let rows = [
-            (Act::Put(1, 1, bytes), None),
-            (
-                Act::Steps(100),
-                steps_of(JOB, Some(StoreEnd::Done), Some(1)),
-            ),
-        ];
-        let found = activated(rt.alloc(), &rows, &[], &[], FIRST)?;
-        assert_eq!(rt; found, (wanted, None), "{bytes:?}");
+    for (i, &(bytes, wanted)) in KEPT.iter().enumerate() {
+        assert!(rt; comes(rt.alloc(), bytes, wanted)?, "at {i}");
     }
     Ok(())
 }
 
 // Of the sync and the read of the settling, and the read of what is kept. Of an Eject of which nothing is kept nothing is read.
-const WAKES: &[(&[Row], u32, Option<Came>, bool)] = &[
+type Wake = (&'static [Row], u32, Option<Came>, bool);
+
+const WAKES: &[Wake] = &[
     (&[], 1, None, true),
     (&[], 2, Some(Came::Number { n: 7 }), true),
     (&[(Act::Arm(None, 1), None)], 1, Some(Came::Fault), false),
@@ -874,36 +954,70 @@ const WAKES: &[(&[Row], u32, Option<Came>, bool)] = &[
     (&[(Act::Arm(None, 3), None)], 3, Some(Came::Gone), true),
 ];
 
+/// How an Eject comes behind a put that failed in a device call, and what the settling finds.
+fn wanted_behind(failed: u32, end: Option<Came>, settled: bool) -> (Came, Option<Pick>) {
+    let (pick, n) = if failed == JOB {
+        (Pick::New, 9)
+    } else {
+        (Pick::Old, 5)
+    };
+    let came = match end {
+        Some(end) => end,
+        None => Came::Number { n },
+    };
+    (came, if settled { Some(pick) } else { None })
+}
+
+/// Whether an Eject comes as its row says behind a put that failed in a device call.
+fn wakes(
+    alloc: Global,
+    failed: u32,
+    &(trouble, serial, end, settled): &Wake,
+) -> Result<bool, Amiss> {
+    let rows = [
+        (Act::Put(1, 3, CELL_9), None),
+        (Act::Arm(None, failed), None),
+        (
+            Act::Steps(100),
+            steps_of(failed, Some(StoreEnd::Fault), Some(3)),
+        ),
+    ];
+    let found = activated(alloc, TWO_CELLS, &rows, trouble, uid_of(serial))?;
+    Ok(found == wanted_behind(failed, end, settled))
+}
+
 #[test]
 fn a_start_behind_a_settling(rt: HostRuntime) -> Result<(), Fail> {
     for failed in 1..=JOB {
-        let (pick, n) = if failed == JOB {
-            (Some(Pick::New), 9)
-        } else {
-            (Some(Pick::Old), 5)
-        };
-        let rows = [
-            (Act::Put(1, 3, CELL_9), None),
-            (Act::Arm(None, failed), None),
-            (
-                Act::Steps(100),
-                steps_of(failed, Some(StoreEnd::Fault), Some(3)),
-            ),
-        ];
-        for &(trouble, serial, end, settled) in WAKES {
-            let found = activated(rt.alloc(), TWO_CELLS, &rows, trouble, uid_of(serial))?;
-            let wanted = match end {
-                Some(end) => end,
-                None => Came::Number { n },
-            };
-            let settling = if settled { pick } else { None };
-            assert_eq!(rt; found, (wanted, settling), "{failed}");
+        for (i, wake) in WAKES.iter().enumerate() {
+            assert!(rt; wakes(rt.alloc(), failed, wake)?, "{failed}, {i}");
         }
     }
     Ok(())
 }
 
-/// How a boot of a blank disk goes while a device call is armed, and a boot behind it.
+/// How a boot goes while a device call is armed, and a boot behind it.
+fn two_boots_on<St: Store + Drop>(
+    alloc: Global,
+    mut disk: St::Device,
+    stop: Option<ImageMode>,
+    after: u32,
+) -> Result<(BootFall, BootNote), Amiss>
+where
+    St::Device: Drop,
+    requires { 1 ≤ after }
+{
+    disk.arm(arm_of(stop, after));
+    match boot::<St>(alloc, disk, 1, None) {
+        Ok((_, _)) => Err(Amiss::Boot),
+        Err((disk, fall)) => {
+            let (_, note) = boot_up::<St>(alloc, disk, fall.doubt)?;
+            Ok((fall, note))
+        }
+    }
+}
+
+/// The same of a blank disk.
 fn two_boots(
     alloc: Global,
     stop: Option<ImageMode>,
@@ -911,15 +1025,7 @@ fn two_boots(
 ) -> Result<(BootFall, BootNote), Amiss>
     requires { 1 ≤ after }
 {
-    let mut disk = SimDisk::new(alloc, SIZE)?;
-    disk.arm(arm_of(stop, after));
-    match boot::<Log>(alloc, disk, 1, None) {
-        Ok((_, _)) => Err(Amiss::Boot),
-        Err((disk, fall)) => {
-            let (_, note) = boot_up::<Log>(alloc, disk, fall.doubt)?;
-            Ok((fall, note))
-        }
-    }
+    two_boots_on::<Log>(alloc, blank(alloc)?, stop, after)
 }
 
 /// In which mode a disk stops, if it does not fail; how a boot ends in which it does; and from which device call on the next boot
@@ -957,23 +1063,43 @@ fn a_boot_that_is_refused_a_device_call(rt: HostRuntime) -> Result<(), Fail> {
     Ok(())
 }
 
+/// How a boot of a disk ends.
+fn end_of_boot_on<St: Store + Drop>(alloc: Global, disk: St::Device) -> Option<BootEnd>
+where
+    St::Device: Drop,
+{
+    match boot::<St>(alloc, disk, 1, None) {
+        Ok((_, _)) => Some(BootEnd::Up),
+        Err((_, fall)) => fall.end,
+    }
+}
+
 /// How a boot of a disk with this image ends.
 fn end_of_boot(alloc: Global, image: Vec<u8>) -> Result<Option<BootEnd>, Amiss>
     requires { length image.items < 2 ^ 32 }
 {
-    match boot::<Log>(alloc, SimDisk::of(alloc, image)?, 1, None) {
-        Ok((_, _)) => Ok(Some(BootEnd::Up)),
-        Err((_, fall)) => Ok(fall.end),
-    }
+    Ok(end_of_boot_on::<Log>(alloc, SimDisk::of(alloc, image)?))
 }
 
-/// The image of a blank disk that was booted, with this byte in some places.
+/// Boots a disk, and gives it back.
+fn booted<St: Store + Drop>(alloc: Global, disk: St::Device) -> Result<St::Device, Amiss>
+where
+    St::Device: Drop,
+{
+    let (store, _) = boot_up::<St>(alloc, disk, None)?;
+    Ok(store.close())
+}
+
+/// A blank disk that was booted.
+fn booted_blank(alloc: Global) -> Result<SimDisk, Amiss> {
+    booted::<Log>(alloc, blank(alloc)?)
+}
+
+/// Its image, with this byte in some places.
 fn booted_image(alloc: Global, from: usize, to: usize, byte: u8) -> Result<Vec<u8>, Amiss>
     ensures { IfOk result (λ image. length image.items < 2 ^ 32) }
 {
-    let (store, _) = boot_up::<Log>(alloc, SimDisk::new(alloc, SIZE)?, None)?;
-    let disk = store.close();
-    let mut image = disk.image(alloc)?;
+    let mut image = booted_blank(alloc)?.image(alloc)?;
     for place in from..to {
         if let Some(found) = image.get_mut(place) {
             *found = byte;

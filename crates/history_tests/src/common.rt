@@ -20,6 +20,11 @@ pub const SIZE: u32 = 4096;
 
 pub type Log = LogStore<SimDisk>;
 
+/// A blank disk of that size.
+pub fn blank(alloc: Global) -> Result<SimDisk, AllocError> {
+    SimDisk::new(alloc, SIZE)
+}
+
 /// What did not go as it was to.
 #[derive(Debug, Drop)]
 pub enum Amiss {

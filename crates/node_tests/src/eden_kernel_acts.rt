@@ -4,15 +4,15 @@ ghost use Rattle.eden_kernel.specs.Stands.{held, IsWhole};
 ghost use Rattle.eden_kernel.specs.DiskTurns.{IsWholeBehind};
 
 use crate::common::{are_few, ask, number_in, places};
-use eden_disk::{ImageMode, SimDisk};
+use eden_disk::ImageMode;
 use eden_kernel::{Node, TurnEnd};
 use eden_value::Status;
 use epl_syntax::Types;
-use history_tests::common::{Amiss, FIRST, Log, arm_of, uid_of};
+use history_tests::common::{Amiss, FIRST, Log, arm_of, blank, uid_of};
 use invocation::{Calls, Delivery};
 use journal::{Event, RequestEnd, StartEnd};
 use passive_store::{Doubt, Pick, Store};
-use std::alloc::{AllocError, Global};
+use std::alloc::Global;
 
 /// What is kept of a Cell of 5.
 pub const CELL: &[u8] = &[
@@ -52,11 +52,6 @@ pub enum Seen {
 
 /// What the last of some acts showed, and whether the node goes on.
 pub type Shown = (Seen, TurnEnd);
-
-/// A blank disk.
-pub fn blank(alloc: Global) -> Result<SimDisk, AllocError> {
-    SimDisk::new(alloc, 4096)
-}
 
 /// The disk of a node in its first epoch, on which these bytes are kept of one Eject.
 pub fn seeded<St: Store + Drop>(
@@ -289,6 +284,30 @@ const GET: &[Act] = &[
     Act::Process,
 ];
 
+/// What a node picks that boots over this disk, which is asked for the number of the Cell.
+fn asked<St: Store + Drop>(
+    alloc: Global,
+    disk: St::Device,
+    doubt: Option<Doubt>,
+    types: &Types,
+    calls: &mut Calls,
+) -> Result<Option<Pick>, Amiss>
+where
+    St::Device: Drop,
+{
+    let (mut node, _, pick) = up::<St>(alloc, disk, doubt)?;
+    run_on(alloc, &mut node, types, calls, GET)?;
+    Ok(pick)
+}
+
+/// The number that the shell is answered.
+fn answered(calls: &mut Calls) -> Option<i64> {
+    match calls.deliver(1, 0) {
+        Some(Delivery::Reply { results, .. }) => number_in(&results),
+        _ => None,
+    }
+}
+
 /// What a node finds that boots over this disk: what it picks, and the number of the Cell.
 pub fn found<St: Store + Drop>(
     alloc: Global,
@@ -300,16 +319,47 @@ where
 {
     let types = Types::native(alloc)?;
     let mut calls = Calls::new(alloc)?;
-    let (mut node, _, pick) = up::<St>(alloc, disk, doubt)?;
-    run_on(alloc, &mut node, &types, &mut calls, GET)?;
-    match calls.deliver(1, 0) {
-        Some(Delivery::Reply { results, .. }) => Ok((pick, number_in(&results))),
-        _ => Ok((pick, None)),
+    let pick = asked::<St>(alloc, disk, doubt, &types, &mut calls)?;
+    Ok((pick, answered(&mut calls)))
+}
+
+/// What acts come to at a node, behind those before; or None where the last may not be.
+fn shown_at<St: Store>(
+    alloc: Global,
+    node: &mut Node<St>,
+    types: &Types,
+    calls: &mut Calls,
+    before: &[Act],
+    acts: &[Act],
+) -> Result<Option<Shown>, Amiss>
+    requires { IsWhole (held St.seen node.old) }
+{
+    run_on(alloc, node, types, calls, before)?;
+    match run(alloc, node, types, calls, acts) {
+        Ok(last) => Ok(Some(last)),
+        Err(Amiss::MayNot) => Ok(None),
+        Err(amiss) => Err(amiss),
     }
 }
 
-/// What acts come to at a node on whose disk these bytes are kept of the first Eject, behind those before; or None where the last
-/// may not be.
+/// The same at a node that boots over a disk on which these bytes are kept of the first Eject.
+fn shown_on<St: Store + Drop>(
+    alloc: Global,
+    disk: St::Device,
+    (types, calls): (&Types, &mut Calls),
+    bytes: &[u8],
+    before: &[Act],
+    acts: &[Act],
+) -> Result<Option<Shown>, Amiss>
+where
+    St::Device: Drop,
+{
+    let disk = seeded::<St>(alloc, disk, bytes)?;
+    let (mut node, _, _) = up::<St>(alloc, disk, None)?;
+    shown_at(alloc, &mut node, types, calls, before, acts)
+}
+
+/// The same on a blank disk.
 pub fn shown(
     alloc: Global,
     bytes: &[u8],
@@ -318,12 +368,6 @@ pub fn shown(
 ) -> Result<Option<Shown>, Amiss> {
     let types = Types::native(alloc)?;
     let mut calls = Calls::new(alloc)?;
-    let disk = seeded::<Log>(alloc, blank(alloc)?, bytes)?;
-    let (mut node, _, _) = up::<Log>(alloc, disk, None)?;
-    run_on(alloc, &mut node, &types, &mut calls, before)?;
-    match run(alloc, &mut node, &types, &mut calls, acts) {
-        Ok(last) => Ok(Some(last)),
-        Err(Amiss::MayNot) => Ok(None),
-        Err(amiss) => Err(amiss),
-    }
+    let disk = blank(alloc)?;
+    shown_on::<Log>(alloc, disk, (&types, &mut calls), bytes, before, acts)
 }

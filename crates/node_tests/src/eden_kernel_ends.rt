@@ -1,17 +1,19 @@
 //! Every end of a turn of the store, of an activation and of a boot, at each device call, and what the next boot finds.
-ghost use Rattle.std.specs.Prelude.{false};
+ghost use Rattle.std.specs.Prelude.{false, IfOk};
 ghost use Rattle.eden_disk.specs.SimDisk.{due_of};
+ghost use Rattle.eden_kernel.specs.Stands.{held, IsWhole};
+ghost use Rattle.eden_kernel.specs.DiskTurns.{IsWholeBehind};
 
 use crate::eden_kernel_acts::{
-    Act, CELL, DAMAGED, Seen, Shown, blank, found, run, run_on, seeded, shown, up,
+    Act, CELL, DAMAGED, Seen, Shown, found, run, run_on, seeded, shown, up,
 };
 use eden_disk::{Arm, Disk, DiskRefusal, ImageMode, SimDisk};
 use eden_kernel::{Node, TurnEnd};
 use epl_syntax::Types;
-use history_tests::common::{Amiss, Log, arm_of};
+use history_tests::common::{Amiss, Log, arm_of, blank};
 use invocation::Calls;
 use journal::{BootEnd, RequestEnd, StartEnd};
-use passive_store::{LogStore, Pick};
+use passive_store::{LogStore, Pick, Store};
 use std::alloc::Global;
 use std::test::Fail;
 
@@ -34,15 +36,37 @@ type Found = (Option<Pick>, Option<i64>);
 /// What a save came to: what its last turn showed, whether a node that is up has more to keep, and what the next boot finds.
 type Saved = (Shown, bool, Found);
 
-/// A save with this trouble and these turns of the store, and a power cut, if the node is up then.
-fn saved(alloc: Global, trouble: &[Act], turns: &[Act], mode: ImageMode) -> Result<Saved, Amiss> {
+/// A save with this trouble, and these turns of the store: what the last showed.
+fn save<St: Store>(
+    alloc: Global,
+    node: &mut Node<St>,
+    trouble: &[Act],
+    turns: &[Act],
+) -> Result<Shown, Amiss>
+    requires { IsWhole (held St.seen node.old) }
+    ensures { IfOk result (λ r. IsWholeBehind r.1 (held St.seen node.new)) }
+{
     let types = Types::native(alloc)?;
     let mut calls = Calls::new(alloc)?;
-    let disk = seeded::<Log>(alloc, blank(alloc)?, CELL)?;
-    let (mut node, _, _) = up::<Log>(alloc, disk, None)?;
-    run_on(alloc, &mut node, &types, &mut calls, SAVING)?;
-    run_on(alloc, &mut node, &types, &mut calls, trouble)?;
-    let last = run(alloc, &mut node, &types, &mut calls, turns)?;
+    run_on(alloc, node, &types, &mut calls, SAVING)?;
+    run_on(alloc, node, &types, &mut calls, trouble)?;
+    run(alloc, node, &types, &mut calls, turns)
+}
+
+/// A save with this trouble and these turns of the store, and a power cut, if the node is up then.
+fn saved_on<St: Store + Drop>(
+    alloc: Global,
+    disk: St::Device,
+    trouble: &[Act],
+    turns: &[Act],
+    mode: ImageMode,
+) -> Result<Saved, Amiss>
+where
+    St::Device: Drop,
+{
+    let disk = seeded::<St>(alloc, disk, CELL)?;
+    let (mut node, _, _) = up::<St>(alloc, disk, None)?;
+    let last = save(alloc, &mut node, trouble, turns)?;
     let is_up = last.1 == TurnEnd::Up;
     let pending = is_up && node.pending();
     let (disk, doubt) = if is_up {
@@ -50,7 +74,12 @@ fn saved(alloc: Global, trouble: &[Act], turns: &[Act], mode: ImageMode) -> Resu
     } else {
         node.close()
     };
-    Ok((last, pending, found::<Log>(alloc, disk, doubt)?))
+    Ok((last, pending, found::<St>(alloc, disk, doubt)?))
+}
+
+/// The same on a blank disk.
+fn saved(alloc: Global, trouble: &[Act], turns: &[Act], mode: ImageMode) -> Result<Saved, Amiss> {
+    saved_on::<Log>(alloc, blank(alloc)?, trouble, turns, mode)
 }
 
 const GARBLE: ImageMode = ImageMode::Garble { byte: 225 };
@@ -202,18 +231,25 @@ impl Disk for Changed {
     }
 }
 
+/// What is found of a Cell that is kept on a disk.
+fn found_on<St: Store + Drop>(alloc: Global, disk: St::Device) -> Result<Found, Amiss>
+where
+    St::Device: Drop,
+{
+    let disk = seeded::<St>(alloc, disk, CELL)?;
+    found::<St>(alloc, disk, None)
+}
+
+/// What is found where a disk shows another byte than was written.
+fn found_changed(alloc: Global) -> Result<Found, Amiss> {
+    let disk = blank(alloc)?;
+    found_on::<LogStore<Changed>>(alloc, Changed { disk })
+}
+
 // An Eject starts from what is read of its disk, and never from a copy.
 #[test]
 fn a_start_reads_the_disk(rt: HostRuntime) -> Result<(), Fail> {
-    let alloc = rt.alloc();
-    let disk = Changed {
-        disk: blank(alloc)?,
-    };
-    let disk = seeded::<LogStore<Changed>>(alloc, disk, CELL)?;
-    assert_eq!(rt;
-        found::<LogStore<Changed>>(alloc, disk, None)?,
-        (None, Some(6))
-    );
+    assert_eq!(rt; found_changed(rt.alloc())?, (None, Some(6)));
     Ok(())
 }
 
@@ -282,28 +318,41 @@ const FIRST_BOOT: u8 = 11;
 
 /// How a boot ends whose disk fails, or stops in this mode, behind so many device calls; how often it failed; and the number of the
 /// Cell, if one is kept, that the next boot finds where this one was cut.
-fn boot_in_trouble(
+fn boot_in_trouble_on<St: Store + Drop>(
     alloc: Global,
+    mut disk: St::Device,
     is_kept: bool,
     stop: Option<ImageMode>,
     made: u8,
-) -> Result<(Option<BootEnd>, u64, Option<i64>), Amiss> {
-    let mut disk = blank(alloc)?;
+) -> Result<(Option<BootEnd>, u64, Option<i64>), Amiss>
+where
+    St::Device: Drop,
+{
     if is_kept {
-        disk = seeded::<Log>(alloc, disk, CELL)?;
+        disk = seeded::<St>(alloc, disk, CELL)?;
     }
     disk.arm(arm_of(stop, u32::from(made) + 1));
-    match Node::<Log>::boot(alloc, disk, 1, None) {
+    match Node::<St>::boot(alloc, disk, 1, None) {
         Ok((node, _)) => Ok((Some(BootEnd::Up), node.disk().faults(), None)),
         Err((disk, fall)) => {
             let faults = disk.faults();
             if !is_kept {
                 return Ok((fall.end, faults, None));
             }
-            let (_, number) = found::<Log>(alloc, disk, fall.doubt)?;
+            let (_, number) = found::<St>(alloc, disk, fall.doubt)?;
             Ok((fall.end, faults, number))
         }
     }
+}
+
+/// The same of a disk that is blank at first.
+fn boot_in_trouble(
+    alloc: Global,
+    is_kept: bool,
+    stop: Option<ImageMode>,
+    made: u8,
+) -> Result<(Option<BootEnd>, u64, Option<i64>), Amiss> {
+    boot_in_trouble_on::<Log>(alloc, blank(alloc)?, is_kept, stop, made)
 }
 
 /// How a boot in trouble ends, how often its disk failed, and the number that the next one finds.

@@ -1,10 +1,10 @@
-use crate::eden_kernel_acts::{Act, DAMAGED, Seen, Shown, blank, seeded, shown, up};
-use eden_disk::{Arm, Disk, ImageMode, SimDisk};
+use crate::eden_kernel_acts::{Act, DAMAGED, Seen, Shown, seeded, shown, up};
+use eden_disk::{Arm, Disk, ImageMode};
 use eden_kernel::{Node, TurnEnd};
 use eden_value::Status;
-use history_tests::common::{Amiss, Log};
+use history_tests::common::{Amiss, Log, blank};
 use journal::BootEnd;
-use passive_store::Doubt;
+use passive_store::{Doubt, Store};
 use std::alloc::Global;
 use std::test::Fail;
 
@@ -37,19 +37,37 @@ fn requests_and_turns_of_a_node_of_passive_ejects(rt: HostRuntime) -> Result<(),
     Ok(())
 }
 
+/// The epoch of the second boot of a disk.
+fn second_epoch<St: Store + Drop>(alloc: Global, disk: St::Device) -> Result<u32, Amiss>
+where
+    St::Device: Drop,
+{
+    let disk = seeded::<St>(alloc, disk, DAMAGED)?;
+    let (_, epoch, _) = up::<St>(alloc, disk, None)?;
+    Ok(epoch)
+}
+
+/// That of a blank disk.
+fn epoch_of_a_second_boot(alloc: Global) -> Result<u32, Amiss> {
+    second_epoch::<Log>(alloc, blank(alloc)?)
+}
+
 #[test]
 fn a_boot_begins_the_next_epoch(rt: HostRuntime) -> Result<(), Fail> {
-    let alloc = rt.alloc();
-    let disk = seeded::<Log>(alloc, blank(alloc)?, DAMAGED)?;
-    let (_, epoch, _) = up::<Log>(alloc, disk, None)?;
-    assert_eq!(rt; epoch, 2);
+    assert_eq!(rt; epoch_of_a_second_boot(rt.alloc())?, 2);
     Ok(())
 }
 
-/// A node of a blank disk whose next device call is to fail, and a crash: its epoch, whether it had a doubt, whether its disk was
-/// called, and the disk with what is in doubt.
-fn crashed(alloc: Global) -> Result<((u32, bool, bool), SimDisk, Option<Doubt>), Amiss> {
-    let (mut node, epoch, _) = up::<Log>(alloc, blank(alloc)?, None)?;
+/// A node whose next device call is to fail, and a crash: its epoch, whether it had a doubt, whether its disk was called, and the
+/// disk with what is in doubt.
+fn crashed<St: Store + Drop>(
+    alloc: Global,
+    disk: St::Device,
+) -> Result<((u32, bool, bool), St::Device, Option<Doubt>), Amiss>
+where
+    St::Device: Drop,
+{
+    let (mut node, epoch, _) = up::<St>(alloc, disk, None)?;
     let in_doubt = node.doubt().is_some();
     let clock = node.disk().clock();
     node.arm(Arm::Fail { after: 1 });
@@ -59,28 +77,70 @@ fn crashed(alloc: Global) -> Result<((u32, bool, bool), SimDisk, Option<Doubt>),
 }
 
 /// How a boot ends that does not bring the node up, and the disk.
-fn fallen(alloc: Global, disk: SimDisk) -> Result<(Option<BootEnd>, SimDisk), Amiss> {
-    match Node::<Log>::boot(alloc, disk, 1, None) {
+fn fallen<St: Store + Drop>(
+    alloc: Global,
+    disk: St::Device,
+) -> Result<(Option<BootEnd>, St::Device), Amiss>
+where
+    St::Device: Drop,
+{
+    match Node::<St>::boot(alloc, disk, 1, None) {
         Ok((_, _)) => Err(Amiss::Boot),
         Err((disk, fall)) => Ok((fall.end, disk)),
     }
 }
 
 /// The epoch of the next boot, and what it leaves as it is closed: what is in doubt, and how often the disk failed.
-fn closed(alloc: Global, disk: SimDisk) -> Result<(u32, Option<Doubt>, u64), Amiss> {
-    let (node, epoch, _) = up::<Log>(alloc, disk, None)?;
+fn closed<St: Store + Drop>(
+    alloc: Global,
+    disk: St::Device,
+) -> Result<(u32, Option<Doubt>, u64), Amiss>
+where
+    St::Device: Drop,
+{
+    let (node, epoch, _) = up::<St>(alloc, disk, None)?;
     let (disk, doubt) = node.close();
     Ok((epoch, doubt, disk.faults()))
+}
+
+/// What is seen of a crash and of two boots after it, and what is in doubt behind the first and the last.
+#[derive(Debug, Drop, PartialEq)]
+struct Crash {
+    seen: (u32, bool, bool),
+    doubt: Option<Doubt>,
+    fallen: (Option<BootEnd>, u64),
+    closed: (u32, Option<Doubt>, u64),
+}
+
+fn cut_on<St: Store + Drop>(alloc: Global, disk: St::Device) -> Result<Crash, Amiss>
+where
+    St::Device: Drop,
+{
+    let (seen, disk, doubt) = crashed::<St>(alloc, disk)?;
+    let (end, disk) = fallen::<St>(alloc, disk)?;
+    let fallen = (end, disk.faults());
+    let closed = closed::<St>(alloc, disk)?;
+    Ok(Crash {
+        seen,
+        doubt,
+        fallen,
+        closed,
+    })
+}
+
+fn cut(alloc: Global) -> Result<Crash, Amiss> {
+    cut_on::<Log>(alloc, blank(alloc)?)
 }
 
 // What was armed falls due in the next boot.
 #[test]
 fn a_crash_and_a_boot_after_it(rt: HostRuntime) -> Result<(), Fail> {
-    let alloc = rt.alloc();
-    let (seen, disk, doubt) = crashed(alloc)?;
-    assert_eq!(rt; (seen, doubt), ((1, false, false), None));
-    let (end, disk) = fallen(alloc, disk)?;
-    assert_eq!(rt; (end, disk.faults()), (Some(BootEnd::DiskFault), 1));
-    assert_eq!(rt; closed(alloc, disk)?, (2, None, 1));
+    let wanted = Crash {
+        seen: (1, false, false),
+        doubt: None,
+        fallen: (Some(BootEnd::DiskFault), 1),
+        closed: (2, None, 1),
+    };
+    assert_eq!(rt; cut(rt.alloc())?, wanted);
     Ok(())
 }

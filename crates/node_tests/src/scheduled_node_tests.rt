@@ -2,10 +2,10 @@ ghost use Rattle.std.specs.Prelude.{IfOk, OnOk};
 ghost use Rattle.eden_kernel.specs.Stands.{held, IsWhole};
 
 use crate::common::{are_few, ask, places};
-use eden_disk::{ImageMode, SimDisk};
+use eden_disk::ImageMode;
 use eden_kernel::TurnEnd;
 use epl_syntax::Types;
-use history_tests::common::{Amiss, FIRST, Log, SIZE, text};
+use history_tests::common::{Amiss, FIRST, Log, blank, text};
 use invocation::Calls;
 use passive_store::{Doubt, Store};
 use scheduled_node::ScheduledNode;
@@ -187,14 +187,14 @@ const WOKEN: &[(Act, Seen)] = &[
 #[test]
 fn a_cell_from_its_creation_to_its_answer(rt: HostRuntime) -> Result<(), Fail> {
     let alloc = rt.alloc();
-    run::<Log>(alloc, SimDisk::new(alloc, SIZE)?, ANSWERED)?;
+    run::<Log>(alloc, blank(alloc)?, ANSWERED)?;
     Ok(())
 }
 
 #[test]
 fn a_cell_that_saves_and_a_crash(rt: HostRuntime) -> Result<(), Fail> {
     let alloc = rt.alloc();
-    let (disk, doubt) = run::<Log>(alloc, SimDisk::new(alloc, SIZE)?, SAVED)?;
+    let (disk, doubt) = run::<Log>(alloc, blank(alloc)?, SAVED)?;
     assert!(rt; doubt.is_none());
     run::<Log>(alloc, disk, WOKEN)?;
     Ok(())

@@ -33,19 +33,22 @@ fn a_head_as_bytes(rt: HostRuntime) -> Result<(), Fail> {
     Ok(())
 }
 
+/// Sizes of disks, and whether they are allowed.
+const SIZES: &[(u32, bool)] = &[
+    (32_768, true),
+    (67_108_864, true),
+    (0, false),
+    (32_769, false),
+    (67_141_632, false),
+];
+
 #[test]
 fn sizes_of_disks_and_values(rt: HostRuntime) -> Result<(), Fail> {
-    for &(size, is_allowed) in &[
-        (32_768, true),
-        (67_108_864, true),
-        (0, false),
-        (32_769, false),
-        (67_141_632, false),
-    ] {
+    for &(size, is_allowed) in SIZES {
         assert!(rt; is_block_size(size) == is_allowed, "{size}");
     }
     for &(size, count) in &[(0, 1), (1022, 1), (1023, 2), (262_144, 257)] {
-        assert_eq!(rt; blocks_of(size), count, "{size}");
+        assert!(rt; blocks_of(size) == count, "{size}");
     }
     Ok(())
 }
@@ -53,7 +56,7 @@ fn sizes_of_disks_and_values(rt: HostRuntime) -> Result<(), Fail> {
 #[test]
 fn the_greatest_of_numbers_that_are_set(rt: HostRuntime) -> Result<(), Fail> {
     let mut peaks = Peaks::new(rt.alloc(), 70)?;
-    assert_eq!(rt; peaks.greatest(), 0);
+    assert!(rt; peaks.greatest() == 0);
     // a place, the number that is set there, and the greatest one then
     for &(place, value, greatest) in &[
         (3, 5, 5),
@@ -67,7 +70,7 @@ fn the_greatest_of_numbers_that_are_set(rt: HostRuntime) -> Result<(), Fail> {
         if place < 70 {
             peaks.set(place, value);
         }
-        assert_eq!(rt; peaks.greatest(), greatest, "{place} {value}");
+        assert!(rt; peaks.greatest() == greatest, "{place} {value}");
     }
     Ok(())
 }
@@ -75,7 +78,7 @@ fn the_greatest_of_numbers_that_are_set(rt: HostRuntime) -> Result<(), Fail> {
 #[test]
 fn the_least_of_a_set(rt: HostRuntime) -> Result<(), Fail> {
     let mut set = NumberSet::new(rt.alloc(), 200)?;
-    assert_eq!(rt; set.first(), None);
+    assert!(rt; set.first().is_none());
     // a number, whether it is taken in or out, and the least one then
     for &(number, is_in, first) in &[
         (130, true, 130),
@@ -90,7 +93,7 @@ fn the_least_of_a_set(rt: HostRuntime) -> Result<(), Fail> {
                 set.remove(number);
             }
         }
-        assert_eq!(rt; set.first(), Some(first), "{number}");
+        assert!(rt; set.first() == Some(first), "{number}");
     }
     assert!(rt; set.contains(130) && !set.contains(131) && !set.contains(3));
     Ok(())
@@ -118,6 +121,6 @@ fn a_head_and_a_block_on_a_disk(rt: HostRuntime) -> Result<(), Fail> {
     let mut disk = SimDisk::new(rt.alloc(), 32_768)?;
     let found = write_and_read(&mut disk)?;
     assert!(rt; found == (None, true, Some(HEAD), 4));
-    assert_eq!(rt; disk.clock(), 7);
+    assert!(rt; disk.clock() == 7);
     Ok(())
 }

@@ -6,25 +6,33 @@ use eden_disk::{
     left_after_a_call, left_in_a_call,
 };
 use std::alloc::{AllocError, Global};
-use std::process::Abort;
 use std::test::Fail;
 
 const GARBLE: ImageMode = ImageMode::Garble { byte: 35 };
 
+/// Modes, and the byte that each leaves of 255.
+const CUTS: &[(ImageMode, u8)] = &[
+    (ImageMode::Lose, 0),
+    (ImageMode::Keep, 255),
+    (ImageMode::Garble { byte: 7 }, 7),
+];
+
+/// Whether a cut leaves this byte of 255, which was written and not synced.
+fn leaves(alloc: Global, mode: ImageMode, left: u8) -> Result<bool, AllocError> {
+    let mut disk = SimDisk::new(alloc, 1024)?;
+    if disk.write(10, &[255]).is_err() {
+        return Ok(false);
+    }
+    disk.cut_power(mode);
+    let mut wanted = [0; 1024];
+    wanted[10] = left;
+    shows(alloc, &disk, &wanted)
+}
+
 #[test]
 fn a_cut_leaves_what_its_mode_says(rt: HostRuntime) -> Result<(), Fail> {
-    let alloc = rt.alloc();
-    for &(mode, left) in &[
-        (ImageMode::Lose, 0u8),
-        (ImageMode::Keep, 255),
-        (ImageMode::Garble { byte: 7 }, 7),
-    ] {
-        let mut disk = SimDisk::new(alloc, 1024)?;
-        assert!(rt; disk.write(10, &[255]).is_ok());
-        disk.cut_power(mode);
-        let mut wanted = [0; 1024];
-        wanted[10] = left;
-        assert!(rt; shows(alloc, &disk, &wanted)?, "{mode:?}");
+    for &(mode, left) in CUTS {
+        assert!(rt; leaves(rt.alloc(), mode, left)?, "{mode:?}");
     }
     Ok(())
 }
@@ -67,86 +75,107 @@ fn a_run_without_faults(rt: HostRuntime) -> Result<(), Fail> {
     Ok(())
 }
 
-/// Sees what a stop or a failure behind so many calls of the run leaves, once the power is cut.
-fn harm_behind(
-    rt: &impl Abort,
-    alloc: Global,
-    harm: Harm,
-    calls: u32,
-    mode: ImageMode,
-    image: &str,
-) -> Result<(), AllocError> {
-    let after = calls.saturating_add(1);
-    let mut disk = dots(alloc)?;
+/// Whether the run is refused as the harm says, and reads nothing.
+fn is_harmed<D: Disk>(disk: &mut D, harm: Harm) -> bool
+    requires power { IsTrue (D.counts disk.old).power }
+    requires size { 8 ≤ (D.counts disk.old).size }
+{
     let mut out = [0; 2];
-    arm(&mut disk, harm, after, mode);
     let wanted = match harm {
         Harm::Stop => Err(DiskRefusal::Stopped),
         Harm::Fail => Err(DiskRefusal::Failed),
         Harm::Cut => Ok(()),
     };
-    assert!(rt;
-        run(&mut disk, &mut out) == wanted && out == [0; 2],
-        "{calls}"
-    );
-    assert!(rt; counts(&disk) == counts_behind(harm, after), "{calls}");
-    cut_power(&mut disk, harm, mode);
-    assert!(rt; shows(alloc, &disk, image.as_bytes())?, "{calls} {mode:?}");
-    disk.restart();
-    assert!(rt; disk.sync().is_ok(), "{calls}");
-    Ok(())
+    run(disk, &mut out) == wanted && out == [0; 2]
 }
+
+/// Whether a stop or a failure behind so many calls of the run leaves this image, once the power is cut.
+fn leaves_image(
+    alloc: Global,
+    harm: Harm,
+    calls: u32,
+    mode: ImageMode,
+    image: &str,
+) -> Result<bool, AllocError> {
+    let after = calls.saturating_add(1);
+    let mut disk = dots(alloc)?;
+    arm(&mut disk, harm, after, mode);
+    if !is_harmed(&mut disk, harm) || counts(&disk) != counts_behind(harm, after) {
+        return Ok(false);
+    }
+    cut_power(&mut disk, harm, mode);
+    let is_left = shows(alloc, &disk, image.as_bytes())?;
+    disk.restart();
+    Ok(is_left && disk.sync().is_ok())
+}
+
+/// A stop or a failure behind so many calls of the run, and the image that it leaves.
+const IMAGES: &[(Harm, u32, ImageMode, &str)] = &[
+    (Harm::Stop, 0, ImageMode::Keep, "..abcd.."),
+    (Harm::Stop, 0, ImageMode::Lose, "........"),
+    (Harm::Stop, 0, GARBLE, "..####.."),
+    (Harm::Fail, 0, ImageMode::Keep, "..ab...."),
+    (Harm::Fail, 0, ImageMode::Lose, "........"),
+    (Harm::Fail, 0, GARBLE, "..####.."),
+    (Harm::Stop, 1, ImageMode::Keep, "..abcd.."),
+    (Harm::Stop, 1, ImageMode::Lose, "........"),
+    (Harm::Stop, 1, GARBLE, "..####.."),
+    (Harm::Fail, 1, ImageMode::Keep, "..abcd.."),
+    (Harm::Fail, 1, ImageMode::Lose, "........"),
+    (Harm::Fail, 1, GARBLE, "..####.."),
+    (Harm::Stop, 2, ImageMode::Keep, "..axyz.."),
+    (Harm::Stop, 2, ImageMode::Lose, "..abcd.."),
+    (Harm::Stop, 2, GARBLE, "..a###.."),
+    (Harm::Fail, 2, ImageMode::Keep, "..axcd.."),
+    (Harm::Fail, 2, ImageMode::Lose, "..abcd.."),
+    (Harm::Fail, 2, GARBLE, "..a###.."),
+    (Harm::Stop, 3, ImageMode::Keep, "..axyz.."),
+    (Harm::Stop, 3, ImageMode::Lose, "..abcd.."),
+    (Harm::Stop, 3, GARBLE, "..a###.."),
+    (Harm::Fail, 3, ImageMode::Keep, "..axyz.."),
+    (Harm::Fail, 3, ImageMode::Lose, "..abcd.."),
+    (Harm::Fail, 3, GARBLE, "..a###.."),
+];
 
 /// Behind so many calls of the run the next one is stopped, or fails and the power is cut then.
 #[test]
 fn a_fault_in_each_call_leaves_its_image(rt: HostRuntime) -> Result<(), Fail> {
-    // calls; unsynced bytes kept after a stop, kept after a failure, lost, garbled
-    for &(calls, kept, half, lost, garbled) in &[
-        (0u32, "..abcd..", "..ab....", "........", "..####.."),
-        (1, "..abcd..", "..abcd..", "........", "..####.."),
-        (2, "..axyz..", "..axcd..", "..abcd..", "..a###.."),
-        (3, "..axyz..", "..axyz..", "..abcd..", "..a###.."),
-    ] {
-        for &(harm, mode, image) in &[
-            (Harm::Stop, ImageMode::Keep, kept),
-            (Harm::Stop, ImageMode::Lose, lost),
-            (Harm::Stop, GARBLE, garbled),
-            (Harm::Fail, ImageMode::Keep, half),
-            (Harm::Fail, ImageMode::Lose, lost),
-            (Harm::Fail, GARBLE, garbled),
-        ] {
-            harm_behind(&rt, rt.alloc(), harm, calls, mode, image)?;
-        }
+    for (i, &(harm, calls, mode, image)) in IMAGES.iter().enumerate() {
+        assert!(rt;
+            leaves_image(rt.alloc(), harm, calls, mode, image)?,
+            "image {i}"
+        );
     }
     Ok(())
+}
+
+/// Whether two requests, of which the first is for the next call, have the syncs behind them refused so.
+fn have_refused(
+    alloc: Global,
+    first: Harm,
+    second: Harm,
+    after: u32,
+    refusals: &[Option<DiskRefusal>],
+) -> Result<bool, AllocError> {
+    let mut disk = dots(alloc)?;
+    arm(&mut disk, first, 1, ImageMode::Keep);
+    arm(&mut disk, second, after, ImageMode::Keep);
+    for refusal in refusals {
+        disk.restart();
+        if disk.sync().err() != *refusal {
+            return Ok(false);
+        }
+    }
+    Ok(true)
 }
 
 /// A request replaces one of its sort, and a stop goes before a failure: two requests, and how three syncs are refused.
 #[test]
 fn two_requests(rt: HostRuntime) -> Result<(), Fail> {
-    let mode = ImageMode::Keep;
-    for &(first, second, after, refusals) in &[
-        (
-            Harm::Fail,
-            Harm::Fail,
-            2,
-            [None, Some(DiskRefusal::Failed), None],
-        ),
-        (
-            Harm::Stop,
-            Harm::Fail,
-            1,
-            [Some(DiskRefusal::Stopped), None, None],
-        ),
-    ] {
-        let mut disk = dots(rt.alloc())?;
-        arm(&mut disk, first, 1, mode);
-        arm(&mut disk, second, after, mode);
-        for refusal in refusals {
-            disk.restart();
-            assert!(rt; disk.sync().err() == refusal);
-        }
-    }
+    let later = &[None, Some(DiskRefusal::Failed), None];
+    assert!(rt; have_refused(rt.alloc(), Harm::Fail, Harm::Fail, 2, later)?);
+    let stopped = &[Some(DiskRefusal::Stopped), None, None];
+    assert!(rt; have_refused(rt.alloc(), Harm::Stop, Harm::Fail, 1, stopped)?);
     Ok(())
 }
 
@@ -180,7 +209,7 @@ fn a_large_disk_takes_time_in_what_is_written(rt: HostRuntime) -> Result<(), Fai
         assert!(rt; write_last(&mut disk).is_ok());
         disk.cut_power(ImageMode::Keep);
     }
-    assert_eq!(rt; disk.clock(), 8192);
+    assert!(rt; disk.clock() == 8192);
     Ok(())
 }
 

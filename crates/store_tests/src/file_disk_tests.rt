@@ -44,27 +44,42 @@ fn write_and_read(disk: &mut FileDisk) -> Option<[u8; 4]> {
     Some(bytes)
 }
 
+// Whether a folder has eight disks, and the third takes in what is written.
+fn is_written(rt: &HostRuntime, alloc: Global, folder: &str) -> bool {
+    let Ok(mut disks) = open_disks(alloc, rt, folder, &[SIZE], SIZE) else {
+        return false;
+    };
+    if disks.len() != 8 {
+        return false;
+    }
+    let Some(disk) = disks.get_mut(2) else {
+        return false;
+    };
+    write_and_read(disk) == Some(*b"\0abc") && counts(disk) == counts_behind(Harm::Cut, 3)
+}
+
+// Whether of the disks of a folder the third ends with what was written, and the next one with nothing.
+fn is_kept(rt: &HostRuntime, alloc: Global, folder: &str) -> bool {
+    let Ok(mut disks) = open_disks(alloc, rt, folder, &[SIZE], SIZE) else {
+        return false;
+    };
+    for &(index, byte) in &[(2, b'c'), (3, 0)] {
+        let Some(disk) = disks.get_mut(index) else {
+            return false;
+        };
+        if !ends_with(disk, SIZE, byte) {
+            return false;
+        }
+    }
+    true
+}
+
 // What was written and synced is read again by the disks that are opened next, and by them alone.
 #[test]
 fn files_keep_what_was_written(rt: HostRuntime) -> Result<(), Fail> {
     make_folder(&rt, "file_disk_test")?;
-    let mut disks = open_disks(rt.alloc(), &rt, "file_disk_test", &[SIZE], SIZE).expect(
-        &rt,
-        "new disks",
-    );
-    assert_eq!(rt; disks.len(), 8);
-    let disk = disks.get_mut(2).expect(&rt, "disk 3");
-    assert!(rt; write_and_read(disk) == Some(*b"\0abc"));
-    assert!(rt; counts(disk) == counts_behind(Harm::Cut, 3));
-    drop(disks);
-    let mut again = open_disks(rt.alloc(), &rt, "file_disk_test", &[SIZE], SIZE).expect(
-        &rt,
-        "old disks",
-    );
-    for &(index, byte) in &[(2, b'c'), (3, 0)] {
-        let disk = again.get_mut(index).expect(&rt, "a disk");
-        assert!(rt; ends_with(disk, SIZE, byte));
-    }
+    assert!(rt; is_written(&rt, rt.alloc(), "file_disk_test"), "new disks");
+    assert!(rt; is_kept(&rt, rt.alloc(), "file_disk_test"), "old disks");
     fs::remove_dir_all(&rt, "file_disk_test")?;
     Ok(())
 }

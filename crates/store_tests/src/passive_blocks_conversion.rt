@@ -73,7 +73,16 @@ const FULL: &[Record] = &[
 
 /// Records, and how many values of one byte stand behind them, each of which takes a block; the length of the log, and the
 /// size of its disk; how the conversion is refused, and its device calls.
-const LOGS: &[(&[Record], u32, usize, usize, Option<StoreRefusal>, u64)] = &[
+type Log = (
+    &'static [Record],
+    u32,
+    usize,
+    usize,
+    Option<StoreRefusal>,
+    u64,
+);
+
+const LOGS: &[Log] = &[
     (CHANGES, 0, 4136, WIDE, None, 407 + READING),
     // as many blocks as find room: 2,945 reads of the walk; 2,944 values of a read and a write; 4,096 heads and 2,944 blocks
     (
@@ -173,18 +182,36 @@ fn disk_of(alloc: Global, bytes: &[u8], size: usize) -> Result<SimDisk, AllocErr
     SimDisk::of(alloc, image)
 }
 
+/// Whether a disk is opened or refused so, with so many device calls, and changes where it is not refused.
+fn is_opened_so(
+    alloc: Global,
+    disk: SimDisk,
+    wanted: Option<StoreRefusal>,
+    calls: u64,
+) -> Result<bool, AllocError>
+    requires { IsTrue disk.counts.power }
+{
+    let before = disk.image(alloc)?;
+    let (disk, refusal) = refusal_of::<BlockStore<SimDisk>>(alloc, disk);
+    let after = disk.image(alloc)?;
+    let is_changed = after != before;
+    Ok(refusal == wanted && disk.clock() == calls && is_changed == refusal.is_none())
+}
+
+/// Whether a log becomes blocks or is refused, as its row says.
+fn is_converted(
+    alloc: Global,
+    &(records, values, length, size, wanted, calls): &Log,
+) -> Result<bool, AllocError> {
+    let log = make_log(alloc, records, values)?;
+    let disk = disk_of(alloc, &log, size.min(WIDE))?;
+    Ok(log.len() == length && is_opened_so(alloc, disk, wanted, calls)?)
+}
+
 #[test]
 fn logs_become_blocks_or_are_refused(rt: HostRuntime) -> Result<(), Fail> {
-    let alloc = rt.alloc();
-    for (row, &(records, values, length, size, wanted, calls)) in LOGS.iter().enumerate() {
-        let log = make_log(alloc, records, values)?;
-        assert_eq!(rt; log.len(), length, "log {row}");
-        let disk = disk_of(alloc, &log, size.min(WIDE))?;
-        let before = disk.image(alloc)?;
-        let (disk, refusal) = refusal_of::<BlockStore<SimDisk>>(alloc, disk);
-        assert!(rt; (refusal, disk.clock()) == (wanted, calls), "log {row}");
-        let after = disk.image(alloc)?;
-        assert!(rt; (after == before) == refusal.is_some(), "log {row}");
+    for (row, log) in LOGS.iter().enumerate() {
+        assert!(rt; is_converted(rt.alloc(), log)?, "log {row}");
     }
     Ok(())
 }
@@ -256,23 +283,35 @@ fn all_stand(image: &[u8], from: usize, all: &[Standing]) -> bool {
     true
 }
 
-#[test]
-fn the_bytes_of_a_log_that_became_blocks(rt: HostRuntime) -> Result<(), Fail> {
-    let alloc = rt.alloc();
-    let log = make_log(alloc, CHANGES, 0)?;
-    let (mut disk, _) = refusal_of::<BlockStore<SimDisk>>(alloc, disk_of(alloc, &log, WIDE)?);
-    let image = disk.image(alloc)?;
-    assert!(rt; image.len() == WIDE && all_stand(&image, 0, BODIES));
-    assert!(rt; all_stand(&image, 1024, HEADS) && all_stand(&image, 4_063_232, HEADS));
+/// Whether an image is that of the blocks that `CHANGES` become.
+fn is_image(image: &[u8]) -> bool {
+    let has_heads = all_stand(image, 1024, HEADS) && all_stand(image, 4_063_232, HEADS);
+    has_heads && image.len() == WIDE && all_stand(image, 0, BODIES)
+}
+
+/// Whether a disk that is restarted keeps what `CHANGES` does.
+fn keeps_changes(alloc: Global, mut disk: SimDisk) -> bool {
     disk.restart();
     let (_, is_kept) = look::<BlockStore<SimDisk>>(alloc, disk, KEPT);
-    assert!(rt; is_kept);
+    is_kept
+}
+
+#[test]
+fn the_bytes_of_a_log_that_became_blocks(rt: HostRuntime) -> Result<(), Fail> {
+    let log = make_log(rt.alloc(), CHANGES, 0)?;
+    let disk = disk_of(rt.alloc(), &log, WIDE)?;
+    let (disk, _) = refusal_of::<BlockStore<SimDisk>>(rt.alloc(), disk);
+    let image = disk.image(rt.alloc())?;
+    assert!(rt; is_image(&image));
+    assert!(rt; keeps_changes(rt.alloc(), disk));
     Ok(())
 }
 
 /// What befalls a first opening, and how it is refused; and the device calls of a second one. Behind a whole conversion that
 /// converts nothing, and behind a stop once the heads are staged they are moved without the log.
-const OPENINGS: &[(Harm, u32, Option<StoreRefusal>, u64)] = &[
+type Opening = (Harm, u32, Option<StoreRefusal>, u64);
+
+const OPENINGS: &[Opening] = &[
     (Harm::Cut, 1, None, 2 + READING),
     (
         Harm::Stop,
@@ -282,22 +321,31 @@ const OPENINGS: &[(Harm, u32, Option<StoreRefusal>, u64)] = &[
     ),
 ];
 
+/// Whether a disk that is restarted is opened with so many device calls, and keeps what `CHANGES` does.
+fn is_opened_again(alloc: Global, mut disk: SimDisk, calls: u64) -> bool {
+    disk.restart();
+    let wanted = disk.clock().saturating_add(calls);
+    let (disk, refusal) = refusal_of::<BlockStore<SimDisk>>(alloc, disk);
+    refusal.is_none() && disk.clock() == wanted && keeps_changes(alloc, disk)
+}
+
+/// Whether the openings of a disk with this log go as their row says.
+fn are_openings(
+    alloc: Global,
+    log: &[u8],
+    &(harm, after, wanted, calls): &Opening,
+) -> Result<bool, AllocError> {
+    let mut disk = disk_of(alloc, log, WIDE)?;
+    arm(&mut disk, harm, after, ImageMode::Lose);
+    let (disk, refusal) = refusal_of::<BlockStore<SimDisk>>(alloc, disk);
+    Ok(refusal == wanted && is_opened_again(alloc, disk, calls))
+}
+
 #[test]
 fn second_openings(rt: HostRuntime) -> Result<(), Fail> {
-    let alloc = rt.alloc();
-    let log = make_log(alloc, CHANGES, 0)?;
-    for &(harm, after, wanted, calls) in OPENINGS {
-        let mut disk = disk_of(alloc, &log, WIDE)?;
-        arm(&mut disk, harm, after, ImageMode::Lose);
-        let (mut disk, first) = refusal_of::<BlockStore<SimDisk>>(alloc, disk);
-        disk.restart();
-        let before = disk.clock();
-        let (mut disk, second) = refusal_of::<BlockStore<SimDisk>>(alloc, disk);
-        assert!(rt; (first, second) == (wanted, None));
-        assert_eq!(rt; disk.clock(), before.saturating_add(calls));
-        disk.restart();
-        let (_, is_kept) = look::<BlockStore<SimDisk>>(alloc, disk, KEPT);
-        assert!(rt; is_kept);
+    let log = make_log(rt.alloc(), CHANGES, 0)?;
+    for (row, opening) in OPENINGS.iter().enumerate() {
+        assert!(rt; are_openings(rt.alloc(), &log, opening)?, "opening {row}");
     }
     Ok(())
 }

@@ -29,7 +29,9 @@ type Changed = &'static [(usize, u8)];
 const LONG: Changed = &[(21, 3), (22, 0xFF)];
 
 /// Head 3 and head 5, where there is one, and the next block of block 2; the place that is damaged, and the device calls.
-const DISKS: &[(Changed, Option<Changed>, u8, Option<u32>, u64)] = &[
+type Row = (Changed, Option<Changed>, u8, Option<u32>, u64);
+
+const DISKS: &[Row] = &[
     // Each of these heads breaks a rule of the format, behind a sync, a look, and heads 0 to 3.
     // no kind
     (&[(1, 0)], None, 0, Some(THIRD), 6),
@@ -126,30 +128,36 @@ fn damaged(place: Option<u32>) -> Option<StoreRefusal> {
     Some(StoreRefusal::Damaged { place })
 }
 
+/// Whether a disk is opened, or damaged at a place, with so many device calls.
+fn is_opened_so(alloc: Global, disk: SimDisk, place: Option<u32>, calls: u64) -> bool
+    requires { IsTrue disk.counts.power }
+{
+    let (disk, refusal) = refusal_of::<BlockStore<SimDisk>>(alloc, disk);
+    refusal == damaged(place) && disk.clock() == calls
+}
+
+/// Whether a disk is opened or damaged as its row says.
+fn is_answered(
+    alloc: Global,
+    &(third, fifth, next, place, calls): &Row,
+) -> Result<bool, AllocError> {
+    let disk = make_disk(alloc, third, fifth, next)?;
+    Ok(is_opened_so(alloc, disk, place, calls))
+}
+
 #[test]
 fn heads_and_chains_are_opened_or_damaged(rt: HostRuntime) -> Result<(), Fail> {
-    let alloc = rt.alloc();
-    for (row, &(third, fifth, next, place, calls)) in DISKS.iter().enumerate() {
-        let disk = make_disk(alloc, third, fifth, next)?;
-        let (disk, refusal) = refusal_of::<BlockStore<SimDisk>>(alloc, disk);
-        assert!(rt;
-            (refusal, disk.clock()) == (damaged(place), calls),
-            "disk {row}"
-        );
+    for (i, row) in DISKS.iter().enumerate() {
+        assert!(rt; is_answered(rt.alloc(), row)?, "disk {i}");
     }
     Ok(())
 }
 
 #[test]
 fn a_size_that_is_not_allowed_is_damaged(rt: HostRuntime) -> Result<(), Fail> {
-    let alloc = rt.alloc();
     for &size in &[0, 17, 1024, 32_767, 32_769, 33_792, 65_535] {
-        let disk = SimDisk::new(alloc, size)?;
-        let (disk, refusal) = refusal_of::<BlockStore<SimDisk>>(alloc, disk);
-        assert!(rt;
-            (refusal, disk.clock()) == (damaged(Some(0)), 0),
-            "size {size}"
-        );
+        let disk = SimDisk::new(rt.alloc(), size)?;
+        assert!(rt; is_opened_so(rt.alloc(), disk, Some(0), 0), "size {size}");
     }
     Ok(())
 }

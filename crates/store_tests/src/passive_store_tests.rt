@@ -132,46 +132,55 @@ where
     }
 }
 
-/// Sees that a harm behind so many device calls loses no acknowledged change.
+/// Whether a harm behind so many device calls loses no acknowledged change.
 fn outlives(
-    rt: &impl Abort,
     alloc: Global,
     layout: Layout,
     harm: Harm,
     calls: u32,
     mode: ImageMode,
-) -> Result<(), AllocError> {
+) -> Result<bool, AllocError> {
     let (mut disk, made) = run_into(alloc, layout, harm, calls, mode)?;
-    let (name, done) = match harm {
-        Harm::Stop => ("stop", calls.saturating_sub(1)),
-        Harm::Fail => ("failure", calls.saturating_sub(1)),
-        Harm::Cut => ("cut", calls),
+    let done = match harm {
+        Harm::Stop | Harm::Fail => calls.saturating_sub(1),
+        Harm::Cut => calls,
     };
-    assert!(rt;
-        counts(&disk) == counts_behind(harm, calls),
-        "{name} {calls}"
-    );
-    assert_eq!(rt; made, acknowledged(layout, done), "{name} {calls}");
+    if counts(&disk) != counts_behind(harm, calls) || made != acknowledged(layout, done) {
+        return Ok(false);
+    }
     cut_power(&mut disk, harm, mode);
     disk.restart();
-    let is_kept = if layout.is_log {
-        survives::<LogStore<SimDisk>>(alloc, disk, made)
-    } else {
-        survives::<BlockStore<SimDisk>>(alloc, disk, made)
-    };
-    assert!(rt; is_kept, "{name} {calls}");
-    Ok(())
+    if layout.is_log {
+        return Ok(survives::<LogStore<SimDisk>>(alloc, disk, made));
+    }
+    Ok(survives::<BlockStore<SimDisk>>(alloc, disk, made))
+}
+
+/// The harm behind so many device calls that loses a change, if one does. A cut counts once the disk is opened.
+fn first_lost(
+    alloc: Global,
+    layout: Layout,
+    calls: u32,
+    mode: ImageMode,
+) -> Result<Option<&'static str>, AllocError> {
+    if !outlives(alloc, layout, Harm::Stop, calls, mode)? {
+        return Ok(Some("stop"));
+    }
+    if !outlives(alloc, layout, Harm::Fail, calls, mode)? {
+        return Ok(Some("failure"));
+    }
+    if calls >= layout.opening && !outlives(alloc, layout, Harm::Cut, calls, mode)? {
+        return Ok(Some("cut"));
+    }
+    Ok(None)
 }
 
 /// A stop and a failure in each device call, and a power cut between any two of them once the disk is opened.
 fn outlives_all(rt: &impl Abort, alloc: Global, layout: Layout) -> Result<(), AllocError> {
     for calls in 1..=layout.ends[4] {
         for &mode in MODES {
-            outlives(rt, alloc, layout, Harm::Stop, calls, mode)?;
-            outlives(rt, alloc, layout, Harm::Fail, calls, mode)?;
-            if calls >= layout.opening {
-                outlives(rt, alloc, layout, Harm::Cut, calls, mode)?;
-            }
+            let lost = first_lost(alloc, layout, calls, mode)?;
+            assert!(rt; lost.is_none(), "{lost:?} {calls}");
         }
     }
     Ok(())

@@ -245,17 +245,23 @@ fn first_not_taken(c: &mut Coordinator, past: u32) -> Result<u32, AllocError> {
     Ok(past)
 }
 
-/// Of a coordinator with limit 1: the first call that is not taken, the first other step, and whether 63 calls are left.
-fn filled(alloc: Global) -> Result<(u32, Option<usize>, bool), AllocError> {
+/// The first call that is not taken, and the first other step.
+fn fill(c: &mut Coordinator) -> Result<(u32, Option<usize>), AllocError> {
+    let call = first_not_taken(c, 164)?;
+    let other = first_other(c, FULL)?;
+    Ok((call, other))
+}
+
+/// What filling a coordinator with limit 1 comes to, and whether 63 calls are left.
+fn filled(alloc: Global) -> Result<((u32, Option<usize>), bool), AllocError> {
     let mut c = idle(alloc, 1)?;
-    let call = first_not_taken(&mut c, 164)?;
-    let other = first_other(&mut c, FULL)?;
-    Ok((call, other, leaves(c, 1, 63, 101)))
+    let seen = fill(&mut c)?;
+    Ok((seen, leaves(c, 1, 63, 101)))
 }
 
 #[test]
 fn one_of_a_class_with_limit_one(rt: HostRuntime) -> Result<(), AllocError> {
-    assert_eq!(rt; filled(rt.alloc())?, (164, None, true));
+    assert_eq!(rt; filled(rt.alloc())?, ((164, None), true));
     Ok(())
 }
 
@@ -275,19 +281,24 @@ const SIXTEEN: &[(Step, Seen)] = &[
     (Step::NextReady { after: 15 }, Seen::Number { n: 16 }),
 ];
 
-/// Of a coordinator with limit 16: the first call that is not taken, the first process that does not start, the first other
-/// step, and whether one call is left.
-fn sixteen(alloc: Global) -> Result<(u32, u8, Option<usize>, bool), AllocError> {
+/// The first call that is not taken, the first process that does not start, and the first other step.
+fn start_sixteen(c: &mut Coordinator) -> Result<(u32, u8, Option<usize>), AllocError> {
+    let call = first_not_taken(c, 117)?;
+    let process = first_not_started(c, 17)?;
+    let other = first_other(c, SIXTEEN)?;
+    Ok((call, process, other))
+}
+
+/// What sixteen starts of a coordinator with limit 16 come to, and whether one call is left.
+fn sixteen(alloc: Global) -> Result<((u32, u8, Option<usize>), bool), AllocError> {
     let mut c = idle(alloc, 16)?;
-    let call = first_not_taken(&mut c, 117)?;
-    let process = first_not_started(&mut c, 17)?;
-    let other = first_other(&mut c, SIXTEEN)?;
-    Ok((call, process, other, leaves(c, 16, 1, 116)))
+    let seen = start_sixteen(&mut c)?;
+    Ok((seen, leaves(c, 16, 1, 116)))
 }
 
 #[test]
 fn room_grows_to_sixteen_processes(rt: HostRuntime) -> Result<(), AllocError> {
-    assert_eq!(rt; sixteen(rt.alloc())?, (117, 17, None, true));
+    assert_eq!(rt; sixteen(rt.alloc())?, ((117, 17, None), true));
     Ok(())
 }
 
@@ -337,10 +348,15 @@ const PASSES: &[(Step, Seen)] = &[
     (Step::By(2, ENTER), Seen::Yes),
 ];
 
+/// The first step that is not as it has to be while the monitor passes.
+fn first_not_passed(alloc: Global) -> Result<Option<usize>, AllocError> {
+    let mut c = monitored(alloc)?;
+    first_other(&mut c, PASSES)
+}
+
 #[test]
 fn a_monitor_passes_in_order(rt: HostRuntime) -> Result<(), AllocError> {
-    let other = first_other(&mut monitored(rt.alloc())?, PASSES)?;
-    assert_eq!(rt; other, None);
+    assert_eq!(rt; first_not_passed(rt.alloc())?, None);
     Ok(())
 }
 

@@ -237,19 +237,22 @@ fn is_started(found: &Option<(usize, Vec<u8>)>, wanted: Option<(usize, &[u8])>) 
     }
 }
 
+/// What is kept of an Eject of this type and version with these values.
+fn rep_of(alloc: Global, name: &[u8], version: u16, values: &[Given]) -> Result<Rep, AllocError> {
+    Ok(Rep {
+        type_name: text(alloc, name)?,
+        version,
+        values: items_of(alloc, values)?,
+    })
+}
+
 /// Whether an Eject starts from what is kept as it has to, or does not.
 fn starts_so(
     alloc: Global,
     types: &Types,
     &(name, version, values, wanted): &Kept,
 ) -> Result<bool, AllocError> {
-    let type_name = text(alloc, name)?;
-    let values = items_of(alloc, values)?;
-    let kept = Rep {
-        type_name,
-        version,
-        values,
-    };
+    let kept = rep_of(alloc, name, version, values)?;
     let found = started(alloc, types, &kept)?;
     Ok(is_started(&found, wanted))
 }
@@ -305,6 +308,19 @@ fn behind(
     }
 }
 
+/// What is left of a process of an operation returns this, as the text of a list, or ends the active part.
+fn carried_on(
+    alloc: Global,
+    (types, kind): (&Types, Kind),
+    vars: &mut Values,
+    rest: &mut Rest,
+    status: Status,
+) -> Result<Vec<u8>, AllocError> {
+    let effect = turned(alloc, (types, kind), vars, rest, Answer::Go)?;
+    let last = behind(alloc, (types, kind), vars, rest, (effect, status))?;
+    returned(alloc, last)
+}
+
 /// What an operation returns, as the text of a list, or that it ends the active part.
 fn carried_out(
     alloc: Global,
@@ -313,9 +329,19 @@ fn carried_out(
     (operation, args, status): Call,
 ) -> Result<Vec<u8>, AllocError> {
     let mut rest = begun(alloc, (types, kind), operation, args)?;
-    let effect = turned(alloc, (types, kind), vars, &mut rest, Answer::Go)?;
-    let last = behind(alloc, (types, kind), vars, &mut rest, (effect, status))?;
-    returned(alloc, last)
+    carried_on(alloc, (types, kind), vars, &mut rest, status)
+}
+
+/// Whether an operation returns this.
+fn returns(
+    alloc: Global,
+    (types, kind): (&Types, Kind),
+    vars: &mut Values,
+    call: Call,
+    wanted: &[u8],
+) -> Result<bool, AllocError> {
+    let answer = carried_out(alloc, (types, kind), vars, call)?;
+    Ok(answer.as_slice() == wanted)
 }
 
 /// An operation of a Cell of value 3, the value after it, and what it returns at last.
@@ -337,9 +363,25 @@ fn cell_of_three(alloc: Global) -> Result<Values, AllocError> {
     Ok(Values::plain(items))
 }
 
-/// The values of an Eject, as the text of a list.
-fn shown(alloc: Global, vars: &Values) -> Result<Vec<u8>, AllocError> {
-    printed(alloc, vars.items(alloc)?)
+/// Whether the values of an Eject are these, as the text of a list.
+fn are_shown(alloc: Global, vars: &Values, wanted: &[u8]) -> Result<bool, AllocError> {
+    let shown = printed(alloc, vars.items(alloc)?)?;
+    Ok(shown.as_slice() == wanted)
+}
+
+/// Whether an operation of a Cell leaves this value and returns this.
+fn answers_and_leaves(
+    alloc: Global,
+    types: &Types,
+    vars: &mut Values,
+    call: Call,
+    after: &[u8],
+    wanted: &[u8],
+) -> Result<bool, AllocError> {
+    Ok(
+        returns(alloc, (types, Kind { place: 0 }), vars, call, wanted)?
+            && are_shown(alloc, vars, after)?,
+    )
 }
 
 /// Whether an operation of a Cell of value 3 leaves this value and returns this.
@@ -351,9 +393,7 @@ fn cell_answers(
     wanted: &[u8],
 ) -> Result<bool, AllocError> {
     let mut vars = cell_of_three(alloc)?;
-    let answer = carried_out(alloc, (types, Kind { place: 0 }), &mut vars, call)?;
-    let values = shown(alloc, &vars)?;
-    Ok(answer.as_slice() == wanted && values.as_slice() == after)
+    answers_and_leaves(alloc, types, &mut vars, call, after, wanted)
 }
 
 #[test]
@@ -435,23 +475,35 @@ fn answers(
     call: Call,
     wanted: &[u8],
 ) -> Result<bool, AllocError> {
-    let answer = carried_out(alloc, (types, kind), vars, call)?;
-    Ok(answer.as_slice() == wanted && starts_again(alloc, types, kind, vars)?)
+    Ok(
+        returns(alloc, (types, kind), vars, call, wanted)?
+            && starts_again(alloc, types, kind, vars)?,
+    )
 }
 
-/// A new Eject carries out the operations, up to the first after which it is not as it has to be.
+/// An Eject carries out the operations, up to the first after which it is not as it has to be.
+fn first_other_of(
+    alloc: Global,
+    (types, kind): (&Types, Kind),
+    vars: &mut Values,
+    calls: &[(Call, &'static [u8])],
+) -> Result<Option<usize>, AllocError> {
+    for (i, &(call, wanted)) in calls.iter().enumerate() {
+        if !answers(alloc, (types, kind), vars, call, wanted)? {
+            return Ok(Some(i));
+        }
+    }
+    Ok(None)
+}
+
+/// The same of a new Eject.
 fn first_other(
     alloc: Global,
     (types, kind): (&Types, Kind),
     calls: &[(Call, &'static [u8])],
 ) -> Result<Option<usize>, AllocError> {
     let mut vars = first_values(alloc, types, kind)?;
-    for (i, &(call, wanted)) in calls.iter().enumerate() {
-        if !answers(alloc, (types, kind), &mut vars, call, wanted)? {
-            return Ok(Some(i));
-        }
-    }
-    Ok(None)
+    first_other_of(alloc, (types, kind), &mut vars, calls)
 }
 
 #[test]

@@ -1,5 +1,5 @@
 use crate::common::{Given, items_of, text};
-use eden_value::{Items, Status, Value, print};
+use eden_value::{Items, Status, Txt, Value, print};
 use epl_syntax::{Answer, Effect, Native};
 use std::alloc::{AllocError, Global};
 use transput::*;
@@ -212,35 +212,48 @@ fn add_row(alloc: Global, items: &Items, out: &mut Vec<u8>) -> Result<(), AllocE
     Ok(())
 }
 
-fn shown(alloc: Global, effect: &Effect) -> Result<Vec<u8>, AllocError> {
-    let mut out = Vec::new(alloc);
+fn add_invocation(
+    alloc: Global,
+    serial: u32,
+    operation: &Txt,
+    args: &Items,
+    out: &mut Vec<u8>,
+) -> Result<(), AllocError> {
+    out.extend_from_slice(b"invoke ")?;
+    print(
+        alloc,
+        &Value::Int {
+            n: i64::from(serial),
+        },
+        out,
+    )?;
+    out.push(b' ')?;
+    out.extend_from_slice(&operation.bytes)?;
+    out.push(b' ')?;
+    add_row(alloc, args, out)
+}
+
+fn add_effect(alloc: Global, effect: &Effect, out: &mut Vec<u8>) -> Result<(), AllocError> {
     match effect {
         Effect::Invoke {
             target,
             operation,
             args,
-        } => {
-            out.extend_from_slice(b"invoke ")?;
-            print(
-                alloc,
-                &Value::Int {
-                    n: i64::from(target.uid.serial),
-                },
-                &mut out,
-            )?;
-            out.push(b' ')?;
-            out.extend_from_slice(&operation.bytes)?;
-            out.push(b' ')?;
-            add_row(alloc, args, &mut out)?;
-        }
+        } => add_invocation(alloc, target.uid.serial, operation, args, out),
         Effect::Return { results } => {
             out.extend_from_slice(b"return ")?;
-            add_row(alloc, results, &mut out)?;
+            add_row(alloc, results, out)
         }
-        Effect::Checkpoint => out.extend_from_slice(b"checkpoint")?,
-        _ => out.extend_from_slice(b"another")?,
+        Effect::Checkpoint => out.extend_from_slice(b"checkpoint"),
+        _ => out.extend_from_slice(b"another"),
     }
-    Ok(out)
+}
+
+/// Whether an effect is this one.
+fn is_shown(alloc: Global, effect: &Effect, want: &str) -> Result<bool, AllocError> {
+    let mut out = Vec::new(alloc);
+    add_effect(alloc, effect, &mut out)?;
+    Ok(out.as_slice() == want.as_bytes())
 }
 
 /// The effect in which a turn ends.
@@ -267,11 +280,26 @@ fn ends_in(
         *stage = first;
     }
     let effect = turned(alloc, stream, vars, stage, told)?;
-    let shown = shown(alloc, &effect)?;
-    Ok(shown.as_slice() == want.as_bytes())
+    is_shown(alloc, &effect, want)
 }
 
-/// An Eject with these values takes a turn for each row, up to the first that does not end in the effect of the row.
+/// A turn is taken for each row, up to the first that does not end in the effect of the row.
+fn first_other_of(
+    alloc: Global,
+    stream: Stream,
+    vars: &mut Items,
+    stage: &mut Stage,
+    rows: &[(Told, &'static str)],
+) -> Result<Option<usize>, AllocError> {
+    for (i, &row) in rows.iter().enumerate() {
+        if !ends_in(alloc, stream, vars, stage, row)? {
+            return Ok(Some(i));
+        }
+    }
+    Ok(None)
+}
+
+/// The same by an Eject with these values.
 fn first_other(
     alloc: Global,
     stream: Stream,
@@ -281,12 +309,7 @@ fn first_other(
     let mut stage = Stage::OfSink {
         stage: SinkStage::Reads,
     };
-    for (i, &row) in rows.iter().enumerate() {
-        if !ends_in(alloc, stream, &mut vars, &mut stage, row)? {
-            return Ok(Some(i));
-        }
-    }
-    Ok(None)
+    first_other_of(alloc, stream, &mut vars, &mut stage, rows)
 }
 
 /// The turns of each stream.

@@ -1,7 +1,7 @@
 //! A stop in each device call of a run, a power cut behind each turn of another, and what the next run over the same disks finds.
 ghost use Rattle.std.specs.Prelude.{◌≡◌, length};
 
-use crate::fixtures::{blank_disks, words_of};
+use crate::fixtures::{blank_disks, sink_of, source_of, words_of};
 use eden_disk::{Disk, ImageMode, SimDisk};
 use eden_io::{MemSink, MemSource};
 use eden_shell::{Outcome, eden};
@@ -19,16 +19,29 @@ const MODES: &[(&str, bool)] = &[("keep", true), ("lose", false), ("garble 225",
 const ASKS: &str =
     "nodes 1\nhold c 1.1.1\nhold x 1.1.2\ncall a c.Get()\ngo 100\ncall b x.Get()\ngo 100\nend\n";
 
+/// Whether what this source tells runs to its end over these disks.
+fn ends(
+    alloc: Global,
+    source: &mut MemSource,
+    sink: &mut MemSink,
+    disks: &mut Vec<SimDisk>,
+) -> Result<bool, AllocError>
+    requires { length disks.old.items ≡ 8 }
+    ensures { length disks.new.items ≡ 8 }
+{
+    let words = words_of(alloc, &["run"])?;
+    let report = eden(alloc, &words, source, sink, disks);
+    Ok(report.outcome == Outcome::Ran)
+}
+
 /// Runs a script over these disks, and gives the transcript where it ran to its end.
 fn run(alloc: Global, script: &str, disks: &mut Vec<SimDisk>) -> Result<Option<Vec<u8>>, AllocError>
     requires { length disks.old.items ≡ 8 }
     ensures { length disks.new.items ≡ 8 }
 {
-    let words = words_of(alloc, &["run"])?;
-    let mut source = MemSource::new(script.as_bytes().to_vec(alloc)?, Vec::new(alloc));
-    let mut sink = MemSink::new(alloc, 100, 10_000, Vec::new(alloc))?;
-    let report = eden(alloc, &words, &mut source, &mut sink, disks);
-    if report.outcome != Outcome::Ran {
+    let mut source = source_of(alloc, script, 0, &[])?;
+    let mut sink = sink_of(alloc, 100, 10_000, &[])?;
+    if !ends(alloc, &mut source, &mut sink, disks)? {
         return Ok(None);
     }
     Ok(Some(sink.written().to_vec(alloc)?))
@@ -44,8 +57,45 @@ fn cut_each(disks: &mut Vec<SimDisk>)
     }
 }
 
-/// Runs a script over blank disks, and then, once the power of each failed, asks both Cells. How often the first disk was stopped, if
+/// Whether both Cells answer this to a later run.
+fn is_answered(
+    alloc: Global,
+    disks: &mut Vec<SimDisk>,
+    epoch: u32,
+    answered: (&str, &str),
+) -> Result<bool, AllocError>
+    requires { length disks.old.items ≡ 8 }
+{
+    let (c, x) = answered;
+    let wanted = format!(in alloc; "node 1 up epoch {epoch}\na {c}\nquiet\nb {x}\nquiet\n")?;
+    let later = run(alloc, ASKS, disks)?;
+    Ok(later.is_some_and(|text| text.as_slice() == wanted.as_bytes()))
+}
+
+/// Runs a script over disks, and then, once the power of each failed, asks both Cells. How often the first disk was stopped, if
 /// the first run came to its end, and the later one to this one: the epoch, and what each Cell answers.
+fn stops_over(
+    alloc: Global,
+    disks: &mut Vec<SimDisk>,
+    script: &str,
+    epoch: u32,
+    answered: (&str, &str),
+) -> Result<Option<u64>, AllocError>
+    requires { length disks.old.items ≡ 8 }
+{
+    if run(alloc, script, disks)?.is_none() {
+        return Ok(None);
+    }
+    let Some(first) = disks.first() else {
+        return Ok(None);
+    };
+    let stops = first.stops();
+    cut_each(disks);
+    let is_so = is_answered(alloc, disks, epoch, answered)?;
+    Ok(if is_so { Some(stops) } else { None })
+}
+
+/// The same over blank disks.
 fn stops_before(
     alloc: Global,
     script: &str,
@@ -53,22 +103,7 @@ fn stops_before(
     answered: (&str, &str),
 ) -> Result<Option<u64>, AllocError> {
     let mut disks = blank_disks(alloc, DISK_SIZE)?;
-    if run(alloc, script, &mut disks)?.is_none() {
-        return Ok(None);
-    }
-    let Some(first) = disks.first() else {
-        return Ok(None);
-    };
-    let stops = first.stops();
-    cut_each(&mut disks);
-    let (c, x) = answered;
-    let wanted = format!(in alloc; "node 1 up epoch {epoch}\na {c}\nquiet\nb {x}\nquiet\n")?;
-    let later = run(alloc, ASKS, &mut disks)?;
-    if later.is_some_and(|text| text.as_slice() == wanted.as_bytes()) {
-        Ok(Some(stops))
-    } else {
-        Ok(None)
-    }
+    stops_over(alloc, &mut disks, script, epoch, answered)
 }
 
 /// Two Cells: the first saves 0, the second 3, and the first 8.

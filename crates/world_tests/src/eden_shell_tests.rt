@@ -1,4 +1,4 @@
-use crate::fixtures::{blank_disks, words_of};
+use crate::fixtures::{blank_disks, sink_of, source_of, words_of};
 use eden_io::{MemSink, MemSource};
 use eden_script::ScriptCause;
 use eden_shell::*;
@@ -18,27 +18,32 @@ struct Said {
     text: Vec<u8>,
 }
 
+/// How a call over blank disks ends, and the number of entries of its history.
+fn ended(
+    alloc: Global,
+    words: &[&str],
+    source: &mut MemSource,
+    sink: &mut MemSink,
+) -> Result<(Outcome, usize), AllocError> {
+    let words = words_of(alloc, words)?;
+    let mut disks = blank_disks(alloc, 1_048_576)?;
+    let report = eden(alloc, &words, source, sink, &mut disks);
+    Ok((report.outcome, report.history.entries.len()))
+}
+
 /// What is said to these words over blank disks, where these reads and writes fail. Line ends make the script that long.
 fn call_of(
     alloc: Global,
     words: &[&str],
-    script: (&str, usize),
-    failing: (&[u32], &[u32]),
+    (text, size): (&str, usize),
+    (reads, writes): (&[u32], &[u32]),
 ) -> Result<Said, AllocError> {
-    let words = words_of(alloc, words)?;
-    let (text, size) = script;
-    let mut bytes = text.as_bytes().to_vec(alloc)?;
-    if bytes.len() < size {
-        bytes.resize(size, b'\n')?;
-    }
-    let (reads, writes) = failing;
-    let mut source = MemSource::new(bytes, reads.to_vec(alloc)?);
-    let mut sink = MemSink::new(alloc, 4096, 1_048_576, writes.to_vec(alloc)?)?;
-    let mut disks = blank_disks(alloc, 1_048_576)?;
-    let report = eden(alloc, &words, &mut source, &mut sink, &mut disks);
+    let mut source = source_of(alloc, text, size, reads)?;
+    let mut sink = sink_of(alloc, 4096, 1_048_576, writes)?;
+    let (outcome, entries) = ended(alloc, words, &mut source, &mut sink)?;
     Ok(Said {
-        outcome: report.outcome,
-        entries: report.history.entries.len(),
+        outcome,
+        entries,
         text: sink.written().to_vec(alloc)?,
     })
 }

@@ -1,7 +1,8 @@
 //! Names, references, words and disks that several files make.
-ghost use Rattle.std.specs.Prelude.{◌≡◌, length, IfOk};
+ghost use Rattle.std.specs.Prelude.{◌≡◌, ◌<◌, length, IfOk};
 
 use eden_disk::SimDisk;
+use eden_io::{MemSink, MemSource};
 use eden_value::Txt;
 use journal::Ref;
 use std::alloc::{AllocError, Global};
@@ -27,6 +28,34 @@ pub(crate) fn words_of(alloc: Global, words: &[&str]) -> Result<Vec<String>, All
         all.push(String::from_str(alloc, word)?)?;
     }
     Ok(all)
+}
+
+/// A source of these bytes, and of line ends up to this length, where these reads fail.
+pub(crate) fn source_of(
+    alloc: Global,
+    text: &str,
+    length: usize,
+    reads: &[u32],
+) -> Result<MemSource, AllocError> {
+    let mut bytes = text.as_bytes().to_vec(alloc)?;
+    if bytes.len() < length {
+        bytes.resize(length, b'\n')?;
+    }
+    let reads = reads.to_vec(alloc)?;
+    Ok(MemSource::new(bytes, reads))
+}
+
+/// A sink that takes so many bytes at once and in all, where these writes fail.
+pub(crate) fn sink_of(
+    alloc: Global,
+    step: u32,
+    room: u32,
+    writes: &[u32],
+) -> Result<MemSink, AllocError>
+    requires { 0 < step }
+{
+    let writes = writes.to_vec(alloc)?;
+    Ok(MemSink::new(alloc, step, room, writes)?)
 }
 
 /// Eight disks of zero bytes.

@@ -1,4 +1,7 @@
-use crate::fixtures::words_of;
+ghost use Rattle.std.specs.Prelude.{◌≢◌};
+ghost use Rattle.shell_answers.specs.declared.outcome.Outcome.TheVariants.{WriteFault};
+
+use crate::fixtures::{sink_of, source_of, words_of};
 use eden_io::{MemSink, MemSource};
 use eden_script::ScriptCause;
 use journal::{History, Mode};
@@ -62,39 +65,46 @@ fn nothing(alloc: Global) -> Carried {
     }
 }
 
-/// Whether the words and the bytes come to that, where these reads and writes fail; later writes do not.
+fn is_asked(asked: &Asked, wanted: Read) -> bool {
+    match wanted {
+        Read::Script(job, nodes) => asked.job == job && asked.script.nodes == nodes,
+        Read::Refused(_, _, _, _) => false,
+    }
+}
+
+/// Whether a run without entries is written to its end.
+fn is_concluded(alloc: Global, sink: &mut MemSink) -> bool {
+    conclude(alloc, Mode::Plain, nothing(alloc), sink).outcome == Outcome::Ran
+}
+
+/// Whether a refusal is told so; later writes do not fail.
+fn is_refused(alloc: Global, due: Outcome, sink: &mut MemSink, wanted: Read) -> bool
+    requires { due ≢ WriteFault }
+{
+    let Read::Refused(cause, outcome, code, text) = wanted else {
+        return false;
+    };
+    let report = refuse(alloc, due, sink);
+    let is_told = report.outcome == outcome && status(&report.outcome) == code;
+    let is_written = sink.written() == text.as_bytes();
+    due == cause && is_told && is_written && is_concluded(alloc, sink)
+}
+
+/// Whether the words and the bytes come to that, where these reads and writes fail.
 fn is_read(
     alloc: Global,
     words: &[&str],
     bytes: &str,
-    failing: (&[u32], &[u32]),
+    (reads, writes): (&[u32], &[u32]),
     wanted: Read,
 ) -> Result<bool, AllocError> {
-    let (reads, writes) = failing;
     let words = words_of(alloc, words)?;
-    let mut source = MemSource::new(bytes.as_bytes().to_vec(alloc)?, reads.to_vec(alloc)?);
-    let mut sink = MemSink::new(alloc, 7, 100, writes.to_vec(alloc)?)?;
-    match read_script(alloc, &words, &mut source) {
-        Ok(asked) => match wanted {
-            Read::Script(job, nodes) => Ok(asked.job == job && asked.script.nodes == nodes),
-            Read::Refused(_, _, _, _) => Ok(false),
-        },
-        Err(due) => {
-            let report = refuse(alloc, due, &mut sink);
-            let Read::Refused(cause, outcome, code, text) = wanted else {
-                return Ok(false);
-            };
-            let is_written = sink.written() == text.as_bytes();
-            let later = conclude(alloc, Mode::Plain, nothing(alloc), &mut sink);
-            Ok(
-                due == cause
-                    && report.outcome == outcome
-                    && status(&report.outcome) == code
-                    && is_written
-                    && later.outcome == Outcome::Ran,
-            )
-        }
-    }
+    let mut source = source_of(alloc, bytes, 0, reads)?;
+    let mut sink = sink_of(alloc, 7, 100, writes)?;
+    Ok(match read_script(alloc, &words, &mut source) {
+        Ok(asked) => is_asked(&asked, wanted),
+        Err(due) => is_refused(alloc, due, &mut sink, wanted),
+    })
 }
 
 const NO_COMMAND: Outcome = Outcome::BadScript {
