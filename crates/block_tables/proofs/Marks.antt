@@ -155,7 +155,12 @@ least groups members g p are group place =
       λ k below. elim (cases_lt (k / 64) g) [
         | inl before ↦
             of_number members k ∙ none_marked (slice_range members (k / 64 * 64) (k / 64 * 64 + 64))
-            (omega (arith, are.1 (k / 64) (omega (arith, before, group.0)), not_marked (slice_index groups (k / 64)) (group.2 (k / 64) before)))
+            (omega (
+              arith,
+              are.1 (k / 64) (omega (arith, before, group.0)),
+              not_marked (slice_index groups (k / 64))
+                  (group.2 (k / 64) before),
+            ))
             (k - k / 64 * 64)
         | inr behind ↦
             let same : k ≡ g * 64 + (k - g * 64) = omega (arith, behind) in

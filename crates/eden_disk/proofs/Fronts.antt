@@ -54,9 +54,11 @@ padded held new n size is fits =
     (length-with_zeros new size (omega (arith, long, fits)) ∙ sym (length-with_zeros held size (omega (arith, fits))))
     (λ k h. with_zeros_at new size k ∙ ap (λ l. get_or l k 0) is ∙ zeros_behind held n k ∙ sym (with_zeros_at held size k))
 
-length-piece : (held : List ℕ) (size at n : ℕ) → length held ≤ at → at + n ≤ size → length (slice_range (with_zeros held size) at (at + n)) ≡ n
+length-piece : (held : List ℕ) (size at n : ℕ) → length held ≤ at → at + n ≤ size
+    → length (slice_range (with_zeros held size) at (at + n)) ≡ n
 length-piece held size at n past fits =
-    length-between (with_zeros held size) at (at + n) (omega (arith, fits, length-with_zeros held size (omega (arith, past, fits)))) ∙ omega arith
+    length-between (with_zeros held size) at (at + n) (omega (arith, fits, length-with_zeros held size (omega (arith, past, fits))))
+    ∙ omega arith
 
 -- zeros that are written behind what memory holds change nothing
 pub zeros_written : (held bytes : List ℕ) (size at : ℕ) → length held ≤ at → at + length bytes ≤ size
@@ -79,15 +81,18 @@ pub zero_of : (bytes : List ℕ) (k : ℕ) → bytes ≡ blank (length bytes) �
 zero_of bytes k is = ap (λ l. get_or l k 0) is ∙ zero_at (length bytes) k
 
 -- what is read behind what memory holds is zeros
-pub zeros_read : (held : List ℕ) (size at n k : ℕ) → length held ≤ at → at + n ≤ size → get_or (slice_range (with_zeros held size) at (at + n)) k 0 ≡ 0
+pub zeros_read : (held : List ℕ) (size at n k : ℕ) → length held ≤ at → at + n ≤ size
+    → get_or (slice_range (with_zeros held size) at (at + n)) k 0 ≡ 0
 zeros_read held size at n k past fits = elim (cases_lt k n) [
   | inl below ↦ get_or-between (with_zeros held size) at (at + n) k 0 (omega (arith, below)) ∙ with_zeros_at held size (at + k)
       ∙ get_or_past held (at + k) 0 (omega (arith, past))
-  | inr behind ↦ get_or_past (slice_range (with_zeros held size) at (at + n)) k 0 (omega (arith, behind, length-piece held size at n past fits))
+  | inr behind ↦ get_or_past (slice_range (with_zeros held size) at (at + n)) k 0
+      (omega (arith, behind, length-piece held size at n past fits))
 ]
 
 -- a piece of another image changes nothing where memory holds nothing of either there
-pub piece_copied : (held other all others : List ℕ) (size other_size at n : ℕ) → with_zeros held size ≡ all → with_zeros other other_size ≡ others
+pub piece_copied : (held other all others : List ℕ) (size other_size at n : ℕ) → with_zeros held size ≡ all
+    → with_zeros other other_size ≡ others
     → length held ≤ at → length other ≤ at → at + n ≤ size → at + n ≤ other_size → all ≡ overlay at (slice_range others at (at + n)) all
 piece_copied held other all others size other_size at n is other_is past other_past fits other_fits =
     let from : List ℕ = with_zeros other other_size in
@@ -99,7 +104,8 @@ piece_copied held other all others size other_size at n is other_is past other_p
 
 -- a piece, read out of what memory holds, and zeros behind it
 pub read_held : (held : List ℕ) (size at n from until : ℕ) → from ≡ min (length held) at → until ≡ min (length held) (at + n)
-    → at + n ≤ size → length held ≤ size → slice_range held from until ++ blank (n - (until - from)) ≡ slice_range (with_zeros held size) at (at + n)
+    → at + n ≤ size → length held ≤ size
+    → slice_range held from until ++ blank (n - (until - from)) ≡ slice_range (with_zeros held size) at (at + n)
 read_held held size at n from until begin end fits room =
     let piece : List ℕ = slice_range held from until in
     let all : List ℕ = with_zeros held size in

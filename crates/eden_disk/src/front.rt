@@ -1,5 +1,6 @@
 //! Bytes of which memory holds those in front of some place.
-ghost use Rattle.std.specs.Prelude.{◌≡◌, ◌+◌, ◌-◌, ◌++◌, ◌≤◌, ◌<◌, ◌^◌, length, max, replicate, slice_range, OnOk, OnErr, IsTrue, vec_capacity};
+ghost use Rattle.std.specs.Prelude.{◌≡◌, ◌+◌, ◌-◌, ◌++◌, ◌≤◌, ◌<◌, ◌^◌, length, max, replicate, slice_range, OnOk, OnErr, IsTrue};
+ghost use Rattle.std.specs.Prelude.{vec_capacity};
 ghost use Rattle.eden_disk.specs.Told.{overlay};
 ghost use Rattle.eden_disk.specs.SimDisk.{zeros};
 

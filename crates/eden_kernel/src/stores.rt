@@ -1,5 +1,6 @@
 //! The store takes its turns.
-ghost use Rattle.std.specs.Prelude.{◌≡◌, ◌≤◌, ◌+◌, ◌&&◌, ℕ, Bool, Some, None, IfOk, IfErr, IfSome, IsSome, IsTrue, OnOk, OnErr, is_some, length};
+ghost use Rattle.std.specs.Prelude.{◌≡◌, ◌≤◌, ◌+◌, ◌&&◌, ℕ, Bool, Some, None, IfOk, IfErr, IfSome, IsSome, IsTrue, OnOk, OnErr};
+ghost use Rattle.std.specs.Prelude.{is_some, length};
 ghost use Rattle.epl_syntax.specs.Rules.OfTypes.{TypeList};
 ghost use Rattle.invocation.specs.Mail.{Mail};
 ghost use Rattle.passive_store.specs.Kept.{body_at};

@@ -130,7 +130,8 @@ declares_nothing : (l : Line) (o : WrittenCommand) → is_command l ≡ false �
 declares_nothing l o e f = both (sym (ap is_command f) ∙ e)
 
 -- A weight of commands that is at most the length of the line of each: the calls, for one.
-module _ (weight : Command → ℕ) (short : (c : Command) (bytes : List ℕ) → grammar.Command (written_command c) bytes → weight c ≤ length bytes)
+module _ (weight : Command → ℕ) (short : (c : Command) (bytes : List ℕ) → grammar.Command (written_command c) bytes
+    → weight c ≤ length bytes)
   where
     said_room : (seen : Seen) (p : Part) (l : Line) → IsSaid seen p l → (c : Command) → l ≡ does (written_command c) → weight c ≤ room p
     said_room seen (line bytes) l h c e = short c bytes (subst (λ (k : Line). LineTells seen bytes k) e h.tells).0.0
@@ -162,12 +163,19 @@ module _ (weight : Command → ℕ) (short : (c : Command) (bytes : List ℕ) �
     line_few ps end seen n few idle room rest more cs e =
         omega (arith, few seen cs (subst (λ (os : List WrittenCommand). Says seen ps os end) (sym e) more))
     line_few ps end seen n few (nodes m) room rest more cs e =
-        omega (arith, few (after seen (nodes m)) cs (subst (λ (os : List WrittenCommand). Says (after seen (nodes m)) ps os end) (sym e) more))
+        omega (
+          arith,
+          few (after seen (nodes m)) cs (subst (λ (os : List WrittenCommand). Says (after seen (nodes m)) ps os end)
+              (sym e) more),
+        )
     line_few ps end seen n few (does o) room rest more cs e =
         does_few ps end seen n few o rest (λ c f. room c (ap (λ (q : WrittenCommand). does q) f)) more cs e
     line_few ps end seen n few (declares u) room rest more cs e =
-        omega
-        (arith, few (after seen (declares u)) cs (subst (λ (os : List WrittenCommand). Says (after seen (declares u)) ps os end) (sym e) more))
+        omega (
+          arith,
+          few (after seen (declares u)) cs (subst (λ (os : List WrittenCommand). Says (after seen (declares u)) ps os end)
+              (sym e) more),
+        )
     line_few ps end seen n few unended room rest more cs e =
         omega (arith, few (after seen unended) cs (subst (λ (os : List WrittenCommand). Says (after seen unended) ps os end) (sym e) more))
 

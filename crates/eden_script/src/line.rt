@@ -155,25 +155,34 @@ fn is_doubled(names: &Names, command: &Command) -> bool
     }
 }
 
-/// A command whose names are as they have to be.
-fn named(seen: &Seen, command: Command) -> Result<Line, Fault>
-    ensures { Gives line_of result (reading.named_in (seen_of seen.now) (does (written_command command))) }
+/// Refuses a command that uses an unknown name or type, or that gives a name a second meaning.
+fn check_names(seen: &Seen, command: &Command) -> Result<(), Fault>
+    ensures { Gives (λ x. does (written_command command.now)) result
+        (reading.named_in (seen_of seen.now) (does (written_command command.now))) }
 {
-    if !uses_known(&seen.names, &command) {
+    if !uses_known(&seen.names, command) {
         return Err(Fault::Bad {
             cause: ScriptCause::UnknownName,
         });
     }
-    if !type_known(&seen.types, &command) {
+    if !type_known(&seen.types, command) {
         return Err(Fault::Bad {
             cause: ScriptCause::UnknownType,
         });
     }
-    if is_doubled(&seen.names, &command) {
+    if is_doubled(&seen.names, command) {
         return Err(Fault::Bad {
             cause: ScriptCause::DoubledName,
         });
     }
+    Ok(())
+}
+
+/// A command whose names are as they have to be.
+fn named(seen: &Seen, command: Command) -> Result<Line, Fault>
+    ensures { Gives line_of result (reading.named_in (seen_of seen.now) (does (written_command command))) }
+{
+    check_names(seen, &command)?;
     Ok(Line::Does { command })
 }
 

@@ -265,6 +265,8 @@ pub fn two_digits(bytes: &[u8]) -> Result<Piece<'_>, Fault>
     ensures digits { IfOk result (λ x. (list_all form.is_digit x.0.now ≡ true) × (list_all form.is_digit x.1.now ≡ true)) }
 {
     let (first, rest) = digits_and(b" ", bytes)?;
-    let second = last_digits(rest)?;
-    Ok((first, second))
+    match last_digits(rest) {
+        Ok(second) => Ok((first, second)),
+        Err(fault) => Err(fault),
+    }
 }

@@ -15,11 +15,11 @@ use Rattle.epl_syntax.specs.declared.tree.Program.{Program}
 use Rattle.epl_syntax.specs.declared.tree.Stmt.{Stmt, items-the_row-Stmt}
 use Rattle.epl_syntax.specs.declared.tree.Stmt as stmt
 use Rattle.epl_syntax.specs.Tree.{expression, expression_row, statement, statement_row, change, type_tree}
-use Rattle.epl_syntax.specs.Bindings.{Sort, variable, Names, binding_at, has_binding, each_of_expression, each_of_expressions, each_of_statement}
-use Rattle.epl_syntax.specs.Bindings.{each_of_block, is_resolved}
+use Rattle.epl_syntax.specs.Bindings.{Sort, variable, Names, binding_at, has_binding, each_of_expression, each_of_expressions}
+use Rattle.epl_syntax.specs.Bindings.{each_of_statement, each_of_block, bodies_resolved, is_resolved}
 use Rattle.epl_syntax.proofs.Bindings.{row_of_expressions, row_of_statements, without_table}
 use Rattle.epl_syntax.proofs.TreeRows.{row_items, statement_items}
-use Rattle.epl_check.specs.Noted.{Noted, bodies_resolved}
+use Rattle.epl_check.specs.Noted.{Noted}
 
 -- behind the table's end no binding is known
 pub behind : (bindings : List Binding) (place : ℕ) → length bindings ≤ place → binding_at bindings place ≡ ByName

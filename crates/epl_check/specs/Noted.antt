@@ -1,9 +1,8 @@
 -- The bindings of names, noted in a table.
-use Rattle.std.specs.Prelude.{◌≡◌, ◌&&◌, Bool, true, List, map, IsTrue}
+use Rattle.std.specs.Prelude.{◌≡◌, Bool, true, List, map, IsTrue}
 use Rattle.std.specs.List.{list_all}
 use Rattle.epl_syntax.specs.declared.binding.Binding.{Binding}
-use Rattle.epl_syntax.specs.Tree.{TypeTree}
-use Rattle.epl_syntax.specs.Bindings.{Names, operation_resolved, process_resolved, upgrade_resolved}
+use Rattle.epl_syntax.specs.Bindings.{Names}
 use Rattle.epl_check.specs.declared.noted.BodyNames.{BodyNames}
 
 -- the names that a body sees
@@ -23,10 +22,3 @@ Noted answer old new right = IsTrue answer → (new ≡ old) × (right ≡ true)
 -- the same of a walk through a list, as far as it has come: what is left of the list decides the whole
 abbrev pub NotedFrom : {A : Type 0} → Bool → List Binding → List Binding → (A → Bool) → List A → List A → Type 0
 NotedFrom answer old new right left whole = IsTrue answer → (new ≡ old) × (list_all right left ≡ list_all right whole)
-
--- in each body of a type the binding of each name is right
-abbrev pub bodies_resolved : List Binding → TypeTree → Bool
-bodies_resolved bindings t =
-    list_all (operation_resolved bindings t) t.operations
-    && list_all (process_resolved bindings t) t.processes
-    && list_all (upgrade_resolved bindings t) t.upgrades

@@ -147,7 +147,7 @@ fn kind_of_operation(operator: Operator, left: Option<Kind>) -> Option<Kind>
     }
 }
 
-/// What an operator gives, where its operands are told that do not fit.
+/// The kind that an operator gives. An operand of another kind than the operator takes is told at its place.
 pub(crate) fn operated(
     operator: Operator,
     left: Option<Kind>,

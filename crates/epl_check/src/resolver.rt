@@ -8,8 +8,8 @@ ghost use Rattle.std.specs.Prelude.{◌≡◌, ◌&&◌, map, IfOk, OnOk, true};
 ghost use Rattle.std.specs.List.{list_all};
 ghost use Rattle.epl_syntax.specs.Tree as tree;
 ghost use Rattle.epl_syntax.specs.Bindings.{has_binding, each_of_expression, names_seen, variable};
-ghost use Rattle.epl_syntax.specs.Bindings.{operation_resolved, process_resolved, upgrade_resolved, is_resolved};
-ghost use Rattle.epl_check.specs.Noted.{names_of, Noted, bodies_resolved};
+ghost use Rattle.epl_syntax.specs.Bindings.{operation_resolved, process_resolved, upgrade_resolved, bodies_resolved, is_resolved};
+ghost use Rattle.epl_check.specs.Noted.{names_of, Noted};
 
 use crate::noted::BodyNames;
 use crate::walk::{note_assignment, note_block};

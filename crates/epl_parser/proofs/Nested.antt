@@ -1,6 +1,7 @@
 -- A part that has a reader of its own is read like its steps one behind another.
 use Rattle.std.proofs.Common.{◌≡◌, ℕ, List, [], ◌∷◌, ◌++◌, Result, Ok, Err, refl, sym, ◌∙◌, subst}
-use Rattle.grammar.specs.Depths.{bare, Fault, bad, deep, spent, Look, Looker, look_then, look_both, look_here, StaysAt, Took, Stuck, Passes, Reads}
+use Rattle.grammar.specs.Depths.{bare, Fault, bad, deep, spent, Look, Looker, look_then, look_both, look_here, StaysAt, Took, Stuck}
+use Rattle.grammar.specs.Depths.{Passes, Reads}
 
 -- two readers that read alike
 pub record Alike {S A : Type 0} (R T : List S → Result (A × List S) Fault) : Type 0 where

@@ -443,7 +443,8 @@ fn items<'a>(
     tokens: &'a [Token],
 ) -> Result<(Program, &'a [Token]), Halt>
     requires few { length program.monitors.items + length tokens.now < 2 ^ 32 }
-    ensures { Tells (λ x. (type_tree x.0, x.1.now)) result (read_items source.now.text.now source.now.turns (type_tree program) tokens.now) }
+    ensures { Tells (λ x. (type_tree x.0, x.1.now)) result
+        (read_items source.now.text.now source.now.turns (type_tree program) tokens.now) }
 {
     let mut rest = tokens;
     let mut found = program;

@@ -13,7 +13,8 @@ use Rattle.epl_syntax.specs.declared.tree.Assignment.{Assignment}
 use Rattle.epl_syntax.specs.declared.binding.Binding.{Binding}
 use Rattle.epl_syntax.specs.declared.binding.Binding.TheVariants.{Monitor, Condition}
 use Rattle.epl_syntax.specs.Bindings.{Sort, variable, monitor, condition, place_of, is_right, binding_at, has_binding, names_seen}
-use Rattle.epl_syntax.specs.Bindings.{each_of_expression, each_of_expressions, each_of_statement, each_of_block, operation_resolved, process_resolved}
+use Rattle.epl_syntax.specs.Bindings.{each_of_expression, each_of_expressions, each_of_statement, each_of_block, operation_resolved}
+use Rattle.epl_syntax.specs.Bindings.{process_resolved}
 use Rattle.epl_syntax.specs.Bindings.{upgrade_resolved, is_resolved}
 use Rattle.epl_syntax.specs.Statements as meaning
 use Rattle.epl_syntax.specs.Tree.{TypeTree, Expression, Statement, If, While, With, Operation, Process, Upgrade, statement, statements}
@@ -154,7 +155,8 @@ row_given test es h = row_of_expressions test (map expression es) ∙ h
 -- ---- the body of an operation or a process of a type that is resolved, and the assignments of an upgrade
 module _ (bindings : List Binding) (t : TypeTree) where
   by_operation : (found : Option Operation) → ((o : Operation) → found ≡ Some o → operation_resolved bindings t o ≡ true)
-      → list_all (each_of_statement (has_binding bindings (names_seen t (with_item found (λ o. o.params) []) (with_item found (λ o. o.locals) []))))
+      → list_all (each_of_statement (has_binding bindings
+      (names_seen t (with_item found (λ o. o.params) []) (with_item found (λ o. o.locals) []))))
       (with_item found (λ o. o.body) []) ≡ true
   by_operation None h = refl
   by_operation (Some o) h = h o refl
@@ -191,7 +193,8 @@ statements_found p body ss is h =
     all_map statement (each_of_statement (is_found p body)) ss ∙ ap (list_all (each_of_statement (is_found p body))) is
     ∙ body_found p h body
 
-by_upgrade : (bindings : List Binding) (t : TypeTree) (found : Option Upgrade) (u : Upgrade) → found ≡ Some u → upgrade_resolved bindings t u ≡ true
+by_upgrade : (bindings : List Binding) (t : TypeTree) (found : Option Upgrade) (u : Upgrade)
+    → found ≡ Some u → upgrade_resolved bindings t u ≡ true
     → each_change (has_binding bindings (names_seen t (with_item found (λ v. v.params) []) [])) u.changes ≡ true
 by_upgrade bindings t None u e h = absurd cc
 by_upgrade bindings t (Some v) u e h =

@@ -11,8 +11,10 @@ use Rattle.epl_syntax.specs.Tree.{Expression, Const_, Name_, Me, Unary, Binary, 
 use Rattle.epl_syntax.specs.Tree.{expression_and, in_order, Statement, Assign, If, While, With, Wait, Signal, Yield, Deactivate, Checkpoint}
 use Rattle.epl_syntax.specs.Tree.{Destroy, Create, Invoke, Return, Statements, no_statements, statement_and, block_of, TypeTree, type_tree}
 use Rattle.epl_syntax.specs.Tree.{Operation, Process, Upgrade, Change}
-use Rattle.epl_syntax.specs.Bindings.{Sort, variable, monitor, condition, Names, is_at, has_binding, each_of_expression, each_of_expressions}
-use Rattle.epl_syntax.specs.Bindings.{each_of_target, each_of_statement, each_of_block, operation_resolved, process_resolved, upgrade_resolved}
+use Rattle.epl_syntax.specs.Bindings.{Sort, variable, monitor, condition, Names, is_at, has_binding, each_of_expression}
+use Rattle.epl_syntax.specs.Bindings.{each_of_expressions}
+use Rattle.epl_syntax.specs.Bindings.{each_of_target, each_of_statement, each_of_block, operation_resolved, process_resolved}
+use Rattle.epl_syntax.specs.Bindings.{upgrade_resolved}
 use Rattle.epl_syntax.specs.Bindings.{is_resolved, names_seen}
 
 -- ---- both of two

@@ -128,8 +128,12 @@ upgrade_resolved bindings t u =
     list_all (λ c. test variable c.name && each_of_expression test c.value) u.changes
 
 -- in each body of a type the binding of each name is right
+abbrev pub bodies_resolved : List Binding → TypeTree → Bool
+bodies_resolved bindings t =
+    list_all (operation_resolved bindings t) t.operations
+    && list_all (process_resolved bindings t) t.processes
+    && list_all (upgrade_resolved bindings t) t.upgrades
+
+-- the same of the table that stands beside a type
 unfoldable pub is_resolved : Program → Bool
-is_resolved p =
-    list_all (operation_resolved p.bindings.items (type_tree p)) (type_tree p).operations
-    && list_all (process_resolved p.bindings.items (type_tree p)) (type_tree p).processes
-    && list_all (upgrade_resolved p.bindings.items (type_tree p)) (type_tree p).upgrades
+is_resolved p = bodies_resolved p.bindings.items (type_tree p)

@@ -12,7 +12,8 @@ use Rattle.epl_syntax.specs.declared.tree.Expr.{Expr}
 use Rattle.epl_syntax.specs.declared.tree.Name.{Name}
 use Rattle.epl_syntax.specs.declared.tree.Program.{Program}
 use Rattle.epl_syntax.specs.Memory.{set}
-use Rattle.epl_syntax.specs.Bindings.{Sort, Names, variable, place_of, is_at, is_nowhere, is_right, binding_at, has_binding, each_of_expression}
+use Rattle.epl_syntax.specs.Bindings.{Sort, Names, variable, place_of, is_at, is_nowhere, is_right, binding_at, has_binding}
+use Rattle.epl_syntax.specs.Bindings.{each_of_expression}
 use Rattle.epl_syntax.specs.Bindings.{each_of_expressions}
 use Rattle.epl_syntax.specs.Tree.{TypeTree, type_tree, Expression, Expressions, ListOf, Apply, expression, expressions}
 use Rattle.epl_syntax.proofs.Bindings.{left_true, right_true, at_is, by_name, each_expression, each_expressions}

@@ -543,8 +543,15 @@ only-granted layout script disks history none begins = each-step WritesNone Have
         uses-next past w c e of allowed have,
         (shell-next past w c e allowed have.0, ejects-next past w c e allowed have.1),
       );
-      look_ups = λ past w name target path e named allowed plain have. let x = look-up past w name target path e e.event named allowed have in
-          (x.0, (x.1, ejects-looked_up past w (looked_up w name target path e.event) e (nodes-looked_up w name target path e.event) have.1));
+      look_ups = λ past w name target path e named allowed plain have.
+          let x = look-up past w name target path e e.event named allowed have in (
+            x.0,
+            (
+              x.1,
+              ejects-looked_up past w (looked_up w name target path e.event) e
+                  (nodes-looked_up w name target path e.event) have.1,
+            ),
+          );
     }) (beginning w script.nodes script.commands) [] history
     (of-booting WritesNone (λ m. tt) 1 script.nodes w script.commands (each-none script.commands none))
     (subst (Have []) (sym (world-booting 1 script.nodes w script.commands))

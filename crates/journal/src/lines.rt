@@ -5,8 +5,8 @@ ghost use Rattle.eden_value.specs.Printed.{printed_row, row_behind};
 ghost use Rattle.journal.specs.Lines as text;
 
 use crate::words::{
-    add_boot_word, add_image_word, add_num, add_shown_word, add_uid, fault_word, pick_word,
-    request_word, start_word,
+    add_boot_word, add_image_word, add_num, add_numbered, add_shown_word, add_uid, fault_word,
+    pick_word, request_word, start_word,
 };
 use crate::{BootEnd, Entry, Event, Mode, RequestEnd, Shown, StartEnd};
 use capability::Uid;
@@ -20,23 +20,19 @@ fn add_refused(name: &Txt, status: Status, out: &mut Vec<u8>) -> Result<(), Allo
     ensures { OnOk result (out.new.items ≡ out.old.items ++ text.refused_text name.now status) }
 {
     out.extend_from_slice(&name.bytes)?;
-    out.extend_from_slice(b" refused")?;
-    add_num(u64::from(status.number()), out)?;
+    add_numbered(b" refused", u64::from(status.number()), out)?;
     out.push(b' ')?;
     out.extend_from_slice(status.word().as_bytes())?;
-    out.push(b'\n')?;
-    Ok(())
+    out.extend_from_slice(b"\n")
 }
 
 // `+ cut 1 2`
 fn add_link(a: u8, b: u8, joined: bool, out: &mut Vec<u8>) -> Result<(), AllocError>
     ensures { OnOk result (out.new.items ≡ out.old.items ++ text.link_text a b joined) }
 {
-    out.extend_from_slice(if joined { b"+ join" } else { b"+ cut" })?;
-    add_num(u64::from(a), out)?;
+    add_numbered(if joined { b"+ join" } else { b"+ cut" }, u64::from(a), out)?;
     add_num(u64::from(b), out)?;
-    out.push(b'\n')?;
-    Ok(())
+    out.extend_from_slice(b"\n")
 }
 
 // `+ fail 1 4`, `+ stop 1 4 lose`
@@ -45,20 +41,17 @@ fn add_armed(node: u8, what: Arm, out: &mut Vec<u8>) -> Result<(), AllocError>
 {
     match what {
         Arm::Fail { after } => {
-            out.extend_from_slice(b"+ fail")?;
-            add_num(u64::from(node), out)?;
+            add_numbered(b"+ fail", u64::from(node), out)?;
             add_num(u64::from(after), out)?;
         }
         Arm::Stop { after, mode } => {
-            out.extend_from_slice(b"+ stop")?;
-            add_num(u64::from(node), out)?;
+            add_numbered(b"+ stop", u64::from(node), out)?;
             add_num(u64::from(after), out)?;
             out.push(b' ')?;
             add_image_word(mode, out)?;
         }
     }
-    out.push(b'\n')?;
-    Ok(())
+    out.extend_from_slice(b"\n")
 }
 
 // `+ hold c`
@@ -67,8 +60,7 @@ fn add_bound(name: &Txt, held: bool, out: &mut Vec<u8>) -> Result<(), AllocError
 {
     out.extend_from_slice(if held { b"+ hold " } else { b"+ restrict " })?;
     out.extend_from_slice(&name.bytes)?;
-    out.push(b'\n')?;
-    Ok(())
+    out.extend_from_slice(b"\n")
 }
 
 // `+ request 1 0 1 refused 4`
@@ -82,15 +74,11 @@ fn add_request(
     ensures { OnOk result (out.new.items ≡ out.old.items ++ text.request_text call from to refused) }
 {
     out.extend_from_slice(b"+ request")?;
-    add_num(u64::from(call), out)?;
-    add_num(u64::from(from), out)?;
-    add_num(u64::from(to), out)?;
+    add_three(call, from, to, out)?;
     if let Some(status) = refused {
-        out.extend_from_slice(b" refused")?;
-        add_num(u64::from(status.number()), out)?;
+        add_numbered(b" refused", u64::from(status.number()), out)?;
     }
-    out.push(b'\n')?;
-    Ok(())
+    out.extend_from_slice(b"\n")
 }
 
 // `+ activate 1.1.1 ok`
@@ -101,8 +89,7 @@ fn add_activate(uid: Uid, end: StartEnd, out: &mut Vec<u8>) -> Result<(), AllocE
     add_uid(uid, out)?;
     out.push(b' ')?;
     out.extend_from_slice(start_word(end).as_bytes())?;
-    out.push(b'\n')?;
-    Ok(())
+    out.extend_from_slice(b"\n")
 }
 
 // `+ store 1.1.1 15 done`
@@ -114,8 +101,7 @@ fn add_store(uid: Uid, clock: u64, end: RequestEnd, out: &mut Vec<u8>) -> Result
     add_num(clock, out)?;
     out.push(b' ')?;
     out.extend_from_slice(request_word(end).as_bytes())?;
-    out.push(b'\n')?;
-    Ok(())
+    out.extend_from_slice(b"\n")
 }
 
 // The call's number and two stations.
@@ -136,33 +122,28 @@ fn add_process(uid: Uid, process: u8, shown: Shown, out: &mut Vec<u8>) -> Result
     add_num(u64::from(process), out)?;
     out.push(b' ')?;
     add_shown_word(shown, out)?;
-    out.push(b'\n')?;
-    Ok(())
+    out.extend_from_slice(b"\n")
 }
 
 // `+ start 1 1.1.1 1`
 fn add_start(call: u32, uid: Uid, process: u8, out: &mut Vec<u8>) -> Result<(), AllocError>
     ensures { OnOk result (out.new.items ≡ out.old.items ++ text.start_text call uid process) }
 {
-    out.extend_from_slice(b"+ start")?;
-    add_num(u64::from(call), out)?;
+    add_numbered(b"+ start", u64::from(call), out)?;
     out.push(b' ')?;
     add_uid(uid, out)?;
     add_num(u64::from(process), out)?;
-    out.push(b'\n')?;
-    Ok(())
+    out.extend_from_slice(b"\n")
 }
 
 // `+ call 1 a`
 fn add_call(call: u32, name: &Txt, out: &mut Vec<u8>) -> Result<(), AllocError>
     ensures { OnOk result (out.new.items ≡ out.old.items ++ text.call_text call name.now) }
 {
-    out.extend_from_slice(b"+ call")?;
-    add_num(u64::from(call), out)?;
+    add_numbered(b"+ call", u64::from(call), out)?;
     out.push(b' ')?;
     out.extend_from_slice(&name.bytes)?;
-    out.push(b'\n')?;
-    Ok(())
+    out.extend_from_slice(b"\n")
 }
 
 // `+ reply 1 1 0`
@@ -171,8 +152,7 @@ fn add_reply(call: u32, from: u8, to: u8, out: &mut Vec<u8>) -> Result<(), Alloc
 {
     out.extend_from_slice(b"+ reply")?;
     add_three(call, from, to, out)?;
-    out.push(b'\n')?;
-    Ok(())
+    out.extend_from_slice(b"\n")
 }
 
 // The line that only a trace has.
@@ -221,8 +201,7 @@ fn add_trace(event: &Event, out: &mut Vec<u8>) -> Result<(), AllocError>
 fn add_node(node: u8, out: &mut Vec<u8>) -> Result<(), AllocError>
     ensures { OnOk result (out.new.items ≡ out.old.items ++ (codes "node" ++ text.num node)) }
 {
-    out.extend_from_slice(b"node")?;
-    add_num(u64::from(node), out)
+    add_numbered(b"node", u64::from(node), out)
 }
 
 // `node 1 down stop`
@@ -232,8 +211,7 @@ fn add_down(node: u8, why: &str, out: &mut Vec<u8>) -> Result<(), AllocError>
     add_node(node, out)?;
     out.extend_from_slice(b" down ")?;
     out.extend_from_slice(why.as_bytes())?;
-    out.push(b'\n')?;
-    Ok(())
+    out.extend_from_slice(b"\n")
 }
 
 // `node 1 up epoch 1`, `node 1 down damaged 0`
@@ -242,14 +220,12 @@ fn add_boot(node: u8, epoch: u32, end: BootEnd, out: &mut Vec<u8>) -> Result<(),
 {
     add_node(node, out)?;
     if let BootEnd::Up = end {
-        out.extend_from_slice(b" up epoch")?;
-        add_num(u64::from(epoch), out)?;
+        add_numbered(b" up epoch", u64::from(epoch), out)?;
     } else {
         out.extend_from_slice(b" down ")?;
         add_boot_word(end, out)?;
     }
-    out.push(b'\n')?;
-    Ok(())
+    out.extend_from_slice(b"\n")
 }
 
 // `node 1 is up`
@@ -275,8 +251,7 @@ fn add_made(
     out.extend_from_slice(&name.bytes)?;
     out.extend_from_slice(b" is ")?;
     add_uid(uid, out)?;
-    out.push(b'\n')?;
-    Ok(())
+    out.extend_from_slice(b"\n")
 }
 
 // `, 5, "a"`
@@ -332,8 +307,7 @@ fn add_fault(uid: Uid, shown: Shown, out: &mut Vec<u8>) -> Result<(), AllocError
     add_uid(uid, out)?;
     out.extend_from_slice(b" fault ")?;
     out.extend_from_slice(fault_word(cause).as_bytes())?;
-    out.push(b'\n')?;
-    Ok(())
+    out.extend_from_slice(b"\n")
 }
 
 // `open a`
@@ -448,15 +422,13 @@ fn add_disk(entry: &Entry, out: &mut Vec<u8>) -> Result<(), AllocError>
     if entry.node == 0 {
         return Ok(());
     }
-    out.extend_from_slice(b"+ disk")?;
-    add_num(u64::from(entry.node), out)?;
+    add_numbered(b"+ disk", u64::from(entry.node), out)?;
     add_num(entry.clock, out)?;
     out.push(b' ')?;
     out.extend_from_slice(pick_word(pick_of(&entry.event)).as_bytes())?;
     out.push(b' ')?;
     out.extend_from_slice(began_word(&entry.event).as_bytes())?;
-    out.push(b'\n')?;
-    Ok(())
+    out.extend_from_slice(b"\n")
 }
 
 #[tactic(auto, unfolding(crate::specs::Lines::entry_text))]

@@ -3,6 +3,7 @@ ghost use Rattle.std.specs.Prelude.{◌≡◌, ◌++◌, OnOk};
 ghost use Rattle.std.specs.Fmt.{decimal};
 ghost use Rattle.eden_value.specs.Printed.{printed_uid};
 ghost use Rattle.journal.specs.Lines as text;
+ghost use Rattle.journal.specs.declared.event.Shown.TheVariants.{Created};
 
 use crate::{BootEnd, RequestEnd, Shown, StartEnd};
 use capability::Uid;
@@ -19,6 +20,14 @@ pub fn add_num(n: u64, out: &mut Vec<u8>) -> Result<(), AllocError>
     out.push(b' ')?;
     let mut digits = Buffer::new();
     out.extend_from_slice(digits.format(n).as_bytes())
+}
+
+// a word, a blank and a number
+pub fn add_numbered(word: &[u8], n: u64, out: &mut Vec<u8>) -> Result<(), AllocError>
+    ensures { OnOk result (out.new.items ≡ out.old.items ++ (word.now ++ text.num n)) }
+{
+    out.extend_from_slice(word)?;
+    add_num(n, out)
 }
 
 // a blank and a number that may be wide
@@ -105,10 +114,7 @@ pub fn add_boot_word(end: BootEnd, out: &mut Vec<u8>) -> Result<(), AllocError>
         BootEnd::Up => out.extend_from_slice(b"up"),
         BootEnd::DiskFault => out.extend_from_slice(b"disk fault"),
         BootEnd::Stop => out.extend_from_slice(b"stop"),
-        BootEnd::Damaged { place } => {
-            out.extend_from_slice(b"damaged")?;
-            add_num(u64::from(place), out)
-        }
+        BootEnd::Damaged { place } => add_numbered(b"damaged", u64::from(place), out),
         BootEnd::EpochsSpent => out.extend_from_slice(b"epochs spent"),
         BootEnd::Full => out.extend_from_slice(b"full"),
     }
@@ -120,35 +126,30 @@ pub fn add_image_word(mode: ImageMode, out: &mut Vec<u8>) -> Result<(), AllocErr
     match mode {
         ImageMode::Keep => out.extend_from_slice(b"keep"),
         ImageMode::Lose => out.extend_from_slice(b"lose"),
-        ImageMode::Garble { byte } => {
-            out.extend_from_slice(b"garble")?;
-            add_num(u64::from(byte), out)
-        }
+        ImageMode::Garble { byte } => add_numbered(b"garble", u64::from(byte), out),
     }
+}
+
+// `create 1.1.1`
+fn add_created(uid: Uid, out: &mut Vec<u8>) -> Result<(), AllocError>
+    ensures { OnOk result (out.new.items ≡ out.old.items ++ text.shown_word (Created uid)) }
+{
+    out.extend_from_slice(b"create ")?;
+    add_uid(uid, out)
 }
 
 pub fn add_shown_word(shown: Shown, out: &mut Vec<u8>) -> Result<(), AllocError>
     ensures { OnOk result (out.new.items ≡ out.old.items ++ text.shown_word shown) }
 {
     match shown {
-        Shown::Invoke { call } => {
-            out.extend_from_slice(b"invoke")?;
-            add_num(u64::from(call), out)
-        }
-        Shown::Return { call } => {
-            out.extend_from_slice(b"return")?;
-            add_num(u64::from(call), out)
-        }
+        Shown::Invoke { call } => add_numbered(b"invoke", u64::from(call), out),
+        Shown::Return { call } => add_numbered(b"return", u64::from(call), out),
         Shown::Checkpoint => out.extend_from_slice(b"checkpoint"),
         Shown::Deactivate => out.extend_from_slice(b"deactivate"),
         Shown::Destroy => out.extend_from_slice(b"destroy"),
-        Shown::Created { uid } => {
-            out.extend_from_slice(b"create ")?;
-            add_uid(uid, out)
-        }
+        Shown::Created { uid } => add_created(uid, out),
         Shown::Refused { status } => {
-            out.extend_from_slice(b"create refused")?;
-            add_num(u64::from(status.number()), out)
+            add_numbered(b"create refused", u64::from(status.number()), out)
         }
         Shown::Lock => out.extend_from_slice(b"lock"),
         Shown::Leave => out.extend_from_slice(b"leave"),

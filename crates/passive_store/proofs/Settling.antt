@@ -225,7 +225,8 @@ settled_anew tells obeys r old begun new nodes disk mores ats kept work fresh s 
     record {
       goes = record {
         node = s.goes.node ∙ nodes;
-        obeyed = λ so. subst (λ (d : DiskSeen). Obeyed d.due new.disk.due d.counts new.disk.counts (end_of_store r)) disk (s.goes.obeyed so);
+        obeyed = λ so. subst (λ (d : DiskSeen). Obeyed d.due new.disk.due d.counts new.disk.counts (end_of_store r)) disk
+            (s.goes.obeyed so);
         timed = λ so. subst (λ (d : DiskSeen). Timed d.counts.clock d.told new.disk.counts.clock new.disk.told) disk (s.goes.timed so);
         stands = s.goes.stands;
       };
@@ -241,7 +242,8 @@ settled_anew tells obeys r old begun new nodes disk mores ats kept work fresh s 
       picked = subst (λ b. is_some new.picked ≡ (is_ok r && b)) unsettled s.picked;
       more = s.more ∙ mores;
       at = s.at ∙ ats;
-      kept = λ so. s.kept so ∙ anew_same (λ w. settled new.picked w begun.kept) old.work begun.work (settled_same new.picked begun.kept) work
+      kept = λ so. s.kept so ∙ anew_same (λ w. settled new.picked w begun.kept) old.work begun.work
+          (settled_same new.picked begun.kept) work
           ∙ ap (settled new.picked old.work) (kept so);
       fresh = fresh;
       moments = λ so. subst (λ (d : DiskSeen). EachMoment (Stands log_layout old.node old.more old.kept (changes_in (doubt_in old.work)))

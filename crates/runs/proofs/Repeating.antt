@@ -19,11 +19,13 @@ use Rattle.journal.specs.declared.event.Entry.{Entry}
 use Rattle.journal.specs.declared.event.Event.TheVariants.{Process}
 use Rattle.journal.specs.declared.event.Key.{Key}
 use Rattle.journal.specs.declared.event.Shown.TheVariants.{Yield}
-use Rattle.journal.specs.World.{World, Site, Node, Eject, Active, site_of, site_at, node_at, eject_in, on_eject, at_node, with_site, reaches}
+use Rattle.journal.specs.World.{World, Site, Node, Eject, Active, site_of, site_at, node_at, eject_in, on_eject, at_node, with_site}
+use Rattle.journal.specs.World.{reaches}
 use Rattle.journal.specs.Ejects.{on_active}
 use Rattle.journal.specs.Enabled.{delivery, activity, is_to_activate, is_startable, ready, activations, starts, store_of, node_keys}
 use Rattle.journal.specs.Enabled.{stations, deliveries, enabled, following}
-use Rattle.journal.specs.Processes.{AllowsTurn, turned, turn_of, serving, worker_at, effected, active_turn, turn_taken, process_turn, shown_of}
+use Rattle.journal.specs.Processes.{AllowsTurn, turned, turn_of, serving, worker_at, effected, active_turn, turn_taken}
+use Rattle.journal.specs.Processes.{process_turn, shown_of}
 use Rattle.journal.specs.Step.{Allows, AllowsAt, AllowsEvent, next, counted, clocked, key_of, touched, happened, after_turn}
 use Rattle.journal.proofs.Shows.{yields}
 use Rattle.runs.specs.Reached.{IsReached}

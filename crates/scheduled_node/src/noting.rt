@@ -10,7 +10,8 @@ ghost use Rattle.agenda.specs.Indexed.{indices_of};
 ghost use Rattle.agenda.specs.Keys.{IsAgenda};
 ghost use Rattle.agenda.specs.Marks.{MayBut};
 ghost use Rattle.eden_kernel.specs.declared.stores.TurnEnd.TheVariants.{Up};
-ghost use Rattle.scheduled_node.specs.Others.{eject_of as eject_asking, concerned as about, turn_about, uid_shown, created_in as created_by, is_either};
+ghost use Rattle.scheduled_node.specs.Others.{eject_of as eject_asking, concerned as about, turn_about, uid_shown};
+ghost use Rattle.scheduled_node.specs.Others.{created_in as created_by, is_either};
 
 use agenda::Agenda;
 use capability::Uid;

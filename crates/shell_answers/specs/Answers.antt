@@ -28,7 +28,12 @@ pub record Writing : Type 0 where
   pub faults_after : ℕ
 
 abbrev pub writing : {K : Type 0} → (K → Option (List ℕ)) → (K → ℕ) → K → K → Writing
-writing written faults old new = record { written = written old; written_after = written new; faults = faults old; faults_after = faults new }
+writing written faults old new = record {
+  written = written old;
+  written_after = written new;
+  faults = faults old;
+  faults_after = faults new;
+}
 
 -- the disks before a call and behind it, in the order of their nodes, with their layout, and whether they tell
 pub record Disks : Type 0 where
@@ -108,8 +113,8 @@ pub record HasBegun (c : Call) (history : List Entry) : Type 0 where
 
 -- 5. Answers
 
--- The text of the outcome that is due was written whole. Where a write failed, an outcome was due, and a part of its text was written. Where
--- memory was wanted, nothing was begun and nothing written, or a run began.
+-- The text of the outcome that is due was written whole. Where a write failed, an outcome was due, and a part of its text was written.
+-- Where memory was wanted, nothing was begun and nothing written, or a run began.
 abbrev pub Answers : Call → Outcome → List Entry → Type 0
 Answers c WriteFault history = Rose c.sink.faults c.sink.faults_after × ((due : Outcome) × (text : List ℕ) × IsDue c due history text
     × AppendsPart c.sink.written c.sink.written_after text)

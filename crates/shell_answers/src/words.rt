@@ -1,5 +1,6 @@
 //! The words of the command line.
-ghost use Rattle.std.specs.Prelude.{[], ◌∷◌, codes, ◌≡◌, ◌↔◌, ◌≤◌, ◌^◌, ◌<◌, ◌+◌, ◌*◌, List, ℕ, map, string_bytes, IfSome, IsNone, IsTrue, Some, length};
+ghost use Rattle.std.specs.Prelude.{[], ◌∷◌, codes, ◌≡◌, ◌↔◌, ◌≤◌, ◌^◌, ◌<◌, ◌+◌, ◌*◌, List, ℕ, map, string_bytes, IfSome, IsNone};
+ghost use Rattle.std.specs.Prelude.{IsTrue, Some, length};
 ghost use Rattle.std.specs.List.{All};
 ghost use Rattle.shell_answers.specs.Words.{Asks, IsDigit, IsDirectory, NameDirectory, SpellsNumber, mode_of, number_from};
 ghost use Rattle.shell_answers.specs.declared.words.Job.{Job as Work};

@@ -83,30 +83,55 @@ pub fn lines_turn(
     ensures { IfOk result (λ r. (vars.new, lines_stage r.0, r.1) ≡ lines.lines_turn vars.old (lines_stage stage) answer.now) }
 {
     match stage {
-        LinesStage::Fills { items } => {
-            if truth_at(vars, 0) {
-                return Ok((LinesStage::FillSaved, returns_code(alloc, NOT_OPENED)?));
-            }
-            *vars = values_of(alloc, true, items, false)?;
-            Ok((LinesStage::FillSaved, Effect::Checkpoint))
-        }
-        LinesStage::FillSaved => {
-            if !is_fine(answer) {
-                return Ok((LinesStage::FillSaved, returns_code(alloc, TROUBLE)?));
-            }
-            set_saved(alloc, vars, true)?;
-            Ok((LinesStage::FillSaved, returns_code(alloc, OPENED)?))
-        }
+        LinesStage::Fills { items } => fills(alloc, vars, items),
+        LinesStage::FillSaved => fill_saved(alloc, vars, answer),
         LinesStage::Transfers { position } => transfers(alloc, vars, position),
-        LinesStage::TransferSaved { position } => {
-            if !is_fine(answer) {
-                return Ok((LinesStage::FillSaved, returns_none(alloc, TROUBLE)?));
-            }
-            let effect = item_at(alloc, vars, position)?;
-            set_saved(alloc, vars, true)?;
-            Ok((LinesStage::FillSaved, effect))
-        }
+        LinesStage::TransferSaved { position } => transfer_saved(alloc, vars, position, answer),
     }
+}
+
+/// It is filled with items, where it was not, and then saved.
+fn fills(alloc: Global, vars: &mut Items, items: Items) -> Result<(LinesStage, Effect), AllocError>
+    ensures { IfOk result (λ r. (vars.new, lines_stage r.0, r.1) ≡ lines.lines_turn vars.old (lines.fills items) answer.Go) }
+{
+    if truth_at(vars, 0) {
+        return Ok((LinesStage::FillSaved, returns_code(alloc, NOT_OPENED)?));
+    }
+    *vars = values_of(alloc, true, items, false)?;
+    Ok((LinesStage::FillSaved, Effect::Checkpoint))
+}
+
+/// The save of what it was filled with is told.
+fn fill_saved(
+    alloc: Global,
+    vars: &mut Items,
+    answer: &Answer,
+) -> Result<(LinesStage, Effect), AllocError>
+    ensures { IfOk result (λ r. (vars.new, lines_stage r.0, r.1) ≡ lines.lines_turn vars.old lines.fill_saved answer.now) }
+{
+    if !is_fine(answer) {
+        return Ok((LinesStage::FillSaved, returns_code(alloc, TROUBLE)?));
+    }
+    set_saved(alloc, vars, true)?;
+    Ok((LinesStage::FillSaved, returns_code(alloc, OPENED)?))
+}
+
+/// The save is told, and the item at a position is handed out.
+fn transfer_saved(
+    alloc: Global,
+    vars: &mut Items,
+    position: i64,
+    answer: &Answer,
+) -> Result<(LinesStage, Effect), AllocError>
+    ensures { IfOk result (λ r. (vars.new, lines_stage r.0, r.1)
+        ≡ lines.lines_turn vars.old (lines.transfer_saved position) answer.now) }
+{
+    if !is_fine(answer) {
+        return Ok((LinesStage::FillSaved, returns_none(alloc, TROUBLE)?));
+    }
+    let effect = item_at(alloc, vars, position)?;
+    set_saved(alloc, vars, true)?;
+    Ok((LinesStage::FillSaved, effect))
 }
 
 /// The item at a position is handed out, where it was filled, and saved before where it was not.

@@ -6,6 +6,7 @@ ghost use Rattle.epl_syntax.specs.Outline.{starts};
 ghost use Rattle.epl_syntax.specs.Simple.{argument, returns_code};
 ghost use Rattle.epl_syntax.specs.Streams.{asks_for};
 ghost use Rattle.epl_syntax.specs.Sink as sink;
+ghost use Rattle.eden_value.specs.View.{datum};
 ghost use Rattle.transput.specs.View.{drain_of, sink_stage, pumped_of, came_of};
 
 use crate::effects::{
@@ -274,14 +275,21 @@ fn item_saved(
     ends(alloc, vars, after)
 }
 
+/// A copy of the items, and of the absent capability where there are none.
+fn copied_items(alloc: Global, vars: &Items) -> Result<Value, AllocError>
+    ensures { IfOk result (λ items. datum items ≡ argument 1 vars.now) }
+{
+    match vars.values.get(1) {
+        Some(value) => copy(alloc, value),
+        None => Ok(Value::Cap { cap: None }),
+    }
+}
+
 /// The items are returned.
 fn reads(alloc: Global, vars: &Items) -> Result<Effect, AllocError>
     ensures { IfOk result (λ effect. effect ≡ Return (argument 1 vars.now ∷ [])) }
 {
-    let items = match vars.values.get(1) {
-        Some(value) => copy(alloc, value)?,
-        None => Value::Cap { cap: None },
-    };
+    let items = copied_items(alloc, vars)?;
     let values = vec![in alloc; items]?;
     let results = Items { values };
     Ok(Effect::Return { results })

@@ -108,6 +108,33 @@ pub fn native_begin(
     }
 }
 
+/// What comes of a stage, and the stage behind it.
+fn proceeds(
+    alloc: Global,
+    stream: Stream,
+    vars: &mut Items,
+    stage: Stage,
+    answer: Answer,
+) -> Result<(Stage, Effect), AllocError>
+    ensures { IfOk result (λ r. (vars.new, stage_of r.0, r.1)
+        ≡ natives.native_turn (native_of stream) vars.old (stage_of stage) answer) }
+{
+    match stage {
+        Stage::OfLines { stage: before } => {
+            let (stage, effect) = lines_turn(alloc, vars, before, &answer)?;
+            Ok((Stage::OfLines { stage }, effect))
+        }
+        Stage::OfFilter { stage: before } => {
+            let (stage, effect) = filter_turn(alloc, stream.rule(), vars, before, answer)?;
+            Ok((Stage::OfFilter { stage }, effect))
+        }
+        Stage::OfSink { stage: before } => {
+            let (stage, effect) = sink_turn(alloc, vars, before, answer)?;
+            Ok((Stage::OfSink { stage }, effect))
+        }
+    }
+}
+
 /// A turn of a process, up to its effect, where it is told the answer to the effect before. Where memory runs out, the
 /// values and what is left to do are no longer those of the Eject.
 pub fn native_turn(
@@ -123,21 +150,8 @@ pub fn native_turn(
     let left = Stage::OfLines {
         stage: LinesStage::FillSaved,
     };
-    match mem::replace(stage, left) {
-        Stage::OfLines { stage: before } => {
-            let (after, effect) = lines_turn(alloc, vars, before, &answer)?;
-            *stage = Stage::OfLines { stage: after };
-            Ok(effect)
-        }
-        Stage::OfFilter { stage: before } => {
-            let (after, effect) = filter_turn(alloc, stream.rule(), vars, before, answer)?;
-            *stage = Stage::OfFilter { stage: after };
-            Ok(effect)
-        }
-        Stage::OfSink { stage: before } => {
-            let (after, effect) = sink_turn(alloc, vars, before, answer)?;
-            *stage = Stage::OfSink { stage: after };
-            Ok(effect)
-        }
-    }
+    let before = mem::replace(stage, left);
+    let (after, effect) = proceeds(alloc, stream, vars, before, answer)?;
+    *stage = after;
+    Ok(effect)
 }

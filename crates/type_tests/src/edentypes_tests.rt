@@ -308,7 +308,7 @@ fn behind(
     }
 }
 
-/// What is left of a process of an operation returns this, as the text of a list, or ends the active part.
+/// The answer of an operation that was begun, as the text of a list, or that it ends the active part.
 fn carried_on(
     alloc: Global,
     (types, kind): (&Types, Kind),
@@ -321,7 +321,7 @@ fn carried_on(
     returned(alloc, last)
 }
 
-/// What an operation returns, as the text of a list, or that it ends the active part.
+/// The answer of an operation, as the text of a list, or that it ends the active part.
 fn carried_out(
     alloc: Global,
     (types, kind): (&Types, Kind),

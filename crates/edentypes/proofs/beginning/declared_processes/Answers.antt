@@ -22,5 +22,6 @@ pub returns : goal.returns
 returns c =
     let none : length c.loop-rest.left.items ≡ 0 = grind (arith, c.in_default.ensures.cases.0, c.loop-rest.left.ok) in
     rest_found (type_tree c.args.program.now) c.loop-rest.left.items
-    (map (rest_of (declared_type (type_tree c.args.program.now))) c.loop-rest.found.items) c.in_ok-left.left.items none c.loop-rest.invariant
+    (map (rest_of (declared_type (type_tree c.args.program.now))) c.loop-rest.found.items) c.in_ok-left.left.items none
+    c.loop-rest.invariant
     ∙ begun_are (type_tree c.args.program.now) c.in_ok-left.left.items c.in_ok-left.ensures

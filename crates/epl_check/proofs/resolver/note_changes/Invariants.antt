@@ -8,5 +8,6 @@ use Rattle.epl_check.proofs.resolver.note_changes.Given as goal
 abbrev pub invariant-loop-change : goal.invariant-loop-change
 invariant-loop-change l =
     NotedFrom l.stood l.fn.bindings l.bindings
-    (λ c. has_binding l.fn.bindings (names_of l.names) variable c.name && each_of_expression (has_binding l.fn.bindings (names_of l.names)) c.value)
+    (λ c. has_binding l.fn.bindings (names_of l.names) variable c.name
+    && each_of_expression (has_binding l.fn.bindings (names_of l.names)) c.value)
     (map change (drop l.change-index l.changes)) (map change l.changes)

@@ -11,7 +11,8 @@ returns-then-has_kind c names =
     let within : c.args.next < length c.deref.result.now = search (rules, c.in-Some-get.ensures.lookup) in
     let at : c.in-Some-get.value.now ≡ get_or c.deref.result.now c.args.next c.in-Some-get.value.now =
     search (rules, c.in-Some-get.ensures.lookup) in
-    one_more c.deref.result.now c.args.results.now c.args.next (memory (type_tree c.args.program.now) c.args.vars.now) c.args.name.now.text names
+    one_more c.deref.result.now c.args.results.now c.args.next (memory (type_tree c.args.program.now) c.args.vars.now)
+    c.args.name.now.text names
     c.in-Some-get.value.now (shape c.in-Some.kind.now) true (ap datums c.deref.ensures.value ∙ c.results.view_is) c.in-Some.ensures
     within at c.if-has_kind.ensures
 
@@ -20,6 +21,7 @@ returns-else-has_kind c names =
     let within : c.args.next < length c.deref.result.now = search (rules, c.in-Some-get.ensures.lookup) in
     let at : c.in-Some-get.value.now ≡ get_or c.deref.result.now c.args.next c.in-Some-get.value.now =
     search (rules, c.in-Some-get.ensures.lookup) in
-    one_more c.deref.result.now c.args.results.now c.args.next (memory (type_tree c.args.program.now) c.args.vars.now) c.args.name.now.text names
+    one_more c.deref.result.now c.args.results.now c.args.next (memory (type_tree c.args.program.now) c.args.vars.now)
+    c.args.name.now.text names
     c.in-Some-get.value.now (shape c.in-Some.kind.now) false (ap datums c.deref.ensures.value ∙ c.results.view_is) c.in-Some.ensures
     within at c.if-has_kind.ensures

@@ -1,4 +1,5 @@
-use Rattle.std.proofs.Common.{◌≡◌, ◌+◌, drop, ◌++◌, ◌∷◌, ◌<◌, ◌≤◌, ◌≢◌, [], length, refl, ap, sym, subst, ◌∙◌, arith, rules, List, Some, Ok, Err}
+use Rattle.std.proofs.Common.{◌≡◌, ◌+◌, drop, ◌++◌, ◌∷◌, ◌<◌, ◌≤◌, ◌≢◌, [], length, refl, ap, sym, subst, ◌∙◌, arith, rules, List}
+use Rattle.std.proofs.Common.{Some, Ok, Err}
 use Rattle.std.proofs.Common.{true, false}
 use Rattle.epl_syntax.specs.Tree.{type_tree}
 use Rattle.std.specs.Prelude.{slice_get}

@@ -1,4 +1,5 @@
-use Rattle.std.proofs.Common.{◌≡◌, ◌+◌, ℕ, Option, List, length, take, drop, replicate, slice_range, refl, ap, subst, ◌∙◌, inl, inr, arith, ◌++◌}
+use Rattle.std.proofs.Common.{◌≡◌, ◌+◌, ℕ, Option, List, length, take, drop, replicate, slice_range, refl, ap, subst, ◌∙◌, inl, inr}
+use Rattle.std.proofs.Common.{arith, ◌++◌}
 use Rattle.std.proofs.lemmas.Result.{err_from_is_err_and}
 use Rattle.eden_disk.proofs.Held.{calls_one, obeyed_one}
 use Rattle.eden_disk.specs.Calls.{Counts, Fine, DeviceCalls, Obeyed, ReadTold}

@@ -5,5 +5,6 @@ use Rattle.shell_answers.proofs.Delivered.{wrote-whole}
 use Rattle.shell_answers.proofs.writing.write_line.Goals as goal
 
 pub returns-in-Ok-clause-delivers : goal.returns-in-Ok-clause-delivers
-returns-in-Ok-clause-delivers g c = wrote-whole (writing g.K.Sink.written g.K.Sink.faults c.args.sink.now c.write_all.new.sink) c.args.due (line_of c.args.due)
+returns-in-Ok-clause-delivers g c = wrote-whole (writing g.K.Sink.written g.K.Sink.faults c.args.sink.now c.write_all.new.sink)
+    c.args.due (line_of c.args.due)
     c.requires (search rules)

@@ -9,7 +9,8 @@ returns-then-are_zeros-clause-bytes c =
     let held : List ℕ = c.self.inside.bytes.items in
     let bytes : List ℕ = c.args.bytes.now in
     sym (ap (λ (i : Fronted). i.bytes) c.self.view_is)
-    ∙ sym (zeros_written held bytes c.self.inside.size c.args.at (omega (arith, c.if-len-from.true, c.len.ensures, c.self.inside.bytes.ok.0))
+    ∙ sym (zeros_written held bytes c.self.inside.size c.args.at
+    (omega (arith, c.if-len-from.true, c.len.ensures, c.self.inside.bytes.ok.0))
     (omega (arith, c.requires, ap (λ (i : Fronted). i.reach) c.self.view_is, c.self.invariant.reach_within))
     (λ k. zero_of bytes k (c.if-are_zeros.ensures refl)))
     ∙ ap (λ (i : Fronted). overlay c.args.at bytes i.bytes) c.self.view_is

@@ -68,7 +68,8 @@ returns-else-first-at-clause-bytes c =
     ∙ ap (λ n. replicate {A = ℕ} n c.args.byte) (omega (arith, c.min-here.ensures)) in
     ap (λ l. l ++ c.fill-else-first-at-2.new.self.bytes) c.fill-else-first-at.ensures.bytes
     ∙ ap (λ l. overlay c.args.at front c.self.inside.first.bytes ++ l) c.fill-else-first-at-2.ensures.bytes
-    ∙ written_across c.args.at c.size-first.result front behind bytes c.self.inside.first.bytes c.self.inside.rest.bytes c.size-first.ensures
+    ∙ written_across c.args.at c.size-first.result front behind bytes c.self.inside.first.bytes c.self.inside.rest.bytes
+    c.size-first.ensures
     (sym whole) (front_fits c)
     (λ some. omega (arith, some, long here c.args.byte, long (c.args.len - here) c.args.byte, c.min-here.ensures, c.if-first-at.false))
     (behind_fits c) ∙ ap (λ (i : Imaged). overlay c.args.at bytes i.bytes) c.self.view_is

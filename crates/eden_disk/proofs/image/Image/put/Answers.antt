@@ -66,7 +66,8 @@ returns-else-first-at-clause-bytes c =
     ap (λ l. l ++ behind) c.split_at.ensures.front ∙ ap (λ l. take here bytes ++ l) c.split_at.ensures.back ∙ take-append-drop here bytes in
     ap (λ l. l ++ c.put-else-first-at-2.new.self.bytes) c.put-else-first-at.ensures.bytes
     ∙ ap (λ l. overlay c.args.at front c.self.inside.first.bytes ++ l) c.put-else-first-at-2.ensures.bytes
-    ∙ written_across c.args.at c.size-first.result front behind bytes c.self.inside.first.bytes c.self.inside.rest.bytes c.size-first.ensures
+    ∙ written_across c.args.at c.size-first.result front behind bytes c.self.inside.first.bytes c.self.inside.rest.bytes
+    c.size-first.ensures
     (sym whole) (front_fits c)
     (λ some. omega (arith, some, front_long c, behind_long c, c.min-here.ensures, c.if-first-at.false)) (behind_fits c)
     ∙ ap (λ (i : Imaged). overlay c.args.at bytes i.bytes) c.self.view_is

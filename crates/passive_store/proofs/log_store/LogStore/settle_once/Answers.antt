@@ -41,7 +41,8 @@ invariant_of-self-in-Ok g c =
     keeps_sync s.node s.size s.tail _ t0 t1 k0 k1 s.index s.pending p Fine e c.self.invariant.0 (c.self.invariant.1 tells)
     c.in-Ok.ensures.counts.size (c.in-Ok.ensures.told tells) in
     restaged_log _ _ s.node s.size s.tail t0 t1 k0 k1 s.index s.pending p (Ended true) e c.self.invariant.0
-    c.in-Ok.ensures.counts.size keeps (λ tells. tt) (λ tells on. rests (contents t0) (contents t1) (ap contents (c.in-Ok.ensures.told tells)))
+    c.in-Ok.ensures.counts.size keeps (λ tells. tt) (λ tells on. rests (contents t0) (contents t1)
+    (ap contents (c.in-Ok.ensures.told tells)))
 
 pub returns-in-Ok : goal.returns-in-Ok
 returns-in-Ok g c =
@@ -119,7 +120,8 @@ returns-in-Err g c =
       timed = λ tells. timed_sync k0 k1 t0 t1 _ c.sync.ensures.counts.clock (c.sync.ensures.spent tells) (c.sync.ensures.told tells);
       only = refused_only refusal;
       last = tt;
-      told = λ tells. subst (λ w. CallTold (settling_call (is_synced w)) k1.clock t0 t1 (end_of_store {T = Progress} (Err (refused refusal))))
+      told = λ tells. subst (λ w. CallTold (settling_call (is_synced w)) k1.clock t0 t1
+          (end_of_store {T = Progress} (Err (refused refusal))))
           (sym is) (subst (SyncTold k1.clock t0 t1) ends (c.in-Err.ensures.told tells));
       work = ap (λ w. work_stepped w (Err (refused refusal))) (sym is);
       picked = refl;
@@ -173,7 +175,8 @@ returns-in-Err-read_gate g c =
       timed = λ tells. c.read_gate.ensures.timed tells;
       only = refused_only refusal;
       last = tt;
-      told = λ tells. subst (λ w. CallTold (settling_call (is_synced w)) k1.clock t0 t1 (end_of_store {T = Progress} (Err (refused refusal))))
+      told = λ tells. subst (λ w. CallTold (settling_call (is_synced w)) k1.clock t0 t1
+          (end_of_store {T = Progress} (Err (refused refusal))))
           (sym is) (subst (ReadTold k1.clock t0 t1) ends (c.in-Err-read_gate.ensures.told tells));
       work = ap (λ w. work_stepped w (Err (refused refusal))) (sym is);
       picked = refl;

@@ -46,8 +46,10 @@ pub returns-in-None-clause-done : goal.returns-in-None-clause-done
 returns-in-None-clause-done g c o others p on =
     let here = on-reached g.M.Machine.stands g.M.Machine.did o others c.args.self.now p on in
     took-quiet g.M.Machine.stands g.M.Machine.did o others c.args.self.now _ p (chosen_by c.args.choice p.world) on
-    (omega (arith, c.if-self-ge-MOST_TURNS.false)) (sym c.in-None.is ∙ c.in_ok-key.ensures.chosen on.machine.0 p.world here on.machine.2 on.last on.again)
-    (rw (c.push_reserved-in-None.ensures.items, c.reserve.ensures.items, c.plain-in-None.ensures) (refl {A = List Entry})) refl refl refl refl
+    (omega (arith, c.if-self-ge-MOST_TURNS.false)) (sym c.in-None.is ∙ c.in_ok-key.ensures.chosen on.machine.0 p.world here
+    on.machine.2 on.last on.again)
+    (rw (c.push_reserved-in-None.ensures.items, c.reserve.ensures.items, c.plain-in-None.ensures) (refl {A = List Entry}))
+    refl refl refl refl
 
 pub returns-in-None-clause-shown : goal.returns-in-None-clause-shown
 returns-in-None-clause-shown g c = shown-push g.M.Machine.shows c.args.self.now c.plain-in-None.result
