@@ -1,12 +1,16 @@
-ghost use Rattle.std.specs.Prelude.{◌≡◌, ◌≤◌, ◌<◌, ◌^◌, ◌∷◌, [], ℕ, Option, IsTrue, IfOk, IfSome, MatchOption, length};
+ghost use Rattle.std.specs.Prelude.{◌≡◌, ◌≢◌, ◌≤◌, ◌<◌, ◌^◌, ◌==◌, ◌&&◌, ◌∷◌, [], ℕ, codes, length};
+ghost use Rattle.std.specs.Prelude.{Option, IsTrue, IfOk, IfSome, MatchOption};
 ghost use Rattle.eden_value.specs.Shape.{ints};
+ghost use Rattle.eden_model.specs.Map.{same_text};
 ghost use Rattle.epl_syntax.specs.declared.types.Native.TheVariants.{Cell};
 ghost use Rattle.epl_syntax.specs.Edentype.{native};
 ghost use Rattle.epl_syntax.specs.Kinds.{have_shapes};
 ghost use Rattle.passive_store.specs.Kept.{Idle, is_busy, worked_on};
 ghost use Rattle.checkpoint.specs.Asked.{AllOfNode, PowerBehind};
+ghost use Rattle.eden_disk.specs.Calls.{Counts};
+ghost use Rattle.history_tests.specs.declared.checkpoint_tests.Came.TheVariants.{Stopped};
 
-use crate::common::{Amiss, FIRST, Log, arm_of, blank, uid_of};
+use crate::common::{FIRST, Log, arm_of, blank, uid_of};
 use capability::{Body, Seq, Uid};
 use checkpoint::{
     BootFall, BootNote, Start, Starter, StepEnd, StoreEnd, Worker, arm, boot, crash, runs_stand,
@@ -19,7 +23,7 @@ use epl_syntax::same_text;
 use journal::BootEnd;
 use passive_store::{Doubt, Pick, Store};
 use std::alloc::{AllocError, Global};
-use std::test::Fail;
+use std::process::Abort;
 
 const SECOND: Uid = Uid {
     node: 1,
@@ -50,6 +54,17 @@ fn are_one_int(values: &Items) -> bool
     has_kind(&values.values[0], &Kind::Int)
 }
 
+/// Whether a representation is one of a Cell.
+fn is_cell(alloc: Global, rep: &Rep) -> Result<bool, AllocError>
+    ensures { IfOk result (λ is. is ≡ (same_text (codes "Cell") rep.now.type_name
+        && ((rep.now.version == 1) && have_shapes rep.now.values (ints ∷ [])))) }
+{
+    let name = Txt {
+        bytes: b"Cell".to_vec(alloc)?,
+    };
+    Ok(same_text(&name, &rep.type_name) && rep.version == 1 && are_one_int(&rep.values))
+}
+
 impl Starter for Cells {
     type Started = Items;
 
@@ -58,30 +73,14 @@ impl Starter for Cells {
     ghost started = { λ _ durable. (native Cell, durable) };
 
     fn start(&self, alloc: Global, rep: Rep, _me: Uid) -> Result<Option<Items>, AllocError> {
-        let Rep {
-            type_name,
-            version,
-            values,
-        } = rep;
-        let name = Txt {
-            bytes: b"Cell".to_vec(alloc)?,
-        };
-        if !same_text(&name, &type_name) {
-            return Ok(None);
-        }
-        if version != 1 {
-            return Ok(None);
-        }
-        if !are_one_int(&values) {
-            return Ok(None);
-        }
-        Ok(Some(values))
+        let is_cell = is_cell(alloc, &rep)?;
+        Ok(if is_cell { Some(rep.values) } else { None })
     }
 }
 
 /// How far some steps came: how many they were, what a settling found, and the end of the first request with the
 /// process that it answers.
-#[derive(Clone, Copy, Debug, PartialEq, Eq)]
+#[derive(Clone, Copy, PartialEq, Eq)]
 struct Steps {
     made: u32,
     pick: Option<Pick>,
@@ -92,53 +91,54 @@ struct Steps {
 /// Makes steps up to the end of the first request, at most so many.
 #[tactic(auto, using(checkpoint::proofs::OneCalls::none_worked))]
 fn step_on<St: Store>(
+    rt: &impl Abort,
     alloc: Global,
     worker: &mut Worker,
     store: &mut St,
     most: u32,
-) -> Result<Steps, Amiss>
+) -> Steps
     requires power { IsTrue (St.seen store.old).disk.counts.power }
     requires begun { worker.old.begun ≡ is_busy (St.seen store.old).work }
     requires of_node { AllOfNode (St.seen store.old).node worker.old.requests.items }
     ensures node { (St.seen store.new).node ≡ (St.seen store.old).node }
     ensures begun { worker.new.begun ≡ is_busy (St.seen store.new).work }
     ensures of_node { AllOfNode (St.seen store.new).node worker.new.requests.items }
-    ensures idle { IfOk result (λ r. IfSome r.end (λ _. worked_on (St.seen store.new).work ≡ Option.None)) }
-    ensures power { IfOk result (λ r. MatchOption r.end (IsTrue (St.seen store.new).disk.counts.power)
-        (λ e. PowerBehind e (St.seen store.new).disk.counts)) }
+    ensures idle { IfSome result.end (λ _. worked_on (St.seen store.new).work ≡ Option.None) }
+    ensures power { MatchOption result.end (IsTrue (St.seen store.new).disk.counts.power)
+        (λ e. PowerBehind e (St.seen store.new).disk.counts) }
 {
     let mut pick = None;
     for made in 0..most {
         if !worker.pending() {
-            return Ok(Steps {
+            return Steps {
                 made,
                 pick,
                 end: None,
                 process: None,
-            });
+            };
         }
-        match worker.step(alloc, store)? {
+        match worker.step(alloc, store).expect(rt, "memory") {
             StepEnd::Going { pick: found } => {
                 if found.is_some() {
                     pick = found;
                 }
             }
             StepEnd::Ended { request, end } => {
-                return Ok(Steps {
+                return Steps {
                     made: made + 1,
                     pick,
                     end: Some(end),
                     process: request.process,
-                });
+                };
             }
         }
     }
-    Ok(Steps {
+    Steps {
         made: most,
         pick,
         end: None,
         process: None,
-    })
+    }
 }
 
 /// What is kept of a Cell that holds 5, and of others.
@@ -184,43 +184,40 @@ type Row = (Act, Option<Steps>);
 
 /// The Eject of this serial asks that these bytes are kept of it.
 fn ask_put(
+    rt: &impl Abort,
     alloc: Global,
     worker: &mut Worker,
     serial: u32,
     process: u8,
     bytes: &[u8],
-) -> Result<(), Amiss>
+)
     ensures begun { worker.new.begun ≡ worker.old.begun }
     ensures of_node { (n : ℕ) → n ≡ 1 → AllOfNode n worker.old.requests.items → AllOfNode n worker.new.requests.items }
 {
-    if serial < 1 || bytes.len() > 100 {
-        return Err(Amiss::Many);
-    }
-    let items = bytes.to_vec(alloc)?;
+    assert!(rt; 1 <= serial && bytes.len() <= 100);
+    let items = bytes.to_vec(alloc).expect(rt, "memory");
     let uid = Uid {
         node: 1,
         epoch: 1,
         serial,
     };
-    worker.ask_put(uid, process, Seq { items })?;
-    Ok(())
+    worker
+        .ask_put(uid, process, Seq { items })
+        .expect(rt, "memory");
 }
 
 /// The Eject of this serial asks that nothing is kept of it.
-fn ask_delete(worker: &mut Worker, serial: u32, process: u8) -> Result<(), Amiss>
+fn ask_delete(rt: &impl Abort, worker: &mut Worker, serial: u32, process: u8)
     ensures begun { worker.new.begun ≡ worker.old.begun }
     ensures of_node { (n : ℕ) → n ≡ 1 → AllOfNode n worker.old.requests.items → AllOfNode n worker.new.requests.items }
 {
-    if serial < 1 {
-        return Err(Amiss::Many);
-    }
+    assert!(rt; 1 <= serial);
     let uid = Uid {
         node: 1,
         epoch: 1,
         serial,
     };
-    worker.ask_delete(uid, process)?;
-    Ok(())
+    worker.ask_delete(uid, process).expect(rt, "memory");
 }
 
 /// The first Eject goes.
@@ -231,14 +228,24 @@ fn drop_first(worker: &mut Worker)
     worker.drop_requests(FIRST);
 }
 
+/// The first process of the first Eject asks for so many zero bytes.
+fn ask_zeros(rt: &impl Abort, alloc: Global, worker: &mut Worker, length: u16)
+    ensures begun { worker.new.begun ≡ worker.old.begun }
+    ensures of_node { (n : ℕ) → n ≡ 1 → AllOfNode n worker.old.requests.items → AllOfNode n worker.new.requests.items }
+{
+    let items = vec![in alloc; 0u8; length as usize].expect(rt, "memory");
+    worker.ask_put(FIRST, 1, Seq { items }).expect(rt, "memory");
+}
+
 /// Asks for so many zero bytes, and makes the steps, which make so many device calls.
 fn put_zeros<St: Store>(
+    rt: &impl Abort,
     alloc: Global,
     worker: &mut Worker,
     store: &mut St,
     length: u16,
     calls: u64,
-) -> Result<Steps, Amiss>
+) -> Steps
     requires node { (St.seen store.old).node ≡ 1 }
     requires power { IsTrue (St.seen store.old).disk.counts.power }
     requires begun { worker.old.begun ≡ is_busy (St.seen store.old).work }
@@ -246,26 +253,59 @@ fn put_zeros<St: Store>(
     ensures node { (St.seen store.new).node ≡ 1 }
     ensures begun { worker.new.begun ≡ is_busy (St.seen store.new).work }
     ensures of_node { AllOfNode (St.seen store.new).node worker.new.requests.items }
-    ensures power { IfOk result (λ r. MatchOption r.end (IsTrue (St.seen store.new).disk.counts.power)
-        (λ e. PowerBehind e (St.seen store.new).disk.counts)) }
+    ensures power { MatchOption result.end (IsTrue (St.seen store.new).disk.counts.power)
+        (λ e. PowerBehind e (St.seen store.new).disk.counts) }
 {
-    let items = vec![in alloc; 0u8; length as usize]?;
-    worker.ask_put(FIRST, 1, Seq { items })?;
-    let clock = store.disk().clock();
-    let steps = step_on(alloc, worker, store, 100)?;
-    if store.disk().clock().saturating_sub(clock) != calls {
-        return Err(Amiss::Put);
+    ask_zeros(rt, alloc, worker, length);
+    let before = store.disk().clock();
+    let steps = step_on(rt, alloc, worker, store, 100);
+    let made = store.disk().clock().saturating_sub(before);
+    assert!(rt; made == calls, "{length}");
+    steps
+}
+
+/// Makes an act that is no step.
+fn ask<St: Store>(rt: &impl Abort, alloc: Global, worker: &mut Worker, store: &mut St, act: Act)
+    requires node { (St.seen store.old).node ≡ 1 }
+    requires power { IsTrue (St.seen store.old).disk.counts.power }
+    requires begun { worker.old.begun ≡ is_busy (St.seen store.old).work }
+    requires of_node { AllOfNode (St.seen store.old).node worker.old.requests.items }
+    ensures node { (St.seen store.new).node ≡ 1 }
+    ensures begun { worker.new.begun ≡ is_busy (St.seen store.new).work }
+    ensures of_node { AllOfNode (St.seen store.new).node worker.new.requests.items }
+    ensures power { IsTrue (St.seen store.new).disk.counts.power }
+{
+    match act {
+        Act::Put(serial, process, bytes) => ask_put(rt, alloc, worker, serial, process, bytes),
+        Act::Delete(serial, process) => ask_delete(rt, worker, serial, process),
+        Act::Drop => drop_first(worker),
+        Act::Arm(stop, after) => arm(store, arm_of(stop, after.max(1))),
+        _ => {}
     }
-    Ok(steps)
+}
+
+/// Whether the disk has power behind these steps.
+fn has_power(steps: &Steps) -> bool
+    ensures { (counts : Counts) → MatchOption steps.now.end (IsTrue counts.power) (λ e. PowerBehind e counts)
+        → IsTrue result → IsTrue counts.power }
+{
+    match steps.end {
+        None => true,
+        Some(StoreEnd::Done) => true,
+        Some(StoreEnd::Full) => true,
+        Some(StoreEnd::Fault) => true,
+        Some(StoreEnd::Stopped) => false,
+    }
 }
 
 /// Makes an act: the steps that it makes, and whether the disk has power.
 fn take<St: Store>(
+    rt: &impl Abort,
     alloc: Global,
     worker: &mut Worker,
     store: &mut St,
     act: Act,
-) -> Result<(Option<Steps>, bool), Amiss>
+) -> (Option<Steps>, bool)
     requires node { (St.seen store.old).node ≡ 1 }
     requires power { IsTrue (St.seen store.old).disk.counts.power }
     requires begun { worker.old.begun ≡ is_busy (St.seen store.old).work }
@@ -273,44 +313,32 @@ fn take<St: Store>(
     ensures node { (St.seen store.new).node ≡ 1 }
     ensures begun { worker.new.begun ≡ is_busy (St.seen store.new).work }
     ensures of_node { AllOfNode (St.seen store.new).node worker.new.requests.items }
-    ensures power { IfOk result (λ r. IsTrue r.1 → IsTrue (St.seen store.new).disk.counts.power) }
+    ensures power { IsTrue result.1 → IsTrue (St.seen store.new).disk.counts.power }
 {
-    let steps = match act {
-        Act::Put(serial, process, bytes) => {
-            ask_put(alloc, worker, serial, process, bytes)?;
-            return Ok((None, true));
+    match act {
+        Act::Steps(most) => {
+            let steps = step_on(rt, alloc, worker, store, most);
+            (Some(steps), has_power(&steps))
         }
-        Act::Delete(serial, process) => {
-            ask_delete(worker, serial, process)?;
-            return Ok((None, true));
+        Act::Zeros(length, calls) => {
+            let steps = put_zeros(rt, alloc, worker, store, length, calls);
+            (Some(steps), has_power(&steps))
         }
-        Act::Drop => {
-            drop_first(worker);
-            return Ok((None, true));
+        _ => {
+            ask(rt, alloc, worker, store, act);
+            (None, true)
         }
-        Act::Arm(stop, after) => {
-            arm(store, arm_of(stop, after.max(1)));
-            return Ok((None, true));
-        }
-        Act::Steps(most) => step_on(alloc, worker, store, most)?,
-        Act::Zeros(length, calls) => put_zeros(alloc, worker, store, length, calls)?,
-    };
-    match steps.end {
-        None => Ok((Some(steps), true)),
-        Some(StoreEnd::Done) => Ok((Some(steps), true)),
-        Some(StoreEnd::Full) => Ok((Some(steps), true)),
-        Some(StoreEnd::Fault) => Ok((Some(steps), true)),
-        Some(StoreEnd::Stopped) => Ok((Some(steps), false)),
     }
 }
 
 /// Makes the acts, up to the first behind which the disk has no power. Whether it has.
 fn run<St: Store>(
+    rt: &impl Abort,
     alloc: Global,
     worker: &mut Worker,
     store: &mut St,
     rows: &[Row],
-) -> Result<bool, Amiss>
+) -> bool
     requires node { (St.seen store.old).node ≡ 1 }
     requires power { IsTrue (St.seen store.old).disk.counts.power }
     requires begun { worker.old.begun ≡ is_busy (St.seen store.old).work }
@@ -318,83 +346,142 @@ fn run<St: Store>(
     ensures node { (St.seen store.new).node ≡ 1 }
     ensures begun { worker.new.begun ≡ is_busy (St.seen store.new).work }
     ensures of_node { AllOfNode (St.seen store.new).node worker.new.requests.items }
-    ensures power { IfOk result (λ up. IsTrue up → IsTrue (St.seen store.new).disk.counts.power) }
+    ensures power { IsTrue result → IsTrue (St.seen store.new).disk.counts.power }
 {
     for (place, &(act, wanted)) in rows.iter().enumerate() {
-        let (steps, up) = take(alloc, worker, store, act)?;
-        if steps != wanted {
-            return Err(Amiss::Row { place });
-        }
+        let (steps, up) = take(rt, alloc, worker, store, act);
+        assert!(rt; steps == wanted, "at {place}");
         if !up {
-            return Ok(false);
+            return false;
         }
     }
-    Ok(true)
+    true
+}
+
+/// Makes the acts, of which none is to stop the disk.
+fn run_up<St: Store>(
+    rt: &impl Abort,
+    alloc: Global,
+    worker: &mut Worker,
+    store: &mut St,
+    rows: &[Row],
+)
+    requires node { (St.seen store.old).node ≡ 1 }
+    requires power { IsTrue (St.seen store.old).disk.counts.power }
+    requires begun { worker.old.begun ≡ is_busy (St.seen store.old).work }
+    requires of_node { AllOfNode (St.seen store.old).node worker.old.requests.items }
+    ensures node { (St.seen store.new).node ≡ 1 }
+    ensures begun { worker.new.begun ≡ is_busy (St.seen store.new).work }
+    ensures of_node { AllOfNode (St.seen store.new).node worker.new.requests.items }
+    ensures power { IsTrue (St.seen store.new).disk.counts.power }
+{
+    let is_up = run(rt, alloc, worker, store, rows);
+    assert!(rt; is_up, "the disk stopped");
+}
+
+/// A blank disk.
+fn blank_disk(rt: &impl Abort, alloc: Global) -> Box<SimDisk> {
+    Box::new(alloc, blank(alloc).expect(rt, "memory")).expect(rt, "memory")
 }
 
 /// Boots a disk, which is to succeed.
 fn boot_up<St: Store>(
+    rt: &impl Abort,
     alloc: Global,
     disk: St::Device,
     noted: Option<Doubt>,
-) -> Result<(St, BootNote), Amiss>
+) -> (St, BootNote)
 where
     St::Device: Drop,
-    ensures node { IfOk result (λ r. (St.seen r.0).node ≡ 1) }
-    ensures idle { IfOk result (λ r. (St.seen r.0).work ≡ Idle) }
-    ensures power { IfOk result (λ r. IsTrue (St.seen r.0).disk.counts.power) }
+    ensures node { (St.seen result.0).node ≡ 1 }
+    ensures idle { (St.seen result.0).work ≡ Idle }
+    ensures power { IsTrue (St.seen result.0).disk.counts.power }
 {
     match boot(alloc, disk, 1, noted) {
-        Ok((store, note)) => Ok((store, note)),
-        Err((_, _)) => Err(Amiss::Boot),
+        Ok(booted) => booted,
+        Err(_) => panic!(rt; "no boot"),
     }
 }
 
 /// Boots a disk, and makes these acts.
 fn begin<St: Store + Drop>(
+    rt: &impl Abort,
     alloc: Global,
-    disk: St::Device,
+    disk: Box<St::Device>,
     rows: &[Row],
-) -> Result<(St, Worker), Amiss>
+) -> (St, Box<Worker>)
 where
     St::Device: Drop,
-    ensures node { IfOk result (λ r. (St.seen r.0).node ≡ 1) }
-    ensures begun { IfOk result (λ r. r.1.begun ≡ is_busy (St.seen r.0).work) }
-    ensures of_node { IfOk result (λ r. AllOfNode (St.seen r.0).node r.1.requests.items) }
-    ensures power { IfOk result (λ r. IsTrue (St.seen r.0).disk.counts.power) }
+    ensures node { (St.seen result.0).node ≡ 1 }
+    ensures begun { result.1.value.begun ≡ is_busy (St.seen result.0).work }
+    ensures of_node { AllOfNode (St.seen result.0).node result.1.value.requests.items }
+    ensures power { IsTrue (St.seen result.0).disk.counts.power }
 {
-    let (mut store, _) = boot_up::<St>(alloc, disk, None)?;
-    let mut worker = Worker::new(alloc);
-    if !run(alloc, &mut worker, &mut store, rows)? {
-        return Err(Amiss::Down);
-    }
-    Ok((store, worker))
+    let (mut store, _) = boot_up::<St>(rt, alloc, Box::into_inner(disk), None);
+    let mut worker = Box::new(alloc, Worker::new(alloc)).expect(rt, "memory");
+    run_up(rt, alloc, &mut worker, &mut store, rows);
+    (store, worker)
 }
 
-/// The integer of a Cell that starts from what is kept, or None where nothing is.
-fn number_of<St: Store>(
+/// How an activation ended.
+#[derive(Clone, Copy, PartialEq, Eq)]
+enum Came {
+    Number { n: i64 },
+    Gone,
+    Fault,
+    Damaged,
+    Stopped,
+}
+
+/// The one integer of these values.
+fn the_number(rt: &impl Abort, items: &Items) -> i64 {
+    match items.values.as_slice() {
+        [Value::Int { n }] => *n,
+        _ => panic!(rt; "no one integer"),
+    }
+}
+
+/// Activates an Eject.
+fn activate<St: Store>(
+    rt: &impl Abort,
     alloc: Global,
     store: &mut St,
     uid: Uid,
-) -> Result<(Option<i64>, Option<Pick>), Amiss>
+) -> (Came, Option<Pick>)
     requires power { IsTrue (St.seen store.old).disk.counts.power }
     requires idle { worked_on (St.seen store.old).work ≡ Option.None }
-    ensures power { IfOk result (λ _. IsTrue (St.seen store.new).disk.counts.power) }
+    ensures power { result.0 ≢ Stopped → IsTrue (St.seen store.new).disk.counts.power }
     ensures idle { worked_on (St.seen store.new).work ≡ Option.None }
 {
-    let (start, pick) = start_from(alloc, store, &Cells, uid)?;
-    match start {
-        Start::Values { start } => match start.values.as_slice() {
-            [Value::Int { n }] => Ok((Some(*n), pick)),
-            _ => Err(Amiss::Start),
-        },
-        Start::Gone => Ok((None, pick)),
-        _ => Err(Amiss::Start),
+    let (start, pick) = start_from(alloc, store, &Cells, uid).expect(rt, "memory");
+    match &start {
+        Start::Values { start } => {
+            let n = the_number(rt, start);
+            (Came::Number { n }, pick)
+        }
+        Start::Gone => (Came::Gone, pick),
+        Start::Fault => (Came::Fault, pick),
+        Start::Damaged => (Came::Damaged, pick),
+        Start::Stopped => (Came::Stopped, pick),
+    }
+}
+
+/// The integer of a Cell that starts from what is kept, or None where nothing is.
+fn number_of<St: Store>(rt: &impl Abort, alloc: Global, store: &mut St, uid: Uid) -> Option<i64>
+    requires power { IsTrue (St.seen store.old).disk.counts.power }
+    requires idle { worked_on (St.seen store.old).work ≡ Option.None }
+    ensures power { IsTrue (St.seen store.new).disk.counts.power }
+    ensures idle { worked_on (St.seen store.new).work ≡ Option.None }
+{
+    match activate(rt, alloc, store, uid).0 {
+        Came::Number { n } => Some(n),
+        Came::Gone => None,
+        _ => panic!(rt; "what is kept is not read"),
     }
 }
 
 /// What a boot finds: the epoch, the pick, and the integers of both Cells.
-#[derive(Clone, Copy, Debug, PartialEq, Eq)]
+#[derive(Clone, Copy, PartialEq, Eq)]
 struct Found {
     epoch: u32,
     pick: Option<Pick>,
@@ -404,22 +491,23 @@ struct Found {
 
 /// Boots a disk again.
 fn reboot<St: Store + Drop>(
+    rt: &impl Abort,
     alloc: Global,
     disk: St::Device,
     noted: Option<Doubt>,
-) -> Result<Found, Amiss>
+) -> Found
 where
     St::Device: Drop,
 {
-    let (mut store, note) = boot_up::<St>(alloc, disk, noted)?;
-    let (first, _) = number_of(alloc, &mut store, FIRST)?;
-    let (second, _) = number_of(alloc, &mut store, SECOND)?;
-    Ok(Found {
+    let (mut store, note) = boot_up::<St>(rt, alloc, disk, noted);
+    let first = number_of(rt, alloc, &mut store, FIRST);
+    let second = number_of(rt, alloc, &mut store, SECOND);
+    Found {
         epoch: note.epoch,
         pick: note.pick,
         first,
         second,
-    })
+    }
 }
 
 /// Steps that settle nothing, how the first request ended, if it did, and the process that it answers.
@@ -458,25 +546,26 @@ const TWO_CELLS: &[Row] = &[
 
 /// Two Cells are kept on a disk, these acts made, and the power cut: how often the disk stopped and failed, and what a boot finds.
 fn cut_on<St: Store + Drop>(
+    rt: &impl Abort,
     alloc: Global,
-    disk: St::Device,
+    disk: Box<St::Device>,
     rows: &[Row],
     mode: ImageMode,
-) -> Result<(u64, u64, Found), Amiss>
+) -> (u64, u64, Found)
 where
     St::Device: Drop,
 {
-    let (mut store, mut worker) = begin::<St>(alloc, disk, TWO_CELLS)?;
-    run(alloc, &mut worker, &mut store, rows)?;
+    let (mut store, mut worker) = begin::<St>(rt, alloc, disk, TWO_CELLS);
+    run(rt, alloc, &mut worker, &mut store, rows);
     let (disk, noted) = crash(store, mode);
     let stops = disk.stops();
     let faults = disk.faults();
-    Ok((stops, faults, reboot::<St>(alloc, disk, noted)?))
+    (stops, faults, reboot::<St>(rt, alloc, disk, noted))
 }
 
 /// The same of a blank disk.
-fn cut(alloc: Global, rows: &[Row], mode: ImageMode) -> Result<(u64, u64, Found), Amiss> {
-    cut_on::<Log>(alloc, blank(alloc)?, rows, mode)
+fn cut(rt: &impl Abort, alloc: Global, rows: &[Row], mode: ImageMode) -> (u64, u64, Found) {
+    cut_on::<Log>(rt, alloc, blank_disk(rt, alloc), rows, mode)
 }
 
 /// The first Cell is to hold 9, or to be removed.
@@ -508,11 +597,12 @@ fn found_of(removal: bool, made: bool, doubtful: bool) -> Found {
 
 /// Whether a change that a power cut ends behind so many of its device calls is found as it has to be.
 fn is_found_behind(
+    rt: &impl Abort,
     alloc: Global,
     mode: ImageMode,
     calls: u32,
     removal: bool,
-) -> Result<bool, Amiss> {
+) -> bool {
     let made = if calls == JOB {
         steps_of(calls, Some(StoreEnd::Done), Some(3))
     } else {
@@ -521,31 +611,31 @@ fn is_found_behind(
     let rows = [change(removal), (Act::Steps(calls), made)];
     let doubtful = 0 < calls && calls < JOB;
     let found = found_of(removal, is_found(calls, mode), doubtful);
-    Ok(cut(alloc, &rows, mode)? == (0, 0, found))
+    cut(rt, alloc, &rows, mode) == (0, 0, found)
 }
 
 #[test]
-fn a_change_that_a_crash_cuts(rt: HostRuntime) -> Result<(), Fail> {
+fn a_change_that_a_crash_cuts(rt: HostRuntime) {
     for &mode in MODES {
         for calls in 0..=JOB {
             for &removal in &[false, true] {
                 assert!(rt;
-                    is_found_behind(rt.alloc(), mode, calls, removal)?,
+                    is_found_behind(&rt, rt.alloc(), mode, calls, removal),
                     "after {calls}"
                 );
             }
         }
     }
-    Ok(())
 }
 
 /// Whether a change that a stop in one of its device calls ends is found as it has to be.
 fn outlives_a_stop(
+    rt: &impl Abort,
     alloc: Global,
     mode: ImageMode,
     after: u32,
     removal: bool,
-) -> Result<bool, Amiss> {
+) -> bool {
     let rows = [
         change(removal),
         (Act::Arm(Some(mode), after), None),
@@ -555,22 +645,21 @@ fn outlives_a_stop(
         ),
     ];
     let found = found_of(removal, 3 <= after && mode == KEEP, true);
-    Ok(cut(alloc, &rows, mode)? == (1, 0, found))
+    cut(rt, alloc, &rows, mode) == (1, 0, found)
 }
 
 #[test]
-fn a_stop_in_each_device_call(rt: HostRuntime) -> Result<(), Fail> {
+fn a_stop_in_each_device_call(rt: HostRuntime) {
     for &mode in MODES {
         for after in 1..=JOB {
             for &removal in &[false, true] {
                 assert!(rt;
-                    outlives_a_stop(rt.alloc(), mode, after, removal)?,
+                    outlives_a_stop(&rt, rt.alloc(), mode, after, removal),
                     "in {after}"
                 );
             }
         }
     }
-    Ok(())
 }
 
 /// A fault in a device call of the settling, and the request that fails with it; but for the third time nothing is done.
@@ -597,7 +686,7 @@ fn found_behind(after: u32, fails: bool) -> Found {
 }
 
 /// Whether faults in a device call of a change, and in one of the settling behind it, lose nothing that is kept.
-fn outlives_faults(alloc: Global, after: u32, settling: u32) -> Result<bool, Amiss> {
+fn outlives_faults(rt: &impl Abort, alloc: Global, after: u32, settling: u32) -> bool {
     let fails = settling < 3;
     let (again, refused) = second_fault(settling);
     let settled = Steps {
@@ -620,21 +709,20 @@ fn outlives_faults(alloc: Global, after: u32, settling: u32) -> Result<bool, Ami
         (Act::Steps(100), Some(settled)),
     ];
     let faults = if fails { 2 } else { 1 };
-    Ok(cut(alloc, &rows, LOSE)? == (0, faults, found_behind(after, fails)))
+    cut(rt, alloc, &rows, LOSE) == (0, faults, found_behind(after, fails))
 }
 
 // The settling of the next request fails too, but for the third time.
 #[test]
-fn a_fault_in_each_device_call(rt: HostRuntime) -> Result<(), Fail> {
+fn a_fault_in_each_device_call(rt: HostRuntime) {
     for after in 1..=JOB {
         for settling in 1..=3 {
             assert!(rt;
-                outlives_faults(rt.alloc(), after, settling)?,
+                outlives_faults(&rt, rt.alloc(), after, settling),
                 "in {after}, {settling}"
             );
         }
     }
-    Ok(())
 }
 
 /// The first Cell is to hold 9, the second 8, and last the first is to be removed; but it goes at once, or in the first request.
@@ -723,7 +811,7 @@ const GOES: &[(&[Row], i64)] = &[
 ];
 
 #[test]
-fn requests_of_an_eject_that_goes(rt: HostRuntime) -> Result<(), Fail> {
+fn requests_of_an_eject_that_goes(rt: HostRuntime) {
     for &(rows, first) in GOES {
         let found = Found {
             epoch: 2,
@@ -731,9 +819,8 @@ fn requests_of_an_eject_that_goes(rt: HostRuntime) -> Result<(), Fail> {
             first: Some(first),
             second: Some(8),
         };
-        assert!(rt; cut(rt.alloc(), rows, LOSE)? == (0, 0, found));
+        assert!(rt; cut(&rt, rt.alloc(), rows, LOSE) == (0, 0, found));
     }
-    Ok(())
 }
 
 // A removal of what is not kept makes no device call, and needs no room.
@@ -778,90 +865,53 @@ const ROOM: &[Row] = &[
 ];
 
 /// Boots a disk, and makes these acts.
-fn begins_on<St: Store + Drop>(alloc: Global, disk: St::Device, rows: &[Row]) -> Result<(), Amiss>
+fn begins_on<St: Store + Drop>(rt: &impl Abort, alloc: Global, disk: Box<St::Device>, rows: &[Row])
 where
     St::Device: Drop,
 {
-    begin::<St>(alloc, disk, rows)?;
-    Ok(())
+    begin::<St>(rt, alloc, disk, rows);
 }
 
 /// The same with a blank disk.
-fn begins(alloc: Global, rows: &[Row]) -> Result<(), Amiss> {
-    begins_on::<Log>(alloc, blank(alloc)?, rows)
+fn begins(rt: &impl Abort, alloc: Global, rows: &[Row]) {
+    begins_on::<Log>(rt, alloc, blank_disk(rt, alloc), rows);
 }
 
 #[test]
-fn a_request_without_room(rt: HostRuntime) -> Result<(), Fail> {
-    begins(rt.alloc(), ROOM)?;
-    Ok(())
-}
-
-/// How an activation ended.
-#[derive(Clone, Copy, Debug, PartialEq, Eq)]
-enum Came {
-    Number { n: i64 },
-    Gone,
-    Fault,
-    Damaged,
-    Stopped,
-}
-
-/// Activates an Eject.
-fn activate<St: Store>(
-    alloc: Global,
-    store: &mut St,
-    uid: Uid,
-) -> Result<(Came, Option<Pick>), Amiss>
-    requires power { IsTrue (St.seen store.old).disk.counts.power }
-    requires idle { worked_on (St.seen store.old).work ≡ Option.None }
-{
-    let (start, pick) = start_from(alloc, store, &Cells, uid)?;
-    let came = match start {
-        Start::Values { start } => match start.values.as_slice() {
-            [Value::Int { n }] => Came::Number { n: *n },
-            _ => return Err(Amiss::Start),
-        },
-        Start::Gone => Came::Gone,
-        Start::Fault => Came::Fault,
-        Start::Damaged => Came::Damaged,
-        Start::Stopped => Came::Stopped,
-    };
-    Ok((came, pick))
+fn a_request_without_room(rt: HostRuntime) {
+    begins(&rt, rt.alloc(), ROOM);
 }
 
 /// Makes acts on a disk, of which none is to stop it, and activates an Eject.
 fn activated_on<St: Store + Drop>(
+    rt: &impl Abort,
     alloc: Global,
-    disk: St::Device,
+    disk: Box<St::Device>,
     first: &[Row],
     second: &[Row],
     third: &[Row],
     uid: Uid,
-) -> Result<(Came, Option<Pick>), Amiss>
+) -> (Came, Option<Pick>)
 where
     St::Device: Drop,
 {
-    let (mut store, mut worker) = begin::<St>(alloc, disk, first)?;
-    let is_up = run(alloc, &mut worker, &mut store, second)?;
-    if !is_up || !run(alloc, &mut worker, &mut store, third)? {
-        return Err(Amiss::Down);
-    }
-    if store.working_on().is_some() {
-        return Err(Amiss::Put);
-    }
-    activate(alloc, &mut store, uid)
+    let (mut store, mut worker) = begin::<St>(rt, alloc, disk, first);
+    run_up(rt, alloc, &mut worker, &mut store, second);
+    run_up(rt, alloc, &mut worker, &mut store, third);
+    assert!(rt; store.working_on().is_none());
+    activate(rt, alloc, &mut store, uid)
 }
 
 /// The same on a blank disk.
 fn activated(
+    rt: &impl Abort,
     alloc: Global,
     first: &[Row],
     second: &[Row],
     third: &[Row],
     uid: Uid,
-) -> Result<(Came, Option<Pick>), Amiss> {
-    activated_on::<Log>(alloc, blank(alloc)?, first, second, third, uid)
+) -> (Came, Option<Pick>) {
+    activated_on::<Log>(rt, alloc, blank_disk(rt, alloc), first, second, third, uid)
 }
 
 // Bytes that spell nothing, a type that is not there, another version, and no value.
@@ -905,7 +955,7 @@ const KEPT: &[(&[u8], Came)] = &[
 ];
 
 /// Whether an Eject of which these bytes are kept comes so.
-fn comes(alloc: Global, bytes: &'static [u8], wanted: Came) -> Result<bool, Amiss> {
+fn comes(rt: &impl Abort, alloc: Global, bytes: &'static [u8], wanted: Came) -> bool {
     let rows = [
         (Act::Put(1, 1, bytes), None),
         (
@@ -913,15 +963,14 @@ fn comes(alloc: Global, bytes: &'static [u8], wanted: Came) -> Result<bool, Amis
             steps_of(JOB, Some(StoreEnd::Done), Some(1)),
         ),
     ];
-    Ok(activated(alloc, &rows, &[], &[], FIRST)? == (wanted, None))
+    activated(rt, alloc, &rows, &[], &[], FIRST) == (wanted, None)
 }
 
 #[test]
-fn a_start_by_what_is_kept(rt: HostRuntime) -> Result<(), Fail> {
+fn a_start_by_what_is_kept(rt: HostRuntime) {
     for (i, &(bytes, wanted)) in KEPT.iter().enumerate() {
-        assert!(rt; comes(rt.alloc(), bytes, wanted)?, "at {i}");
+        assert!(rt; comes(&rt, rt.alloc(), bytes, wanted), "at {i}");
     }
-    Ok(())
 }
 
 // Of the sync and the read of the settling, and the read of what is kept. Of an Eject of which nothing is kept nothing is read.
@@ -970,10 +1019,11 @@ fn wanted_behind(failed: u32, end: Option<Came>, settled: bool) -> (Came, Option
 
 /// Whether an Eject comes as its row says behind a put that failed in a device call.
 fn wakes(
+    rt: &impl Abort,
     alloc: Global,
     failed: u32,
     &(trouble, serial, end, settled): &Wake,
-) -> Result<bool, Amiss> {
+) -> bool {
     let rows = [
         (Act::Put(1, 3, CELL_9), None),
         (Act::Arm(None, failed), None),
@@ -982,161 +1032,189 @@ fn wakes(
             steps_of(failed, Some(StoreEnd::Fault), Some(3)),
         ),
     ];
-    let found = activated(alloc, TWO_CELLS, &rows, trouble, uid_of(serial))?;
-    Ok(found == wanted_behind(failed, end, settled))
+    let found = activated(rt, alloc, TWO_CELLS, &rows, trouble, uid_of(serial));
+    found == wanted_behind(failed, end, settled)
 }
 
 #[test]
-fn a_start_behind_a_settling(rt: HostRuntime) -> Result<(), Fail> {
+fn a_start_behind_a_settling(rt: HostRuntime) {
     for failed in 1..=JOB {
         for (i, wake) in WAKES.iter().enumerate() {
-            assert!(rt; wakes(rt.alloc(), failed, wake)?, "{failed}, {i}");
+            assert!(rt; wakes(&rt, rt.alloc(), failed, wake), "{failed}, {i}");
         }
     }
-    Ok(())
 }
 
 /// How a boot goes while a device call is armed, and a boot behind it.
 fn two_boots_on<St: Store + Drop>(
+    rt: &impl Abort,
     alloc: Global,
-    mut disk: St::Device,
+    mut disk: Box<St::Device>,
     stop: Option<ImageMode>,
     after: u32,
-) -> Result<(BootFall, BootNote), Amiss>
+) -> (BootFall, BootNote)
 where
     St::Device: Drop,
     requires { 1 ≤ after }
 {
     disk.arm(arm_of(stop, after));
-    match boot::<St>(alloc, disk, 1, None) {
-        Ok((_, _)) => Err(Amiss::Boot),
-        Err((disk, fall)) => {
-            let (_, note) = boot_up::<St>(alloc, disk, fall.doubt)?;
-            Ok((fall, note))
-        }
-    }
+    let refused = boot::<St>(alloc, Box::into_inner(disk), 1, None);
+    let (disk, fall) = refused.err().expect(rt, "no fault");
+    let (_, note) = boot_up::<St>(rt, alloc, disk, fall.doubt);
+    (fall, note)
 }
 
 /// The same of a blank disk.
 fn two_boots(
+    rt: &impl Abort,
     alloc: Global,
     stop: Option<ImageMode>,
     after: u32,
-) -> Result<(BootFall, BootNote), Amiss>
+) -> (BootFall, BootNote)
     requires { 1 ≤ after }
 {
-    two_boots_on::<Log>(alloc, blank(alloc)?, stop, after)
+    two_boots_on::<Log>(rt, alloc, blank_disk(rt, alloc), stop, after)
 }
 
 /// In which mode a disk stops, if it does not fail; how a boot ends in which it does; and from which device call on the next boot
 /// finds what it began.
-const FALLS: &[(Option<ImageMode>, BootEnd, u32)] = &[
+type Fall = (Option<ImageMode>, BootEnd, u32);
+
+const FALLS: &[Fall] = &[
     (None, BootEnd::DiskFault, 11),
     (Some(KEEP), BootEnd::Stop, 10),
     (Some(LOSE), BootEnd::Stop, 12),
 ];
 
+/// Whether a boot ended so, with a doubt if it began a put.
+fn is_fall(fall: &BootFall, end: BootEnd, began: bool) -> bool {
+    let note = BootNote {
+        epoch: began as u32,
+        pick: None,
+        began,
+    };
+    fall.end == Some(end) && fall.note == note && fall.doubt.is_some() == began
+}
+
+/// Whether the next boot tells what became of the put that was begun.
+fn is_next(note: &BootNote, began: bool, is_kept: bool) -> bool {
+    let found = if is_kept { Pick::New } else { Pick::Old };
+    let pick = if began { Some(found) } else { None };
+    note.epoch == 1 + is_kept as u32 && note.pick == pick
+}
+
+/// Whether a boot that is refused a device call, and the next one, go as they have to.
+fn falls(rt: &impl Abort, alloc: Global, after: u32, row: &Fall) -> bool
+    requires { 1 ≤ after }
+{
+    let &(stop, end, kept) = row;
+    let (fall, note) = two_boots(rt, alloc, stop, after);
+    let began = OPENING < after;
+    is_fall(&fall, end, began) && is_next(&note, began, kept <= after)
+}
+
 #[test]
-fn a_boot_that_is_refused_a_device_call(rt: HostRuntime) -> Result<(), Fail> {
+fn a_boot_that_is_refused_a_device_call(rt: HostRuntime) {
     for after in 1..=OPENING + JOB {
-        for &(stop, end, kept) in FALLS {
-            let (fall, note) = two_boots(rt.alloc(), stop, after)?;
-            let began = OPENING < after;
-            let is_kept = kept <= after;
-            let found = if is_kept { Pick::New } else { Pick::Old };
-            let first = BootNote {
-                epoch: began as u32,
-                pick: None,
-                began,
-            };
-            let pick = if began { Some(found) } else { None };
-            assert_eq!(rt;
-                (
-                    (fall.end, fall.note, fall.doubt.is_some()),
-                    (note.epoch, note.pick)
-                ),
-                ((Some(end), first, began), (1 + is_kept as u32, pick)),
-                "{after}"
-            );
+        for row in FALLS {
+            assert!(rt; falls(&rt, rt.alloc(), after, row), "{after}");
         }
     }
-    Ok(())
 }
 
 /// How a boot of a disk ends.
-fn end_of_boot_on<St: Store + Drop>(alloc: Global, disk: St::Device) -> Option<BootEnd>
+fn end_of_boot_on<St: Store + Drop>(alloc: Global, disk: Box<St::Device>) -> Option<BootEnd>
 where
     St::Device: Drop,
 {
-    match boot::<St>(alloc, disk, 1, None) {
-        Ok((_, _)) => Some(BootEnd::Up),
+    match boot::<St>(alloc, Box::into_inner(disk), 1, None) {
+        Ok(_) => Some(BootEnd::Up),
         Err((_, fall)) => fall.end,
     }
 }
 
-/// How a boot of a disk with this image ends.
-fn end_of_boot(alloc: Global, image: Vec<u8>) -> Result<Option<BootEnd>, Amiss>
+/// A disk with this image.
+fn disk_of(rt: &impl Abort, alloc: Global, image: Vec<u8>) -> Box<SimDisk>
     requires { length image.items < 2 ^ 32 }
 {
-    Ok(end_of_boot_on::<Log>(alloc, SimDisk::of(alloc, image)?))
+    let disk = SimDisk::of(alloc, image).expect(rt, "memory");
+    Box::new(alloc, disk).expect(rt, "memory")
+}
+
+/// A boot of a disk with the image of this row ends so.
+fn boots_to(rt: &impl Abort, alloc: Global, row: usize, image: Vec<u8>, end: BootEnd)
+    requires { length image.items < 2 ^ 32 }
+{
+    let found = end_of_boot_on::<Log>(alloc, disk_of(rt, alloc, image));
+    assert!(rt; found == Some(end), "{row}");
 }
 
 /// Boots a disk, and gives it back.
-fn booted<St: Store + Drop>(alloc: Global, disk: St::Device) -> Result<St::Device, Amiss>
+fn booted<St: Store + Drop>(
+    rt: &impl Abort,
+    alloc: Global,
+    disk: Box<St::Device>,
+) -> Box<St::Device>
 where
     St::Device: Drop,
 {
-    let (store, _) = boot_up::<St>(alloc, disk, None)?;
-    Ok(store.close())
+    let (store, _) = boot_up::<St>(rt, alloc, Box::into_inner(disk), None);
+    Box::new(alloc, store.close()).expect(rt, "memory")
 }
 
-/// A blank disk that was booted.
-fn booted_blank(alloc: Global) -> Result<SimDisk, Amiss> {
-    booted::<Log>(alloc, blank(alloc)?)
+/// The image of a blank disk that was booted.
+fn image_of_booted(rt: &impl Abort, alloc: Global) -> Vec<u8> {
+    let disk = booted::<Log>(rt, alloc, blank_disk(rt, alloc));
+    disk.image(alloc).expect(rt, "memory")
 }
 
-/// Its image, with this byte in some places.
-fn booted_image(alloc: Global, from: usize, to: usize, byte: u8) -> Result<Vec<u8>, Amiss>
-    ensures { IfOk result (λ image. length image.items < 2 ^ 32) }
-{
-    let mut image = booted_blank(alloc)?.image(alloc)?;
+/// Puts a byte in some places.
+fn fill(image: &mut [u8], from: usize, to: usize, byte: u8) {
     for place in from..to {
         if let Some(found) = image.get_mut(place) {
             *found = byte;
         }
     }
-    if image.len() != 4096 {
-        return Err(Amiss::Boot);
-    }
-    Ok(image)
 }
 
+/// That image, with this byte in some places.
+fn booted_image(rt: &impl Abort, alloc: Global, from: usize, to: usize, byte: u8) -> Vec<u8>
+    ensures { length result.items < 2 ^ 32 }
+{
+    let mut image = image_of_booted(rt, alloc);
+    fill(&mut image, from, to, byte);
+    assert!(rt; image.len() == 4096);
+    image
+}
+
+/// Another epoch and the last one; a record of another node and one of no kind; and one of no length: the places, the byte that
+/// is put there, and how a boot ends.
+const BYTES: &[(usize, usize, u8, BootEnd)] = &[
+    (34, 35, 9, BootEnd::Up),
+    (31, 35, 255, BootEnd::EpochsSpent),
+    (21, 22, 2, BootEnd::Damaged { place: 16 }),
+    (30, 31, 7, BootEnd::Damaged { place: 16 }),
+    (35, 36, 225, BootEnd::Damaged { place: 35 }),
+];
+
+/// A size that the layout does not allow, one without room for an epoch, and one with it; and how a boot ends.
+const SIZES: &[(u8, BootEnd)] = &[
+    (16, BootEnd::Damaged { place: 0 }),
+    (35, BootEnd::Full),
+    (36, BootEnd::Up),
+];
+
 #[test]
-fn a_boot_by_what_the_disk_holds(rt: HostRuntime) -> Result<(), Fail> {
+fn a_boot_by_what_the_disk_holds(rt: HostRuntime) {
     let alloc = rt.alloc();
-
-    // Another epoch and the last one; a record of another node and one of no kind; and one of no length.
-    for &(from, to, byte, end) in &[
-        (34, 35, 9, BootEnd::Up),
-        (31, 35, 255, BootEnd::EpochsSpent),
-        (21, 22, 2, BootEnd::Damaged { place: 16 }),
-        (30, 31, 7, BootEnd::Damaged { place: 16 }),
-        (35, 36, 225, BootEnd::Damaged { place: 35 }),
-    ] {
-        let image = booted_image(alloc, from, to, byte)?;
-        assert_eq!(rt; end_of_boot(alloc, image)?, Some(end), "{from}");
+    for &(from, to, byte, end) in BYTES {
+        let image = booted_image(&rt, alloc, from, to, byte);
+        boots_to(&rt, alloc, from, image, end);
     }
-
-    // A size that the layout does not allow, and one without room for an epoch.
-    for &(size, end) in &[
-        (16u8, BootEnd::Damaged { place: 0 }),
-        (35, BootEnd::Full),
-        (36, BootEnd::Up),
-    ] {
-        let image = vec![in alloc; 0u8; size as usize]?;
-        assert_eq!(rt; end_of_boot(alloc, image)?, Some(end), "{size}");
+    for &(size, end) in SIZES {
+        let image = vec![in alloc; 0u8; size as usize].expect(&rt, "memory");
+        boots_to(&rt, alloc, size as usize, image, end);
     }
-    Ok(())
 }
 
 #[test]

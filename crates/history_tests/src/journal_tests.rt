@@ -1,11 +1,12 @@
 use crate::common::text;
 use capability::{Seq, Uid};
 use eden_disk::{Arm, ImageMode};
-use eden_value::{Items, Status, Value};
+use eden_value::{Items, Status, Txt, Value};
 use epl_syntax::FaultCause;
 use journal::*;
 use passive_store::Pick;
-use std::alloc::{AllocError, Global};
+use std::alloc::Global;
+use std::process::Abort;
 
 const CELL: Uid = Uid {
     node: 1,
@@ -45,25 +46,32 @@ type Touched = Option<(u64, &'static [u8])>;
 /// In which modes an entry has its lines.
 type Modes = &'static [(Mode, bool)];
 
-fn names(alloc: Global, one: &[u8]) -> Result<Names, AllocError> {
-    Ok(Seq {
-        items: vec![in alloc; text(alloc, one)?]?,
-    })
+/// A text of these bytes.
+fn txt(rt: &impl Abort, alloc: Global, bytes: &[u8]) -> Txt {
+    text(alloc, bytes).expect(rt, "memory")
 }
 
-fn reply(alloc: Global) -> Result<Event, AllocError> {
+/// The one name that these bytes are.
+fn names(rt: &impl Abort, alloc: Global, one: &[u8]) -> Names {
+    Seq {
+        items: vec![in alloc; txt(rt, alloc, one)].expect(rt, "memory"),
+    }
+}
+
+/// A reply of an integer and a text.
+fn reply(rt: &impl Abort, alloc: Global) -> Event {
     let text_value = Value::Text {
-        text: text(alloc, b"a\"b")?,
+        text: txt(rt, alloc, b"a\"b"),
     };
-    let values = vec![in alloc; Value::Int { n: -5 }, text_value]?;
-    Ok(Event::Reply {
+    let values = vec![in alloc; Value::Int { n: -5 }, text_value].expect(rt, "memory");
+    Event::Reply {
         call: 2,
         from: 1,
         to: 0,
-        name: Some(text(alloc, b"b")?),
+        name: Some(txt(rt, alloc, b"b")),
         status: Status::Ok,
         results: Items { values },
-    })
+    }
 }
 
 fn turn_of(told: Told) -> Event {
@@ -93,84 +101,94 @@ fn turn_of(told: Told) -> Event {
     }
 }
 
-fn with_name(alloc: Global, told: Told) -> Result<Event, AllocError> {
+fn with_name(rt: &impl Abort, alloc: Global, told: Told) -> Event {
     match told {
-        Told::Made => Ok(Event::Made {
-            name: text(alloc, b"x")?,
+        Told::Made => Event::Made {
+            name: txt(rt, alloc, b"x"),
             status: Status::TooMany,
             uid: None,
-        }),
-        Told::Void => Ok(Event::Void {
-            name: text(alloc, b"x")?,
-        }),
-        Told::Asked(call, name, at_once) => Ok(Event::Asked {
+        },
+        Told::Void => Event::Void {
+            name: txt(rt, alloc, b"x"),
+        },
+        Told::Asked(call, name, at_once) => Event::Asked {
             call,
-            name: text(alloc, name)?,
+            name: txt(rt, alloc, name),
             at_once,
-        }),
-        Told::Left => Ok(Event::Left {
-            names: names(alloc, b"f")?,
-        }),
-        Told::Reply => reply(alloc),
-        _ => Ok(turn_of(told)),
+        },
+        Told::Left => Event::Left {
+            names: names(rt, alloc, b"f"),
+        },
+        Told::Reply => reply(rt, alloc),
+        _ => turn_of(told),
     }
 }
 
-fn event(alloc: Global, told: Told) -> Result<Event, AllocError> {
+fn event(rt: &impl Abort, alloc: Global, told: Told) -> Event {
     match told {
-        Told::Boot(end) => Ok(Event::Boot {
+        Told::Boot(end) => Event::Boot {
             node: 1,
             epoch: 1,
             end,
             pick: None,
             began: true,
-        }),
-        Told::Crash(node) => Ok(Event::Crash { node }),
-        Told::Still => Ok(Event::Still { node: 1, up: true }),
-        Told::Cut => Ok(Event::Link {
+        },
+        Told::Crash(node) => Event::Crash { node },
+        Told::Still => Event::Still { node: 1, up: true },
+        Told::Cut => Event::Link {
             a: 1,
             b: 2,
             joined: false,
-        }),
-        Told::Armed => Ok(Event::Armed {
+        },
+        Told::Armed => Event::Armed {
             node: 1,
             what: STOP,
-        }),
-        Told::Request(refused) => Ok(Event::Request {
+        },
+        Told::Request(refused) => Event::Request {
             call: 1,
             from: 0,
             to: 1,
             refused,
-        }),
-        _ => with_name(alloc, told),
+        },
+        _ => with_name(rt, alloc, told),
     }
 }
 
-fn entry(alloc: Global, told: Told, touched: Touched) -> Result<Entry, AllocError> {
-    let event = event(alloc, told)?;
+fn entry(rt: &impl Abort, alloc: Global, told: Told, touched: Touched) -> Entry {
+    let event = event(rt, alloc, told);
     match touched {
-        None => Ok(Entry {
+        None => Entry {
             event,
             node: 0,
             clock: 0,
             broken: Seq {
                 items: Vec::new(alloc),
             },
-        }),
-        Some((clock, broken)) => Ok(Entry {
+        },
+        Some((clock, broken)) => Entry {
             event,
             node: 1,
             clock,
-            broken: names(alloc, broken)?,
-        }),
+            broken: names(rt, alloc, broken),
+        },
     }
 }
 
-// Whether the entry has these lines in a mode, behind what was there.
-fn has_lines(alloc: Global, mode: Mode, entry: &Entry, wanted: &[u8]) -> Result<bool, AllocError> {
-    let mut out = Vec::from_slice(alloc, b"a\n")?;
-    line(alloc, mode, entry, &mut out)?;
-    Ok(out.starts_with(b"a\n") && out.ends_with(wanted) && out.len() == wanted.len() + 2)
+/// An entry that is easily let go.
+fn boxed_entry(rt: &impl Abort, alloc: Global, told: Told, touched: Touched) -> Box<Entry> {
+    Box::new(alloc, entry(rt, alloc, told, touched)).expect(rt, "memory")
+}
+
+/// A line that stands before those of a test.
+fn begun(rt: &impl Abort, alloc: Global) -> Vec<u8> {
+    Vec::from_slice(alloc, b"a\n").expect(rt, "memory")
+}
+
+/// Whether the entry has these lines in a mode, behind what was there.
+fn has_lines(rt: &impl Abort, alloc: Global, mode: Mode, entry: &Entry, wanted: &[u8]) -> bool {
+    let mut out = begun(rt, alloc);
+    line(alloc, mode, entry, &mut out).expect(rt, "memory");
+    out.starts_with(b"a\n") && out.ends_with(wanted) && out.len() == wanted.len() + 2
 }
 
 /// The lines of commands.
@@ -305,17 +323,24 @@ const LINES: &[(Modes, Told, Touched, &[u8])] = &[
     ),
 ];
 
-#[test]
-fn entries_have_their_lines(rt: HostRuntime) -> Result<(), AllocError> {
-    let alloc = rt.alloc();
-    for &(modes, told, touched, lines) in LINES {
-        let entry = entry(alloc, told, touched)?;
-        for &(mode, shown) in modes {
-            let wanted: &[u8] = if shown { lines } else { b"" };
-            assert!(rt; has_lines(alloc, mode, &entry, wanted)?, "{lines:?}");
+/// Whether the entry has these lines in the modes in which it has any, and none in the others.
+fn has_lines_in(rt: &impl Abort, alloc: Global, entry: &Entry, modes: Modes, lines: &[u8]) -> bool {
+    for &(mode, shown) in modes {
+        let wanted: &[u8] = if shown { lines } else { b"" };
+        if !has_lines(rt, alloc, mode, entry, wanted) {
+            return false;
         }
     }
-    Ok(())
+    true
+}
+
+#[test]
+fn entries_have_their_lines(rt: HostRuntime) {
+    let alloc = rt.alloc();
+    for (place, &(modes, told, touched, lines)) in LINES.iter().enumerate() {
+        let entry = boxed_entry(&rt, alloc, told, touched);
+        assert!(rt; has_lines_in(&rt, alloc, &entry, modes, lines), "{place}");
+    }
 }
 
 const HISTORY: &[(Told, Touched)] = &[
@@ -326,18 +351,22 @@ const HISTORY: &[(Told, Touched)] = &[
     (Told::Asked(3, b"d", None), None),
 ];
 
-#[test]
-fn a_summary_counts_calls_and_turns(rt: HostRuntime) -> Result<(), AllocError> {
-    let alloc = rt.alloc();
+/// The entries of that history.
+fn history(rt: &impl Abort, alloc: Global) -> Box<History> {
     let mut entries = Vec::new(alloc);
     for &(told, touched) in HISTORY {
-        entries.push(entry(alloc, told, touched)?)?;
+        entries
+            .push(entry(rt, alloc, told, touched))
+            .expect(rt, "memory");
     }
-    let mut out = Vec::from_slice(alloc, b"a\n")?;
-    summary(alloc, &History { entries }, &mut out)?;
-    assert_eq!(rt;
-        out.as_slice(),
-        b"a\ncalls 3 ok 0 refused 2 open 1 turns 1\n".as_slice()
-    );
-    Ok(())
+    Box::new(alloc, History { entries }).expect(rt, "memory")
+}
+
+#[test]
+fn a_summary_counts_calls_and_turns(rt: HostRuntime) {
+    let alloc = rt.alloc();
+    let mut out = begun(&rt, alloc);
+    summary(alloc, &history(&rt, alloc), &mut out).expect(&rt, "memory");
+    let wanted = b"a\ncalls 3 ok 0 refused 2 open 1 turns 1\n".as_slice();
+    assert!(rt; out.as_slice() == wanted);
 }

@@ -1,6 +1,6 @@
 //! Bodies of an operation, by the rule that they break at the mark `|`.
-use crate::marked::{Table, first_other};
-use epl_syntax::{ParseRefusal, Rule};
+use crate::marked::{Table, all_are_answered, types_with_older};
+use epl_syntax::Rule;
 
 /// Before a body stand these declarations, in an operation that returns one integer.
 const FRAME: &[u8] =
@@ -197,8 +197,7 @@ const TABLES: &[Table] = &[
 ];
 
 #[test]
-fn bodies_keep_or_break_the_rules(rt: HostRuntime) -> Result<(), ParseRefusal> {
-    let other = first_other(rt.alloc(), true, [FRAME, FRAME_END], TABLES)?;
-    assert_eq!(rt; other, None);
-    Ok(())
+fn bodies_keep_or_break_the_rules(rt: HostRuntime) {
+    let types = types_with_older(&rt, rt.alloc());
+    all_are_answered(&rt, rt.alloc(), &types, [FRAME, FRAME_END], TABLES);
 }

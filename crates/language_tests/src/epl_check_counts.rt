@@ -1,8 +1,9 @@
 //! Types of many parts: one part too many breaks a rule, and a long text is checked in time.
-use crate::marked::is_answered;
+use crate::marked::{is_answered, types_with_older};
 use crate::texts::{Part, built, once};
-use epl_syntax::{ParseRefusal, Rule};
+use epl_syntax::{Rule, Types};
 use std::alloc::Global;
+use std::process::Abort;
 
 /// How often a part may stand in a type, what stands before, the part, what stands between two of
 /// them, and what stands behind. In the part `#` stands for a number, and `|` is the mark.
@@ -112,24 +113,42 @@ const PARTS: &[Row] = &[
     ),
 ];
 
+/// Whether a type with so many parts keeps the rules, or breaks this one at the last of them.
+fn is_answered_with(
+    rt: &impl Abort,
+    alloc: Global,
+    types: &Types,
+    [head, part, between, tail]: [&[u8]; 4],
+    count: u32,
+    rule: Option<Rule>,
+) -> bool {
+    let text = built(
+        rt,
+        alloc,
+        &[once(head), (between, part, 0, count), once(tail)],
+    );
+    is_answered(rt, alloc, types, rule, &text)
+}
+
 /// Whether a type with so many parts keeps the rules, and in one with one more the last breaks one.
-fn is_limit(alloc: Global, &(most, texts): &Row) -> Result<bool, ParseRefusal> {
-    let [head, part, between, tail] = texts;
-    for (rule, count) in [(None, most), (Some(Rule::BadLimit), most.saturating_add(1))] {
-        let text = built(alloc, &[once(head), (between, part, 0, count), once(tail)])?;
-        if !is_answered(alloc, true, rule, &text)? {
-            return Ok(false);
-        }
-    }
-    Ok(true)
+fn is_limit(rt: &impl Abort, alloc: Global, types: &Types, &(most, texts): &Row) -> bool {
+    is_answered_with(rt, alloc, types, texts, most, None)
+        && is_answered_with(
+            rt,
+            alloc,
+            types,
+            texts,
+            most.saturating_add(1),
+            Some(Rule::BadLimit),
+        )
 }
 
 #[test]
-fn each_count_has_its_limit(rt: HostRuntime) -> Result<(), ParseRefusal> {
+fn each_count_has_its_limit(rt: HostRuntime) {
+    let types = types_with_older(&rt, rt.alloc());
     for row in PARTS {
-        assert!(rt; is_limit(rt.alloc(), row)?, "{}", row.0);
+        assert!(rt; is_limit(&rt, rt.alloc(), &types, row), "{}", row.0);
     }
-    Ok(())
 }
 
 /// The parts of a long text, how many bytes it has with its marks, and the rule that it breaks.
@@ -195,12 +214,16 @@ const LONG: &[Long] = &[
     ),
 ];
 
+/// Whether a long text has so many bytes, and keeps the rules or breaks this one at its mark.
+fn is_checked(rt: &impl Abort, alloc: Global, types: &Types, &(parts, bytes, rule): &Long) -> bool {
+    let text = built(rt, alloc, parts);
+    text.len() == bytes && is_answered(rt, alloc, types, rule, &text)
+}
+
 #[test]
-fn long_types_are_checked(rt: HostRuntime) -> Result<(), ParseRefusal> {
-    for &(parts, bytes, rule) in LONG {
-        let text = built(rt.alloc(), parts)?;
-        assert_eq!(rt; text.len(), bytes);
-        assert!(rt; is_answered(rt.alloc(), true, rule, &text)?, "{bytes}");
+fn long_types_are_checked(rt: HostRuntime) {
+    let types = types_with_older(&rt, rt.alloc());
+    for row in LONG {
+        assert!(rt; is_checked(&rt, rt.alloc(), &types, row), "{}", row.1);
     }
-    Ok(())
 }

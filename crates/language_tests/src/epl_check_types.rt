@@ -1,7 +1,7 @@
 //! Whole types, by the rule that they break at the mark `|`.
-use crate::marked::{Table, first_other};
+use crate::marked::{Table, all_are_answered, native_types, types_with_older};
 use crate::texts::{BOXED, GATE, HALF, HOARD, MAILBOX, ONCE, PEER, SPIN, TALLY, TALLY_2};
-use epl_syntax::{ParseRefusal, Rule};
+use epl_syntax::Rule;
 
 /// The examples of the manual.
 const EXAMPLES: &[&[u8]] = &[
@@ -157,16 +157,16 @@ const TABLES: &[Table] = &[
 ];
 
 #[test]
-fn types_keep_or_break_the_rules(rt: HostRuntime) -> Result<(), ParseRefusal> {
-    let other = first_other(rt.alloc(), true, [b"", b""], TABLES)?;
-    assert_eq!(rt; other, None);
-    Ok(())
+fn types_keep_or_break_the_rules(rt: HostRuntime) {
+    let types = types_with_older(&rt, rt.alloc());
+    all_are_answered(&rt, rt.alloc(), &types, [b"", b""], TABLES);
 }
 
+/// Without that type before it, its name is not known.
+const ALONE: &[Table] = &[(Some(Rule::UnknownName), YOUNGER)];
+
 #[test]
-fn types_before_are_seen(rt: HostRuntime) -> Result<(), ParseRefusal> {
-    let tables: &[Table] = &[(Some(Rule::UnknownName), YOUNGER)];
-    let other = first_other(rt.alloc(), false, [b"", b""], tables)?;
-    assert_eq!(rt; other, None);
-    Ok(())
+fn types_before_are_seen(rt: HostRuntime) {
+    let types = native_types(&rt, rt.alloc());
+    all_are_answered(&rt, rt.alloc(), &types, [b"", b""], ALONE);
 }

@@ -1,9 +1,10 @@
 use crate::texts::{
     BOXED, GATE, HALF, HOARD, MAILBOX, ONCE, PEER, Part, SPIN, TALLY_2, built, once, parsed,
+    type_of,
 };
 use epl_syntax::{ParseRefusal, Program, Stmt};
 use std::alloc::Global;
-use std::test::Fail;
+use std::process::Abort;
 
 /// How many variables, classes, monitors, conditions, operations, processes and upgrades a type has.
 fn counts(p: &Program) -> [usize; 7] {
@@ -18,26 +19,40 @@ fn counts(p: &Program) -> [usize; 7] {
     ]
 }
 
+/// A text, its version, and its counts.
+const READ: &[(&[u8], Option<u64>, [usize; 7])] = &[
+    (GATE, None, [1, 2, 1, 1, 2, 0, 0]),
+    (PEER, None, [0, 1, 0, 0, 1, 0, 0]),
+    (MAILBOX, None, [1, 1, 0, 0, 2, 0, 0]),
+    (HALF, None, [0, 1, 0, 0, 1, 0, 0]),
+    (SPIN, None, [0, 1, 0, 0, 1, 0, 0]),
+    (HOARD, None, [2, 1, 0, 0, 2, 0, 0]),
+    (ONCE, None, [1, 1, 1, 0, 1, 1, 0]),
+    (BOXED, None, [1, 1, 0, 0, 2, 0, 0]),
+    (TALLY_2, Some(2), [2, 1, 0, 0, 1, 0, 1]),
+    (b"edentype A endtype", None, [0, 0, 0, 0, 0, 0, 0]),
+];
+
+/// Whether the type of a text has this version and these counts.
+fn is_read_as(
+    rt: &impl Abort,
+    alloc: Global,
+    text: &[u8],
+    version: Option<u64>,
+    wanted: [usize; 7],
+) -> bool {
+    let p = type_of(rt, alloc, text);
+    p.version.as_ref().map(|number| number.n) == version && counts(&p) == wanted
+}
+
 #[test]
-fn the_types_of_the_manual_are_read(rt: HostRuntime) -> Result<(), Fail> {
-    let types: &[(&[u8], Option<u64>, [usize; 7])] = &[
-        (GATE, None, [1, 2, 1, 1, 2, 0, 0]),
-        (PEER, None, [0, 1, 0, 0, 1, 0, 0]),
-        (MAILBOX, None, [1, 1, 0, 0, 2, 0, 0]),
-        (HALF, None, [0, 1, 0, 0, 1, 0, 0]),
-        (SPIN, None, [0, 1, 0, 0, 1, 0, 0]),
-        (HOARD, None, [2, 1, 0, 0, 2, 0, 0]),
-        (ONCE, None, [1, 1, 1, 0, 1, 1, 0]),
-        (BOXED, None, [1, 1, 0, 0, 2, 0, 0]),
-        (TALLY_2, Some(2), [2, 1, 0, 0, 1, 0, 1]),
-        (b"edentype A endtype", None, [0, 0, 0, 0, 0, 0, 0]),
-    ];
-    for &(text, version, wanted) in types {
-        let p = parsed(rt.alloc(), text)?;
-        assert_eq!(rt; p.version.as_ref().map(|number| number.n), version);
-        assert_eq!(rt; counts(&p), wanted);
+fn the_types_of_the_manual_are_read(rt: HostRuntime) {
+    for (i, &(text, version, wanted)) in READ.iter().enumerate() {
+        assert!(rt;
+            is_read_as(&rt, rt.alloc(), text, version, wanted),
+            "at {i}"
+        );
     }
-    Ok(())
 }
 
 /// A text, and the place of the first token that does not go on.
@@ -84,17 +99,23 @@ const BAD: &[(&[u8], u32)] = &[
 ];
 
 /// A front, a part, a back, how often the part may stand there, and the place past it.
-const DEEP: &[(&[u8], &[u8], &[u8], u32, u32)] = &[
+type Deep = ([&'static [u8]; 3], u32, u32);
+
+const DEEP: &[Deep] = &[
     // statements: the last of 33 is too deep
-    (b"edentype A process P ", b"with M do ", b"", 32, 341),
+    ([b"edentype A process P ", b"with M do ", b""], 32, 341),
     // kinds: 31 lists of int, and the int of 32 lists is too deep
-    (b"edentype A durable n : ", b"list of ", b"int = ", 31, 279),
+    (
+        [b"edentype A durable n : ", b"list of ", b"int = "],
+        31,
+        279,
+    ),
     // expressions: what stands in 32 parentheses
-    (b"edentype A process P x := ", b"(", b"1", 31, 58),
+    ([b"edentype A process P x := ", b"(", b"1"], 31, 58),
     // operators: the last of 32
-    (b"edentype A process P x := 1", b"+1", b"", 31, 89),
+    ([b"edentype A process P x := 1", b"+1", b""], 31, 89),
     // operators in front: the last of 32
-    (b"edentype A process P x := ", b"-", b"1", 31, 57),
+    ([b"edentype A process P x := ", b"-", b"1"], 31, 57),
 ];
 
 /// Why a text is refused.
@@ -106,29 +127,45 @@ fn refusal(alloc: Global, text: &[u8]) -> Option<ParseRefusal> {
 fn a_text_is_refused_at_the_first_token_that_does_not_go_on(rt: HostRuntime) {
     for &(text, place) in BAD {
         let wanted = Some(ParseRefusal::BadToken { place });
-        assert_eq!(rt; refusal(rt.alloc(), text), wanted);
+        assert!(rt; refusal(rt.alloc(), text) == wanted, "at {place}");
     }
 }
 
+/// Why a text is refused in which a part stands so many times between a front and a back, and how long it is.
+fn refusal_with(
+    rt: &impl Abort,
+    alloc: Global,
+    [front, part, back]: [&[u8]; 3],
+    count: u32,
+) -> (Option<ParseRefusal>, usize) {
+    let text = built(rt, alloc, &[once(front), (b"", part, 0, count), once(back)]);
+    (refusal(alloc, &text), text.len())
+}
+
+/// Whether a text with so many parts breaks off, and is refused at its end.
+fn is_refused_at_its_end(rt: &impl Abort, alloc: Global, texts: [&[u8]; 3], count: u32) -> bool {
+    match refusal_with(rt, alloc, texts, count) {
+        (Some(ParseRefusal::BadToken { place }), length) => place as usize == length,
+        _ => false,
+    }
+}
+
+/// Whether so many parts fit, and with one more a token is too deep at this place.
+fn is_deepest(rt: &impl Abort, alloc: Global, &(texts, most, place): &Deep) -> bool {
+    let (refused, _) = refusal_with(rt, alloc, texts, most.saturating_add(1));
+    refused == Some(ParseRefusal::TooDeep { place })
+        && is_refused_at_its_end(rt, alloc, texts, most)
+}
+
 #[test]
-fn a_token_is_at_most_32_deep(rt: HostRuntime) -> Result<(), Fail> {
-    for &(front, part, back, most, place) in DEEP {
-        // The text breaks off, and is refused at its end where no token is too deep.
-        let text = built(rt.alloc(), &[once(front), (b"", part, 0, most), once(back)])?;
-        match refusal(rt.alloc(), &text) {
-            Some(ParseRefusal::BadToken { place }) => assert_eq!(rt; place as usize, text.len()),
-            _ => panic!(rt; "at {place}"),
-        }
-        let past = most.saturating_add(1);
-        let text = built(rt.alloc(), &[once(front), (b"", part, 0, past), once(back)])?;
-        let wanted = Some(ParseRefusal::TooDeep { place });
-        assert_eq!(rt; refusal(rt.alloc(), &text), wanted);
+fn a_token_is_at_most_32_deep(rt: HostRuntime) {
+    for row in DEEP {
+        assert!(rt; is_deepest(&rt, rt.alloc(), row), "at {}", row.2);
     }
     // the first refusal is answered
     let text: &[u8] = b"edentype A process P x := (((((((((((((((((((((((((((((((((((((((() 1 ~";
     let wanted = Some(ParseRefusal::TooDeep { place: 58 });
-    assert_eq!(rt; refusal(rt.alloc(), text), wanted);
-    Ok(())
+    assert!(rt; refusal(rt.alloc(), text) == wanted);
 }
 
 /// The place of an `if` that begins these statements, its statements, and those behind its `else`.
@@ -144,31 +181,35 @@ fn first_if(statements: &[Stmt]) -> Option<(u32, &[Stmt], &[Stmt])> {
     }
 }
 
-#[test]
-fn else_goes_with_the_nearest_if(rt: HostRuntime) -> Result<(), Fail> {
-    let text = b"edentype A process P if a then if b then yield else yield end end end endtype";
-    let p = parsed(rt.alloc(), text)?;
-    let process = p.processes.first().ok_or("no process")?;
-    let mut statements = process.body.as_slice();
-    // The place of each `if`, and how many statements stand behind its `else`.
-    for &wanted in &[(21, 0), (31, 1)] {
-        let (place, so, otherwise) = first_if(statements).ok_or("no if")?;
-        assert_eq!(rt; (place, otherwise.len()), wanted);
-        statements = so;
-    }
-    Ok(())
+/// The statements of the first declared process.
+fn first_body(program: &Program) -> Option<&[Stmt]> {
+    Some(&program.processes.first()?.body)
 }
 
 #[test]
-fn a_text_of_a_mebibyte_is_read(rt: HostRuntime) -> Result<(), Fail> {
-    let parts: &[Part<'_>] = &[
-        (b"", b"edentype A process P ", 0, 1),
-        (b"", b"x := x + 1\n", 0, 95_000),
-        (b"", b"end endtype", 0, 1),
-    ];
-    let text = built(rt.alloc(), parts)?;
-    let p = parsed(rt.alloc(), &text)?;
-    let process = p.processes.first().ok_or("no process")?;
-    assert_eq!(rt; process.body.len(), 95_000);
-    Ok(())
+fn else_goes_with_the_nearest_if(rt: HostRuntime) {
+    let text = b"edentype A process P if a then if b then yield else yield end end end endtype";
+    let p = type_of(&rt, rt.alloc(), text);
+    let mut statements = first_body(&p).expect(&rt, "a process");
+    // The place of each `if`, and how many statements stand behind its `else`.
+    for &wanted in &[(21, 0), (31, 1)] {
+        let (place, so, otherwise) = first_if(statements).expect(&rt, "an `if`");
+        assert!(rt; (place, otherwise.len()) == wanted);
+        statements = so;
+    }
+}
+
+/// A text of a mebibyte.
+const LONG: &[Part<'static>] = &[
+    (b"", b"edentype A process P ", 0, 1),
+    (b"", b"x := x + 1\n", 0, 95_000),
+    (b"", b"end endtype", 0, 1),
+];
+
+#[test]
+fn a_text_of_a_mebibyte_is_read(rt: HostRuntime) {
+    let text = built(&rt, rt.alloc(), LONG);
+    let p = type_of(&rt, rt.alloc(), &text);
+    let statements = first_body(&p).expect(&rt, "a process");
+    assert!(rt; statements.len() == 95_000);
 }

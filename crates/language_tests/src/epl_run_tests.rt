@@ -1,13 +1,14 @@
 ghost use Rattle.std.specs.Prelude.{◌≡◌, true};
 ghost use Rattle.epl_syntax.specs.Bindings.{is_resolved};
 
-use crate::sample::{ME, TURNED, text};
+use crate::sample::{ME, TURNED, only, text};
 use crate::texts::resolved;
 use eden_codec::Rep;
 use eden_value::{Items, Status, Value};
 use epl_run::*;
-use epl_syntax::{Answer, Effect, FaultCause, ParseRefusal, Program};
-use std::alloc::{AllocError, Global};
+use epl_syntax::{Answer, Effect, FaultCause, Program};
+use std::alloc::Global;
+use std::process::Abort;
 
 /// The word for what a turn came to, and its number: a result, a monitor, a condition or a cause.
 type Seen = (&'static str, i64);
@@ -36,58 +37,62 @@ fn seen_in(effect: &Effect) -> Seen {
     }
 }
 
-/// The list of this number.
-fn only(alloc: Global, n: i64) -> Result<Items, AllocError> {
-    let values = vec![in alloc; Value::Int { n }]?;
-    Ok(Items { values })
+/// Whether a turn came to this.
+fn is_seen(effect: &Effect, wanted: Seen) -> bool {
+    seen_in(effect) == wanted
 }
 
 /// The numbers 7 and 0, and the list of the number 4.
-fn start(alloc: Global) -> Result<Items, AllocError> {
-    let mut vars = only(alloc, 7)?;
-    vars.values.push(Value::Int { n: 0 })?;
-    let items = only(alloc, 4)?;
-    vars.values.push(Value::List { items })?;
-    Ok(vars)
+fn start(rt: &impl Abort, alloc: Global) -> Items {
+    let mut vars = only(rt, alloc, 7);
+    vars.values.push(Value::Int { n: 0 }).expect(rt, "memory");
+    let items = only(rt, alloc, 4);
+    vars.values.push(Value::List { items }).expect(rt, "memory");
+    vars
+}
+
+/// The beginning of the one declared process.
+fn declared_process(rt: &impl Abort, alloc: Global, program: &Program) -> Box<Rest> {
+    let mut begun = processes(alloc, program).expect(rt, "memory");
+    assert!(rt; begun.len() == 1);
+    let rest = begun.pop().expect(rt, "a process");
+    Box::new(alloc, rest).expect(rt, "memory")
 }
 
 /// The beginning of an operation with the argument 5, or without a name, of the declared process.
-fn beginning(alloc: Global, program: &Program, operation: &[u8]) -> Result<Rest, AllocError> {
+fn beginning(rt: &impl Abort, alloc: Global, program: &Program, operation: &[u8]) -> Box<Rest> {
     if operation.is_empty() {
-        let mut begun = processes(alloc, program)?;
-        return match begun.pop() {
-            Some(rest) if begun.is_empty() => Ok(rest),
-            _ => Err(AllocError),
-        };
+        return declared_process(rt, alloc, program);
     }
-    let operation = text(alloc, operation)?;
-    begin(alloc, program, &operation, &only(alloc, 5)?)
+    let operation = text(rt, alloc, operation);
+    let rest = begin(alloc, program, &operation, &only(rt, alloc, 5)).expect(rt, "memory");
+    Box::new(alloc, rest).expect(rt, "memory")
 }
 
 /// One turn of a type whose parts can be counted.
 fn next(
+    rt: &impl Abort,
     alloc: Global,
     program: &Program,
     vars: &mut Items,
     rest: &mut Rest,
     answer: Answer,
-) -> Result<Effect, AllocError>
+) -> Box<Effect>
     requires { is_resolved program.now ≡ true }
 {
-    if !is_counted(program) {
-        return Err(AllocError);
-    }
-    turn(alloc, program, vars, rest, answer, ME)
+    assert!(rt; is_counted(program));
+    let effect = turn(alloc, program, vars, rest, answer, ME).expect(rt, "memory");
+    Box::new(alloc, effect).expect(rt, "memory")
 }
 
 /// The answer to an effect: an invocation has this status and the result 9.
-fn answer_to(alloc: Global, effect: &Effect, status: Status) -> Result<Answer, AllocError> {
+fn answer_to(rt: &impl Abort, alloc: Global, effect: &Effect, status: Status) -> Answer {
     match effect {
-        Effect::Invoke { .. } => {
-            let results = only(alloc, 9)?;
-            Ok(Answer::Reply { status, results })
-        }
-        _ => Ok(Answer::Go),
+        Effect::Invoke { .. } => Answer::Reply {
+            status,
+            results: only(rt, alloc, 9),
+        },
+        _ => Answer::Go,
     }
 }
 
@@ -136,28 +141,42 @@ const TURNS: &[Row] = &[
     (b"", Status::Ok, &[("yields", 0), ("ends", 0)], 7, 0),
 ];
 
-#[test]
-fn processes_take_their_turns(rt: HostRuntime) -> Result<(), ParseRefusal> {
-    let program = resolved(rt.alloc(), TURNED)?;
-    for &(operation, status, effects, n, m) in TURNS {
-        let mut vars = start(rt.alloc())?;
-        let mut rest = beginning(rt.alloc(), &program, operation)?;
-        let mut answer = Answer::Go;
-        for &wanted in effects {
-            let effect = next(rt.alloc(), &program, &mut vars, &mut rest, answer)?;
-            assert_eq!(rt; seen_in(&effect), wanted);
-            answer = answer_to(rt.alloc(), &effect, status)?;
-        }
-        let numbers = (integer_at(&vars.values, 0), integer_at(&vars.values, 1));
-        assert_eq!(rt; numbers, (Some(n), Some(m)));
-        assert_eq!(rt; vars.values.len(), 3);
+/// An operation or a process takes its turns, which come to their effects.
+fn take_turns(rt: &impl Abort, alloc: Global, program: &Program, vars: &mut Items, row: &Row)
+    requires { is_resolved program.now ≡ true }
+{
+    let &(operation, status, effects, _, _) = row;
+    let mut rest = beginning(rt, alloc, program, operation);
+    let mut answer = Answer::Go;
+    for &wanted in effects {
+        let effect = next(rt, alloc, program, vars, &mut rest, answer);
+        assert!(rt; is_seen(&effect, wanted), "{}", wanted.0);
+        answer = answer_to(rt, alloc, &effect, status);
     }
-    Ok(())
 }
 
-/// The version and the one number that were kept, and how many values the upgrade makes of it, with
-/// the number that is the first.
-const KEPT: &[(u16, i64, Option<(usize, Option<i64>)>)] = &[
+/// Whether there are three values, the first of them these numbers.
+fn begin_with(values: &[Value], n: i64, m: i64) -> bool {
+    integer_at(values, 0) == Some(n) && integer_at(values, 1) == Some(m) && values.len() == 3
+}
+
+#[test]
+fn processes_take_their_turns(rt: HostRuntime) {
+    let program = resolved(&rt, rt.alloc(), TURNED);
+    for row in TURNS {
+        let mut vars = start(&rt, rt.alloc());
+        take_turns(&rt, rt.alloc(), &program, &mut vars, row);
+        assert!(rt; begin_with(&vars.values, row.3, row.4), "{}", row.3);
+    }
+}
+
+/// How many values an upgrade makes, and the number that is the first.
+type Made = Option<(usize, Option<i64>)>;
+
+/// The version and the one number that were kept, and what the upgrade makes of it.
+type Upgrade = (u16, i64, Made);
+
+const KEPT: &[Upgrade] = &[
     (1, 8, Some((3, Some(4)))),
     // it divides by 0
     (2, 8, None),
@@ -166,31 +185,33 @@ const KEPT: &[(u16, i64, Option<(usize, Option<i64>)>)] = &[
     (4, 8, None),
 ];
 
-/// The values that an upgrade makes of what was kept: how many, and the number that is the first.
-fn made_of(
-    alloc: Global,
-    program: &Program,
-    version: u16,
-    n: i64,
-) -> Result<Option<(usize, Option<i64>)>, AllocError>
+/// What an upgrade makes of what was kept.
+fn made_of(rt: &impl Abort, alloc: Global, program: &Program, version: u16, n: i64) -> Made
     requires { is_resolved program.now ≡ true }
 {
     let kept = Rep {
-        type_name: text(alloc, b"A")?,
+        type_name: text(rt, alloc, b"A"),
         version,
-        values: only(alloc, n)?,
+        values: only(rt, alloc, n),
     };
-    match upgraded(alloc, program, &kept, ME)? {
-        Some(vars) => Ok(Some((vars.values.len(), integer_at(&vars.values, 0)))),
-        None => Ok(None),
+    match &upgraded(alloc, program, &kept, ME).expect(rt, "memory") {
+        Some(vars) => Some((vars.values.len(), integer_at(&vars.values, 0))),
+        None => None,
     }
 }
 
+/// Whether the upgrade makes this of what was kept.
+fn is_made(rt: &impl Abort, alloc: Global, program: &Program, row: &Upgrade) -> bool
+    requires { is_resolved program.now ≡ true }
+{
+    let &(version, n, wanted) = row;
+    made_of(rt, alloc, program, version, n) == wanted
+}
+
 #[test]
-fn an_upgrade_makes_values_of_what_was_kept(rt: HostRuntime) -> Result<(), ParseRefusal> {
-    let program = resolved(rt.alloc(), TURNED)?;
-    for &(version, n, wanted) in KEPT {
-        assert_eq!(rt; made_of(rt.alloc(), &program, version, n)?, wanted);
+fn an_upgrade_makes_values_of_what_was_kept(rt: HostRuntime) {
+    let program = resolved(&rt, rt.alloc(), TURNED);
+    for row in KEPT {
+        assert!(rt; is_made(&rt, rt.alloc(), &program, row), "{}", row.0);
     }
-    Ok(())
 }

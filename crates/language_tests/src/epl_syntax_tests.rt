@@ -1,6 +1,7 @@
 use crate::texts::{built, once};
 use epl_syntax::*;
-use std::alloc::{AllocError, Global};
+use std::alloc::Global;
+use std::process::Abort;
 
 /// The tokens of a text that is not too long for a test.
 fn read(alloc: Global, text: &[u8]) -> Result<Vec<Token>, ParseRefusal> {
@@ -8,6 +9,11 @@ fn read(alloc: Global, text: &[u8]) -> Result<Vec<Token>, ParseRefusal> {
         return Err(ParseRefusal::OutOfMemory);
     }
     tokens(alloc, text)
+}
+
+/// The tokens of a text that has nothing else.
+fn tokens_of(rt: &impl Abort, alloc: Global, text: &[u8]) -> Vec<Token> {
+    read(alloc, text).expect(rt, "tokens")
 }
 
 /// What tokens have to be, and where each begins and ends.
@@ -56,25 +62,23 @@ fn are_spans(found: &[Token], wanted: Spans) -> bool {
 }
 
 #[test]
-fn tokens_have_their_spans(rt: HostRuntime) -> Result<(), ParseRefusal> {
-    for &(text, wanted) in SPANS {
-        let found = read(rt.alloc(), text)?;
-        assert!(rt; are_spans(&found, wanted));
+fn tokens_have_their_spans(rt: HostRuntime) {
+    for (i, &(text, wanted)) in SPANS.iter().enumerate() {
+        let found = tokens_of(&rt, rt.alloc(), text);
+        assert!(rt; are_spans(&found, wanted), "at {i}");
     }
-    Ok(())
 }
 
 const WORDS: &[u8] =
     b"edentype endtype version class limit monitor condition operation needs returns process durable working var upgrade from end int bool text cap list of true false none if then else while do with wait signal yield deactivate checkpoint destroy create invoke self status gives return or and not mod size str put cut part restrict";
 
 #[test]
-fn every_word_is_a_word(rt: HostRuntime) -> Result<(), ParseRefusal> {
-    let found = read(rt.alloc(), WORDS)?;
-    assert_eq!(rt; found.len(), 54);
+fn every_word_is_a_word(rt: HostRuntime) {
+    let found = tokens_of(&rt, rt.alloc(), WORDS);
+    assert!(rt; found.len() == 54);
     for token in &found {
         assert!(rt; matches!(token.kind, TokenKind::Word { .. }));
     }
-    Ok(())
 }
 
 /// A text, and the place where no token begins.
@@ -98,17 +102,24 @@ fn refusal(alloc: Global, text: &[u8]) -> Option<ParseRefusal> {
     read(alloc, text).err()
 }
 
+/// Why a text of so many backslashes between its quotes is refused.
+fn refusal_with(rt: &impl Abort, alloc: Global, backslashes: u32) -> Option<ParseRefusal> {
+    let quote = once(b"\"");
+    let text = built(rt, alloc, &[quote, (b"", b"\\", 0, backslashes), quote]);
+    refusal(alloc, &text)
+}
+
+/// Whether a text is refused at this place, or where there is no place, read.
+fn is_refused_at(alloc: Global, text: &[u8], end: Option<u32>) -> bool {
+    refusal(alloc, text) == end.map(|place| ParseRefusal::BadToken { place })
+}
+
 #[test]
-fn a_text_is_refused_where_no_token_begins(rt: HostRuntime) -> Result<(), AllocError> {
-    for &(text, end) in ENDS {
-        let wanted = end.map(|place| ParseRefusal::BadToken { place });
-        assert_eq!(rt; refusal(rt.alloc(), text), wanted);
+fn a_text_is_refused_where_no_token_begins(rt: HostRuntime) {
+    for (i, &(text, end)) in ENDS.iter().enumerate() {
+        assert!(rt; is_refused_at(rt.alloc(), text, end), "at {i}");
     }
     // A text stands for at most 1,024 bytes. Each two backslashes stand for one.
-    for &(backslashes, is_read) in &[(2048, true), (2050, false)] {
-        let quote = once(b"\"");
-        let text = built(rt.alloc(), &[quote, (b"", b"\\", 0, backslashes), quote])?;
-        assert_eq!(rt; refusal(rt.alloc(), &text).is_none(), is_read);
-    }
-    Ok(())
+    assert!(rt; refusal_with(&rt, rt.alloc(), 2048).is_none());
+    assert!(rt; refusal_with(&rt, rt.alloc(), 2050).is_some());
 }

@@ -1,6 +1,8 @@
-use eden_value::Txt;
-use epl_syntax::*;
-use std::alloc::AllocError;
+use crate::marked::native_types;
+use crate::sample::text;
+use epl_syntax::{Native, Types};
+use std::alloc::Global;
+use std::process::Abort;
 
 const NAMES: &[(&[u8], Option<usize>)] = &[
     (b"Cell", Some(0)),
@@ -16,20 +18,33 @@ const PLACES: &[(usize, Option<Native>)] = &[
     (8, None),
 ];
 
-#[test]
-fn every_script_has_the_native_types(rt: HostRuntime) -> Result<(), AllocError> {
-    let types = Types::native(rt.alloc())?;
-    for &(name, place) in NAMES {
-        let bytes = Vec::from_slice(rt.alloc(), name)?;
-        let name = Txt { bytes };
-        assert_eq!(rt;
-            (types.has(&name), types.find(&name)),
-            (place.is_some(), place)
+/// Whether the type of this name is at this place, or where there is no place, no type has the name.
+fn is_found(
+    rt: &impl Abort,
+    alloc: Global,
+    types: &Types,
+    name: &[u8],
+    place: Option<usize>,
+) -> bool {
+    let name = text(rt, alloc, name);
+    types.has(&name) == place.is_some() && types.find(&name) == place
+}
+
+/// Each of these places has its native type, and none that is declared.
+fn are_places(rt: &impl Abort, types: &Types) {
+    for &(place, native) in PLACES {
+        assert!(rt;
+            types.native_at(place) == native && types.declared_at(place).is_none(),
+            "{place}"
         );
     }
-    for &(place, native) in PLACES {
-        assert_eq!(rt; types.native_at(place), native);
-        assert!(rt; types.declared_at(place).is_none());
+}
+
+#[test]
+fn every_script_has_the_native_types(rt: HostRuntime) {
+    let types = native_types(&rt, rt.alloc());
+    for (i, &(name, place)) in NAMES.iter().enumerate() {
+        assert!(rt; is_found(&rt, rt.alloc(), &types, name, place), "at {i}");
     }
-    Ok(())
+    are_places(&rt, &types);
 }

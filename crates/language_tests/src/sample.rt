@@ -1,8 +1,9 @@
 //! Types whose bodies the tests run.
 use capability::Uid;
-use eden_value::Txt;
+use eden_value::{Items, Txt, Value};
 use epl_syntax::Name;
-use std::alloc::{AllocError, Global};
+use std::alloc::Global;
+use std::process::Abort;
 
 /// The Eject of which they are.
 pub(crate) const ME: Uid = Uid {
@@ -33,13 +34,19 @@ pub(crate) const TURNED: &[u8] = b"edentype A version 3 \
     upgrade from 1 (old : int) n := old / 2 end \
     upgrade from 2 (old : int) n := old / 0 end endtype";
 
-pub(crate) fn text(alloc: Global, bytes: &[u8]) -> Result<Txt, AllocError> {
-    let bytes = Vec::from_slice(alloc, bytes)?;
-    Ok(Txt { bytes })
+pub(crate) fn text(rt: &impl Abort, alloc: Global, bytes: &[u8]) -> Txt {
+    let bytes = Vec::from_slice(alloc, bytes).expect(rt, "memory");
+    Txt { bytes }
 }
 
 /// A name that stands nowhere in a text.
-pub(crate) fn named(alloc: Global, bytes: &[u8]) -> Result<Name, AllocError> {
-    let text = text(alloc, bytes)?;
-    Ok(Name { text, place: 0 })
+pub(crate) fn named(rt: &impl Abort, alloc: Global, bytes: &[u8]) -> Name {
+    let text = text(rt, alloc, bytes);
+    Name { text, place: 0 }
+}
+
+/// The list of this number.
+pub(crate) fn only(rt: &impl Abort, alloc: Global, n: i64) -> Items {
+    let values = vec![in alloc; Value::Int { n }].expect(rt, "memory");
+    Items { values }
 }

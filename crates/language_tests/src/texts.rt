@@ -1,11 +1,12 @@
 //! Texts of types: the examples of the manual, texts of many parts, and how a text is read.
-ghost use Rattle.std.specs.Prelude.{◌≡◌, IfOk, true};
+ghost use Rattle.std.specs.Prelude.{◌≡◌, true};
 ghost use Rattle.epl_syntax.specs.Bindings.{is_resolved};
 
 use epl_check::resolve;
 use epl_parser::parse_edentype;
 use epl_syntax::{ParseRefusal, Program};
-use std::alloc::{AllocError, Global};
+use std::alloc::Global;
+use std::process::Abort;
 
 pub(crate) const GATE: &[u8] = b"edentype Gate class pass limit 2 class one limit 1 \
         monitor M working free : bool = false condition c end \
@@ -56,7 +57,7 @@ pub(crate) const TALLY_2: &[u8] =
         operation Both needs 1 class all () returns (int, int) return (n, twice) end \
         upgrade from 1 (old : int) n := old twice := old * 2 end endtype";
 
-/// The type of a text that is not too long for a test.
+/// The type of a text that is not too long for a test, or why it is refused.
 pub(crate) fn parsed(alloc: Global, text: &[u8]) -> Result<Program, ParseRefusal> {
     if text.len() > 2_000_000 {
         return Err(ParseRefusal::OutOfMemory);
@@ -64,13 +65,19 @@ pub(crate) fn parsed(alloc: Global, text: &[u8]) -> Result<Program, ParseRefusal
     parse_edentype(alloc, text)
 }
 
-/// The type of a text, with its names resolved.
-pub(crate) fn resolved(alloc: Global, text: &[u8]) -> Result<Program, ParseRefusal>
-    ensures { IfOk result (λ p. is_resolved p ≡ true) }
+/// The type of a text that is one.
+pub(crate) fn type_of(rt: &impl Abort, alloc: Global, text: &[u8]) -> Box<Program> {
+    let program = parsed(alloc, text).expect(rt, "a type");
+    Box::new(alloc, program).expect(rt, "memory")
+}
+
+/// The type of a text that is one, with its names resolved.
+pub(crate) fn resolved(rt: &impl Abort, alloc: Global, text: &[u8]) -> Box<Program>
+    ensures { is_resolved result.value ≡ true }
 {
-    let mut program = parsed(alloc, text)?;
-    resolve(alloc, &mut program, text.len())?;
-    Ok(program)
+    let mut program = type_of(rt, alloc, text);
+    resolve(alloc, &mut program, text.len()).expect(rt, "memory");
+    program
 }
 
 /// A part of a text: what stands before each of its copies but number 0, the copy, in which `#`
@@ -82,37 +89,48 @@ pub(crate) fn once(text: &[u8]) -> Part<'_> {
     (b"", text, 0, 1)
 }
 
-/// One more copy with its number.
-fn append_copy(
-    alloc: Global,
-    text: &mut Vec<u8>,
-    copy: &[u8],
-    number: u32,
-) -> Result<(), AllocError> {
+/// Puts these bytes behind a text.
+pub(crate) fn append(rt: &impl Abort, text: &mut Vec<u8>, bytes: &[u8]) {
+    text.extend_from_slice(bytes).expect(rt, "memory");
+}
+
+/// Puts a copy with its number behind a text.
+fn append_numbered(rt: &impl Abort, alloc: Global, text: &mut Vec<u8>, copy: &[u8], number: u32) {
+    let digits = number.to_string(alloc).expect(rt, "memory");
     for byte in copy {
         if *byte == b'#' {
-            text.extend_from_slice(number.to_string(alloc)?.as_bytes())?;
+            append(rt, text, digits.as_bytes());
         } else {
-            text.push(*byte)?;
+            append(rt, text, &[*byte]);
         }
     }
-    Ok(())
+}
+
+/// Puts the copies of a part behind a text.
+fn append_part(
+    rt: &impl Abort,
+    alloc: Global,
+    text: &mut Vec<u8>,
+    &(between, copy, first, past): &Part<'_>,
+) {
+    let is_numbered = copy.contains(&b'#');
+    for number in first..past {
+        if number > 0 {
+            append(rt, text, between);
+        }
+        if is_numbered {
+            append_numbered(rt, alloc, text, copy, number);
+        } else {
+            append(rt, text, copy);
+        }
+    }
 }
 
 /// The text of these parts.
-pub(crate) fn built(alloc: Global, parts: &[Part<'_>]) -> Result<Vec<u8>, AllocError> {
+pub(crate) fn built(rt: &impl Abort, alloc: Global, parts: &[Part<'_>]) -> Vec<u8> {
     let mut text = Vec::new(alloc);
-    for &(between, copy, first, past) in parts {
-        for number in first..past {
-            if number > 0 {
-                text.extend_from_slice(between)?;
-            }
-            if copy.contains(&b'#') {
-                append_copy(alloc, &mut text, copy, number)?;
-            } else {
-                text.extend_from_slice(copy)?;
-            }
-        }
+    for part in parts {
+        append_part(rt, alloc, &mut text, part);
     }
-    Ok(text)
+    text
 }

@@ -1,18 +1,19 @@
 //! A node and those that ask it, act by act.
-ghost use Rattle.std.specs.Prelude.{IfOk, OnOk};
+ghost use Rattle.std.specs.Prelude.{IfSome};
 ghost use Rattle.eden_kernel.specs.Stands.{held, IsWhole};
 ghost use Rattle.eden_kernel.specs.DiskTurns.{IsWholeBehind};
 
-use crate::common::{are_few, ask, number_in, places};
+use crate::common::{are_few, ask, fall_of, native_types, no_calls, number_in, places};
 use eden_disk::ImageMode;
 use eden_kernel::{Node, TurnEnd};
 use eden_value::Status;
 use epl_syntax::Types;
-use history_tests::common::{Amiss, FIRST, Log, arm_of, blank, uid_of};
+use history_tests::common::{FIRST, Log, arm_of, blank, uid_of};
 use invocation::{Calls, Delivery};
 use journal::{Event, RequestEnd, StartEnd};
 use passive_store::{Doubt, Pick, Store};
 use std::alloc::Global;
+use std::process::Abort;
 
 /// What is kept of a Cell of 5.
 pub const CELL: &[u8] = &[
@@ -55,133 +56,153 @@ pub type Shown = (Seen, TurnEnd);
 
 /// The disk of a node in its first epoch, on which these bytes are kept of one Eject.
 pub fn seeded<St: Store + Drop>(
+    rt: &impl Abort,
     alloc: Global,
     disk: St::Device,
     bytes: &[u8],
-) -> Result<St::Device, Amiss>
+) -> St::Device
 where
     St::Device: Drop,
 {
-    if bytes.len() > 100 {
-        return Err(Amiss::Many);
-    }
-    match checkpoint::boot::<St>(alloc, disk, 1, None) {
-        Ok((mut store, _)) => match store.put(alloc, FIRST, bytes) {
-            Ok(()) => Ok(store.close()),
-            Err(_) => Err(Amiss::Put),
-        },
-        Err((_, _)) => Err(Amiss::Boot),
-    }
+    assert!(rt; bytes.len() <= 100, "too many bytes");
+    let (mut store, _) = checkpoint::boot::<St>(alloc, disk, 1, None)
+        .map_err(fall_of)
+        .expect(rt, "a boot");
+    store.put(alloc, FIRST, bytes).expect(rt, "a put");
+    store.close()
 }
 
 /// A node that boots with its disk in doubt: its epoch, and what the boot found.
 pub fn up<St: Store>(
+    rt: &impl Abort,
     alloc: Global,
     disk: St::Device,
     doubt: Option<Doubt>,
-) -> Result<(Node<St>, u32, Option<Pick>), Amiss>
+) -> (Box<Node<St>>, u32, Option<Pick>)
 where
     St::Device: Drop,
-    ensures { IfOk result (λ r. IsWhole (held St.seen r.0)) }
+    ensures { IsWhole (held St.seen result.0.value) }
 {
-    match Node::boot(alloc, disk, 1, doubt) {
-        Ok((node, note)) => Ok((node, note.epoch, note.pick)),
-        Err((_, _)) => Err(Amiss::Boot),
-    }
+    let (node, note) = Node::boot(alloc, disk, 1, doubt)
+        .map_err(fall_of)
+        .expect(rt, "a boot");
+    let node = Box::new(alloc, node).expect(rt, "memory");
+    (node, note.epoch, note.pick)
 }
 
+/// What comes next from the node itself or from the shell is delivered.
 fn deliver<St: Store>(
+    rt: &impl Abort,
     alloc: Global,
     node: &mut Node<St>,
     types: &Types,
     calls: &mut Calls,
-) -> Result<Seen, Amiss>
+) -> Seen
     requires { IsWhole (held St.seen node.old) }
-    ensures { OnOk result (IsWhole (held St.seen node.new)) }
+    ensures { IsWhole (held St.seen node.new) }
 {
-    match node.deliver(alloc, types, calls, 0)? {
-        Some(Event::Request { refused, .. }) => Ok(Seen::Request(refused)),
-        _ => Ok(Seen::Nothing),
-    }
+    let event = node.deliver(alloc, types, calls, 0).expect(rt, "memory");
+    let seen = match &event {
+        Some(Event::Request { refused, .. }) => Seen::Request(*refused),
+        _ => Seen::Nothing,
+    };
+    drop(event);
+    seen
 }
 
+/// The first Eject is activated. None where it may not be, as at the turns below.
 fn activate<St: Store>(
+    rt: &impl Abort,
     alloc: Global,
     node: &mut Node<St>,
     types: &Types,
     calls: &mut Calls,
-) -> Result<Shown, Amiss>
+) -> Option<Shown>
     requires { IsWhole (held St.seen node.old) }
-    ensures { IfOk result (λ r. IsWholeBehind r.1 (held St.seen node.new)) }
+    ensures { IfSome result (λ r. IsWholeBehind r.1 (held St.seen node.new)) }
 {
     if !node.may_activate(FIRST) {
-        return Err(Amiss::MayNot);
+        return None;
     }
-    match node.activate(alloc, types, calls, FIRST)? {
-        (Event::Activate { end, .. }, behind) => Ok((Seen::Activation(end), behind)),
-        _ => Err(Amiss::Start),
-    }
+    let (event, behind) = node
+        .activate(alloc, types, calls, FIRST)
+        .expect(rt, "memory");
+    let seen = match &event {
+        Event::Activate { end, .. } => Seen::Activation(*end),
+        _ => panic!(rt; "an activation shows another event"),
+    };
+    drop(event);
+    Some((seen, behind))
 }
 
+/// An invocation starts at it.
 fn start<St: Store>(
+    rt: &impl Abort,
     alloc: Global,
     node: &mut Node<St>,
     types: &Types,
     calls: &mut Calls,
-) -> Result<Seen, Amiss>
+) -> Option<Seen>
     requires { IsWhole (held St.seen node.old) }
-    ensures { OnOk result (IsWhole (held St.seen node.new)) }
+    ensures { IfSome result (λ _. IsWhole (held St.seen node.new)) }
 {
     if !node.may_start(calls, FIRST) {
-        return Err(Amiss::MayNot);
+        return None;
     }
-    let _start = node.start(alloc, types, calls, FIRST)?;
-    Ok(Seen::Nothing)
+    drop(node.start(alloc, types, calls, FIRST).expect(rt, "memory"));
+    Some(Seen::Nothing)
 }
 
+/// Its first process takes a turn.
 fn process<St: Store>(
+    rt: &impl Abort,
     alloc: Global,
     node: &mut Node<St>,
     types: &Types,
     calls: &mut Calls,
-) -> Result<Seen, Amiss>
+) -> Option<Seen>
     requires { IsWhole (held St.seen node.old) }
-    ensures { OnOk result (IsWhole (held St.seen node.new)) }
+    ensures { IfSome result (λ _. IsWhole (held St.seen node.new)) }
 {
-    if !are_few(calls) {
-        return Err(Amiss::Many);
-    }
+    assert!(rt; are_few(calls), "too many calls");
     if !node.may_process(FIRST, 1) {
-        return Err(Amiss::MayNot);
+        return None;
     }
-    let _turn = node.process(alloc, types, calls, &places(), FIRST, 1)?;
-    Ok(Seen::Nothing)
+    let turn = node.process(alloc, types, calls, &places(), FIRST, 1);
+    drop(turn.expect(rt, "memory"));
+    Some(Seen::Nothing)
 }
 
+/// The store takes a turn.
 fn store_turn<St: Store>(
+    rt: &impl Abort,
     alloc: Global,
     node: &mut Node<St>,
     calls: &mut Calls,
-) -> Result<Shown, Amiss>
+) -> Option<Shown>
     requires { IsWhole (held St.seen node.old) }
-    ensures { IfOk result (λ r. IsWholeBehind r.1 (held St.seen node.new)) }
+    ensures { IfSome result (λ r. IsWholeBehind r.1 (held St.seen node.new)) }
 {
     if !node.pending() {
-        return Err(Amiss::MayNot);
+        return None;
     }
-    match node.store_turn(alloc, calls)? {
-        (Event::Store { end, .. }, behind) => Ok((Seen::Store(end), behind)),
-        _ => Err(Amiss::Put),
-    }
+    let (event, behind) = node.store_turn(alloc, calls).expect(rt, "memory");
+    let seen = match &event {
+        Event::Store { end, .. } => Seen::Store(*end),
+        _ => panic!(rt; "a turn of the store shows another event"),
+    };
+    drop(event);
+    Some((seen, behind))
 }
 
-fn tell_broken<St: Store>(alloc: Global, node: &mut Node<St>) -> Result<Seen, Amiss>
+/// The first process of the Eject is told that its call is broken.
+fn tell_broken<St: Store>(alloc: Global, node: &mut Node<St>) -> Option<Seen>
     requires { IsWhole (held St.seen node.old) }
-    ensures { OnOk result (IsWhole (held St.seen node.new)) }
+    ensures { IfSome result (λ _. IsWhole (held St.seen node.new)) }
 {
     match node.broken(alloc, FIRST, 1) {
-        Ok(()) => Ok(Seen::Nothing),
-        Err(_) => Err(Amiss::MayNot),
+        Ok(()) => Some(Seen::Nothing),
+        Err(_) => None,
     }
 }
 
@@ -194,84 +215,89 @@ fn arm<St: Store>(node: &mut Node<St>, stop: Option<ImageMode>, made: u8) -> See
     Seen::Nothing
 }
 
-/// An act behind which the node goes on.
+/// An act behind which the node goes on. None where it may not be.
 fn go_on<St: Store>(
+    rt: &impl Abort,
     alloc: Global,
     node: &mut Node<St>,
     types: &Types,
     calls: &mut Calls,
     act: Act,
-) -> Result<Seen, Amiss>
+) -> Option<Seen>
     requires { IsWhole (held St.seen node.old) }
-    ensures { OnOk result (IsWhole (held St.seen node.new)) }
+    ensures { IfSome result (λ _. IsWhole (held St.seen node.new)) }
 {
     match act {
         Act::Ask(serial, operation, number) => {
-            ask(alloc, calls, uid_of(serial), operation, number)?;
-            Ok(Seen::Nothing)
+            ask(rt, alloc, calls, uid_of(serial), operation, number);
+            Some(Seen::Nothing)
         }
-        Act::Deliver => deliver(alloc, node, types, calls),
-        Act::Start => start(alloc, node, types, calls),
-        Act::Process => process(alloc, node, types, calls),
+        Act::Deliver => Some(deliver(rt, alloc, node, types, calls)),
+        Act::Start => start(rt, alloc, node, types, calls),
+        Act::Process => process(rt, alloc, node, types, calls),
         Act::Break => tell_broken(alloc, node),
-        Act::Fail(made) => Ok(arm(node, None, made)),
-        Act::Stop(made, mode) => Ok(arm(node, Some(mode), made)),
-        _ => Err(Amiss::MayNot),
+        Act::Fail(made) => Some(arm(node, None, made)),
+        Act::Stop(made, mode) => Some(arm(node, Some(mode), made)),
+        _ => None,
     }
 }
 
+/// An act. None where it may not be.
 fn take<St: Store>(
+    rt: &impl Abort,
     alloc: Global,
     node: &mut Node<St>,
     types: &Types,
     calls: &mut Calls,
     act: Act,
-) -> Result<Shown, Amiss>
+) -> Option<Shown>
     requires { IsWhole (held St.seen node.old) }
-    ensures { IfOk result (λ r. IsWholeBehind r.1 (held St.seen node.new)) }
+    ensures { IfSome result (λ r. IsWholeBehind r.1 (held St.seen node.new)) }
 {
     match act {
-        Act::Activate => activate(alloc, node, types, calls),
-        Act::Store => store_turn(alloc, node, calls),
-        _ => Ok((go_on(alloc, node, types, calls, act)?, TurnEnd::Up)),
+        Act::Activate => activate(rt, alloc, node, types, calls),
+        Act::Store => store_turn(rt, alloc, node, calls),
+        _ => Some((go_on(rt, alloc, node, types, calls, act)?, TurnEnd::Up)),
     }
 }
 
-/// The acts, up to the first behind which the node is down. What the last showed.
+/// The acts, up to the first behind which the node is down. What the last showed, or None where one may not be.
 pub fn run<St: Store>(
+    rt: &impl Abort,
     alloc: Global,
     node: &mut Node<St>,
     types: &Types,
     calls: &mut Calls,
     acts: &[Act],
-) -> Result<Shown, Amiss>
+) -> Option<Shown>
     requires { IsWhole (held St.seen node.old) }
-    ensures { IfOk result (λ r. IsWholeBehind r.1 (held St.seen node.new)) }
+    ensures { IfSome result (λ r. IsWholeBehind r.1 (held St.seen node.new)) }
 {
     let mut last = Seen::Nothing;
     for &act in acts {
-        match take(alloc, node, types, calls, act)? {
+        match take(rt, alloc, node, types, calls, act)? {
             (seen, TurnEnd::Up) => last = seen,
-            (seen, TurnEnd::Down) => return Ok((seen, TurnEnd::Down)),
+            (seen, TurnEnd::Down) => return Some((seen, TurnEnd::Down)),
         }
     }
-    Ok((last, TurnEnd::Up))
+    Some((last, TurnEnd::Up))
 }
 
 /// The acts, behind which the node goes on.
 pub fn run_on<St: Store>(
+    rt: &impl Abort,
     alloc: Global,
     node: &mut Node<St>,
     types: &Types,
     calls: &mut Calls,
     acts: &[Act],
-) -> Result<(), Amiss>
+)
     requires { IsWhole (held St.seen node.old) }
-    ensures { OnOk result (IsWhole (held St.seen node.new)) }
+    ensures { IsWhole (held St.seen node.new) }
 {
-    match run(alloc, node, types, calls, acts)? {
-        (_, TurnEnd::Up) => Ok(()),
-        (_, TurnEnd::Down) => Err(Amiss::Down),
+    match run(rt, alloc, node, types, calls, acts) {
+        Some((_, TurnEnd::Up)) => {}
+        last => panic!(rt; "the node does not go on: {last:?}"),
     }
 }
 
@@ -284,90 +310,63 @@ const GET: &[Act] = &[
     Act::Process,
 ];
 
-/// What a node picks that boots over this disk, which is asked for the number of the Cell.
-fn asked<St: Store + Drop>(
-    alloc: Global,
-    disk: St::Device,
-    doubt: Option<Doubt>,
-    types: &Types,
-    calls: &mut Calls,
-) -> Result<Option<Pick>, Amiss>
-where
-    St::Device: Drop,
-{
-    let (mut node, _, pick) = up::<St>(alloc, disk, doubt)?;
-    run_on(alloc, &mut node, types, calls, GET)?;
-    Ok(pick)
-}
-
 /// The number that the shell is answered.
 fn answered(calls: &mut Calls) -> Option<i64> {
-    match calls.deliver(1, 0) {
-        Some(Delivery::Reply { results, .. }) => number_in(&results),
+    let delivery = calls.deliver(1, 0);
+    let number = match &delivery {
+        Some(Delivery::Reply { results, .. }) => number_in(results),
         _ => None,
-    }
+    };
+    drop(delivery);
+    number
 }
 
 /// What a node finds that boots over this disk: what it picks, and the number of the Cell.
 pub fn found<St: Store + Drop>(
+    rt: &impl Abort,
     alloc: Global,
     disk: St::Device,
     doubt: Option<Doubt>,
-) -> Result<(Option<Pick>, Option<i64>), Amiss>
+) -> (Option<Pick>, Option<i64>)
 where
     St::Device: Drop,
 {
-    let types = Types::native(alloc)?;
-    let mut calls = Calls::new(alloc)?;
-    let pick = asked::<St>(alloc, disk, doubt, &types, &mut calls)?;
-    Ok((pick, answered(&mut calls)))
+    let types = native_types(rt, alloc);
+    let mut calls = no_calls(rt, alloc);
+    let (mut node, _, pick) = up::<St>(rt, alloc, disk, doubt);
+    run_on(rt, alloc, &mut node, &types, &mut calls, GET);
+    (pick, answered(&mut calls))
 }
 
-/// What acts come to at a node, behind those before; or None where the last may not be.
-fn shown_at<St: Store>(
-    alloc: Global,
-    node: &mut Node<St>,
-    types: &Types,
-    calls: &mut Calls,
-    before: &[Act],
-    acts: &[Act],
-) -> Result<Option<Shown>, Amiss>
-    requires { IsWhole (held St.seen node.old) }
-{
-    run_on(alloc, node, types, calls, before)?;
-    match run(alloc, node, types, calls, acts) {
-        Ok(last) => Ok(Some(last)),
-        Err(Amiss::MayNot) => Ok(None),
-        Err(amiss) => Err(amiss),
-    }
-}
-
-/// The same at a node that boots over a disk on which these bytes are kept of the first Eject.
+/// What acts come to behind those before, or None where the last may not be: at a node that boots over a disk on which these bytes
+/// are kept of the first Eject.
 fn shown_on<St: Store + Drop>(
+    rt: &impl Abort,
     alloc: Global,
     disk: St::Device,
-    (types, calls): (&Types, &mut Calls),
     bytes: &[u8],
     before: &[Act],
     acts: &[Act],
-) -> Result<Option<Shown>, Amiss>
+) -> Option<Shown>
 where
     St::Device: Drop,
 {
-    let disk = seeded::<St>(alloc, disk, bytes)?;
-    let (mut node, _, _) = up::<St>(alloc, disk, None)?;
-    shown_at(alloc, &mut node, types, calls, before, acts)
+    let types = native_types(rt, alloc);
+    let mut calls = no_calls(rt, alloc);
+    let disk = seeded::<St>(rt, alloc, disk, bytes);
+    let (mut node, _, _) = up::<St>(rt, alloc, disk, None);
+    run_on(rt, alloc, &mut node, &types, &mut calls, before);
+    run(rt, alloc, &mut node, &types, &mut calls, acts)
 }
 
 /// The same on a blank disk.
 pub fn shown(
+    rt: &impl Abort,
     alloc: Global,
     bytes: &[u8],
     before: &[Act],
     acts: &[Act],
-) -> Result<Option<Shown>, Amiss> {
-    let types = Types::native(alloc)?;
-    let mut calls = Calls::new(alloc)?;
-    let disk = blank(alloc)?;
-    shown_on::<Log>(alloc, disk, (&types, &mut calls), bytes, before, acts)
+) -> Option<Shown> {
+    let disk = blank(alloc).expect(rt, "memory");
+    shown_on::<Log>(rt, alloc, disk, bytes, before, acts)
 }

@@ -1,21 +1,19 @@
 //! Every end of a turn of the store, of an activation and of a boot, at each device call, and what the next boot finds.
-ghost use Rattle.std.specs.Prelude.{false, IfOk};
+ghost use Rattle.std.specs.Prelude.{false};
 ghost use Rattle.eden_disk.specs.SimDisk.{due_of};
 ghost use Rattle.eden_kernel.specs.Stands.{held, IsWhole};
-ghost use Rattle.eden_kernel.specs.DiskTurns.{IsWholeBehind};
 
+use crate::common::{assert_same, native_types, no_calls};
 use crate::eden_kernel_acts::{
     Act, CELL, DAMAGED, Seen, Shown, found, run, run_on, seeded, shown, up,
 };
 use eden_disk::{Arm, Disk, DiskRefusal, ImageMode, SimDisk};
 use eden_kernel::{Node, TurnEnd};
-use epl_syntax::Types;
-use history_tests::common::{Amiss, Log, arm_of, blank};
-use invocation::Calls;
+use history_tests::common::{Log, arm_of, blank};
 use journal::{BootEnd, RequestEnd, StartEnd};
 use passive_store::{LogStore, Pick, Store};
 use std::alloc::Global;
-use std::test::Fail;
+use std::process::Abort;
 
 /// A Cell of 5 is set to 9, and asks that this is kept.
 const SAVING: &[Act] = &[
@@ -38,48 +36,50 @@ type Saved = (Shown, bool, Found);
 
 /// A save with this trouble, and these turns of the store: what the last showed.
 fn save<St: Store>(
+    rt: &impl Abort,
     alloc: Global,
     node: &mut Node<St>,
     trouble: &[Act],
     turns: &[Act],
-) -> Result<Shown, Amiss>
+) -> Shown
     requires { IsWhole (held St.seen node.old) }
-    ensures { IfOk result (λ r. IsWholeBehind r.1 (held St.seen node.new)) }
 {
-    let types = Types::native(alloc)?;
-    let mut calls = Calls::new(alloc)?;
-    run_on(alloc, node, &types, &mut calls, SAVING)?;
-    run_on(alloc, node, &types, &mut calls, trouble)?;
-    run(alloc, node, &types, &mut calls, turns)
+    let types = native_types(rt, alloc);
+    let mut calls = no_calls(rt, alloc);
+    run_on(rt, alloc, node, &types, &mut calls, SAVING);
+    run_on(rt, alloc, node, &types, &mut calls, trouble);
+    run(rt, alloc, node, &types, &mut calls, turns).expect(rt, "turns of the store")
 }
 
 /// A save with this trouble and these turns of the store, and a power cut, if the node is up then.
 fn saved_on<St: Store + Drop>(
+    rt: &impl Abort,
     alloc: Global,
     disk: St::Device,
     trouble: &[Act],
     turns: &[Act],
     mode: ImageMode,
-) -> Result<Saved, Amiss>
+) -> Saved
 where
     St::Device: Drop,
 {
-    let disk = seeded::<St>(alloc, disk, CELL)?;
-    let (mut node, _, _) = up::<St>(alloc, disk, None)?;
-    let last = save(alloc, &mut node, trouble, turns)?;
+    let disk = seeded::<St>(rt, alloc, disk, CELL);
+    let (mut node, _, _) = up::<St>(rt, alloc, disk, None);
+    let last = save(rt, alloc, &mut *node, trouble, turns);
     let is_up = last.1 == TurnEnd::Up;
     let pending = is_up && node.pending();
     let (disk, doubt) = if is_up {
-        node.crash(mode)
+        Box::into_inner(node).crash(mode)
     } else {
-        node.close()
+        Box::into_inner(node).close()
     };
-    Ok((last, pending, found::<St>(alloc, disk, doubt)?))
+    (last, pending, found::<St>(rt, alloc, disk, doubt))
 }
 
 /// The same on a blank disk.
-fn saved(alloc: Global, trouble: &[Act], turns: &[Act], mode: ImageMode) -> Result<Saved, Amiss> {
-    saved_on::<Log>(alloc, blank(alloc)?, trouble, turns, mode)
+fn saved(rt: &impl Abort, alloc: Global, trouble: &[Act], turns: &[Act], mode: ImageMode) -> Saved {
+    let disk = blank(alloc).expect(rt, "memory");
+    saved_on::<Log>(rt, alloc, disk, trouble, turns, mode)
 }
 
 const GARBLE: ImageMode = ImageMode::Garble { byte: 225 };
@@ -157,11 +157,23 @@ const SAVES: &[(&[Act], &[Act], ImageMode, Saved)] = &[
 ];
 
 #[test]
-fn each_end_of_a_turn_of_the_store(rt: HostRuntime) -> Result<(), Fail> {
+fn each_end_of_a_turn_of_the_store(rt: HostRuntime) {
     for &(trouble, turns, mode, wanted) in SAVES {
-        assert_eq!(rt; saved(rt.alloc(), trouble, turns, mode)?, wanted);
+        let seen = saved(&rt, rt.alloc(), trouble, turns, mode);
+        assert_same(&rt, &seen, &wanted, "a save");
     }
-    Ok(())
+}
+
+/// What a Cell is kept as ends with these bytes, and then with that of its number.
+const BEFORE_NUMBER: &[u8] = &[b'l', 0, 1, 1, 1, 0, 0, 0, 0, 0, 0, 0];
+
+/// The number of a Cell is one more, where bytes end with what a Cell is kept as.
+fn change(out: &mut [u8]) {
+    if let Some((last, before)) = out.split_last_mut() {
+        if before.ends_with(BEFORE_NUMBER) {
+            *last = last.wrapping_add(1);
+        }
+    }
 }
 
 /// A disk that tells nothing, and shows another byte than was written: where 5 was the last of what a Cell is kept as, it
@@ -204,9 +216,7 @@ impl Disk for Changed {
 
     fn read(&mut self, at: u32, out: &mut [u8]) -> Result<(), DiskRefusal> {
         let read = self.disk.read(at, out);
-        if let [.., b'l', 0, 1, 1, 1, 0, 0, 0, 0, 0, 0, 0, last] = out {
-            *last = last.wrapping_add(1);
-        }
+        change(out);
         read
     }
 
@@ -232,25 +242,29 @@ impl Disk for Changed {
 }
 
 /// What is found of a Cell that is kept on a disk.
-fn found_on<St: Store + Drop>(alloc: Global, disk: St::Device) -> Result<Found, Amiss>
+fn found_on<St: Store + Drop>(rt: &impl Abort, alloc: Global, disk: St::Device) -> Found
 where
     St::Device: Drop,
 {
-    let disk = seeded::<St>(alloc, disk, CELL)?;
-    found::<St>(alloc, disk, None)
+    let disk = seeded::<St>(rt, alloc, disk, CELL);
+    found::<St>(rt, alloc, disk, None)
 }
 
 /// What is found where a disk shows another byte than was written.
-fn found_changed(alloc: Global) -> Result<Found, Amiss> {
-    let disk = blank(alloc)?;
-    found_on::<LogStore<Changed>>(alloc, Changed { disk })
+fn found_changed(rt: &impl Abort, alloc: Global) -> Found {
+    let disk = blank(alloc).expect(rt, "memory");
+    found_on::<LogStore<Changed>>(rt, alloc, Changed { disk })
 }
 
 // An Eject starts from what is read of its disk, and never from a copy.
 #[test]
-fn a_start_reads_the_disk(rt: HostRuntime) -> Result<(), Fail> {
-    assert_eq!(rt; found_changed(rt.alloc())?, (None, Some(6)));
-    Ok(())
+fn a_start_reads_the_disk(rt: HostRuntime) {
+    assert_same(
+        &rt,
+        &found_changed(&rt, rt.alloc()),
+        &(None, Some(6)),
+        "a start",
+    );
 }
 
 /// The Eject has a queued call.
@@ -303,11 +317,11 @@ const ACTIVATIONS: &[(&[u8], &[Act], &[Act], Shown)] = &[
 ];
 
 #[test]
-fn each_end_of_an_activation(rt: HostRuntime) -> Result<(), Fail> {
+fn each_end_of_an_activation(rt: HostRuntime) {
     for &(bytes, before, acts, wanted) in ACTIVATIONS {
-        assert_eq!(rt; shown(rt.alloc(), bytes, before, acts)?, Some(wanted));
+        let seen = shown(&rt, rt.alloc(), bytes, before, acts);
+        assert_same(&rt, &seen, &Some(wanted), "an activation");
     }
-    Ok(())
 }
 
 /// The device calls of a boot over a disk on which an epoch and a Cell are kept.
@@ -316,43 +330,55 @@ const BOOT: u8 = 10;
 /// Those of a first boot, up to its end.
 const FIRST_BOOT: u8 = 11;
 
+/// How often the disk of a node failed. The node is let go of.
+fn faults_of<St: Store + Drop>(node: Node<St>) -> u64
+where
+    St::Device: Drop,
+{
+    node.disk().faults()
+}
+
 /// How a boot ends whose disk fails, or stops in this mode, behind so many device calls; how often it failed; and the number of the
 /// Cell, if one is kept, that the next boot finds where this one was cut.
 fn boot_in_trouble_on<St: Store + Drop>(
+    rt: &impl Abort,
     alloc: Global,
     mut disk: St::Device,
     is_kept: bool,
     stop: Option<ImageMode>,
     made: u8,
-) -> Result<(Option<BootEnd>, u64, Option<i64>), Amiss>
+) -> (Option<BootEnd>, u64, Option<i64>)
 where
     St::Device: Drop,
 {
     if is_kept {
-        disk = seeded::<St>(alloc, disk, CELL)?;
+        disk = seeded::<St>(rt, alloc, disk, CELL);
     }
     disk.arm(arm_of(stop, u32::from(made) + 1));
     match Node::<St>::boot(alloc, disk, 1, None) {
-        Ok((node, _)) => Ok((Some(BootEnd::Up), node.disk().faults(), None)),
+        Ok((node, _)) => (Some(BootEnd::Up), faults_of(node), None),
         Err((disk, fall)) => {
             let faults = disk.faults();
-            if !is_kept {
-                return Ok((fall.end, faults, None));
-            }
-            let (_, number) = found::<St>(alloc, disk, fall.doubt)?;
-            Ok((fall.end, faults, number))
+            let number = if is_kept {
+                found::<St>(rt, alloc, disk, fall.doubt).1
+            } else {
+                None
+            };
+            (fall.end, faults, number)
         }
     }
 }
 
 /// The same of a disk that is blank at first.
 fn boot_in_trouble(
+    rt: &impl Abort,
     alloc: Global,
     is_kept: bool,
     stop: Option<ImageMode>,
     made: u8,
-) -> Result<(Option<BootEnd>, u64, Option<i64>), Amiss> {
-    boot_in_trouble_on::<Log>(alloc, blank(alloc)?, is_kept, stop, made)
+) -> (Option<BootEnd>, u64, Option<i64>) {
+    let disk = blank(alloc).expect(rt, "memory");
+    boot_in_trouble_on::<Log>(rt, alloc, disk, is_kept, stop, made)
 }
 
 /// How a boot in trouble ends, how often its disk failed, and the number that the next one finds.
@@ -366,21 +392,25 @@ const BOOTS: &[(bool, Option<ImageMode>, u8, Fall)] = &[
     (true, Some(GARBLE), BOOT, (BootEnd::Stop, 0, Some(5))),
 ];
 
+/// How a boot is to end whose disk is in trouble behind so many device calls: cut as this says, or up where it makes no more calls.
+fn end_behind(
+    made: u8,
+    calls: u8,
+    (end, faults, number): Fall,
+) -> (Option<BootEnd>, u64, Option<i64>) {
+    if made < calls {
+        (Some(end), faults, number)
+    } else {
+        (Some(BootEnd::Up), 0, None)
+    }
+}
+
 #[test]
-fn trouble_in_each_device_call_of_a_boot(rt: HostRuntime) -> Result<(), Fail> {
+fn trouble_in_each_device_call_of_a_boot(rt: HostRuntime) {
     for &(is_kept, stop, calls, cut) in BOOTS {
         for made in 0..=calls {
-            let (end, faults, number) = if made < calls {
-                cut
-            } else {
-                (BootEnd::Up, 0, None)
-            };
-            assert_eq!(rt;
-                boot_in_trouble(rt.alloc(), is_kept, stop, made)?,
-                (Some(end), faults, number),
-                "behind {made}"
-            );
+            let seen = boot_in_trouble(&rt, rt.alloc(), is_kept, stop, made);
+            assert_same(&rt, &seen, &end_behind(made, calls, cut), made);
         }
     }
-    Ok(())
 }

@@ -1,12 +1,13 @@
+use crate::common::assert_same;
 use crate::eden_kernel_acts::{Act, DAMAGED, Seen, Shown, seeded, shown, up};
 use eden_disk::{Arm, Disk, ImageMode};
 use eden_kernel::{Node, TurnEnd};
 use eden_value::Status;
-use history_tests::common::{Amiss, Log, blank};
+use history_tests::common::{Log, blank};
 use journal::BootEnd;
 use passive_store::{Doubt, Store};
 use std::alloc::Global;
-use std::test::Fail;
+use std::process::Abort;
 
 const ACCEPTED: Option<Shown> = Some((Seen::Request(None), TurnEnd::Up));
 
@@ -30,77 +31,80 @@ const ROWS: &[(&[Act], &[Act], Option<Shown>)] = &[
 ];
 
 #[test]
-fn requests_and_turns_of_a_node_of_passive_ejects(rt: HostRuntime) -> Result<(), Fail> {
+fn requests_and_turns_of_a_node_of_passive_ejects(rt: HostRuntime) {
     for &(before, acts, wanted) in ROWS {
-        assert_eq!(rt; shown(rt.alloc(), DAMAGED, before, acts)?, wanted);
+        let seen = shown(&rt, rt.alloc(), DAMAGED, before, acts);
+        assert_same(&rt, &seen, &wanted, "the acts");
     }
-    Ok(())
 }
 
 /// The epoch of the second boot of a disk.
-fn second_epoch<St: Store + Drop>(alloc: Global, disk: St::Device) -> Result<u32, Amiss>
+fn second_epoch<St: Store + Drop>(rt: &impl Abort, alloc: Global, disk: St::Device) -> u32
 where
     St::Device: Drop,
 {
-    let disk = seeded::<St>(alloc, disk, DAMAGED)?;
-    let (_, epoch, _) = up::<St>(alloc, disk, None)?;
-    Ok(epoch)
+    let disk = seeded::<St>(rt, alloc, disk, DAMAGED);
+    let (_, epoch, _) = up::<St>(rt, alloc, disk, None);
+    epoch
 }
 
 /// That of a blank disk.
-fn epoch_of_a_second_boot(alloc: Global) -> Result<u32, Amiss> {
-    second_epoch::<Log>(alloc, blank(alloc)?)
+fn epoch_of_a_second_boot(rt: &impl Abort, alloc: Global) -> u32 {
+    let disk = blank(alloc).expect(rt, "memory");
+    second_epoch::<Log>(rt, alloc, disk)
 }
 
 #[test]
-fn a_boot_begins_the_next_epoch(rt: HostRuntime) -> Result<(), Fail> {
-    assert_eq!(rt; epoch_of_a_second_boot(rt.alloc())?, 2);
-    Ok(())
+fn a_boot_begins_the_next_epoch(rt: HostRuntime) {
+    assert_eq!(rt; epoch_of_a_second_boot(&rt, rt.alloc()), 2);
 }
 
 /// A node whose next device call is to fail, and a crash: its epoch, whether it had a doubt, whether its disk was called, and the
 /// disk with what is in doubt.
 fn crashed<St: Store + Drop>(
+    rt: &impl Abort,
     alloc: Global,
     disk: St::Device,
-) -> Result<((u32, bool, bool), St::Device, Option<Doubt>), Amiss>
+) -> ((u32, bool, bool), St::Device, Option<Doubt>)
 where
     St::Device: Drop,
 {
-    let (mut node, epoch, _) = up::<St>(alloc, disk, None)?;
+    let (mut node, epoch, _) = up::<St>(rt, alloc, disk, None);
     let in_doubt = node.doubt().is_some();
     let clock = node.disk().clock();
     node.arm(Arm::Fail { after: 1 });
     let called = node.disk().clock() != clock;
-    let (disk, doubt) = node.crash(ImageMode::Keep);
-    Ok(((epoch, in_doubt, called), disk, doubt))
+    let (disk, doubt) = Box::into_inner(node).crash(ImageMode::Keep);
+    ((epoch, in_doubt, called), disk, doubt)
 }
 
 /// How a boot ends that does not bring the node up, and the disk.
 fn fallen<St: Store + Drop>(
+    rt: &impl Abort,
     alloc: Global,
     disk: St::Device,
-) -> Result<(Option<BootEnd>, St::Device), Amiss>
+) -> (Option<BootEnd>, St::Device)
 where
     St::Device: Drop,
 {
     match Node::<St>::boot(alloc, disk, 1, None) {
-        Ok((_, _)) => Err(Amiss::Boot),
-        Err((disk, fall)) => Ok((fall.end, disk)),
+        Ok((_, _)) => panic!(rt; "the node is up"),
+        Err((disk, fall)) => (fall.end, disk),
     }
 }
 
 /// The epoch of the next boot, and what it leaves as it is closed: what is in doubt, and how often the disk failed.
 fn closed<St: Store + Drop>(
+    rt: &impl Abort,
     alloc: Global,
     disk: St::Device,
-) -> Result<(u32, Option<Doubt>, u64), Amiss>
+) -> (u32, Option<Doubt>, u64)
 where
     St::Device: Drop,
 {
-    let (node, epoch, _) = up::<St>(alloc, disk, None)?;
-    let (disk, doubt) = node.close();
-    Ok((epoch, doubt, disk.faults()))
+    let (node, epoch, _) = up::<St>(rt, alloc, disk, None);
+    let (disk, doubt) = Box::into_inner(node).close();
+    (epoch, doubt, disk.faults())
 }
 
 /// What is seen of a crash and of two boots after it, and what is in doubt behind the first and the last.
@@ -112,35 +116,35 @@ struct Crash {
     closed: (u32, Option<Doubt>, u64),
 }
 
-fn cut_on<St: Store + Drop>(alloc: Global, disk: St::Device) -> Result<Crash, Amiss>
+fn cut_on<St: Store + Drop>(rt: &impl Abort, alloc: Global, disk: St::Device) -> Crash
 where
     St::Device: Drop,
 {
-    let (seen, disk, doubt) = crashed::<St>(alloc, disk)?;
-    let (end, disk) = fallen::<St>(alloc, disk)?;
+    let (seen, disk, doubt) = crashed::<St>(rt, alloc, disk);
+    let (end, disk) = fallen::<St>(rt, alloc, disk);
     let fallen = (end, disk.faults());
-    let closed = closed::<St>(alloc, disk)?;
-    Ok(Crash {
+    let closed = closed::<St>(rt, alloc, disk);
+    Crash {
         seen,
         doubt,
         fallen,
         closed,
-    })
+    }
 }
 
-fn cut(alloc: Global) -> Result<Crash, Amiss> {
-    cut_on::<Log>(alloc, blank(alloc)?)
+fn cut(rt: &impl Abort, alloc: Global) -> Crash {
+    let disk = blank(alloc).expect(rt, "memory");
+    cut_on::<Log>(rt, alloc, disk)
 }
 
 // What was armed falls due in the next boot.
 #[test]
-fn a_crash_and_a_boot_after_it(rt: HostRuntime) -> Result<(), Fail> {
+fn a_crash_and_a_boot_after_it(rt: HostRuntime) {
     let wanted = Crash {
         seen: (1, false, false),
         doubt: None,
         fallen: (Some(BootEnd::DiskFault), 1),
         closed: (2, None, 1),
     };
-    assert_eq!(rt; cut(rt.alloc())?, wanted);
-    Ok(())
+    assert_same(&rt, &cut(&rt, rt.alloc()), &wanted, "a crash");
 }

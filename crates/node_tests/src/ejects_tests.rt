@@ -1,15 +1,15 @@
-use crate::common::{are_few, ask, integers, number_in, places};
+use crate::common::{are_few, ask, assert_same, integers, no_calls, number_in, places};
 use capability::Uid;
 use checkpoint::{StoreEnd, Worker};
 use eden_value::Status;
 use edentypes::{Kind, find};
 use ejects::*;
 use epl_syntax::Types;
-use history_tests::common::{Amiss, FIRST, text, uid_of};
+use history_tests::common::{FIRST, text, uid_of};
 use invocation::{Calls, Delivery};
 use journal::{Event, Shown};
 use std::alloc::Global;
-use std::test::Fail;
+use std::process::Abort;
 
 /// A node with a Cell.
 #[derive(Drop)]
@@ -75,188 +75,222 @@ enum Seen {
 /// The status of a reply, and its integer, if it has one.
 type Reply = (Status, Option<i64>);
 
-fn new_bench(alloc: Global) -> Result<Bench, Amiss> {
-    let types = Types::native(alloc)?;
-    let Some(cell) = find(&types, &text(alloc, b"Cell")?) else {
-        return Err(Amiss::Created);
-    };
-    Ok(Bench {
+fn new_bench(rt: &impl Abort, alloc: Global) -> Box<Bench> {
+    let types = Types::native(alloc).expect(rt, "memory");
+    let name = text(alloc, b"Cell").expect(rt, "memory");
+    let cell = find(&types, &name).expect(rt, "a Cell is native");
+    let bench = Bench {
         alloc,
         types,
         cell,
-        ejects: Ejects::new(alloc, 1, 1)?,
+        ejects: Ejects::new(alloc, 1, 1).expect(rt, "memory"),
         worker: Worker::new(alloc),
-    })
+    };
+    Box::new(alloc, bench).expect(rt, "memory")
 }
 
 /// The one call that the shell asks of an Eject.
 fn asked(
+    rt: &impl Abort,
     alloc: Global,
     serial: u32,
     operation: &[u8],
     number: Option<i64>,
-) -> Result<Calls, Amiss> {
-    let mut calls = Calls::new(alloc)?;
-    ask(alloc, &mut calls, uid_of(serial), operation, number)?;
-    Ok(calls)
+) -> Box<Calls> {
+    let mut calls = no_calls(rt, alloc);
+    ask(rt, alloc, &mut calls, uid_of(serial), operation, number);
+    calls
 }
 
 /// The reply that is on its way to the shell.
 fn replied(calls: &mut Calls) -> Option<Reply> {
-    match calls.deliver(1, 0) {
+    let delivery = calls.deliver(1, 0);
+    let reply = match &delivery {
         Some(
             Delivery::Reply {
                 status,
                 results,
                 ..
             },
-        ) => Some((status, number_in(&results))),
+        ) => Some((*status, number_in(results))),
         _ => None,
-    }
+    };
+    drop(delivery);
+    reply
 }
 
 impl Bench {
-    fn create(&mut self) -> Result<Seen, Amiss> {
-        match self.ejects.create(self.alloc, &self.types, self.cell)? {
-            Ok(uid) => Ok(Seen::Created(uid)),
-            Err(_) => Err(Amiss::Created),
-        }
+    fn create(&mut self, rt: &impl Abort) -> Seen {
+        let created = self
+            .ejects
+            .create(self.alloc, &self.types, self.cell)
+            .expect(rt, "memory");
+        Seen::Created(created.expect(rt, "a new Cell"))
     }
 
     fn request(
         &mut self,
+        rt: &impl Abort,
         serial: u32,
         operation: &[u8],
         number: Option<i64>,
-    ) -> Result<Seen, Amiss> {
-        let mut calls = asked(self.alloc, serial, operation, number)?;
-        match self.ejects.deliver(self.alloc, &self.types, &mut calls, 0)? {
-            Some(Event::Request { refused, .. }) => Ok(Seen::Request(refused)),
-            _ => Err(Amiss::Start),
-        }
+    ) -> Seen {
+        let mut calls = asked(rt, self.alloc, serial, operation, number);
+        let event = self
+            .ejects
+            .deliver(self.alloc, &self.types, &mut calls, 0)
+            .expect(rt, "memory");
+        let seen = match &event {
+            Some(Event::Request { refused, .. }) => Seen::Request(*refused),
+            _ => panic!(rt; "a delivery shows another event"),
+        };
+        drop(event);
+        seen
     }
 
-    fn start(&mut self, serial: u32, operation: &[u8], number: Option<i64>) -> Result<Seen, Amiss> {
-        let calls = asked(self.alloc, serial, operation, number)?;
+    fn start(
+        &mut self,
+        rt: &impl Abort,
+        serial: u32,
+        operation: &[u8],
+        number: Option<i64>,
+    ) -> Seen {
+        let asked = asked(rt, self.alloc, serial, operation, number);
+        let calls: &Calls = &asked;
         let uid = uid_of(serial);
-        if !self.ejects.may_begin(&calls, uid) {
-            return Err(Amiss::MayNot);
-        }
-        let _started = self.ejects.start(self.alloc, &self.types, &calls, uid)?;
-        Ok(Seen::Done)
+        assert!(rt; self.ejects.may_begin(calls, uid), "it may not start");
+        let started = self.ejects.start(self.alloc, &self.types, calls, uid);
+        drop(started.expect(rt, "memory"));
+        Seen::Done
     }
 
-    fn turn(&mut self, serial: u32, operation: &[u8], number: Option<i64>) -> Result<Seen, Amiss> {
-        let mut calls = asked(self.alloc, serial, operation, number)?;
-        if !are_few(&calls) {
-            return Err(Amiss::Many);
-        }
+    fn turn(
+        &mut self,
+        rt: &impl Abort,
+        serial: u32,
+        operation: &[u8],
+        number: Option<i64>,
+    ) -> Seen {
+        let mut calls = asked(rt, self.alloc, serial, operation, number);
+        assert!(rt; are_few(&calls), "too many calls");
         let uid = uid_of(serial);
-        if !self.ejects.is_ready(uid, 1) {
-            return Err(Amiss::MayNot);
-        }
-        let event = self.ejects.process(
-            self.alloc,
-            &self.types,
-            &mut calls,
-            &places(),
-            &mut self.worker,
-            uid,
-            1,
-            true,
-        )?;
-        match event {
-            Event::Process { shown, .. } => Ok(Seen::Turn(shown, replied(&mut calls))),
-            _ => Err(Amiss::Start),
-        }
+        assert!(rt; self.ejects.is_ready(uid, 1), "it may not run");
+        let event = self
+            .ejects
+            .process(
+                self.alloc,
+                &self.types,
+                &mut calls,
+                &places(),
+                &mut self.worker,
+                uid,
+                1,
+                true,
+            )
+            .expect(rt, "memory");
+        let shown = match &event {
+            Event::Process { shown, .. } => *shown,
+            _ => panic!(rt; "a turn shows another event"),
+        };
+        drop(event);
+        Seen::Turn(shown, replied(&mut calls))
     }
 
-    fn store_ends(&mut self, serial: u32, removal: bool, end: StoreEnd) -> Result<Seen, Amiss> {
-        let mut calls = Calls::new(self.alloc)?;
-        self.ejects.store_ends(
-            self.alloc,
-            &mut calls,
-            uid_of(serial),
-            Some(1),
-            removal,
-            end,
-        )?;
-        Ok(Seen::Done)
-    }
-
-    fn wake(&mut self, serial: u32, number: i64) -> Result<Seen, Amiss> {
-        let mut calls = asked(self.alloc, serial, b"Get", None)?;
-        let durable = integers(self.alloc, Some(number))?;
-        self.ejects.wake(
-            self.alloc,
-            &self.types,
-            &mut calls,
-            uid_of(serial),
-            self.cell,
-            &durable,
-        )?;
-        Ok(Seen::Done)
-    }
-
-    fn turn_away(&mut self, serial: u32, status: Status) -> Result<Seen, Amiss> {
-        let mut calls = asked(self.alloc, serial, b"Get", None)?;
+    fn store_ends(&mut self, rt: &impl Abort, serial: u32, removal: bool, end: StoreEnd) -> Seen {
+        let mut calls = no_calls(rt, self.alloc);
         self.ejects
-            .turn_away(self.alloc, &mut calls, uid_of(serial), status)?;
-        Ok(Seen::Reply(replied(&mut calls)))
+            .store_ends(
+                self.alloc,
+                &mut calls,
+                uid_of(serial),
+                Some(1),
+                removal,
+                end,
+            )
+            .expect(rt, "memory");
+        Seen::Done
+    }
+
+    fn wake(&mut self, rt: &impl Abort, serial: u32, number: i64) -> Seen {
+        let mut calls = asked(rt, self.alloc, serial, b"Get", None);
+        let durable = integers(rt, self.alloc, Some(number));
+        self.ejects
+            .wake(
+                self.alloc,
+                &self.types,
+                &mut calls,
+                uid_of(serial),
+                self.cell,
+                &durable,
+            )
+            .expect(rt, "memory");
+        Seen::Done
+    }
+
+    fn turn_away(&mut self, rt: &impl Abort, serial: u32, status: Status) -> Seen {
+        let mut calls = asked(rt, self.alloc, serial, b"Get", None);
+        self.ejects
+            .turn_away(self.alloc, &mut calls, uid_of(serial), status)
+            .expect(rt, "memory");
+        Seen::Reply(replied(&mut calls))
     }
 
     /// What is seen of the node.
-    fn look(&self, act: Act) -> Result<Seen, Amiss> {
+    fn look(&self, rt: &impl Abort, act: Act) -> Seen {
         match act {
             Act::May(serial) => {
                 let may = self.ejects.may(uid_of(serial));
-                Ok(Seen::May(may.wake, may.start, may.run))
+                Seen::May(may.wake, may.start, may.run)
             }
-            Act::NextReady(serial) => Ok(Seen::Number(self.ejects.next_ready(uid_of(serial), 0))),
-            Act::Number => Ok(Seen::Number(Some(self.ejects.number()))),
-            Act::Pending => Ok(Seen::Is(self.worker.pending())),
+            Act::NextReady(serial) => Seen::Number(self.ejects.next_ready(uid_of(serial), 0)),
+            Act::Number => Seen::Number(Some(self.ejects.number())),
+            Act::Pending => Seen::Is(self.worker.pending()),
             Act::StoreGoes(serial) => {
-                self.ejects.store_goes(uid_of(serial))?;
-                Ok(Seen::Done)
+                self.ejects
+                    .store_goes(uid_of(serial))
+                    .expect(rt, "it is there");
+                Seen::Done
             }
-            _ => Err(Amiss::MayNot),
+            _ => panic!(rt; "no act of these"),
         }
     }
 
     /// What comes from outside of the Ejects.
-    fn hear(&mut self, act: Act) -> Result<Seen, Amiss> {
+    fn hear(&mut self, rt: &impl Abort, act: Act) -> Seen {
         match act {
             Act::Note(serial) => {
-                self.ejects.note(self.alloc, uid_of(serial))?;
-                Ok(Seen::Done)
+                self.ejects
+                    .note(self.alloc, uid_of(serial))
+                    .expect(rt, "memory");
+                Seen::Done
             }
-            Act::StoreEnds(serial, removal, end) => self.store_ends(serial, removal, end),
+            Act::StoreEnds(serial, removal, end) => self.store_ends(rt, serial, removal, end),
             Act::Settles(serial, stays) => {
                 self.ejects.settles(uid_of(serial), stays);
-                Ok(Seen::Done)
+                Seen::Done
             }
-            Act::Wake(serial, number) => self.wake(serial, number),
-            Act::TurnAway(serial, status) => self.turn_away(serial, status),
+            Act::Wake(serial, number) => self.wake(rt, serial, number),
+            Act::TurnAway(serial, status) => self.turn_away(rt, serial, status),
             Act::Break(serial) => match self.ejects.broken(self.alloc, uid_of(serial), 1) {
-                Ok(()) => Ok(Seen::Done),
-                Err(_) => Ok(Seen::Refused),
+                Ok(()) => Seen::Done,
+                Err(_) => Seen::Refused,
             },
-            _ => self.look(act),
+            _ => self.look(rt, act),
         }
     }
 
-    fn take(&mut self, act: Act) -> Result<Seen, Amiss> {
+    fn take(&mut self, rt: &impl Abort, act: Act) -> Seen {
         match act {
-            Act::Create => self.create(),
-            Act::Request(serial, operation, number) => self.request(serial, operation, number),
-            Act::Start(serial, operation, number) => self.start(serial, operation, number),
-            Act::Turn(serial, operation, number) => self.turn(serial, operation, number),
+            Act::Create => self.create(rt),
+            Act::Request(serial, operation, number) => self.request(rt, serial, operation, number),
+            Act::Start(serial, operation, number) => self.start(rt, serial, operation, number),
+            Act::Turn(serial, operation, number) => self.turn(rt, serial, operation, number),
             Act::Call(serial, operation, number) => {
-                let _refused = self.request(serial, operation, number)?;
-                let _started = self.start(serial, operation, number)?;
-                self.turn(serial, operation, number)
+                let _refused = self.request(rt, serial, operation, number);
+                let _started = self.start(rt, serial, operation, number);
+                self.turn(rt, serial, operation, number)
             }
-            _ => self.hear(act),
+            _ => self.hear(rt, act),
         }
     }
 }
@@ -413,13 +447,17 @@ const RUNS: &[(&str, &[(Act, Seen)])] = &[
     ),
 ];
 
-#[test]
-fn acts_show_what_they_do(rt: HostRuntime) -> Result<(), Fail> {
-    for &(run, rows) in RUNS {
-        let mut bench = new_bench(rt.alloc())?;
-        for &(act, wanted) in rows {
-            assert_eq!(rt; bench.take(act)?, wanted, "{run}");
-        }
+/// The acts of a run, each of which shows at a new node what stands there.
+fn check(rt: &impl Abort, alloc: Global, run: &str, rows: &[(Act, Seen)]) {
+    let mut bench = new_bench(rt, alloc);
+    for &(act, wanted) in rows {
+        assert_same(rt, &bench.take(rt, act), &wanted, run);
     }
-    Ok(())
+}
+
+#[test]
+fn acts_show_what_they_do(rt: HostRuntime) {
+    for &(run, rows) in RUNS {
+        check(&rt, rt.alloc(), run, rows);
+    }
 }

@@ -1,16 +1,15 @@
-ghost use Rattle.std.specs.Prelude.{IfOk, OnOk};
 ghost use Rattle.eden_kernel.specs.Stands.{held, IsWhole};
 
-use crate::common::{are_few, ask, places};
+use crate::common::{are_few, ask, fall_of, native_types, no_calls, places};
 use eden_disk::ImageMode;
 use eden_kernel::TurnEnd;
 use epl_syntax::Types;
-use history_tests::common::{Amiss, FIRST, Log, blank, text};
+use history_tests::common::{FIRST, Log, blank, text};
 use invocation::Calls;
 use passive_store::{Doubt, Store};
 use scheduled_node::ScheduledNode;
 use std::alloc::Global;
-use std::test::Fail;
+use std::process::Abort;
 
 /// What is done to a node, or asked of it.
 #[derive(Clone, Copy)]
@@ -41,112 +40,125 @@ enum Seen {
 }
 
 /// A node that has come up.
-fn up<St: Store>(alloc: Global, disk: St::Device) -> Result<ScheduledNode<St>, Amiss>
+fn up<St: Store>(rt: &impl Abort, alloc: Global, disk: St::Device) -> Box<ScheduledNode<St>>
 where
     St::Device: Drop,
-    ensures { IfOk result (λ node. IsWhole (held St.seen node.node)) }
+    ensures { IsWhole (held St.seen result.value.node) }
 {
-    match ScheduledNode::boot(alloc, disk, 1, None) {
-        Ok((node, _)) => Ok(node),
-        Err((_, _)) => Err(Amiss::Boot),
-    }
+    let (node, _) = ScheduledNode::boot(alloc, disk, 1, None)
+        .map_err(fall_of)
+        .expect(rt, "a boot");
+    Box::new(alloc, node).expect(rt, "memory")
 }
 
-fn create<St: Store>(
-    alloc: Global,
-    types: &Types,
-    node: &mut ScheduledNode<St>,
-) -> Result<Seen, Amiss>
+/// A new Cell, which is the first Eject.
+fn create<St: Store>(rt: &impl Abort, alloc: Global, types: &Types, node: &mut ScheduledNode<St>)
     requires { IsWhole (held St.seen node.old.node) }
-    ensures { OnOk result (IsWhole (held St.seen node.new.node)) }
+    ensures { IsWhole (held St.seen node.new.node) }
 {
-    let Some(kind) = edentypes::find(types, &text(alloc, b"Cell")?) else {
-        return Err(Amiss::Created);
-    };
-    match node.create(alloc, types, kind)? {
-        Ok(FIRST) => Ok(Seen::Done),
-        _ => Err(Amiss::Created),
-    }
+    let name = text(alloc, b"Cell").expect(rt, "memory");
+    let kind = edentypes::find(types, &name).expect(rt, "a Cell is native");
+    let created = node.create(alloc, types, kind).expect(rt, "memory");
+    assert!(rt; created == Ok(FIRST), "it is another Eject");
 }
 
 /// The kind and the process of the next key of a node that goes on, whose turn is taken.
 fn turn<St: Store>(
+    rt: &impl Abort,
     alloc: Global,
     types: &Types,
     calls: &mut Calls,
     node: &mut ScheduledNode<St>,
-) -> Result<Seen, Amiss>
+) -> Seen
     requires { IsWhole (held St.seen node.old.node) }
-    ensures { OnOk result (IsWhole (held St.seen node.new.node)) }
+    ensures { IsWhole (held St.seen node.new.node) }
 {
-    let Some(key) = node.next(None) else {
-        return Err(Amiss::MayNot);
-    };
-    if !are_few(calls) {
-        return Err(Amiss::Many);
-    }
-    match node.turn(alloc, types, calls, &places(), key)? {
-        (_, TurnEnd::Up) => Ok(Seen::Key(key.kind, key.process)),
-        (_, TurnEnd::Down) => Err(Amiss::Down),
+    let key = node.next(None).expect(rt, "a key");
+    assert!(rt; are_few(calls), "too many calls");
+    let (event, behind) = node
+        .turn(alloc, types, calls, &places(), key)
+        .expect(rt, "memory");
+    drop(event);
+    match behind {
+        TurnEnd::Up => Seen::Key(key.kind, key.process),
+        TurnEnd::Down => panic!(rt; "the node is down"),
     }
 }
 
 /// Whether there is one key, which is the next and the last.
-fn has_one_key<St: Store>(alloc: Global, node: &ScheduledNode<St>) -> Result<bool, Amiss> {
+fn has_one_key<St: Store>(rt: &impl Abort, alloc: Global, node: &ScheduledNode<St>) -> bool {
     let mut keys = Vec::new(alloc);
-    node.list(&mut keys)?;
+    node.list(&mut keys).expect(rt, "memory");
     let first = keys.first().copied();
-    Ok(keys.len() == 1 && node.next(None) == first && node.next(first).is_none())
+    keys.len() == 1 && node.next(None) == first && node.next(first).is_none()
 }
 
 fn take<St: Store>(
+    rt: &impl Abort,
     alloc: Global,
     types: &Types,
     calls: &mut Calls,
     node: &mut ScheduledNode<St>,
     act: Act,
-) -> Result<Seen, Amiss>
+) -> Seen
     requires { IsWhole (held St.seen node.old.node) }
-    ensures { OnOk result (IsWhole (held St.seen node.new.node)) }
+    ensures { IsWhole (held St.seen node.new.node) }
 {
     match act {
-        Act::Create => create(alloc, types, node),
+        Act::Create => {
+            create(rt, alloc, types, node);
+            Seen::Done
+        }
         Act::Ask(operation, number) => {
-            ask(alloc, calls, FIRST, operation, number)?;
-            Ok(Seen::Done)
+            ask(rt, alloc, calls, FIRST, operation, number);
+            Seen::Done
         }
         Act::Deliver => {
-            let _request = node.deliver(alloc, types, calls, 0)?;
-            Ok(Seen::Done)
+            drop(node.deliver(alloc, types, calls, 0).expect(rt, "memory"));
+            Seen::Done
         }
-        Act::Turn => turn(alloc, types, calls, node),
+        Act::Turn => turn(rt, alloc, types, calls, node),
         Act::Next => match node.next(None) {
-            Some(key) => Ok(Seen::Key(key.kind, key.process)),
-            None => Ok(Seen::NoKey),
+            Some(key) => Seen::Key(key.kind, key.process),
+            None => Seen::NoKey,
         },
-        Act::HasOneKey => Ok(Seen::Is(has_one_key(alloc, node)?)),
-        Act::HasAnswer => Ok(Seen::Is(calls.waiting(1, 0))),
+        Act::HasOneKey => Seen::Is(has_one_key(rt, alloc, node)),
+        Act::HasAnswer => Seen::Is(calls.waiting(1, 0)),
+    }
+}
+
+/// A node does what stands in these rows, and shows what stands there.
+fn check_rows<St: Store>(
+    rt: &impl Abort,
+    alloc: Global,
+    types: &Types,
+    calls: &mut Calls,
+    node: &mut ScheduledNode<St>,
+    rows: &[(Act, Seen)],
+)
+    requires { IsWhole (held St.seen node.old.node) }
+{
+    for (place, &(act, wanted)) in rows.iter().enumerate() {
+        let seen = take(rt, alloc, types, calls, node, act);
+        assert!(rt; seen == wanted, "the row at {place}");
     }
 }
 
 /// A node that boots over a disk, does what stands in these rows and shows what stands there, and crashes.
 fn run<St: Store + Drop>(
+    rt: &impl Abort,
     alloc: Global,
     disk: St::Device,
     rows: &[(Act, Seen)],
-) -> Result<(St::Device, Option<Doubt>), Amiss>
+) -> (St::Device, Option<Doubt>)
 where
     St::Device: Drop,
 {
-    let types = Types::native(alloc)?;
-    let mut calls = Calls::new(alloc)?;
-    let mut node = up::<St>(alloc, disk)?;
-    for (place, &(act, wanted)) in rows.iter().enumerate() {
-        if take(alloc, &types, &mut calls, &mut node, act)? != wanted {
-            return Err(Amiss::Row { place });
-        }
-    }
-    Ok(node.crash(ImageMode::Lose))
+    let types = native_types(rt, alloc);
+    let mut calls = no_calls(rt, alloc);
+    let mut node = up::<St>(rt, alloc, disk);
+    check_rows(rt, alloc, &types, &mut calls, &mut node, rows);
+    Box::into_inner(node).crash(ImageMode::Lose)
 }
 
 const ANSWERED: &[(Act, Seen)] = &[
@@ -184,18 +196,30 @@ const WOKEN: &[(Act, Seen)] = &[
     (Act::Turn, Seen::Key(4, 1)),
 ];
 
-#[test]
-fn a_cell_from_its_creation_to_its_answer(rt: HostRuntime) -> Result<(), Fail> {
-    let alloc = rt.alloc();
-    run::<Log>(alloc, blank(alloc)?, ANSWERED)?;
-    Ok(())
+/// A run that leaves nothing in doubt, and one of another node over the disk that it leaves.
+fn run_twice<St: Store + Drop>(
+    rt: &impl Abort,
+    alloc: Global,
+    disk: St::Device,
+    first: &[(Act, Seen)],
+    second: &[(Act, Seen)],
+)
+where
+    St::Device: Drop,
+{
+    let (disk, doubt) = run::<St>(rt, alloc, disk, first);
+    assert!(rt; doubt.is_none(), "a crash with a doubt");
+    drop(run::<St>(rt, alloc, disk, second));
 }
 
 #[test]
-fn a_cell_that_saves_and_a_crash(rt: HostRuntime) -> Result<(), Fail> {
-    let alloc = rt.alloc();
-    let (disk, doubt) = run::<Log>(alloc, blank(alloc)?, SAVED)?;
-    assert!(rt; doubt.is_none());
-    run::<Log>(alloc, disk, WOKEN)?;
-    Ok(())
+fn a_cell_from_its_creation_to_its_answer(rt: HostRuntime) {
+    let disk = blank(rt.alloc()).expect(&rt, "memory");
+    drop(run::<Log>(&rt, rt.alloc(), disk, ANSWERED));
+}
+
+#[test]
+fn a_cell_that_saves_and_a_crash(rt: HostRuntime) {
+    let disk = blank(rt.alloc()).expect(&rt, "memory");
+    run_twice::<Log>(&rt, rt.alloc(), disk, SAVED, WOKEN);
 }

@@ -5,11 +5,13 @@ ghost use Rattle.passive_store.specs.Kept.{Idle};
 use crate::changes::{
     Asked, ask, change_by_steps, delete, fail_to_put, keeps, open, put, settle_all, settle_by_steps,
 };
-use crate::disks::{Bytes, make_bytes};
+use crate::disks::{Bytes, blank_disk};
 use capability::Uid;
-use eden_disk::{Arm, Disk};
-use passive_store::{Store, StoreRefusal};
+use eden_disk::{Arm, Disk, SimDisk};
+use passive_blocks::BlockStore;
+use passive_store::{LogStore, Store, StoreRefusal};
 use std::alloc::Global;
+use std::process::Abort;
 
 /// A call of a store.
 #[derive(Clone, Copy)]
@@ -63,34 +65,39 @@ fn question<St: Store>(store: &St, call: Call) -> Answer {
 
 /// Makes a put fail in its first device call, asks a uid then, and settles it.
 fn fail_and_settle<St: Store>(
+    rt: &impl Abort,
     alloc: Global,
     store: &mut St,
     change: (Uid, Bytes),
     asked: Uid,
     is_by_steps: bool,
-) -> Result<Answer, StoreRefusal>
+) -> Answer
     requires power { IsTrue (St.seen store.old).disk.counts.power }
     requires idle { (St.seen store.old).work ≡ Idle }
     requires node { (St.seen store.old).node ≡ 1 }
-    ensures power { OnOk result (IsTrue (St.seen store.new).disk.counts.power) }
-    ensures idle { OnOk result ((St.seen store.new).work ≡ Idle) }
-    ensures node { OnOk result ((St.seen store.new).node ≡ 1) }
+    ensures power { IsTrue (St.seen store.new).disk.counts.power }
+    ensures idle { (St.seen store.new).work ≡ Idle }
+    ensures node { (St.seen store.new).node ≡ 1 }
 {
     let (uid, bytes) = change;
-    let body = make_bytes(alloc, bytes)?;
     store.disk_mut_arm(Arm::Fail { after: 1 });
-    fail_to_put(alloc, store, uid, &body)?;
+    fail_to_put(rt, alloc, store, uid, bytes);
     let answer = Answer::Asked(ask(store, asked));
     if is_by_steps {
-        settle_by_steps(store)?;
-        return Ok(answer);
+        settle_by_steps(store).expect(rt, "the put is settled by steps");
+    } else {
+        settle_all(store).expect(rt, "the put is settled");
     }
-    settle_all(store)?;
-    Ok(answer)
+    answer
 }
 
-/// Makes a call, and tells what it answers.
-fn make_call<St: Store>(alloc: Global, store: &mut St, call: Call) -> Result<Answer, StoreRefusal>
+/// Makes a change or a settling.
+fn make_change<St: Store>(
+    rt: &impl Abort,
+    alloc: Global,
+    store: &mut St,
+    call: Call,
+) -> Result<(), StoreRefusal>
     requires power { IsTrue (St.seen store.old).disk.counts.power }
     requires idle { (St.seen store.old).work ≡ Idle }
     requires node { (St.seen store.old).node ≡ 1 }
@@ -99,66 +106,112 @@ fn make_call<St: Store>(alloc: Global, store: &mut St, call: Call) -> Result<Ans
     ensures node { OnOk result ((St.seen store.new).node ≡ 1) }
 {
     match call {
-        Call::Put(uid, bytes) => {
-            let body = make_bytes(alloc, bytes)?;
-            put(alloc, store, uid, &body)?;
-            Ok(Answer::Made)
-        }
-        Call::Delete(uid) => {
-            delete(alloc, store, uid)?;
-            Ok(Answer::Made)
-        }
-        Call::ChangeBySteps(number) => {
-            change_by_steps(alloc, store, number)?;
-            Ok(Answer::Made)
-        }
+        Call::Put(uid, bytes) => put(rt, alloc, store, uid, bytes),
+        Call::Delete(uid) => delete(alloc, store, uid),
+        Call::ChangeBySteps(number) => change_by_steps(rt, alloc, store, number),
+        _ => settle_all(store),
+    }
+}
+
+/// Reads under a uid, or makes a put that fails and settles it.
+fn read_or_fail<St: Store>(rt: &impl Abort, alloc: Global, store: &mut St, call: Call) -> Answer
+    requires power { IsTrue (St.seen store.old).disk.counts.power }
+    requires idle { (St.seen store.old).work ≡ Idle }
+    requires node { (St.seen store.old).node ≡ 1 }
+    ensures power { IsTrue (St.seen store.new).disk.counts.power }
+    ensures idle { (St.seen store.new).work ≡ Idle }
+    ensures node { (St.seen store.new).node ≡ 1 }
+{
+    match call {
         Call::FailToPut(uid, bytes, asked) => {
-            fail_and_settle(alloc, store, (uid, bytes), asked, false)
+            fail_and_settle(rt, alloc, store, (uid, bytes), asked, false)
         }
         Call::FailAndStep(uid, bytes, asked) => {
-            fail_and_settle(alloc, store, (uid, bytes), asked, true)
+            fail_and_settle(rt, alloc, store, (uid, bytes), asked, true)
         }
-        Call::Get(uid, bytes) => {
-            let is_kept = keeps(alloc, store, uid, bytes)?;
-            Ok(Answer::Is(is_kept))
-        }
-        Call::Settle => {
-            settle_all(store)?;
+        Call::Get(uid, bytes) => Answer::Is(keeps(rt, alloc, store, uid, bytes)),
+        _ => Answer::Made,
+    }
+}
+
+/// Makes a call, and tells what it answers.
+fn make_call<St: Store>(
+    rt: &impl Abort,
+    alloc: Global,
+    store: &mut St,
+    call: Call,
+) -> Result<Answer, StoreRefusal>
+    requires power { IsTrue (St.seen store.old).disk.counts.power }
+    requires idle { (St.seen store.old).work ≡ Idle }
+    requires node { (St.seen store.old).node ≡ 1 }
+    ensures power { OnOk result (IsTrue (St.seen store.new).disk.counts.power) }
+    ensures idle { OnOk result ((St.seen store.new).work ≡ Idle) }
+    ensures node { OnOk result ((St.seen store.new).node ≡ 1) }
+{
+    match call {
+        Call::Put(..) | Call::Delete(_) | Call::ChangeBySteps(_) | Call::Settle => {
+            make_change(rt, alloc, store, call)?;
             Ok(Answer::Made)
+        }
+        Call::FailToPut(..) | Call::FailAndStep(..) | Call::Get(..) => {
+            Ok(read_or_fail(rt, alloc, store, call))
         }
         _ => Ok(question(store, call)),
     }
 }
 
-/// Makes the calls of a table, and tells how many answer what stands beside them, up to the first that does not. A refusal is
-/// the last answer.
-fn play<St: Store>(alloc: Global, store: &mut St, calls: &[(Call, Answer)]) -> usize
+/// Asserts that a row of a table answers what stands beside it.
+fn expect_answer(rt: &impl Abort, row: usize, answer: Answer, wanted: Answer) {
+    assert!(rt; answer == wanted, "row {row}");
+}
+
+/// Makes the calls of a table, and asserts that each answers what stands beside it. A refusal is the last answer.
+fn play<St: Store>(rt: &impl Abort, alloc: Global, store: &mut St, calls: &[(Call, Answer)])
     requires power { IsTrue (St.seen store.old).disk.counts.power }
     requires idle { (St.seen store.old).work ≡ Idle }
     requires node { (St.seen store.old).node ≡ 1 }
 {
     for (row, &(call, wanted)) in calls.iter().enumerate() {
-        match make_call(alloc, store, call) {
-            Ok(answer) if answer == wanted => {}
-            Err(refusal) if Answer::Refused(refusal) == wanted => return row + 1,
-            _ => return row,
+        match make_call(rt, alloc, store, call) {
+            Ok(answer) => expect_answer(rt, row, answer, wanted),
+            Err(refusal) => {
+                expect_answer(rt, row, Answer::Refused(refusal), wanted);
+                assert!(rt; row + 1 == calls.len(), "a refusal in row {row}");
+                return;
+            }
         }
     }
-    calls.len()
 }
 
 /// The same over a disk that is opened.
-pub(crate) fn play_over<St: Store + Drop>(
+fn play_over<St: Store + Drop>(
+    rt: &impl Abort,
     alloc: Global,
-    disk: St::Device,
+    disk: Box<St::Device>,
     calls: &[(Call, Answer)],
-) -> Result<usize, StoreRefusal>
+)
 where
     St::Device: Drop,
-    requires power { IsTrue (St.Device.counts disk).power }
+    requires power { IsTrue (St.Device.counts disk.value).power }
 {
-    match open::<St>(alloc, disk) {
-        Ok(mut store) => Ok(play(alloc, &mut store, calls)),
-        Err((_disk, refusal)) => Err(refusal),
-    }
+    let opened = open::<St>(alloc, Box::into_inner(disk));
+    let mut store = opened.ok().expect(rt, "the disk is opened");
+    play(rt, alloc, &mut store, calls);
+}
+
+/// The same over a log on a blank disk of this size.
+pub(crate) fn play_over_log(rt: &impl Abort, alloc: Global, size: u32, calls: &[(Call, Answer)]) {
+    let disk = blank_disk(rt, alloc, size);
+    play_over::<LogStore<SimDisk>>(rt, alloc, disk, calls);
+}
+
+/// The same over blocks on a blank disk of this size.
+pub(crate) fn play_over_blocks(
+    rt: &impl Abort,
+    alloc: Global,
+    size: u32,
+    calls: &[(Call, Answer)],
+) {
+    let disk = blank_disk(rt, alloc, size);
+    play_over::<BlockStore<SimDisk>>(rt, alloc, disk, calls);
 }

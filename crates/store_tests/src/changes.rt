@@ -4,9 +4,11 @@ ghost use Rattle.passive_store.specs.Kept.{IsOwn, IsEject, Idle, is_busy, is_uns
 
 use crate::disks::{Bytes, are_bytes, make_bytes};
 use capability::{Body, Uid};
-use eden_disk::Disk;
+use eden_disk::{Disk, SimDisk};
+use passive_blocks::BlockStore;
 use passive_store::{Pick, Progress, Store, StoreRefusal, finish, settle_whole};
 use std::alloc::Global;
+use std::process::Abort;
 
 pub(crate) const EPOCH: Uid = Uid {
     node: 1,
@@ -47,12 +49,9 @@ const CHANGES: &[(Uid, Option<Bytes>)] = &[
 /// How many changes there are.
 pub(crate) const COUNT: u32 = 5;
 
-/// One of the five changes.
+/// One of the five changes, or the last one.
 fn change_of(number: u32) -> (Uid, Option<Bytes>) {
-    match CHANGES.get(number as usize) {
-        Some(change) => *change,
-        None => (SECOND, None),
-    }
+    CHANGES[number.min(COUNT - 1) as usize]
 }
 
 /// What is kept behind no change, behind the first one, and so on.
@@ -99,6 +98,16 @@ fn may_keep(uid: Uid, count: usize) -> bool
     uid.serial != 0
 }
 
+/// Makes bytes that may be kept under a uid of node 1.
+fn make_body(rt: &impl Abort, alloc: Global, uid: Uid, bytes: Bytes) -> Vec<u8>
+    ensures own { IsOwn 1 uid (length result.items) }
+    ensures limit { length result.items ≤ 262144 }
+{
+    let body = make_bytes(rt, alloc, bytes);
+    assert!(rt; may_keep(uid, body.len()));
+    body
+}
+
 /// Whether a uid is that of an Eject of node 1.
 fn is_eject(uid: Uid) -> bool
     ensures { IsTrue result → IsEject 1 uid }
@@ -120,24 +129,40 @@ pub(crate) fn open<St: Store>(
 }
 
 /// Opens a disk of node 1 and closes it, and answers it with its refusal.
-pub(crate) fn refusal_of<St: Store>(
+fn refusal_of<St: Store>(
+    rt: &impl Abort,
     alloc: Global,
-    disk: St::Device,
-) -> (St::Device, Option<StoreRefusal>)
-    requires power { IsTrue (St.Device.counts disk).power }
+    disk: Box<St::Device>,
+) -> (Box<St::Device>, Option<StoreRefusal>)
+where
+    St::Device: Drop,
+    requires power { IsTrue (St.Device.counts disk.value).power }
 {
-    match open::<St>(alloc, disk) {
+    let (disk, refusal) = match open::<St>(alloc, Box::into_inner(disk)) {
         Ok(store) => (store.close(), None),
         Err((disk, refusal)) => (disk, Some(refusal)),
-    }
+    };
+    (Box::new(alloc, disk).expect(rt, "memory"), refusal)
+}
+
+/// The same of a disk of blocks.
+pub(crate) fn refusal_of_blocks(
+    rt: &impl Abort,
+    alloc: Global,
+    disk: Box<SimDisk>,
+) -> (Box<SimDisk>, Option<StoreRefusal>)
+    requires power { IsTrue disk.value.counts.power }
+{
+    refusal_of::<BlockStore<SimDisk>>(rt, alloc, disk)
 }
 
 /// Puts bytes under a uid.
 pub(crate) fn put<St: Store>(
+    rt: &impl Abort,
     alloc: Global,
     store: &mut St,
     uid: Uid,
-    body: &[u8],
+    bytes: Bytes,
 ) -> Result<(), StoreRefusal>
     requires power { IsTrue (St.seen store.old).disk.counts.power }
     requires idle { (St.seen store.old).work ≡ Idle }
@@ -146,10 +171,8 @@ pub(crate) fn put<St: Store>(
     ensures idle { OnOk result ((St.seen store.new).work ≡ Idle) }
     ensures node { (St.seen store.new).node ≡ 1 }
 {
-    if !may_keep(uid, body.len()) {
-        return Err(WRONG_CALL);
-    }
-    store.put(alloc, uid, body)
+    let body = make_body(rt, alloc, uid, bytes);
+    store.put(alloc, uid, &body)
 }
 
 /// Removes what is kept under a uid.
@@ -169,6 +192,7 @@ pub(crate) fn delete<St: Store>(alloc: Global, store: &mut St, uid: Uid) -> Resu
 
 /// Makes one of the five changes.
 pub(crate) fn change<St: Store>(
+    rt: &impl Abort,
     alloc: Global,
     store: &mut St,
     number: u32,
@@ -181,16 +205,18 @@ pub(crate) fn change<St: Store>(
     ensures node { OnOk result ((St.seen store.new).node ≡ 1) }
 {
     match change_of(number) {
-        (uid, Some(bytes)) => {
-            let body = make_bytes(alloc, bytes)?;
-            put(alloc, store, uid, &body)
-        }
+        (uid, Some(bytes)) => { put(rt, alloc, store, uid, bytes) }
         (uid, None) => delete(alloc, store, uid),
     }
 }
 
 /// Makes the first changes, so many. Where one is refused it answers how many were acknowledged.
-pub(crate) fn make_changes<St: Store>(alloc: Global, store: &mut St, count: u32) -> Result<(), u32>
+pub(crate) fn make_changes<St: Store>(
+    rt: &impl Abort,
+    alloc: Global,
+    store: &mut St,
+    count: u32,
+) -> Result<(), u32>
     requires power { IsTrue (St.seen store.old).disk.counts.power }
     requires idle { (St.seen store.old).work ≡ Idle }
     requires node { (St.seen store.old).node ≡ 1 }
@@ -199,7 +225,7 @@ pub(crate) fn make_changes<St: Store>(alloc: Global, store: &mut St, count: u32)
     ensures node { OnOk result ((St.seen store.new).node ≡ 1) }
 {
     for number in 0..count {
-        match change(alloc, store, number) {
+        match change(rt, alloc, store, number) {
             Ok(()) => {}
             Err(_) => return Err(number),
         }
@@ -209,10 +235,11 @@ pub(crate) fn make_changes<St: Store>(alloc: Global, store: &mut St, count: u32)
 
 /// Begins the job of a put.
 fn begin_put<St: Store>(
+    rt: &impl Abort,
     alloc: Global,
     store: &mut St,
     uid: Uid,
-    body: &[u8],
+    bytes: Bytes,
 ) -> Result<(), StoreRefusal>
     requires idle { (St.seen store.old).work ≡ Idle }
     requires node { (St.seen store.old).node ≡ 1 }
@@ -221,10 +248,8 @@ fn begin_put<St: Store>(
     ensures disk { (St.seen store.new).disk ≡ (St.seen store.old).disk }
     ensures node { (St.seen store.new).node ≡ 1 }
 {
-    if !may_keep(uid, body.len()) {
-        return Err(WRONG_CALL);
-    }
-    store.begin_put(alloc, uid, body)
+    let body = make_body(rt, alloc, uid, bytes);
+    store.begin_put(alloc, uid, &body)
 }
 
 /// Begins the job of a removal.
@@ -243,7 +268,12 @@ fn begin_delete<St: Store>(alloc: Global, store: &mut St, uid: Uid) -> Result<()
 }
 
 /// Begins the job of one of the five changes.
-fn begin<St: Store>(alloc: Global, store: &mut St, number: u32) -> Result<(), StoreRefusal>
+fn begin<St: Store>(
+    rt: &impl Abort,
+    alloc: Global,
+    store: &mut St,
+    number: u32,
+) -> Result<(), StoreRefusal>
     requires power { IsTrue (St.seen store.old).disk.counts.power }
     requires idle { (St.seen store.old).work ≡ Idle }
     requires node { (St.seen store.old).node ≡ 1 }
@@ -253,16 +283,14 @@ fn begin<St: Store>(alloc: Global, store: &mut St, number: u32) -> Result<(), St
     ensures node { (St.seen store.new).node ≡ 1 }
 {
     match change_of(number) {
-        (uid, Some(bytes)) => {
-            let body = make_bytes(alloc, bytes)?;
-            begin_put(alloc, store, uid, &body)
-        }
+        (uid, Some(bytes)) => { begin_put(rt, alloc, store, uid, bytes) }
         (uid, None) => begin_delete(alloc, store, uid),
     }
 }
 
 /// Makes some device calls of a change, one by one.
 pub(crate) fn make_part<St: Store>(
+    rt: &impl Abort,
     alloc: Global,
     store: &mut St,
     number: u32,
@@ -272,7 +300,7 @@ pub(crate) fn make_part<St: Store>(
     requires idle { (St.seen store.old).work ≡ Idle }
     requires node { (St.seen store.old).node ≡ 1 }
 {
-    begin(alloc, store, number)?;
+    begin(rt, alloc, store, number)?;
     for _ in 0..calls {
         if let Progress::Done = store.advance()? {
             return Ok(());
@@ -296,6 +324,7 @@ fn finish_job<St: Store>(store: &mut St) -> Result<(), StoreRefusal>
 
 /// Makes a change by its steps.
 pub(crate) fn change_by_steps<St: Store>(
+    rt: &impl Abort,
     alloc: Global,
     store: &mut St,
     number: u32,
@@ -307,109 +336,114 @@ pub(crate) fn change_by_steps<St: Store>(
     ensures idle { OnOk result ((St.seen store.new).work ≡ Idle) }
     ensures node { OnOk result ((St.seen store.new).node ≡ 1) }
 {
-    begin(alloc, store, number)?;
+    begin(rt, alloc, store, number)?;
     finish_job(store)
 }
 
 /// Whether a body is there, and is this one; or whether none is.
-fn is_body(found: Option<Body>, bytes: Option<Bytes>) -> bool {
+fn is_body(found: &Option<Body>, bytes: Option<Bytes>) -> bool {
     match (found, bytes) {
         (Some(body), Some(bytes)) => are_bytes(body.as_slice(), bytes),
-        (Some(_), None) | (None, Some(_)) => false,
         (None, None) => true,
+        _ => false,
     }
 }
 
 /// Whether a store keeps these bytes under a uid, or none.
 pub(crate) fn keeps<St: Store>(
+    rt: &impl Abort,
     alloc: Global,
     store: &mut St,
     uid: Uid,
     bytes: Option<Bytes>,
-) -> Result<bool, StoreRefusal>
+) -> bool
     requires power { IsTrue (St.seen store.old).disk.counts.power }
     requires idle { (St.seen store.old).work ≡ Idle }
-    ensures power { OnOk result (IsTrue (St.seen store.new).disk.counts.power) }
+    ensures power { IsTrue (St.seen store.new).disk.counts.power }
     ensures idle { (St.seen store.new).work ≡ Idle }
     ensures node { (St.seen store.new).node ≡ (St.seen store.old).node }
 {
-    let found = store.get(alloc, uid)?;
-    Ok(is_body(found, bytes))
+    let found = store.get(alloc, uid).expect(rt, "the bytes are read");
+    is_body(&found, bytes)
 }
 
 /// Whether a store keeps all of this.
 pub(crate) fn keeps_all<St: Store>(
+    rt: &impl Abort,
     alloc: Global,
     store: &mut St,
     all: &[(Uid, Option<Bytes>)],
-) -> Result<bool, StoreRefusal>
+) -> bool
     requires power { IsTrue (St.seen store.old).disk.counts.power }
     requires idle { (St.seen store.old).work ≡ Idle }
-    ensures power { OnOk result (IsTrue (St.seen store.new).disk.counts.power) }
-    ensures idle { OnOk result ((St.seen store.new).work ≡ Idle) }
+    ensures power { IsTrue (St.seen store.new).disk.counts.power }
+    ensures idle { (St.seen store.new).work ≡ Idle }
 {
     for &(uid, bytes) in all {
-        if !keeps(alloc, store, uid, bytes)? {
-            return Ok(false);
+        if !keeps(rt, alloc, store, uid, bytes) {
+            return false;
         }
     }
-    Ok(true)
+    true
 }
 
 /// Whether a store keeps what so many changes leave.
 pub(crate) fn keeps_changes<St: Store>(
+    rt: &impl Abort,
     alloc: Global,
     store: &mut St,
     made: u32,
-) -> Result<bool, StoreRefusal>
+) -> bool
     requires power { IsTrue (St.seen store.old).disk.counts.power }
     requires idle { (St.seen store.old).work ≡ Idle }
-    ensures power { OnOk result (IsTrue (St.seen store.new).disk.counts.power) }
-    ensures idle { OnOk result ((St.seen store.new).work ≡ Idle) }
+    ensures power { IsTrue (St.seen store.new).disk.counts.power }
+    ensures idle { (St.seen store.new).work ≡ Idle }
 {
-    keeps_all(alloc, store, KEPT[made.min(COUNT) as usize])
+    keeps_all(rt, alloc, store, KEPT[made.min(COUNT) as usize])
 }
 
 /// Opens a disk and answers it, and whether it keeps all of this.
 pub(crate) fn look<St: Store>(
+    rt: &impl Abort,
     alloc: Global,
-    disk: St::Device,
+    disk: Box<St::Device>,
     all: &[(Uid, Option<Bytes>)],
-) -> (St::Device, bool)
-    requires { IsTrue (St.Device.counts disk).power }
+) -> (Box<St::Device>, bool)
+where
+    St::Device: Drop,
+    requires { IsTrue (St.Device.counts disk.value).power }
 {
-    match open::<St>(alloc, disk) {
+    let (disk, is_kept) = match open::<St>(alloc, Box::into_inner(disk)) {
         Err((disk, _)) => (disk, false),
         Ok(mut store) => {
-            let is_kept = keeps_all(alloc, &mut store, all) == Ok(true);
+            let is_kept = keeps_all(rt, alloc, &mut store, all);
             (store.close(), is_kept)
         }
-    }
+    };
+    (Box::new(alloc, disk).expect(rt, "memory"), is_kept)
 }
 
 /// A put that is to fail.
 pub(crate) fn fail_to_put<St: Store>(
+    rt: &impl Abort,
     alloc: Global,
     store: &mut St,
     uid: Uid,
-    body: &[u8],
-) -> Result<(), StoreRefusal>
+    bytes: Bytes,
+)
     requires power { IsTrue (St.seen store.old).disk.counts.power }
     requires idle { (St.seen store.old).work ≡ Idle }
     requires node { (St.seen store.old).node ≡ 1 }
-    ensures power { OnOk result (IsTrue (St.seen store.new).disk.counts.power) }
-    ensures idle { OnOk result (is_busy (St.seen store.new).work ≡ false) }
-    ensures unsettled { OnOk result (IsTrue (is_unsettled (St.seen store.new).work)) }
-    ensures unsynced { OnOk result (is_synced (St.seen store.new).work ≡ false) }
+    ensures power { IsTrue (St.seen store.new).disk.counts.power }
+    ensures idle { is_busy (St.seen store.new).work ≡ false }
+    ensures unsettled { IsTrue (is_unsettled (St.seen store.new).work) }
+    ensures unsynced { is_synced (St.seen store.new).work ≡ false }
     ensures node { (St.seen store.new).node ≡ 1 }
 {
-    if !may_keep(uid, body.len()) {
-        return Err(WRONG_CALL);
-    }
-    match store.put(alloc, uid, body) {
-        Err(StoreRefusal::Failed) => Ok(()),
-        Err(refusal) => Err(refusal),
-        Ok(()) => Err(WRONG_CALL),
+    let body = make_body(rt, alloc, uid, bytes);
+    match store.put(alloc, uid, &body) {
+        Err(StoreRefusal::Failed) => {}
+        _ => panic!(rt; "the put does not fail"),
     }
 }
 

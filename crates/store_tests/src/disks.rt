@@ -1,8 +1,10 @@
-//! What the tests of disks and of stores share: bytes by their parts, and faults of a disk.
-ghost use Rattle.std.specs.Prelude.{◌≡◌, IsTrue};
+//! What the tests of disks and of stores share: bytes by their parts, disks, and faults of a disk. Want of memory ends the
+//! process, and so fails the test.
+ghost use Rattle.std.specs.Prelude.{◌≡◌, ◌<◌, ◌^◌, IsTrue, length};
 
 use eden_disk::{Arm, Disk, ImageMode, SimDisk};
-use std::alloc::{AllocError, Global};
+use std::alloc::Global;
+use std::process::Abort;
 
 /// A part of some bytes, and how often it stands there.
 pub(crate) type Bytes = (&'static [u8], usize);
@@ -24,13 +26,30 @@ pub(crate) enum Harm {
 }
 
 /// Makes bytes of their part.
-pub(crate) fn make_bytes(alloc: Global, bytes: Bytes) -> Result<Vec<u8>, AllocError> {
+pub(crate) fn make_bytes(rt: &impl Abort, alloc: Global, bytes: Bytes) -> Vec<u8> {
     let (part, times) = bytes;
     let mut made = Vec::new(alloc);
     for _ in 0..times {
-        made.extend_from_slice(part)?;
+        made.extend_from_slice(part).expect(rt, "memory");
     }
-    Ok(made)
+    made
+}
+
+/// A disk of this size, of zero bytes.
+pub(crate) fn blank_disk(rt: &impl Abort, alloc: Global, size: u32) -> Box<SimDisk>
+    ensures { IsTrue result.value.counts.power × (result.value.counts.size ≡ size) }
+{
+    let disk = SimDisk::new(alloc, size).expect(rt, "memory");
+    Box::new(alloc, disk).expect(rt, "memory")
+}
+
+/// A disk that holds this image.
+pub(crate) fn disk_with(rt: &impl Abort, alloc: Global, image: Vec<u8>) -> Box<SimDisk>
+    requires { length image.items < 2 ^ 32 }
+    ensures { IsTrue result.value.counts.power × (result.value.counts.size ≡ length image.items) }
+{
+    let disk = SimDisk::of(alloc, image).expect(rt, "memory");
+    Box::new(alloc, disk).expect(rt, "memory")
 }
 
 /// Whether bytes are these.

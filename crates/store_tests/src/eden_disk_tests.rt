@@ -1,12 +1,12 @@
-ghost use Rattle.std.specs.Prelude.{◌≡◌, ◌≤◌, IsTrue, length, IfOk};
+ghost use Rattle.std.specs.Prelude.{◌≡◌, ◌≤◌, IsTrue, length};
 
-use crate::disks::{Harm, arm, counts, counts_behind, cut_power};
+use crate::disks::{Harm, arm, blank_disk, counts, counts_behind, cut_power, disk_with};
 use eden_disk::{
     Arm, Disk, DiskRefusal, ImageMode, SimDisk, calls_are_timed, earlier_moments_stay,
     left_after_a_call, left_in_a_call,
 };
-use std::alloc::{AllocError, Global};
-use std::test::Fail;
+use std::alloc::Global;
+use std::process::Abort;
 
 const GARBLE: ImageMode = ImageMode::Garble { byte: 35 };
 
@@ -18,37 +18,39 @@ const CUTS: &[(ImageMode, u8)] = &[
 ];
 
 /// Whether a cut leaves this byte of 255, which was written and not synced.
-fn leaves(alloc: Global, mode: ImageMode, left: u8) -> Result<bool, AllocError> {
-    let mut disk = SimDisk::new(alloc, 1024)?;
-    if disk.write(10, &[255]).is_err() {
-        return Ok(false);
-    }
+fn leaves(rt: &impl Abort, alloc: Global, mode: ImageMode, left: u8) -> bool {
+    let mut disk = blank_disk(rt, alloc, 1024);
+    disk.write(10, &[255]).expect(rt, "the byte is written");
     disk.cut_power(mode);
     let mut wanted = [0; 1024];
     wanted[10] = left;
-    shows(alloc, &disk, &wanted)
+    shows(rt, alloc, &disk, &wanted)
 }
 
 #[test]
-fn a_cut_leaves_what_its_mode_says(rt: HostRuntime) -> Result<(), Fail> {
+fn a_cut_leaves_what_its_mode_says(rt: HostRuntime) {
     for &(mode, left) in CUTS {
-        assert!(rt; leaves(rt.alloc(), mode, left)?, "{mode:?}");
+        assert!(rt; leaves(&rt, rt.alloc(), mode, left), "{mode:?}");
     }
-    Ok(())
 }
 
 /// A disk of eight dots.
-fn dots(alloc: Global) -> Result<SimDisk, AllocError>
-    ensures { IfOk result (λ d. IsTrue d.counts.power × (d.counts.size ≡ 8)) }
+fn dots(rt: &impl Abort, alloc: Global) -> Box<SimDisk>
+    ensures { IsTrue result.value.counts.power × (result.value.counts.size ≡ 8) }
 {
-    let image = Vec::from_slice(alloc, b"........")?;
-    SimDisk::of(alloc, image)
+    let image = Vec::from_slice(alloc, b"........").expect(rt, "memory");
+    disk_with(rt, alloc, image)
 }
 
 /// Whether these are its bytes.
-fn shows(alloc: Global, disk: &SimDisk, bytes: &[u8]) -> Result<bool, AllocError> {
-    let image = disk.image(alloc)?;
-    Ok(image.as_slice() == bytes)
+fn shows(rt: &impl Abort, alloc: Global, disk: &SimDisk, bytes: &[u8]) -> bool {
+    let image = disk.image(alloc).expect(rt, "memory");
+    image.as_slice() == bytes
+}
+
+/// Asserts that these are its bytes.
+fn expect_image(rt: &impl Abort, alloc: Global, disk: &SimDisk, bytes: &[u8]) {
+    assert!(rt; shows(rt, alloc, disk, bytes), "{bytes:?}");
 }
 
 /// A write of four bytes, a sync, a write of three and a read of two, up to the first refusal.
@@ -64,15 +66,15 @@ fn run<D: Disk>(disk: &mut D, out: &mut [u8]) -> Result<(), DiskRefusal>
 }
 
 #[test]
-fn a_run_without_faults(rt: HostRuntime) -> Result<(), Fail> {
+fn a_run_without_faults(rt: HostRuntime) {
     let alloc = rt.alloc();
-    let mut disk = dots(alloc)?;
-    assert!(rt; shows(alloc, &disk, b"........")? && disk.size() == 8);
+    let mut disk = dots(&rt, alloc);
+    expect_image(&rt, alloc, &disk, b"........");
+    assert!(rt; disk.size() == 8);
     let mut out = [0; 2];
-    assert!(rt; run(&mut disk, &mut out).is_ok());
-    assert!(rt; out.as_slice() == b"xy".as_slice() && shows(alloc, &disk, b"..axyz..")?);
-    assert!(rt; counts(&disk) == [4, 0, 0, 0]);
-    Ok(())
+    run(&mut *disk, &mut out).expect(&rt, "the run");
+    expect_image(&rt, alloc, &disk, b"..axyz..");
+    assert!(rt; out == *b"xy" && counts(&*disk) == [4, 0, 0, 0]);
 }
 
 /// Whether the run is refused as the harm says, and reads nothing.
@@ -91,22 +93,21 @@ fn is_harmed<D: Disk>(disk: &mut D, harm: Harm) -> bool
 
 /// Whether a stop or a failure behind so many calls of the run leaves this image, once the power is cut.
 fn leaves_image(
+    rt: &impl Abort,
     alloc: Global,
     harm: Harm,
     calls: u32,
     mode: ImageMode,
     image: &str,
-) -> Result<bool, AllocError> {
+) -> bool {
     let after = calls.saturating_add(1);
-    let mut disk = dots(alloc)?;
+    let mut disk = dots(rt, alloc);
     arm(&mut disk, harm, after, mode);
-    if !is_harmed(&mut disk, harm) || counts(&disk) != counts_behind(harm, after) {
-        return Ok(false);
-    }
+    let is_run = is_harmed(&mut *disk, harm) && counts(&*disk) == counts_behind(harm, after);
     cut_power(&mut disk, harm, mode);
-    let is_left = shows(alloc, &disk, image.as_bytes())?;
+    let is_left = shows(rt, alloc, &disk, image.as_bytes());
     disk.restart();
-    Ok(is_left && disk.sync().is_ok())
+    is_run && is_left && disk.sync().is_ok()
 }
 
 /// A stop or a failure behind so many calls of the run, and the image that it leaves.
@@ -139,56 +140,51 @@ const IMAGES: &[(Harm, u32, ImageMode, &str)] = &[
 
 /// Behind so many calls of the run the next one is stopped, or fails and the power is cut then.
 #[test]
-fn a_fault_in_each_call_leaves_its_image(rt: HostRuntime) -> Result<(), Fail> {
+fn a_fault_in_each_call_leaves_its_image(rt: HostRuntime) {
     for (i, &(harm, calls, mode, image)) in IMAGES.iter().enumerate() {
         assert!(rt;
-            leaves_image(rt.alloc(), harm, calls, mode, image)?,
+            leaves_image(&rt, rt.alloc(), harm, calls, mode, image),
             "image {i}"
         );
     }
-    Ok(())
 }
 
-/// Whether two requests, of which the first is for the next call, have the syncs behind them refused so.
+/// Asserts that two requests, of which the first is for the next call, have the syncs behind them refused so.
 fn have_refused(
+    rt: &impl Abort,
     alloc: Global,
     first: Harm,
     second: Harm,
     after: u32,
     refusals: &[Option<DiskRefusal>],
-) -> Result<bool, AllocError> {
-    let mut disk = dots(alloc)?;
+) {
+    let mut disk = dots(rt, alloc);
     arm(&mut disk, first, 1, ImageMode::Keep);
     arm(&mut disk, second, after, ImageMode::Keep);
     for refusal in refusals {
         disk.restart();
-        if disk.sync().err() != *refusal {
-            return Ok(false);
-        }
+        assert!(rt; disk.sync().err() == *refusal, "{refusals:?}");
     }
-    Ok(true)
 }
 
 /// A request replaces one of its sort, and a stop goes before a failure: two requests, and how three syncs are refused.
 #[test]
-fn two_requests(rt: HostRuntime) -> Result<(), Fail> {
+fn two_requests(rt: HostRuntime) {
     let later = &[None, Some(DiskRefusal::Failed), None];
-    assert!(rt; have_refused(rt.alloc(), Harm::Fail, Harm::Fail, 2, later)?);
+    have_refused(&rt, rt.alloc(), Harm::Fail, Harm::Fail, 2, later);
     let stopped = &[Some(DiskRefusal::Stopped), None, None];
-    assert!(rt; have_refused(rt.alloc(), Harm::Stop, Harm::Fail, 1, stopped)?);
-    Ok(())
+    have_refused(&rt, rt.alloc(), Harm::Stop, Harm::Fail, 1, stopped);
 }
 
 #[test]
-fn a_failed_write_of_one_byte_leaves_its_place_unsynced(rt: HostRuntime) -> Result<(), Fail> {
+fn a_failed_write_of_one_byte_leaves_its_place_unsynced(rt: HostRuntime) {
     let alloc = rt.alloc();
-    let mut disk = dots(alloc)?;
+    let mut disk = dots(&rt, alloc);
     disk.arm(Arm::Fail { after: 1 });
     assert!(rt; disk.write(0, b"a") == Err(DiskRefusal::Failed));
-    assert!(rt; shows(alloc, &disk, b"........")?);
+    expect_image(&rt, alloc, &disk, b"........");
     disk.cut_power(GARBLE);
-    assert!(rt; shows(alloc, &disk, b"#.......")?);
-    Ok(())
+    expect_image(&rt, alloc, &disk, b"#.......");
 }
 
 /// Writes bytes at the end of a disk with power, and syncs them.
@@ -202,15 +198,14 @@ fn write_last<D: Disk>(disk: &mut D) -> Result<(), DiskRefusal>
 }
 
 #[test]
-fn a_large_disk_takes_time_in_what_is_written(rt: HostRuntime) -> Result<(), Fail> {
-    let mut disk = SimDisk::new(rt.alloc(), 4_194_304)?;
+fn a_large_disk_takes_time_in_what_is_written(rt: HostRuntime) {
+    let mut disk = blank_disk(&rt, rt.alloc(), 4_194_304);
     for _ in 0..4096 {
         disk.restart();
-        assert!(rt; write_last(&mut disk).is_ok());
+        write_last(&mut *disk).expect(&rt, "the last bytes are written");
         disk.cut_power(ImageMode::Keep);
     }
     assert!(rt; disk.clock() == 8192);
-    Ok(())
 }
 
 /// Reads the end of a disk of zeros, and writes and reads its begin.
@@ -228,12 +223,11 @@ fn read_and_write<D: Disk>(disk: &mut D) -> Result<([u8; 4], [u8; 4]), DiskRefus
 
 /// A thousand disks of 64 MiB. To write them with zeros would take 128 GiB of writes, more than a test has time for.
 #[test]
-fn a_blank_disk_takes_time_and_memory_in_what_is_written(rt: HostRuntime) -> Result<(), Fail> {
+fn a_blank_disk_takes_time_and_memory_in_what_is_written(rt: HostRuntime) {
     for _ in 0..1024 {
-        let mut disk = SimDisk::new(rt.alloc(), 67_108_864)?;
-        assert!(rt; read_and_write(&mut disk) == Ok(([0; 4], *b"bc\0\0")));
+        let mut disk = blank_disk(&rt, rt.alloc(), 67_108_864);
+        assert!(rt; read_and_write(&mut *disk) == Ok(([0; 4], *b"bc\0\0")));
     }
-    Ok(())
 }
 
 #[test]

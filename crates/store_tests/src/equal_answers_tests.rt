@@ -1,10 +1,6 @@
-use crate::calls::{Answer, Call, play_over};
+use crate::calls::{Answer, Call, play_over_blocks, play_over_log};
 use crate::changes::{SECOND, THIRD};
 use capability::Uid;
-use eden_disk::SimDisk;
-use passive_blocks::BlockStore;
-use passive_store::LogStore;
-use std::test::Fail;
 
 const FOURTH: Uid = Uid {
     node: 1,
@@ -65,11 +61,7 @@ const CALLS: &[(Call, Answer)] = &[
 ];
 
 #[test]
-fn a_log_and_blocks_answer_alike(rt: HostRuntime) -> Result<(), Fail> {
-    let alloc = rt.alloc();
-    let log = play_over::<LogStore<SimDisk>>(alloc, SimDisk::new(alloc, 1_048_576)?, CALLS);
-    assert_eq!(rt; log, Ok(CALLS.len()));
-    let blocks = play_over::<BlockStore<SimDisk>>(alloc, SimDisk::new(alloc, 4_194_304)?, CALLS);
-    assert_eq!(rt; blocks, Ok(CALLS.len()));
-    Ok(())
+fn a_log_and_blocks_answer_alike(rt: HostRuntime) {
+    play_over_log(&rt, rt.alloc(), 1_048_576, CALLS);
+    play_over_blocks(&rt, rt.alloc(), 4_194_304, CALLS);
 }

@@ -1,13 +1,13 @@
-ghost use Rattle.std.specs.Prelude.{◌≡◌, ◌<◌, ◌^◌, IsTrue, IfOk};
+ghost use Rattle.std.specs.Prelude.{◌≡◌, ◌<◌, ◌^◌, IsTrue};
 
-use crate::changes::{EPOCH, FIRST, SECOND, THIRD, look, refusal_of};
-use crate::disks::{Bytes, Harm, are_bytes, arm, cut_power, make_bytes};
+use crate::changes::{EPOCH, FIRST, SECOND, THIRD, look, refusal_of_blocks};
+use crate::disks::{Bytes, Harm, are_bytes, arm, cut_power, disk_with, make_bytes};
 use capability::Uid;
 use eden_disk::{Disk, DiskRefusal, ImageMode, SimDisk};
 use passive_blocks::BlockStore;
 use passive_store::StoreRefusal;
-use std::alloc::{AllocError, Global};
-use std::test::Fail;
+use std::alloc::Global;
+use std::process::Abort;
 
 /// The size of a disk on which a log is converted, and that of its log.
 const WIDE: usize = 4_194_304;
@@ -133,32 +133,28 @@ const LOGS: &[Log] = &[
 ];
 
 /// Adds a record to a log.
-fn add_record(
-    alloc: Global,
-    log: &mut Vec<u8>,
-    uid: Uid,
-    kind: u8,
-    body: Bytes,
-) -> Result<(), AllocError> {
-    let body = make_bytes(alloc, body)?;
+fn add_record(rt: &impl Abort, alloc: Global, log: &mut Vec<u8>, uid: Uid, kind: u8, body: Bytes) {
+    let body = make_bytes(rt, alloc, body);
     let n = (body.len() as u64).to_be_bytes();
     let e = uid.epoch.to_be_bytes();
     let s = uid.serial.to_be_bytes();
-    log.extend_from_slice(&[
+    let head = [
         0xE1, n[4], n[5], n[6], n[7], uid.node, e[0], e[1], e[2], e[3], s[0], s[1], s[2], s[3],
         kind,
-    ])?;
-    log.extend_from_slice(&body)
+    ];
+    log.extend_from_slice(&head).expect(rt, "memory");
+    log.extend_from_slice(&body).expect(rt, "memory");
 }
 
 /// A log of these records, and of so many values of one byte behind them.
-fn make_log(alloc: Global, records: &[Record], values: u32) -> Result<Vec<u8>, AllocError> {
+fn make_log(rt: &impl Abort, alloc: Global, records: &[Record], values: u32) -> Vec<u8> {
     let mut log = make_bytes(
+        rt,
         alloc,
         (&[0xED, 0, 0, 0, 0, 0, 0, 0, 0, 0, 0, 0, 0, 0, 0, 0], 1),
-    )?;
+    );
     for &(uid, kind, body) in records {
-        add_record(alloc, &mut log, uid, kind, body)?;
+        add_record(rt, alloc, &mut log, uid, kind, body);
     }
     for number in 0..values {
         let uid = Uid {
@@ -166,54 +162,56 @@ fn make_log(alloc: Global, records: &[Record], values: u32) -> Result<Vec<u8>, A
             epoch: 1,
             serial: number + 1,
         };
-        add_record(alloc, &mut log, uid, 1, (&[5], 1))?;
+        add_record(rt, alloc, &mut log, uid, 1, (&[5], 1));
     }
-    Ok(log)
+    log
 }
 
 /// A disk of this size that begins with these bytes, and has zeros behind them.
-fn disk_of(alloc: Global, bytes: &[u8], size: usize) -> Result<SimDisk, AllocError>
+fn disk_of(rt: &impl Abort, alloc: Global, bytes: &[u8], size: usize) -> Box<SimDisk>
     requires { size < 2 ^ 32 }
-    ensures { IfOk result (λ disk. IsTrue disk.counts.power) }
+    ensures { IsTrue result.value.counts.power }
 {
-    let mut image = vec![in alloc; 0u8; size]?;
+    let mut image = vec![in alloc; 0u8; size].expect(rt, "memory");
     let count = bytes.len().min(size);
     image[..count].copy_from_slice(&bytes[..count]);
-    SimDisk::of(alloc, image)
+    disk_with(rt, alloc, image)
 }
 
 /// Whether a disk is opened or refused so, with so many device calls, and changes where it is not refused.
 fn is_opened_so(
+    rt: &impl Abort,
     alloc: Global,
-    disk: SimDisk,
+    disk: Box<SimDisk>,
     wanted: Option<StoreRefusal>,
     calls: u64,
-) -> Result<bool, AllocError>
-    requires { IsTrue disk.counts.power }
+) -> bool
+    requires { IsTrue disk.value.counts.power }
 {
-    let before = disk.image(alloc)?;
-    let (disk, refusal) = refusal_of::<BlockStore<SimDisk>>(alloc, disk);
-    let after = disk.image(alloc)?;
+    let before = disk.image(alloc).expect(rt, "memory");
+    let (disk, refusal) = refusal_of_blocks(rt, alloc, disk);
+    let after = disk.image(alloc).expect(rt, "memory");
     let is_changed = after != before;
-    Ok(refusal == wanted && disk.clock() == calls && is_changed == refusal.is_none())
+    refusal == wanted && disk.clock() == calls && is_changed == refusal.is_none()
 }
 
 /// Whether a log becomes blocks or is refused, as its row says.
 fn is_converted(
+    rt: &impl Abort,
     alloc: Global,
     &(records, values, length, size, wanted, calls): &Log,
-) -> Result<bool, AllocError> {
-    let log = make_log(alloc, records, values)?;
-    let disk = disk_of(alloc, &log, size.min(WIDE))?;
-    Ok(log.len() == length && is_opened_so(alloc, disk, wanted, calls)?)
+) -> bool {
+    let log = make_log(rt, alloc, records, values);
+    let disk = disk_of(rt, alloc, &log, size.min(WIDE));
+    let is_opened = is_opened_so(rt, alloc, disk, wanted, calls);
+    log.len() == length && is_opened
 }
 
 #[test]
-fn logs_become_blocks_or_are_refused(rt: HostRuntime) -> Result<(), Fail> {
+fn logs_become_blocks_or_are_refused(rt: HostRuntime) {
     for (row, log) in LOGS.iter().enumerate() {
-        assert!(rt; is_converted(rt.alloc(), log)?, "log {row}");
+        assert!(rt; is_converted(&rt, rt.alloc(), log), "log {row}");
     }
-    Ok(())
 }
 
 /// Bytes from a place on.
@@ -289,22 +287,31 @@ fn is_image(image: &[u8]) -> bool {
     has_heads && image.len() == WIDE && all_stand(image, 0, BODIES)
 }
 
-/// Whether a disk that is restarted keeps what `CHANGES` does.
-fn keeps_changes(alloc: Global, mut disk: SimDisk) -> bool {
+/// Restarts a disk, and answers it, and whether it keeps what `CHANGES` does.
+fn restart_and_look(
+    rt: &impl Abort,
+    alloc: Global,
+    mut disk: Box<SimDisk>,
+) -> (Box<SimDisk>, bool) {
     disk.restart();
-    let (_, is_kept) = look::<BlockStore<SimDisk>>(alloc, disk, KEPT);
+    look::<BlockStore<SimDisk>>(rt, alloc, disk, KEPT)
+}
+
+/// Whether a disk that is restarted keeps what `CHANGES` does.
+fn keeps_changes(rt: &impl Abort, alloc: Global, disk: Box<SimDisk>) -> bool {
+    let (_, is_kept) = restart_and_look(rt, alloc, disk);
     is_kept
 }
 
 #[test]
-fn the_bytes_of_a_log_that_became_blocks(rt: HostRuntime) -> Result<(), Fail> {
-    let log = make_log(rt.alloc(), CHANGES, 0)?;
-    let disk = disk_of(rt.alloc(), &log, WIDE)?;
-    let (disk, _) = refusal_of::<BlockStore<SimDisk>>(rt.alloc(), disk);
-    let image = disk.image(rt.alloc())?;
+fn the_bytes_of_a_log_that_became_blocks(rt: HostRuntime) {
+    let alloc = rt.alloc();
+    let log = make_log(&rt, alloc, CHANGES, 0);
+    let disk = disk_of(&rt, alloc, &log, WIDE);
+    let (disk, _) = refusal_of_blocks(&rt, alloc, disk);
+    let image = disk.image(alloc).expect(&rt, "memory");
     assert!(rt; is_image(&image));
-    assert!(rt; keeps_changes(rt.alloc(), disk));
-    Ok(())
+    assert!(rt; keeps_changes(&rt, alloc, disk));
 }
 
 /// What befalls a first opening, and how it is refused; and the device calls of a second one. Behind a whole conversion that
@@ -322,32 +329,36 @@ const OPENINGS: &[Opening] = &[
 ];
 
 /// Whether a disk that is restarted is opened with so many device calls, and keeps what `CHANGES` does.
-fn is_opened_again(alloc: Global, mut disk: SimDisk, calls: u64) -> bool {
+fn is_opened_again(rt: &impl Abort, alloc: Global, mut disk: Box<SimDisk>, calls: u64) -> bool {
     disk.restart();
     let wanted = disk.clock().saturating_add(calls);
-    let (disk, refusal) = refusal_of::<BlockStore<SimDisk>>(alloc, disk);
-    refusal.is_none() && disk.clock() == wanted && keeps_changes(alloc, disk)
+    let (disk, refusal) = refusal_of_blocks(rt, alloc, disk);
+    let is_opened = refusal.is_none() && disk.clock() == wanted;
+    keeps_changes(rt, alloc, disk) && is_opened
 }
 
 /// Whether the openings of a disk with this log go as their row says.
 fn are_openings(
+    rt: &impl Abort,
     alloc: Global,
     log: &[u8],
     &(harm, after, wanted, calls): &Opening,
-) -> Result<bool, AllocError> {
-    let mut disk = disk_of(alloc, log, WIDE)?;
+) -> bool {
+    let mut disk = disk_of(rt, alloc, log, WIDE);
     arm(&mut disk, harm, after, ImageMode::Lose);
-    let (disk, refusal) = refusal_of::<BlockStore<SimDisk>>(alloc, disk);
-    Ok(refusal == wanted && is_opened_again(alloc, disk, calls))
+    let (disk, refusal) = refusal_of_blocks(rt, alloc, disk);
+    is_opened_again(rt, alloc, disk, calls) && refusal == wanted
 }
 
 #[test]
-fn second_openings(rt: HostRuntime) -> Result<(), Fail> {
-    let log = make_log(rt.alloc(), CHANGES, 0)?;
+fn second_openings(rt: HostRuntime) {
+    let log = make_log(&rt, rt.alloc(), CHANGES, 0);
     for (row, opening) in OPENINGS.iter().enumerate() {
-        assert!(rt; are_openings(rt.alloc(), &log, opening)?, "opening {row}");
+        assert!(rt;
+            are_openings(&rt, rt.alloc(), &log, opening),
+            "opening {row}"
+        );
     }
-    Ok(())
 }
 
 /// Gives a disk power, and writes bytes that find room on it.
@@ -360,31 +371,31 @@ fn write_at<D: Disk>(disk: &mut D, place: u32, bytes: &[u8]) -> Result<(), DiskR
 }
 
 /// Writes a log over all that its conversion has changed on a disk.
-fn write_log<D: Disk>(disk: &mut D, log: &[u8]) -> Result<(), DiskRefusal> {
+fn write_log<D: Disk>(rt: &impl Abort, disk: &mut D, log: &[u8]) {
     let zeros = [0; 131_072];
     for &place in &[1024, 1_048_576, 4_063_232] {
-        write_at(disk, place, &zeros)?;
+        write_at(disk, place, &zeros).expect(rt, "the zeros are written");
     }
-    write_at(disk, 0, log)?;
+    write_at(disk, 0, log).expect(rt, "the log is written");
     disk.restart();
-    disk.sync()
+    disk.sync().expect(rt, "the log is synced");
 }
 
 /// Opens a disk with a log on it that a harm befalls in a device call, and again once it is restarted. It answers whether the
 /// first opening is refused so and the second keeps what `CHANGES` does.
 fn harm_and_look(
+    rt: &impl Abort,
     alloc: Global,
-    mut disk: SimDisk,
+    mut disk: Box<SimDisk>,
     harm: Harm,
     after: u32,
     mode: ImageMode,
-) -> (SimDisk, bool) {
+) -> (Box<SimDisk>, bool) {
     disk.restart();
     arm(&mut disk, harm, after, mode);
-    let (mut disk, refusal) = refusal_of::<BlockStore<SimDisk>>(alloc, disk);
+    let (mut disk, refusal) = refusal_of_blocks(rt, alloc, disk);
     cut_power(&mut disk, harm, mode);
-    disk.restart();
-    let (disk, is_kept) = look::<BlockStore<SimDisk>>(alloc, disk, KEPT);
+    let (disk, is_kept) = restart_and_look(rt, alloc, disk);
     let wanted = match harm {
         Harm::Stop => Some(StoreRefusal::Stopped),
         Harm::Fail => Some(StoreRefusal::Failed),
@@ -393,43 +404,36 @@ fn harm_and_look(
     (disk, is_kept && refusal == wanted)
 }
 
-/// Whether what `CHANGES` keeps outlives a harm in each device call of its conversion.
-fn outlives(alloc: Global, harm: Harm, mode: ImageMode) -> Result<bool, StoreRefusal> {
-    let log = make_log(alloc, CHANGES, 0)?;
-    let mut disk = disk_of(alloc, &log, WIDE)?;
+/// Asserts that what `CHANGES` keeps outlives a harm in each device call of its conversion.
+fn outlives_all(rt: &impl Abort, alloc: Global, harm: Harm, mode: ImageMode) {
+    let log = make_log(rt, alloc, CHANGES, 0);
+    let mut disk = disk_of(rt, alloc, &log, WIDE);
     for after in 1..=CONVERSION {
-        let (back, is_kept) = harm_and_look(alloc, disk, harm, after, mode);
-        if !is_kept {
-            return Ok(false);
-        }
+        let (back, is_kept) = harm_and_look(rt, alloc, disk, harm, after, mode);
+        assert!(rt; is_kept, "call {after}");
         disk = back;
-        write_log(&mut disk, &log)?;
+        write_log(rt, &mut *disk, &log);
     }
-    Ok(true)
 }
 
 const GARBLE: ImageMode = ImageMode::Garble { byte: 235 };
 
 #[test]
-fn a_stop_in_each_device_call_loses_nothing(rt: HostRuntime) -> Result<(), Fail> {
-    assert!(rt; outlives(rt.alloc(), Harm::Stop, ImageMode::Lose)?);
-    Ok(())
+fn a_stop_in_each_device_call_loses_nothing(rt: HostRuntime) {
+    outlives_all(&rt, rt.alloc(), Harm::Stop, ImageMode::Lose);
 }
 
 #[test]
-fn a_stop_in_each_device_call_that_garbles_loses_nothing(rt: HostRuntime) -> Result<(), Fail> {
-    assert!(rt; outlives(rt.alloc(), Harm::Stop, GARBLE)?);
-    Ok(())
+fn a_stop_in_each_device_call_that_garbles_loses_nothing(rt: HostRuntime) {
+    outlives_all(&rt, rt.alloc(), Harm::Stop, GARBLE);
 }
 
 #[test]
-fn a_failure_in_each_device_call_loses_nothing(rt: HostRuntime) -> Result<(), Fail> {
-    assert!(rt; outlives(rt.alloc(), Harm::Fail, ImageMode::Lose)?);
-    Ok(())
+fn a_failure_in_each_device_call_loses_nothing(rt: HostRuntime) {
+    outlives_all(&rt, rt.alloc(), Harm::Fail, ImageMode::Lose);
 }
 
 #[test]
-fn a_failure_in_each_device_call_that_garbles_loses_nothing(rt: HostRuntime) -> Result<(), Fail> {
-    assert!(rt; outlives(rt.alloc(), Harm::Fail, GARBLE)?);
-    Ok(())
+fn a_failure_in_each_device_call_that_garbles_loses_nothing(rt: HostRuntime) {
+    outlives_all(&rt, rt.alloc(), Harm::Fail, GARBLE);
 }

@@ -1,11 +1,11 @@
-ghost use Rattle.std.specs.Prelude.{◌≡◌, ◌≤◌, ◌+◌, IfOk, IsTrue, length};
+ghost use Rattle.std.specs.Prelude.{◌≡◌, ◌≤◌, ◌+◌, IsTrue, length};
 
-use crate::changes::refusal_of;
+use crate::changes::refusal_of_blocks;
+use crate::disks::{blank_disk, disk_with};
 use eden_disk::{Disk, SimDisk};
-use passive_blocks::BlockStore;
 use passive_store::StoreRefusal;
-use std::alloc::{AllocError, Global};
-use std::test::Fail;
+use std::alloc::Global;
+use std::process::Abort;
 
 /// The bytes of a disk.
 const SIZE: usize = 32_768;
@@ -89,10 +89,10 @@ fn stamp(image: &mut Vec<u8>, place: usize, bytes: &[u8])
 }
 
 /// So many zeros.
-fn zeros(alloc: Global, count: usize) -> Result<Vec<u8>, AllocError>
-    ensures { IfOk result (λ bytes. length bytes.items ≡ count) }
+fn zeros(rt: &impl Abort, alloc: Global, count: usize) -> Vec<u8>
+    ensures { length result.items ≡ count }
 {
-    vec![in alloc; 0u8; count]
+    vec![in alloc; 0u8; count].expect(rt, "memory")
 }
 
 /// On an image: a byte that says that blocks stand there, two heads, and the first bytes of a value on block 2.
@@ -110,16 +110,17 @@ fn stamp_blocks(image: &mut Vec<u8>, third: Changed, fifth: Option<Changed>, nex
 
 /// A disk of 32 heads from byte 1,024 on, and 30 blocks for data, from block 2 on.
 fn make_disk(
+    rt: &impl Abort,
     alloc: Global,
     third: Changed,
     fifth: Option<Changed>,
     next: u8,
-) -> Result<SimDisk, AllocError>
-    ensures { IfOk result (λ disk. IsTrue disk.counts.power) }
+) -> Box<SimDisk>
+    ensures { IsTrue result.value.counts.power }
 {
-    let mut image = zeros(alloc, SIZE)?;
+    let mut image = zeros(rt, alloc, SIZE);
     stamp_blocks(&mut image, third, fifth, next);
-    SimDisk::of(alloc, image)
+    disk_with(rt, alloc, image)
 }
 
 /// How a disk that is damaged at a place is refused.
@@ -129,35 +130,39 @@ fn damaged(place: Option<u32>) -> Option<StoreRefusal> {
 }
 
 /// Whether a disk is opened, or damaged at a place, with so many device calls.
-fn is_opened_so(alloc: Global, disk: SimDisk, place: Option<u32>, calls: u64) -> bool
-    requires { IsTrue disk.counts.power }
+fn is_opened_so(
+    rt: &impl Abort,
+    alloc: Global,
+    disk: Box<SimDisk>,
+    place: Option<u32>,
+    calls: u64,
+) -> bool
+    requires { IsTrue disk.value.counts.power }
 {
-    let (disk, refusal) = refusal_of::<BlockStore<SimDisk>>(alloc, disk);
+    let (disk, refusal) = refusal_of_blocks(rt, alloc, disk);
     refusal == damaged(place) && disk.clock() == calls
 }
 
 /// Whether a disk is opened or damaged as its row says.
-fn is_answered(
-    alloc: Global,
-    &(third, fifth, next, place, calls): &Row,
-) -> Result<bool, AllocError> {
-    let disk = make_disk(alloc, third, fifth, next)?;
-    Ok(is_opened_so(alloc, disk, place, calls))
+fn is_answered(rt: &impl Abort, alloc: Global, &(third, fifth, next, place, calls): &Row) -> bool {
+    let disk = make_disk(rt, alloc, third, fifth, next);
+    is_opened_so(rt, alloc, disk, place, calls)
 }
 
 #[test]
-fn heads_and_chains_are_opened_or_damaged(rt: HostRuntime) -> Result<(), Fail> {
+fn heads_and_chains_are_opened_or_damaged(rt: HostRuntime) {
     for (i, row) in DISKS.iter().enumerate() {
-        assert!(rt; is_answered(rt.alloc(), row)?, "disk {i}");
+        assert!(rt; is_answered(&rt, rt.alloc(), row), "disk {i}");
     }
-    Ok(())
 }
 
 #[test]
-fn a_size_that_is_not_allowed_is_damaged(rt: HostRuntime) -> Result<(), Fail> {
+fn a_size_that_is_not_allowed_is_damaged(rt: HostRuntime) {
     for &size in &[0, 17, 1024, 32_767, 32_769, 33_792, 65_535] {
-        let disk = SimDisk::new(rt.alloc(), size)?;
-        assert!(rt; is_opened_so(rt.alloc(), disk, Some(0), 0), "size {size}");
+        let disk = blank_disk(&rt, rt.alloc(), size);
+        assert!(rt;
+            is_opened_so(&rt, rt.alloc(), disk, Some(0), 0),
+            "size {size}"
+        );
     }
-    Ok(())
 }

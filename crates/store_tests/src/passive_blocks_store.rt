@@ -1,9 +1,7 @@
-use crate::calls::{Answer, Call, play_over};
+use crate::calls::{Answer, Call, play_over_blocks};
 use crate::changes::{EPOCH, FIRST};
-use eden_disk::SimDisk;
-use passive_blocks::{BlockStore, a_log_to_be_converted_keeps_its_bodies, blocks_are_a_layout};
+use passive_blocks::{a_log_to_be_converted_keeps_its_bodies, blocks_are_a_layout};
 use passive_store::StoreRefusal;
-use std::test::Fail;
 
 const ROOM: &[(Call, Answer)] = &[
     (Call::Clock, Answer::Clock(38)),
@@ -25,13 +23,10 @@ const ONE_BYTE_TOO_MANY: &[(Call, Answer)] = &[
 ];
 
 #[test]
-fn the_room_of_blocks(rt: HostRuntime) -> Result<(), Fail> {
-    let alloc = rt.alloc();
+fn the_room_of_blocks(rt: HostRuntime) {
     for &calls in &[ROOM, ONE_BYTE_TOO_MANY] {
-        let answered = play_over::<BlockStore<SimDisk>>(alloc, SimDisk::new(alloc, 32_768)?, calls);
-        assert_eq!(rt; answered, Ok(calls.len()));
+        play_over_blocks(&rt, rt.alloc(), 32_768, calls);
     }
-    Ok(())
 }
 
 #[test]

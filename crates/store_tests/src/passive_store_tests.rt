@@ -1,19 +1,19 @@
-ghost use Rattle.std.specs.Prelude.{◌≤◌, IsTrue};
+ghost use Rattle.std.specs.Prelude.{◌≡◌, ◌≤◌, IsTrue};
+ghost use Rattle.passive_store.specs.Kept.{Idle};
 
-use crate::calls::{Answer, Call, play_over};
+use crate::calls::{Answer, Call, play_over_log};
 use crate::changes::{
     Asked, COUNT, EPOCH, FIRST, SECOND, keeps_changes, make_changes, make_part, open,
 };
-use crate::disks::{Bytes, Harm, MODES, arm, counts, counts_behind, cut_power};
+use crate::disks::{Bytes, Harm, MODES, arm, blank_disk, counts, counts_behind, cut_power};
 use eden_disk::{Disk, ImageMode, SimDisk};
 use passive_blocks::BlockStore;
 use passive_store::{
     LogStore, Pick, Store, StoreRefusal, images_are_told_by_marks, log_layout_is_a_layout,
     picks_are_told_by_marks,
 };
-use std::alloc::{AllocError, Global};
+use std::alloc::Global;
 use std::process::Abort;
-use std::test::Fail;
 
 /// A layout, the size of a disk of it, and after how many device calls of it a blank one is opened, and each change made.
 #[derive(Clone, Copy)]
@@ -70,38 +70,61 @@ fn calls_of(layout: Layout, made: u32) -> u32 {
     }
 }
 
+/// Makes changes up to the first refusal, and some device calls of the next one. It answers how many were acknowledged.
+fn make_all<St: Store>(
+    rt: &impl Abort,
+    alloc: Global,
+    store: &mut St,
+    count: u32,
+    part: Option<u32>,
+) -> u32
+    requires power { IsTrue (St.seen store.old).disk.counts.power }
+    requires idle { (St.seen store.old).work ≡ Idle }
+    requires node { (St.seen store.old).node ≡ 1 }
+{
+    match (make_changes(rt, alloc, store, count), part) {
+        (Err(made), _) => made,
+        (Ok(()), None) => count,
+        (Ok(()), Some(calls)) => {
+            let _ = make_part(rt, alloc, store, count, calls);
+            count
+        }
+    }
+}
+
 /// Opens a disk, makes changes up to the first refusal, and some device calls of the next one. It answers how many were
 /// acknowledged.
 fn run<St: Store>(
+    rt: &impl Abort,
     alloc: Global,
-    disk: St::Device,
+    disk: Box<St::Device>,
     count: u32,
     part: Option<u32>,
-) -> (St::Device, u32)
-    requires { IsTrue (St.Device.counts disk).power }
+) -> (Box<St::Device>, u32)
+where
+    St::Device: Drop,
+    requires { IsTrue (St.Device.counts disk.value).power }
 {
-    let mut store = match open::<St>(alloc, disk) {
-        Ok(store) => store,
-        Err((disk, _)) => return (disk, 0),
+    let (disk, made) = match open::<St>(alloc, Box::into_inner(disk)) {
+        Ok(mut store) => {
+            let made = make_all(rt, alloc, &mut store, count, part);
+            (store.close(), made)
+        }
+        Err((disk, _)) => (disk, 0),
     };
-    if let Err(made) = make_changes(alloc, &mut store, count) {
-        return (store.close(), made);
-    }
-    if let Some(calls) = part {
-        let _ = make_part(alloc, &mut store, count, calls);
-    }
-    (store.close(), count)
+    (Box::new(alloc, disk).expect(rt, "memory"), made)
 }
 
 /// Runs a blank disk into a harm behind so many device calls.
 fn run_into(
+    rt: &impl Abort,
     alloc: Global,
     layout: Layout,
     harm: Harm,
     calls: u32,
     mode: ImageMode,
-) -> Result<(SimDisk, u32), AllocError> {
-    let mut disk = SimDisk::new(alloc, layout.size)?;
+) -> (Box<SimDisk>, u32) {
+    let mut disk = blank_disk(rt, alloc, layout.size);
     arm(&mut disk, harm, calls, mode);
     let (count, part) = match harm {
         Harm::Stop | Harm::Fail => (COUNT, None),
@@ -111,91 +134,99 @@ fn run_into(
         }
     };
     if layout.is_log {
-        return Ok(run::<LogStore<SimDisk>>(alloc, disk, count, part));
+        run::<LogStore<SimDisk>>(rt, alloc, disk, count, part)
+    } else {
+        run::<BlockStore<SimDisk>>(rt, alloc, disk, count, part)
     }
-    Ok(run::<BlockStore<SimDisk>>(alloc, disk, count, part))
+}
+
+/// Whether a store has the acknowledged changes, with or without the next one.
+fn keeps_either<St: Store>(rt: &impl Abort, alloc: Global, store: &mut St, made: u32) -> bool
+    requires power { IsTrue (St.seen store.old).disk.counts.power }
+    requires idle { (St.seen store.old).work ≡ Idle }
+{
+    keeps_changes(rt, alloc, store, made) || keeps_changes(rt, alloc, store, made.saturating_add(1))
 }
 
 /// Whether a disk is opened again and has the acknowledged changes, with or without the next one.
-fn survives<St: Store + Drop>(alloc: Global, disk: St::Device, made: u32) -> bool
+fn survives<St: Store + Drop>(
+    rt: &impl Abort,
+    alloc: Global,
+    disk: Box<St::Device>,
+    made: u32,
+) -> bool
 where
     St::Device: Drop,
-    requires { IsTrue (St.Device.counts disk).power }
+    requires { IsTrue (St.Device.counts disk.value).power }
 {
-    let Ok(mut store) = open::<St>(alloc, disk) else {
-        return false;
-    };
-    match keeps_changes(alloc, &mut store, made) {
+    match open::<St>(alloc, Box::into_inner(disk)) {
+        Ok(mut store) => keeps_either(rt, alloc, &mut store, made),
         Err(_) => false,
-        Ok(true) => true,
-        Ok(false) => keeps_changes(alloc, &mut store, made.saturating_add(1)) == Ok(true),
     }
 }
 
 /// Whether a harm behind so many device calls loses no acknowledged change.
 fn outlives(
+    rt: &impl Abort,
     alloc: Global,
     layout: Layout,
     harm: Harm,
     calls: u32,
     mode: ImageMode,
-) -> Result<bool, AllocError> {
-    let (mut disk, made) = run_into(alloc, layout, harm, calls, mode)?;
+) -> bool {
+    let (mut disk, made) = run_into(rt, alloc, layout, harm, calls, mode);
     let done = match harm {
         Harm::Stop | Harm::Fail => calls.saturating_sub(1),
         Harm::Cut => calls,
     };
-    if counts(&disk) != counts_behind(harm, calls) || made != acknowledged(layout, done) {
-        return Ok(false);
-    }
+    let is_run = counts(&*disk) == counts_behind(harm, calls) && made == acknowledged(layout, done);
     cut_power(&mut disk, harm, mode);
     disk.restart();
-    if layout.is_log {
-        return Ok(survives::<LogStore<SimDisk>>(alloc, disk, made));
-    }
-    Ok(survives::<BlockStore<SimDisk>>(alloc, disk, made))
+    let is_kept = if layout.is_log {
+        survives::<LogStore<SimDisk>>(rt, alloc, disk, made)
+    } else {
+        survives::<BlockStore<SimDisk>>(rt, alloc, disk, made)
+    };
+    is_run && is_kept
 }
 
 /// The harm behind so many device calls that loses a change, if one does. A cut counts once the disk is opened.
 fn first_lost(
+    rt: &impl Abort,
     alloc: Global,
     layout: Layout,
     calls: u32,
     mode: ImageMode,
-) -> Result<Option<&'static str>, AllocError> {
-    if !outlives(alloc, layout, Harm::Stop, calls, mode)? {
-        return Ok(Some("stop"));
+) -> Option<&'static str> {
+    if !outlives(rt, alloc, layout, Harm::Stop, calls, mode) {
+        Some("stop")
+    } else if !outlives(rt, alloc, layout, Harm::Fail, calls, mode) {
+        Some("failure")
+    } else if calls >= layout.opening && !outlives(rt, alloc, layout, Harm::Cut, calls, mode) {
+        Some("cut")
+    } else {
+        None
     }
-    if !outlives(alloc, layout, Harm::Fail, calls, mode)? {
-        return Ok(Some("failure"));
-    }
-    if calls >= layout.opening && !outlives(alloc, layout, Harm::Cut, calls, mode)? {
-        return Ok(Some("cut"));
-    }
-    Ok(None)
 }
 
 /// A stop and a failure in each device call, and a power cut between any two of them once the disk is opened.
-fn outlives_all(rt: &impl Abort, alloc: Global, layout: Layout) -> Result<(), AllocError> {
+fn outlives_all(rt: &impl Abort, alloc: Global, layout: Layout) {
     for calls in 1..=layout.ends[4] {
         for &mode in MODES {
-            let lost = first_lost(alloc, layout, calls, mode)?;
+            let lost = first_lost(rt, alloc, layout, calls, mode);
             assert!(rt; lost.is_none(), "{lost:?} {calls}");
         }
     }
-    Ok(())
 }
 
 #[test]
-fn a_log_outlives_stops_failures_and_power_cuts(rt: HostRuntime) -> Result<(), Fail> {
-    outlives_all(&rt, rt.alloc(), LOG)?;
-    Ok(())
+fn a_log_outlives_stops_failures_and_power_cuts(rt: HostRuntime) {
+    outlives_all(&rt, rt.alloc(), LOG);
 }
 
 #[test]
-fn blocks_outlive_stops_failures_and_power_cuts(rt: HostRuntime) -> Result<(), Fail> {
-    outlives_all(&rt, rt.alloc(), BLOCKS)?;
-    Ok(())
+fn blocks_outlive_stops_failures_and_power_cuts(rt: HostRuntime) {
+    outlives_all(&rt, rt.alloc(), BLOCKS);
 }
 
 /// The longest body that finds room in a log of 4,096 bytes with the epoch.
@@ -323,13 +354,10 @@ const QUESTIONS: &[(Call, Answer)] = &[
 ];
 
 #[test]
-fn what_a_log_answers(rt: HostRuntime) -> Result<(), Fail> {
-    let alloc = rt.alloc();
+fn what_a_log_answers(rt: HostRuntime) {
     for &calls in &[ROOM, QUESTIONS] {
-        let answered = play_over::<LogStore<SimDisk>>(alloc, SimDisk::new(alloc, LOG.size)?, calls);
-        assert_eq!(rt; answered, Ok(calls.len()));
+        play_over_log(&rt, rt.alloc(), LOG.size, calls);
     }
-    Ok(())
 }
 
 #[test]

@@ -1,10 +1,11 @@
 //! What the tests of several parts have in common: values from constants, and values as texts.
-ghost use Rattle.std.specs.Prelude.{◌≡◌, IfOk};
+ghost use Rattle.std.specs.Prelude.{◌≡◌};
 
 use capability::{Cap, Rights, Uid};
-use eden_value::{Items, Txt, Value, print};
+use eden_value::{Items, Txt, Value, copy_items, print};
 use epl_syntax::Effect;
-use std::alloc::{AllocError, Global};
+use std::alloc::Global;
+use std::process::Abort;
 
 /// A value that is given, as a constant.
 #[derive(Clone, Copy)]
@@ -35,78 +36,85 @@ pub fn cap_of(parts: Option<(u8, u32, u16)>) -> Option<Cap> {
     }
 }
 
-pub fn text(alloc: Global, bytes: &[u8]) -> Result<Txt, AllocError>
-    ensures { IfOk result (λ text. text ≡ bytes.now) }
+/// A text of these bytes.
+pub fn text(rt: &impl Abort, alloc: Global, bytes: &[u8]) -> Txt
+    ensures { result ≡ bytes.now }
 {
-    let bytes = Vec::from_slice(alloc, bytes)?;
-    Ok(Txt { bytes })
+    let bytes = Vec::from_slice(alloc, bytes).expect(rt, "memory");
+    Txt { bytes }
 }
 
-fn name(alloc: Global, bytes: &[u8]) -> Result<Value, AllocError> {
-    Ok(Value::Text {
-        text: text(alloc, bytes)?,
-    })
+fn name(rt: &impl Abort, alloc: Global, bytes: &[u8]) -> Value {
+    Value::Text {
+        text: text(rt, alloc, bytes),
+    }
 }
 
-fn names(alloc: Global, all: &[&[u8]]) -> Result<Items, AllocError> {
+fn names(rt: &impl Abort, alloc: Global, all: &[&[u8]]) -> Items {
     let mut values = Vec::new(alloc);
     for bytes in all {
-        values.push(name(alloc, *bytes)?)?;
+        values.push(name(rt, alloc, *bytes)).expect(rt, "memory");
     }
-    Ok(Items { values })
+    Items { values }
 }
 
-fn caps(alloc: Global, all: &[Option<u32>]) -> Result<Items, AllocError> {
+fn caps(rt: &impl Abort, alloc: Global, all: &[Option<u32>]) -> Items {
     let mut values = Vec::new(alloc);
     for serial in all {
         let parts = match serial {
             Some(serial) => Some((1, *serial, 1)),
             None => None,
         };
-        values.push(Value::Cap { cap: cap_of(parts) })?;
+        values
+            .push(Value::Cap { cap: cap_of(parts) })
+            .expect(rt, "memory");
     }
-    Ok(Items { values })
+    Items { values }
 }
 
-fn value_of(alloc: Global, given: Given) -> Result<Value, AllocError> {
+fn value_of(rt: &impl Abort, alloc: Global, given: Given) -> Value {
     match given {
-        Given::Number { n } => Ok(Value::Int { n }),
-        Given::Name { bytes } => name(alloc, bytes),
-        Given::NoCap => Ok(Value::Cap { cap: None }),
-        Given::FullCap { serial } => Ok(Value::Cap {
+        Given::Number { n } => Value::Int { n },
+        Given::Name { bytes } => name(rt, alloc, bytes),
+        Given::NoCap => Value::Cap { cap: None },
+        Given::FullCap { serial } => Value::Cap {
             cap: cap_of(Some((1, serial, 0xFFFF))),
-        }),
-        Given::True => Ok(Value::Bool { b: true }),
-        Given::Names { all } => Ok(Value::List {
-            items: names(alloc, all)?,
-        }),
-        Given::Caps { all } => Ok(Value::List {
-            items: caps(alloc, all)?,
-        }),
+        },
+        Given::True => Value::Bool { b: true },
+        Given::Names { all } => Value::List {
+            items: names(rt, alloc, all),
+        },
+        Given::Caps { all } => Value::List {
+            items: caps(rt, alloc, all),
+        },
     }
 }
 
 /// The values that are given.
-pub fn items_of(alloc: Global, all: &[Given]) -> Result<Items, AllocError> {
+pub fn items_of(rt: &impl Abort, alloc: Global, all: &[Given]) -> Items {
     let mut values = Vec::new(alloc);
     for given in all {
-        values.push(value_of(alloc, *given)?)?;
+        values
+            .push(value_of(rt, alloc, *given))
+            .expect(rt, "memory");
     }
-    Ok(Items { values })
+    Items { values }
 }
 
 /// The values as the text of a list.
-pub fn printed(alloc: Global, items: Items) -> Result<Vec<u8>, AllocError> {
+pub fn printed(rt: &impl Abort, alloc: Global, items: Items) -> Vec<u8> {
     let mut out = Vec::new(alloc);
-    print(alloc, &Value::List { items }, &mut out)?;
-    Ok(out)
+    print(alloc, &Value::List { items }, &mut out).expect(rt, "memory");
+    out
 }
 
 /// What an operation returns, as the text of a list, or that it ends the active part. Nothing for another effect.
-pub fn returned(alloc: Global, effect: Effect) -> Result<Vec<u8>, AllocError> {
+pub fn returned(rt: &impl Abort, alloc: Global, effect: &Effect) -> Vec<u8> {
     match effect {
-        Effect::Return { results } => printed(alloc, results),
-        Effect::Deactivate => Vec::from_slice(alloc, b"deactivate"),
-        _ => Ok(Vec::new(alloc)),
+        Effect::Return { results } => {
+            printed(rt, alloc, copy_items(alloc, results).expect(rt, "memory"))
+        }
+        Effect::Deactivate => Vec::from_slice(alloc, b"deactivate").expect(rt, "memory"),
+        _ => Vec::new(alloc),
     }
 }

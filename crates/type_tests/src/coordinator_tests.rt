@@ -3,8 +3,9 @@ ghost use Rattle.eden_model.specs.Crew.{Runs, Holds};
 
 use capability::Seq;
 use coordinator::*;
-use std::alloc::{AllocError, Global};
+use std::alloc::Global;
 use std::mem::size_of;
+use std::process::Abort;
 
 /// A question to a coordinator, or something that happens.
 #[derive(Clone, Copy)]
@@ -73,18 +74,18 @@ fn count(n: usize) -> Seen {
     Seen::Number { n: n as u64 }
 }
 
-fn offered(c: &mut Coordinator, call: u32) -> Result<Seen, AllocError> {
+fn offered(rt: &impl Abort, c: &mut Coordinator, call: u32) -> Seen {
     match c.offer(call, 0) {
-        Ok(()) => Ok(Seen::Yes),
-        Err(OfferRefusal::Busy) => Ok(Seen::No),
-        Err(OfferRefusal::OutOfMemory) => Err(AllocError),
+        Ok(()) => Seen::Yes,
+        Err(OfferRefusal::Busy) => Seen::No,
+        Err(OfferRefusal::OutOfMemory) => panic!(rt; "memory"),
     }
 }
 
-fn started(c: &mut Coordinator) -> Result<Seen, AllocError> {
-    match c.start()? {
-        Some(Started { call, process }) => Ok(Seen::Started(call, process)),
-        None => Ok(Seen::Nothing),
+fn started(rt: &impl Abort, c: &mut Coordinator) -> Seen {
+    match c.start().expect(rt, "memory") {
+        Some(Started { call, process }) => Seen::Started(call, process),
+        None => Seen::Nothing,
     }
 }
 
@@ -141,8 +142,9 @@ fn acted(c: &mut Coordinator, process: u8, act: Act) -> Seen
     Seen::Done
 }
 
-fn stepped(c: &mut Coordinator, step: Step) -> Result<Seen, AllocError> {
-    Ok(match step {
+/// The answer to a question.
+fn asked(c: &Coordinator, step: Step) -> Seen {
+    match step {
         Step::IsFull => truth(c.is_full()),
         Step::Startable => call(c.startable()),
         Step::Serves { process } => call(c.serves(process)),
@@ -153,69 +155,67 @@ fn stepped(c: &mut Coordinator, step: Step) -> Result<Seen, AllocError> {
         Step::Holds(process, monitor) => truth(c.holds(process, monitor)),
         Step::Runnable { process } => truth(c.runnable(process)),
         Step::Awaits { process } => truth(c.awaits(process)),
-        Step::Offer { call } => offered(c, call)?,
-        Step::Start => started(c)?,
-        Step::Resume { process } => resumed(c, process),
-        Step::By(process, act) => {
-            if !c.runnable(process) {
-                return Ok(Seen::Refused);
-            }
-            acted(c, process, act)
-        }
-    })
+        _ => Seen::Refused,
+    }
 }
 
-/// The first of the steps that the coordinator does not answer with what stands beside it.
-fn first_other(c: &mut Coordinator, steps: &[(Step, Seen)]) -> Result<Option<usize>, AllocError> {
-    for (i, &(step, wanted)) in steps.iter().enumerate() {
-        if stepped(c, step)? != wanted {
-            return Ok(Some(i));
-        }
+fn stepped(rt: &impl Abort, c: &mut Coordinator, step: Step) -> Seen {
+    match step {
+        Step::Offer { call } => offered(rt, c, call),
+        Step::Start => started(rt, c),
+        Step::Resume { process } => resumed(c, process),
+        Step::By(process, act) if c.runnable(process) => acted(c, process, act),
+        Step::By(_, _) => Seen::Refused,
+        _ => asked(c, step),
     }
-    Ok(None)
+}
+
+/// The coordinator takes the steps, and answers what stands beside them.
+fn takes_steps(rt: &impl Abort, c: &mut Coordinator, steps: &[(Step, Seen)]) {
+    for (i, &(step, wanted)) in steps.iter().enumerate() {
+        assert!(rt; stepped(rt, c, step) == wanted, "step {i}");
+    }
 }
 
 /// A coordinator of one class with this limit, and of no process, monitor or condition.
-fn idle(alloc: Global, limit: u8) -> Result<Coordinator, AllocError> {
+fn idle(rt: &impl Abort, alloc: Global, limit: u8) -> Box<Coordinator> {
     let limits = Seq {
-        items: vec![in alloc; limit]?,
+        items: vec![in alloc; limit].expect(rt, "memory"),
     };
     let conditions = Seq {
         items: Vec::new(alloc),
     };
-    Coordinator::new(
-        alloc,
-        Setup {
-            limits,
-            declared: 0,
-            monitors: 0,
-            conditions,
-        },
-    )
+    let setup = Setup {
+        limits,
+        declared: 0,
+        monitors: 0,
+        conditions,
+    };
+    let c = Coordinator::new(alloc, setup).expect(rt, "memory");
+    Box::new(alloc, c).expect(rt, "memory")
 }
 
 /// A coordinator of three processes, and of a monitor with a condition.
-fn monitored(alloc: Global) -> Result<Coordinator, AllocError> {
+fn monitored(rt: &impl Abort, alloc: Global) -> Box<Coordinator> {
     let limits = Seq {
         items: Vec::new(alloc),
     };
     let conditions = Seq {
-        items: vec![in alloc; 1]?,
+        items: vec![in alloc; 1].expect(rt, "memory"),
     };
-    Coordinator::new(
-        alloc,
-        Setup {
-            limits,
-            declared: 3,
-            monitors: 1,
-            conditions,
-        },
-    )
+    let setup = Setup {
+        limits,
+        declared: 3,
+        monitors: 1,
+        conditions,
+    };
+    let c = Coordinator::new(alloc, setup).expect(rt, "memory");
+    Box::new(alloc, c).expect(rt, "memory")
 }
 
 /// Whether so many calls run in the end, so many are queued, and this one is the first of those.
-fn leaves(c: Coordinator, running: usize, queued: usize, first: u32) -> bool {
-    let parts = c.into_parts();
+fn leaves(c: Box<Coordinator>, running: usize, queued: usize, first: u32) -> bool {
+    let parts = Box::into_inner(c).into_parts();
     let calls = parts.queued.as_slice();
     parts.running.pairs.len() == running
         && calls.len() == queued
@@ -235,44 +235,30 @@ const FULL: &[(Step, Seen)] = &[
     (Step::Start, Seen::Nothing),
 ];
 
-/// The first of the calls from 100 on that finds the coordinator full or is not taken, or the one past the last.
-fn first_not_taken(c: &mut Coordinator, past: u32) -> Result<u32, AllocError> {
+/// The calls from 100 on, up to one, find room in the coordinator and are taken.
+fn takes_calls(rt: &impl Abort, c: &mut Coordinator, past: u32) {
     for call in 100..past {
-        if c.is_full() || offered(c, call)? != Seen::Yes {
-            return Ok(call);
-        }
+        assert!(rt;
+            !c.is_full() && offered(rt, c, call) == Seen::Yes,
+            "call {call}"
+        );
     }
-    Ok(past)
-}
-
-/// The first call that is not taken, and the first other step.
-fn fill(c: &mut Coordinator) -> Result<(u32, Option<usize>), AllocError> {
-    let call = first_not_taken(c, 164)?;
-    let other = first_other(c, FULL)?;
-    Ok((call, other))
-}
-
-/// What filling a coordinator with limit 1 comes to, and whether 63 calls are left.
-fn filled(alloc: Global) -> Result<((u32, Option<usize>), bool), AllocError> {
-    let mut c = idle(alloc, 1)?;
-    let seen = fill(&mut c)?;
-    Ok((seen, leaves(c, 1, 63, 101)))
 }
 
 #[test]
-fn one_of_a_class_with_limit_one(rt: HostRuntime) -> Result<(), AllocError> {
-    assert_eq!(rt; filled(rt.alloc())?, ((164, None), true));
-    Ok(())
+fn one_of_a_class_with_limit_one(rt: HostRuntime) {
+    let mut c = idle(&rt, rt.alloc(), 1);
+    takes_calls(&rt, &mut c, 164);
+    takes_steps(&rt, &mut c, FULL);
+    assert!(rt; leaves(c, 1, 63, 101));
 }
 
-/// The first of the processes from 1 on that does not start with the call of its place, or the one past the last.
-fn first_not_started(c: &mut Coordinator, past: u8) -> Result<u8, AllocError> {
+/// The processes from 1 on, up to one, start with the calls of their places.
+fn start_in_order(rt: &impl Abort, c: &mut Coordinator, past: u8) {
     for process in 1..past {
-        if started(c)? != Seen::Started(99 + u32::from(process), process) {
-            return Ok(process);
-        }
+        let wanted = Seen::Started(99 + u32::from(process), process);
+        assert!(rt; started(rt, c) == wanted, "process {process}");
     }
-    Ok(past)
 }
 
 /// Sixteen calls have started.
@@ -281,25 +267,13 @@ const SIXTEEN: &[(Step, Seen)] = &[
     (Step::NextReady { after: 15 }, Seen::Number { n: 16 }),
 ];
 
-/// The first call that is not taken, the first process that does not start, and the first other step.
-fn start_sixteen(c: &mut Coordinator) -> Result<(u32, u8, Option<usize>), AllocError> {
-    let call = first_not_taken(c, 117)?;
-    let process = first_not_started(c, 17)?;
-    let other = first_other(c, SIXTEEN)?;
-    Ok((call, process, other))
-}
-
-/// What sixteen starts of a coordinator with limit 16 come to, and whether one call is left.
-fn sixteen(alloc: Global) -> Result<((u32, u8, Option<usize>), bool), AllocError> {
-    let mut c = idle(alloc, 16)?;
-    let seen = start_sixteen(&mut c)?;
-    Ok((seen, leaves(c, 16, 1, 116)))
-}
-
 #[test]
-fn room_grows_to_sixteen_processes(rt: HostRuntime) -> Result<(), AllocError> {
-    assert_eq!(rt; sixteen(rt.alloc())?, ((117, 17, None), true));
-    Ok(())
+fn room_grows_to_sixteen_processes(rt: HostRuntime) {
+    let mut c = idle(&rt, rt.alloc(), 16);
+    takes_calls(&rt, &mut c, 117);
+    start_in_order(&rt, &mut c, 17);
+    takes_steps(&rt, &mut c, SIXTEEN);
+    assert!(rt; leaves(c, 16, 1, 116));
 }
 
 const ENTER: Act = Act::Enter { monitor: 1 };
@@ -348,16 +322,10 @@ const PASSES: &[(Step, Seen)] = &[
     (Step::By(2, ENTER), Seen::Yes),
 ];
 
-/// The first step that is not as it has to be while the monitor passes.
-fn first_not_passed(alloc: Global) -> Result<Option<usize>, AllocError> {
-    let mut c = monitored(alloc)?;
-    first_other(&mut c, PASSES)
-}
-
 #[test]
-fn a_monitor_passes_in_order(rt: HostRuntime) -> Result<(), AllocError> {
-    assert_eq!(rt; first_not_passed(rt.alloc())?, None);
-    Ok(())
+fn a_monitor_passes_in_order(rt: HostRuntime) {
+    let mut c = monitored(&rt, rt.alloc());
+    takes_steps(&rt, &mut c, PASSES);
 }
 
 #[test]

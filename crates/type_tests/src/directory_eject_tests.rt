@@ -1,98 +1,125 @@
-ghost use Rattle.std.specs.Prelude.{◌≡◌, ◌∷◌, [], true, IfOk};
+ghost use Rattle.std.specs.Prelude.{◌≡◌, ◌∷◌, [], true};
 ghost use Rattle.directory_eject.specs.Stages.{are_taken};
+ghost use Rattle.epl_syntax.specs.declared.types.Native.TheVariants as types;
+ghost use Rattle.epl_syntax.specs.Edentype.{native};
+ghost use Rattle.epl_syntax.specs.Meaning.{durable_kinds};
+ghost use Rattle.epl_syntax.specs.Kinds.{have_shapes};
 ghost use Rattle.eden_value.specs.Datum.{text as text_datum, cap as cap_datum};
 
 use crate::common::{Given, cap_of, items_of, printed, returned, text};
 use capability::Cap;
 use directory_eject::*;
-use eden_value::{Items, Status, Txt, Value};
+use eden_value::{Items, Status, Value};
 use epl_syntax::{Answer, Effect};
-use std::alloc::{AllocError, Global};
+use std::alloc::Global;
+use std::process::Abort;
 
 /// An operation takes a turn.
 fn turned(
+    rt: &impl Abort,
     alloc: Global,
     directory: &mut Directory,
     stage: &mut Stage,
     answer: Answer,
-) -> Result<Effect, AllocError> {
-    native_turn(alloc, directory, stage, answer)
+) -> Box<Effect> {
+    let effect = native_turn(alloc, directory, stage, answer).expect(rt, "memory");
+    Box::new(alloc, effect).expect(rt, "memory")
 }
 
-/// What an operation returns, as the text of a list. The checkpoint of a change is answered with the status.
-fn carried_out(
+/// The stage in which an operation of this name begins.
+fn begun(rt: &impl Abort, alloc: Global, name: &[u8], args: &Items) -> Box<Stage>
+    requires { are_taken name.now args.now ≡ true }
+{
+    let operation = text(rt, alloc, name);
+    let stage = native_begin(alloc, &operation, args).expect(rt, "memory");
+    Box::new(alloc, stage).expect(rt, "memory")
+}
+
+/// The last effect of an operation. The checkpoint of a change is answered with the status.
+fn last_effect(
+    rt: &impl Abort,
     alloc: Global,
     directory: &mut Directory,
-    operation: &Txt,
-    args: &Items,
+    stage: &mut Stage,
     status: Status,
-) -> Result<Vec<u8>, AllocError>
-    requires { are_taken operation.now args.now ≡ true }
-{
-    let mut stage = native_begin(alloc, operation, args)?;
-    match turned(alloc, directory, &mut stage, Answer::Go)? {
-        Effect::Checkpoint => {
-            let answer = Answer::Code { status };
-            let effect = turned(alloc, directory, &mut stage, answer)?;
-            returned(alloc, effect)
-        }
-        effect => returned(alloc, effect),
+) -> Box<Effect> {
+    let effect = turned(rt, alloc, directory, stage, Answer::Go);
+    if matches!(*effect, Effect::Checkpoint) {
+        turned(rt, alloc, directory, stage, Answer::Code { status })
+    } else {
+        effect
     }
 }
 
+/// What an operation returns, as the text of a list.
+fn carried_out(
+    rt: &impl Abort,
+    alloc: Global,
+    directory: &mut Directory,
+    name: &[u8],
+    args: &Items,
+    status: Status,
+) -> Vec<u8>
+    requires { are_taken name.now args.now ≡ true }
+{
+    let mut stage = begun(rt, alloc, name, args);
+    let effect = last_effect(rt, alloc, directory, &mut stage, status);
+    returned(rt, alloc, &effect)
+}
+
 /// The values of an operation that takes a name.
-fn named(alloc: Global, name: &[u8]) -> Result<Items, AllocError>
-    ensures { IfOk result (λ items. items ≡ text_datum name.now ∷ []) }
+fn named(rt: &impl Abort, alloc: Global, name: &[u8]) -> Items
+    ensures { result ≡ text_datum name.now ∷ [] }
 {
     let name = Value::Text {
-        text: text(alloc, name)?,
+        text: text(rt, alloc, name),
     };
-    let values = vec![in alloc; name]?;
-    Ok(Items { values })
+    let values = vec![in alloc; name].expect(rt, "memory");
+    Items { values }
 }
 
 /// The values of an operation that takes a name and a capability.
-fn entry(alloc: Global, name: &[u8], cap: Option<Cap>) -> Result<Items, AllocError>
-    ensures { IfOk result (λ items. items ≡ text_datum name.now ∷ cap_datum cap ∷ []) }
+fn entry(rt: &impl Abort, alloc: Global, name: &[u8], cap: Option<Cap>) -> Items
+    ensures { result ≡ text_datum name.now ∷ cap_datum cap ∷ [] }
 {
-    let mut items = named(alloc, name)?;
-    items.values.push(Value::Cap { cap })?;
-    Ok(items)
+    let mut items = named(rt, alloc, name);
+    items.values.push(Value::Cap { cap }).expect(rt, "memory");
+    items
 }
 
 fn add(
+    rt: &impl Abort,
     alloc: Global,
     directory: &mut Directory,
     name: &[u8],
     cap: Option<Cap>,
     status: Status,
-) -> Result<Vec<u8>, AllocError> {
-    let operation = text(alloc, b"AddEntry")?;
-    let args = entry(alloc, name, cap)?;
-    carried_out(alloc, directory, &operation, &args, status)
+) -> Vec<u8> {
+    let args = entry(rt, alloc, name, cap);
+    carried_out(rt, alloc, directory, b"AddEntry", &args, status)
 }
 
-fn look_up(alloc: Global, directory: &mut Directory, name: &[u8]) -> Result<Vec<u8>, AllocError> {
-    let operation = text(alloc, b"LookUp")?;
-    let args = named(alloc, name)?;
-    carried_out(alloc, directory, &operation, &args, Status::Ok)
+fn look_up(rt: &impl Abort, alloc: Global, directory: &mut Directory, name: &[u8]) -> Vec<u8> {
+    let args = named(rt, alloc, name);
+    carried_out(rt, alloc, directory, b"LookUp", &args, Status::Ok)
 }
 
 fn delete(
+    rt: &impl Abort,
     alloc: Global,
     directory: &mut Directory,
     name: &[u8],
     status: Status,
-) -> Result<Vec<u8>, AllocError> {
-    let operation = text(alloc, b"DeleteEntry")?;
-    let args = named(alloc, name)?;
-    carried_out(alloc, directory, &operation, &args, status)
+) -> Vec<u8> {
+    let args = named(rt, alloc, name);
+    carried_out(rt, alloc, directory, b"DeleteEntry", &args, status)
 }
 
-fn list(alloc: Global, directory: &mut Directory) -> Result<Vec<u8>, AllocError> {
-    let operation = text(alloc, b"List")?;
-    let values = Vec::new(alloc);
-    carried_out(alloc, directory, &operation, &Items { values }, Status::Ok)
+fn list(rt: &impl Abort, alloc: Global, directory: &mut Directory) -> Vec<u8> {
+    let nothing = Items {
+        values: Vec::new(alloc),
+    };
+    carried_out(rt, alloc, directory, b"List", &nothing, Status::Ok)
 }
 
 /// A call of one operation.
@@ -106,38 +133,41 @@ enum Call {
     List,
 }
 
-fn called(alloc: Global, directory: &mut Directory, call: Call) -> Result<Vec<u8>, AllocError> {
+fn called(rt: &impl Abort, alloc: Global, directory: &mut Directory, call: Call) -> Vec<u8> {
     match call {
-        Call::Add(name, cap, status) => add(alloc, directory, name, cap_of(cap), status),
-        Call::LookUp { name } => look_up(alloc, directory, name),
-        Call::Delete(name, status) => delete(alloc, directory, name, status),
-        Call::List => list(alloc, directory),
+        Call::Add(name, cap, status) => add(rt, alloc, directory, name, cap_of(cap), status),
+        Call::LookUp { name } => look_up(rt, alloc, directory, name),
+        Call::Delete(name, status) => delete(rt, alloc, directory, name, status),
+        Call::List => list(rt, alloc, directory),
     }
 }
 
 /// Whether the directory answers a call with this.
 fn is_answered(
+    rt: &impl Abort,
     alloc: Global,
     directory: &mut Directory,
     call: Call,
     wanted: &str,
-) -> Result<bool, AllocError> {
-    let answer = called(alloc, directory, call)?;
-    Ok(answer.as_slice() == wanted.as_bytes())
+) -> bool {
+    called(rt, alloc, directory, call).as_slice() == wanted.as_bytes()
 }
 
-/// The first of the calls that the directory does not answer with what stands beside it.
-fn first_other(
+/// The directory answers each call with what stands beside it.
+fn answers(
+    rt: &impl Abort,
     alloc: Global,
     directory: &mut Directory,
     calls: &[(Call, &'static str)],
-) -> Result<Option<usize>, AllocError> {
+) {
     for (i, &(call, wanted)) in calls.iter().enumerate() {
-        if !is_answered(alloc, directory, call, wanted)? {
-            return Ok(Some(i));
-        }
+        assert!(rt; is_answered(rt, alloc, directory, call, wanted), "call {i}");
     }
-    Ok(None)
+}
+
+/// A directory of no entries.
+fn empty(rt: &impl Abort, alloc: Global) -> Box<Directory> {
+    Box::new(alloc, Directory::new(alloc)).expect(rt, "memory")
 }
 
 const CALLS: &[(Call, &str)] = &[
@@ -159,10 +189,9 @@ const CALLS: &[(Call, &str)] = &[
 ];
 
 #[test]
-fn names_keep_their_order(rt: HostRuntime) -> Result<(), AllocError> {
-    let mut directory = Directory::new(rt.alloc());
-    assert_eq!(rt; first_other(rt.alloc(), &mut directory, CALLS)?, None);
-    Ok(())
+fn names_keep_their_order(rt: HostRuntime) {
+    let mut directory = empty(&rt, rt.alloc());
+    answers(&rt, rt.alloc(), &mut directory, CALLS);
 }
 
 /// Calls of a directory with 256 entries, of which `aa` is one.
@@ -174,34 +203,24 @@ const FULL: &[(Call, &str)] = &[
 ];
 
 /// Whether the entry is added whose two letters spell a number.
-fn adds(alloc: Global, directory: &mut Directory, number: u8) -> Result<bool, AllocError> {
+fn adds(rt: &impl Abort, alloc: Global, directory: &mut Directory, number: u8) -> bool {
     let name = [b'a' + number / 16, b'a' + number % 16];
-    let answer = add(alloc, directory, &name, None, Status::Ok)?;
-    Ok(answer.as_slice() == b"[0]".as_slice())
+    let answer = add(rt, alloc, directory, &name, None, Status::Ok);
+    answer.as_slice() == b"[0]".as_slice()
 }
 
-/// How many of 256 entries are added, up to the first that is not.
-fn count_added(alloc: Global, directory: &mut Directory) -> Result<u32, AllocError> {
+/// 256 entries are added.
+fn adds_all(rt: &impl Abort, alloc: Global, directory: &mut Directory) {
     for number in 0..256u32 {
-        if !adds(alloc, directory, number as u8)? {
-            return Ok(number);
-        }
+        assert!(rt; adds(rt, alloc, directory, number as u8), "entry {number}");
     }
-    Ok(256)
-}
-
-/// How many entries a new directory takes, and the first other call of `FULL` behind them.
-fn filled(alloc: Global) -> Result<(u32, Option<usize>), AllocError> {
-    let mut directory = Directory::new(alloc);
-    let count = count_added(alloc, &mut directory)?;
-    let other = first_other(alloc, &mut directory, FULL)?;
-    Ok((count, other))
 }
 
 #[test]
-fn a_directory_has_256_entries_at_most(rt: HostRuntime) -> Result<(), AllocError> {
-    assert_eq!(rt; filled(rt.alloc())?, (256, None));
-    Ok(())
+fn a_directory_has_256_entries_at_most(rt: HostRuntime) {
+    let mut directory = empty(&rt, rt.alloc());
+    adds_all(&rt, rt.alloc(), &mut directory);
+    answers(&rt, rt.alloc(), &mut directory, FULL);
 }
 
 /// Stored names and capabilities, and whether a directory starts from them.
@@ -243,64 +262,55 @@ const STORED: &[(&[Given], bool)] = &[
 ];
 
 /// Whether a directory starts from these values.
-fn starts(alloc: Global, given: &[Given]) -> Result<bool, AllocError> {
-    let values = items_of(alloc, given)?;
-    Ok(native_start(&values))
+fn starts(rt: &impl Abort, alloc: Global, given: &[Given]) -> bool {
+    native_start(&items_of(rt, alloc, given))
 }
 
 #[test]
-fn stored_values_have_as_many_capabilities_as_names_and_no_name_twice(
-    rt: HostRuntime,
-) -> Result<(), AllocError> {
+fn stored_values_have_as_many_capabilities_as_names_and_no_name_twice(rt: HostRuntime) {
     for (i, &(given, wanted)) in STORED.iter().enumerate() {
-        assert!(rt; starts(rt.alloc(), given)? == wanted, "at {i}");
+        assert!(rt; starts(&rt, rt.alloc(), given) == wanted, "at {i}");
     }
-    Ok(())
 }
 
-/// The directory that was kept with one name and no capability.
-fn kept(alloc: Global) -> Result<Option<Directory>, AllocError> {
-    let name = Value::Text {
-        text: text(alloc, b"ann")?,
-    };
+/// What is kept of a directory with one name and no capability.
+fn one_entry(rt: &impl Abort, alloc: Global) -> Items
+    ensures { have_shapes result (durable_kinds (native types.Directory)) ≡ true }
+{
     let names = Value::List {
-        items: Items {
-            values: vec![in alloc; name]?,
-        },
+        items: named(rt, alloc, b"ann"),
     };
     let held = Value::List {
         items: Items {
-            values: vec![in alloc; Value::Cap { cap: None }]?,
+            values: vec![in alloc; Value::Cap { cap: None }].expect(rt, "memory"),
         },
     };
-    let durable = Items {
-        values: vec![in alloc; names, held]?,
-    };
-    if !native_start(&durable) {
-        return Ok(None);
+    Items {
+        values: vec![in alloc; names, held].expect(rt, "memory"),
     }
-    Ok(Some(Directory::from_values(alloc, &durable)?))
 }
 
-/// The values of a directory, as the text of a list.
-fn values_of(alloc: Global, directory: &Directory) -> Result<Vec<u8>, AllocError> {
-    printed(alloc, directory.values(alloc)?)
+/// The directory that was kept with one name and no capability.
+fn kept(rt: &impl Abort, alloc: Global) -> Box<Directory> {
+    let durable = one_entry(rt, alloc);
+    assert!(rt; native_start(&durable), "it starts");
+    let directory = Directory::from_values(alloc, &durable).expect(rt, "memory");
+    Box::new(alloc, directory).expect(rt, "memory")
 }
 
-/// Whether the directory that was kept takes an entry and has it behind the first.
-fn starts_and_adds(alloc: Global) -> Result<bool, AllocError> {
-    let Some(mut directory) = kept(alloc)? else {
-        return Ok(false);
-    };
-    let call = Call::Add(b"bob", Some((1, 2, 3)), Status::Ok);
-    let is_added = is_answered(alloc, &mut directory, call, "[0]")?;
-    let values = values_of(alloc, &directory)?;
-    let wanted = b"[[\"ann\", \"bob\"], [<none>, <1.1.2:0003>]]";
-    Ok(is_added && values.as_slice() == wanted.as_slice())
+/// Whether the values of a directory are these, as the text of a list.
+fn has_values(rt: &impl Abort, alloc: Global, directory: &Directory, wanted: &str) -> bool {
+    let values = directory.values(alloc).expect(rt, "memory");
+    printed(rt, alloc, values).as_slice() == wanted.as_bytes()
 }
+
+/// An entry, and the answer to it.
+const SECOND: &[(Call, &str)] = &[(Call::Add(b"bob", Some((1, 2, 3)), Status::Ok), "[0]")];
 
 #[test]
-fn a_directory_starts_from_what_was_kept(rt: HostRuntime) -> Result<(), AllocError> {
-    assert!(rt; starts_and_adds(rt.alloc())?);
-    Ok(())
+fn a_directory_starts_from_what_was_kept(rt: HostRuntime) {
+    let mut directory = kept(&rt, rt.alloc());
+    answers(&rt, rt.alloc(), &mut directory, SECOND);
+    let wanted = "[[\"ann\", \"bob\"], [<none>, <1.1.2:0003>]]";
+    assert!(rt; has_values(&rt, rt.alloc(), &directory, wanted));
 }

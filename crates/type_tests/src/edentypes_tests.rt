@@ -5,7 +5,8 @@ use eden_codec::Rep;
 use eden_value::{Items, Status, Txt};
 use edentypes::*;
 use epl_syntax::{Answer, Effect, Types};
-use std::alloc::{AllocError, Global};
+use std::alloc::Global;
+use std::process::Abort;
 
 const ME: Uid = Uid {
     node: 1,
@@ -28,19 +29,43 @@ const NAMES: &[Named] = &[
     (b"Cel", None, 0, 0),
 ];
 
-/// What is kept of a new Eject.
-fn kept_at_first(alloc: Global, types: &Types, kind: Kind) -> Result<Rep, AllocError> {
-    let new = first_values(alloc, types, kind)?;
-    rep(alloc, types, kind, &new)
+/// The native types.
+fn native(rt: &impl Abort, alloc: Global) -> Box<Types> {
+    let types = Types::native(alloc).expect(rt, "memory");
+    Box::new(alloc, types).expect(rt, "memory")
 }
 
-fn first_items(alloc: Global, types: &Types, kind: Kind) -> Result<Items, AllocError> {
-    first_values(alloc, types, kind)?.items(alloc)
+/// The values of a new Eject.
+fn new_values(rt: &impl Abort, alloc: Global, types: &Types, kind: Kind) -> Box<Values> {
+    let vars = first_values(alloc, types, kind).expect(rt, "memory");
+    Box::new(alloc, vars).expect(rt, "memory")
+}
+
+/// The values of an Eject, as the text of a list.
+fn shown(rt: &impl Abort, alloc: Global, vars: &Values) -> Vec<u8> {
+    printed(rt, alloc, vars.items(alloc).expect(rt, "memory"))
+}
+
+/// How many values an Eject has.
+fn count_of(rt: &impl Abort, alloc: Global, vars: &Values) -> usize {
+    vars.items(alloc).expect(rt, "memory").values.len()
+}
+
+/// What is kept of an Eject with these values.
+fn kept_of(rt: &impl Abort, alloc: Global, types: &Types, kind: Kind, vars: &Values) -> Rep {
+    rep(alloc, types, kind, vars).expect(rt, "memory")
 }
 
 /// The values of an Eject that starts from what is kept.
-fn items_again(alloc: Global, types: &Types, kind: Kind, kept: &Rep) -> Result<Items, AllocError> {
-    start(alloc, types, kind, &kept.values)?.items(alloc)
+fn values_again(
+    rt: &impl Abort,
+    alloc: Global,
+    types: &Types,
+    kind: Kind,
+    kept: &Rep,
+) -> Box<Values> {
+    let vars = start(alloc, types, kind, &kept.values).expect(rt, "memory");
+    Box::new(alloc, vars).expect(rt, "memory")
 }
 
 /// What is kept of an Eject that has its first values: so many of them, under its type's name, in version 1.
@@ -48,65 +73,78 @@ fn is_kept(kept: &Rep, name: &Txt, durable: usize) -> bool {
     kept.type_name.bytes == name.bytes && kept.version == 1 && kept.values.values.len() == durable
 }
 
-/// Whether an Eject starts from what is kept with the first values of its type, which are so many.
-fn starts_at_first(
+/// Whether an Eject starts from what is kept with these values.
+fn starts_with(
+    rt: &impl Abort,
     alloc: Global,
-    types: &Types,
-    kind: Kind,
+    (types, kind): (&Types, Kind),
     kept: &Rep,
-    variables: usize,
-) -> Result<bool, AllocError> {
-    let before = first_items(alloc, types, kind)?;
-    let count = before.values.len();
-    let before = printed(alloc, before)?;
-    let after = printed(alloc, items_again(alloc, types, kind, kept)?)?;
-    Ok(count == variables && before == after)
+    vars: &Values,
+) -> bool {
+    let again = values_again(rt, alloc, types, kind, kept);
+    shown(rt, alloc, &again) == shown(rt, alloc, vars)
 }
 
 /// Whether an Eject that has its first values, and so many, starts from what is kept of it with the same values.
 fn starts_as_kept(
+    rt: &impl Abort,
     alloc: Global,
-    types: &Types,
-    kind: Kind,
+    (types, kind): (&Types, Kind),
     name: &Txt,
     (variables, durable): (usize, usize),
-) -> Result<bool, AllocError> {
-    let kept = kept_at_first(alloc, types, kind)?;
-    Ok(is_kept(&kept, name, durable) && starts_at_first(alloc, types, kind, &kept, variables)?)
+) -> bool {
+    let vars = new_values(rt, alloc, types, kind);
+    let kept = kept_of(rt, alloc, types, kind, &vars);
+    count_of(rt, alloc, &vars) == variables
+        && is_kept(&kept, name, durable)
+        && starts_with(rt, alloc, (types, kind), &kept, &vars)
+}
+
+/// How many classes it has.
+fn count_classes(rt: &impl Abort, alloc: Global, types: &Types, kind: Kind) -> usize {
+    let made = setup(alloc, types, kind).expect(rt, "memory");
+    made.limits.as_slice().len()
+}
+
+/// The coordinator with which it starts.
+fn crew_of(rt: &impl Abort, alloc: Global, types: &Types, kind: Kind) -> Box<Coordinator> {
+    let made = setup(alloc, types, kind).expect(rt, "memory");
+    let crew = Coordinator::new(alloc, made).expect(rt, "memory");
+    Box::new(alloc, crew).expect(rt, "memory")
 }
 
 /// Whether it has no processes, one class and no monitors.
-fn is_plain(alloc: Global, types: &Types, kind: Kind) -> Result<bool, AllocError> {
-    let begun = processes(alloc, types, kind)?;
-    let made = setup(alloc, types, kind)?;
-    let classes = made.limits.as_slice().len();
-    let crew = Coordinator::new(alloc, made)?;
-    Ok(begun.is_empty() && classes == 1 && crew.monitors() == 0)
+fn is_plain(rt: &impl Abort, alloc: Global, types: &Types, kind: Kind) -> bool {
+    let begun = processes(alloc, types, kind).expect(rt, "memory");
+    begun.is_empty()
+        && count_classes(rt, alloc, types, kind) == 1
+        && crew_of(rt, alloc, types, kind).monitors() == 0
 }
 
 /// Whether the name is that of the type at its place, which starts, or of none.
 fn is_named(
+    rt: &impl Abort,
     alloc: Global,
     types: &Types,
     &(name, place, variables, durable): &Named,
-) -> Result<bool, AllocError> {
-    let name = text(alloc, name)?;
-    let Some(kind) = find(types, &name) else {
-        return Ok(place.is_none());
-    };
-    if place != Some(kind.place) || !is_plain(alloc, types, kind)? {
-        return Ok(false);
+) -> bool {
+    let name = text(rt, alloc, name);
+    match find(types, &name) {
+        Some(kind) => {
+            place == Some(kind.place)
+                && is_plain(rt, alloc, types, kind)
+                && starts_as_kept(rt, alloc, (types, kind), &name, (variables, durable))
+        }
+        None => place.is_none(),
     }
-    starts_as_kept(alloc, types, kind, &name, (variables, durable))
 }
 
 #[test]
-fn every_native_type_starts(rt: HostRuntime) -> Result<(), AllocError> {
-    let types = Types::native(rt.alloc())?;
+fn every_native_type_starts(rt: HostRuntime) {
+    let types = native(&rt, rt.alloc());
     for (i, named) in NAMES.iter().enumerate() {
-        assert!(rt; is_named(rt.alloc(), &types, named)?, "at {i}");
+        assert!(rt; is_named(&rt, rt.alloc(), &types, named), "at {i}");
     }
-    Ok(())
 }
 
 /// The place of a type, the rights of the capability, an operation, the values that it is given, and what is wrong.
@@ -152,27 +190,27 @@ fn is_fit(fit: Fit, wrong: Option<Status>) -> bool {
 
 /// Whether a call of a native type fits, or this is wrong with it.
 fn is_judged(
+    rt: &impl Abort,
     alloc: Global,
     types: &Types,
     &(place, bits, operation, args, wrong): &Asked,
-) -> Result<bool, AllocError> {
+) -> bool {
     let target = Cap {
         uid: ME,
         rights: Rights { bits },
     };
-    let operation = text(alloc, operation)?;
-    let args = items_of(alloc, args)?;
-    let fit = fit_call(alloc, types, Kind { place }, target, &operation, &args)?;
-    Ok(is_fit(fit, wrong))
+    let operation = text(rt, alloc, operation);
+    let args = items_of(rt, alloc, args);
+    let fit = fit_call(alloc, types, Kind { place }, target, &operation, &args);
+    is_fit(fit.expect(rt, "memory"), wrong)
 }
 
 #[test]
-fn calls_fit_or_not(rt: HostRuntime) -> Result<(), AllocError> {
-    let types = Types::native(rt.alloc())?;
+fn calls_fit_or_not(rt: HostRuntime) {
+    let types = native(&rt, rt.alloc());
     for (i, asked) in CALLS.iter().enumerate() {
-        assert!(rt; is_judged(rt.alloc(), &types, asked)?, "call {i}");
+        assert!(rt; is_judged(&rt, rt.alloc(), &types, asked), "call {i}");
     }
-    Ok(())
 }
 
 /// What is kept of an Eject: its type's name, its version and its values. And the place of the type of the Eject that starts
@@ -216,14 +254,10 @@ const KEPT: &[Kept] = &[
 ];
 
 /// The place of the type of the Eject that starts from what is kept, and its durable values, as the text of a list.
-fn started(
-    alloc: Global,
-    types: &Types,
-    kept: &Rep,
-) -> Result<Option<(usize, Vec<u8>)>, AllocError> {
-    match start_from(alloc, types, kept, ME)? {
-        Some((kind, durable)) => Ok(Some((kind.place, printed(alloc, durable)?))),
-        None => Ok(None),
+fn started(rt: &impl Abort, alloc: Global, types: &Types, kept: &Rep) -> Option<(usize, Vec<u8>)> {
+    match start_from(alloc, types, kept, ME).expect(rt, "memory") {
+        Some((kind, durable)) => Some((kind.place, printed(rt, alloc, durable))),
+        None => None,
     }
 }
 
@@ -238,32 +272,32 @@ fn is_started(found: &Option<(usize, Vec<u8>)>, wanted: Option<(usize, &[u8])>) 
 }
 
 /// What is kept of an Eject of this type and version with these values.
-fn rep_of(alloc: Global, name: &[u8], version: u16, values: &[Given]) -> Result<Rep, AllocError> {
-    Ok(Rep {
-        type_name: text(alloc, name)?,
+fn rep_of(rt: &impl Abort, alloc: Global, name: &[u8], version: u16, values: &[Given]) -> Rep {
+    Rep {
+        type_name: text(rt, alloc, name),
         version,
-        values: items_of(alloc, values)?,
-    })
+        values: items_of(rt, alloc, values),
+    }
 }
 
 /// Whether an Eject starts from what is kept as it has to, or does not.
 fn starts_so(
+    rt: &impl Abort,
     alloc: Global,
     types: &Types,
     &(name, version, values, wanted): &Kept,
-) -> Result<bool, AllocError> {
-    let kept = rep_of(alloc, name, version, values)?;
-    let found = started(alloc, types, &kept)?;
-    Ok(is_started(&found, wanted))
+) -> bool {
+    let kept = rep_of(rt, alloc, name, version, values);
+    let found = started(rt, alloc, types, &kept);
+    is_started(&found, wanted)
 }
 
 #[test]
-fn ejects_start_from_what_is_kept(rt: HostRuntime) -> Result<(), AllocError> {
-    let types = Types::native(rt.alloc())?;
+fn ejects_start_from_what_is_kept(rt: HostRuntime) {
+    let types = native(&rt, rt.alloc());
     for (i, kept) in KEPT.iter().enumerate() {
-        assert!(rt; starts_so(rt.alloc(), &types, kept)?, "at {i}");
+        assert!(rt; starts_so(&rt, rt.alloc(), &types, kept), "at {i}");
     }
-    Ok(())
 }
 
 /// An operation, its arguments, and the status of its checkpoint or its end.
@@ -271,77 +305,72 @@ type Call = (&'static [u8], &'static [Given], Status);
 
 /// A process takes a turn.
 fn turned(
+    rt: &impl Abort,
     alloc: Global,
     (types, kind): (&Types, Kind),
     vars: &mut Values,
     rest: &mut Rest,
     answer: Answer,
-) -> Result<Effect, AllocError> {
-    turn(alloc, types, kind, vars, rest, answer, ME)
+) -> Box<Effect> {
+    let effect = turn(alloc, types, kind, vars, rest, answer, ME).expect(rt, "memory");
+    Box::new(alloc, effect).expect(rt, "memory")
 }
 
 /// The process of an operation with its arguments.
 fn begun(
+    rt: &impl Abort,
     alloc: Global,
     (types, kind): (&Types, Kind),
     operation: &[u8],
     args: &[Given],
-) -> Result<Rest, AllocError> {
-    let operation = text(alloc, operation)?;
-    let args = items_of(alloc, args)?;
-    begin(alloc, types, kind, &operation, &args)
+) -> Box<Rest> {
+    let operation = text(rt, alloc, operation);
+    let args = items_of(rt, alloc, args);
+    let rest = begin(alloc, types, kind, &operation, &args).expect(rt, "memory");
+    Box::new(alloc, rest).expect(rt, "memory")
 }
 
-/// The effect behind one: the process of a checkpoint or of the end of what is kept is answered with the status.
-fn behind(
-    alloc: Global,
-    (types, kind): (&Types, Kind),
-    vars: &mut Values,
-    rest: &mut Rest,
-    (effect, status): (Effect, Status),
-) -> Result<Effect, AllocError> {
-    match effect {
-        Effect::Checkpoint | Effect::Destroy => {
-            turned(alloc, (types, kind), vars, rest, Answer::Code { status })
-        }
-        effect => Ok(effect),
-    }
-}
-
-/// The answer of an operation that was begun, as the text of a list, or that it ends the active part.
-fn carried_on(
+/// The last effect of an operation. The process of a checkpoint or of the end of what is kept is answered with the status.
+fn last_effect(
+    rt: &impl Abort,
     alloc: Global,
     (types, kind): (&Types, Kind),
     vars: &mut Values,
     rest: &mut Rest,
     status: Status,
-) -> Result<Vec<u8>, AllocError> {
-    let effect = turned(alloc, (types, kind), vars, rest, Answer::Go)?;
-    let last = behind(alloc, (types, kind), vars, rest, (effect, status))?;
-    returned(alloc, last)
+) -> Box<Effect> {
+    let effect = turned(rt, alloc, (types, kind), vars, rest, Answer::Go);
+    if matches!(*effect, Effect::Checkpoint | Effect::Destroy) {
+        let told = Answer::Code { status };
+        turned(rt, alloc, (types, kind), vars, rest, told)
+    } else {
+        effect
+    }
 }
 
 /// The answer of an operation, as the text of a list, or that it ends the active part.
 fn carried_out(
+    rt: &impl Abort,
     alloc: Global,
     (types, kind): (&Types, Kind),
     vars: &mut Values,
     (operation, args, status): Call,
-) -> Result<Vec<u8>, AllocError> {
-    let mut rest = begun(alloc, (types, kind), operation, args)?;
-    carried_on(alloc, (types, kind), vars, &mut rest, status)
+) -> Vec<u8> {
+    let mut rest = begun(rt, alloc, (types, kind), operation, args);
+    let effect = last_effect(rt, alloc, (types, kind), vars, &mut rest, status);
+    returned(rt, alloc, &effect)
 }
 
 /// Whether an operation returns this.
 fn returns(
+    rt: &impl Abort,
     alloc: Global,
     (types, kind): (&Types, Kind),
     vars: &mut Values,
     call: Call,
     wanted: &[u8],
-) -> Result<bool, AllocError> {
-    let answer = carried_out(alloc, (types, kind), vars, call)?;
-    Ok(answer.as_slice() == wanted)
+) -> bool {
+    carried_out(rt, alloc, (types, kind), vars, call).as_slice() == wanted
 }
 
 /// An operation of a Cell of value 3, the value after it, and what it returns at last.
@@ -357,55 +386,39 @@ const CELL: &[(Call, &[u8], &[u8])] = &[
     ((b"Kill", &[], Status::Full), b"[3]", b"[12]"),
 ];
 
-/// The values of a Cell of value 3.
-fn cell_of_three(alloc: Global) -> Result<Values, AllocError> {
-    let items = items_of(alloc, &[Given::Number { n: 3 }])?;
-    Ok(Values::plain(items))
-}
-
 /// Whether the values of an Eject are these, as the text of a list.
-fn are_shown(alloc: Global, vars: &Values, wanted: &[u8]) -> Result<bool, AllocError> {
-    let shown = printed(alloc, vars.items(alloc)?)?;
-    Ok(shown.as_slice() == wanted)
+fn are_shown(rt: &impl Abort, alloc: Global, vars: &Values, wanted: &[u8]) -> bool {
+    shown(rt, alloc, vars).as_slice() == wanted
 }
 
-/// Whether an operation of a Cell leaves this value and returns this.
-fn answers_and_leaves(
-    alloc: Global,
-    types: &Types,
-    vars: &mut Values,
-    call: Call,
-    after: &[u8],
-    wanted: &[u8],
-) -> Result<bool, AllocError> {
-    Ok(
-        returns(alloc, (types, Kind { place: 0 }), vars, call, wanted)?
-            && are_shown(alloc, vars, after)?,
-    )
+/// The values of a Cell of value 3.
+fn cell_of_three(rt: &impl Abort, alloc: Global) -> Box<Values> {
+    let items = items_of(rt, alloc, &[Given::Number { n: 3 }]);
+    Box::new(alloc, Values::plain(items)).expect(rt, "memory")
 }
 
 /// Whether an operation of a Cell of value 3 leaves this value and returns this.
 fn cell_answers(
+    rt: &impl Abort,
     alloc: Global,
     types: &Types,
     call: Call,
-    after: &[u8],
-    wanted: &[u8],
-) -> Result<bool, AllocError> {
-    let mut vars = cell_of_three(alloc)?;
-    answers_and_leaves(alloc, types, &mut vars, call, after, wanted)
+    (after, wanted): (&[u8], &[u8]),
+) -> bool {
+    let kind = Kind { place: 0 };
+    let mut vars = cell_of_three(rt, alloc);
+    returns(rt, alloc, (types, kind), &mut vars, call, wanted) && are_shown(rt, alloc, &vars, after)
 }
 
 #[test]
-fn a_cell_takes_its_turns(rt: HostRuntime) -> Result<(), AllocError> {
-    let types = Types::native(rt.alloc())?;
+fn a_cell_takes_its_turns(rt: HostRuntime) {
+    let types = native(&rt, rt.alloc());
     for (i, &(call, after, wanted)) in CELL.iter().enumerate() {
         assert!(rt;
-            cell_answers(rt.alloc(), &types, call, after, wanted)?,
+            cell_answers(&rt, rt.alloc(), &types, call, (after, wanted)),
             "operation {i}"
         );
     }
-    Ok(())
 }
 
 /// Operations of a new Directory, and what they return.
@@ -457,61 +470,46 @@ const LINES: &[(Call, &[u8])] = &[
 const SINK: &[(Call, &[u8])] = &[((b"Read", &[], Status::Ok), b"[[]]")];
 
 /// Whether an Eject starts from what is kept of these values.
-fn starts_again(
-    alloc: Global,
-    types: &Types,
-    kind: Kind,
-    vars: &Values,
-) -> Result<bool, AllocError> {
-    let kept = rep(alloc, types, kind, vars)?;
-    Ok(started(alloc, types, &kept)?.is_some())
+fn starts_again(rt: &impl Abort, alloc: Global, types: &Types, kind: Kind, vars: &Values) -> bool {
+    let kept = kept_of(rt, alloc, types, kind, vars);
+    started(rt, alloc, types, &kept).is_some()
 }
 
 /// Whether an operation returns this, and an Eject starts from what is kept after it.
 fn answers(
+    rt: &impl Abort,
     alloc: Global,
     (types, kind): (&Types, Kind),
     vars: &mut Values,
     call: Call,
     wanted: &[u8],
-) -> Result<bool, AllocError> {
-    Ok(
-        returns(alloc, (types, kind), vars, call, wanted)?
-            && starts_again(alloc, types, kind, vars)?,
-    )
+) -> bool {
+    returns(rt, alloc, (types, kind), vars, call, wanted)
+        && starts_again(rt, alloc, types, kind, vars)
 }
 
-/// An Eject carries out the operations, up to the first after which it is not as it has to be.
-fn first_other_of(
+/// A new Eject of the type at a place carries out the operations, and each returns what stands beside it.
+fn carries_out(
+    rt: &impl Abort,
     alloc: Global,
-    (types, kind): (&Types, Kind),
-    vars: &mut Values,
+    types: &Types,
+    place: usize,
     calls: &[(Call, &'static [u8])],
-) -> Result<Option<usize>, AllocError> {
+) {
+    let kind = Kind { place };
+    let mut vars = new_values(rt, alloc, types, kind);
     for (i, &(call, wanted)) in calls.iter().enumerate() {
-        if !answers(alloc, (types, kind), vars, call, wanted)? {
-            return Ok(Some(i));
-        }
+        assert!(rt;
+            answers(rt, alloc, (types, kind), &mut vars, call, wanted),
+            "type {place}, operation {i}"
+        );
     }
-    Ok(None)
-}
-
-/// The same of a new Eject.
-fn first_other(
-    alloc: Global,
-    (types, kind): (&Types, Kind),
-    calls: &[(Call, &'static [u8])],
-) -> Result<Option<usize>, AllocError> {
-    let mut vars = first_values(alloc, types, kind)?;
-    first_other_of(alloc, (types, kind), &mut vars, calls)
 }
 
 #[test]
-fn native_types_carry_out_operations(rt: HostRuntime) -> Result<(), AllocError> {
-    let types = Types::native(rt.alloc())?;
+fn native_types_carry_out_operations(rt: HostRuntime) {
+    let types = native(&rt, rt.alloc());
     for &(place, calls) in &[(1, DIRECTORY), (2, LINES), (7, SINK)] {
-        let other = first_other(rt.alloc(), (&types, Kind { place }), calls)?;
-        assert!(rt; other.is_none(), "{place} {other:?}");
+        carries_out(&rt, rt.alloc(), &types, place, calls);
     }
-    Ok(())
 }

@@ -1,6 +1,6 @@
 use capability::Uid;
 use eject_table::*;
-use std::alloc::{AllocError, Global};
+use std::alloc::Global;
 use std::process::Abort;
 
 /// Something that is asked of a table, of the Eject with a serial.
@@ -63,28 +63,28 @@ fn serial(found: Option<Uid>) -> Seen {
     }
 }
 
-fn created(table: &mut EjectTable<u32>, alloc: Global, value: u32) -> Result<Seen, AllocError> {
+fn created(rt: &impl Abort, table: &mut EjectTable<u32>, alloc: Global, value: u32) -> Seen {
     match table.create(alloc, value) {
-        Ok(uid) => Ok(serial(Some(uid))),
-        Err((_, CreateRefusal::OutOfMemory)) => Err(AllocError),
+        Ok(uid) => serial(Some(uid)),
+        Err((_, CreateRefusal::OutOfMemory)) => panic!(rt; "memory"),
         Err((back, refusal)) => {
             if back == value {
-                Ok(Seen::Full(refusal))
+                Seen::Full(refusal)
             } else {
-                Ok(Seen::Refused)
+                Seen::Refused
             }
         }
     }
 }
 
 /// Notes the Eject where it is not active.
-fn noted(table: &mut EjectTable<u32>, alloc: Global, uid: Uid) -> Result<Seen, AllocError> {
+fn noted(rt: &impl Abort, table: &mut EjectTable<u32>, alloc: Global, uid: Uid) -> Seen {
     match table.find(uid) {
-        Standing::Active => return Ok(Seen::Refused),
-        Standing::Passive => table.note_passive(alloc, uid)?,
-        Standing::Absent => table.note_passive(alloc, uid)?,
+        Standing::Active => return Seen::Refused,
+        Standing::Passive => table.note_passive(alloc, uid).expect(rt, "memory"),
+        Standing::Absent => table.note_passive(alloc, uid).expect(rt, "memory"),
     }
-    Ok(Seen::Done)
+    Seen::Done
 }
 
 /// Wakes the Eject where it is passive.
@@ -118,20 +118,28 @@ fn changed(table: &mut EjectTable<u32>, uid: Uid, value: u32) -> Seen {
     }
 }
 
-fn stepped(table: &mut EjectTable<u32>, alloc: Global, step: Step) -> Result<Seen, AllocError> {
-    Ok(match step {
-        Step::Create { value } => created(table, alloc, value)?,
+/// The answer to a question.
+fn asked(table: &EjectTable<u32>, step: Step) -> Seen {
+    match step {
         Step::Find { serial } => Seen::Stands(table.find(uid(serial))),
-        Step::Note { serial } => noted(table, alloc, uid(serial))?,
-        Step::Wake(serial, value) => woken(table, alloc, uid(serial), value),
         Step::Active { serial } => number(table.active(uid(serial)).copied()),
-        Step::Change(serial, value) => changed(table, uid(serial), value),
         Step::Count => Seen::Number { n: table.count() },
         Step::First => serial(table.after(None)),
         Step::After { serial: last } => serial(table.after(Some(uid(last)))),
+        _ => Seen::Refused,
+    }
+}
+
+fn stepped(rt: &impl Abort, table: &mut EjectTable<u32>, alloc: Global, step: Step) -> Seen {
+    match step {
+        Step::Create { value } => created(rt, table, alloc, value),
+        Step::Note { serial } => noted(rt, table, alloc, uid(serial)),
+        Step::Wake(serial, value) => woken(table, alloc, uid(serial), value),
+        Step::Change(serial, value) => changed(table, uid(serial), value),
         Step::Drop { serial } => number(table.drop_active(uid(serial), true)),
         Step::Forget { serial } => forgotten(table, uid(serial)),
-    })
+        _ => asked(table, step),
+    }
 }
 
 /// The table takes the steps, and answers what stands beside them.
@@ -140,11 +148,16 @@ fn takes_steps(
     alloc: Global,
     table: &mut EjectTable<u32>,
     steps: &[(Step, Seen)],
-) -> Result<(), AllocError> {
+) {
     for (i, &(step, wanted)) in steps.iter().enumerate() {
-        assert!(rt; stepped(table, alloc, step)? == wanted, "step {i}");
+        assert!(rt; stepped(rt, table, alloc, step) == wanted, "step {i}");
     }
-    Ok(())
+}
+
+/// A table of node 1 in an epoch, whose last serial is this.
+fn new_table(rt: &impl Abort, alloc: Global, epoch: u32, last: u32) -> Box<EjectTable<u32>> {
+    let table = EjectTable::new(alloc, 1, epoch, last).expect(rt, "memory");
+    Box::new(alloc, table).expect(rt, "memory")
 }
 
 const ABSENT: Seen = Seen::Stands(Standing::Absent);
@@ -163,9 +176,9 @@ const SPENT: &[(Step, Seen)] = &[
 ];
 
 #[test]
-fn serials_are_spent(rt: HostRuntime) -> Result<(), AllocError> {
-    let mut table = EjectTable::new(rt.alloc(), 1, 1, 4_294_967_294)?;
-    takes_steps(&rt, rt.alloc(), &mut table, SPENT)
+fn serials_are_spent(rt: HostRuntime) {
+    let mut table = new_table(&rt, rt.alloc(), 1, 4_294_967_294);
+    takes_steps(&rt, rt.alloc(), &mut table, SPENT);
 }
 
 const STANDINGS: &[(Step, Seen)] = &[
@@ -189,32 +202,23 @@ const STANDINGS: &[(Step, Seen)] = &[
 ];
 
 #[test]
-fn standings_change(rt: HostRuntime) -> Result<(), AllocError> {
-    let mut table = EjectTable::new(rt.alloc(), 1, 2, 0)?;
-    takes_steps(&rt, rt.alloc(), &mut table, STANDINGS)
+fn standings_change(rt: HostRuntime) {
+    let mut table = new_table(&rt, rt.alloc(), 2, 0);
+    takes_steps(&rt, rt.alloc(), &mut table, STANDINGS);
 }
 
-/// How many Ejects are created, of at most so many, up to the first that has not the next serial.
-fn count_created(table: &mut EjectTable<u32>, alloc: Global, most: u32) -> Result<u32, AllocError> {
+/// So many Ejects are created, each with the next serial.
+fn creates(rt: &impl Abort, alloc: Global, table: &mut EjectTable<u32>, most: u32) {
     for value in 0..most {
         let wanted = Seen::Number { n: value + 1 };
-        if created(table, alloc, value)? != wanted {
-            return Ok(value);
-        }
+        assert!(rt; created(rt, table, alloc, value) == wanted, "Eject {value}");
     }
-    Ok(most)
-}
-
-/// How many Ejects a new table creates, and whether one more is refused.
-fn filled(alloc: Global) -> Result<(u32, bool), AllocError> {
-    let mut table = EjectTable::new(alloc, 1, 1, 0)?;
-    let count = count_created(&mut table, alloc, 4096)?;
-    let wanted = Seen::Full(CreateRefusal::TooMany);
-    Ok((count, created(&mut table, alloc, 8)? == wanted))
 }
 
 #[test]
-fn at_most_so_many(rt: HostRuntime) -> Result<(), AllocError> {
-    assert_eq!(rt; filled(rt.alloc())?, (4096, true));
-    Ok(())
+fn at_most_so_many(rt: HostRuntime) {
+    let mut table = new_table(&rt, rt.alloc(), 1, 0);
+    creates(&rt, rt.alloc(), &mut table, 4096);
+    let wanted = Seen::Full(CreateRefusal::TooMany);
+    assert!(rt; created(&rt, &mut table, rt.alloc(), 8) == wanted);
 }

@@ -5,7 +5,7 @@ use capability::{Cap, Rights, Uid};
 use eden_value::{Items, Status, Txt, Value, text_of};
 use invocation::*;
 use locator::Places;
-use std::alloc::{AllocError, Global};
+use std::alloc::Global;
 use std::process::Abort;
 
 /// A call, a question, or something that happens. Each Eject is the first one of its node.
@@ -82,12 +82,12 @@ fn text(alloc: Global) -> Txt {
 }
 
 /// As many numbers.
-fn numbers(alloc: Global, count: usize) -> Result<Items, AllocError> {
+fn numbers(rt: &impl Abort, alloc: Global, count: usize) -> Items {
     let mut values = Vec::new(alloc);
     for _ in 0..count {
-        values.push(Value::Int { n: 7 })?;
+        values.push(Value::Int { n: 7 }).expect(rt, "memory");
     }
-    Ok(Items { values })
+    Items { values }
 }
 
 /// Whether another call may be asked.
@@ -99,55 +99,59 @@ fn may_ask(calls: &Calls) -> bool
 
 /// Asks the first Eject of a node.
 fn ask(
-    calls: &mut Calls,
+    rt: &impl Abort,
     alloc: Global,
+    calls: &mut Calls,
     asker: Asker,
     node: u8,
     count: usize,
     places: &Places,
-) -> Result<Seen, AllocError>
+) -> Seen
     requires { asking_station asker ≤ 8 }
 {
     if !may_ask(calls) {
-        return Ok(Seen::Refused);
+        return Seen::Refused;
     }
     let target = Cap {
         uid: uid_at(node),
         rights: Rights { bits: 65_535 },
     };
-    let args = numbers(alloc, count)?;
-    let Asked { call, at_once } = calls.ask(alloc, asker, target, text(alloc), args, places)?;
+    let args = numbers(rt, alloc, count);
+    let asked = calls.ask(alloc, asker, target, text(alloc), args, places);
+    let Asked { call, at_once } = asked.expect(rt, "memory");
     match at_once {
-        Some(status) => Ok(Seen::AtOnce(call, status)),
-        None => Ok(Seen::Call { call }),
+        Some(status) => Seen::AtOnce(call, status),
+        None => Seen::Call { call },
     }
 }
 
 /// Asks in the shell's name.
 fn shell_asks(
-    calls: &mut Calls,
+    rt: &impl Abort,
     alloc: Global,
+    calls: &mut Calls,
     node: u8,
     count: usize,
     places: &Places,
-) -> Result<Seen, AllocError> {
+) -> Seen {
     let name = text(alloc);
-    ask(calls, alloc, Asker::Shell { name }, node, count, places)
+    ask(rt, alloc, calls, Asker::Shell { name }, node, count, places)
 }
 
 /// Asks in the name of the first Eject of a node, from a process of it.
 fn eject_asks(
-    calls: &mut Calls,
+    rt: &impl Abort,
     alloc: Global,
-    (own, process): (u8, u8),
-    node: u8,
+    calls: &mut Calls,
+    (own, process, node): (u8, u8, u8),
     places: &Places,
-) -> Result<Seen, AllocError> {
+) -> Seen {
     if own > 8 {
-        return Ok(Seen::Refused);
+        return Seen::Refused;
     }
     let uid = uid_at(own);
-    ask(calls, alloc, Asker::Eject { uid, process }, node, 1, places)
+    let asker = Asker::Eject { uid, process };
+    ask(rt, alloc, calls, asker, node, 1, places)
 }
 
 fn is_closed(calls: &Calls, number: u32) -> Seen {
@@ -202,9 +206,10 @@ fn delivered(calls: &mut Calls, from: u8, to: u8) -> Seen
 }
 
 /// Answers the call with one number.
-fn answer(calls: &mut Calls, alloc: Global, number: u32) -> Result<Seen, AllocError> {
-    let results = numbers(alloc, 1)?;
-    Ok(truth(calls.answer(alloc, number, Status::Ok, results)?))
+fn answer(rt: &impl Abort, alloc: Global, calls: &mut Calls, number: u32) -> Seen {
+    let results = numbers(rt, alloc, 1);
+    let is_taken = calls.answer(alloc, number, Status::Ok, results);
+    truth(is_taken.expect(rt, "memory"))
 }
 
 fn broken(numbers: &[u32]) -> Seen {
@@ -214,39 +219,50 @@ fn broken(numbers: &[u32]) -> Seen {
     }
 }
 
+/// Breaks the calls over a link.
+fn link_broken(rt: &impl Abort, alloc: Global, calls: &mut Calls, a: u8, b: u8) -> Seen {
+    if a > 8 || b > 8 {
+        return Seen::Refused;
+    }
+    let cut = calls.break_link(alloc, a, b).expect(rt, "memory");
+    broken(cut.as_slice())
+}
+
+/// Breaks the calls to a node and from it.
+fn node_broken(rt: &impl Abort, alloc: Global, calls: &mut Calls, node: u8) -> Seen {
+    if node > 8 {
+        return Seen::Refused;
+    }
+    let lost = calls.break_node(alloc, node).expect(rt, "memory");
+    broken(lost.as_slice())
+}
+
 /// What is seen between two stations.
-fn seen_between(calls: &mut Calls, alloc: Global, step: Step) -> Result<Seen, AllocError> {
-    Ok(match step {
+fn seen_between(calls: &mut Calls, step: Step) -> Seen {
+    match step {
         Step::Waits(from, to) if from <= 8 && to <= 8 => truth(calls.waiting(from, to)),
         Step::Next(from, to) if from <= 8 && to <= 8 => next(calls, from, to),
         Step::Deliver(from, to) if from <= 8 && to <= 8 => delivered(calls, from, to),
-        Step::BreakLink(a, b) if a <= 8 && b <= 8 => {
-            broken(calls.break_link(alloc, a, b)?.as_slice())
-        }
-        Step::BreakNode { node } if node <= 8 => broken(calls.break_node(alloc, node)?.as_slice()),
         _ => Seen::Refused,
-    })
+    }
 }
 
-fn stepped(
-    calls: &mut Calls,
-    alloc: Global,
-    places: &Places,
-    step: Step,
-) -> Result<Seen, AllocError> {
+fn stepped(rt: &impl Abort, alloc: Global, calls: &mut Calls, places: &Places, step: Step) -> Seen {
     match step {
-        Step::ShellAsks(node, count) => shell_asks(calls, alloc, node, count, places),
+        Step::ShellAsks(node, count) => shell_asks(rt, alloc, calls, node, count, places),
         Step::EjectAsks(own, process, node) => {
-            eject_asks(calls, alloc, (own, process), node, places)
+            eject_asks(rt, alloc, calls, (own, process, node), places)
         }
-        Step::IsClosed { call } => Ok(is_closed(calls, call)),
-        Step::Arguments { call } => Ok(arguments(calls, call)),
-        Step::Answer { call } => answer(calls, alloc, call),
+        Step::IsClosed { call } => is_closed(calls, call),
+        Step::Arguments { call } => arguments(calls, call),
+        Step::Answer { call } => answer(rt, alloc, calls, call),
         Step::Orphan { node } => {
             calls.orphan(uid_at(node));
-            Ok(Seen::Done)
+            Seen::Done
         }
-        _ => seen_between(calls, alloc, step),
+        Step::BreakLink(a, b) => link_broken(rt, alloc, calls, a, b),
+        Step::BreakNode { node } => node_broken(rt, alloc, calls, node),
+        _ => seen_between(calls, step),
     }
 }
 
@@ -257,11 +273,13 @@ fn takes_steps(
     calls: &mut Calls,
     places: &Places,
     steps: &[(Step, Seen)],
-) -> Result<(), AllocError> {
+) {
     for (i, &(step, wanted)) in steps.iter().enumerate() {
-        assert!(rt; stepped(calls, alloc, places, step)? == wanted, "step {i}");
+        assert!(rt;
+            stepped(rt, alloc, calls, places, step) == wanted,
+            "step {i}"
+        );
     }
-    Ok(())
 }
 
 /// Three nodes, of which the first two are up.
@@ -274,9 +292,16 @@ fn two_of_three() -> Places
     places
 }
 
+/// No calls yet.
+fn no_calls(rt: &impl Abort, alloc: Global) -> Box<Calls> {
+    let calls = Calls::new(alloc).expect(rt, "memory");
+    Box::new(alloc, calls).expect(rt, "memory")
+}
+
 /// The steps are made from the start, where the first two of three nodes are up.
-fn from_start(rt: &impl Abort, alloc: Global, steps: &[(Step, Seen)]) -> Result<(), AllocError> {
-    takes_steps(rt, alloc, &mut Calls::new(alloc)?, &two_of_three(), steps)
+fn from_start(rt: &impl Abort, alloc: Global, steps: &[(Step, Seen)]) {
+    let mut calls = no_calls(rt, alloc);
+    takes_steps(rt, alloc, &mut calls, &two_of_three(), steps);
 }
 
 /// Nothing is cut yet.
@@ -306,12 +331,12 @@ const CUT: &[(Step, Seen)] = &[
 ];
 
 #[test]
-fn refused_at_once(rt: HostRuntime) -> Result<(), AllocError> {
+fn refused_at_once(rt: HostRuntime) {
     let mut places = two_of_three();
-    let mut calls = Calls::new(rt.alloc())?;
-    takes_steps(&rt, rt.alloc(), &mut calls, &places, REFUSED)?;
+    let mut calls = no_calls(&rt, rt.alloc());
+    takes_steps(&rt, rt.alloc(), &mut calls, &places, REFUSED);
     places.set_link(0, 2, false);
-    takes_steps(&rt, rt.alloc(), &mut calls, &places, CUT)
+    takes_steps(&rt, rt.alloc(), &mut calls, &places, CUT);
 }
 
 const CRASH: &[(Step, Seen)] = &[
@@ -346,8 +371,8 @@ const CRASH: &[(Step, Seen)] = &[
 ];
 
 #[test]
-fn a_crash_breaks_the_calls_to_its_node(rt: HostRuntime) -> Result<(), AllocError> {
-    from_start(&rt, rt.alloc(), CRASH)
+fn a_crash_breaks_the_calls_to_its_node(rt: HostRuntime) {
+    from_start(&rt, rt.alloc(), CRASH);
 }
 
 const CUT_AND_ORPHAN: &[(Step, Seen)] = &[
@@ -378,8 +403,8 @@ const CUT_AND_ORPHAN: &[(Step, Seen)] = &[
 ];
 
 #[test]
-fn a_cut_and_an_orphan(rt: HostRuntime) -> Result<(), AllocError> {
-    from_start(&rt, rt.alloc(), CUT_AND_ORPHAN)
+fn a_cut_and_an_orphan(rt: HostRuntime) {
+    from_start(&rt, rt.alloc(), CUT_AND_ORPHAN);
 }
 
 const ORPHANS: &[(Step, Seen)] = &[
@@ -414,6 +439,6 @@ const ORPHANS: &[(Step, Seen)] = &[
 ];
 
 #[test]
-fn an_orphan_closes_its_own_calls_alone(rt: HostRuntime) -> Result<(), AllocError> {
-    from_start(&rt, rt.alloc(), ORPHANS)
+fn an_orphan_closes_its_own_calls_alone(rt: HostRuntime) {
+    from_start(&rt, rt.alloc(), ORPHANS);
 }

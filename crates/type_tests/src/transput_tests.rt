@@ -1,7 +1,8 @@
 use crate::common::{Given, items_of, text};
 use eden_value::{Items, Status, Txt, Value, print};
 use epl_syntax::{Answer, Effect, Native};
-use std::alloc::{AllocError, Global};
+use std::alloc::Global;
+use std::process::Abort;
 use transput::*;
 
 /// The begin of an operation, or what a turn is told of the effect before.
@@ -21,6 +22,14 @@ enum Told {
 
 /// The stage before.
 const SOURCE: Given = Given::FullCap { serial: 1 };
+
+const SOURCE_ALONE: &[Given] = &[SOURCE];
+
+const SOURCE_AND_TWO: &[Given] = &[SOURCE, Given::Number { n: 2 }];
+
+const SOURCE_AND_ONE: &[Given] = &[SOURCE, Given::Number { n: 1 }];
+
+const SOURCE_AND_NAME: &[Given] = &[SOURCE, Given::Name { bytes: b"a" }];
 
 /// Lines is filled with two texts.
 const LINES: &[(Told, &str)] = &[
@@ -123,193 +132,192 @@ const SINK: &[(Told, &str)] = &[
     (Told::Read, r#"return (["x", "y"])"#),
 ];
 
-fn reply(alloc: Global, status: Status, results: &[Given]) -> Result<Answer, AllocError> {
-    Ok(Answer::Reply {
+fn reply(rt: &impl Abort, alloc: Global, status: Status, results: &[Given]) -> Answer {
+    Answer::Reply {
         status,
-        results: items_of(alloc, results)?,
-    })
+        results: items_of(rt, alloc, results),
+    }
 }
 
 /// The stage in which an operation of this name begins with these arguments.
 fn began(
+    rt: &impl Abort,
     alloc: Global,
     stream: Stream,
     name: &[u8],
     args: &[Given],
-) -> Result<Option<Stage>, AllocError> {
-    let name = text(alloc, name)?;
-    let args = items_of(alloc, args)?;
-    Ok(Some(native_begin(alloc, stream, &name, &args)?))
+) -> Option<Box<Stage>> {
+    let name = text(rt, alloc, name);
+    let args = items_of(rt, alloc, args);
+    let stage = native_begin(alloc, stream, &name, &args).expect(rt, "memory");
+    Some(Box::new(alloc, stage).expect(rt, "memory"))
 }
 
-/// The stage in which `Open` begins: it is given the stage before, and the argument where there is one.
-fn opened(alloc: Global, stream: Stream) -> Result<Option<Stage>, AllocError> {
+/// What `Open` is given: the stage before, and the argument where there is one.
+fn to_open(stream: Stream) -> &'static [Given] {
     match stream {
-        Stream::Take => began(alloc, stream, b"Open", &[SOURCE, Given::Number { n: 2 }]),
-        Stream::Skip => began(alloc, stream, b"Open", &[SOURCE, Given::Number { n: 1 }]),
-        Stream::Only => began(
-            alloc,
-            stream,
-            b"Open",
-            &[SOURCE, Given::Name { bytes: b"a" }],
-        ),
-        _ => began(alloc, stream, b"Open", &[SOURCE]),
+        Stream::Take => SOURCE_AND_TWO,
+        Stream::Skip => SOURCE_AND_ONE,
+        Stream::Only => SOURCE_AND_NAME,
+        _ => SOURCE_ALONE,
     }
 }
 
 /// The stage in which an operation begins, if one does.
-fn begun(alloc: Global, stream: Stream, told: Told) -> Result<Option<Stage>, AllocError> {
+fn begun(rt: &impl Abort, alloc: Global, stream: Stream, told: Told) -> Option<Box<Stage>> {
     match told {
-        Told::Open => opened(alloc, stream),
-        Told::Fill => began(
-            alloc,
-            stream,
-            b"Fill",
-            &[Given::Names { all: &[b"x", b"y"] }],
-        ),
-        Told::Transfer { position } => began(
-            alloc,
-            stream,
-            b"Transfer",
-            &[Given::Number { n: position }],
-        ),
-        Told::Pump { wanted } => began(alloc, stream, b"Pump", &[Given::Number { n: wanted }]),
-        Told::Read => began(alloc, stream, b"Read", &[]),
-        _ => Ok(None),
+        Told::Open => began(rt, alloc, stream, b"Open", to_open(stream)),
+        Told::Fill => {
+            let lines = Given::Names { all: &[b"x", b"y"] };
+            began(rt, alloc, stream, b"Fill", &[lines])
+        }
+        Told::Transfer { position } => {
+            let at = Given::Number { n: position };
+            began(rt, alloc, stream, b"Transfer", &[at])
+        }
+        Told::Pump { wanted } => {
+            let count = Given::Number { n: wanted };
+            began(rt, alloc, stream, b"Pump", &[count])
+        }
+        Told::Read => began(rt, alloc, stream, b"Read", &[]),
+        _ => None,
     }
 }
 
-fn answer_of(alloc: Global, told: Told) -> Result<Answer, AllocError> {
+fn answer_of(rt: &impl Abort, alloc: Global, told: Told) -> Answer {
     match told {
-        Told::Saved => Ok(Answer::Code { status: Status::Ok }),
-        Told::Failed => Ok(Answer::Code {
+        Told::Saved => Answer::Code { status: Status::Ok },
+        Told::Failed => Answer::Code {
             status: Status::StoreFault,
-        }),
+        },
         Told::Item { text } => {
             let item = Given::Name {
                 bytes: text.as_bytes(),
             };
-            reply(alloc, Status::Ok, &[Given::Number { n: 0 }, item])
+            reply(rt, alloc, Status::Ok, &[Given::Number { n: 0 }, item])
         }
         Told::End => {
             let nothing = Given::Name { bytes: b"" };
-            reply(alloc, Status::Ok, &[Given::Number { n: 1 }, nothing])
+            reply(rt, alloc, Status::Ok, &[Given::Number { n: 1 }, nothing])
         }
-        Told::Broken => reply(alloc, Status::Broken, &[]),
-        _ => Ok(Answer::Go),
+        Told::Broken => reply(rt, alloc, Status::Broken, &[]),
+        _ => Answer::Go,
     }
 }
 
-fn add_row(alloc: Global, items: &Items, out: &mut Vec<u8>) -> Result<(), AllocError> {
-    out.push(b'(')?;
+/// Adds a text to what is shown.
+fn add(rt: &impl Abort, bytes: &[u8], out: &mut Vec<u8>) {
+    out.extend_from_slice(bytes).expect(rt, "memory");
+}
+
+fn add_row(rt: &impl Abort, alloc: Global, items: &Items, out: &mut Vec<u8>) {
+    add(rt, b"(", out);
     for (i, value) in items.values.iter().enumerate() {
         if i > 0 {
-            out.extend_from_slice(b", ")?;
+            add(rt, b", ", out);
         }
-        print(alloc, value, out)?;
+        print(alloc, value, out).expect(rt, "memory");
     }
-    out.push(b')')?;
-    Ok(())
+    add(rt, b")", out);
 }
 
 fn add_invocation(
+    rt: &impl Abort,
     alloc: Global,
     serial: u32,
-    operation: &Txt,
-    args: &Items,
+    (operation, args): (&Txt, &Items),
     out: &mut Vec<u8>,
-) -> Result<(), AllocError> {
-    out.extend_from_slice(b"invoke ")?;
-    print(
-        alloc,
-        &Value::Int {
-            n: i64::from(serial),
-        },
-        out,
-    )?;
-    out.push(b' ')?;
-    out.extend_from_slice(&operation.bytes)?;
-    out.push(b' ')?;
-    add_row(alloc, args, out)
+) {
+    add(rt, b"invoke ", out);
+    let n = i64::from(serial);
+    print(alloc, &Value::Int { n }, out).expect(rt, "memory");
+    add(rt, b" ", out);
+    add(rt, &operation.bytes, out);
+    add(rt, b" ", out);
+    add_row(rt, alloc, args, out);
 }
 
-fn add_effect(alloc: Global, effect: &Effect, out: &mut Vec<u8>) -> Result<(), AllocError> {
+fn add_effect(rt: &impl Abort, alloc: Global, effect: &Effect, out: &mut Vec<u8>) {
     match effect {
         Effect::Invoke {
             target,
             operation,
             args,
-        } => add_invocation(alloc, target.uid.serial, operation, args, out),
+        } => add_invocation(rt, alloc, target.uid.serial, (operation, args), out),
         Effect::Return { results } => {
-            out.extend_from_slice(b"return ")?;
-            add_row(alloc, results, out)
+            add(rt, b"return ", out);
+            add_row(rt, alloc, results, out);
         }
-        Effect::Checkpoint => out.extend_from_slice(b"checkpoint"),
-        _ => out.extend_from_slice(b"another"),
+        Effect::Checkpoint => add(rt, b"checkpoint", out),
+        _ => add(rt, b"another", out),
     }
 }
 
 /// Whether an effect is this one.
-fn is_shown(alloc: Global, effect: &Effect, want: &str) -> Result<bool, AllocError> {
+fn is_shown(rt: &impl Abort, alloc: Global, effect: &Effect, want: &str) -> bool {
     let mut out = Vec::new(alloc);
-    add_effect(alloc, effect, &mut out)?;
-    Ok(out.as_slice() == want.as_bytes())
+    add_effect(rt, alloc, effect, &mut out);
+    out.as_slice() == want.as_bytes()
 }
 
 /// The effect in which a turn ends.
 fn turned(
+    rt: &impl Abort,
     alloc: Global,
     stream: Stream,
     vars: &mut Items,
     stage: &mut Stage,
     told: Told,
-) -> Result<Effect, AllocError> {
-    let answer = answer_of(alloc, told)?;
-    native_turn(alloc, stream, vars, stage, answer)
+) -> Box<Effect> {
+    let answer = answer_of(rt, alloc, told);
+    let effect = native_turn(alloc, stream, vars, stage, answer).expect(rt, "memory");
+    Box::new(alloc, effect).expect(rt, "memory")
+}
+
+/// A stage in which no operation has begun.
+fn idle(rt: &impl Abort, alloc: Global) -> Box<Stage> {
+    let stage = Stage::OfSink {
+        stage: SinkStage::Reads,
+    };
+    Box::new(alloc, stage).expect(rt, "memory")
+}
+
+/// An operation begins in its stage, if one does.
+fn begins(rt: &impl Abort, alloc: Global, stream: Stream, told: Told, stage: &mut Box<Stage>) {
+    if let Some(first) = begun(rt, alloc, stream, told) {
+        *stage = first;
+    }
 }
 
 /// Whether a turn, which may be the first of an operation, ends in this effect.
 fn ends_in(
+    rt: &impl Abort,
     alloc: Global,
     stream: Stream,
     vars: &mut Items,
-    stage: &mut Stage,
+    stage: &mut Box<Stage>,
     (told, want): (Told, &str),
-) -> Result<bool, AllocError> {
-    if let Some(first) = begun(alloc, stream, told)? {
-        *stage = first;
-    }
-    let effect = turned(alloc, stream, vars, stage, told)?;
-    is_shown(alloc, &effect, want)
+) -> bool {
+    begins(rt, alloc, stream, told, stage);
+    let effect = turned(rt, alloc, stream, vars, stage, told);
+    is_shown(rt, alloc, &effect, want)
 }
 
-/// A turn is taken for each row, up to the first that does not end in the effect of the row.
-fn first_other_of(
-    alloc: Global,
-    stream: Stream,
-    vars: &mut Items,
-    stage: &mut Stage,
-    rows: &[(Told, &'static str)],
-) -> Result<Option<usize>, AllocError> {
-    for (i, &row) in rows.iter().enumerate() {
-        if !ends_in(alloc, stream, vars, stage, row)? {
-            return Ok(Some(i));
-        }
-    }
-    Ok(None)
-}
-
-/// The same by an Eject with these values.
-fn first_other(
+/// An Eject with these values takes a turn for each row, and each ends in the effect of its row.
+fn takes_turns(
+    rt: &impl Abort,
     alloc: Global,
     stream: Stream,
     mut vars: Items,
     rows: &[(Told, &'static str)],
-) -> Result<Option<usize>, AllocError> {
-    let mut stage = Stage::OfSink {
-        stage: SinkStage::Reads,
-    };
-    first_other_of(alloc, stream, &mut vars, &mut stage, rows)
+) {
+    let mut stage = idle(rt, alloc);
+    for (i, &row) in rows.iter().enumerate() {
+        assert!(rt;
+            ends_in(rt, alloc, stream, &mut vars, &mut stage, row),
+            "{stream:?}, turn {i}"
+        );
+    }
 }
 
 /// The turns of each stream.
@@ -323,35 +331,23 @@ const TURNS: &[(Stream, &[(Told, &str)])] = &[
 ];
 
 #[test]
-fn each_type_takes_its_turns(rt: HostRuntime) -> Result<(), AllocError> {
+fn each_type_takes_its_turns(rt: HostRuntime) {
     for &(stream, rows) in TURNS {
-        let vars = native_values(rt.alloc(), stream)?;
-        let other = first_other(rt.alloc(), stream, vars, rows)?;
-        assert!(rt; other.is_none(), "{stream:?}, turn {other:?}");
+        let vars = native_values(rt.alloc(), stream).expect(&rt, "memory");
+        takes_turns(&rt, rt.alloc(), stream, vars, rows);
     }
-    Ok(())
-}
-
-/// Those of the values that are stored, and the values of an Eject that starts from the stored ones.
-fn add_stored(
-    alloc: Global,
-    stream: Stream,
-    vars: &Items,
-    out: &mut Vec<u8>,
-) -> Result<(), AllocError> {
-    let durable = native_durable(alloc, stream, vars)?;
-    add_row(alloc, &durable, out)?;
-    let again = native_restart(stream, durable)?;
-    add_row(alloc, &again, out)
 }
 
 /// The values of a new Eject, those of them that are stored, and those of one that starts from the stored ones.
-fn values_shown(alloc: Global, stream: Stream) -> Result<Vec<u8>, AllocError> {
+fn values_shown(rt: &impl Abort, alloc: Global, stream: Stream) -> Vec<u8> {
     let mut out = Vec::new(alloc);
-    let vars = native_values(alloc, stream)?;
-    add_row(alloc, &vars, &mut out)?;
-    add_stored(alloc, stream, &vars, &mut out)?;
-    Ok(out)
+    let vars = native_values(alloc, stream).expect(rt, "memory");
+    add_row(rt, alloc, &vars, &mut out);
+    let durable = native_durable(alloc, stream, &vars).expect(rt, "memory");
+    add_row(rt, alloc, &durable, &mut out);
+    let again = native_restart(stream, durable).expect(rt, "memory");
+    add_row(rt, alloc, &again, &mut out);
+    out
 }
 
 /// What `values_shown` shows of each stream.
@@ -383,12 +379,11 @@ const VALUES: &[(Stream, &str)] = &[
 ];
 
 #[test]
-fn values_at_first_stored_and_again(rt: HostRuntime) -> Result<(), AllocError> {
+fn values_at_first_stored_and_again(rt: HostRuntime) {
     for &(stream, want) in VALUES {
-        let shown = values_shown(rt.alloc(), stream)?;
+        let shown = values_shown(&rt, rt.alloc(), stream);
         assert!(rt; shown.as_slice() == want.as_bytes(), "{stream:?}");
     }
-    Ok(())
 }
 
 /// Native types, and the stream that each one is.
@@ -417,27 +412,30 @@ const COUNTED: &[(i64, i64, bool)] = &[
 ];
 
 /// Whether a stream starts from these stored values.
-fn starts(alloc: Global, stream: Stream, stored: &[Given]) -> Result<bool, AllocError> {
-    let durable = items_of(alloc, stored)?;
-    Ok(native_start(stream, &durable))
+fn starts(rt: &impl Abort, alloc: Global, stream: Stream, stored: &[Given]) -> bool {
+    native_start(stream, &items_of(rt, alloc, stored))
+}
+
+/// Whether a Number starts that took in so many items and handed on so many.
+fn number_starts(rt: &impl Abort, alloc: Global, got: i64, made: i64) -> bool {
+    let stored = [
+        Given::NoCap,
+        Given::Number { n: got },
+        Given::Number { n: made },
+        Given::Name { bytes: b"" },
+    ];
+    starts(rt, alloc, Stream::Number, &stored)
 }
 
 #[test]
-fn no_more_was_handed_on_than_taken_in(rt: HostRuntime) -> Result<(), AllocError> {
+fn no_more_was_handed_on_than_taken_in(rt: HostRuntime) {
     for &(got, made, want) in COUNTED {
-        let stored = [
-            Given::NoCap,
-            Given::Number { n: got },
-            Given::Number { n: made },
-            Given::Name { bytes: b"" },
-        ];
         assert!(rt;
-            starts(rt.alloc(), Stream::Number, &stored)? == want,
+            number_starts(&rt, rt.alloc(), got, made) == want,
             "at {got} and {made}"
         );
     }
-    assert!(rt; starts(rt.alloc(), Stream::Lines, &[])?);
-    Ok(())
+    assert!(rt; starts(&rt, rt.alloc(), Stream::Lines, &[]));
 }
 
 /// The one item that a Sink holds many times.
@@ -456,11 +454,10 @@ const HELD: &[(&[&[u8]], &[(Told, &str)])] = &[
 ];
 
 #[test]
-fn a_sink_holds_256_items(rt: HostRuntime) -> Result<(), AllocError> {
+fn a_sink_holds_256_items(rt: HostRuntime) {
     for &(all, rows) in HELD {
-        let vars = items_of(rt.alloc(), &[SOURCE, Given::Names { all }, Given::True])?;
-        let other = first_other(rt.alloc(), Stream::Sink, vars, rows)?;
-        assert!(rt; other.is_none(), "of {}", all.len());
+        let held = [SOURCE, Given::Names { all }, Given::True];
+        let vars = items_of(&rt, rt.alloc(), &held);
+        takes_turns(&rt, rt.alloc(), Stream::Sink, vars, rows);
     }
-    Ok(())
 }

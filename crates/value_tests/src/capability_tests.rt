@@ -1,5 +1,4 @@
 use capability::*;
-use std::alloc::AllocError;
 
 #[test]
 fn rights_never_grow(rt: HostRuntime) {
@@ -18,14 +17,13 @@ fn rights_never_grow(rt: HostRuntime) {
 }
 
 #[test]
-fn lists_keep_what_they_are_given(rt: HostRuntime) -> Result<(), AllocError> {
+fn lists_keep_what_they_are_given(rt: HostRuntime) {
     let body: Body = Seq {
-        items: vec![in rt.alloc(); 1, 2]?,
+        items: vec![in rt.alloc(); 1, 2].expect(&rt, "memory"),
     };
     assert!(rt; body.as_slice().len() == 2);
     let calls: CallNumbers = Seq {
-        items: vec![in rt.alloc(); 7]?,
+        items: vec![in rt.alloc(); 7].expect(&rt, "memory"),
     };
     assert!(rt; calls.as_slice().len() == 1);
-    Ok(())
 }

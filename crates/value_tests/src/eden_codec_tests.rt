@@ -1,75 +1,69 @@
 use capability::Cap;
 use eden_codec::*;
 use eden_value::Value;
-use std::alloc::{AllocError, Global};
+use std::alloc::Global;
+use std::process::Abort;
 
 /// A Cell of version 1 that holds the number 5.
 const CELL: [u8; 18] = [1, 4, 67, 101, 108, 108, 0, 1, 1, 1, 0, 0, 0, 0, 0, 0, 0, 5];
 
+/// The representation of these bytes.
+fn read(rt: &impl Abort, alloc: Global, bytes: &[u8]) -> Box<Rep> {
+    let rep = decode_rep(alloc, bytes).ok().expect(rt, "a representation");
+    Box::new(alloc, rep).expect(rt, "memory")
+}
+
 /// The first bad place, or None where the bytes are read.
 fn bad_place(alloc: Global, bytes: &[u8]) -> Option<u32> {
-    match decode_rep(alloc, bytes) {
-        Err(DecodeRefusal::NotRep { place }) => Some(place),
+    match decode_rep(alloc, bytes).err() {
+        Some(DecodeRefusal::NotRep { place }) => Some(place),
         _ => None,
     }
 }
 
-/// The bytes of what is read, or None where the bytes are not read.
-fn written_again(alloc: Global, bytes: &[u8]) -> Option<Vec<u8>> {
-    match decode_rep(alloc, bytes) {
-        Ok(rep) => match encode_rep(alloc, &rep) {
-            Ok(body) => Some(body.items),
-            Err(_) => None,
-        },
-        Err(_) => None,
-    }
-}
-
-/// Whether bytes are read, and what is read has the same bytes.
-fn is_written_again(alloc: Global, bytes: &[u8]) -> bool {
-    match written_again(alloc, bytes) {
-        Some(found) => found.as_slice() == bytes,
-        None => false,
-    }
+/// Whether what is read of these bytes has the same bytes.
+fn is_written_again(rt: &impl Abort, alloc: Global, bytes: &[u8]) -> bool {
+    let rep = read(rt, alloc, bytes);
+    let body = encode_rep(alloc, &rep).ok().expect(rt, "bytes");
+    body.as_slice() == bytes
 }
 
 /// Adds a text of one letter, so many times, to the bytes of a representation.
-fn add_text(bytes: &mut Vec<u8>, letter: u8, length: u16) -> Result<(), AllocError> {
-    bytes.push(3)?;
-    bytes.extend_from_slice(&length.to_be_bytes())?;
+fn add_text(rt: &impl Abort, bytes: &mut Vec<u8>, letter: u8, length: u16) {
+    bytes.push(3).expect(rt, "memory");
+    bytes
+        .extend_from_slice(&length.to_be_bytes())
+        .expect(rt, "memory");
     for _ in 0..length {
-        bytes.push(letter)?;
+        bytes.push(letter).expect(rt, "memory");
     }
-    Ok(())
 }
 
 /// A type of version 1 that holds a list of so many texts of 1,024 bytes, and one of `last` bytes.
-fn texts(alloc: Global, name: &[u8], count: u8, last: u16) -> Result<Vec<u8>, AllocError> {
-    let mut bytes = Vec::new(alloc);
-    bytes.push(1)?;
-    bytes.push((name.len() % 256) as u8)?;
-    bytes.extend_from_slice(name)?;
-    bytes.extend_from_slice(&[0, 1, 1, 6])?;
-    bytes.extend_from_slice(&(u16::from(count) + 1).to_be_bytes())?;
+fn texts(rt: &impl Abort, alloc: Global, name: &[u8], count: u8, last: u16) -> Vec<u8> {
+    let mut bytes = Vec::from_slice(alloc, &[1, (name.len() % 256) as u8]).expect(rt, "memory");
+    bytes.extend_from_slice(name).expect(rt, "memory");
+    bytes.extend_from_slice(&[0, 1, 1, 6]).expect(rt, "memory");
+    bytes
+        .extend_from_slice(&(u16::from(count) + 1).to_be_bytes())
+        .expect(rt, "memory");
     for _ in 0..count {
-        add_text(&mut bytes, b'x', 1024)?;
+        add_text(rt, &mut bytes, b'x', 1024);
     }
-    add_text(&mut bytes, b'y', last)?;
-    Ok(bytes)
+    add_text(rt, &mut bytes, b'y', last);
+    bytes
 }
 
 /// Whether these bytes are read as those of `CELL` have to be.
-fn is_read_as_cell(alloc: Global, bytes: &[u8]) -> bool {
-    let Ok(rep) = decode_rep(alloc, bytes) else {
-        return false;
-    };
+fn is_read_as_cell(rt: &impl Abort, alloc: Global, bytes: &[u8]) -> bool {
+    let rep = read(rt, alloc, bytes);
     let is_number = matches!(rep.values.values.as_slice(), [Value::Int { n: 5 }]);
     is_number && rep.version == 1 && rep.type_name.bytes.as_slice() == b"Cell".as_slice()
 }
 
 #[test]
 fn a_cell_is_read_and_written(rt: HostRuntime) {
-    assert!(rt; is_read_as_cell(rt.alloc(), &CELL));
+    assert!(rt; is_read_as_cell(&rt, rt.alloc(), &CELL));
 }
 
 /// The first bad place of a Cell with another byte.
@@ -163,7 +157,7 @@ const REFUSED: &[(&[u8], u32)] = &[
 #[test]
 fn values_have_their_spellings(rt: HostRuntime) {
     for &bytes in SPELLED {
-        assert!(rt; is_written_again(rt.alloc(), bytes));
+        assert!(rt; is_written_again(&rt, rt.alloc(), bytes));
     }
 }
 
@@ -178,17 +172,17 @@ fn bytes_that_spell_no_values_are_refused(rt: HostRuntime) {
 const HELD: &[u8] = &[1, 1, 65, 0, 1, 1, 5, 8, 0, 0, 0, 2, 0, 0, 1, 0, 0, 2];
 
 /// The capability that is first in a representation.
-fn first_cap(alloc: Global, bytes: &[u8]) -> Option<Cap> {
-    let rep = decode_rep(alloc, bytes).ok()?;
+fn first_cap(rt: &impl Abort, alloc: Global, bytes: &[u8]) -> Cap {
+    let rep = read(rt, alloc, bytes);
     match rep.values.values.first() {
-        Some(Value::Cap { cap }) => *cap,
-        _ => None,
+        Some(Value::Cap { cap }) => cap.expect(rt, "a capability that is not absent"),
+        _ => panic!(rt; "no capability"),
     }
 }
 
 #[test]
 fn rights_are_kept(rt: HostRuntime) {
-    let cap = first_cap(rt.alloc(), HELD).expect(&rt, "a capability");
+    let cap = first_cap(&rt, rt.alloc(), HELD);
     assert!(rt; (cap.rights.bits, cap.uid.epoch, cap.uid.serial) == (2, 2, 256));
 }
 
@@ -200,38 +194,42 @@ const LONG: &[(&[u8], u8, u16, usize)] = &[
 
 /// Whether a type with so many texts has so many bytes, and is read.
 fn has_length(
+    rt: &impl Abort,
     alloc: Global,
     name: &[u8],
     count: u8,
     last: u16,
     length: usize,
-) -> Result<bool, AllocError> {
-    let bytes = texts(alloc, name, count, last)?;
-    Ok(bytes.len() == length && is_written_again(alloc, &bytes))
+) -> bool {
+    let bytes = texts(rt, alloc, name, count, last);
+    bytes.len() == length && is_written_again(rt, alloc, &bytes)
 }
 
 #[test]
-fn long_representations(rt: HostRuntime) -> Result<(), AllocError> {
+fn long_representations(rt: HostRuntime) {
     for &(name, count, last, length) in LONG {
         assert!(rt;
-            has_length(rt.alloc(), name, count, last, length)?,
+            has_length(&rt, rt.alloc(), name, count, last, length),
             "{length}"
         );
     }
-    Ok(())
 }
 
 #[test]
-fn a_representation_past_the_limit(rt: HostRuntime) -> Result<(), AllocError> {
-    let past = texts(rt.alloc(), b"Hoard", 255, 244)?;
-    assert!(rt; matches!(decode_rep(rt.alloc(), &past), Err(DecodeRefusal::TooLarge)));
-    Ok(())
+fn a_representation_past_the_limit(rt: HostRuntime) {
+    let past = texts(&rt, rt.alloc(), b"Hoard", 255, 244);
+    assert!(rt;
+        matches!(
+            decode_rep(rt.alloc(), &past).err(),
+            Some(DecodeRefusal::TooLarge)
+        )
+    );
 }
 
 /// How many bytes the values of a representation take.
-fn size_of(alloc: Global, bytes: &[u8]) -> Option<u64> {
-    let rep = decode_rep(alloc, bytes).ok()?;
-    Some(values_size(&rep.values))
+fn size_of(rt: &impl Abort, alloc: Global, bytes: &[u8]) -> u64 {
+    let rep = read(rt, alloc, bytes);
+    values_size(&rep.values)
 }
 
 #[test]
@@ -239,5 +237,5 @@ fn sizes_of_values(rt: HostRuntime) {
     // the number 1, a text of 10 bytes, and the list of the absent capability and of true
     let bytes: &[u8] =
         b"\x01\x01A\0\x01\x03\x01\0\0\0\0\0\0\0\x01\x03\0\x0axxxxxxxxxx\x06\0\x02\x04\x02\x01";
-    assert!(rt; size_of(rt.alloc(), bytes) == Some(28));
+    assert!(rt; size_of(&rt, rt.alloc(), bytes) == 28);
 }

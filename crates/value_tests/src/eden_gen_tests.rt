@@ -1,5 +1,6 @@
 use eden_gen::*;
-use std::alloc::{AllocError, Global};
+use std::alloc::Global;
+use std::process::Abort;
 
 /// How each of the scripts begins.
 const HEAD: &[u8] =
@@ -35,25 +36,25 @@ const SCRIPTS: &[(u64, usize, &[u8], &[u8])] = &[
 
 /// Whether the script of a number has this length, begins with the nodes and these rounds, and ends with these lines.
 fn is_script_of(
+    rt: &impl Abort,
     alloc: Global,
     number: u64,
     length: usize,
     first: &[u8],
     last: &[u8],
-) -> Result<bool, AllocError> {
-    let script = gen_script(alloc, number)?;
+) -> bool {
+    let script = gen_script(alloc, number).expect(rt, "memory");
     let rounds = script.get(HEAD.len()..).unwrap_or(b"");
     let has_ends = script.starts_with(HEAD) && rounds.starts_with(first) && script.ends_with(last);
-    Ok(has_ends && script.len() == length)
+    has_ends && script.len() == length
 }
 
 #[test]
-fn scripts_are_those_of_their_numbers(rt: HostRuntime) -> Result<(), AllocError> {
+fn scripts_are_those_of_their_numbers(rt: HostRuntime) {
     for &(number, length, first, last) in SCRIPTS {
         assert!(rt;
-            is_script_of(rt.alloc(), number, length, first, last)?,
+            is_script_of(&rt, rt.alloc(), number, length, first, last),
             "{number}"
         );
     }
-    Ok(())
 }

@@ -1,19 +1,25 @@
 use eden_io::*;
-use std::alloc::{AllocError, Global};
+use std::alloc::Global;
+use std::process::Abort;
+
+/// A source of three bytes, one of whose calls fails.
+fn source(rt: &impl Abort, alloc: Global, failing: u32) -> Box<MemSource> {
+    let bytes = Vec::from_slice(alloc, b"abc").expect(rt, "memory");
+    let failing = vec![in alloc; failing].expect(rt, "memory");
+    Box::new(alloc, MemSource::new(bytes, failing)).expect(rt, "memory")
+}
 
 /// Whether all bytes of the source were read, and how many of its calls failed.
 fn answer_of(
+    rt: &impl Abort,
     alloc: Global,
     limit: u32,
     failing: u32,
-) -> Result<(Result<bool, ReadRefusal>, u64), AllocError> {
-    let failing = vec![in alloc; failing]?;
-    let mut source = MemSource::new(b"abc".to_vec(alloc)?, failing);
-    let answer = match read_all(alloc, &mut source, limit) {
-        Ok(bytes) => Ok(bytes.as_slice() == b"abc".as_slice()),
-        Err(refusal) => Err(refusal),
-    };
-    Ok((answer, source.faults()))
+) -> (Result<bool, ReadRefusal>, u64) {
+    let mut source = source(rt, alloc, failing);
+    let answer = read_all(alloc, &mut *source, limit).map(|bytes| bytes.as_slice()
+        == b"abc".as_slice());
+    (answer, source.faults())
 }
 
 /// The limit, the call that fails (0 for none), and what is answered, with the number of faults.
@@ -24,11 +30,13 @@ const READ: &[(u32, u32, (Result<bool, ReadRefusal>, u64))] = &[
 ];
 
 #[test]
-fn a_source_is_read_to_its_end_or_refused(rt: HostRuntime) -> Result<(), AllocError> {
+fn a_source_is_read_to_its_end_or_refused(rt: HostRuntime) {
     for (i, &(limit, failing, wanted)) in READ.iter().enumerate() {
-        assert!(rt; answer_of(rt.alloc(), limit, failing)? == wanted, "at {i}");
+        assert!(rt;
+            answer_of(&rt, rt.alloc(), limit, failing) == wanted,
+            "at {i}"
+        );
     }
-    Ok(())
 }
 
 /// The room, the call that fails (0 for none), what is written, and whether it is all.
@@ -40,28 +48,34 @@ const WRITTEN: &[(u32, u32, &[u8], bool)] = &[
     (3, 0, b"abc", false),
 ];
 
+/// A sink with this room that takes two bytes at a time, one of whose calls fails.
+fn sink(rt: &impl Abort, alloc: Global, room: u32, failing: u32) -> Box<MemSink> {
+    let failing = vec![in alloc; failing].expect(rt, "memory");
+    let sink = MemSink::new(alloc, 2, room, failing).expect(rt, "memory");
+    Box::new(alloc, sink).expect(rt, "memory")
+}
+
 /// Whether of five bytes these are written to a sink, and it has faults unless they are all.
 fn is_written(
+    rt: &impl Abort,
     alloc: Global,
     room: u32,
     failing: u32,
     written: &[u8],
     whole: bool,
-) -> Result<bool, AllocError> {
-    let failing = vec![in alloc; failing]?;
-    let mut sink = MemSink::new(alloc, 2, room, failing)?;
-    let is_whole = write_all(&mut sink, b"abcde").is_ok();
+) -> bool {
+    let mut sink = sink(rt, alloc, room, failing);
+    let is_whole = write_all(&mut *sink, b"abcde").is_ok();
     let faults = if whole { 0 } else { 1 };
-    Ok(is_whole == whole && sink.written() == written && sink.faults() == faults)
+    is_whole == whole && sink.written() == written && sink.faults() == faults
 }
 
 #[test]
-fn a_sink_is_written_in_steps(rt: HostRuntime) -> Result<(), AllocError> {
+fn a_sink_is_written_in_steps(rt: HostRuntime) {
     for (i, &(room, failing, written, whole)) in WRITTEN.iter().enumerate() {
         assert!(rt;
-            is_written(rt.alloc(), room, failing, written, whole)?,
+            is_written(&rt, rt.alloc(), room, failing, written, whole),
             "at {i}"
         );
     }
-    Ok(())
 }

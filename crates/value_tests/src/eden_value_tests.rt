@@ -1,13 +1,21 @@
-use eden_codec::decode_rep;
+use eden_codec::{Rep, decode_rep};
 use eden_value::*;
-use std::alloc::{AllocError, Global};
+use std::alloc::Global;
+use std::process::Abort;
+
+/// The representation of these bytes.
+fn read(rt: &impl Abort, alloc: Global, bytes: &[u8]) -> Box<Rep> {
+    let rep = decode_rep(alloc, bytes).ok().expect(rt, "a representation");
+    Box::new(alloc, rep).expect(rt, "memory")
+}
 
 /// The value of these bytes of a representation.
-fn value(alloc: Global, spelled: &[u8]) -> Result<Value, AllocError> {
-    let mut bytes = Vec::from_slice(alloc, b"\x01\x01A\0\x01\x01")?;
-    bytes.extend_from_slice(spelled)?;
-    let mut rep = decode_rep(alloc, &bytes).map_err(|_| AllocError)?;
-    rep.values.values.pop().ok_or(AllocError)
+fn value(rt: &impl Abort, alloc: Global, spelled: &[u8]) -> Box<Value> {
+    let mut bytes = Vec::from_slice(alloc, b"\x01\x01A\0\x01\x01").expect(rt, "memory");
+    bytes.extend_from_slice(spelled).expect(rt, "memory");
+    let mut rep = read(rt, alloc, &bytes);
+    let value = rep.values.values.pop().expect(rt, "a value");
+    Box::new(alloc, value).expect(rt, "memory")
 }
 
 const ONE: &[u8] = b"\x01\0\0\0\0\0\0\0\x01";
@@ -39,46 +47,46 @@ const TEXTS: &[(&[u8], u8, u32, Option<ValueRefusal>)] = &[
 
 /// Why a text is refused that begins so, with a byte so many times behind it.
 fn text_refusal(
+    rt: &impl Abort,
     alloc: Global,
     front: &[u8],
     byte: u8,
     count: u32,
-) -> Result<Option<ValueRefusal>, AllocError> {
-    let mut bytes = Vec::from_slice(alloc, front)?;
+) -> Option<ValueRefusal> {
+    let mut bytes = Vec::from_slice(alloc, front).expect(rt, "memory");
     for _ in 0..count {
-        bytes.push(byte)?;
+        bytes.push(byte).expect(rt, "memory");
     }
-    Ok(text_of(alloc, &bytes).err())
+    text_of(alloc, &bytes).err()
 }
 
 #[test]
-fn texts_have_printable_bytes_and_a_greatest_length(rt: HostRuntime) -> Result<(), AllocError> {
+fn texts_have_printable_bytes_and_a_greatest_length(rt: HostRuntime) {
     for (i, &(front, byte, count, want)) in TEXTS.iter().enumerate() {
         assert!(rt;
-            text_refusal(rt.alloc(), front, byte, count)? == want,
+            text_refusal(&rt, rt.alloc(), front, byte, count) == want,
             "at {i}"
         );
     }
-    Ok(())
 }
 
 /// A list of no items, in so many lists.
-fn nested(alloc: Global, lists: u32) -> Result<Vec<Value>, AllocError> {
+fn nested(rt: &impl Abort, alloc: Global, lists: u32) -> Vec<Value> {
     let mut values = Vec::new(alloc);
     for _ in 0..lists {
         let items = Items { values };
-        values = vec![in alloc; Value::List { items }]?;
+        values = vec![in alloc; Value::List { items }].expect(rt, "memory");
     }
-    Ok(values)
+    values
 }
 
 /// So many items.
-fn flat(alloc: Global, length: u32) -> Result<Vec<Value>, AllocError> {
+fn flat(rt: &impl Abort, alloc: Global, length: u32) -> Vec<Value> {
     let mut values = Vec::new(alloc);
     for _ in 0..length {
-        values.push(Value::Bool { b: true })?;
+        values.push(Value::Bool { b: true }).expect(rt, "memory");
     }
-    Ok(values)
+    values
 }
 
 /// Why a list of these values is refused.
@@ -87,89 +95,78 @@ fn list_refusal(values: Vec<Value>) -> Option<ValueRefusal> {
 }
 
 #[test]
-fn lists_have_a_greatest_length(rt: HostRuntime) -> Result<(), AllocError> {
+fn lists_have_a_greatest_length(rt: HostRuntime) {
     for &(length, want) in &[(0, None), (256, None), (257, Some(ValueRefusal::TooLong))] {
         assert!(rt;
-            list_refusal(flat(rt.alloc(), length)?) == want,
+            list_refusal(flat(&rt, rt.alloc(), length)) == want,
             "at {length}"
         );
     }
-    Ok(())
 }
 
 #[test]
-fn lists_have_a_greatest_depth(rt: HostRuntime) -> Result<(), AllocError> {
+fn lists_have_a_greatest_depth(rt: HostRuntime) {
     for &(depth, want) in &[(3, None), (4, Some(ValueRefusal::TooDeep))] {
         assert!(rt;
-            list_refusal(nested(rt.alloc(), depth)?) == want,
+            list_refusal(nested(&rt, rt.alloc(), depth)) == want,
             "at {depth}"
         );
     }
-    Ok(())
 }
 
 /// Whether a value is the one of these bytes.
-fn equals(alloc: Global, found: &Value, spelled: &[u8]) -> Result<bool, AllocError> {
-    let wanted = value(alloc, spelled)?;
-    Ok(equal(found, &wanted))
+fn equals(rt: &impl Abort, alloc: Global, found: &Value, spelled: &[u8]) -> bool {
+    let wanted = value(rt, alloc, spelled);
+    equal(found, &wanted)
 }
 
-/// Whether the value of these bytes equals its copy.
-fn equals_its_copy(alloc: Global, spelled: &[u8]) -> Result<bool, AllocError> {
-    let whole = value(alloc, spelled)?;
-    let other = copy(alloc, &whole)?;
-    Ok(equal(&whole, &other))
+/// The copy of a value.
+fn copied(rt: &impl Abort, alloc: Global, whole: &Value) -> Box<Value> {
+    let other = copy(alloc, whole).expect(rt, "memory");
+    Box::new(alloc, other).expect(rt, "memory")
 }
 
 #[test]
-fn a_copy_equals_its_value(rt: HostRuntime) -> Result<(), AllocError> {
-    assert!(rt; equals_its_copy(rt.alloc(), MIXED)?);
-    let mixed = value(rt.alloc(), MIXED)?;
-    assert!(rt; !equals(rt.alloc(), &mixed, ONE)?);
-    Ok(())
+fn a_copy_equals_its_value(rt: HostRuntime) {
+    let mixed = value(&rt, rt.alloc(), MIXED);
+    let other = copied(&rt, rt.alloc(), &mixed);
+    assert!(rt; equal(&mixed, &other));
+    assert!(rt; !equals(&rt, rt.alloc(), &mixed, ONE));
 }
 
 /// Values of different kinds.
 const COPIED: &[&[u8]] = &[MIXED, TRUE];
 
 /// The values of these bytes, copied.
-fn copies(alloc: Global, all: &[&[u8]]) -> Result<Items, AllocError> {
+fn copies(rt: &impl Abort, alloc: Global, all: &[&[u8]]) -> Items {
     let mut values = Vec::new(alloc);
     for &spelled in all {
-        values.push(value(alloc, spelled)?)?;
+        let value = value(rt, alloc, spelled);
+        values.push(Box::into_inner(value)).expect(rt, "memory");
     }
-    copy_items(alloc, &Items { values })
-}
-
-/// Whether values are those of these bytes.
-fn all_equal(alloc: Global, values: &[Value], all: &[&[u8]]) -> Result<bool, AllocError> {
-    for (found, &spelled) in values.iter().zip(all) {
-        if !equals(alloc, found, spelled)? {
-            return Ok(false);
-        }
-    }
-    Ok(values.len() == all.len())
+    copy_items(alloc, &Items { values }).expect(rt, "memory")
 }
 
 #[test]
-fn copied_items_equal_what_was_copied(rt: HostRuntime) -> Result<(), AllocError> {
-    let copied = copies(rt.alloc(), COPIED)?;
-    assert!(rt; all_equal(rt.alloc(), &copied.values, COPIED)?);
-    Ok(())
+fn copied_items_equal_what_was_copied(rt: HostRuntime) {
+    let copied = copies(&rt, rt.alloc(), COPIED);
+    assert!(rt; copied.values.len() == COPIED.len());
+    for (found, &spelled) in copied.values.iter().zip(COPIED) {
+        assert!(rt; equals(&rt, rt.alloc(), found, spelled));
+    }
 }
 
 /// Whether the value of these bytes has two capabilities, of these rights.
-fn has_rights(alloc: Global, spelled: &[u8], rights: [u16; 2]) -> Result<bool, AllocError> {
-    let held = value(alloc, spelled)?;
-    let found = caps(alloc, &held)?;
+fn has_rights(rt: &impl Abort, alloc: Global, spelled: &[u8], rights: [u16; 2]) -> bool {
+    let held = value(rt, alloc, spelled);
+    let found = caps(alloc, &held).expect(rt, "memory");
     let [first, second] = rights;
-    Ok(found.len() == 2 && found[0].rights.bits == first && found[1].rights.bits == second)
+    found.len() == 2 && found[0].rights.bits == first && found[1].rights.bits == second
 }
 
 #[test]
-fn present_capabilities_are_listed(rt: HostRuntime) -> Result<(), AllocError> {
-    assert!(rt; has_rights(rt.alloc(), HELD, [2, 1])?);
-    Ok(())
+fn present_capabilities_are_listed(rt: HostRuntime) {
+    assert!(rt; has_rights(&rt, rt.alloc(), HELD, [2, 1]));
 }
 
 /// A value, and whether it is of the kinds of lists of integers, lists of texts, integers and capabilities.
@@ -180,32 +177,28 @@ const OF_KINDS: &[(&[u8], [bool; 4])] = &[
     (MIXED, [false, false, false, false]),
 ];
 
-/// Whether the value of these bytes is a list of items of a kind.
-fn is_list_of(alloc: Global, spelled: &[u8], kind: Kind) -> Result<bool, AllocError> {
-    let list = Kind::List {
-        of: Box::new(alloc, kind)?,
-    };
-    let v = value(alloc, spelled)?;
-    Ok(has_kind(&v, &list))
+/// Whether a value is a list of items of a kind.
+fn is_list_of(rt: &impl Abort, alloc: Global, value: &Value, kind: Kind) -> bool {
+    let of = Box::new(alloc, kind).expect(rt, "memory");
+    has_kind(value, &Kind::List { of })
 }
 
 /// Whether the value of these bytes is of the four kinds.
-fn kinds_of(alloc: Global, spelled: &[u8]) -> Result<[bool; 4], AllocError> {
-    let v = value(alloc, spelled)?;
-    Ok([
-        is_list_of(alloc, spelled, Kind::Int)?,
-        is_list_of(alloc, spelled, Kind::Text)?,
+fn kinds_of(rt: &impl Abort, alloc: Global, spelled: &[u8]) -> [bool; 4] {
+    let v = value(rt, alloc, spelled);
+    [
+        is_list_of(rt, alloc, &v, Kind::Int),
+        is_list_of(rt, alloc, &v, Kind::Text),
         has_kind(&v, &Kind::Int),
         has_kind(&v, &Kind::Cap),
-    ])
+    ]
 }
 
 #[test]
-fn values_are_of_their_kind(rt: HostRuntime) -> Result<(), AllocError> {
+fn values_are_of_their_kind(rt: HostRuntime) {
     for (i, &(spelled, wanted)) in OF_KINDS.iter().enumerate() {
-        assert!(rt; kinds_of(rt.alloc(), spelled)? == wanted, "at {i}");
+        assert!(rt; kinds_of(&rt, rt.alloc(), spelled) == wanted, "at {i}");
     }
-    Ok(())
 }
 
 const PRINTED: &[(&[u8], &[u8])] = &[
@@ -218,19 +211,18 @@ const PRINTED: &[(&[u8], &[u8])] = &[
 ];
 
 /// Whether this is there once the value of these bytes is printed behind two bytes.
-fn prints(alloc: Global, spelled: &[u8], want: &[u8]) -> Result<bool, AllocError> {
-    let v = value(alloc, spelled)?;
-    let mut out = Vec::from_slice(alloc, b"= ")?;
-    print(alloc, &v, &mut out)?;
-    Ok(out.as_slice() == want)
+fn prints(rt: &impl Abort, alloc: Global, spelled: &[u8], want: &[u8]) -> bool {
+    let v = value(rt, alloc, spelled);
+    let mut out = Vec::from_slice(alloc, b"= ").expect(rt, "memory");
+    print(alloc, &v, &mut out).expect(rt, "memory");
+    out.as_slice() == want
 }
 
 #[test]
-fn printed_values(rt: HostRuntime) -> Result<(), AllocError> {
+fn printed_values(rt: HostRuntime) {
     for (i, &(spelled, want)) in PRINTED.iter().enumerate() {
-        assert!(rt; prints(rt.alloc(), spelled, want)?, "at {i}");
+        assert!(rt; prints(&rt, rt.alloc(), spelled, want), "at {i}");
     }
-    Ok(())
 }
 
 const STATUSES: &[(Status, u8, &str)] = &[

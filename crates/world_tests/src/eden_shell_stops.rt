@@ -5,9 +5,9 @@ use crate::fixtures::{blank_disks, sink_of, source_of, words_of};
 use eden_disk::{Disk, ImageMode, SimDisk};
 use eden_io::{MemSink, MemSource};
 use eden_shell::{Outcome, eden};
-use std::alloc::{AllocError, Global};
+use std::alloc::Global;
 use std::fmt::Write as _;
-use std::test::Fail;
+use std::process::Abort;
 
 /// How many bytes a disk has: 32 blocks, the least that there may be.
 const DISK_SIZE: u32 = 32_768;
@@ -19,32 +19,31 @@ const MODES: &[(&str, bool)] = &[("keep", true), ("lose", false), ("garble 225",
 const ASKS: &str =
     "nodes 1\nhold c 1.1.1\nhold x 1.1.2\ncall a c.Get()\ngo 100\ncall b x.Get()\ngo 100\nend\n";
 
-/// Whether what this source tells runs to its end over these disks.
-fn ends(
+/// How a run over these disks of what the source tells ends.
+fn outcome_of(
+    rt: &impl Abort,
     alloc: Global,
     source: &mut MemSource,
     sink: &mut MemSink,
     disks: &mut Vec<SimDisk>,
-) -> Result<bool, AllocError>
+) -> Outcome
     requires { length disks.old.items ≡ 8 }
     ensures { length disks.new.items ≡ 8 }
 {
-    let words = words_of(alloc, &["run"])?;
-    let report = eden(alloc, &words, source, sink, disks);
-    Ok(report.outcome == Outcome::Ran)
+    let words = words_of(rt, alloc, &["run"]);
+    eden(alloc, &words, source, sink, disks).outcome
 }
 
-/// Runs a script over these disks, and gives the transcript where it ran to its end.
-fn run(alloc: Global, script: &str, disks: &mut Vec<SimDisk>) -> Result<Option<Vec<u8>>, AllocError>
+/// Runs a script over these disks to its end, and gives the transcript.
+fn run(rt: &impl Abort, alloc: Global, script: &str, disks: &mut Vec<SimDisk>) -> Vec<u8>
     requires { length disks.old.items ≡ 8 }
     ensures { length disks.new.items ≡ 8 }
 {
-    let mut source = source_of(alloc, script, 0, &[])?;
-    let mut sink = sink_of(alloc, 100, 10_000, &[])?;
-    if !ends(alloc, &mut source, &mut sink, disks)? {
-        return Ok(None);
-    }
-    Ok(Some(sink.written().to_vec(alloc)?))
+    let mut source = source_of(rt, alloc, script, 0, &[]);
+    let mut sink = sink_of(rt, alloc, 100, 10_000, &[]);
+    let outcome = outcome_of(rt, alloc, &mut *source, &mut *sink, disks);
+    assert!(rt; outcome == Outcome::Ran, "{script}");
+    sink.written().to_vec(alloc).expect(rt, "memory")
 }
 
 /// The power of each disk fails, and comes again.
@@ -57,53 +56,30 @@ fn cut_each(disks: &mut Vec<SimDisk>)
     }
 }
 
-/// Whether both Cells answer this to a later run.
-fn is_answered(
-    alloc: Global,
-    disks: &mut Vec<SimDisk>,
-    epoch: u32,
-    answered: (&str, &str),
-) -> Result<bool, AllocError>
-    requires { length disks.old.items ≡ 8 }
-{
-    let (c, x) = answered;
-    let wanted = format!(in alloc; "node 1 up epoch {epoch}\na {c}\nquiet\nb {x}\nquiet\n")?;
-    let later = run(alloc, ASKS, disks)?;
-    Ok(later.is_some_and(|text| text.as_slice() == wanted.as_bytes()))
+/// The transcript of a later run: its epoch, and what each Cell answers.
+fn later_transcript(rt: &impl Abort, alloc: Global, epoch: u32, (c, x): (&str, &str)) -> String {
+    format!(in alloc; "node 1 up epoch {epoch}\na {c}\nquiet\nb {x}\nquiet\n").expect(rt, "memory")
 }
 
-/// Runs a script over disks, and then, once the power of each failed, asks both Cells. How often the first disk was stopped, if
-/// the first run came to its end, and the later one to this one: the epoch, and what each Cell answers.
-fn stops_over(
-    alloc: Global,
-    disks: &mut Vec<SimDisk>,
-    script: &str,
-    epoch: u32,
-    answered: (&str, &str),
-) -> Result<Option<u64>, AllocError>
-    requires { length disks.old.items ≡ 8 }
-{
-    if run(alloc, script, disks)?.is_none() {
-        return Ok(None);
-    }
-    let Some(first) = disks.first() else {
-        return Ok(None);
-    };
-    let stops = first.stops();
-    cut_each(disks);
-    let is_so = is_answered(alloc, disks, epoch, answered)?;
-    Ok(if is_so { Some(stops) } else { None })
-}
-
-/// The same over blank disks.
+/// Runs a script over blank disks, and then, once the power of each failed, asks both Cells. How often the first disk was stopped,
+/// if the later run came to this: the epoch, and what each Cell answers.
 fn stops_before(
+    rt: &impl Abort,
     alloc: Global,
     script: &str,
     epoch: u32,
     answered: (&str, &str),
-) -> Result<Option<u64>, AllocError> {
-    let mut disks = blank_disks(alloc, DISK_SIZE)?;
-    stops_over(alloc, &mut disks, script, epoch, answered)
+) -> Option<u64> {
+    let mut disks = blank_disks(rt, alloc, DISK_SIZE);
+    run(rt, alloc, script, &mut disks);
+    let stops = disks.first().expect(rt, "a disk").stops();
+    cut_each(&mut disks);
+    let wanted = later_transcript(rt, alloc, epoch, answered);
+    if run(rt, alloc, ASKS, &mut disks).as_slice() == wanted.as_bytes() {
+        Some(stops)
+    } else {
+        None
+    }
 }
 
 /// Two Cells: the first saves 0, the second 3, and the first 8.
@@ -114,12 +90,12 @@ const SAVES: &str =
 const LAST_SAVE: &str = "call g x.Set(4)\ngo 100\ncall h x.Save()\ngo 100\nend\n";
 
 /// Four saves, and the power fails in this device call behind the boot.
-fn four_saves(alloc: Global, call: u32, mode: &str) -> Result<String, AllocError> {
+fn four_saves(rt: &impl Abort, alloc: Global, call: u32, mode: &str) -> String {
     let saves = SAVES;
     let last = LAST_SAVE;
     format!(in alloc;
         "nodes 1\ncreate c 1 Cell\ncreate x 1 Cell\nstop 1 {call} {mode}\n{saves}{last}"
-    )
+    ).expect(rt, "memory")
 }
 
 /// The device calls of the four saves: each writes its block and its head, and syncs, writes its gate, and syncs. The last writes
@@ -149,16 +125,15 @@ fn answers(call: u32, gate_stays: bool) -> (&'static str, &'static str) {
 }
 
 #[test]
-fn a_stop_in_each_device_call(rt: HostRuntime) -> Result<(), Fail> {
+fn a_stop_in_each_device_call(rt: HostRuntime) {
     let alloc = rt.alloc();
     for call in 1..CALLS_OF_SAVES + 1 {
         for &(mode, gate_stays) in MODES {
-            let script = four_saves(alloc, call, mode)?;
-            let stops = stops_before(alloc, script.as_str(), 2, answers(call, gate_stays))?;
+            let script = four_saves(&rt, alloc, call, mode);
+            let stops = stops_before(&rt, alloc, script.as_str(), 2, answers(call, gate_stays));
             assert!(rt; stops == Some(1), "call {call} {mode}");
         }
     }
-    Ok(())
 }
 
 /// The first Cell holds 5 and has saved it, and then has 9 to save.
@@ -166,11 +141,11 @@ const A_SAVE: &str =
     "call a c.Set(5)\ngo 100\ncall b c.Save()\ngo 100\ncall d c.Set(9)\ngo 100\ncall e c.Save()\n";
 
 /// The power of its node is cut behind so many turns of the second save.
-fn two_saves(alloc: Global, turns: u32, mode: &str) -> Result<String, AllocError> {
+fn two_saves(rt: &impl Abort, alloc: Global, turns: u32, mode: &str) -> String {
     let saves = A_SAVE;
     format!(in alloc;
         "nodes 1\ncreate c 1 Cell\ncreate x 1 Cell\n{saves}go {turns}\ncrash 1 {mode}\nend\n"
-    )
+    ).expect(rt, "memory")
 }
 
 /// The turns of a save: the request is delivered, it is started, its process runs, the store makes five device calls, the process
@@ -180,19 +155,26 @@ const TURNS_OF_A_SAVE: u32 = 10;
 /// The one in which the gate is written.
 const TURN_OF_THE_GATE: u32 = 7;
 
+/// What the first Cell answers later: from the second save, if that is kept.
+fn answer(turns: u32, gate_stays: bool) -> &'static str {
+    if turns > TURN_OF_THE_GATE || turns == TURN_OF_THE_GATE && gate_stays {
+        "ok (9)"
+    } else {
+        "ok (5)"
+    }
+}
+
 #[test]
-fn a_power_cut_behind_each_turn(rt: HostRuntime) -> Result<(), Fail> {
+fn a_power_cut_behind_each_turn(rt: HostRuntime) {
     let alloc = rt.alloc();
     for turns in 1..TURNS_OF_A_SAVE + 1 {
         for &(mode, gate_stays) in MODES {
-            let script = two_saves(alloc, turns, mode)?;
-            let is_kept = turns > TURN_OF_THE_GATE || turns == TURN_OF_THE_GATE && gate_stays;
-            let c = if is_kept { "ok (9)" } else { "ok (5)" };
-            let stops = stops_before(alloc, script.as_str(), 2, (c, "refused 4 gone"))?;
+            let script = two_saves(&rt, alloc, turns, mode);
+            let answered = (answer(turns, gate_stays), "refused 4 gone");
+            let stops = stops_before(&rt, alloc, script.as_str(), 2, answered);
             assert!(rt; stops.is_some(), "turns {turns} {mode}");
         }
     }
-    Ok(())
 }
 
 /// The device calls of a boot over two values on blocks: a sync, a read of what stands on the disk, one of each of 32 heads and of the
@@ -203,26 +185,31 @@ const CALLS_OF_A_BOOT: u32 = 42;
 const CALL_OF_THE_EPOCH: u32 = 41;
 
 /// A Cell that has saved 5. The power fails in this device call of the next boot.
-fn second_boot(alloc: Global, call: u32, mode: &str) -> Result<String, AllocError> {
+fn second_boot(rt: &impl Abort, alloc: Global, call: u32, mode: &str) -> String {
     format!(in alloc;
         "nodes 1\ncreate c 1 Cell\ncall a c.Set(5)\ngo 100\ncall b c.Save()\ngo 100\ncrash 1\nstop 1 {call} {mode}\nrestart 1\nend\n"
-    )
+    ).expect(rt, "memory")
+}
+
+/// The epoch of the boot behind it.
+fn next_epoch(call: u32, gate_stays: bool) -> u32 {
+    if gate_stays && call >= CALL_OF_THE_EPOCH {
+        3
+    } else {
+        2
+    }
 }
 
 #[test]
-fn a_stop_in_each_device_call_of_a_boot(rt: HostRuntime) -> Result<(), Fail> {
+fn a_stop_in_each_device_call_of_a_boot(rt: HostRuntime) {
     let alloc = rt.alloc();
     for call in 1..CALLS_OF_A_BOOT + 1 {
         for &(mode, gate_stays) in MODES {
-            let script = second_boot(alloc, call, mode)?;
-            let epoch = if gate_stays && call >= CALL_OF_THE_EPOCH {
-                3
-            } else {
-                2
-            };
-            let stops = stops_before(alloc, script.as_str(), epoch, ("ok (5)", "refused 4 gone"))?;
+            let script = second_boot(&rt, alloc, call, mode);
+            let epoch = next_epoch(call, gate_stays);
+            let answered = ("ok (5)", "refused 4 gone");
+            let stops = stops_before(&rt, alloc, script.as_str(), epoch, answered);
             assert!(rt; stops == Some(1), "call {call} {mode}");
         }
     }
-    Ok(())
 }

@@ -1,9 +1,8 @@
 use crate::fixtures::{blank_disks, sink_of, source_of, words_of};
-use eden_io::{MemSink, MemSource};
 use eden_script::ScriptCause;
 use eden_shell::*;
-use std::alloc::{AllocError, Global};
-use std::test::Fail;
+use std::alloc::Global;
+use std::process::Abort;
 
 const SCRIPT: &str =
     "nodes 1\ncreate c 1 Cell\ncall a c.Set(5)\ngo 100\ncall b c.Get()\ngo 100\nend\n";
@@ -18,34 +17,24 @@ struct Said {
     text: Vec<u8>,
 }
 
-/// How a call over blank disks ends, and the number of entries of its history.
-fn ended(
-    alloc: Global,
-    words: &[&str],
-    source: &mut MemSource,
-    sink: &mut MemSink,
-) -> Result<(Outcome, usize), AllocError> {
-    let words = words_of(alloc, words)?;
-    let mut disks = blank_disks(alloc, 1_048_576)?;
-    let report = eden(alloc, &words, source, sink, &mut disks);
-    Ok((report.outcome, report.history.entries.len()))
-}
-
 /// What is said to these words over blank disks, where these reads and writes fail. Line ends make the script that long.
 fn call_of(
+    rt: &impl Abort,
     alloc: Global,
     words: &[&str],
     (text, size): (&str, usize),
     (reads, writes): (&[u32], &[u32]),
-) -> Result<Said, AllocError> {
-    let mut source = source_of(alloc, text, size, reads)?;
-    let mut sink = sink_of(alloc, 4096, 1_048_576, writes)?;
-    let (outcome, entries) = ended(alloc, words, &mut source, &mut sink)?;
-    Ok(Said {
-        outcome,
-        entries,
-        text: sink.written().to_vec(alloc)?,
-    })
+) -> Said {
+    let words = words_of(rt, alloc, words);
+    let mut source = source_of(rt, alloc, text, size, reads);
+    let mut sink = sink_of(rt, alloc, 4096, 1_048_576, writes);
+    let mut disks = blank_disks(rt, alloc, 1_048_576);
+    let report = eden(alloc, &words, &mut *source, &mut *sink, &mut disks);
+    Said {
+        outcome: report.outcome,
+        entries: report.history.entries.len(),
+        text: sink.written().to_vec(alloc).expect(rt, "memory"),
+    }
 }
 
 const USAGE: &str = "usage: eden run [--trace] | host DIR [--trace] | gen N\n";
@@ -84,19 +73,21 @@ const CALLS: &[(&[&str], (&str, usize), Outcome, u8, &str)] = &[
     ),
 ];
 
+/// Whether the call ended so, with this status, and wrote this.
+fn is_said(said: &Said, outcome: Outcome, code: u8, text: &str) -> bool {
+    said.outcome == outcome
+        && status(&said.outcome) == code
+        && said.text.as_slice() == text.as_bytes()
+}
+
 /// How calls end, and what they write.
 #[test]
-fn outcomes(rt: HostRuntime) -> Result<(), Fail> {
+fn outcomes(rt: HostRuntime) {
     let alloc = rt.alloc();
     for (place, &(words, script, outcome, code, text)) in CALLS.iter().enumerate() {
-        let said = call_of(alloc, words, script, (&[], &[]))?;
-        assert!(rt;
-            said.outcome == outcome && status(&said.outcome) == code,
-            "{place}"
-        );
-        assert!(rt; said.text.as_slice() == text.as_bytes(), "{place}");
+        let said = call_of(&rt, alloc, words, script, (&[], &[]));
+        assert!(rt; is_said(&said, outcome, code, text), "{place}");
     }
-    Ok(())
 }
 
 /// The words, the script, the reads and the writes that fail, the outcome, and the least numbers of entries and of bytes.
@@ -116,18 +107,18 @@ const ENDS: &[(&[&str], &str, (&[u32], &[u32]), Outcome, usize, usize)] = &[
     (&["run"], BOOTS, (&[], &[1]), Outcome::WriteFault, 1, 0),
 ];
 
+/// Whether the call ended so, with so many entries and bytes or more.
+fn is_ended(said: &Said, outcome: Outcome, entries: usize, bytes: usize) -> bool {
+    said.outcome == outcome && said.entries >= entries && said.text.len() >= bytes
+}
+
 // With ample memory what asks for a run comes to its end: a body that always answers OutOfMemory keeps each clause, and fails here. A read
 // or a write that fails ends the call; the history is whole behind a write.
 #[test]
-fn always_out_of_memory(rt: HostRuntime) -> Result<(), Fail> {
+fn always_out_of_memory(rt: HostRuntime) {
     let alloc = rt.alloc();
     for (place, &(words, script, failing, outcome, entries, bytes)) in ENDS.iter().enumerate() {
-        let said = call_of(alloc, words, (script, 0), failing)?;
-        assert!(rt; said.outcome == outcome, "{place}");
-        assert!(rt;
-            said.entries >= entries && said.text.len() >= bytes,
-            "{place}"
-        );
+        let said = call_of(&rt, alloc, words, (script, 0), failing);
+        assert!(rt; is_ended(&said, outcome, entries, bytes), "{place}");
     }
-    Ok(())
 }

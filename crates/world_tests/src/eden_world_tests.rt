@@ -1,4 +1,4 @@
-ghost use Rattle.std.specs.Prelude.{◌≡◌, length, IfOk, IfSome, OnOk};
+ghost use Rattle.std.specs.Prelude.{◌≡◌, length, IfSome};
 ghost use Rattle.eden_world.specs.Listed.{HasTurn};
 ghost use Rattle.eden_world.specs.Seated.{FitsTogether};
 
@@ -11,8 +11,8 @@ use epl_syntax::Types;
 use journal::{Entry, Key, Mode, line};
 use passive_store::{LogStore, Store};
 use runs::{Machine, Run};
-use std::alloc::{AllocError, Global};
-use std::test::Fail;
+use std::alloc::Global;
+use std::process::Abort;
 
 type Log = LogStore<SimDisk>;
 
@@ -89,74 +89,80 @@ w ok (0, <1.1.1:ffff>)
 type Row<'a> = (Word<'a>, &'a str);
 
 /// The words of a script, and the lines of its entries.
-fn script<'a>(alloc: Global, rows: &[Row<'a>]) -> Result<(Vec<Word<'a>>, Vec<u8>), AllocError> {
+fn script<'a>(rt: &impl Abort, alloc: Global, rows: &[Row<'a>]) -> (Vec<Word<'a>>, Vec<u8>) {
     let mut words = Vec::new(alloc);
     let mut lines = Vec::new(alloc);
     for (word, text) in rows {
-        words.push(*word)?;
-        lines.extend_from_slice(text.as_bytes())?;
+        words.push(*word).expect(rt, "memory");
+        lines
+            .extend_from_slice(text.as_bytes())
+            .expect(rt, "memory");
     }
-    Ok((words, lines))
+    (words, lines)
 }
 
 /// The lines of a history, with the disk that each entry shows.
-fn lines_of(alloc: Global, history: &[Entry]) -> Result<Vec<u8>, AllocError> {
+fn lines_of(rt: &impl Abort, alloc: Global, history: &[Entry]) -> Vec<u8> {
     let mut lines = Vec::new(alloc);
     for entry in history {
-        line(alloc, Mode::Full, entry, &mut lines)?;
+        line(alloc, Mode::Full, entry, &mut lines).expect(rt, "memory");
     }
-    Ok(lines)
+    lines
 }
 
 /// A run over eight disks.
 fn begun<St: Store + Drop>(
+    rt: &impl Abort,
     alloc: Global,
     disks: Vec<St::Device>,
-) -> Result<Run<World<St>>, AllocError>
+) -> Box<Run<World<St>>>
 where
     St::Device: Drop,
     requires { length disks.items ≡ 8 }
-    ensures { IfOk result (λ run. FitsTogether St.seen run.machine) }
+    ensures { FitsTogether St.seen result.value.machine }
 {
-    match World::<St>::new(alloc, Types::native(alloc)?, disks) {
-        Ok(world) => Ok(Run::new(alloc, world)),
-        Err((_, _)) => Err(AllocError),
+    let types = Types::native(alloc).expect(rt, "memory");
+    match World::<St>::new(alloc, types, disks) {
+        Ok(world) => Box::new(alloc, Run::new(alloc, world)).expect(rt, "memory"),
+        Err(_) => panic!(rt; "memory"),
     }
 }
 
 /// The lines of a script, and the disks that are given back.
 fn carried<St: Store + Drop>(
+    rt: &impl Abort,
     alloc: Global,
     disks: Vec<St::Device>,
     words: &[Word],
-) -> Result<(Vec<u8>, Vec<St::Device>), AllocError>
+) -> (Vec<u8>, Vec<St::Device>)
 where
     St::Device: Drop,
     requires { length disks.items ≡ 8 }
-    ensures { IfOk result (λ given. length given.1.items ≡ 8) }
+    ensures { length result.1.items ≡ 8 }
 {
     let mut room = Vec::new(alloc);
-    room.reserve(8)?;
-    let mut run = begun::<St>(alloc, disks)?;
-    carry(alloc, &mut run, 0, words)?;
-    let (world, history) = run.into_parts();
-    Ok((lines_of(alloc, &history)?, world.close(room)))
+    room.reserve(8).expect(rt, "memory");
+    let mut run = begun::<St>(rt, alloc, disks);
+    carry(rt, alloc, &mut *run, 0, words);
+    let (world, history) = Box::into_inner(run).into_parts();
+    (lines_of(rt, alloc, &history), world.close(room))
 }
 
 /// Whether a script over these disks is told so, and the disks that are given back.
 fn is_told<St: Store + Drop>(
+    rt: &impl Abort,
     alloc: Global,
     disks: Vec<St::Device>,
     rows: &[Row],
-) -> Result<(bool, Vec<St::Device>), AllocError>
+) -> (bool, Vec<St::Device>)
 where
     St::Device: Drop,
     requires { length disks.items ≡ 8 }
-    ensures { IfOk result (λ given. length given.1.items ≡ 8) }
+    ensures { length result.1.items ≡ 8 }
 {
-    let (words, lines) = script(alloc, rows)?;
-    let (written, disks) = carried::<St>(alloc, disks, &words)?;
-    Ok((written == lines, disks))
+    let (words, lines) = script(rt, alloc, rows);
+    let (written, disks) = carried::<St>(rt, alloc, disks, &words);
+    (written == lines, disks)
 }
 
 /// What is asked of a world itself, and answered by whether it is so.
@@ -183,105 +189,138 @@ enum Ask<'a> {
 }
 
 /// The key that comes next, which stands at each place as well.
-fn only_key<St: Store + Drop>(alloc: Global, world: &World<St>) -> Result<Option<Key>, AllocError>
+fn only_key<St: Store + Drop>(rt: &impl Abort, alloc: Global, world: &World<St>) -> Option<Key>
 where
     St::Device: Drop,
     requires { FitsTogether St.seen world.now }
-    ensures { IfOk result (λ it. IfSome it (λ key. HasTurn world.now key)) }
+    ensures { IfSome result (λ key. HasTurn world.now key) }
 {
     let next = world.following(None);
-    if world.item(alloc, 7)? != next {
-        return Err(AllocError);
-    }
-    Ok(next)
+    let there = world.item(alloc, 7).expect(rt, "memory");
+    assert!(rt; there == next, "the key at a place");
+    next
 }
 
-/// Takes the only turn.
+/// A history of one entry.
+fn alone(rt: &impl Abort, alloc: Global, entry: Entry) -> Vec<Entry> {
+    vec![in alloc; entry].expect(rt, "memory")
+}
+
+/// Takes the only turn, and whether it is a delivery to node 1 from the shell that shows these lines.
 fn is_taken<St: Store + Drop>(
+    rt: &impl Abort,
     alloc: Global,
     run: &mut Run<World<St>>,
     lines: &str,
-) -> Result<bool, AllocError>
+) -> bool
 where
     St::Device: Drop,
     requires { FitsTogether St.seen run.old.machine }
-    ensures { OnOk result (FitsTogether St.seen run.new.machine) }
+    ensures { FitsTogether St.seen run.new.machine }
 {
-    let Some(key) = only_key(alloc, &run.machine)? else {
-        return Ok(false);
-    };
-    let taken = vec![in alloc; run.machine.take(alloc, key)?]?;
-    let shown = lines_of(alloc, &taken)?;
-    Ok((key.station, key.kind, key.sender) == (1, 1, 0) && shown.as_slice() == lines.as_bytes())
+    let key = only_key(rt, alloc, &run.machine).expect(rt, "a turn");
+    let entry = run.machine.take(alloc, key).expect(rt, "memory");
+    let taken = alone(rt, alloc, entry);
+    let shown = lines_of(rt, alloc, &taken);
+    (key.station, key.kind, key.sender) == (1, 1, 0) && shown.as_slice() == lines.as_bytes()
 }
 
-fn is_so<St: Store + Drop>(
+/// A component is looked up in the first Eject by a call of this name.
+fn look_up<St: Store + Drop>(
+    rt: &impl Abort,
     alloc: Global,
     run: &mut Run<World<St>>,
-    ask: Ask,
-) -> Result<bool, AllocError>
+    name: &str,
+    component: &str,
+)
 where
     St::Device: Drop,
     requires { FitsTogether St.seen run.old.machine }
-    ensures { OnOk result (FitsTogether St.seen run.new.machine) }
+    ensures { FitsTogether St.seen run.new.machine }
+{
+    let name = txt(rt, alloc, name);
+    let component = txt(rt, alloc, component);
+    let entry = run
+        .machine
+        .look_up(alloc, &name, Some(mint(FIRST)), &component)
+        .expect(rt, "memory");
+    let _asked = alone(rt, alloc, entry);
+}
+
+/// Whether the name stands for the first Eject, or else for no capability.
+fn is_meant<St: Store + Drop>(
+    rt: &impl Abort,
+    alloc: Global,
+    world: &World<St>,
+    name: &str,
+    is_first: bool,
+) -> bool
+where
+    St::Device: Drop,
+    requires { FitsTogether St.seen world.now }
+{
+    let wanted = if is_first { Some(mint(FIRST)) } else { None };
+    world.capability(&by(rt, alloc, name, 0)) == wanted
+}
+
+/// The answer of a world to what changes nothing.
+fn is_seen<St: Store + Drop>(rt: &impl Abort, alloc: Global, world: &World<St>, ask: Ask) -> bool
+where
+    St::Device: Drop,
+    requires { FitsTogether St.seen world.now }
 {
     match ask {
-        Ask::Carry(words) => {
-            carry(alloc, run, 0, words)?;
-            Ok(true)
-        }
-        Ask::HasTurn => Ok(only_key(alloc, &run.machine)?.is_some()),
-        Ask::Take(lines) => is_taken(alloc, run, lines),
-        Ask::IsUp(node) => Ok(matches!(run.machine.seat(node), Some(Seat::Up { .. }))),
-        Ask::IsOpen(call) => Ok(run.machine.is_open(call)),
-        Ask::Means(name, is_first) => {
-            let wanted = if is_first { Some(mint(FIRST)) } else { None };
-            Ok(run.machine.capability(&by(alloc, name, 0)?) == wanted)
-        }
-        Ask::IsFound(name) => Ok(run.machine.found(&txt(alloc, name)?)),
-        Ask::FoundFirst(name) => {
-            Ok(run.machine.next_directory(&txt(alloc, name)?) == Some(mint(FIRST)))
-        }
-        Ask::LookUp(name, component) => {
-            let (name, component) = (txt(alloc, name)?, txt(alloc, component)?);
-            let _asked = run
-                .machine
-                .look_up(alloc, &name, Some(mint(FIRST)), &component)?;
-            Ok(true)
-        }
+        Ask::HasTurn => only_key(rt, alloc, world).is_some(),
+        Ask::IsUp(node) => matches!(world.seat(node), Some(Seat::Up { .. })),
+        Ask::IsOpen(call) => world.is_open(call),
+        Ask::Means(name, is_first) => is_meant(rt, alloc, world, name, is_first),
+        Ask::IsFound(name) => world.found(&txt(rt, alloc, name)),
+        Ask::FoundFirst(name) => world.next_directory(&txt(rt, alloc, name)) == Some(mint(FIRST)),
+        Ask::Carry(_) | Ask::Take(_) | Ask::LookUp(_, _) => false,
     }
 }
 
-/// The place of the first that is not answered so.
-fn first_other<St: Store + Drop>(
+/// Asks the run, and whether the answer is yes.
+fn is_so<St: Store + Drop>(
+    rt: &impl Abort,
+    alloc: Global,
+    run: &mut Run<World<St>>,
+    ask: Ask,
+) -> bool
+where
+    St::Device: Drop,
+    requires { FitsTogether St.seen run.old.machine }
+    ensures { FitsTogether St.seen run.new.machine }
+{
+    match ask {
+        Ask::Carry(words) => {
+            carry(rt, alloc, run, 0, words);
+            true
+        }
+        Ask::Take(lines) => is_taken(rt, alloc, run, lines),
+        Ask::LookUp(name, component) => {
+            look_up(rt, alloc, run, name, component);
+            true
+        }
+        _ => is_seen(rt, alloc, &run.machine, ask),
+    }
+}
+
+/// Each question is answered so.
+fn all_is_so<St: Store + Drop>(
+    rt: &impl Abort,
     alloc: Global,
     run: &mut Run<World<St>>,
     asks: &[(Ask, bool)],
-) -> Result<Option<usize>, AllocError>
+)
 where
     St::Device: Drop,
     requires { FitsTogether St.seen run.old.machine }
 {
     'asks: for (place, (ask, wanted)) in asks.iter().enumerate() {
-        if is_so(alloc, run, *ask)? != *wanted {
-            return Ok(Some(place));
-        }
+        let is_so = is_so(rt, alloc, run, *ask);
+        assert!(rt; is_so == *wanted, "question {place}");
     }
-    Ok(None)
-}
-
-/// The same of a run that begins over these disks.
-fn first_other_over<St: Store + Drop>(
-    alloc: Global,
-    disks: Vec<St::Device>,
-    asks: &[(Ask, bool)],
-) -> Result<Option<usize>, AllocError>
-where
-    St::Device: Drop,
-    requires { length disks.items ≡ 8 }
-{
-    let mut run = begun::<St>(alloc, disks)?;
-    first_other(alloc, &mut run, asks)
 }
 
 /// A Directory is asked to hold itself, and is then looked up in itself.
@@ -312,15 +351,11 @@ const ASKS: &[(Ask<'static>, bool)] = &[
     (Ask::FoundFirst("w"), true),
 ];
 
-/// The first of what is asked over blank disks that is not answered so.
-fn first_other_answer(alloc: Global) -> Result<Option<usize>, AllocError> {
-    first_other_over::<Log>(alloc, blank_disks(alloc, 4096)?, ASKS)
-}
-
 #[test]
-fn the_calls_of_a_machine(rt: HostRuntime) -> Result<(), Fail> {
-    assert_eq!(rt; first_other_answer(rt.alloc())?, None);
-    Ok(())
+fn the_calls_of_a_machine(rt: HostRuntime) {
+    let alloc = rt.alloc();
+    let mut run = begun::<Log>(&rt, alloc, blank_disks(&rt, alloc, 4096));
+    all_is_so(&rt, alloc, &mut *run, ASKS);
 }
 
 // An opening makes a sync, a read at 0, a read for each record and one at the tail; on a blank disk four calls more in place of the
@@ -371,27 +406,11 @@ const HARMED: &[Row<'static>] = &[
     (Word::End, "open f\n"),
 ];
 
-/// Whether each of both scripts is told so, one over the disks of the other, and how many disks are given back.
-fn are_told<St: Store + Drop>(
-    alloc: Global,
-    disks: Vec<St::Device>,
-) -> Result<(bool, bool, usize), AllocError>
-where
-    St::Device: Drop,
-    requires { length disks.items ≡ 8 }
-{
-    let (kept, disks) = is_told::<St>(alloc, disks, KEPT)?;
-    let (harmed, disks) = is_told::<St>(alloc, disks, HARMED)?;
-    Ok((kept, harmed, disks.len()))
-}
-
-/// The same over blank disks.
-fn are_told_over_blank(alloc: Global) -> Result<(bool, bool, usize), AllocError> {
-    are_told::<Log>(alloc, blank_disks(alloc, 4096)?)
-}
-
 #[test]
-fn a_script_over_the_disks_of_another(rt: HostRuntime) -> Result<(), Fail> {
-    assert_eq!(rt; are_told_over_blank(rt.alloc())?, (true, true, 8));
-    Ok(())
+fn a_script_over_the_disks_of_another(rt: HostRuntime) {
+    let alloc = rt.alloc();
+    let disks = blank_disks(&rt, alloc, 4096);
+    let (kept, disks) = is_told::<Log>(&rt, alloc, disks, KEPT);
+    let (harmed, disks) = is_told::<Log>(&rt, alloc, disks, HARMED);
+    assert_eq!(rt; (kept, harmed, disks.len()), (true, true, 8));
 }

@@ -3,7 +3,7 @@ ghost use Rattle.journal.specs.declared.event.Entry.{Entry};
 ghost use Rattle.journal.specs.Fit.{NumbersFit};
 ghost use Rattle.journal.specs.Run.{Step};
 ghost use Rattle.runs.specs.Room.{is_single};
-ghost use Rattle.std.specs.Prelude.{ℕ};
+ghost use Rattle.std.specs.Prelude.{ℕ, ◌≤◌};
 
 use crate::script_words::{Word, carry};
 use capability::{Cap, Uid, mint};
@@ -11,6 +11,7 @@ use eden_value::Txt;
 use journal::{Command, Entry, Event, Key, Names, Ref, Shown};
 use runs::*;
 use std::alloc::{AllocError, Global};
+use std::process::Abort;
 
 /// A machine of keys in ascending order, of which each has one turn. It stands for no world.
 #[derive(Drop)]
@@ -157,23 +158,21 @@ impl Machine for Keys {
 }
 
 // A run with keys of these serials.
-fn run_of(alloc: Global, serials: &[u32], finds: u32) -> Result<Run<Keys>, AllocError> {
+fn run_of(rt: &impl Abort, alloc: Global, serials: &[u32], finds: u32) -> Box<Run<Keys>> {
     let mut keys = Vec::new(alloc);
     for serial in serials {
-        keys.push(key(*serial))?;
+        keys.push(key(*serial)).expect(rt, "memory");
     }
-    Ok(Run::new(
-        alloc,
-        Keys {
-            keys,
-            calls: 0,
-            finds,
-        },
-    ))
+    let machine = Keys {
+        keys,
+        calls: 0,
+        finds,
+    };
+    Box::new(alloc, Run::new(alloc, machine)).expect(rt, "memory")
 }
 
 // One letter an entry; of a turn the serial of its key.
-fn letters(alloc: Global, history: &[Entry]) -> Result<Vec<u8>, AllocError> {
+fn letters(rt: &impl Abort, alloc: Global, history: &[Entry]) -> Vec<u8> {
     let mut out = Vec::new(alloc);
     for entry in history {
         let letter = match &entry.event {
@@ -185,20 +184,24 @@ fn letters(alloc: Global, history: &[Entry]) -> Result<Vec<u8>, AllocError> {
             Event::Spent => b's',
             _ => b'l',
         };
-        out.push(letter)?;
+        out.push(letter).expect(rt, "memory");
     }
-    Ok(out)
+    out
 }
 
 /// The letters of a run over these words, behind so many nodes that are booted.
 fn carried(
+    rt: &impl Abort,
     alloc: Global,
-    run: &mut Run<Keys>,
+    run: Box<Run<Keys>>,
     nodes: u8,
     words: &[Word],
-) -> Result<Vec<u8>, AllocError> {
-    carry(alloc, run, nodes, words)?;
-    letters(alloc, &run.history)
+) -> Vec<u8>
+    requires { nodes ≤ 8 }
+{
+    let mut run = run;
+    carry(rt, alloc, &mut *run, nodes, words);
+    letters(rt, alloc, &run.history)
 }
 
 /// The calls that find a directory, a word of a script that begins at two nodes, and what is seen of three keys. A walk waits for
@@ -216,41 +219,47 @@ const SCRIPTS: &[(u32, Word<'static>, &[u8])] = &[
 ];
 
 #[test]
-fn a_script_gives_its_entries(rt: HostRuntime) -> Result<(), AllocError> {
+fn a_script_gives_its_entries(rt: HostRuntime) {
     let alloc = rt.alloc();
     for (place, &(finds, word, wanted)) in SCRIPTS.iter().enumerate() {
-        let mut run = run_of(alloc, &[1, 2, 3], finds)?;
-        let said = carried(alloc, &mut run, 2, &[word, Word::End])?;
+        let run = run_of(&rt, alloc, &[1, 2, 3], finds);
+        let said = carried(&rt, alloc, run, 2, &[word, Word::End]);
         assert!(rt; said.as_slice() == wanted, "{place}");
     }
-    Ok(())
 }
 
+const LATE_TURNS: &[Word<'static>] = &[Word::Go(5), Word::Turn(0), Word::End];
+
 #[test]
-fn turns_run_out(rt: HostRuntime) -> Result<(), AllocError> {
+fn turns_run_out(rt: HostRuntime) {
     let alloc = rt.alloc();
-    let mut run = run_of(alloc, &[1, 2], 0)?;
+    let mut run = run_of(&rt, alloc, &[1, 2], 0);
     run.turns = 99_999;
-    let words = &[Word::Go(5), Word::Turn(0), Word::End];
-    let said = carried(alloc, &mut run, 1, words)?;
+    let said = carried(&rt, alloc, run, 1, LATE_TURNS);
     assert!(rt; said.as_slice() == b"b1ssl".as_slice());
-    Ok(())
+}
+
+/// Paths, and their components.
+const PATHS: &[(&[u8], &[&[u8]])] = &[
+    (b"", &[b""]),
+    (b"a", &[b"a"]),
+    (b"ab/c", &[b"ab", b"c"]),
+    (b"/a/", &[b"", b"a", b""]),
+];
+
+/// Whether the parts of a path are these.
+fn are_these(parts: &[Txt], wanted: &[&[u8]]) -> bool {
+    let mut same = parts.len() == wanted.len();
+    for (part, one) in parts.iter().zip(wanted) {
+        same = same && part.bytes.as_slice() == *one;
+    }
+    same
 }
 
 #[test]
-fn slashes_part_components(rt: HostRuntime) -> Result<(), AllocError> {
-    let rows: &[(&[u8], &[&[u8]])] = &[
-        (b"", &[b""]),
-        (b"a", &[b"a"]),
-        (b"ab/c", &[b"ab", b"c"]),
-        (b"/a/", &[b"", b"a", b""]),
-    ];
-    for &(path, wanted) in rows {
-        let parts = components(rt.alloc(), path)?;
-        assert!(rt; parts.len() == wanted.len());
-        for (part, one) in parts.iter().zip(wanted) {
-            assert!(rt; part.bytes.as_slice() == *one);
-        }
+fn slashes_part_components(rt: HostRuntime) {
+    for (place, &(path, wanted)) in PATHS.iter().enumerate() {
+        let parts = components(rt.alloc(), path).expect(&rt, "memory");
+        assert!(rt; are_these(&parts, wanted), "{place}");
     }
-    Ok(())
 }

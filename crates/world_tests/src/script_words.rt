@@ -1,5 +1,5 @@
 //! Commands of scripts, written as words, and runs of them.
-ghost use Rattle.std.specs.Prelude.{IsTrue, OnOk};
+ghost use Rattle.std.specs.Prelude.{IsTrue, ◌≤◌};
 ghost use Rattle.std.specs.List.{All};
 ghost use Rattle.journal.specs.Fit.{NumbersFit};
 
@@ -9,7 +9,8 @@ use eden_disk::ImageMode;
 use eden_value::Value;
 use journal::{Arg, Args, Command};
 use runs::{Machine, Run};
-use std::alloc::{AllocError, Global};
+use std::alloc::Global;
+use std::process::Abort;
 
 /// The first Eject of node 1.
 pub(crate) const FIRST: Uid = Uid {
@@ -49,46 +50,48 @@ pub(crate) enum Word<'a> {
 }
 
 /// A name as a text, and what it stands for.
-fn entry_of(alloc: Global, name: &str) -> Result<Vec<Arg>, AllocError> {
-    let text = txt(alloc, name)?;
+fn entry_of(rt: &impl Abort, alloc: Global, name: &str) -> Vec<Arg> {
+    let text = txt(rt, alloc, name);
     let first = Arg::Plain {
         value: Value::Text { text },
     };
     let second = Arg::Named {
-        by: by(alloc, name, 0)?,
+        by: by(rt, alloc, name, 0),
     };
-    let args = vec![in alloc; first, second]?;
-    Ok(args)
+    vec![in alloc; first, second].expect(rt, "memory")
 }
 
+/// A call of an operation.
 fn call(
+    rt: &impl Abort,
     alloc: Global,
     name: &str,
     target: &str,
     operation: &str,
     args: Vec<Arg>,
-) -> Result<Command, AllocError> {
-    Ok(Command::Call {
-        name: txt(alloc, name)?,
-        target: by(alloc, target, 0)?,
-        operation: txt(alloc, operation)?,
+) -> Command {
+    Command::Call {
+        name: txt(rt, alloc, name),
+        target: by(rt, alloc, target, 0),
+        operation: txt(rt, alloc, operation),
         args: Args { args },
-    })
+    }
 }
 
 /// A word that names something.
-fn naming(alloc: Global, word: Word) -> Result<Command, AllocError> {
+fn naming(rt: &impl Abort, alloc: Global, word: Word) -> Command {
     match word {
-        Word::Create(name, kind) => Ok(Command::Create {
-            name: txt(alloc, name)?,
+        Word::Create(name, kind) => Command::Create {
+            name: txt(rt, alloc, name),
             node: 1,
-            type_name: txt(alloc, kind)?,
-        }),
-        Word::Hold(name) => Ok(Command::Hold {
-            name: txt(alloc, name)?,
+            type_name: txt(rt, alloc, kind),
+        },
+        Word::Hold(name) => Command::Hold {
+            name: txt(rt, alloc, name),
             uid: FIRST,
-        }),
+        },
         Word::Call(name, target, operation) => call(
+            rt,
             alloc,
             name,
             target,
@@ -96,53 +99,54 @@ fn naming(alloc: Global, word: Word) -> Result<Command, AllocError> {
             Vec::new(alloc),
         ),
         Word::Add(name, target, added) => call(
+            rt,
             alloc,
             name,
             target,
             "AddEntry",
-            entry_of(alloc, added)?,
+            entry_of(rt, alloc, added),
         ),
-        Word::Restrict(name, target) => Ok(Command::Restrict {
-            name: txt(alloc, name)?,
-            target: by(alloc, target, 0)?,
+        Word::Restrict(name, target) => Command::Restrict {
+            name: txt(rt, alloc, name),
+            target: by(rt, alloc, target, 0),
             mask: Rights { bits: 2 },
-        }),
-        Word::Walk(name, target, k, path) => Ok(Command::Walk {
-            name: txt(alloc, name)?,
-            target: by(alloc, target, k)?,
-            path: txt(alloc, path)?,
-        }),
-        _ => Ok(Command::End),
+        },
+        Word::Walk(name, target, k, path) => Command::Walk {
+            name: txt(rt, alloc, name),
+            target: by(rt, alloc, target, k),
+            path: txt(rt, alloc, path),
+        },
+        _ => Command::End,
     }
 }
 
-fn command(alloc: Global, word: Word) -> Result<Command, AllocError> {
+/// The command of a word.
+fn command(rt: &impl Abort, alloc: Global, word: Word) -> Command {
     match word {
-        Word::Restart(node) => Ok(Command::Restart { node }),
-        Word::Crash => Ok(Command::Crash {
+        Word::Restart(node) => Command::Restart { node },
+        Word::Crash => Command::Crash {
             node: 1,
             mode: ImageMode::Lose,
-        }),
-        Word::Cut => Ok(Command::Cut { a: 0, b: 1 }),
-        Word::Join => Ok(Command::Join { a: 0, b: 1 }),
-        Word::Fail(after) => Ok(Command::Fail { node: 1, after }),
-        Word::Stop(after) => Ok(Command::Stop {
+        },
+        Word::Cut => Command::Cut { a: 0, b: 1 },
+        Word::Join => Command::Join { a: 0, b: 1 },
+        Word::Fail(after) => Command::Fail { node: 1, after },
+        Word::Stop(after) => Command::Stop {
             node: 1,
             after,
             mode: ImageMode::Lose,
-        }),
-        Word::Go(n) => Ok(Command::Go { n }),
-        Word::Turn(i) => Ok(Command::Turn { i }),
-        _ => naming(alloc, word),
+        },
+        Word::Go(n) => Command::Go { n },
+        Word::Turn(i) => Command::Turn { i },
+        _ => naming(rt, alloc, word),
     }
 }
 
-fn commands_of(alloc: Global, words: &[Word]) -> Result<Vec<Command>, AllocError> {
-    let mut commands = Vec::new(alloc);
-    for word in words {
-        commands.push(command(alloc, *word)?)?;
-    }
-    Ok(commands)
+/// Whether a node has this number.
+fn is_node(number: u8) -> bool
+    ensures { IsTrue result → (1 ≤ number) × (number ≤ 8) }
+{
+    1 <= number && number <= 8
 }
 
 /// Whether the numbers of a command are in their ranges.
@@ -150,30 +154,24 @@ fn fits(command: &Command) -> bool
     ensures { IsTrue result → NumbersFit 8 command.now }
 {
     match command {
-        Command::Create { node, .. } => 1 <= *node && *node <= 8,
-        Command::Hold { uid, .. } => {
-            1 <= uid.node && uid.node <= 8 && 1 <= uid.epoch && 1 <= uid.serial
-        }
-        Command::Call { target, .. } => target.result <= 8,
-        Command::Restrict { target, mask, .. } => { target.result <= 8 && mask.bits <= u16::MAX }
-        Command::Walk { target, .. } => target.result <= 8,
-        Command::Go { n } => 1 <= *n && *n <= 1_000_000,
-        Command::Turn { i } => *i <= 1_000_000,
-        Command::Crash {
+        Command::Create { node, .. }
+        | Command::Restart { node }
+        | Command::Crash {
             node,
             mode: ImageMode::Lose,
-        } => 1 <= *node && *node <= 8,
-        Command::Restart { node } => 1 <= *node && *node <= 8,
-        Command::Cut { a, b } => *a <= 8 && *b <= 8,
-        Command::Join { a, b } => *a <= 8 && *b <= 8,
-        Command::Fail { node, after } => {
-            1 <= *node && *node <= 8 && 1 <= *after && *after <= 1_000_000
-        }
-        Command::Stop {
+        } => is_node(*node),
+        Command::Hold { uid, .. } => is_node(uid.node) && 1 <= uid.epoch && 1 <= uid.serial,
+        Command::Call { target, .. } | Command::Walk { target, .. } => target.result <= 8,
+        Command::Restrict { target, mask, .. } => target.result <= 8 && mask.bits <= u16::MAX,
+        Command::Go { n } => 1 <= *n && *n <= 1_000_000,
+        Command::Turn { i } => *i <= 1_000_000,
+        Command::Cut { a, b } | Command::Join { a, b } => *a <= 8 && *b <= 8,
+        Command::Fail { node, after }
+        | Command::Stop {
             node,
             after,
             mode: ImageMode::Lose,
-        } => { 1 <= *node && *node <= 8 && 1 <= *after && *after <= 1_000_000 }
+        } => { is_node(*node) && 1 <= *after && *after <= 1_000_000 }
         Command::End => true,
         _ => false,
     }
@@ -191,19 +189,32 @@ fn all_fit(commands: &[Command]) -> bool
     true
 }
 
+/// The commands of these words, with their numbers in their ranges.
+fn commands_of(rt: &impl Abort, alloc: Global, words: &[Word]) -> Vec<Command>
+    ensures { All (NumbersFit 8) result.items }
+{
+    let mut commands = Vec::new(alloc);
+    for word in words {
+        commands
+            .push(command(rt, alloc, *word))
+            .expect(rt, "memory");
+    }
+    assert!(rt; all_fit(&commands), "numbers in their ranges");
+    commands
+}
+
 /// Boots so many nodes and carries the words out.
 pub(crate) fn carry<M: Machine>(
+    rt: &impl Abort,
     alloc: Global,
     run: &mut Run<M>,
     nodes: u8,
     words: &[Word],
-) -> Result<(), AllocError>
-    requires { M.whole run.old.machine }
-    ensures { OnOk result (M.whole run.new.machine) }
+)
+    requires few { nodes ≤ 8 }
+    requires whole { M.whole run.old.machine }
+    ensures { M.whole run.new.machine }
 {
-    let commands = commands_of(alloc, words)?;
-    if nodes > 8 || !all_fit(&commands) {
-        return Err(AllocError);
-    }
-    run.carry_all(alloc, nodes, &commands)
+    let commands = commands_of(rt, alloc, words);
+    run.carry_all(alloc, nodes, &commands).expect(rt, "memory");
 }

@@ -6,8 +6,8 @@ use eden_io::{MemSink, MemSource};
 use eden_script::ScriptCause;
 use journal::{History, Mode};
 use shell_answers::*;
-use std::alloc::{AllocError, Global};
-use std::test::Fail;
+use std::alloc::Global;
+use std::process::Abort;
 
 const PLAIN: Job = Job::Run { mode: Mode::Plain };
 
@@ -35,15 +35,18 @@ const WORDS: &[(&[&str], Option<Job>, Option<&str>)] = &[
     (&["--version"], None, None),
 ];
 
+/// Whether the words ask for this job, and name this directory.
+fn ask_for(words: &Vec<String>, job: Option<Job>, dir: Option<&str>) -> bool {
+    job_of(words) == job && host_dir(words).map(|dir| dir.as_str()) == dir
+}
+
 #[test]
-fn words_ask_for_jobs(rt: HostRuntime) -> Result<(), Fail> {
+fn words_ask_for_jobs(rt: HostRuntime) {
     let alloc = rt.alloc();
     for (place, &(words, job, dir)) in WORDS.iter().enumerate() {
-        let words = words_of(alloc, words)?;
-        assert!(rt; job_of(&words) == job, "{place}");
-        assert!(rt; host_dir(&words).map(|dir| dir.as_str()) == dir, "{place}");
+        let words = words_of(&rt, alloc, words);
+        assert!(rt; ask_for(&words, job, dir), "{place}");
     }
-    Ok(())
 }
 
 /// What a reading comes to.
@@ -65,7 +68,8 @@ fn nothing(alloc: Global) -> Carried {
     }
 }
 
-fn is_asked(asked: &Asked, wanted: Read) -> bool {
+/// Whether the words ask for this.
+fn is_asked(asked: Asked, wanted: Read) -> bool {
     match wanted {
         Read::Script(job, nodes) => asked.job == job && asked.script.nodes == nodes,
         Read::Refused(_, _, _, _) => false,
@@ -92,19 +96,20 @@ fn is_refused(alloc: Global, due: Outcome, sink: &mut MemSink, wanted: Read) -> 
 
 /// Whether the words and the bytes come to that, where these reads and writes fail.
 fn is_read(
+    rt: &impl Abort,
     alloc: Global,
     words: &[&str],
     bytes: &str,
     (reads, writes): (&[u32], &[u32]),
     wanted: Read,
-) -> Result<bool, AllocError> {
-    let words = words_of(alloc, words)?;
-    let mut source = source_of(alloc, bytes, 0, reads)?;
-    let mut sink = sink_of(alloc, 7, 100, writes)?;
-    Ok(match read_script(alloc, &words, &mut source) {
-        Ok(asked) => is_asked(&asked, wanted),
+) -> bool {
+    let words = words_of(rt, alloc, words);
+    let mut source = source_of(rt, alloc, bytes, 0, reads);
+    let mut sink = sink_of(rt, alloc, 7, 100, writes);
+    match read_script(alloc, &words, &mut *source) {
+        Ok(asked) => is_asked(asked, wanted),
         Err(due) => is_refused(alloc, due, &mut sink, wanted),
-    })
+    }
 }
 
 const NO_COMMAND: Outcome = Outcome::BadScript {
@@ -148,10 +153,12 @@ const READINGS: &[Reading<'static>] = &[
 ];
 
 #[test]
-fn a_script_is_read_or_refused(rt: HostRuntime) -> Result<(), Fail> {
+fn a_script_is_read_or_refused(rt: HostRuntime) {
     let alloc = rt.alloc();
     for (place, &(words, bytes, failing, wanted)) in READINGS.iter().enumerate() {
-        assert!(rt; is_read(alloc, words, bytes, failing, wanted)?, "{place}");
+        assert!(rt;
+            is_read(&rt, alloc, words, bytes, failing, wanted),
+            "{place}"
+        );
     }
-    Ok(())
 }

@@ -33,49 +33,56 @@ fn maybe_cap(of: Option<(u32, u16)>) -> Option<Cap> {
 }
 
 /// The number 7, in so many lists.
-fn nested(alloc: Global, deep: u8) -> Result<Value, AllocError> {
+fn nested(rt: &impl Abort, alloc: Global, deep: u8) -> Value {
     let mut value = Value::Int { n: 7 };
     for _ in 0..deep {
-        let values = vec![in alloc; value]?;
+        let values = vec![in alloc; value].expect(rt, "memory");
         value = Value::List {
             items: Items { values },
         };
     }
-    Ok(value)
+    value
 }
 
 /// An argument in so many lists.
-fn nested_argument(alloc: Global, inner: Arg, deep: u8) -> Result<Arg, AllocError> {
+fn nested_argument(rt: &impl Abort, alloc: Global, inner: Arg, deep: u8) -> Arg {
     let mut arg = inner;
     for _ in 0..deep {
-        let args = vec![in alloc; arg]?;
+        let args = vec![in alloc; arg].expect(rt, "memory");
         arg = Arg::List {
             items: Args { args },
         };
     }
-    Ok(arg)
+    arg
 }
 
 /// The results of a look-up that found a directory, and two values more.
-fn results(alloc: Global) -> Result<Items, AllocError> {
+fn results(rt: &impl Abort, alloc: Global) -> Items {
     let values = vec![in alloc;
         Value::Int { n: 0 },
         Value::Cap {
             cap: Some(cap_of(2, 6))
         },
         Value::Cap { cap: None },
-        nested(alloc, 3)?,
-    ]?;
-    Ok(Items { values })
+        nested(rt, alloc, 3),
+    ]
+    .expect(rt, "memory");
+    Items { values }
 }
 
 /// `a` is a capability, `r` has results, `n` stands for nothing.
-fn some_names(alloc: Global) -> Result<ShellNames, AllocError> {
-    let mut names = ShellNames::new(alloc);
-    names.bind_capability(alloc, &txt(alloc, "a")?, cap_of(1, 0xFFFF))?;
-    names.bind_results(alloc, &txt(alloc, "r")?, results(alloc)?)?;
-    names.bind_nothing(alloc, &txt(alloc, "n")?)?;
-    Ok(names)
+fn some_names(rt: &impl Abort, alloc: Global) -> Box<ShellNames> {
+    let mut names = Box::new(alloc, ShellNames::new(alloc)).expect(rt, "memory");
+    names
+        .bind_capability(alloc, &txt(rt, alloc, "a"), cap_of(1, 0xFFFF))
+        .expect(rt, "memory");
+    names
+        .bind_results(alloc, &txt(rt, alloc, "r"), results(rt, alloc))
+        .expect(rt, "memory");
+    names
+        .bind_nothing(alloc, &txt(rt, alloc, "n"))
+        .expect(rt, "memory");
+    names
 }
 
 /// A question about a name, with what it is to be answered.
@@ -95,52 +102,86 @@ enum Ask<'a> {
     IsReady(&'a str, bool),
 }
 
-/// Whether it is printed so.
-fn is_printed(alloc: Global, value: &Option<Value>, wanted: &str) -> Result<bool, AllocError> {
+/// Whether it is printed so; where there is none, as the empty text.
+fn is_printed(rt: &impl Abort, alloc: Global, value: Option<Value>, wanted: &str) -> bool {
     let mut out = Vec::new(alloc);
-    if let Some(value) = value {
-        print(alloc, value, &mut out)?;
+    if let Some(value) = &value {
+        print(alloc, value, &mut out).expect(rt, "memory");
     }
-    Ok(out.as_slice() == wanted.as_bytes())
+    out.as_slice() == wanted.as_bytes()
+}
+
+/// Whether the result of a name is printed so.
+fn is_value(
+    rt: &impl Abort,
+    alloc: Global,
+    names: &ShellNames,
+    name: &str,
+    (k, wanted): (u8, &str),
+) -> bool {
+    let value = names.value(alloc, &txt(rt, alloc, name), k);
+    is_printed(rt, alloc, value.expect(rt, "memory"), wanted)
+}
+
+/// Whether the result of a name is this capability, or none.
+fn is_capability(
+    rt: &impl Abort,
+    alloc: Global,
+    names: &ShellNames,
+    name: &str,
+    (k, wanted): (u8, Option<(u32, u16)>),
+) -> bool {
+    names.capability(&by(rt, alloc, name, k)) == maybe_cap(wanted)
 }
 
 /// The number 3, and the result of a name in so many lists.
-fn arguments(alloc: Global, name: &str, k: u8, deep: u8) -> Result<Args, AllocError> {
+fn arguments(rt: &impl Abort, alloc: Global, name: &str, k: u8, deep: u8) -> Args {
     let inner = Arg::Named {
-        by: by(alloc, name, k)?,
+        by: by(rt, alloc, name, k),
     };
     let first = Arg::Plain {
         value: Value::Int { n: 3 },
     };
-    let second = nested_argument(alloc, inner, deep)?;
-    let args = vec![in alloc; first, second]?;
-    Ok(Args { args })
+    let second = nested_argument(rt, alloc, inner, deep);
+    let args = vec![in alloc; first, second].expect(rt, "memory");
+    Args { args }
 }
 
-fn is_so(alloc: Global, names: &ShellNames, name: &str, ask: Ask) -> Result<bool, AllocError> {
+/// Whether these arguments of a call are printed so.
+fn are_arguments(
+    rt: &impl Abort,
+    alloc: Global,
+    names: &ShellNames,
+    args: &Args,
+    wanted: &str,
+) -> bool {
+    let value = match names.arguments(alloc, args).expect(rt, "memory") {
+        Some(items) => Some(Value::List { items }),
+        None => None,
+    };
+    is_printed(rt, alloc, value, wanted)
+}
+
+/// Whether the name may be called with the first result of another.
+fn is_ready(rt: &impl Abort, alloc: Global, names: &ShellNames, name: &str, given: &str) -> bool {
+    let target = by(rt, alloc, name, 0);
+    let args = arguments(rt, alloc, given, 1, 0);
+    let ready = names.ready(alloc, &target, &args);
+    ready.expect(rt, "memory").is_some()
+}
+
+/// Whether the question about the name is answered so.
+fn is_so(rt: &impl Abort, alloc: Global, names: &ShellNames, name: &str, ask: Ask) -> bool {
     match ask {
-        Ask::Value(k, wanted) => {
-            let value = names.value(alloc, &txt(alloc, name)?, k)?;
-            is_printed(alloc, &value, wanted)
-        }
-        Ask::Capability(k, wanted) => {
-            Ok(names.capability(&by(alloc, name, k)?) == maybe_cap(wanted))
-        }
-        Ask::IsFound(wanted) => Ok(names.found(&txt(alloc, name)?) == wanted),
-        Ask::Next(wanted) => Ok(names.next_directory(&txt(alloc, name)?) == maybe_cap(wanted)),
+        Ask::Value(k, wanted) => is_value(rt, alloc, names, name, (k, wanted)),
+        Ask::Capability(k, wanted) => is_capability(rt, alloc, names, name, (k, wanted)),
+        Ask::IsFound(wanted) => names.found(&txt(rt, alloc, name)) == wanted,
+        Ask::Next(wanted) => names.next_directory(&txt(rt, alloc, name)) == maybe_cap(wanted),
         Ask::Arguments(k, deep, wanted) => {
-            let items = names.arguments(alloc, &arguments(alloc, name, k, deep)?)?;
-            let value = match items {
-                Some(items) => Some(Value::List { items }),
-                None => None,
-            };
-            is_printed(alloc, &value, wanted)
+            let args = arguments(rt, alloc, name, k, deep);
+            are_arguments(rt, alloc, names, &args, wanted)
         }
-        Ask::IsReady(given, wanted) => {
-            let target = by(alloc, name, 0)?;
-            let ready = names.ready(alloc, &target, &arguments(alloc, given, 1, 0)?)?;
-            Ok(ready.is_some() == wanted)
-        }
+        Ask::IsReady(given, wanted) => is_ready(rt, alloc, names, name, given) == wanted,
     }
 }
 
@@ -161,48 +202,119 @@ enum Change {
     Hear(Status, bool),
 }
 
+/// The event of a change, behind a Box, since it is dear to let go.
+fn boxed(rt: &impl Abort, alloc: Global, event: Result<Event, AllocError>) -> Box<Event> {
+    Box::new(alloc, event.expect(rt, "memory")).expect(rt, "memory")
+}
+
+/// Whether a name was bound by `hold`, or else by `restrict`.
+fn is_bound(event: &Event, by_hold: bool) -> bool {
+    matches!(event, Event::Bound { held, .. } if *held == by_hold)
+}
+
+/// The name comes to stand for the one result 5.
+fn bind_five(rt: &impl Abort, alloc: Global, names: &mut ShellNames, name: &Txt) {
+    let values = vec![in alloc; Value::Int { n: 5 }].expect(rt, "memory");
+    let bound = names.bind_results(alloc, name, Items { values });
+    bound.expect(rt, "memory");
+}
+
+/// The call of the name, which may be open, is answered.
+fn hear(
+    rt: &impl Abort,
+    alloc: Global,
+    names: &mut ShellNames,
+    name: &Txt,
+    status: Status,
+    is_open: bool,
+) {
+    let values = results(rt, alloc);
+    let heard = names.hear(alloc, name, status, &values, is_open);
+    heard.expect(rt, "memory");
+}
+
+/// Whether a hold is told so.
+fn is_held(
+    rt: &impl Abort,
+    alloc: Global,
+    names: &mut ShellNames,
+    name: &Txt,
+    serial: u32,
+) -> bool {
+    let event = boxed(rt, alloc, names.hold(alloc, name, uid_of(serial)));
+    is_bound(&event, true)
+}
+
+/// Whether a restriction of a result of `r`, which is a capability or is none, is told so.
+fn is_restricted(
+    rt: &impl Abort,
+    alloc: Global,
+    names: &mut ShellNames,
+    name: &Txt,
+    (k, is_capability): (u8, bool),
+) -> bool {
+    let target = by(rt, alloc, "r", k);
+    let rights = Rights { bits: 3 };
+    let event = boxed(rt, alloc, names.restrict(alloc, name, &target, rights));
+    if is_capability {
+        is_bound(&event, false)
+    } else {
+        matches!(&*event, Event::Void { .. })
+    }
+}
+
+/// Whether a creation is told so.
+fn is_created(
+    rt: &impl Abort,
+    alloc: Global,
+    names: &mut ShellNames,
+    name: &Txt,
+    (status, made): (Status, Option<Uid>),
+) -> bool {
+    let event = boxed(rt, alloc, names.create(alloc, name, status, made));
+    matches!(&*event, Event::Made { status: said, uid, .. } if *said == status && *uid == made)
+}
+
+/// Whether a call of this number is told so.
+fn is_asked(
+    rt: &impl Abort,
+    alloc: Global,
+    names: &mut ShellNames,
+    name: &Txt,
+    number: u32,
+) -> bool {
+    let event = boxed(rt, alloc, names.ask(alloc, name, number, None));
+    matches!(&*event, Event::Asked { call, .. } if *call == number)
+}
+
 /// Makes the change, and whether its event says so.
 fn is_told(
+    rt: &impl Abort,
     alloc: Global,
     names: &mut ShellNames,
     name: &Txt,
     change: Change,
-) -> Result<bool, AllocError> {
+) -> bool {
     match change {
         Change::Five => {
-            let values = vec![in alloc; Value::Int { n: 5 }]?;
-            names.bind_results(alloc, name, Items { values })?;
-            Ok(true)
+            bind_five(rt, alloc, names, name);
+            true
         }
-        Change::Hold(serial) => {
-            let event = names.hold(alloc, name, uid_of(serial))?;
-            Ok(matches!(event, Event::Bound { held: true, .. }))
-        }
-        Change::Restrict(k, is_capability) => {
-            match names.restrict(alloc, name, &by(alloc, "r", k)?, Rights { bits: 3 })? {
-                Event::Bound { held: false, .. } => Ok(is_capability),
-                Event::Void { .. } => Ok(!is_capability),
-                _ => Ok(false),
-            }
-        }
+        Change::Hold(serial) => is_held(rt, alloc, names, name, serial),
+        Change::Restrict(k, is_capability) => is_restricted(
+            rt,
+            alloc,
+            names,
+            name,
+            (k, is_capability),
+        ),
         Change::Create(status, serial) => {
-            let made = maybe_uid(serial);
-            match names.create(alloc, name, status, made)? {
-                Event::Made {
-                    status: said,
-                    uid,
-                    ..
-                } => Ok(said == status && uid == made),
-                _ => Ok(false),
-            }
+            is_created(rt, alloc, names, name, (status, maybe_uid(serial)))
         }
-        Change::Ask(number) => match names.ask(alloc, name, number, None)? {
-            Event::Asked { call, .. } => Ok(call == number),
-            _ => Ok(false),
-        },
+        Change::Ask(number) => is_asked(rt, alloc, names, name, number),
         Change::Hear(status, is_open) => {
-            names.hear(alloc, name, status, &results(alloc)?, is_open)?;
-            Ok(true)
+            hear(rt, alloc, names, name, status, is_open);
+            true
         }
     }
 }
@@ -210,22 +322,34 @@ fn is_told(
 /// Changes of names, and then questions about them, each with its name.
 type Row<'a> = (&'a [(&'a str, Change)], &'a [(&'a str, Ask<'a>)]);
 
-fn all_is_so(rt: &impl Abort, alloc: Global, rows: &[Row]) -> Result<(), AllocError> {
-    let mut names = some_names(alloc)?;
-    for (changes, asks) in rows {
-        for &(name, change) in *changes {
-            let is_told = is_told(alloc, &mut names, &txt(alloc, name)?, change)?;
-            assert!(rt; is_told, "{name} is changed");
-        }
-        for (place, &(name, ask)) in asks.iter().enumerate() {
-            let is_so = is_so(alloc, &names, name, ask)?;
-            assert!(rt; is_so, "{name}, question {place}");
-        }
+/// Makes these changes, which are told so.
+fn change_all(rt: &impl Abort, alloc: Global, names: &mut ShellNames, changes: &[(&str, Change)]) {
+    for &(name, change) in changes {
+        let is_told = is_told(rt, alloc, names, &txt(rt, alloc, name), change);
+        assert!(rt; is_told, "{name} is changed");
     }
-    Ok(())
 }
 
-const AT_FIRST: &[(&str, Ask<'static>)] = &[
+/// Asks these questions, which are answered so.
+fn ask_all(rt: &impl Abort, alloc: Global, names: &ShellNames, asks: &[(&str, Ask)]) {
+    for (place, &(name, ask)) in asks.iter().enumerate() {
+        let is_so = is_so(rt, alloc, names, name, ask);
+        assert!(rt; is_so, "{name}, question {place}");
+    }
+}
+
+/// Changes the names and asks about them, row by row.
+fn all_is_so(rt: &impl Abort, alloc: Global, rows: &[Row]) {
+    let mut names = some_names(rt, alloc);
+    for (changes, asks) in rows {
+        change_all(rt, alloc, &mut *names, changes);
+        ask_all(rt, alloc, &names, asks);
+    }
+}
+
+const AT_FIRST: &[Row<'static>] = &[(&[], FIRST_ASKS)];
+
+const FIRST_ASKS: &[(&str, Ask<'static>)] = &[
     ("a", Ask::Value(0, "<1.1.1:ffff>")),
     ("a", Ask::Value(1, "")),
     ("r", Ask::Value(0, "")),
@@ -264,8 +388,8 @@ const AT_FIRST: &[(&str, Ask<'static>)] = &[
 ];
 
 #[test]
-fn names_have_values(rt: HostRuntime) -> Result<(), AllocError> {
-    all_is_so(&rt, rt.alloc(), &[(&[], AT_FIRST)])
+fn names_have_values(rt: HostRuntime) {
+    all_is_so(&rt, rt.alloc(), AT_FIRST);
 }
 
 /// The later one counts, and another name is as it was.
@@ -280,8 +404,8 @@ const TWO_MEANINGS: &[Row<'static>] = &[(
 )];
 
 #[test]
-fn of_two_meanings_the_later_counts(rt: HostRuntime) -> Result<(), AllocError> {
-    all_is_so(&rt, rt.alloc(), TWO_MEANINGS)
+fn of_two_meanings_the_later_counts(rt: HostRuntime) {
+    all_is_so(&rt, rt.alloc(), TWO_MEANINGS);
 }
 
 const COMMANDS: &[Row<'static>] = &[(
@@ -302,8 +426,8 @@ const COMMANDS: &[Row<'static>] = &[(
 )];
 
 #[test]
-fn commands_bind_their_names(rt: HostRuntime) -> Result<(), AllocError> {
-    all_is_so(&rt, rt.alloc(), COMMANDS)
+fn commands_bind_their_names(rt: HostRuntime) {
+    all_is_so(&rt, rt.alloc(), COMMANDS);
 }
 
 /// Until it is answered.
@@ -328,6 +452,6 @@ const CALLS: &[Row<'static>] = &[
 ];
 
 #[test]
-fn a_call_stands_for_nothing_until_it_is_answered(rt: HostRuntime) -> Result<(), AllocError> {
-    all_is_so(&rt, rt.alloc(), CALLS)
+fn a_call_stands_for_nothing_until_it_is_answered(rt: HostRuntime) {
+    all_is_so(&rt, rt.alloc(), CALLS);
 }

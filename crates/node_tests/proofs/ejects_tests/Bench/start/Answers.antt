@@ -1,4 +1,5 @@
+use Rattle.std.proofs.Common.{rules}
 use Rattle.node_tests.proofs.ejects_tests.Bench.start.Goals as goal
 
-pub start-requires : goal.start-requires
-start-requires c = (c.may_begin.ensures c.args.self.now.types).0 c.if-not-may_begin.false
+pub start-started-requires : goal.start-started-requires
+start-started-requires g c = (c.may_begin.ensures c.args.self.now.types).0 (search rules)
