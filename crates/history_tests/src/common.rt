@@ -25,28 +25,6 @@ pub fn blank(alloc: Global) -> Result<SimDisk, AllocError> {
     SimDisk::new(alloc, SIZE)
 }
 
-/// What did not go as it was to.
-#[derive(Debug, Drop)]
-pub enum Amiss {
-    Memory,
-    Boot,
-    Put,
-    Start,
-    Created,
-    Many,
-    Down,
-    /// A turn that may not be taken.
-    MayNot,
-    /// What was at this place of a table.
-    Row { place: usize },
-}
-
-impl From<AllocError> for Amiss {
-    fn from(_: AllocError) -> Amiss {
-        Amiss::Memory
-    }
-}
-
 /// The Eject of the first epoch of the one node that has this serial.
 pub fn uid_of(serial: u32) -> Uid
     ensures { result.node ≡ 1 }

@@ -111,7 +111,11 @@ fn refusal_with(rt: &impl Abort, alloc: Global, backslashes: u32) -> Option<Pars
 
 /// Whether a text is refused at this place, or where there is no place, read.
 fn is_refused_at(alloc: Global, text: &[u8], end: Option<u32>) -> bool {
-    refusal(alloc, text) == end.map(|place| ParseRefusal::BadToken { place })
+    let found = refusal(alloc, text);
+    match end {
+        Some(place) => found == Some(ParseRefusal::BadToken { place }),
+        None => found.is_none(),
+    }
 }
 
 #[test]

@@ -1,5 +1,5 @@
 //! Texts of types with a mark `|` before the token at which the one refusal is told.
-use crate::texts::{append, built, once, resolved, type_of};
+use crate::texts::{built, once, resolved, type_of};
 use epl_check::{CheckRefusal, check};
 use epl_syntax::{Checked, Rule, Types};
 use std::alloc::Global;
@@ -42,7 +42,7 @@ fn unmarked(rt: &impl Abort, alloc: Global, marked: &[u8]) -> (Vec<u8>, usize) {
         if *byte == b'|' {
             place = text.len();
         } else {
-            append(rt, &mut text, &[*byte]);
+            text.push(*byte).expect(rt, "memory");
         }
     }
     (text, place)
@@ -80,8 +80,11 @@ pub(crate) fn is_answered(
     marked: &[u8],
 ) -> bool {
     let (text, mark) = unmarked(rt, alloc, marked);
-    let wanted = rule.map(|rule| (rule, mark));
-    broken(rt, alloc, types, &text) == wanted
+    let found = broken(rt, alloc, types, &text);
+    match rule {
+        Some(rule) => found == Some((rule, mark)),
+        None => found.is_none(),
+    }
 }
 
 /// What stands before a text and behind it.

@@ -101,7 +101,7 @@ fn append_numbered(rt: &impl Abort, alloc: Global, text: &mut Vec<u8>, copy: &[u
         if *byte == b'#' {
             append(rt, text, digits.as_bytes());
         } else {
-            append(rt, text, &[*byte]);
+            text.push(*byte).expect(rt, "memory");
         }
     }
 }

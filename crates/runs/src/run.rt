@@ -272,7 +272,10 @@ impl<M: Machine> Run<M> {
         ensures shown_part { OnErr result (KeepsShownSoFar M.shows M.whole M.leaves self.old self.new) }
     {
         for node in 0..nodes {
-            self.command(alloc, &Command::Restart { node: node + 1 })?;
+            let restart = Command::Restart { node: node + 1 };
+            let booted = self.command(alloc, &restart);
+            drop(restart);
+            booted?;
         }
         for command in commands {
             self.carry_out(alloc, command)?;

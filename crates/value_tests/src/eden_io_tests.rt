@@ -17,8 +17,10 @@ fn answer_of(
     failing: u32,
 ) -> (Result<bool, ReadRefusal>, u64) {
     let mut source = source(rt, alloc, failing);
-    let answer = read_all(alloc, &mut *source, limit).map(|bytes| bytes.as_slice()
-        == b"abc".as_slice());
+    let answer = match read_all(alloc, &mut *source, limit) {
+        Ok(bytes) => Ok(bytes.as_slice() == b"abc".as_slice()),
+        Err(refusal) => Err(refusal),
+    };
     (answer, source.faults())
 }
 

@@ -9,11 +9,16 @@ fn read(rt: &impl Abort, alloc: Global, bytes: &[u8]) -> Box<Rep> {
     Box::new(alloc, rep).expect(rt, "memory")
 }
 
-/// The value of these bytes of a representation.
-fn value(rt: &impl Abort, alloc: Global, spelled: &[u8]) -> Box<Value> {
+/// The bytes of a representation of the one value of these bytes.
+fn bytes_around(rt: &impl Abort, alloc: Global, spelled: &[u8]) -> Vec<u8> {
     let mut bytes = Vec::from_slice(alloc, b"\x01\x01A\0\x01\x01").expect(rt, "memory");
     bytes.extend_from_slice(spelled).expect(rt, "memory");
-    let mut rep = read(rt, alloc, &bytes);
+    bytes
+}
+
+/// The value of these bytes of a representation.
+fn value(rt: &impl Abort, alloc: Global, spelled: &[u8]) -> Box<Value> {
+    let mut rep = read(rt, alloc, &bytes_around(rt, alloc, spelled));
     let value = rep.values.values.pop().expect(rt, "a value");
     Box::new(alloc, value).expect(rt, "memory")
 }
@@ -147,13 +152,18 @@ fn copies(rt: &impl Abort, alloc: Global, all: &[&[u8]]) -> Items {
     copy_items(alloc, &Items { values }).expect(rt, "memory")
 }
 
+/// Each of these values is the one of its bytes.
+fn each_equals(rt: &impl Abort, alloc: Global, values: &[Value], all: &[&[u8]]) {
+    for (found, &spelled) in values.iter().zip(all) {
+        assert!(rt; equals(rt, alloc, found, spelled));
+    }
+}
+
 #[test]
 fn copied_items_equal_what_was_copied(rt: HostRuntime) {
     let copied = copies(&rt, rt.alloc(), COPIED);
     assert!(rt; copied.values.len() == COPIED.len());
-    for (found, &spelled) in copied.values.iter().zip(COPIED) {
-        assert!(rt; equals(&rt, rt.alloc(), found, spelled));
-    }
+    each_equals(&rt, rt.alloc(), &copied.values, COPIED);
 }
 
 /// Whether the value of these bytes has two capabilities, of these rights.

@@ -49,3 +49,6 @@ row-unreachable-requires t c =
     c.args.tokens.now few
     (no_row_left (headed statement_head) (read_statement s.text.now s.turns c.args.levels c.args.depth)
     c.loop-left.left _ _ _ none c.loop-left.invariant)
+
+pub otherwise-returns-in_err-rest : goal.otherwise-returns-in_err-rest
+otherwise-returns-in_err-rest c = search rules

@@ -1,3 +1,4 @@
+use Rattle.std.proofs.Common.{rules}
 use Rattle.std.proofs.Common.{◌≡◌, ◌+◌, ℕ, List, [], ◌∷◌, ◌++◌, length, ap, arith}
 use Rattle.std.specs.List.{All, Contains}
 use Rattle.std.proofs.lemmas.List.{length_push}
@@ -19,3 +20,6 @@ loop-disk-preserved c =
     one_more (λ d. Contains c.args.sizes.now (counts_of d).size) (λ d. counts_of d ≡ first_counts (counts_of d).size)
     c.loop-disk.disks.items c.push.new.self.items c.in_ok-open_one.field-0 c.loop-disk.disk
     c.in_ok-push.ensures.items c.loop-disk.invariant c.in_ok-open_one.ensures.size c.in_ok-open_one.ensures.fresh
+
+pub returns-clause-eight : goal.returns-clause-eight
+returns-clause-eight c = search rules

@@ -12,20 +12,20 @@ loop-node-init g c = record {
   whole = c.requires.whole;
 }
 
-pub returns-in_err-command-clause-part : goal.returns-in_err-command-clause-part
-returns-in_err-command-clause-part g c = on-err c.from_residual.result _
+pub returns-in_err-booted-clause-part : goal.returns-in_err-booted-clause-part
+returns-in_err-booted-clause-part g c = on-err c.from_residual.result _
     (booting-fails g.M.Machine.stands g.M.Machine.did g.M.Machine.starved c.args.self.now c.args.nodes c.args.commands.now
-    c.loop-node.self c.command.new.self
-    c.loop-node.node c.loop-node-test.true c.loop-node.invariant.booting c.in_err-command.ensures.fails c.in_err-command.ensures.history)
+    c.loop-node.self c.command-booted.new.self
+    c.loop-node.node c.loop-node-test.true c.loop-node.invariant.booting c.in_err-booted.ensures.fails c.in_err-booted.ensures.history)
 
 pub loop-node-preserved : goal.loop-node-preserved
 loop-node-preserved g c = record {
   booting = booting-on g.M.Machine.stands g.M.Machine.did g.M.Machine.starved c.args.self.now c.args.nodes c.args.commands.now
-      c.loop-node.self c.command.new.self
-      c.loop-node.node c.loop-node-test.true c.loop-node.invariant.booting c.in_ok-command.ensures.done;
-  shown = shown-then g.M.Machine.shows c.args.self.now c.loop-node.self c.command.new.self c.loop-node.invariant.shown
-      c.in_ok-command.ensures.shown;
-  whole = c.in_ok-command.ensures.whole;
+      c.loop-node.self c.command-booted.new.self
+      c.loop-node.node c.loop-node-test.true c.loop-node.invariant.booting c.in_ok-booted.ensures.done;
+  shown = shown-then g.M.Machine.shows c.args.self.now c.loop-node.self c.command-booted.new.self c.loop-node.invariant.shown
+      c.in_ok-booted.ensures.shown;
+  whole = c.in_ok-booted.ensures.whole;
 }
 
 pub loop-command-init : goal.loop-command-init
