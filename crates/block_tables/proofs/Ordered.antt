@@ -22,7 +22,7 @@ use Rattle.capability.specs.declared.Uid.{Uid}
 use Rattle.capability.specs.Uids.{uid_cmp}
 use Rattle.capability.proofs.Uids.{uid_cmp_total, uid_cmp-IsAntisymmetric}
 use Rattle.block_tables.specs.declared.heads.HeadFields.{HeadFields}
-use Rattle.block_tables.specs.declared.index.Entry.{Entry}
+use Rattle.block_tables.specs.declared.index.IndexEntry.{IndexEntry}
 use Rattle.passive_store.specs.Kept.{IsBehind, IsNextOf, IsEject, IsOwn, reserved_uid}
 use Rattle.passive_store.specs.LogState.{is_eject}
 use Rattle.block_tables.specs.HeadState.{entry_at, entry_or_none, kept_slot}
@@ -43,12 +43,12 @@ one_uid a b h = uid_cmp-IsAntisymmetric a b (tied (uid_cmp a b) h)
 at_itself : (a : Uid) → is_at (uid_cmp a) a ≡ true
 at_itself a = ap is_eq (tied_itself uid_cmp_total a)
 
-chosen : (b : Bool) (x : Entry) (y : Option Entry) (z : Entry) → cond b (Some x) y ≡ Some z
+chosen : (b : Bool) (x : IndexEntry) (y : Option IndexEntry) (z : IndexEntry) → cond b (Some x) y ≡ Some z
     → ((b ≡ true) × (x ≡ z)) ⊎ ((b ≡ false) × (y ≡ Some z))
 chosen true x y z e = inl (refl, cc)
 chosen false x y z e = inr (refl, e)
 
-hit : (uid : Uid) (e : Uid × Entry) (es : List (Uid × Entry)) (entry : Entry)
+hit : (uid : Uid) (e : Uid × IndexEntry) (es : List (Uid × IndexEntry)) (entry : IndexEntry)
     → lookup (is_at (uid_cmp uid)) (e ∷ es) ≡ Some entry →
     ((uid ≡ e.0) × (e.1 ≡ entry)) ⊎ (lookup (is_at (uid_cmp uid)) es ≡ Some entry)
 hit uid e es entry h = elim (chosen (is_at (uid_cmp uid) e.0) e.1 (lookup (is_at (uid_cmp uid)) es) entry h) [
@@ -57,7 +57,7 @@ hit uid e es entry h = elim (chosen (is_at (uid_cmp uid) e.0) e.1 (lookup (is_at
 ]
 
 -- what stands in an ordered list is behind all that is before it
-above : (key uid : Uid) (es : List (Uid × Entry)) (entry : Entry) → AllByRecursion (λ y. uid_cmp key y ≡ Less) (keys_of es)
+above : (key uid : Uid) (es : List (Uid × IndexEntry)) (entry : IndexEntry) → AllByRecursion (λ y. uid_cmp key y ≡ Less) (keys_of es)
     → lookup (is_at (uid_cmp uid)) es ≡ Some entry → uid_cmp key uid ≡ Less
 above key uid [] entry all h = absurd cc
 above key uid (e ∷ es) entry all h = elim (hit uid e es entry h) [
@@ -66,17 +66,17 @@ above key uid (e ∷ es) entry all h = elim (hit uid e es entry h) [
 ]
 
 -- of the entries that p lets in, the first that passes a test
-abbrev pub IsFirstOf : (Uid → Bool) → (Uid × Entry → Bool) → List (Uid × Entry) → Option (Uid × Entry) → Type 0
-IsFirstOf p test es None = (uid : Uid) (entry : Entry) → p uid ≡ true → lookup (is_at (uid_cmp uid)) es ≡ Some entry
+abbrev pub IsFirstOf : (Uid → Bool) → (Uid × IndexEntry → Bool) → List (Uid × IndexEntry) → Option (Uid × IndexEntry) → Type 0
+IsFirstOf p test es None = (uid : Uid) (entry : IndexEntry) → p uid ≡ true → lookup (is_at (uid_cmp uid)) es ≡ Some entry
     → test (uid, entry) ≡ true → ⊥
 IsFirstOf p test es (Some f) =
     (p f.0 ≡ true) × (test f ≡ true) × (lookup (is_at (uid_cmp f.0)) es ≡ Some f.1)
-    × ((uid : Uid) (entry : Entry) → p uid ≡ true → lookup (is_at (uid_cmp uid)) es ≡ Some entry → test (uid, entry) ≡ true
+    × ((uid : Uid) (entry : IndexEntry) → p uid ≡ true → lookup (is_at (uid_cmp uid)) es ≡ Some entry → test (uid, entry) ≡ true
     → (uid ≡ f.0) ⊎ (uid_cmp f.0 uid ≡ Less))
 
 -- an entry that is not let in, or does not pass, changes nothing
-passed_by : (p : Uid → Bool) (test : Uid × Entry → Bool) (e : Uid × Entry) (es : List (Uid × Entry))
-    (found : Option (Uid × Entry)) → (p e.0 ≡ true → test e ≡ true → ⊥) →
+passed_by : (p : Uid → Bool) (test : Uid × IndexEntry → Bool) (e : Uid × IndexEntry) (es : List (Uid × IndexEntry))
+    (found : Option (Uid × IndexEntry)) → (p e.0 ≡ true → test e ≡ true → ⊥) →
     IsStrictlySortedBy uid_cmp (keys_of (e ∷ es)) → IsFirstOf p test es found → IsFirstOf p test (e ∷ es) found
 passed_by p test e es None not_it sorted first = λ uid entry let_in h passes. elim (hit uid e es entry h) [
   | inl here ↦ not_it (ap p (sym here.0) ∙ let_in)
@@ -100,7 +100,7 @@ passed_by p test e es (Some f) not_it sorted first = (
   ],
 )
 
-found_at : (p : Uid → Bool) (test : Uid × Entry → Bool) (e : Uid × Entry) (es : List (Uid × Entry)) → p e.0 ≡ true
+found_at : (p : Uid → Bool) (test : Uid × IndexEntry → Bool) (e : Uid × IndexEntry) (es : List (Uid × IndexEntry)) → p e.0 ≡ true
     → test e ≡ true →
     IsStrictlySortedBy uid_cmp (keys_of (e ∷ es)) → IsFirstOf p test (e ∷ es) (Some e)
 found_at p test e es let_in passes sorted = (
@@ -113,21 +113,21 @@ found_at p test e es let_in passes sorted = (
   ],
 )
 
-by_tests : (p : Uid → Bool) (test : Uid × Entry → Bool) (e : Uid × Entry) (es : List (Uid × Entry)) (a b : Bool)
+by_tests : (p : Uid → Bool) (test : Uid × IndexEntry → Bool) (e : Uid × IndexEntry) (es : List (Uid × IndexEntry)) (a b : Bool)
     → p e.0 ≡ a → test e ≡ b →
-    IsStrictlySortedBy uid_cmp (keys_of (e ∷ es)) → IsFirstOf p test es (find test (filter (λ (x : Uid × Entry). p x.0) es)) →
-    IsFirstOf p test (e ∷ es) (find test (cond a (e ∷ filter (λ (x : Uid × Entry). p x.0) es)
-    (filter (λ (x : Uid × Entry). p x.0) es)))
+    IsStrictlySortedBy uid_cmp (keys_of (e ∷ es)) → IsFirstOf p test es (find test (filter (λ (x : Uid × IndexEntry). p x.0) es)) →
+    IsFirstOf p test (e ∷ es) (find test (cond a (e ∷ filter (λ (x : Uid × IndexEntry). p x.0) es)
+    (filter (λ (x : Uid × IndexEntry). p x.0) es)))
 by_tests p test e es false b inside passes sorted first = passed_by p test e es _ (λ q r. false≢true (sym inside ∙ q)) sorted first
 by_tests p test e es true true inside passes sorted first = subst
-    (λ c. IsFirstOf p test (e ∷ es) (cond c (Some e) (find test (filter (λ (x : Uid × Entry). p x.0) es)))) (sym passes)
+    (λ c. IsFirstOf p test (e ∷ es) (cond c (Some e) (find test (filter (λ (x : Uid × IndexEntry). p x.0) es)))) (sym passes)
     (found_at p test e es inside passes sorted)
 by_tests p test e es true false inside passes sorted first = subst
-    (λ c. IsFirstOf p test (e ∷ es) (cond c (Some e) (find test (filter (λ (x : Uid × Entry). p x.0) es)))) (sym passes)
+    (λ c. IsFirstOf p test (e ∷ es) (cond c (Some e) (find test (filter (λ (x : Uid × IndexEntry). p x.0) es)))) (sym passes)
     (passed_by p test e es _ (λ q r. false≢true (sym passes ∙ r)) sorted first)
 
-pub first_of_all : (p : Uid → Bool) (test : Uid × Entry → Bool) (es : List (Uid × Entry))
-    → IsStrictlySortedBy uid_cmp (keys_of es) → IsFirstOf p test es (find test (filter (λ (x : Uid × Entry). p x.0) es))
+pub first_of_all : (p : Uid → Bool) (test : Uid × IndexEntry → Bool) (es : List (Uid × IndexEntry))
+    → IsStrictlySortedBy uid_cmp (keys_of es) → IsFirstOf p test es (find test (filter (λ (x : Uid × IndexEntry). p x.0) es))
 first_of_all p test [] sorted = λ uid entry let_in h passes. absurd cc
 first_of_all p test (e ∷ es) sorted =
     by_tests p test e es (p e.0) (test e) refl refl sorted (first_of_all p test es (sorted_tail uid_cmp e.0 (keys_of es) sorted))
@@ -145,7 +145,7 @@ bound_of None = Unbounded
 bound_of (Some uid) = Excluded uid
 
 -- the uid is that of an Eject of the node, and a value is kept by the head that counts
-abbrev pub keeps_eject : List HeadFields → ℕ → Uid × Entry → Bool
+abbrev pub keeps_eject : List HeadFields → ℕ → Uid × IndexEntry → Bool
 keeps_eject slots node e = is_some (kept_slot slots e.1.latest) && is_eject node e.0
 
 number_tests : (n node epoch serial : ℕ) → (n == node && (not (epoch == 0) && not (serial == 0))) ≡ true → (n ≡ node) × (1 ≤ epoch)
@@ -177,16 +177,16 @@ of_behind : (from : Option Uid) (uid : Uid) → IsBehind from uid → range_cont
 of_behind None uid h = refl
 of_behind (Some a) uid h = ap (λ o. is_lt o && true) h
 
-entry_is : (slots : List HeadFields) (found : Option Entry) → IsTrue (is_some (kept_slot slots (entry_or_none found).latest))
-    → (entry : Entry)
+entry_is : (slots : List HeadFields) (found : Option IndexEntry) → IsTrue (is_some (kept_slot slots (entry_or_none found).latest))
+    → (entry : IndexEntry)
     × (found ≡ Some entry) × (is_some (kept_slot slots entry.latest) ≡ true)
 entry_is slots None h = absurd (false≢true h)
 entry_is slots (Some entry) h = (entry, refl, h)
 
-pub next_of : (slots : List HeadFields) (index : BTreeMap Uid Entry) (from : Option Uid) (node : ℕ) (found : Option (Uid × Entry))
+pub next_of : (slots : List HeadFields) (index : BTreeMap Uid IndexEntry) (from : Option Uid) (node : ℕ) (found : Option (Uid × IndexEntry))
     → IsFirstOf (λ uid. range_contains uid_cmp (bound_of from) Unbounded uid) (keeps_eject slots node) index.entries found →
     IsNextOf (λ uid. is_some (kept_slot slots (entry_at index uid).latest) && is_eject node uid) (reserved_uid node) from
-    (option_map (λ (e : Uid × Entry). e.0) found)
+    (option_map (λ (e : Uid × IndexEntry). e.0) found)
 next_of slots index from node None first = λ uid behind one other.
     let t = both (is_some (kept_slot slots (entry_at index uid).latest)) (is_eject node uid) one in
     let s = entry_is slots (lookup (is_at (uid_cmp uid)) index.entries) t.0 in
@@ -236,29 +236,30 @@ next_eject is_one node reserved from None next = tt
 next_eject is_one node reserved from (Some uid) next = eject_told node uid (both (is_one uid) (is_eject node uid) next.1).1
 
 -- none of these entries passes a test
-abbrev pub NonePasses : (Uid × Entry → Bool) → List (Uid × Entry) → Type 0
+abbrev pub NonePasses : (Uid × IndexEntry → Bool) → List (Uid × IndexEntry) → Type 0
 NonePasses test [] = Unit {0}
 NonePasses test (e ∷ es) = (test e ≡ false) × NonePasses test es
 
-pub none_more : (test : Uid × Entry → Bool) (es : List (Uid × Entry)) (e : Uid × Entry) → NonePasses test es
+pub none_more : (test : Uid × IndexEntry → Bool) (es : List (Uid × IndexEntry)) (e : Uid × IndexEntry) → NonePasses test es
     → test e ≡ false → NonePasses test (es ++ e ∷ [])
 none_more test [] e none fails = (fails, tt)
 none_more test (x ∷ es) e none fails = (none.0, none_more test es e none.1 fails)
 
 -- the first of a list that passes, behind those that do not
-pub found_behind : (test : Uid × Entry → Bool) (es rest : List (Uid × Entry)) (e : Uid × Entry) → NonePasses test es
+pub found_behind : (test : Uid × IndexEntry → Bool) (es rest : List (Uid × IndexEntry)) (e : Uid × IndexEntry) → NonePasses test es
     → test e ≡ true → find test (es ++ e ∷ rest) ≡ Some e
 found_behind test [] rest e none passes = ap (λ b. cond b (Some e) (find test rest)) passes
 found_behind test (x ∷ es) rest e none passes = ap (λ b. cond b (Some x) (find test (es ++ e ∷ rest))) none.0
     ∙ found_behind test es rest e none.1 passes
 
-pub found_none : (test : Uid × Entry → Bool) (es : List (Uid × Entry)) → NonePasses test es → find test es ≡ None
+pub found_none : (test : Uid × IndexEntry → Bool) (es : List (Uid × IndexEntry)) → NonePasses test es → find test es ≡ None
 found_none test [] none = refl
 found_none test (x ∷ es) none = ap (λ b. cond b (Some x) (find test es)) none.0 ∙ found_none test es none.1
 
 -- an entry that is let in stands under its uid
-pub in_index : (p : Uid → Bool) (es before behind : List (Uid × Entry)) (e : Uid × Entry) → IsStrictlySortedBy uid_cmp (keys_of es)
-    → filter (λ (x : Uid × Entry). p x.0) es ≡ before ++ e ∷ behind → lookup (is_at (uid_cmp e.0)) es ≡ Some e.1
+pub in_index : (p : Uid → Bool) (es before behind : List (Uid × IndexEntry)) (e : Uid × IndexEntry)
+    → IsStrictlySortedBy uid_cmp (keys_of es)
+    → filter (λ (x : Uid × IndexEntry). p x.0) es ≡ before ++ e ∷ behind → lookup (is_at (uid_cmp e.0)) es ≡ Some e.1
 in_index p [] [] behind e sorted is = absurd cc
 in_index p [] (b ∷ before) behind e sorted is = absurd cc
 in_index p (x ∷ es) before behind e sorted is =
@@ -273,15 +274,15 @@ in_index p (x ∷ es) before behind e sorted is =
       | inr other ↦ lookup_tail (is_at (uid_cmp e.0)) x es other ∙ there
     ]
 
-    go : (b : Bool) (before : List (Uid × Entry)) → cond b (x ∷ filter (λ (y : Uid × Entry). p y.0) es) (filter (λ
-        (y : Uid × Entry). p y.0) es)
+    go : (b : Bool) (before : List (Uid × IndexEntry)) → cond b (x ∷ filter (λ (y : Uid × IndexEntry). p y.0) es) (filter (λ
+        (y : Uid × IndexEntry). p y.0) es)
         ≡ before ++ e ∷ behind
-        → ((fs : List (Uid × Entry)) → filter (λ (y : Uid × Entry). p y.0) es ≡ fs ++ e ∷ behind → lookup (is_at (uid_cmp e.0)) es
+        → ((fs : List (Uid × IndexEntry)) → filter (λ (y : Uid × IndexEntry). p y.0) es ≡ fs ++ e ∷ behind → lookup (is_at (uid_cmp e.0)) es
         ≡ Some e.1)
         → lookup (is_at (uid_cmp e.0)) (x ∷ es) ≡ Some e.1
     go false fs is rest = later (rest fs is)
     go true [] is rest =
         let same : x ≡ e = cc in
-        subst (λ (y : Uid × Entry). lookup (is_at (uid_cmp y.0)) (x ∷ es) ≡ Some y.1) same (lookup_head (is_at (uid_cmp x.0)) x es
+        subst (λ (y : Uid × IndexEntry). lookup (is_at (uid_cmp y.0)) (x ∷ es) ≡ Some y.1) same (lookup_head (is_at (uid_cmp x.0)) x es
         (at_itself x.0))
-    go true (f ∷ fs) is rest = later (rest fs (let same : filter (λ (y : Uid × Entry). p y.0) es ≡ fs ++ e ∷ behind = cc in same))
+    go true (f ∷ fs) is rest = later (rest fs (let same : filter (λ (y : Uid × IndexEntry). p y.0) es ≡ fs ++ e ∷ behind = cc in same))

@@ -14,7 +14,7 @@ use Rattle.capability.specs.declared.Uid.{Uid}
 use Rattle.capability.specs.Uids.{uid_cmp}
 use Rattle.capability.proofs.Uids.{uid_cmp_total, uid_cmp-IsAntisymmetric}
 use Rattle.block_tables.specs.declared.heads.HeadFields.{HeadFields}
-use Rattle.block_tables.specs.declared.index.Entry.{Entry}
+use Rattle.block_tables.specs.declared.index.IndexEntry.{IndexEntry}
 use Rattle.block_tables.specs.declared.head_table.HeadTable.{HeadTable}
 use Rattle.block_tables.specs.Members.{is_member}
 use Rattle.block_tables.specs.HeadState.{AreHeads, SetsEntry, entry_at, slot_at, closed_slot, is_open, is_open_of, count_of, IsLatest}
@@ -112,7 +112,7 @@ pub closed_not : (slot : HeadFields) (uid : Uid) → is_open slot ≡ false → 
 closed_not slot uid is = ap (λ b. b && eq_by_cmp uid_cmp slot.uid uid) is
 
 -- the entry of a uid of which neither is
-pub entry_other : (slots : List HeadFields) (uid : Uid) (n : ℕ) (x : HeadFields) (entry : Entry) → n < length slots
+pub entry_other : (slots : List HeadFields) (uid : Uid) (n : ℕ) (x : HeadFields) (entry : IndexEntry) → n < length slots
     → is_open_of uid (slot_at slots n) ≡ false → is_open_of uid x ≡ false → IsEntryOf slots uid entry → IsEntryOf (set slots n x) uid entry
 entry_other slots uid n x entry within none not_it is = (
   latest_other slots uid n x entry.latest within none not_it is.0,
@@ -175,7 +175,7 @@ pub not_of : (x : HeadFields) (uid : Uid) → eq_by_cmp uid_cmp uid x.uid ≡ fa
 not_of x uid other = and_right (is_open x) (eq_by_cmp uid_cmp x.uid uid) ((eq_by_cmp_equiv uid_cmp_total).symm x.uid uid ∙ other)
 
 -- one of two, by whether two uids are the same
-entry_by : (slots : List HeadFields) (uid : Uid) (b : Bool) (new old : Entry) (own : Uid) → eq_by_cmp uid_cmp uid own ≡ b
+entry_by : (slots : List HeadFields) (uid : Uid) (b : Bool) (new old : IndexEntry) (own : Uid) → eq_by_cmp uid_cmp uid own ≡ b
     → (uid ≡ own → IsEntryOf slots uid new) → (eq_by_cmp uid_cmp uid own ≡ false → IsEntryOf slots uid old)
     → IsEntryOf slots uid (cond b new old)
 entry_by slots uid true new old own is here there = here (same_uids uid own is)
@@ -231,7 +231,8 @@ heads_join h new x are within shut opened items sequences free_long free closing
     }
 
 -- the same behind a call that changed neither the slots nor the index
-pub heads_join_from : (h mid new : HeadTable) (x : HeadFields) (late : Bool) (entry joined : Entry) → AreHeads mid → mid.slots ≡ h.slots
+pub heads_join_from : (h mid new : HeadTable) (x : HeadFields) (late : Bool) (entry joined : IndexEntry) → AreHeads mid
+    → mid.slots ≡ h.slots
     → mid.index ≡ h.index → x.number < length h.slots.items → is_open (slot_at h.slots.items x.number) ≡ false → is_open x ≡ true
     → new.slots.items ≡ set mid.slots.items x.number x → new.sequences ≡ set mid.sequences x.number x.sequence
     → length new.free ≡ length mid.free → ((k : ℕ) → is_member new.free k ≡ (not (k == x.number) && is_member mid.free k))
@@ -327,7 +328,7 @@ pub open_has_entry : (h : HeadTable) (n : ℕ) → AreHeads h → is_open (slot_
     → IsSome (tree.get uid_cmp h.index (slot_at h.slots.items n).uid)
 open_has_entry h n are there = go (tree.get uid_cmp h.index (slot_at h.slots.items n).uid) refl
   where
-    go : (found : Option Entry) → tree.get uid_cmp h.index (slot_at h.slots.items n).uid ≡ found → IsSome found
+    go : (found : Option IndexEntry) → tree.get uid_cmp h.index (slot_at h.slots.items n).uid ≡ found → IsSome found
     go (Some entry) is = refl
     go None is =
         let uid = (slot_at h.slots.items n).uid in
@@ -387,8 +388,8 @@ heads_close h new n are within opened alone items sequences free_long free closi
     }
 
 -- the same behind a call that changed neither the slots nor the index
-pub heads_close_from : (h mid new : HeadTable) (n : ℕ) (slot shut : HeadFields) (entry closed : Entry) → AreHeads mid → mid.slots ≡ h.slots
-    → mid.index ≡ h.index → n < length h.slots.items → is_open (slot_at h.slots.items n) ≡ true
+pub heads_close_from : (h mid new : HeadTable) (n : ℕ) (slot shut : HeadFields) (entry closed : IndexEntry) → AreHeads mid
+    → mid.slots ≡ h.slots → mid.index ≡ h.index → n < length h.slots.items → is_open (slot_at h.slots.items n) ≡ true
     → (is_it n (entry_at h.index (slot_at h.slots.items n).uid).latest ≡ true → (entry_at h.index (slot_at h.slots.items n).uid).others ≡ 0)
     → shut ≡ closed_slot → new.slots.items ≡ set mid.slots.items n shut → new.sequences ≡ set mid.sequences n 0
     → length new.free ≡ length mid.free → ((k : ℕ) → is_member new.free k ≡ (k == n || is_member mid.free k))
@@ -413,15 +414,15 @@ heads_close_from h mid new n slot shut entry closed are slots index within opene
     (subst (SetsEntry mid.index new.index slot.uid) all sets))
 
 -- beside the head that counts there is one, where a head is closed that does not
-pub closes_another : (h : HeadTable) (n : ℕ) (slot : HeadFields) (entry : Entry) → AreHeads h → n < length h.slots.items
+pub closes_another : (h : HeadTable) (n : ℕ) (slot : HeadFields) (entry : IndexEntry) → AreHeads h → n < length h.slots.items
     → is_open (slot_at h.slots.items n) ≡ true → slot ≡ slot_at h.slots.items n → entry ≡ entry_at h.index slot.uid
     → is_it n entry.latest ≡ false → 1 ≤ entry.others
 closes_another h n slot entry are within opened slot_is entry_is not_it =
     let uid : Uid = (slot_at h.slots.items n).uid in
     let all : entry ≡ entry_at h.index uid = entry_is ∙ ap (λ (s : HeadFields). entry_at h.index s.uid) slot_is in
-    subst (λ (e : Entry). 1 ≤ e.others) (sym all)
+    subst (λ (e : IndexEntry). 1 ≤ e.others) (sym all)
     (other_open h.slots.items uid n (entry_at h.index uid).latest (entry_at h.index uid).others within
-    (own_uid (slot_at h.slots.items n) opened) (are.entries uid) (ap (λ (e : Entry). is_it n e.latest) (sym all) ∙ not_it))
+    (own_uid (slot_at h.slots.items n) opened) (are.entries uid) (ap (λ (e : IndexEntry). is_it n e.latest) (sym all) ∙ not_it))
 
 -- the entry of an open head is there
 pub closes_entry : (h mid : HeadTable) (n : ℕ) (slot : HeadFields) → AreHeads h → mid.index ≡ h.index

@@ -7,7 +7,7 @@ use Rattle.std.specs.List.{list_any, list_all}
 use Rattle.std.specs.Ordering.{eq_by_cmp}
 use Rattle.capability.specs.declared.Uid.{Uid}
 use Rattle.capability.specs.Uids.{uid_cmp}
-use Rattle.passive_store.specs.Kept.{Change, Kept, kept_by}
+use Rattle.passive_store.specs.Kept.{StoreChange, Kept, kept_by}
 pub use Rattle.passive_store.specs.Log.{are_fields}
 use Rattle.passive_store.specs.Log.{with_record}
 
@@ -179,11 +179,11 @@ taken_by chains = flat_map (λ c. c.blocks) chains
 abbrev pub body_on : List ℕ → Chain → List ℕ
 body_on image c = take c.head.size (flat_map (λ block. slice_range image (block * 1024 + 2) (block * 1024 + 1024)) c.blocks)
 
-abbrev pub change_on : List ℕ → Chain → Change
+abbrev pub change_on : List ℕ → Chain → StoreChange
 change_on image c = record { uid = c.head.uid; body = Some (body_on image c); mark = c.head.sequence; wrote = [] }
 
 -- the values on these chains, or the place of the head whose chain is damaged
-abbrev pub changes_on : List ℕ → List Chain → Result (List Change) ℕ
+abbrev pub changes_on : List ℕ → List Chain → Result (List StoreChange) ℕ
 changes_on image [] = Ok []
 changes_on image (c ∷ cs) = if c.whole then with_record (change_on image c) (changes_on image cs) else Err (head_place c.head.number)
 

@@ -8,25 +8,25 @@ use Rattle.std.specs.BTreeMap.{BTreeMap}
 use Rattle.capability.specs.declared.Uid.{Uid}
 use Rattle.capability.specs.Uids.{uid_cmp}
 use Rattle.block_tables.specs.declared.heads.HeadFields.{HeadFields}
-use Rattle.block_tables.specs.declared.index.Entry.{Entry}
+use Rattle.block_tables.specs.declared.index.IndexEntry.{IndexEntry}
 use Rattle.block_tables.specs.declared.head_table.HeadTable.{HeadTable}
 use Rattle.block_tables.specs.Members.{is_member}
 use Rattle.block_tables.specs.Blocks.{Head}
 use Rattle.block_tables.specs.HeadSeen.{head_of}
 
 -- the entry of a uid, or an empty one
-abbrev pub no_entry : Entry
+abbrev pub no_entry : IndexEntry
 no_entry = record { latest = None; others = 0 }
 
-abbrev pub entry_or_none : Option Entry → Entry
+abbrev pub entry_or_none : Option IndexEntry → IndexEntry
 entry_or_none None = no_entry
 entry_or_none (Some entry) = entry
 
-abbrev pub entry_at : BTreeMap Uid Entry → Uid → Entry
+abbrev pub entry_at : BTreeMap Uid IndexEntry → Uid → IndexEntry
 entry_at index uid = entry_or_none (tree.get uid_cmp index uid)
 
 -- an index after one of its entries was set
-abbrev pub SetsEntry : BTreeMap Uid Entry → BTreeMap Uid Entry → Uid → Entry → Type 0
+abbrev pub SetsEntry : BTreeMap Uid IndexEntry → BTreeMap Uid IndexEntry → Uid → IndexEntry → Type 0
 SetsEntry old new uid entry = (q : Uid) → entry_at new q ≡ cond (eq_by_cmp uid_cmp q uid) entry (entry_at old q)
 
 -- a number under which no head is open
@@ -62,7 +62,7 @@ one_if_some None = 0
 one_if_some (Some n) = 1
 
 -- The entry of a uid says which of its open heads counts, and how many there are beside it.
-abbrev pub IsEntryOf : List HeadFields → Uid → Entry → Type 0
+abbrev pub IsEntryOf : List HeadFields → Uid → IndexEntry → Type 0
 IsEntryOf slots uid entry = IsLatest slots uid entry.latest × (entry.others + one_if_some entry.latest ≡ count_of slots uid)
 
 -- What holds of the heads in memory at any moment.
@@ -91,13 +91,13 @@ is_it k None = false
 is_it k (Some n) = k == n
 
 -- the entry of its uid once a new head is open, and once one is closed
-abbrev pub joined_entry : List HeadFields → HeadFields → Entry → Entry
+abbrev pub joined_entry : List HeadFields → HeadFields → IndexEntry → IndexEntry
 joined_entry slots head entry = record {
   latest = if is_late slots head entry.latest then Some head.number else entry.latest;
   others = entry.others + one_if_some entry.latest;
 }
 
-abbrev pub closed_entry : ℕ → Entry → Entry
+abbrev pub closed_entry : ℕ → IndexEntry → IndexEntry
 closed_entry number entry = if is_it number entry.latest then no_entry else record { latest = entry.latest; others = entry.others - 1 }
 
 -- the value of the head that counts
@@ -106,7 +106,7 @@ kept_slot slots None = None
 kept_slot slots (Some n) = if (slot_at slots n).removal then None else Some (slot_at slots n)
 
 -- a removal that is the only open head of its uid
-abbrev pub is_lone : List HeadFields → ℕ → Entry → Bool
+abbrev pub is_lone : List HeadFields → ℕ → IndexEntry → Bool
 is_lone slots k entry = is_open (slot_at slots k) && (is_it k entry.latest && ((slot_at slots k).removal && entry.others == 0))
 
 -- the removal that is the only open head of its uid, by the entry of that
@@ -114,7 +114,7 @@ abbrev pub lone_by : List HeadFields → Option ℕ → ℕ → Option ℕ
 lone_by slots None others = None
 lone_by slots (Some n) others = if (slot_at slots n).removal && others == 0 then Some n else None
 
-abbrev pub lone_in : List HeadFields → Entry → Option ℕ
+abbrev pub lone_in : List HeadFields → IndexEntry → Option ℕ
 lone_in slots entry = lone_by slots entry.latest entry.others
 
 -- What a read answers of an open head, whatever the disk tells.

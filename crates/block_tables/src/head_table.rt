@@ -11,7 +11,7 @@ ghost use Rattle.block_tables.specs.HeadState.{AreHeads, closed_slot, entry_at, 
 ghost use Rattle.block_tables.specs.HeadState.{slot_at, one_if_some, closed_entry, lone_in};
 
 use crate::heads::HeadFields;
-use crate::index::{Entry, find_entry, make_entry, set_entry};
+use crate::index::{IndexEntry, find_entry, make_entry, set_entry};
 use crate::number_set::NumberSet;
 use crate::peaks::Peaks;
 use capability::Uid;
@@ -22,7 +22,7 @@ use std::collections::BTreeMap;
 #[derive(Drop)]
 pub struct HeadTable {
     /// Of each uid the head that counts.
-    pub index: BTreeMap<Uid, Entry>,
+    pub index: BTreeMap<Uid, IndexEntry>,
     /// By its number what an open head says; where none is open the sequence is 0.
     pub slots: Vec<HeadFields>,
     /// By the number of a head its sequence.
@@ -83,7 +83,7 @@ impl HeadTable {
     }
 
     /// Whether an entry has a head that keeps a value, and its uid is that of an Eject of the node.
-    pub fn keeps_eject(&self, uid: Uid, entry: Entry, node: u8) -> bool
+    pub fn keeps_eject(&self, uid: Uid, entry: IndexEntry, node: u8) -> bool
         requires { IfSome entry.latest (λ n. n < length self.now.slots.items) }
         ensures { result ≡ (is_some (kept_slot self.now.slots.items entry.latest) && is_eject node uid) }
     {
@@ -239,7 +239,7 @@ impl HeadTable {
     }
 
     /// The removal that is the only open head of its uid, by the entry of that.
-    fn lone_in(&self, entry: Entry) -> Option<u32>
+    fn lone_in(&self, entry: IndexEntry) -> Option<u32>
         requires heads { AreHeads self.now }
         requires latest { IfSome entry.latest (λ n. n < length self.now.slots.items) }
         ensures lone { result ≡ lone_in self.now.slots.items entry }
@@ -325,7 +325,7 @@ impl HeadTable {
 }
 
 /// The entry of a uid once a new head of it is open, which is later than the one that counted or not.
-fn joined_entry(entry: Entry, late: bool, number: u32) -> Entry
+fn joined_entry(entry: IndexEntry, late: bool, number: u32) -> IndexEntry
     requires { entry.others ≤ 65536 }
     ensures { result ≡ record {
       latest = if late then Option.Some number else entry.latest;
@@ -337,7 +337,7 @@ fn joined_entry(entry: Entry, late: bool, number: u32) -> Entry
         None => entry.others,
     };
     let latest = if late { Some(number) } else { entry.latest };
-    Entry { latest, others }
+    IndexEntry { latest, others }
 }
 
 /// What stands under a number where no head is open.
@@ -360,7 +360,7 @@ fn closed_slot() -> HeadFields
 }
 
 /// The entry of a uid once a head of it is closed.
-fn closed_entry(entry: Entry, number: u32) -> Entry
+fn closed_entry(entry: IndexEntry, number: u32) -> IndexEntry
     requires { is_it number entry.latest ≡ false → 1 ≤ entry.others }
     ensures { result ≡ closed_entry number entry }
 {
@@ -369,12 +369,12 @@ fn closed_entry(entry: Entry, number: u32) -> Entry
         None => false,
     };
     if is_latest {
-        Entry {
+        IndexEntry {
             latest: None,
             others: 0,
         }
     } else {
-        Entry {
+        IndexEntry {
             latest: entry.latest,
             others: entry.others - 1,
         }

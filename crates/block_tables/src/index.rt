@@ -10,7 +10,7 @@ use std::collections::BTreeMap;
 
 /// The number of the open head of a uid that counts, and how many open heads it has beside it.
 #[derive(Clone, Copy, Debug, PartialEq, Eq)]
-pub struct Entry {
+pub struct IndexEntry {
     /// The number of the open head that counts.
     pub latest: Option<u32>,
     /// How many open heads the uid has beside it.
@@ -18,7 +18,7 @@ pub struct Entry {
 }
 
 /// Makes an empty entry for a uid that has none.
-pub fn make_entry(index: &mut BTreeMap<Uid, Entry>, uid: Uid) -> Result<(), AllocError>
+pub fn make_entry(index: &mut BTreeMap<Uid, IndexEntry>, uid: Uid) -> Result<(), AllocError>
     ensures entries { (q : _) → entry_at index.new q ≡ entry_at index.old q }
     ensures entry { OnOk result (IsSome (tree.get uid_cmp index.new uid)) }
     ensures keys { (q : _) → IsSome (tree.get uid_cmp index.old q) → IsSome (tree.get uid_cmp index.new q) }
@@ -26,7 +26,7 @@ pub fn make_entry(index: &mut BTreeMap<Uid, Entry>, uid: Uid) -> Result<(), Allo
     if !index.contains_key(&uid) {
         index.insert(
             uid,
-            Entry {
+            IndexEntry {
                 latest: None,
                 others: 0,
             },
@@ -36,7 +36,7 @@ pub fn make_entry(index: &mut BTreeMap<Uid, Entry>, uid: Uid) -> Result<(), Allo
 }
 
 /// Sets the entry of a uid that has one.
-pub fn set_entry(index: &mut BTreeMap<Uid, Entry>, uid: Uid, entry: Entry)
+pub fn set_entry(index: &mut BTreeMap<Uid, IndexEntry>, uid: Uid, entry: IndexEntry)
     requires { IsSome (tree.get uid_cmp index.old uid) }
     ensures sets { SetsEntry index.old index.new uid entry }
     ensures keys { (q : _) → IsSome (tree.get uid_cmp index.old q) → IsSome (tree.get uid_cmp index.new q) }
@@ -45,12 +45,12 @@ pub fn set_entry(index: &mut BTreeMap<Uid, Entry>, uid: Uid, entry: Entry)
 }
 
 /// The entry of a uid, or an empty one.
-pub fn find_entry(index: &BTreeMap<Uid, Entry>, uid: Uid) -> Entry
+pub fn find_entry(index: &BTreeMap<Uid, IndexEntry>, uid: Uid) -> IndexEntry
     ensures { result ≡ entry_at index.now uid }
 {
     match index.get(&uid) {
         Some(entry) => *entry,
-        None => Entry {
+        None => IndexEntry {
             latest: None,
             others: 0,
         },

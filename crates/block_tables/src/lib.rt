@@ -15,7 +15,7 @@ pub use heads::{
     BLOCK, CLOSED, DATA, HeadFields, LAST_SEQUENCE, OPEN, blocks_of, head_place, is_block_size,
     read_gate, read_head, read_next, spell_head, write_block, write_gate, write_head,
 };
-pub use index::Entry;
+pub use index::IndexEntry;
 pub use number_set::NumberSet;
 pub use peaks::Peaks;
 pub use table::Table;

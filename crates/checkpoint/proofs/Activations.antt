@@ -8,7 +8,7 @@ use Rattle.capability.specs.declared.Uid.{Uid}
 use Rattle.eden_value.specs.Datum.{Datum}
 use Rattle.eden_codec.specs.declared.rep.Rep.{Rep}
 use Rattle.eden_codec.specs.Reading.{reading}
-use Rattle.eden_codec.specs.Spells.{Spells}
+use Rattle.eden_codec.specs.Spells.{SpellsRep}
 use Rattle.eden_codec.proofs.Whole.{reading_spelled, spelled_reading}
 use Rattle.eden_model.specs.Map.{with_item, first, same_uid}
 use Rattle.epl_syntax.specs.Edentype.{Edentype}
@@ -17,7 +17,7 @@ use Rattle.eden_disk.specs.Told.{contents, Left}
 use Rattle.passive_store.specs.declared.store.Pick.{Pick}
 use Rattle.passive_store.specs.Kept.{Layout, Kept, Work, Idle, Busy, Unsettled, LeavesKept, IsAnyOf, is_unsettled, worked_on, doubt_in}
 use Rattle.passive_store.specs.Kept.{changes_in, body_at, kept_after}
-use Rattle.passive_store.specs.Kept.{Change as StoreChange}
+use Rattle.passive_store.specs.Kept.{StoreChange}
 use Rattle.passive_store.specs.Layout.{IsLayout}
 use Rattle.passive_store.specs.Seen.{Seen}
 use Rattle.journal.specs.declared.event.StartEnd.{StartEnd}
@@ -86,11 +86,11 @@ short-at layout n m t requests x bytes same h f = f (subst (λ k. StandsNow layo
 
 -- 2. What bytes start
 
-pub starts-rep : (types : List Edentype) (bytes : List ℕ) (me : Uid) (rep : Rep) → Spells bytes rep
+pub starts-rep : (types : List Edentype) (bytes : List ℕ) (me : Uid) (rep : Rep) → SpellsRep bytes rep
     → start_of types bytes me ≡ started_from types rep me
 starts-rep types bytes me rep spells = ap (λ o. with_item o (λ r. started_from types r me) None) (spelled_reading bytes rep spells)
 
-pub starts-none : (types : List Edentype) (bytes : List ℕ) (me : Uid) → ((rep : Rep) → Spells bytes rep → ⊥)
+pub starts-none : (types : List Edentype) (bytes : List ℕ) (me : Uid) → ((rep : Rep) → SpellsRep bytes rep → ⊥)
     → start_of types bytes me ≡ None
 starts-none types bytes me none = go (reading bytes) refl
   where

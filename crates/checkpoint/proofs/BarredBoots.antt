@@ -13,7 +13,7 @@ use Rattle.passive_store.specs.declared.store.StoreRefusal.{StoreRefusal}
 use Rattle.passive_store.specs.declared.store.StoreRefusal.TheVariants as refusal
 use Rattle.passive_store.specs.Kept.{Layout, Kept}
 use Rattle.passive_store.specs.Layout.{IsLayout}
-use Rattle.journal.specs.Change.{Change}
+use Rattle.journal.specs.EjectChange.{EjectChange}
 use Rattle.journal.specs.declared.event.BootEnd.{BootEnd}
 use Rattle.journal.specs.declared.event.BootEnd.TheVariants as end
 use Rattle.journal.specs.World.{Site, on_node}
@@ -33,7 +33,7 @@ use Rattle.checkpoint.proofs.Openings.{RefusedOnce, last-moment, is-allowed}
 
 -- 1. Each image stands for the state of the node, whatever is put besides
 
-bar-stands : (layout : Layout) (n : ℕ) (s : Site) (bar : Bar) (put : List (Uid × Change)) (image : List ℕ) → KnowsBar bar n s
+bar-stands : (layout : Layout) (n : ℕ) (s : Site) (bar : Bar) (put : List (Uid × EjectChange)) (image : List ℕ) → KnowsBar bar n s
     → IsBarred bar layout n image
     → Stands layout n (with_changes put (state_of n s.node)) image
 bar-stands layout n s (damaged place) put image knows is =

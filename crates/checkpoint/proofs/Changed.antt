@@ -11,8 +11,8 @@ use Rattle.eden_model.proofs.Laws.{eq-same}
 use Rattle.passive_store.specs.declared.store.Pick.{Pick}
 use Rattle.passive_store.specs.declared.store.Pick.TheVariants as pick
 use Rattle.passive_store.specs.Kept.{Layout, Kept, kept_after, bodies_after}
-use Rattle.passive_store.specs.Kept.{Change as StoreChange}
-use Rattle.journal.specs.Change.{kept_of}
+use Rattle.passive_store.specs.Kept.{StoreChange}
+use Rattle.journal.specs.EjectChange.{kept_of}
 use Rattle.journal.specs.World.{Site, Node, Eject, StoreRequest, eject_in, on_eject, on_node}
 use Rattle.journal.specs.Settling.{epoch_uid, doubts, settled_eject, settled_epoch, settled_ledger, settled, all_written, written_with}
 use Rattle.journal.specs.Stores.{doubted, stored}

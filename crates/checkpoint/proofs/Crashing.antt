@@ -8,7 +8,7 @@ use Rattle.eden_disk.proofs.Timed.{timed_cut}
 use Rattle.passive_store.specs.declared.store.Doubt.{Doubt}
 use Rattle.passive_store.specs.Kept.{Layout, Kept, Work, Idle, Busy, Unsettled, doubt_in, change_in, changes_in, unsure_in}
 use Rattle.passive_store.specs.Kept.{uid_of_change, IsFresh}
-use Rattle.passive_store.specs.Kept.{Change as StoreChange, Stands as StandsKept}
+use Rattle.passive_store.specs.Kept.{StoreChange, Stands as StandsKept}
 use Rattle.std.specs.FinMap as finite
 use Rattle.journal.specs.World.{Site, StoreRequest}
 use Rattle.journal.specs.Crashes.{crashed}

@@ -5,9 +5,9 @@ use Rattle.std.specs.List.{filter_map}
 use Rattle.capability.specs.declared.Uid.{Uid}
 use Rattle.eden_model.specs.Map.{same_uid, value_at, uid_cmp}
 use Rattle.passive_store.specs.Kept.{Layout, Work, Idle, Busy, Unsettled, doubt_in}
-use Rattle.passive_store.specs.Kept.{Change as StoreChange}
+use Rattle.passive_store.specs.Kept.{StoreChange}
 use Rattle.passive_store.specs.Acts.{DiskCall}
-use Rattle.journal.specs.Change.{Change, body, removal}
+use Rattle.journal.specs.EjectChange.{EjectChange, body, removal}
 use Rattle.journal.specs.World.{Site, Node, Eject, StoreRequest, on_node}
 use Rattle.journal.specs.Ejects.{dropped_of}
 use Rattle.journal.specs.Stores.{removed}
@@ -166,7 +166,7 @@ shift-clock g k s t shift = record {
   in_order = shift.in_order;
 }
 
-pub stands-removed : (layout : Layout) (n k : ℕ) (c : Change) (u : Uid) (next : Site) (requests : List StoreRequest) (x : Seen)
+pub stands-removed : (layout : Layout) (n k : ℕ) (c : EjectChange) (u : Uid) (next : Site) (requests : List StoreRequest) (x : Seen)
     → StandsNow layout n (with_clock k next) requests x
     → StandsNow layout n (with_clock k (removed c u next)) (removed_requests c (is_active_in next u) u requests) x
 stands-removed layout n k (body bytes) u next requests x h = stands-same layout n (with_clock k next)

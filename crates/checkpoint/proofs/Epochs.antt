@@ -19,8 +19,8 @@ use Rattle.passive_store.specs.Kept.{Layout, Kept, Idle, Busy, Unsettled, kept_a
 use Rattle.passive_store.specs.Kept.{settled as settled_kept, work_settled, IsFresh, IsDiskRefusal, LeavesKept, StandsThrough, Ran}
 use Rattle.passive_store.specs.Kept.{end_of_store, reserved_uid, work_finished, kept_finished, calls_left}
 use Rattle.passive_store.specs.Kept.{finds_room as finds_shown_room}
-use Rattle.passive_store.specs.Kept.{Change as StoreChange, Stands as StandsKept}
-use Rattle.journal.specs.Change.{body}
+use Rattle.passive_store.specs.Kept.{StoreChange, Stands as StandsKept}
+use Rattle.journal.specs.EjectChange.{body}
 use Rattle.journal.specs.declared.event.BootEnd.TheVariants as end
 use Rattle.journal.specs.World.{Site, on_node}
 use Rattle.journal.specs.Ejects.{stored_epoch}

@@ -12,7 +12,7 @@ use Rattle.eden_model.specs.Map.{where_key, same_uid}
 use Rattle.eden_disk.specs.Told.{Told, EachMoment, LeavesOnly, contents}
 use Rattle.eden_disk.proofs.Held.{moments_weaker}
 use Rattle.passive_store.specs.Kept.{Layout, Kept, bodies_after, kept_after}
-use Rattle.passive_store.specs.Kept.{Change as StoreChange, IsAnyOf as IsAnyKept, Stands as StandsKept}
+use Rattle.passive_store.specs.Kept.{StoreChange, IsAnyOf as IsAnyKept, Stands as StandsKept}
 use Rattle.journal.specs.Opening.{entries_of}
 use Rattle.journal.specs.Standing.{Stands, IsAnyOf, changed_map}
 use Rattle.checkpoint.specs.Found.{change_of, all_of, standing_of}

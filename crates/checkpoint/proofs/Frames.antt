@@ -8,8 +8,8 @@ use Rattle.capability.specs.declared.Uid.{Uid}
 use Rattle.capability.proofs.Uids.{uid_cmp_total, uid_cmp-IsAntisymmetric}
 use Rattle.eden_model.specs.Map.{with_item, uid_cmp, value_at, first}
 use Rattle.passive_store.specs.Kept.{Layout, Kept, changes_in, body_at}
-use Rattle.passive_store.specs.Kept.{Change as StoreChange, finds_room as finds_shown_room}
-use Rattle.journal.specs.Change.{Change, kept_of}
+use Rattle.passive_store.specs.Kept.{StoreChange, finds_room as finds_shown_room}
+use Rattle.journal.specs.EjectChange.{EjectChange, kept_of}
 use Rattle.journal.specs.World.{Site, Node, Eject, StoreRequest, eject_in, on_node}
 use Rattle.journal.specs.Settling.{epoch_uid, in_doubt, kept_map, room, finds_room}
 use Rattle.journal.specs.Stores.{syncs, reads, unkept, without_room, calls, first_work, work_of, is_kept_in, needs_calls}
@@ -156,7 +156,7 @@ from-entries : (m : FinMap uid_cmp (List ℕ)) → finite.from_entries (finite.e
 from-entries m = finite.same_map uid_cmp_total uid_cmp-IsAntisymmetric (finite.from_entries (finite.entries m)) m
     (λ q. finite.get-from_entries uid_cmp_total (finite.entries m) q ∙ sym (finite.get-entries m q))
 
-pub room-is : (layout : Layout) (n size : ℕ) (s : Site) (shown : Kept) (d : Option StoreChange) (u : Uid) (c : Change) → s.number ≡ n
+pub room-is : (layout : Layout) (n size : ℕ) (s : Site) (shown : Kept) (d : Option StoreChange) (u : Uid) (c : EjectChange) → s.number ≡ n
     → s.layout ≡ layout → s.node.size ≡ size → MapStands n s shown d
     → finds_room u c s ≡ finds_shown_room layout size shown u (kept_of c)
 room-is layout n size s shown d u c number its_layout its_size m =

@@ -9,7 +9,7 @@ use Rattle.eden_model.specs.Map.{with_item}
 use Rattle.eden_disk.specs.Told.{Told, EachMoment}
 use Rattle.eden_disk.specs.Timed.{Timed}
 use Rattle.passive_store.specs.Kept.{Layout}
-use Rattle.journal.specs.Change.{Change}
+use Rattle.journal.specs.EjectChange.{EjectChange}
 use Rattle.journal.specs.declared.event.Entry.{Entry}
 use Rattle.journal.specs.World.{World, Node, node_at}
 use Rattle.journal.specs.Run.{Position, Step, steps, end_of, lead}
@@ -22,7 +22,7 @@ state-at w n it is = ap (λ o. with_item o (λ x. state_of n x) (record { kept =
 
 -- 1. An entry on the disk of node n
 
-pub lift-node : (layout : Layout) (n : ℕ) (s : Step) (it later : Node) (put : List (Uid × Change)) (old new : Told) (before after : ℕ)
+pub lift-node : (layout : Layout) (n : ℕ) (s : Step) (it later : Node) (put : List (Uid × EjectChange)) (old new : Told) (before after : ℕ)
     → node_at s.world n ≡ Some it → node_at s.later n ≡ Some later → epoch_put n s.world s.entry.event ≡ put
     → ((s.entry.node == n) ≡ true → s.entry.clock ≡ after) → ((s.entry.node == n) ≡ false → after ≡ before)
     → NodeOnDisk layout n it put later old before new after → StepOnDisk layout n s old before new after

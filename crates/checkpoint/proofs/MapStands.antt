@@ -14,7 +14,7 @@ use Rattle.capability.proofs.Uids.{uid_cmp_total, uid_cmp-IsAntisymmetric}
 use Rattle.eden_model.specs.Map.{with_item, value_at, uid_cmp}
 use Rattle.eden_model.proofs.Laws.{eq-same}
 use Rattle.passive_store.specs.Kept.{Kept, changes_in}
-use Rattle.passive_store.specs.Kept.{Change as StoreChange}
+use Rattle.passive_store.specs.Kept.{StoreChange}
 use Rattle.journal.specs.World.{Node, Site, Eject}
 use Rattle.journal.specs.Settling.{epoch_uid, epoch_doubts, epoch_entries, doubt_entry, kept_entry, doubts, kept_map}
 use Rattle.journal.specs.Standing.{kept_of_node}

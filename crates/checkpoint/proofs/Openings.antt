@@ -19,8 +19,8 @@ use Rattle.passive_store.specs.Kept.{Layout, Kept, Idle, kept_after, changes_in,
 use Rattle.passive_store.specs.Kept.{IsDamagedFrom}
 use Rattle.passive_store.specs.Layout.{IsLayout}
 use Rattle.passive_store.specs.Seen.{Seen, DiskSeen, Opens, opened}
-use Rattle.passive_store.specs.Kept.{Change as StoreChange, Stands as StandsKept, IsAnyOf as IsAnyKept}
-use Rattle.journal.specs.Change.{Change}
+use Rattle.passive_store.specs.Kept.{StoreChange, Stands as StandsKept, IsAnyOf as IsAnyKept}
+use Rattle.journal.specs.EjectChange.{EjectChange}
 use Rattle.journal.specs.World.{Site, on_node}
 use Rattle.journal.specs.Settling.{settled}
 use Rattle.journal.specs.Standing.{Stands, with_changes}
@@ -60,7 +60,7 @@ clock-rises : (made : ℕ) (before after : Counts) → 1 ≤ made → DeviceCall
 clock-rises made before after some d = omega (arith, d.clock, d.counted, some)
 
 opening-stretch : (layout : Layout) (n more : ℕ) (s next : Site) (kept : Kept) (d : Option StoreChange) (told : Told) (counts : Counts)
-    (y : Seen) (put : List (Uid × Change))
+    (y : Seen) (put : List (Uid × EjectChange))
     → MapStands n s kept d → MapStands n next y.kept None → LeavesOnly (StandsKept layout n more kept (changes_in d)) (contents told)
     → OpenedOnce layout n told counts y
     → 1 ≤ length (layout.opening_calls n (contents told).now)

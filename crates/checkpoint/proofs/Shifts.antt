@@ -13,7 +13,7 @@ use Rattle.eden_model.specs.Traffic.{Traffic, all_replied, orphaned}
 use Rattle.eden_model.specs.Crew.{running}
 use Rattle.epl_syntax.specs.declared.effect.Answer.{Answer}
 use Rattle.epl_syntax.specs.declared.effect.Answer.TheVariants.{Code}
-use Rattle.journal.specs.Change.{Change, body, removal}
+use Rattle.journal.specs.EjectChange.{EjectChange, body, removal}
 use Rattle.journal.specs.World.{Site, Node, Eject, Active, StoreRequest, eject_in, on_eject, on_node, on_traffic}
 use Rattle.journal.specs.Ejects.{with_active, with_queued, on_active, told, tells, dropped_of, without_requests, deactivated, turned_away}
 use Rattle.journal.specs.Stores.{tells_code, request_ended, removed}
@@ -225,11 +225,11 @@ shift-deactivated v s = go (eject_in s v)
     go None = shift-same s
     go (Some e) = one e.active
 
-abbrev pub removed_requests : Change → Bool → Uid → List StoreRequest → List StoreRequest
+abbrev pub removed_requests : EjectChange → Bool → Uid → List StoreRequest → List StoreRequest
 removed_requests (body bytes) active v rs = rs
 removed_requests removal active v rs = dropped_if active v rs
 
-pub shift-removed : (c : Change) (v : Uid) (s : Site) → Shift same_facts (removed_requests c (is_active_in s v) v) s (removed c v s)
+pub shift-removed : (c : EjectChange) (v : Uid) (s : Site) → Shift same_facts (removed_requests c (is_active_in s v) v) s (removed c v s)
 shift-removed (body bytes) v s = shift-same s
 shift-removed removal v s = shift-then same_facts same_facts (dropped_if (is_active_in s v) v) same_requests s (deactivated v s)
     (removed removal v s) (shift-deactivated v s) (shift-turned_away v status.Gone (deactivated v s))

@@ -16,7 +16,7 @@ use Rattle.passive_store.specs.declared.store.StoreRefusal.TheVariants as refusa
 use Rattle.passive_store.specs.Kept.{Layout, Kept, Work, Idle, Busy, Unsettled, LeavesKept, StandsThrough, doubt_in, change_in}
 use Rattle.passive_store.specs.Kept.{changes_in, is_unsettled, is_synced, IsDiskRefusal, body_at, settled as settled_kept, work_settled}
 use Rattle.passive_store.specs.Kept.{settling_of, settling_calls, Ran, IsFresh}
-use Rattle.passive_store.specs.Kept.{Change as StoreChange}
+use Rattle.passive_store.specs.Kept.{StoreChange}
 use Rattle.capability.specs.declared.Uid.{Uid}
 use Rattle.journal.specs.World.{Site, StoreRequest, on_node, on_traffic}
 use Rattle.journal.specs.Settling.{epoch_uid, in_doubt, is_working, to_settle, settled, unsynced}

@@ -16,8 +16,8 @@ use Rattle.passive_store.specs.declared.store.Pick.TheVariants as pick
 use Rattle.passive_store.specs.declared.store.Doubt.{Doubt}
 use Rattle.passive_store.specs.Kept.{Layout, Kept, Work, Idle, Busy, Unsettled, doubt_in, change_in, changes_in, is_synced, IsFresh}
 use Rattle.passive_store.specs.Kept.{LeavesKept, StandsThrough, settled as settled_kept, kept_after}
-use Rattle.passive_store.specs.Kept.{Change as StoreChange, Stands as StandsKept}
-use Rattle.journal.specs.Change.{kept_of}
+use Rattle.passive_store.specs.Kept.{StoreChange, Stands as StandsKept}
+use Rattle.journal.specs.EjectChange.{kept_of}
 use Rattle.journal.specs.declared.event.RequestEnd.{RequestEnd}
 use Rattle.journal.specs.declared.event.RequestEnd.TheVariants as end
 use Rattle.journal.specs.World.{Site, Eject, StoreRequest, eject_in, on_eject, on_node, on_traffic}

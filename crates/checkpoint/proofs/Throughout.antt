@@ -13,7 +13,7 @@ use Rattle.eden_disk.proofs.Moments.{since_is, each_moment_behind, each_moment_w
 use Rattle.eden_disk.specs.Timed.{Timed}
 use Rattle.eden_disk.proofs.Timed.{order_rises, timed_join, after_earlier, in_earlier, after_later, in_later}
 use Rattle.passive_store.specs.Kept.{Layout}
-use Rattle.journal.specs.Change.{Change}
+use Rattle.journal.specs.EjectChange.{EjectChange}
 use Rattle.journal.specs.declared.event.Entry.{Entry}
 use Rattle.journal.specs.World.{World}
 use Rattle.journal.specs.Opening.{found_in}
@@ -24,23 +24,23 @@ use Rattle.checkpoint.specs.Throughout.{state_in, StepOnDisk, RunOnDisk, EndsOnD
 
 -- 1. What stands goes on standing where more changes may have been made
 
-none-made : (kept : List (Uid × List ℕ)) (cs : List (Uid × Change)) (found : Result (List (Uid × List ℕ)) ℕ) → found ≡ Ok kept
+none-made : (kept : List (Uid × List ℕ)) (cs : List (Uid × EjectChange)) (found : Result (List (Uid × List ℕ)) ℕ) → found ≡ Ok kept
     → IsAnyOf kept cs found
 none-made kept [] found is = is
 none-made kept (c ∷ cs) found is = inl (none-made kept cs found is)
 
-more-made : (kept : List (Uid × List ℕ)) (cs more : List (Uid × Change)) (found : Result (List (Uid × List ℕ)) ℕ) → IsAnyOf kept cs found
-    → IsAnyOf kept (cs ++ more) found
+more-made : (kept : List (Uid × List ℕ)) (cs more : List (Uid × EjectChange)) (found : Result (List (Uid × List ℕ)) ℕ)
+    → IsAnyOf kept cs found → IsAnyOf kept (cs ++ more) found
 more-made kept [] more found is = none-made kept more found is
 more-made kept (c ∷ cs) more found (inl is) = inl (more-made kept cs more found is)
 more-made kept (c ∷ cs) more found (inr is) = inr (more-made (changed_map c kept) cs more found is)
 
-more-for : (kept : Option (List (Uid × List ℕ))) (cs more : List (Uid × Change)) (found : Result (List (Uid × List ℕ)) ℕ)
+more-for : (kept : Option (List (Uid × List ℕ))) (cs more : List (Uid × EjectChange)) (found : Result (List (Uid × List ℕ)) ℕ)
     → StandsFor kept cs found → StandsFor kept (cs ++ more) found
 more-for None cs more found is = is
 more-for (Some kept) cs more found is = more-made kept cs more found is
 
-pub stands-more : (layout : Layout) (n : ℕ) (more : List (Uid × Change)) (s : Standing) (image : List ℕ) → Stands layout n s image
+pub stands-more : (layout : Layout) (n : ℕ) (more : List (Uid × EjectChange)) (s : Standing) (image : List ℕ) → Stands layout n s image
     → Stands layout n (with_changes more s) image
 stands-more layout n more s image is = more-for s.kept s.changes more (found_in layout n image) is
 

@@ -19,7 +19,7 @@ use Rattle.passive_store.specs.Kept.{doubt_in, body_at, Ran, CallsMade, OpeningM
 use Rattle.passive_store.specs.Kept.{finds_room as finds_shown_room}
 use Rattle.passive_store.specs.Seen.{Seen, DiskSeen, Gets}
 use Rattle.passive_store.proofs.Joining.{end_alike}
-use Rattle.journal.specs.Change.{kept_of}
+use Rattle.journal.specs.EjectChange.{kept_of}
 use Rattle.journal.specs.World.{Site, StoreRequest}
 use Rattle.journal.specs.Settling.{epoch_uid}
 use Rattle.journal.specs.Step.{touches_start, touches_store}

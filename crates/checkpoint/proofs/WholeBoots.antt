@@ -14,7 +14,7 @@ use Rattle.passive_store.specs.declared.store.StoreRefusal.{StoreRefusal}
 use Rattle.passive_store.specs.declared.store.StoreRefusal.TheVariants as refusal
 use Rattle.passive_store.specs.Kept.{Layout, Idle, doubt_in, change_in, changes_in, is_synced, IsFresh, IsDiskRefusal, LeavesKept}
 use Rattle.passive_store.specs.Kept.{Stands as StandsKept}
-use Rattle.journal.specs.Change.{body}
+use Rattle.journal.specs.EjectChange.{body}
 use Rattle.journal.specs.declared.event.BootEnd.{BootEnd}
 use Rattle.journal.specs.declared.event.BootEnd.TheVariants as end
 use Rattle.journal.specs.World.{Site, on_node}

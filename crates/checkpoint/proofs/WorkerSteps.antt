@@ -16,10 +16,10 @@ use Rattle.passive_store.specs.Kept.{Layout, Kept, Work, Idle, Busy, Unsettled, 
 use Rattle.passive_store.specs.Kept.{is_synced, is_unsettled, is_busy, progress_at, settled, work_stepped, work_advanced, kept_advanced}
 use Rattle.passive_store.specs.Kept.{kept_after, NextTold, calls_left, change_in, unsure_in, body_at, IsFresh, IsJobOf, KeepsTelling}
 use Rattle.passive_store.specs.Kept.{finds_room as finds_shown_room}
-use Rattle.passive_store.specs.Kept.{Change as StoreChange}
+use Rattle.passive_store.specs.Kept.{StoreChange}
 use Rattle.journal.specs.declared.event.RequestEnd.{RequestEnd}
 use Rattle.journal.specs.declared.event.RequestEnd.TheVariants as end
-use Rattle.journal.specs.Change.{kept_of}
+use Rattle.journal.specs.EjectChange.{kept_of}
 use Rattle.journal.specs.World.{Site, StoreRequest}
 use Rattle.journal.specs.Settling.{epoch_uid}
 use Rattle.journal.specs.Stores.{calls, work_of, is_kept_in}

@@ -17,8 +17,8 @@ use Rattle.passive_store.specs.declared.store.Doubt.{Doubt}
 use Rattle.eden_model.proofs.Laws.{value-changed_same, value-changed_other}
 use Rattle.eden_disk.specs.Told.{Told}
 use Rattle.passive_store.specs.Kept.{Layout, Kept, Work, doubt_in}
-use Rattle.passive_store.specs.Kept.{Change as StoreChange}
-use Rattle.journal.specs.Change.{Change}
+use Rattle.passive_store.specs.Kept.{StoreChange}
+use Rattle.journal.specs.EjectChange.{EjectChange}
 use Rattle.journal.specs.declared.command.Command.{Command}
 use Rattle.journal.specs.declared.command.Command.TheVariants as command
 use Rattle.journal.specs.declared.event.BootEnd.{BootEnd}
@@ -107,7 +107,7 @@ itself n = eq-eqb n n refl
 abbrev pub Placed : Entry → ℕ → ℕ → ℕ → Type 0
 Placed e n before after = ((e.node ≡ n) × (e.clock ≡ after)) ⊎ ((e.node ≡ 0) × (after ≡ before))
 
-pub lift-entry : (layout : Layout) (n : ℕ) (w : World) (c : Option Command) (e : Entry) (it later : Node) (put : List (Uid × Change))
+pub lift-entry : (layout : Layout) (n : ℕ) (w : World) (c : Option Command) (e : Entry) (it later : Node) (put : List (Uid × EjectChange))
     (old new : Told) (before after : ℕ)
     → (n == 0) ≡ false → node_at w n ≡ Some it → node_at (happened w c e.event) n ≡ Some later → Placed e n before after
     → epoch_put n w e.event ≡ put
@@ -124,7 +124,7 @@ lift-entry layout n w c e it later put old new before after some is happens (inr
 
 -- a turn at a site
 pub lift-turn : (layout : Layout) (n : ℕ) (w : World) (c : Option Command) (e : Entry) (f : Site → Site) (it : Node)
-    (put : List (Uid × Change)) (old new : Told) (before after : ℕ)
+    (put : List (Uid × EjectChange)) (old new : Told) (before after : ℕ)
     → (n == 0) ≡ false → node_at w n ≡ Some it → happened w c e.event ≡ at_node n f w → Placed e n before after
     → epoch_put n w e.event ≡ put
     → NodeOnDisk layout n it put (f (site_of w n it)).node old before new after → StepOnDisk layout n (step_of w c e) old before new after
@@ -263,7 +263,7 @@ keeps-told n (q ∷ qs) w kept c k = keeps-told n qs _ kept c
     (keeps-one n q.0.node (tells q.0 q.1 (Answered status.Broken [])) w kept c (shift-tells q.0 q.1 (Answered status.Broken [])) k)
 
 pub lift-down : (layout : Layout) (n : ℕ) (w : World) (c : Option Command) (e : Entry) (f : Site → Site) (it : Node)
-    (put : List (Uid × Change)) (old new : Told) (before after : ℕ)
+    (put : List (Uid × EjectChange)) (old new : Told) (before after : ℕ)
     (noted : Option Doubt) (more size : ℕ)
     → (n == 0) ≡ false → node_at w n ≡ Some it → happened w c e.event ≡ crash_by n f w → (f (site_of w n it)).layout ≡ w.layout
     → Placed e n before after

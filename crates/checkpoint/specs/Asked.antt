@@ -5,7 +5,7 @@ use Rattle.eden_model.specs.Map.{first}
 use Rattle.eden_disk.specs.Calls.{Counts, DeviceCalls, End, Fine, AtFault, AtStop}
 use Rattle.passive_store.specs.declared.store.Doubt.{Doubt}
 use Rattle.passive_store.specs.Kept.{Layout, Kept, Work, Idle, Busy, Unsettled, doubt_in, IsEject}
-use Rattle.passive_store.specs.Kept.{Change as StoreChange}
+use Rattle.passive_store.specs.Kept.{StoreChange}
 use Rattle.passive_store.specs.Seen.{Seen, Asked}
 use Rattle.journal.specs.declared.event.RequestEnd.TheVariants as end
 use Rattle.journal.specs.World.{Site, StoreRequest}

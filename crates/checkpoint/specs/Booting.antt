@@ -10,9 +10,9 @@ use Rattle.passive_store.specs.declared.store.Doubt.{Doubt}
 use Rattle.passive_store.specs.declared.store.StoreRefusal.{StoreRefusal}
 use Rattle.passive_store.specs.declared.store.StoreRefusal.TheVariants as refusal
 use Rattle.passive_store.specs.Kept.{Layout, Kept, Idle, Unsettled, IsFresh, LeavesKept}
-use Rattle.passive_store.specs.Kept.{Change as StoreChange}
+use Rattle.passive_store.specs.Kept.{StoreChange}
 use Rattle.passive_store.specs.Seen.{Seen}
-use Rattle.journal.specs.Change.{Change, body}
+use Rattle.journal.specs.EjectChange.{EjectChange, body}
 use Rattle.journal.specs.World.{Site}
 use Rattle.journal.specs.Settling.{epoch_uid, epoch_bytes, in_doubt, settled, finds_room}
 use Rattle.journal.specs.Boots.{boot_turn}
@@ -40,16 +40,16 @@ pub record OpensTo (layout : Layout) (n more : ℕ) (s : Site) (old : Told) (bef
   -- and the room is told for as many changes
   pub told : more ≤ y.more
   pub stands : LeavesKept layout n y.more y.kept Idle y.disk.told
-  pub disk : (put : List (Uid × Change)) → NodeOnDisk layout n s.node put (settled p s).node old before y.disk.told y.disk.counts.clock
+  pub disk : (put : List (Uid × EjectChange)) → NodeOnDisk layout n s.node put (settled p s).node old before y.disk.told y.disk.counts.clock
   -- what stands behind the pick stands before it
-  pub back : (put : List (Uid × Change)) (image : List ℕ) → Stands layout n (with_changes put (state_of n (settled p s).node)) image
+  pub back : (put : List (Uid × EjectChange)) (image : List ℕ) → Stands layout n (with_changes put (state_of n (settled p s).node)) image
       → Stands layout n (with_changes put (state_of n s.node)) image
 
 -- or it was not: the disk refused a call, or there was no memory
 pub record NotOpened (layout : Layout) (n more : ℕ) (s : Site) (noted : Option Doubt) (old : Told) (before : ℕ) (new : Told)
     (after : Counts) : Type 0 where
   pub rests : RestStands layout n more (with_clock after.clock s) noted after.size after.clock new
-  pub disk : (put : List (Uid × Change)) → NodeOnDisk layout n s.node put s.node old before new after.clock
+  pub disk : (put : List (Uid × EjectChange)) → NodeOnDisk layout n s.node put s.node old before new after.clock
 
 -- a disk that stands for a node is not damaged and not overfull
 abbrev pub RefusedTo : Layout → ℕ → ℕ → Site → Option Doubt → Told → ℕ → StoreRefusal → Told → Counts → Type 0
@@ -64,7 +64,7 @@ RefusedTo layout n more s noted old before refusal.OutOfMemory new after = NotOp
 -- 3. The next epoch was put
 
 -- the put of this epoch
-abbrev pub epoch_entry : ℕ → ℕ → Uid × Change
+abbrev pub epoch_entry : ℕ → ℕ → Uid × EjectChange
 epoch_entry n e = (epoch_uid n, body (epoch_bytes e))
 
 -- the store keeps what the node keeps that is up

@@ -9,7 +9,7 @@ use Rattle.passive_store.specs.declared.store.Doubt.{Doubt}
 use Rattle.passive_store.specs.declared.store.StoreRefusal.{StoreRefusal}
 use Rattle.passive_store.specs.declared.store.StoreRefusal.TheVariants as refusal
 use Rattle.passive_store.specs.Kept.{Layout}
-use Rattle.journal.specs.Change.{Change}
+use Rattle.journal.specs.EjectChange.{EjectChange}
 use Rattle.journal.specs.declared.event.BootEnd.{BootEnd}
 use Rattle.journal.specs.declared.event.BootEnd.TheVariants as end
 use Rattle.journal.specs.World.{Site}
@@ -33,7 +33,7 @@ end_of_boot (refusal.Damaged place) = Some (end.Damaged place)
 end_of_boot refusal.OutOfMemory = None
 
 -- the epoch that a boot puts, or would put, after this pick
-abbrev pub put_after : ℕ → Site → Option Pick → List (Uid × Change)
+abbrev pub put_after : ℕ → Site → Option Pick → List (Uid × EjectChange)
 put_after n s p = put_behind n (stored_epoch (settled p s).node)
 
 -- the node is up
@@ -58,7 +58,7 @@ pub record BootsDown (layout : Layout) (n more : ℕ) (s : Site) (old : Told) (b
 -- there was no memory for the boot: at each moment what stood goes on standing, whatever may be put besides
 pub record BootsNot (layout : Layout) (n : ℕ) (s : Site) (old : Told) (before : ℕ) (new : Told) (after : ℕ) : Type 0 where
   pub timed : Timed before old after new
-  pub moments : (put : List (Uid × Change)) → EachMoment (Stands layout n (with_changes put (state_of n s.node))) old new
+  pub moments : (put : List (Uid × EjectChange)) → EachMoment (Stands layout n (with_changes put (state_of n s.node))) old new
 
 -- how a boot ended that did not bring its node up, and for how many more changes the room is told then
 abbrev pub FallsTo : Layout → ℕ → ℕ → Site → Told → ℕ → Option BootEnd → BootNote → Option Doubt → Told → Counts → Type 0

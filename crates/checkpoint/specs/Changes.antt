@@ -2,12 +2,12 @@
 use Rattle.std.specs.Prelude.{ℕ, List, Option, None}
 use Rattle.capability.specs.declared.Uid.{Uid}
 use Rattle.eden_model.specs.Map.{with_item}
-use Rattle.journal.specs.Change.{Change}
+use Rattle.journal.specs.EjectChange.{EjectChange}
 use Rattle.journal.specs.World.{Site, Eject, eject_in}
 
 -- what is kept of an Eject, and what is in doubt
 abbrev pub Facts : Type 0
-Facts = Option (List ℕ) × Option Change
+Facts = Option (List ℕ) × Option EjectChange
 
 -- nothing is kept, and nothing in doubt
 abbrev pub no_facts : Facts

@@ -8,8 +8,8 @@ use Rattle.eden_model.specs.Map.{first, rest, value_at, uid_cmp, same_uid}
 use Rattle.eden_disk.specs.Told.{Told}
 use Rattle.passive_store.specs.Acts.{DiskCall}
 use Rattle.passive_store.specs.Kept.{Layout, Kept, Work, Idle, Busy, Unsettled, doubt_in, change_in, is_synced, IsFresh, LeavesKept}
-use Rattle.passive_store.specs.Kept.{Change as StoreChange}
-use Rattle.journal.specs.Change.{Change, body}
+use Rattle.passive_store.specs.Kept.{StoreChange}
+use Rattle.journal.specs.EjectChange.{EjectChange, body}
 use Rattle.journal.specs.World.{Node, Site, Eject, StoreRequest}
 use Rattle.journal.specs.Sites.{AllUnmade, AllThere}
 use Rattle.journal.specs.Settling.{epoch_uid, epoch_bytes, doubts}
@@ -25,7 +25,7 @@ abbrev pub state_of : ℕ → Node → Standing
 state_of n it = record { kept = kept_of_node n it; changes = doubts n it }
 
 -- from one node to another, where these changes may be under way in the entry besides
-abbrev pub NodeOnDisk : Layout → ℕ → Node → List (Uid × Change) → Node → Told → ℕ → Told → ℕ → Type 0
+abbrev pub NodeOnDisk : Layout → ℕ → Node → List (Uid × EjectChange) → Node → Told → ℕ → Told → ℕ → Type 0
 NodeOnDisk layout n it put later old before new after =
     Stretch (Stands layout n (state_of n it)) (Stands layout n (with_changes put (state_of n it))) (Stands layout n (state_of n later))
     old before new after
@@ -33,7 +33,7 @@ NodeOnDisk layout n it put later old before new after =
 -- 2. What is kept on a node, and what is in doubt, uid by uid
 
 -- what is in doubt of a uid, where this is the change in doubt
-abbrev pub doubt_of : Option StoreChange → Uid → Option Change
+abbrev pub doubt_of : Option StoreChange → Uid → Option EjectChange
 doubt_of None u = None
 doubt_of (Some c) u = cond (same_uid u c.uid) (Some (change_of c.body)) None
 
@@ -43,7 +43,7 @@ bytes_of_epoch None = None
 bytes_of_epoch (Some e) = Some (epoch_bytes e)
 
 -- and how it is put
-abbrev pub change_of_epoch : Option ℕ → Option Change
+abbrev pub change_of_epoch : Option ℕ → Option EjectChange
 change_of_epoch None = None
 change_of_epoch (Some e) = Some (body (epoch_bytes e))
 

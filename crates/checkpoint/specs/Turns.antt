@@ -6,7 +6,7 @@ use Rattle.passive_store.specs.declared.store.Pick.{Pick}
 use Rattle.passive_store.specs.declared.store.Doubt.{Doubt}
 use Rattle.passive_store.specs.Kept.{Layout, Kept, Work, Busy, doubt_in, changes_in, IsFresh}
 use Rattle.passive_store.specs.Acts.{DiskCall}
-use Rattle.passive_store.specs.Kept.{Change as StoreChange, Stands as StandsKept}
+use Rattle.passive_store.specs.Kept.{StoreChange, Stands as StandsKept}
 use Rattle.journal.specs.declared.event.RequestEnd.{RequestEnd}
 use Rattle.journal.specs.World.{Site, StoreRequest, on_node}
 use Rattle.journal.specs.Sites.{AllUnmade}

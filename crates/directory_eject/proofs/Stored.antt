@@ -26,7 +26,7 @@ use Rattle.epl_syntax.specs.Meaning.{values_from}
 use Rattle.epl_syntax.specs.Same.{same}
 use Rattle.epl_syntax.specs.Simple.{argument, text_in, cap_in, items_in}
 use Rattle.epl_syntax.proofs.SameText.{same_as_pointwise}
-use Rattle.directory_eject.specs.View.{Entry, names_in, held_in, vars_of}
+use Rattle.directory_eject.specs.View.{DirectoryEntry, names_in, held_in, vars_of}
 use Rattle.directory_eject.proofs.Begins.{text_again, cap_again}
 use Rattle.directory_eject.proofs.Turns.{named}
 
@@ -78,7 +78,7 @@ kind_at (e ∷ ds) s zero d h at = ap (λ k. has_shape k s) (sym (one_item e d a
 kind_at (e ∷ ds) s (suc i) d h at = kind_at ds s i d (second_so (has_shape e s) (have_shape ds s) h) at
 
 -- a name that none of the entries has is not in the map
-pub not_found : (n : List ℕ) (es : List Entry) → list_any (λ e. same e (text n)) (names_in es) ≡ false → lookup (named n) es ≡ None
+pub not_found : (n : List ℕ) (es : List DirectoryEntry) → list_any (λ e. same e (text n)) (names_in es) ≡ false → lookup (named n) es ≡ None
 not_found n [] h = refl
 not_found n (e ∷ es) h =
     let apart : named n e.0 ≡ false =
@@ -137,7 +137,7 @@ pub record AreStored (names held : List Datum) : Type 0 where
   pub differ : all_differ names ≡ true
 
 -- the map has the first of them, in order
-pub record HasFirst (es : List Entry) (i : ℕ) (names held : List Datum) : Type 0 where
+pub record HasFirst (es : List DirectoryEntry) (i : ℕ) (names held : List Datum) : Type 0 where
   pub names_are : names_in es ≡ take i names
   pub held_are : held_in es ≡ take i held
 
@@ -158,9 +158,9 @@ one_more names held stored m new i before within k c name_is held_is put =
     let added = put ∙ insert_entry-new same_name m k c (not_found k.items m.entries apart) in
     let next : suc i ≡ i + 1 = omega arith in
     record {
-      names_are = ap names_in added ∙ map-append (λ (e : Entry). text e.0.items) m.entries ((k, c) ∷ [])
+      names_are = ap names_in added ∙ map-append (λ (e : DirectoryEntry). text e.0.items) m.entries ((k, c) ∷ [])
           ∙ (λ j. before.names_are j ++ n j ∷ []) ∙ sym (take_next names i (argument i names) at) ∙ ap (λ l. take l names) next;
-      held_are = ap held_in added ∙ map-append (λ (e : Entry). cap e.1) m.entries ((k, c) ∷ [])
+      held_are = ap held_in added ∙ map-append (λ (e : DirectoryEntry). cap e.1) m.entries ((k, c) ∷ [])
           ∙ (λ j. before.held_are j ++ h j ∷ []) ∙ sym (take_next held i (argument i held) at_held) ∙ ap (λ l. take l held) next;
     }
 
@@ -219,7 +219,7 @@ are_stored ds kinds condition =
     }
 
 -- the map with all of them stands for the values
-pub all_there : (ds : List Datum) → AreOfKinds ds → are_entries ds ≡ true → (es : List Entry) (i : ℕ)
+pub all_there : (ds : List Datum) → AreOfKinds ds → are_entries ds ≡ true → (es : List DirectoryEntry) (i : ℕ)
     → HasFirst es i (items_in (argument 0 ds)) (items_in (argument 1 ds)) → length (items_in (argument 0 ds)) ≤ i → vars_of es ≡ ds
 all_there ds kinds condition es i has end =
     let names = items_in (argument 0 ds) in

@@ -26,7 +26,7 @@ use Rattle.epl_syntax.specs.Simple.{argument, returns_code}
 use Rattle.epl_syntax.specs.Directory.{Entries, entries, values_of, place_of, with_entry, without, without_entry}
 use Rattle.epl_syntax.specs.Directory.{Stage, adds, looks, deletes, changed, directory_turn}
 use Rattle.epl_syntax.proofs.SameText.{same_as_pointwise}
-use Rattle.directory_eject.specs.View.{Entry, names_in, held_in, vars_of}
+use Rattle.directory_eject.specs.View.{DirectoryEntry, names_in, held_in, vars_of}
 use Rattle.directory_eject.proofs.Begins.{chosen, passed}
 
 -- whether an entry has this name
@@ -66,37 +66,38 @@ map_without f i xs =
     next k = omega arith
 
 -- the names and the capabilities are found again in the variables
-entries_again : (es : List Entry) → entries (vars_of es) ≡ record { names = names_in es; held = held_in es }
+entries_again : (es : List DirectoryEntry) → entries (vars_of es) ≡ record { names = names_in es; held = held_in es }
 entries_again es = λ i. record { names = items_of-data_of (names_in es) i; held = items_of-data_of (held_in es) i }
 
-place_or_end : (n : List ℕ) (es : List Entry) → position_or_len (same (text n)) (names_in es) ≡ position_or_len (named n) (keys_of es)
+place_or_end : (n : List ℕ) (es : List DirectoryEntry)
+    → position_or_len (same (text n)) (names_in es) ≡ position_or_len (named n) (keys_of es)
 place_or_end n [] = refl
 place_or_end n (e ∷ es) = λ i. cond (not (same_as_pointwise n e.0.items i)) (1 + place_or_end n es i) 0
 
-as_many : (es : List Entry) → length (names_in es) ≡ length (keys_of es)
+as_many : (es : List DirectoryEntry) → length (names_in es) ≡ length (keys_of es)
 as_many [] = refl
 as_many (e ∷ es) = ap suc (as_many es)
 
-as_many_entries : (es : List Entry) → length (names_in es) ≡ length es
+as_many_entries : (es : List DirectoryEntry) → length (names_in es) ≡ length es
 as_many_entries [] = refl
 as_many_entries (e ∷ es) = ap suc (as_many_entries es)
 
 -- the names of the keys, and what the values hold
-pub names_of_keys : (es : List Entry) → map (λ k. text k.items) (keys_of es) ≡ names_in es
+pub names_of_keys : (es : List DirectoryEntry) → map (λ k. text k.items) (keys_of es) ≡ names_in es
 names_of_keys [] = refl
 names_of_keys (e ∷ es) = ap (λ l. text e.0.items ∷ l) (names_of_keys es)
 
-pub held_of_values : (es : List Entry) → map cap (maps.values_of es) ≡ held_in es
+pub held_of_values : (es : List DirectoryEntry) → map cap (maps.values_of es) ≡ held_in es
 held_of_values [] = refl
 held_of_values (e ∷ es) = ap (λ l. cap e.1 ∷ l) (held_of_values es)
 
 -- a name stands where the map finds it
-pub place : (n : List ℕ) (es : List Entry) → place_of (text n) (entries (vars_of es)) ≡ position (named n) (keys_of es)
+pub place : (n : List ℕ) (es : List DirectoryEntry) → place_of (text n) (entries (vars_of es)) ≡ position (named n) (keys_of es)
 place n es =
     ap (place_of (text n)) (entries_again es)
     ∙ (λ i. cond (nat_lt (place_or_end n es i) (as_many es i)) (Some (place_or_end n es i)) None)
 
-module _ (n : List ℕ) (es : List Entry) (a : Answer) where
+module _ (n : List ℕ) (es : List DirectoryEntry) (a : Answer) where
   pub add_there : (c : Option Cap) → is_some (position (named n) (keys_of es)) ≡ true
       → directory_turn (vars_of es) (adds (text n) (cap c)) a ≡ (vars_of es, changed, returns_code 1)
   add_there c h = is_there (place_of (text n) (entries (vars_of es))) _ _ (ap is_some (place n es) ∙ h)
@@ -117,8 +118,8 @@ module _ (n : List ℕ) (es : List Entry) (a : Answer) where
   look_there i k c h at =
       let found : argument i (entries (vars_of es)).held ≡ cap c =
       ap (λ (d : Entries). argument i d.held) (entries_again es)
-      ∙ ap (λ o. with_item o (λ d. d) (cap None)) (slice_get-map (λ (e : Entry). cap e.1) es i
-      ∙ ap (option_map (λ (e : Entry). cap e.1)) at) in
+      ∙ ap (λ o. with_item o (λ d. d) (cap None)) (slice_get-map (λ (e : DirectoryEntry). cap e.1) es i
+      ∙ ap (option_map (λ (e : DirectoryEntry). cap e.1)) at) in
       ap (λ ds. (vars_of es, changed, Return ds)) (some_item (place_of (text n) (entries (vars_of es))) i _ _ (place n es ∙ h)
       ∙ ap (λ d. number (pos 0) ∷ d ∷ []) found)
 
@@ -133,8 +134,8 @@ module _ (n : List ℕ) (es : List Entry) (a : Answer) where
       some_item (place_of (text n) (entries (vars_of es))) i _ _ (place n es ∙ h)
       ∙ ap (λ vs. (vs, changed, Checkpoint)) (ap (λ d. values_of (without_entry i d)) (entries_again es)
       ∙ ap values_of (λ j. record {
-        names = sym (map_without (λ (e : Entry). text e.0.items) i es) j;
-        held = sym (map_without (λ (e : Entry). cap e.1) i es) j;
+        names = sym (map_without (λ (e : DirectoryEntry). text e.0.items) i es) j;
+        held = sym (map_without (λ (e : DirectoryEntry). cap e.1) i es) j;
       }))
 
   pub delete_absent : position (named n) (keys_of es) ≡ None
@@ -142,7 +143,7 @@ module _ (n : List ℕ) (es : List Entry) (a : Answer) where
   delete_absent h = no_item (place_of (text n) (entries (vars_of es))) _ _ (place n es ∙ h)
 
 -- one more entry
-pub add_new : (es : List Entry) (a : Answer) (k : Vec ℕ Global) (c : Option Cap) → position (named k.items) (keys_of es) ≡ None
+pub add_new : (es : List DirectoryEntry) (a : Answer) (k : Vec ℕ Global) (c : Option Cap) → position (named k.items) (keys_of es) ≡ None
     → (length es == LIST_LIMIT) ≡ false
     → directory_turn (vars_of es) (adds (text k.items) (cap c)) a ≡ (vars_of (es ++ (k, c) ∷ []), changed, Checkpoint)
 add_new es a k c h few =
@@ -150,13 +151,13 @@ add_new es a k c h few =
     no_item (place_of (text n) (entries (vars_of es))) _ _ (place n es ∙ h) ∙ passed (full n es a) _ _ (full_is n es a ∙ few)
     ∙ ap (λ vs. (vs, changed, Checkpoint)) (ap (λ d. values_of (with_entry (text n) (cap c) d)) (entries_again es)
     ∙ ap values_of (λ j. record {
-      names = sym (map-append (λ (e : Entry). text e.0.items) es ((k, c) ∷ [])) j;
-      held = sym (map-append (λ (e : Entry). cap e.1) es ((k, c) ∷ [])) j;
+      names = sym (map-append (λ (e : DirectoryEntry). text e.0.items) es ((k, c) ∷ [])) j;
+      held = sym (map-append (λ (e : DirectoryEntry). cap e.1) es ((k, c) ∷ [])) j;
     }))
 
 -- ---- the same over the values that a directory is seen as
 
-module _ (es : List Entry) (v : List Datum) (seen : vars_of es ≡ v) (s : Stage) where
+module _ (es : List DirectoryEntry) (v : List Datum) (seen : vars_of es ≡ v) (s : Stage) where
   -- a turn that changes nothing
   pub stays : (e : Effect) → directory_turn (vars_of es) s Go ≡ (vars_of es, changed, e) → (r : Result Effect AllocError)
       → IfOk r (λ f. f ≡ e) → IfOk r (λ f. directory_turn v s Go ≡ (v, changed, f))

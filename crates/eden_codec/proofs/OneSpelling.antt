@@ -17,7 +17,7 @@ use Rattle.grammar.proofs.Numbers.{number_is, number_spelled}
 use Rattle.eden_codec.specs.declared.rep.Rep.{Rep}
 use Rattle.eden_value.specs.Bytes.{is_name_byte}
 use Rattle.eden_codec.specs.Form.{IsName, IsRep, RepInRange}
-use Rattle.eden_codec.specs.Spells.{SpellsInt, SpellsText, SpellsCap, SpellsValue, SpellsName, Spells}
+use Rattle.eden_codec.specs.Spells.{SpellsInt, SpellsText, SpellsCap, SpellsValue, SpellsName, SpellsRep}
 use Rattle.eden_codec.specs.Spelling.{text_spelling, cap_spelling, value_spelling, data_spelling, values_spelling, spelling}
 
 -- ---- no other spelling
@@ -86,7 +86,7 @@ name_is bytes (a ∷ more) s =
     s.2 ∙ ap (λ l. l ++ a ∷ s.1) (number_is 1 1 32 s.0 (suc (length more)) s.3)
     ∙ ap (λ l. bytes_high_first 1 (suc (length more)) ++ a ∷ l) (bytes_are is_name_byte (length more) s.1 more s.5)
 
-pub spelling_is : (bytes : List ℕ) (r : Rep) → Spells bytes r → bytes ≡ spelling r
+pub spelling_is : (bytes : List ℕ) (r : Rep) → SpellsRep bytes r → bytes ≡ spelling r
 spelling_is bytes r s =
     let n : s.name ≡ bytes_high_first 1 (length r.type_name) ++ r.type_name = name_is s.name r.type_name s.name_is in
     let v : s.version ≡ bytes_high_first 2 r.version = number_is 2 1 65535 _ _ s.version_is in
@@ -98,7 +98,7 @@ spelling_is bytes r s =
     three : {a b c a' b' c' : List ℕ} → a ≡ a' → b ≡ b' → c ≡ c' → a ++ (b ++ c) ≡ a' ++ (b' ++ c')
     three p q r = cc (p, q, r)
 
-pub one_spelling : (r : Rep) (x y : List ℕ) → Spells x r → Spells y r → x ≡ y
+pub one_spelling : (r : Rep) (x y : List ℕ) → SpellsRep x r → SpellsRep y r → x ≡ y
 one_spelling r x y s t = spelling_is x r s ∙ sym (spelling_is y r t)
 
 -- ---- a spelling
@@ -199,7 +199,7 @@ name_spelled (a ∷ more) n = (
   bytes_spelled is_name_byte more n.2,
 )
 
-pub spelled : (r : Rep) → IsRep r → RepInRange r → Spells (spelling r) r
+pub spelled : (r : Rep) → IsRep r → RepInRange r → SpellsRep (spelling r) r
 spelled r i a = record {
   name = bytes_high_first 1 (length r.type_name) ++ r.type_name;
   version = bytes_high_first 2 r.version;
@@ -279,7 +279,7 @@ name_has_form : (bytes name : List ℕ) → SpellsName bytes name → IsName nam
 name_has_form bytes [] s = absurd s
 name_has_form bytes (a ∷ more) s = (s.4, omega (arith, s.3.2), bytes_pass is_name_byte (length more) s.1 more s.5)
 
-pub spelled_has_form : (bytes : List ℕ) (r : Rep) → Spells bytes r → IsRep r × RepInRange r
+pub spelled_has_form : (bytes : List ℕ) (r : Rep) → SpellsRep bytes r → IsRep r × RepInRange r
 spelled_has_form bytes r s =
     let row = row_has_form 4 (length r.values) s.values_are.1 r.values s.values_are.4 in (
       record { name = name_has_form s.name r.type_name s.name_is; version = s.version_is.1; count = s.values_are.3.2; values = row.0 },

@@ -14,7 +14,7 @@ use Rattle.eden_codec.specs.declared.rep.Rep.{Rep}
 use Rattle.std.specs.Char.{is_ascii_uppercase}
 use Rattle.eden_value.specs.Bytes.{is_name_byte}
 use Rattle.eden_codec.specs.Reading.{row_at, value_at, name_at, rep_at, if_read, reading}
-use Rattle.eden_codec.specs.Spells.{SpellsRow, SpellsValue, SpellsName, Spells}
+use Rattle.eden_codec.specs.Spells.{SpellsRow, SpellsValue, SpellsName, SpellsRep}
 use Rattle.eden_codec.proofs.Values.{value_exact, value_begins}
 
 -- ---- the name
@@ -165,12 +165,12 @@ mark_is [] n s = absurd s.0
 mark_is (b ∷ []) n s = let e : b ≡ 1 = omega arith in ap (λ x. x ∷ []) e
 mark_is (b ∷ c ∷ bytes) n s = absurd s.0.1
 
-to_rep : (bytes : List ℕ) (r : Rep) → RepParts bytes r → Spells bytes r
+to_rep : (bytes : List ℕ) (r : Rep) → RepParts bytes r → SpellsRep bytes r
 to_rep bytes r t =
     let u = t.goes_on in
     let v = u.goes_on in
     let w = v.goes_on in
-    subst (λ x. Spells bytes x) (sym w.2) (record {
+    subst (λ x. SpellsRep bytes x) (sym w.2) (record {
       name = u.front;
       version = v.front;
       values = v.back;
@@ -181,7 +181,7 @@ to_rep bytes r t =
       values_are = w.1;
     })
 
-from_rep : (bytes : List ℕ) (r : Rep) → Spells bytes r → RepParts bytes r
+from_rep : (bytes : List ℕ) (r : Rep) → SpellsRep bytes r → RepParts bytes r
 from_rep bytes r s = record {
   front = 1 ∷ [];
   back = s.name ++ (s.version ++ s.values);
@@ -205,8 +205,8 @@ from_rep bytes r s = record {
   };
 }
 
-pub rep_exact : Exact Spells rep_at
-rep_exact = same_exact RepParts Spells rep_at
+pub rep_exact : Exact SpellsRep rep_at
+rep_exact = same_exact RepParts SpellsRep rep_at
     (then_exact (Number 1 1 1) RepName (number_at 1 1 1) name_then
     (number_exact 1 1 (omega arith) 1 (omega arith)) rep_name_exact rep_name_begins) to_rep from_rep
 
@@ -224,8 +224,8 @@ whole-if_read (Ok (b, [])) a e = let f : b ≡ a = cc in ap (λ x. Some x) f
 whole-if_read (Ok (b, c ∷ rest)) a e = absurd (cc)
 whole-if_read (Err left) a e = absurd (cc)
 
-pub reading_spelled : (bytes : List ℕ) (r : Rep) → reading bytes ≡ Some r → Spells bytes r
-reading_spelled bytes r e = spelled_whole Spells rep_at rep_exact bytes r (if_read-whole (rep_at bytes) r e)
+pub reading_spelled : (bytes : List ℕ) (r : Rep) → reading bytes ≡ Some r → SpellsRep bytes r
+reading_spelled bytes r e = spelled_whole SpellsRep rep_at rep_exact bytes r (if_read-whole (rep_at bytes) r e)
 
-pub spelled_reading : (bytes : List ℕ) (r : Rep) → Spells bytes r → reading bytes ≡ Some r
-spelled_reading bytes r s = whole-if_read (rep_at bytes) r (whole_spelled Spells rep_at rep_exact bytes r s)
+pub spelled_reading : (bytes : List ℕ) (r : Rep) → SpellsRep bytes r → reading bytes ≡ Some r
+spelled_reading bytes r s = whole-if_read (rep_at bytes) r (whole_spelled SpellsRep rep_at rep_exact bytes r s)

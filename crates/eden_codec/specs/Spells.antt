@@ -88,7 +88,7 @@ SpellsName bytes (a ∷ more) =
     × Times (length more) (OneOf is_name_byte) rest more
 
 -- the byte 1, the type's name and version, and the values
-pub record Spells (bytes : List ℕ) (r : Rep) : Type 0 where
+pub record SpellsRep (bytes : List ℕ) (r : Rep) : Type 0 where
   pub name : List ℕ
   pub version : List ℕ
   pub values : List ℕ

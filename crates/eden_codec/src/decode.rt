@@ -5,7 +5,7 @@ ghost use Rattle.grammar.specs.Reading.{whole};
 ghost use Rattle.grammar.specs.FirstBad.{FirstBad};
 ghost use Rattle.eden_codec.specs.Form.{IsRep};
 ghost use Rattle.eden_codec.specs.Reading.{rep_at};
-ghost use Rattle.eden_codec.specs.Spells.{Spells};
+ghost use Rattle.eden_codec.specs.Spells.{SpellsRep};
 
 use crate::rep::{Rep, name_of};
 use crate::value::items_of;
@@ -52,10 +52,10 @@ fn whole_rep(alloc: Global, bytes: &[u8]) -> Result<Rep, Stop>
 
 /// The representation that the bytes spell, all of them.
 pub fn decode_rep(alloc: Global, bytes: &[u8]) -> Result<Rep, DecodeRefusal>
-    ensures ok { IfOk result (λ rep. Spells bytes.now rep) }
+    ensures ok { IfOk result (λ rep. SpellsRep bytes.now rep) }
     ensures form { IfOk result IsRep }
     ensures too_large { (result ≡ Err DecodeRefusal.TooLarge) ↔ (BODY_LIMIT < length bytes.now) }
-    ensures not_rep { (place : ℕ) → result ≡ Err (DecodeRefusal.NotRep place) → FirstBad Spells bytes.now place }
+    ensures not_rep { (place : ℕ) → result ≡ Err (DecodeRefusal.NotRep place) → FirstBad SpellsRep bytes.now place }
 {
     if bytes.len() > BODY_LIMIT as usize {
         return Err(DecodeRefusal::TooLarge);

@@ -7,7 +7,7 @@ ghost use Rattle.eden_value.specs.View.{datum, datums};
 ghost use Rattle.eden_value.specs.Range.{CapInRange, InRange, AllInRange};
 ghost use Rattle.eden_codec.specs.declared.encode.EncodeRefusal.TheVariants.{OutOfMemory};
 ghost use Rattle.eden_codec.specs.Form.{IsRep, RepInRange};
-ghost use Rattle.eden_codec.specs.Spells.{Spells};
+ghost use Rattle.eden_codec.specs.Spells.{SpellsRep};
 ghost use Rattle.eden_codec.specs.Spelling as spelled;
 
 use crate::rep::Rep;
@@ -165,7 +165,7 @@ fn rep_size(rep: &Rep) -> u64
 /// A length past the limit is told before any memory is taken. Else the memory of all the bytes is taken at once. What
 /// is no representation, as a name too long, has bytes too, but they spell none.
 pub fn encode_rep(alloc: Global, rep: &Rep) -> Result<Body, EncodeRefusal>
-    ensures ok { IsRep rep.now → IfOk result (λ body. Spells body rep.now) }
+    ensures ok { IsRep rep.now → IfOk result (λ body. SpellsRep body rep.now) }
     ensures spelled { IfOk result (λ body. body ≡ spelled.spelling rep.now) }
     ensures within_limit { IfOk result (λ body. length body ≤ BODY_LIMIT) }
     ensures too_large { (result ≡ Err EncodeRefusal.TooLarge) ↔ (BODY_LIMIT < length (spelled.spelling rep.now)) }

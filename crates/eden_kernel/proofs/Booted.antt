@@ -6,7 +6,7 @@ use Rattle.std.specs.Option.{option_map}
 use Rattle.capability.specs.declared.Uid.{Uid}
 use Rattle.capability.proofs.Uids.{uid_cmp_total, uid_cmp-IsAntisymmetric}
 use Rattle.std.proofs.lemmas.Cmp.{tied_itself}
-use Rattle.journal.specs.Change.{Change}
+use Rattle.journal.specs.EjectChange.{EjectChange}
 use Rattle.eden_model.specs.Map.{value_at, uid_cmp, same_uid}
 use Rattle.eden_model.proofs.Laws.{eq-same}
 use Rattle.eden_disk.specs.Calls.{Counts}
@@ -140,7 +140,7 @@ known-as (Some e) body idle is =
     let sure : e.doubt ≡ None = ap (λ (f : Facts). f.1) is in
     seen e.active e.queued e.kept e.doubt h.passive h.unasked kept sure
   where
-    seen : (a : Option Active) (ks : List ℕ) (k : Option (List ℕ)) (d : Option Change) → a ≡ None → ks ≡ [] → k ≡ body → d ≡ None
+    seen : (a : Option Active) (ks : List ℕ) (k : Option (List ℕ)) (d : Option EjectChange) → a ≡ None → ks ≡ [] → k ≡ body → d ≡ None
         → ◌≡◌ {A = Known} (record { active = a; queued = ks; there = is_some a || (is_some k || is_some d) }) (passive_known (is_some body))
     seen a ks k d none empty kept sure =
         (λ i. record { active = none i; queued = empty i; there = is_some (none i) || (is_some (kept i) || is_some (sure i)) })

@@ -24,7 +24,7 @@ use Rattle.epl_syntax.specs.declared.effect.Effect.TheVariants as effect
 use Rattle.invocation.specs.Mail.{Mail}
 use Rattle.passive_store.specs.Kept.{Layout, body_at as kept_at, doubt_in}
 use Rattle.passive_store.specs.Seen.{Seen}
-use Rattle.journal.specs.Change.{Change, body, removal}
+use Rattle.journal.specs.EjectChange.{EjectChange, body, removal}
 use Rattle.journal.specs.declared.event.Event.{Event}
 use Rattle.journal.specs.declared.event.Event.TheVariants as event
 use Rattle.journal.specs.declared.event.Shown.{Shown}
@@ -238,7 +238,7 @@ module _ (n : Parts) (s : Site) (u : Uid) (p : ℕ) (b : Body) (h : Stands n s) 
   quiet : Shift same_facts same_requests s after → StandsNow layout k after after.node.requests x
   quiet shift = own rs (stands-same layout k s after rs x shift hs)
 
-  asks : (c : Change) → Shift same_facts (λ qs. qs ++ wished u p c ∷ []) s after → StandsNow layout k after after.node.requests x
+  asks : (c : EjectChange) → Shift same_facts (λ qs. qs ++ wished u p c ∷ []) s after → StandsNow layout k after after.node.requests x
   asks c shift = own (rs ++ wished u p c ∷ []) (stands-asked layout k s after (wished u p c) rs x refl held shift hs)
 
   drops : Shift same_facts (filter_map (dropped_of u)) s after → StandsNow layout k after after.node.requests x

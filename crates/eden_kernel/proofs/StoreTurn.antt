@@ -9,7 +9,7 @@ use Rattle.epl_syntax.specs.Rules.OfTypes.{TypeList}
 use Rattle.invocation.specs.Mail.{Mail}
 use Rattle.passive_store.specs.declared.store.Pick.{Pick}
 use Rattle.passive_store.specs.Kept.{Layout, Work, doubt_in, is_busy, unsure_in, uid_of_change, body_at as kept_at}
-use Rattle.passive_store.specs.Kept.{Change as StoreChange}
+use Rattle.passive_store.specs.Kept.{StoreChange}
 use Rattle.passive_store.specs.Seen.{Seen}
 use Rattle.journal.specs.declared.event.Event.TheVariants as event
 use Rattle.journal.specs.declared.event.RequestEnd.{RequestEnd}

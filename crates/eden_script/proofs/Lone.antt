@@ -6,7 +6,7 @@ use Rattle.eden_value.specs.View.{datum}
 use Rattle.eden_script.specs.Tree.{WrittenArg, plain, named, several, Row, no_more, and_more, depth}
 use Rattle.eden_script.specs.Grammar.{Value, Values, Behind}
 use Rattle.eden_script.specs.Causes.{WrittenFits, names_in, names_of}
-use Rattle.eden_script.specs.Alone.{as_written, row_written, Spells, Fits, IsReading}
+use Rattle.eden_script.specs.Alone.{as_written, row_written, SpellsDatum, Fits, IsReading}
 use Rattle.eden_script.specs.Reading.{Judged, ◌>>=◌, read_value, read_end, in_range, read_alone, Maybe}
 use Rattle.eden_script.specs.View.{value_in, data_in}
 use Rattle.eden_script.specs.declared.cause.ScriptCause.{ScriptCause}
@@ -70,9 +70,9 @@ mutual
 
 -- what a reading of the whole says
 abbrev pub Says : List ℕ → Judged WrittenArg → Type 0
-Says bytes (Ok g) = Spells bytes (value_in g) × Fits (value_in g)
-Says bytes (Err BadForm) = (d : Datum) → Spells bytes d → ⊥
-Says bytes (Err BadNumber) = ((d : Datum) × Spells bytes d) × ((d : Datum) → Spells bytes d → Fits d → ⊥)
+Says bytes (Ok g) = SpellsDatum bytes (value_in g) × Fits (value_in g)
+Says bytes (Err BadForm) = (d : Datum) → SpellsDatum bytes d → ⊥
+Says bytes (Err BadNumber) = ((d : Datum) × SpellsDatum bytes d) × ((d : Datum) → SpellsDatum bytes d → Fits d → ⊥)
 Says bytes (Err _) = ⊥
 
 -- what is spelled is read
@@ -81,7 +81,7 @@ pub record Found (bytes : List ℕ) (d : Datum) : Type 0 where
   pub read : read_alone bytes ≡ in_range found
   pub fitting : Fitting found (as_written d)
 
-found_again : (bytes : List ℕ) (d : Datum) → Spells bytes d → Found bytes d
+found_again : (bytes : List ℕ) (d : Datum) → SpellsDatum bytes d → Found bytes d
 found_again bytes d s =
     let a =
     value_again false (as_written d) 4 bytes [] s.spelled (λ _. nameless d) s.shallow (record { name = refl; digit = refl; point = refl })
@@ -99,7 +99,7 @@ no_form None h = cc
 no_form (Some g) h = cc
 
 -- where the form of the whole is bad, nothing is spelled
-unspelled : (bytes : List ℕ) → read_alone bytes ≡ Err BadForm → (d : Datum) → Spells bytes d → ⊥
+unspelled : (bytes : List ℕ) → read_alone bytes ≡ Err BadForm → (d : Datum) → SpellsDatum bytes d → ⊥
 unspelled bytes e d s = let a = found_again bytes d s in no_form a.found (sym a.read ∙ e)
 
 -- where a number of the whole is bad, nothing that fits is spelled
@@ -107,11 +107,11 @@ unfit_by : (o : Maybe) (g : WrittenArg) → Fitting o g → in_range o ≡ Err B
 unfit_by None g f h fits = f fits
 unfit_by (Some v) g f h fits = cc
 
-unfit : (bytes : List ℕ) → read_alone bytes ≡ Err BadNumber → (d : Datum) → Spells bytes d → Fits d → ⊥
+unfit : (bytes : List ℕ) → read_alone bytes ≡ Err BadNumber → (d : Datum) → SpellsDatum bytes d → Fits d → ⊥
 unfit bytes e d s fits = let a = found_again bytes d s in unfit_by a.found (as_written d) a.fitting (sym a.read ∙ e) fits
 
 -- a value that was read is spelled
-spelled_by : (bytes : List ℕ) (found : Maybe) (r : Reads false 4 bytes found []) → Spells bytes (value_in r.written)
+spelled_by : (bytes : List ℕ) (found : Maybe) (r : Reads false 4 bytes found []) → SpellsDatum bytes (value_in r.written)
 spelled_by bytes found r =
     let back : as_written (value_in r.written) ≡ r.written = written_again r.written r.front r.spelled (r.allowed refl) in
     let same : r.front ≡ bytes = sym (r.whole ∙ append-nil r.front) in
@@ -120,10 +120,10 @@ spelled_by bytes found r =
       shallow = subst (λ (g : WrittenArg). depth g ≤ 4) (sym back) r.shallow;
     }
 
-found_by : (bytes : List ℕ) (found : Maybe) (g : WrittenArg) → Fitting found g → as_written (value_in g) ≡ g → Spells bytes (value_in g)
-    → read_alone bytes ≡ in_range found → Says bytes (in_range found)
+found_by : (bytes : List ℕ) (found : Maybe) (g : WrittenArg) → Fitting found g → as_written (value_in g) ≡ g
+    → SpellsDatum bytes (value_in g) → read_alone bytes ≡ in_range found → Says bytes (in_range found)
 found_by bytes (Some v) g f back s e = (
-  subst (λ (h : WrittenArg). Spells bytes (value_in h)) (sym f.0) s,
+  subst (λ (h : WrittenArg). SpellsDatum bytes (value_in h)) (sym f.0) s,
   subst (λ (h : WrittenArg). Fits (value_in h)) (sym f.0) (subst WrittenFits (sym back) f.1),
 )
 found_by bytes None g f back s e = ((value_in g, s), unfit bytes e)
@@ -160,7 +160,7 @@ alone_says bytes = alone_by bytes (read_value false 4 bytes) refl (only_value fa
 pub value_read : (bytes : List ℕ) (g : WrittenArg) (v : CodeValue) → read_alone bytes ≡ Ok g → datum v ≡ value_in g → IsReading bytes (Ok v)
 value_read bytes g v h same =
     let s = subst (Says bytes) h (alone_says bytes) in
-    (subst (Spells bytes) (sym same) s.0, subst Fits (sym same) s.1)
+    (subst (SpellsDatum bytes) (sym same) s.0, subst Fits (sym same) s.1)
 
 pub value_refused : (bytes : List ℕ) (cause : ScriptCause) → read_alone bytes ≡ Err cause → IsReading bytes (Err cause)
 value_refused bytes BadForm h = subst (Says bytes) h (alone_says bytes)

@@ -7,7 +7,7 @@ use Rattle.epl_syntax.specs.Tree.{TypeTree}
 use Rattle.eden_script.specs.Parts.{Part, line, declaration, unclosed, lines_of, parts_of, line_count}
 use Rattle.eden_script.specs.Tree.{WrittenCommand, create, hold, call, restrict, walk, turn, go, crash, restart, cut, join, fail, stop}
 use Rattle.eden_script.specs.Tree.{finish, Line, idle, nodes, does, declares, unended}
-use Rattle.eden_script.specs.Grammar.{Command, Spells}
+use Rattle.eden_script.specs.Grammar.{Command, SpellsLine}
 use Rattle.eden_script.specs.Causes.{Seen, at_first, first_word, LineTells, rank, IsCause, IsSaid}
 use Rattle.eden_script.specs.Script.{after, commands_of, Says, AtMostOne}
 use Rattle.eden_script.specs.Reading.{is_idle}
@@ -38,7 +38,7 @@ no_idle (fail n k) bytes h = ap is_idle (begins_with _ _ bytes h)
 no_idle (stop n k how) bytes h = ap is_idle (begins_with _ _ bytes h)
 no_idle finish bytes h = ap is_idle h
 
-nodes_or_order : (n : ℕ) (o : WrittenCommand) (bytes : List ℕ) → Spells (nodes n) bytes → Command o bytes → ⊥
+nodes_or_order : (n : ℕ) (o : WrittenCommand) (bytes : List ℕ) → SpellsLine (nodes n) bytes → Command o bytes → ⊥
 nodes_or_order n o bytes h g =
     both
     (sym ((bytes_eq-Decides (word_of o) (codes "nodes")).1 (sym (first_is_word o bytes g) ∙ ap first_word (begins_with _ _ bytes h)))

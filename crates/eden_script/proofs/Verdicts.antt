@@ -9,7 +9,7 @@ use Rattle.std.proofs.lemmas.Slice.Eq.{bytes_eq-Decides}
 use Rattle.eden_script.specs.Form.{is_number, is_printable, is_among, number_of}
 use Rattle.eden_script.specs.Tree.{WrittenCommand, create, hold, call, restrict, walk, turn, go, crash, restart, cut, join, fail, stop}
 use Rattle.eden_script.specs.Tree.{finish, Line, idle, nodes, does, declares, unended}
-use Rattle.eden_script.specs.Grammar.{◌⋅◌, Is, Number, Command, Idle, Spells}
+use Rattle.eden_script.specs.Grammar.{◌⋅◌, Is, Number, Command, Idle, SpellsLine}
 use Rattle.eden_script.specs.Declarations.{type_names}
 use Rattle.eden_script.specs.Causes.{Seen, LineFits, first_word, command_words, uses, types, brings, LineTells, LinePasses, rank}
 use Rattle.eden_script.specs.Reading.{Judged, ◌>>=◌, read_word, read_last_digits, within, read_nodes, read_command, is_idle, named_in}
@@ -106,7 +106,7 @@ no_nodes finish = refl
 -- ## What a line's reading says, before the names
 
 abbrev LineSound : ℕ → List ℕ → Judged Line → Type 0
-LineSound most bytes r = Judges (λ l. Spells l bytes × LineFits most l) ((l : Line) × Spells l bytes) r
+LineSound most bytes r = Judges (λ l. SpellsLine l bytes × LineFits most l) ((l : Line) × SpellsLine l bytes) r
 
 pub record LineWhole (most : ℕ) (l : Line) (r : Judged Line) : Type 0 where
   pub fits : LineFits most l → r ≡ Ok l
@@ -114,16 +114,16 @@ pub record LineWhole (most : ℕ) (l : Line) (r : Judged Line) : Type 0 where
 
 nodes_sound : (most : ℕ) (bytes : List ℕ) → LineSound most bytes (read_nodes bytes)
 nodes_sound most bytes =
-    let G = λ (l : Line). Spells l bytes × LineFits most l in
-    let S = (l : Line) × Spells l bytes in
+    let G = λ (l : Line). SpellsLine l bytes × LineFits most l in
+    let S = (l : Line) × SpellsLine l bytes in
     form_then G S (read_word (codes "nodes ") bytes) _ (only_word (codes "nodes ") bytes) (λ rest e.
     form_then G S (read_last_digits rest) _ (only_last_digits rest) (λ d f.
     let t = last_takes rest d f in
     let n : Number (number_of d) rest = (ap is_number t.0 ∙ t.1, ap number_of t.0) in
-    let s : Spells (nodes (number_of d)) bytes = (codes "nodes ", rest, refl, n, word_takes (codes "nodes ") bytes rest e) in
+    let s : SpellsLine (nodes (number_of d)) bytes = (codes "nodes ", rest, refl, n, word_takes (codes "nodes ") bytes rest e) in
     number_then G S 1 8 d _ (nodes (number_of d), s) (λ w. (s, w))))
 
-pub nodes_whole : (most n : ℕ) (bytes : List ℕ) → Spells (nodes n) bytes → LineWhole most (nodes n) (read_nodes bytes)
+pub nodes_whole : (most n : ℕ) (bytes : List ℕ) → SpellsLine (nodes n) bytes → LineWhole most (nodes n) (read_nodes bytes)
 nodes_whole most n bytes h =
     let read : read_nodes bytes ≡ (within 1 8 h.1 >>= λ n. Ok (nodes n)) =
     ap read_nodes (begins_with _ _ bytes h)
@@ -235,7 +235,7 @@ module _ (seen : Seen) (bytes : List ℕ) (p : Placed seen bytes) where
   }
 
   -- from what was read of the line
-  read_by : (r : Judged Line) → LineSound seen.nodes bytes r → ((l : Line) → Spells l bytes → LineWhole seen.nodes l r)
+  read_by : (r : Judged Line) → LineSound seen.nodes bytes r → ((l : Line) → SpellsLine l bytes → LineWhole seen.nodes l r)
       → Verdict seen bytes (r >>= named_in seen)
   read_by (Ok l) sound whole =
       named_by l sound (λ k t. sym (same_ok l k ((whole k t.0).fits t.1))) _ _ _ refl refl refl
@@ -292,7 +292,7 @@ module _ (seen : Seen) where
 
 module _ (seen : Seen) (bytes : List ℕ) (printable : LinePasses BadByte seen bytes) (short : LinePasses LongLine seen bytes)
     (waits : Idle bytes → ⊥) (open_ : seen.ended ≡ false) where
-  nodes_lines : first_word bytes ≡ codes "nodes" → (l : Line) → Spells l bytes → LineWhole seen.nodes l (read_nodes bytes)
+  nodes_lines : first_word bytes ≡ codes "nodes" → (l : Line) → SpellsLine l bytes → LineWhole seen.nodes l (read_nodes bytes)
   nodes_lines w idle h = absurd (waits h)
   nodes_lines w (nodes n) h = nodes_whole seen.nodes n bytes h
   nodes_lines w (declares t) h = absurd h
@@ -300,7 +300,7 @@ module _ (seen : Seen) (bytes : List ℕ) (printable : LinePasses BadByte seen b
   nodes_lines w (does o) h =
       absurd (both (sym ((bytes_eq-Decides (word_of o) (codes "nodes")).1 (sym (first_is_word o bytes h.0) ∙ w)) ∙ no_nodes o))
 
-  command_lines : bytes_eq (first_word bytes) (codes "nodes") ≡ false → (l : Line) → Spells l bytes
+  command_lines : bytes_eq (first_word bytes) (codes "nodes") ≡ false → (l : Line) → SpellsLine l bytes
       → LineWhole seen.nodes l (as_line (read_command seen.nodes bytes))
   command_lines w idle h = absurd (waits h)
   command_lines w (nodes n) h =

@@ -23,7 +23,7 @@ abbrev mutual
   row_written (data_and d ds) = and_more (as_written d) (row_written ds)
 
 -- the bytes are this value, whose numbers may be of any size
-pub record Spells (bytes : List ℕ) (d : Datum) : Type 0 where
+pub record SpellsDatum (bytes : List ℕ) (d : Datum) : Type 0 where
   pub spelled : grammar.Value (as_written d) bytes
   pub shallow : depth (as_written d) ≤ 4
 
@@ -34,7 +34,7 @@ Fits d = WrittenFits (as_written d)
 -- What is read of bytes: the value that they are; or a bad form, where they are none; or a bad number, where they are
 -- one and its numbers do not fit.
 abbrev pub IsReading : List ℕ → Result Value ScriptCause → Type 0
-IsReading bytes (Ok v) = Spells bytes (datum v) × Fits (datum v)
-IsReading bytes (Err BadForm) = (d : Datum) → Spells bytes d → ⊥
-IsReading bytes (Err BadNumber) = ((d : Datum) × Spells bytes d) × ((d : Datum) → Spells bytes d → Fits d → ⊥)
+IsReading bytes (Ok v) = SpellsDatum bytes (datum v) × Fits (datum v)
+IsReading bytes (Err BadForm) = (d : Datum) → SpellsDatum bytes d → ⊥
+IsReading bytes (Err BadNumber) = ((d : Datum) × SpellsDatum bytes d) × ((d : Datum) → SpellsDatum bytes d → Fits d → ⊥)
 IsReading bytes (Err _) = ⊥

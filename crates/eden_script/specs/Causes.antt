@@ -12,7 +12,7 @@ use Rattle.eden_script.specs.Tree.{WrittenCommand, create, hold}
 use Rattle.eden_script.specs.Tree.{call, restrict, walk, turn, go, crash, restart, cut, join, fail, stop, finish, Line, idle, nodes, does}
 use Rattle.eden_script.specs.Tree.{declares, unended}
 use Rattle.eden_value.specs.Datum.{Datum, number, truth, text, cap, list}
-use Rattle.eden_script.specs.Grammar.{Idle, Spells}
+use Rattle.eden_script.specs.Grammar.{Idle, SpellsLine}
 use Rattle.eden_script.specs.declared.cause.ScriptCause.{ScriptCause}
 use Rattle.eden_script.specs.declared.cause.ScriptCause.TheVariants.{BadByte, LongLine, AfterEnd, NoCommand, Misplaced, BadForm, BadNumber}
 use Rattle.eden_script.specs.declared.cause.ScriptCause.TheVariants.{UnknownName, UnknownType, DoubledName, BadEdentype, NoEnd}
@@ -141,7 +141,7 @@ types _ = []
 
 -- a line says this, with its numbers in their ranges
 abbrev pub LineTells : Seen → List ℕ → Line → Type 0
-LineTells seen bytes l = Spells l bytes × LineFits seen.nodes l
+LineTells seen bytes l = SpellsLine l bytes × LineFits seen.nodes l
 
 -- Whether a line passes the test that a cause stands for.
 abbrev pub LinePasses : ScriptCause → Seen → List ℕ → Type 0
@@ -150,7 +150,7 @@ LinePasses LongLine seen bytes = length bytes ≤ 4096
 LinePasses AfterEnd seen bytes = Idle bytes ⊎ (seen.ended ≡ false)
 LinePasses NoCommand seen bytes = Idle bytes ⊎ (is_among (codes "nodes" ∷ command_words) (first_word bytes) ≡ true)
 LinePasses Misplaced seen bytes = Idle bytes ⊎ ((first_word bytes ≡ codes "nodes") ↔ (seen.nodes ≡ 0))
-LinePasses BadForm seen bytes = (l : Line) × Spells l bytes
+LinePasses BadForm seen bytes = (l : Line) × SpellsLine l bytes
 LinePasses BadNumber seen bytes = (l : Line) × LineTells seen bytes l
 LinePasses UnknownName seen bytes = (l : Line) × LineTells seen bytes l × (list_all (is_among seen.names) (uses l) ≡ true)
 LinePasses UnknownType seen bytes = (l : Line) × LineTells seen bytes l × (list_all (is_among (type_names seen.types)) (types l) ≡ true)

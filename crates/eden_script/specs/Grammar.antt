@@ -137,9 +137,9 @@ Idle [] = Unit {0}
 Idle (b ∷ bs) = b ≡ 35
 
 -- a line without its line feed says this
-abbrev pub Spells : Line → List ℕ → Type 0
-Spells idle bytes = Idle bytes
-Spells (nodes n) bytes = (Is (codes "nodes ") ⋅ Number n) bytes
-Spells (does o) bytes = Command o bytes × Holds o
-Spells (declares t) bytes = ⊥
-Spells unended bytes = ⊥
+abbrev pub SpellsLine : Line → List ℕ → Type 0
+SpellsLine idle bytes = Idle bytes
+SpellsLine (nodes n) bytes = (Is (codes "nodes ") ⋅ Number n) bytes
+SpellsLine (does o) bytes = Command o bytes × Holds o
+SpellsLine (declares t) bytes = ⊥
+SpellsLine unended bytes = ⊥

@@ -8,7 +8,7 @@ use Rattle.invocation.specs.Mail.{Mail}
 use Rattle.invocation.specs.Carries.{Carries}
 use Rattle.passive_store.specs.declared.store.Doubt.{Doubt}
 use Rattle.passive_store.specs.Kept.{Layout, Kept, Work, doubt_in}
-use Rattle.passive_store.specs.Kept.{Change as StoreChange}
+use Rattle.passive_store.specs.Kept.{StoreChange}
 use Rattle.passive_store.specs.Seen.{DiskSeen}
 use Rattle.journal.specs.World.{Site, Node, StoreRequest}
 use Rattle.journal.specs.Ejects.{stored_epoch}

@@ -11,7 +11,7 @@ use Rattle.eden_model.specs.Map.{with_item}
 use Rattle.eden_model.proofs.Numbers.{same-self}
 use Rattle.invocation.specs.Carries.{Carries}
 use Rattle.passive_store.specs.Kept.{Layout, Kept}
-use Rattle.passive_store.specs.Kept.{Change as StoreChange}
+use Rattle.passive_store.specs.Kept.{StoreChange}
 use Rattle.passive_store.specs.Seen.{DiskSeen}
 use Rattle.passive_store.specs.declared.store.Doubt.{Doubt}
 use Rattle.journal.specs.declared.command.Command.{Command}

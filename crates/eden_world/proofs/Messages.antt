@@ -6,7 +6,7 @@ use Rattle.epl_syntax.specs.Rules.OfTypes.{TypeList}
 use Rattle.invocation.specs.Mail.{Mail}
 use Rattle.invocation.specs.Carries.{Carries}
 use Rattle.passive_store.specs.Kept.{Layout, Kept, doubt_in}
-use Rattle.passive_store.specs.Kept.{Change as StoreChange}
+use Rattle.passive_store.specs.Kept.{StoreChange}
 use Rattle.passive_store.specs.Seen.{Seen, DiskSeen}
 use Rattle.passive_store.specs.declared.store.Doubt.{Doubt}
 use Rattle.journal.specs.World.{Site, StoreRequest}

@@ -14,9 +14,9 @@ use Rattle.passive_store.specs.declared.store.Doubt.{Doubt}
 use Rattle.passive_store.specs.declared.store.Pick.{Pick}
 use Rattle.passive_store.specs.declared.store.Pick.TheVariants as pick
 use Rattle.passive_store.specs.Kept.{Layout, changes_in}
-use Rattle.passive_store.specs.Kept.{Change as StoreChange}
+use Rattle.passive_store.specs.Kept.{StoreChange}
 use Rattle.passive_store.specs.Seen.{DiskSeen}
-use Rattle.journal.specs.Change.{Change, body}
+use Rattle.journal.specs.EjectChange.{EjectChange, body}
 use Rattle.journal.specs.World.{World, Node, Site, node_at, site_of, on_node}
 use Rattle.journal.specs.Boots.{last_epoch}
 use Rattle.journal.specs.Ejects.{stored_epoch}
@@ -57,7 +57,8 @@ settled-stored (Some pick.New) s None is = inl (ap (λ d. with_item (with_item d
 settled-stored (Some pick.New) s (Some e) is = inr (ap (λ d. with_item (with_item d (λ e. Some e) s.node.epoch) (λ e. e) 0) is
     ∙ sym (ap (λ d. with_item d (λ e. e) (stored_epoch s.node)) is))
 
-one-doubt : (c : Uid × Change) (rest : List (Uid × Change)) (d : Option StoreChange) → c ∷ rest ≡ all_of (changes_in d) → rest ≡ []
+one-doubt : (c : Uid × EjectChange) (rest : List (Uid × EjectChange)) (d : Option StoreChange) → c ∷ rest ≡ all_of (changes_in d)
+    → rest ≡ []
 one-doubt c rest None same = absurd (cc same)
 one-doubt c rest (Some x) same = cc same
 
@@ -72,7 +73,7 @@ module _ (layout : Layout) (n told : ℕ) (s : Site) (noted : Option Doubt) (d :
       → Stands layout n (state_of n s.node) image
   again e is image h = go (nat_lt (stored_epoch s.node) last_epoch) h
     where
-      c : Uid × Change
+      c : Uid × EjectChange
       c = (epoch_uid n, body (epoch_bytes e))
 
       is_next : e ≡ stored_epoch s.node + 1

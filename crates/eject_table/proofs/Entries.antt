@@ -19,7 +19,7 @@ use Rattle.capability.proofs.Uids.{uid_cmp_total, uid_cmp-IsAntisymmetric}
 use Rattle.eden_model.specs.Map.{each_value, value_at, with_item}
 use Rattle.eden_model.proofs.Laws.{eq-same}
 use Rattle.eject_table.specs.Table.{item_of, map_of, IsWhole, active_in, dropped, dropped_in, place_standing, standing_of}
-use Rattle.eject_table.specs.declared.Standing.TheVariants.{Active}
+use Rattle.eject_table.specs.declared.EjectStanding.TheVariants.{Active}
 
 pub value-each : {K X Y : Type 0} (R : K → K → Ordering) (f : X → Y) (q : K) (es : List (K × X))
     → value_at R q (each_value f es) ≡ option_map f (value_at R q es)

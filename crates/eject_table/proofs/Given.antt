@@ -4,13 +4,13 @@ use Rattle.std.specs.List.{All}
 use Rattle.std.proofs.lemmas.List.Elements.{All-nil, All-weaker, All-cons}
 use Rattle.capability.specs.declared.Uid.{Uid}
 use Rattle.eject_table.specs.Table.{Table, empty_table}
-use Rattle.eject_table.specs.Changes.{Change, created, noted, woken, written, dropped_out, forgotten, changed, Runs, GivesOnce}
+use Rattle.eject_table.specs.Changes.{TableChange, created, noted, woken, written, dropped_out, forgotten, changed, Runs, GivesOnce}
 
 -- the uid is of an earlier epoch, or of this one with a serial that was given
 abbrev IsBehind : ℕ → ℕ → Uid → Type 0
 IsBehind epoch last u = (u.epoch ≤ epoch) × (u.epoch ≡ epoch → u.serial ≤ last)
 
-gives-from : {A : Type 0} (cs : List (Change A)) (t : Table A) (before : List Uid) → All (IsBehind t.epoch t.last_serial) before
+gives-from : {A : Type 0} (cs : List (TableChange A)) (t : Table A) (before : List Uid) → All (IsBehind t.epoch t.last_serial) before
     → Runs t cs → GivesOnce before cs
 gives-from [] t before behind run = tt
 gives-from (created u a ∷ cs) t before behind run =
@@ -32,5 +32,5 @@ gives-from (written u a ∷ cs) t before behind run = gives-from cs (changed (wr
 gives-from (dropped_out u stays ∷ cs) t before behind run = gives-from cs (changed (dropped_out u stays) t) before behind run.1
 gives-from (forgotten u ∷ cs) t before behind run = gives-from cs (changed (forgotten u) t) before behind run.1
 
-pub gives-once : {A : Type 0} (node epoch last : ℕ) (cs : List (Change A)) → Runs (empty_table node epoch last) cs → GivesOnce [] cs
+pub gives-once : {A : Type 0} (node epoch last : ℕ) (cs : List (TableChange A)) → Runs (empty_table node epoch last) cs → GivesOnce [] cs
 gives-once node epoch last cs run = gives-from cs (empty_table node epoch last) [] (All-nil (IsBehind epoch last)) run

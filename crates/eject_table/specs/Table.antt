@@ -10,8 +10,8 @@ use Rattle.slab.specs.Slab.{Slab, get as get_slab}
 use Rattle.capability.specs.declared.Uid.{Uid}
 use Rattle.capability.specs.Uids.{uid_cmp, coded_uid}
 use Rattle.eden_model.specs.Map.{each_value, value_at, first}
-use Rattle.eject_table.specs.declared.Standing.{Standing}
-use Rattle.eject_table.specs.declared.Standing.TheVariants.{Active, Passive, Absent}
+use Rattle.eject_table.specs.declared.EjectStanding.{EjectStanding}
+use Rattle.eject_table.specs.declared.EjectStanding.TheVariants.{Active, Passive, Absent}
 
 -- a node in one epoch: the last serial that it gave, and how each Eject stands: with its active part, or with none where it is passive
 pub record Table (A : Type 0) : Type 0 where
@@ -60,13 +60,13 @@ abbrev pub active_at : {A : Type 0} → Table A → Uid → Option A
 active_at t u = active_in (get t.standings u)
 
 -- how an Eject stands, by what is looked up
-abbrev pub standing_of : {A : Type 0} → Option (Option A) → Standing
+abbrev pub standing_of : {A : Type 0} → Option (Option A) → EjectStanding
 standing_of None = Absent
 standing_of (Some None) = Passive
 standing_of (Some (Some a)) = Active
 
 -- how an Eject stands in a table
-abbrev pub standing_at : {A : Type 0} → Table A → Uid → Standing
+abbrev pub standing_at : {A : Type 0} → Table A → Uid → EjectStanding
 standing_at t u = standing_of (get t.standings u)
 
 -- the least uid past one, or the least of all
@@ -102,7 +102,7 @@ abbrev pub dropped : {A : Type 0} → FinMap uid_cmp (Option A) → Uid → Bool
 dropped m u stays = dropped_in (active_in (get m u)) m u stays
 
 -- what a place tells
-abbrev pub place_standing : Option (Option ℕ) → Standing
+abbrev pub place_standing : Option (Option ℕ) → EjectStanding
 place_standing None = Absent
 place_standing (Some None) = Passive
 place_standing (Some (Some k)) = Active

@@ -15,7 +15,7 @@ ghost use Rattle.capability.specs.Uids.{uid_cmp};
 ghost use Rattle.eject_table.specs.Table.{Table, empty_table, active_at, standing_at, next_key, with_active, with_entry, without_entry};
 ghost use Rattle.eject_table.specs.Table.{dropped, AllBefore};
 ghost use Rattle.eject_table.specs.Creates.{Creates, Refuses};
-ghost use Rattle.eject_table.specs.Changes.{Change, Runs, GivesOnce};
+ghost use Rattle.eject_table.specs.Changes.{TableChange, Runs, GivesOnce};
 ghost use Rattle.eject_table.specs.contracts.EjectTable.{the_row};
 
 use crate::store::{
@@ -39,7 +39,7 @@ pub enum CreateRefusal {
 
 /// How an Eject stands at its node.
 #[derive(Clone, Copy, Debug, PartialEq, Eq)]
-pub enum Standing {
+pub enum EjectStanding {
     Active,
     Passive,
     /// It is not in the table.
@@ -124,7 +124,7 @@ impl<A> EjectTable<A> {
 
     /// The Eject, which is not active, is passive from now on: a representation of it is kept.
     pub fn note_passive(&mut self, _alloc: Global, uid: Uid) -> Result<(), AllocError>
-        requires { standing_at self.old uid ≢ Standing.Active }
+        requires { standing_at self.old uid ≢ EjectStanding.Active }
         ensures { MatchResult result (λ _. self.new ≡ with_entry self.old uid None)
             (λ _. self.new ≡ self.old) }
     {
@@ -133,7 +133,7 @@ impl<A> EjectTable<A> {
 
     /// The passive Eject is active from now on. A refusal hands the value back.
     pub fn wake(&mut self, _alloc: Global, uid: Uid, active: A) -> Result<(), (A, AllocError)>
-        requires { standing_at self.old uid ≡ Standing.Passive }
+        requires { standing_at self.old uid ≡ EjectStanding.Passive }
         ensures { MatchResult result (λ _. self.new ≡ with_entry self.old uid (Some active))
             (λ e. (e.0 ≡ active) × (self.new ≡ self.old)) }
     {
@@ -151,7 +151,7 @@ impl<A> EjectTable<A> {
     }
 
     /// How the Eject stands.
-    pub fn find(&self, uid: Uid) -> Standing
+    pub fn find(&self, uid: Uid) -> EjectStanding
         ensures { result ≡ standing_at self.now uid }
     {
         standing_in(&self.places, uid)
@@ -193,7 +193,7 @@ impl<A> EjectTable<A> {
 
     /// The Eject, which is not active, is absent from now on.
     pub fn forget(&mut self, uid: Uid)
-        requires { standing_at self.old uid ≢ Standing.Active }
+        requires { standing_at self.old uid ≢ EjectStanding.Active }
         ensures { self.new ≡ without_entry self.old uid }
     {
         forget_at(&self.active, &mut self.places, uid);
@@ -210,6 +210,6 @@ impl<A> EjectTable<A> {
 /// No uid is given twice: over any run of a new table's calls in which each uid noted is of an
 /// earlier epoch, each uid created differs from all created or noted before.
 pub fn no_uid_twice<A>()
-    ensures { (node epoch last : ℕ) (cs : List (Change A))
+    ensures { (node epoch last : ℕ) (cs : List (TableChange A))
         → Runs (empty_table node epoch last) cs → GivesOnce [] cs }
 {}

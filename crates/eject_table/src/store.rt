@@ -8,7 +8,7 @@ ghost use Rattle.eden_model.specs.Map.{value_at, with_item, first};
 ghost use Rattle.eject_table.specs.Table.{map_of, IsWhole, active_in, dropped, place_standing, next_key};
 ghost use Rattle.std.specs.List.{find};
 
-use crate::Standing;
+use crate::EjectStanding;
 use capability::Uid;
 use slab::Slab;
 use std::alloc::AllocError;
@@ -152,13 +152,13 @@ pub fn part_at<'a, A>(
 }
 
 /// How the Eject stands.
-pub fn standing_in(places: &BTreeMap<Uid, Option<usize>>, uid: Uid) -> Standing
+pub fn standing_in(places: &BTreeMap<Uid, Option<usize>>, uid: Uid) -> EjectStanding
     ensures { result ≡ place_standing (value_at uid_cmp uid places.now.entries) }
 {
     match places.get(&uid) {
-        Some(Some(_)) => Standing::Active,
-        Some(None) => Standing::Passive,
-        None => Standing::Absent,
+        Some(Some(_)) => EjectStanding::Active,
+        Some(None) => EjectStanding::Passive,
+        None => EjectStanding::Absent,
     }
 }
 

@@ -14,7 +14,7 @@ use Rattle.epl_syntax.specs.Kinds.{have_shapes}
 use Rattle.epl_syntax.specs.Meaning.{Operation, operation_of}
 use Rattle.edentypes.specs.View.{fit_of, fit_in}
 use Rattle.eject_table.specs.Table.{standing_of}
-use Rattle.eject_table.specs.declared.Standing.TheVariants as standing
+use Rattle.eject_table.specs.declared.EjectStanding.TheVariants as standing
 use Rattle.journal.specs.Deliveries.{misfit}
 use Rattle.journal.specs.Processes.{class_of}
 use Rattle.active_part.specs.Body.{Body}

@@ -13,8 +13,8 @@ use Rattle.epl_syntax.specs.declared.effect.Effect.TheVariants as effect
 use Rattle.epl_syntax.specs.declared.effect.FaultCause.{FaultCause}
 use Rattle.epl_syntax.specs.Meaning.{Turned, rep_of}
 use Rattle.passive_store.specs.Kept.{Work, Idle, Busy, Unsettled, is_busy}
-use Rattle.passive_store.specs.Kept.{Change as StoreChange}
-use Rattle.journal.specs.Change.{body}
+use Rattle.passive_store.specs.Kept.{StoreChange}
+use Rattle.journal.specs.EjectChange.{body}
 use Rattle.eden_value.specs.declared.status.Status.{Status}
 use Rattle.epl_syntax.specs.Edentype.{Edentype}
 use Rattle.epl_syntax.specs.Meaning.{type_of}

@@ -9,8 +9,8 @@ use Rattle.capability.specs.declared.Uid.{Uid}
 use Rattle.capability.proofs.Uids.{uid_cmp_total}
 use Rattle.eden_model.specs.Map.{value_at, uid_cmp, same_uid}
 use Rattle.eject_table.specs.Table.{Table, active_at, active_in, with_active, without_entry, standing_of, standing_at}
-use Rattle.eject_table.specs.declared.Standing.{Standing}
-use Rattle.eject_table.specs.declared.Standing.TheVariants.{Active, Passive, Absent}
+use Rattle.eject_table.specs.declared.EjectStanding.{EjectStanding}
+use Rattle.eject_table.specs.declared.EjectStanding.TheVariants.{Active, Passive, Absent}
 use Rattle.epl_syntax.specs.Rules.OfTypes.{TypeList}
 use Rattle.active_part.specs.Body.{Body}
 use Rattle.active_part.specs.View.{body_of}

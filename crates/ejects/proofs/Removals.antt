@@ -18,7 +18,7 @@ use Rattle.epl_syntax.specs.declared.effect.Answer.{Answer}
 use Rattle.epl_syntax.specs.declared.effect.Answer.TheVariants.{Code}
 use Rattle.invocation.specs.Mail.{Mail}
 use Rattle.invocation.specs.Carries.{Carries}
-use Rattle.journal.specs.Change.{kept_of}
+use Rattle.journal.specs.EjectChange.{kept_of}
 use Rattle.journal.specs.World.{Active, Eject, StoreRequest, Node, Site, eject_in, on_eject, on_node, on_traffic}
 use Rattle.journal.specs.Ejects.{with_active, with_queued, on_active, told, tells, is_kept, is_there, without_active, deactivated}
 use Rattle.journal.specs.Ejects.{turned_away}

@@ -13,7 +13,7 @@ use Rattle.passive_store.specs.declared.store.Pick.{Pick}
 use Rattle.passive_store.specs.declared.store.Pick.TheVariants as pick
 use Rattle.invocation.specs.Mail.{Mail}
 use Rattle.invocation.specs.Carries.{Carries}
-use Rattle.journal.specs.Change.{Change, kept_of}
+use Rattle.journal.specs.EjectChange.{EjectChange, kept_of}
 use Rattle.journal.specs.World.{Active, Eject, StoreRequest, Node, Site, eject_in, on_node}
 use Rattle.journal.specs.Ejects.{is_kept, is_there}
 use Rattle.journal.specs.Settling.{first_request, settled, settled_eject, settled_epoch}
@@ -91,7 +91,7 @@ module _ (n new : Parts) (s : Site) (u : Uid) (stays : Bool) (p : Pick) (h : Sta
       some-mapped (Some b) h = ap is_some h
 
       -- of one that was not there nothing is kept or in doubt
-      gone : (p : Pick) (a : Option Active) (k : Option (List ℕ)) (d : Option Change) → (is_some a || (is_some k || is_some d)) ≡ false
+      gone : (p : Pick) (a : Option Active) (k : Option (List ℕ)) (d : Option EjectChange) → (is_some a || (is_some k || is_some d)) ≡ false
           → is_some (settled_eject p (record { active = a; queued = e.queued; kept = k; doubt = d })).kept ≡ false
       gone p (Some a) k d h = absurd (let bad : true ≡ false = h in cc bad)
       gone p None (Some k) d h = absurd (let bad : true ≡ false = h in cc bad)

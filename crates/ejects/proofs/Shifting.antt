@@ -15,7 +15,7 @@ use Rattle.epl_syntax.specs.declared.effect.Answer.TheVariants.{Code}
 use Rattle.epl_syntax.specs.declared.effect.Effect.{Effect}
 use Rattle.epl_syntax.specs.declared.effect.Effect.TheVariants as effect
 use Rattle.epl_syntax.specs.Meaning.{Turned, rep_of}
-use Rattle.journal.specs.Change.{Change, body, removal}
+use Rattle.journal.specs.EjectChange.{EjectChange, body, removal}
 use Rattle.journal.specs.World.{Active, Eject, Site, StoreRequest, eject_in, on_eject}
 use Rattle.journal.specs.Ejects.{with_active, on_active, on_crew, dropped_of, is_there, deactivated, turned_away, gone_if_unkept, tells}
 use Rattle.journal.specs.Processes.{turn_of, turned, without_process, answers, asks_store, refused_at_once, waits_or_told}
@@ -31,7 +31,7 @@ use Rattle.ejects.proofs.Delivered.{active-as, found-active, body-now}
 use Rattle.ejects.proofs.Turns.{stays-active, effect-is}
 
 -- the request of a process for a change
-abbrev pub wished : Uid → ℕ → Change → StoreRequest
+abbrev pub wished : Uid → ℕ → EjectChange → StoreRequest
 wished u p change = record { uid = u; process = Some p; change = change; made = 0 }
 
 -- the requests of a node after an effect, where these bytes spell what is to be kept
@@ -69,7 +69,7 @@ shift-gone u x =
     go true = shift-same x
     go false = shift-turned_away u status.Gone x
 
-shift-asks : (u : Uid) (p : ℕ) (change : Change) (x : Site)
+shift-asks : (u : Uid) (p : ℕ) (change : EjectChange) (x : Site)
     → Shift same_facts (λ rs. rs ++ wished u p change ∷ []) x (asks_store u p change x)
 shift-asks u p change x = behind (λ rs. rs ++ wished u p change ∷ []) x (on_eject u (on_active (on_crew (set_waits p outside))) x)
     (asks_store u p change x)

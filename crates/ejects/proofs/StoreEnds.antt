@@ -13,7 +13,7 @@ use Rattle.invocation.specs.Mail.{Mail}
 use Rattle.invocation.specs.Carries.{Carries}
 use Rattle.checkpoint.specs.declared.worker.StoreEnd.{StoreEnd}
 use Rattle.checkpoint.specs.declared.worker.StoreEnd.TheVariants.{Done, Full, Fault, Stopped}
-use Rattle.journal.specs.Change.{Change, body, removal, kept_of}
+use Rattle.journal.specs.EjectChange.{EjectChange, body, removal, kept_of}
 use Rattle.journal.specs.declared.event.Event.TheVariants as event
 use Rattle.journal.specs.declared.event.RequestEnd.{RequestEnd}
 use Rattle.journal.specs.declared.event.RequestEnd.TheVariants as end
@@ -39,7 +39,7 @@ entry-undoubted : (u : Uid) (e : Eject) (es : List (Uid × Eject)) → is_some (
 entry-undoubted u e [] none is = absurd (let bad : None ≡ Some e = is in cc bad)
 entry-undoubted u e (x ∷ xs) none is = go x.1.doubt refl none (eq_by_cmp uid_cmp u x.0) refl is (λ a b. entry-undoubted u e xs a b)
   where
-    go : (d : Option Change) → x.1.doubt ≡ d → is_some (first (filter_map doubt_entry (x ∷ xs))) ≡ false
+    go : (d : Option EjectChange) → x.1.doubt ≡ d → is_some (first (filter_map doubt_entry (x ∷ xs))) ≡ false
         → (b : Bool) → eq_by_cmp uid_cmp u x.0 ≡ b → cond b (Some x.1) (value_at uid_cmp u xs) ≡ Some e
         → (is_some (first (filter_map doubt_entry xs)) ≡ false → value_at uid_cmp u xs ≡ Some e → e.doubt ≡ None) → e.doubt ≡ None
     go (Some c) has none b at is later =
@@ -138,12 +138,12 @@ module _ (n mid new : Parts) (m later : Mail) (s : Site) (r : StoreRequest) (sou
   fault-ends p told same calls ends =
       stays-ended (doubted r s) status.StoreFault (doubted-stands n s r at.parts there) (doubted-traffic r s) told same
 
-  done-unkept : Told r.uid r.process status.Ok n mid → (c : Change) → r.change ≡ c → WentIf (is_removal c) r.uid mid new m later
+  done-unkept : Told r.uid r.process status.Ok n mid → (c : EjectChange) → r.change ≡ c → WentIf (is_removal c) r.uid mid new m later
       → work_of s r ≡ unkept → IsAt new later (removed c r.uid (request_ended r status.Ok s))
   done-unkept told (body bytes) is same work = stays-ended s status.Ok at.parts refl told same
   done-unkept told removal is went work = went-unkept n mid new m later s r sound at there told (unkept-now s r is work) went
 
-  done-stored : Told r.uid r.process status.Ok n mid → (c : Change) → r.change ≡ c → WentIf (is_removal c) r.uid mid new m later
+  done-stored : Told r.uid r.process status.Ok n mid → (c : EjectChange) → r.change ≡ c → WentIf (is_removal c) r.uid mid new m later
       → IsAt new later (removed c r.uid (request_ended r status.Ok (stored r s)))
   done-stored told (body bytes) is same = stays-ended (stored r s) status.Ok
       (stored-stands n s r at.parts there n (alike-same r.uid n) (λ e found. put e ∙ sym there)) (stored-traffic s r) told same

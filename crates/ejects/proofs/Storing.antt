@@ -8,7 +8,7 @@ use Rattle.eden_model.specs.Crew.{outside, set_waits}
 use Rattle.epl_syntax.specs.declared.effect.Answer.TheVariants.{Code}
 use Rattle.epl_syntax.specs.declared.effect.Effect.TheVariants as effect
 use Rattle.epl_syntax.specs.Meaning.{Turned, rep_of}
-use Rattle.journal.specs.Change.{Change, body, removal}
+use Rattle.journal.specs.EjectChange.{EjectChange, body, removal}
 use Rattle.journal.specs.World.{Site, on_eject, on_node}
 use Rattle.journal.specs.Ejects.{on_active, on_crew, told, tells}
 use Rattle.journal.specs.Processes.{turn_of, turned, asks_store, process_turn}
@@ -25,14 +25,14 @@ module _ (n : Parts) (s : Site) (u : Uid) (p : ℕ) (b : Body) (h : Stands n s) 
   abbrev later : Site
   later = on_eject u (on_active (turned p t)) s
 
-  asks-stands : (change : Change) → Stands (with_body u (crewed_body (set_waits p outside) (turned_body p t b)) n)
+  asks-stands : (change : EjectChange) → Stands (with_body u (crewed_body (set_waits p outside) (turned_body p t b)) n)
       (asks_store u p change later)
   asks-stands change = stays-on_node _ _
       (λ it. record it { requests = it.requests ++ record { uid = u; process = Some p; change = change; made = 0 } ∷ [] }) refl refl refl
       (stays-active-twice n s u b (crewed_body (set_waits p outside) (turned_body p t b)) (turned p t) (on_crew (set_waits p outside)) h at
       refl refl refl)
 
-  asks-traffic : (change : Change) → (asks_store u p change later).traffic ≡ s.traffic
+  asks-traffic : (change : EjectChange) → (asks_store u p change later).traffic ≡ s.traffic
   unfolding on_node on_eject
   asks-traffic change = refl
 

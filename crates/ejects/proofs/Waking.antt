@@ -18,7 +18,7 @@ use Rattle.epl_syntax.specs.Edentype.{Edentype}
 use Rattle.epl_syntax.specs.Meaning.{values_from}
 use Rattle.epl_syntax.specs.Rules.OfTypes.{TypeList}
 use Rattle.eject_table.specs.Table.{Table, standing_of, standing_at, with_entry}
-use Rattle.eject_table.specs.declared.Standing.TheVariants as standing
+use Rattle.eject_table.specs.declared.EjectStanding.TheVariants as standing
 use Rattle.invocation.specs.Mail.{Mail}
 use Rattle.invocation.specs.Carries.{Carries}
 use Rattle.passive_store.specs.declared.store.Pick.{Pick}

@@ -12,7 +12,7 @@ use Rattle.invocation.specs.Mail.{Mail}
 use Rattle.invocation.specs.Carries.{Carries}
 use Rattle.checkpoint.specs.declared.worker.StoreEnd.{StoreEnd}
 use Rattle.checkpoint.specs.declared.worker.StoreEnd.TheVariants.{Done, Full, Fault, Stopped}
-use Rattle.journal.specs.Change.{Change, body, removal}
+use Rattle.journal.specs.EjectChange.{EjectChange, body, removal}
 use Rattle.journal.specs.declared.event.RequestEnd.{RequestEnd}
 use Rattle.journal.specs.declared.event.RequestEnd.TheVariants as end
 use Rattle.journal.specs.World.{Eject, StoreRequest, Site, eject_in}
@@ -49,7 +49,7 @@ takes_eject removes Stopped = false
 
 -- 2. Which request it was
 
-abbrev pub is_removal : Change → Bool
+abbrev pub is_removal : EjectChange → Bool
 is_removal (body bytes) = false
 is_removal removal = true
 

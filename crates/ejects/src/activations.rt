@@ -24,7 +24,7 @@ use active_part::{Part, no_items};
 use capability::{CallNumbers, Uid};
 use eden_value::{Items, Status};
 use edentypes::{Fit, Kind, fit_call};
-use eject_table::Standing;
+use eject_table::EjectStanding;
 use epl_syntax::Types;
 use invocation::Calls;
 use std::alloc::{AllocError, Global};
@@ -78,12 +78,12 @@ impl Ejects {
         ensures { OnOk result ((ts : TypeList) → IsWoken uid (body_of ts part) (parts_of ts self.old) (parts_of ts self.new)) }
     {
         match self.table.find(uid) {
-            Standing::Passive => match self.table.wake(alloc, uid, part) {
+            EjectStanding::Passive => match self.table.wake(alloc, uid, part) {
                 Ok(()) => Ok(()),
                 Err(_) => Err(AllocError),
             },
-            Standing::Active => Err(AllocError),
-            Standing::Absent => Err(AllocError),
+            EjectStanding::Active => Err(AllocError),
+            EjectStanding::Absent => Err(AllocError),
         }
     }
 

@@ -6,7 +6,7 @@ ghost use Rattle.ejects.specs.View.{parts_of};
 
 use crate::Ejects;
 use capability::Uid;
-use eject_table::{EjectTable, Standing};
+use eject_table::{EjectStanding, EjectTable};
 use std::alloc::{AllocError, Global};
 use std::collections::BTreeMap;
 
@@ -26,7 +26,7 @@ impl Ejects {
     pub fn note(&mut self, alloc: Global, uid: Uid) -> Result<(), AllocError>
         ensures { OnOk result ((ts : TypeList) → Notes uid (parts_of ts self.old) (parts_of ts self.new)) }
     {
-        if let Standing::Active = self.table.find(uid) {
+        if let EjectStanding::Active = self.table.find(uid) {
             return Err(AllocError);
         }
         self.table.note_passive(alloc, uid)?;

@@ -9,7 +9,7 @@ ghost use Rattle.ejects.specs.View.{parts_of, number_of};
 
 use crate::Ejects;
 use capability::Uid;
-use eject_table::Standing;
+use eject_table::EjectStanding;
 
 /// What an Eject may do of its own.
 #[derive(Clone, Copy, Debug)]
@@ -35,9 +35,9 @@ impl Ejects {
         ensures { (ts : TypeList) → result ≡ is_some (body_at (parts_of ts self.now) uid) }
     {
         match self.table.find(uid) {
-            Standing::Active => true,
-            Standing::Passive => false,
-            Standing::Absent => false,
+            EjectStanding::Active => true,
+            EjectStanding::Passive => false,
+            EjectStanding::Absent => false,
         }
     }
 

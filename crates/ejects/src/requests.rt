@@ -20,7 +20,7 @@ use active_part::{Part, no_items};
 use capability::Uid;
 use eden_value::Status;
 use edentypes::{Fit, fit_call};
-use eject_table::Standing;
+use eject_table::EjectStanding;
 use epl_syntax::Types;
 use invocation::{Call, Calls};
 use journal::Event;
@@ -80,10 +80,10 @@ impl Ejects {
     {
         let uid = asked.target.uid;
         match self.table.find(uid) {
-            Standing::Absent => Ok(Admission::Refused {
+            EjectStanding::Absent => Ok(Admission::Refused {
                 status: Status::Gone,
             }),
-            Standing::Passive => {
+            EjectStanding::Passive => {
                 if self.count_waiting(uid) >= 64 {
                     Ok(Admission::Refused {
                         status: Status::Busy,
@@ -92,7 +92,7 @@ impl Ejects {
                     Ok(Admission::Passive)
                 }
             }
-            Standing::Active => match self.table.active(uid) {
+            EjectStanding::Active => match self.table.active(uid) {
                 Some(part) => admission_at(alloc, types, part, asked),
                 None => unreachable!(),
             },

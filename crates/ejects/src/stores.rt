@@ -22,7 +22,7 @@ use crate::{Ejects, take_waiting};
 use capability::Uid;
 use checkpoint::StoreEnd;
 use eden_value::Status;
-use eject_table::Standing;
+use eject_table::EjectStanding;
 use epl_syntax::Answer;
 use invocation::Calls;
 use std::alloc::{AllocError, Global};
@@ -57,9 +57,9 @@ impl Ejects {
         ensures { (ts : TypeList) → result ≡ is_some ((parts_of ts self.now).standing uid) }
     {
         match self.table.find(uid) {
-            Standing::Active => true,
-            Standing::Passive => true,
-            Standing::Absent => false,
+            EjectStanding::Active => true,
+            EjectStanding::Passive => true,
+            EjectStanding::Absent => false,
         }
     }
 
@@ -95,17 +95,17 @@ impl Ejects {
         ensures { OnOk result ((ts : TypeList) → Went uid (parts_of ts self.old) (parts_of ts self.new) calls.old calls.new) }
     {
         match self.table.find(uid) {
-            Standing::Active => {
+            EjectStanding::Active => {
                 self.sleeps(alloc, calls, uid, false)?;
                 Ok(())
             }
-            Standing::Passive => {
+            EjectStanding::Passive => {
                 self.table.forget(uid);
                 let queued = take_waiting(alloc, &mut self.waiting, uid);
                 reply_all(alloc, calls, &queued, Status::Gone)?;
                 Ok(())
             }
-            Standing::Absent => Err(AllocError),
+            EjectStanding::Absent => Err(AllocError),
         }
     }
 
@@ -164,9 +164,9 @@ impl Ejects {
             return;
         }
         match self.table.find(uid) {
-            Standing::Active => {}
-            Standing::Passive => self.table.forget(uid),
-            Standing::Absent => {}
+            EjectStanding::Active => {}
+            EjectStanding::Passive => self.table.forget(uid),
+            EjectStanding::Absent => {}
         }
     }
 }

@@ -4,7 +4,7 @@ use Rattle.grammar.specs.Depths.{Placed, bare, Steps, no_step, step_on}
 use Rattle.grammar.specs.Grammar.{Grammar}
 use Rattle.grammar.proofs.Leads.{at_one}
 use Rattle.epl_syntax.specs.Tree.{TypeTree}
-use Rattle.epl_syntax.specs.Token.{Spells}
+use Rattle.epl_syntax.specs.Token.{SpellsTokens}
 use Rattle.epl_syntax.specs.declared.token.Token.{Token}
 use Rattle.epl_syntax.specs.declared.token.TokenKind.{TokenKind}
 use Rattle.epl_syntax.specs.declared.token.TokenKind.TheVariants as kind
@@ -62,7 +62,7 @@ is_the_upper : (text : List ℕ) (t : Token) (name : Name) → the_upper text t 
 unfolding the_upper
 is_the_upper text t name h = upper_in text t name t.kind h
 
-named_by : (text : List ℕ) (tokens : List Token) (ps : List (Placed Token)) (e : TypeTree) → Spells text tokens → tokens ≡ bare ps
+named_by : (text : List ℕ) (tokens : List Token) (ps : List (Placed Token)) (e : TypeTree) → SpellsTokens text tokens → tokens ≡ bare ps
     → IsEdentype text ps e → IsNamed text e.name
 named_by text tokens ps e spelled whole g =
     let one = at_one _ (the_word word.Edentype) g.front g.first g.begins in
@@ -81,7 +81,7 @@ named_by text tokens ps e spelled whole g =
       first = one.0;
       second = two.0;
       more = bare g.goes_on.back;
-      spelled = subst (Spells text) split spelled;
+      spelled = subst (SpellsTokens text) split spelled;
       is_word = (is_the_word word.Edentype one.0 g.first one.1).0;
       is_upper = upper.0;
       is_name = upper.1 ∙ sym same;

@@ -16,7 +16,7 @@ use Rattle.epl_parser.specs.declared.item.ItemHead.{ItemHead}
 use Rattle.epl_parser.specs.declared.item.ItemHead.TheVariants as item
 use Rattle.epl_parser.specs.declared.item.MemberHead.{MemberHead}
 use Rattle.epl_parser.specs.declared.item.MemberHead.TheVariants as member
-use Rattle.epl_syntax.specs.Tree.{PlacedShape, Local, Parameter, Statement, Operation, Process, Change, Upgrade, TypeTree}
+use Rattle.epl_syntax.specs.Tree.{PlacedShape, Local, Parameter, Statement, Operation, Process, UpgradeAssignment, Upgrade, TypeTree}
 use Rattle.epl_parser.specs.OneToken.{the_mark, the_word, the_lower, the_upper, look_one, lower_behind, number_behind}
 use Rattle.epl_parser.specs.WrittenKinds.{read_written_kind}
 use Rattle.epl_parser.specs.Constants.{read_constant}
@@ -162,18 +162,18 @@ module _ (bytes : List ℕ) (turns : ℕ) where
   read_items e = look_many (λ t. item_head t.kind) read_item turns e
 
   -- ---- upgrades
-  unfoldable pub read_change : Looker Token Change
+  unfoldable pub read_change : Looker Token UpgradeAssignment
   read_change = do
     name ← look_one 0 (the_lower bytes)
     look_one 0 (the_mark mark.Assign)
     value ← read_expression bytes turns 0
     look_here (record { name = name; value = value })
 
-  unfoldable pub read_changes : Looker Token (List Change)
+  unfoldable pub read_changes : Looker Token (List UpgradeAssignment)
   read_changes = look_row (λ t. lower_kind t.kind) read_change turns []
 
   -- parameters, assignments and the end behind them
-  unfoldable pub read_conversion : Looker Token (List Parameter × List Change)
+  unfoldable pub read_conversion : Looker Token (List Parameter × List UpgradeAssignment)
   read_conversion = do
     params ← read_parameter_list
     changes ← read_changes

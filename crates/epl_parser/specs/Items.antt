@@ -17,7 +17,7 @@ use Rattle.epl_parser.specs.declared.item.ItemHead.{ItemHead}
 use Rattle.epl_parser.specs.declared.item.ItemHead.TheVariants as item
 use Rattle.epl_parser.specs.declared.item.MemberHead.{MemberHead}
 use Rattle.epl_parser.specs.declared.item.MemberHead.TheVariants as member
-use Rattle.epl_syntax.specs.Tree.{Variable, Local, Parameter, Operation, Process, Change, Upgrade, TypeTree}
+use Rattle.epl_syntax.specs.Tree.{Variable, Local, Parameter, Operation, Process, UpgradeAssignment, Upgrade, TypeTree}
 use Rattle.epl_parser.specs.OneToken.{the_mark, the_word, the_lower, the_upper, the_number, OneAt}
 use Rattle.epl_parser.specs.WrittenKinds.{IsWrittenKind}
 use Rattle.epl_parser.specs.Constants.{IsConstant}
@@ -195,7 +195,7 @@ IsItem bytes e = do
 
 -- ---- upgrades
 -- LOWER ":=" expr
-abbrev pub IsChange : List ℕ → Grammar (Placed Token) Change
+abbrev pub IsChange : List ℕ → Grammar (Placed Token) UpgradeAssignment
 IsChange bytes = do
   name ← OneAt 0 (the_lower bytes)
   OneAt 0 (the_mark mark.Assign)

@@ -1,7 +1,7 @@
 -- Which Edentype a text spells, and where a text is refused: by its tokens and the grammar alone.
 use Rattle.std.specs.Prelude.{◌≡◌, ℕ, ◌-◌, ◌<◌, ◌≤◌, List, [], ◌∷◌, length, drop, None, Result, Ok, Err, ◌⊎◌}
 use Rattle.std.specs.List.{AllByRecursion}
-use Rattle.grammar.specs.FirstFault.{Spells as SpellsShallow, Breaks as BreaksGrammar, Deepens}
+use Rattle.grammar.specs.FirstFault.{SpellsTokens as SpellsShallow, Breaks as BreaksGrammar, Deepens}
 use Rattle.epl_syntax.specs.declared.token.ParseRefusal.{ParseRefusal}
 use Rattle.epl_syntax.specs.declared.token.ParseRefusal.TheVariants.{BadToken, TooDeep, OutOfMemory}
 use Rattle.epl_syntax.specs.declared.token.Token.{Token}
@@ -9,7 +9,7 @@ use Rattle.epl_syntax.specs.declared.token.TokenKind.TheVariants as kind
 use Rattle.epl_syntax.specs.declared.tree.Name.{Name}
 use Rattle.epl_syntax.specs.declared.tree.Program.{Program}
 use Rattle.epl_syntax.specs.declared.word.Word.TheVariants as word
-use Rattle.epl_syntax.specs.Token.{token_at, Leads, Spells}
+use Rattle.epl_syntax.specs.Token.{token_at, Leads, SpellsTokens}
 use Rattle.epl_syntax.specs.Tree.{TypeTree, type_tree}
 use Rattle.epl_parser.specs.Items.{IsEdentype}
 use Rattle.epl_parser.specs.OneToken.{name_at}
@@ -17,7 +17,7 @@ use Rattle.epl_parser.specs.OneToken.{name_at}
 -- The whole text spells tokens, and they the type, none of them past depth 32.
 pub record SpellsType (text : List ℕ) (e : TypeTree) : Type 0 where
   pub tokens : List Token
-  pub spelled : Spells text tokens
+  pub spelled : SpellsTokens text tokens
   pub type : SpellsShallow 32 (IsEdentype text) tokens e
 
 -- The text begins with `edentype` and this name.
@@ -25,7 +25,7 @@ pub record IsNamed (text : List ℕ) (name : Name) : Type 0 where
   pub first : Token
   pub second : Token
   pub more : List Token
-  pub spelled : Spells text (first ∷ second ∷ more)
+  pub spelled : SpellsTokens text (first ∷ second ∷ more)
   pub is_word : first.kind ≡ kind.Word word.Edentype
   pub is_upper : second.kind ≡ kind.Upper
   pub is_name : name_at text second ≡ name

@@ -6,7 +6,7 @@ use Rattle.epl_syntax.specs.declared.tree.Name.{Name}
 use Rattle.epl_syntax.specs.declared.tree.Program.{Program}
 use Rattle.epl_syntax.specs.declared.tree.Stmt.{Stmt}
 use Rattle.epl_syntax.specs.Bindings.{Sort, variable, each_of_expression, each_of_statement}
-use Rattle.epl_syntax.specs.Tree.{Change, statement}
+use Rattle.epl_syntax.specs.Tree.{UpgradeAssignment, statement}
 use Rattle.epl_values.specs.declared.variables.Owner.{Owner}
 use Rattle.epl_values.specs.Variables.{is_found}
 
@@ -20,7 +20,7 @@ each_made test None = true
 each_made test (Some s) = each_of_statement test (statement s.now)
 
 -- and in the assignments of an upgrade
-abbrev pub each_change : (Sort → Name → Bool) → List Change → Bool
+abbrev pub each_change : (Sort → Name → Bool) → List UpgradeAssignment → Bool
 each_change test cs = list_all (λ c. test variable c.name && each_of_expression test c.value) cs
 
 -- the statements are of some body in which the binding of each of their names is right

@@ -13,7 +13,8 @@ use Rattle.eden_value.specs.Caps.{caps, caps_of}
 use Rattle.eden_codec.specs.declared.rep.Rep.{Rep}
 use Rattle.eden_model.specs.Map.{with_item, first, rest}
 use Rattle.epl_syntax.specs.declared.effect.FaultCause.{FaultCause}
-use Rattle.epl_syntax.specs.Tree.{Constant, integer, text, truth, absent, empty_list, Variable, Local, Process, Change, Upgrade, TypeTree}
+use Rattle.epl_syntax.specs.Tree.{Constant, integer, text, truth, absent, empty_list, Variable, Local, Process, UpgradeAssignment, Upgrade}
+use Rattle.epl_syntax.specs.Tree.{TypeTree}
 use Rattle.epl_syntax.specs.Memory.{Memory, value_of_constant, set, locals}
 use Rattle.epl_syntax.specs.Expressions.{value_of}
 use Rattle.epl_syntax.specs.Turns.{values_in, process_left}
@@ -113,7 +114,7 @@ with_kept_owned held (v ∷ slots) durable h k =
     )
     (h.0, with_kept_owned held slots durable h.1 k)
 
-assigned_owned : (held : List Cap) (cs : List Change) (m : Memory) → MemoryOwned held m → IfOk (assigned cs m) (MemoryOwned held)
+assigned_owned : (held : List Cap) (cs : List UpgradeAssignment) (m : Memory) → MemoryOwned held m → IfOk (assigned cs m) (MemoryOwned held)
 assigned_owned held [] m h = h
 assigned_owned held (c ∷ cs) m h =
     found_through (Owned held) (MemoryOwned held) (value_of m c.value) (λ d. assigned cs (set c.name.text d m))

@@ -10,7 +10,7 @@ use Rattle.epl_syntax.specs.declared.tree.Program.{Program}
 use Rattle.epl_syntax.specs.Tree.{Expression, Const_, Name_, Me, Unary, Binary, Index, ListOf, Apply, Expressions, no_expressions}
 use Rattle.epl_syntax.specs.Tree.{expression_and, in_order, Statement, Assign, If, While, With, Wait, Signal, Yield, Deactivate, Checkpoint}
 use Rattle.epl_syntax.specs.Tree.{Destroy, Create, Invoke, Return, Statements, no_statements, statement_and, block_of, TypeTree, type_tree}
-use Rattle.epl_syntax.specs.Tree.{Operation, Process, Upgrade, Change}
+use Rattle.epl_syntax.specs.Tree.{Operation, Process, Upgrade, UpgradeAssignment}
 use Rattle.epl_syntax.specs.Bindings.{Sort, variable, monitor, condition, Names, is_at, has_binding, each_of_expression}
 use Rattle.epl_syntax.specs.Bindings.{each_of_expressions}
 use Rattle.epl_syntax.specs.Bindings.{each_of_target, each_of_statement, each_of_block, operation_resolved, process_resolved}
@@ -141,6 +141,6 @@ without_table p none =
     of_upgrade : (t : TypeTree) (u : Upgrade) → upgrade_resolved [] t u ≡ true
     of_upgrade t u =
         let test = has_binding [] (names_seen t u.params []) in
-        all_true (λ (c : Change). test variable c.name && each_of_expression test c.value) u.changes
+        all_true (λ (c : UpgradeAssignment). test variable c.name && each_of_expression test c.value) u.changes
         (λ c. both_true (test variable c.name) (each_of_expression test c.value) (by_name (names_seen t u.params []) variable c.name)
         (each_expression test (by_name (names_seen t u.params [])) c.value))

@@ -5,7 +5,7 @@ use Rattle.std.proofs.lemmas.Bool.{cases_lt}
 use Rattle.epl_syntax.specs.Form.{is_blank}
 use Rattle.epl_syntax.specs.declared.token.Token.{Token}
 use Rattle.epl_syntax.specs.declared.token.TokenKind.{TokenKind}
-use Rattle.epl_syntax.specs.Token.{token_at, AreBlanks, Leads, Spells, Breaks}
+use Rattle.epl_syntax.specs.Token.{token_at, AreBlanks, Leads, SpellsTokens, Breaks}
 
 blanks_le : (text : List ℕ) (from a b : ℕ) → AreBlanks text from a → AreBlanks text from b → a ≤ b
 blanks_le text from a b h k = by_order (cases_lt b a)
@@ -62,13 +62,13 @@ nothing_left text = ap token_at (drop_all text)
     drop_all [] = refl
     drop_all (b ∷ bs) = drop_all bs
 
-pub one_list : (text : List ℕ) (ts us : List Token) → Spells text ts → Spells text us → ts ≡ us
+pub one_list : (text : List ℕ) (ts us : List Token) → SpellsTokens text ts → SpellsTokens text us → ts ≡ us
 one_list text ts us s t = (leads_one text 0 ts us (length text) (length text) s (nothing_left text) t (nothing_left text)).0
 
 pub one_place : (text : List ℕ) (p q : ℕ) → Breaks text p → Breaks text q → p ≡ q
 one_place text p q s t = (leads_one text 0 s.before t.before p q s.leads s.none t.leads t.none).1
 
-pub never_both : (text : List ℕ) (ts : List Token) (p : ℕ) → Spells text ts → Breaks text p → ⊥
+pub never_both : (text : List ℕ) (ts : List Token) (p : ℕ) → SpellsTokens text ts → Breaks text p → ⊥
 never_both text ts p s t =
     let e : length text ≡ p = (leads_one text 0 ts t.before (length text) p s (nothing_left text) t.leads t.none).1 in
     let l : p < length text = t.within in

@@ -4,7 +4,7 @@ use Rattle.eden_value.specs.Datum.{Datum, number}
 use Rattle.eden_codec.specs.declared.rep.Rep.{Rep}
 use Rattle.epl_syntax.specs.declared.tree.Operator.{Operator}
 use Rattle.epl_syntax.specs.declared.tree.Operator.TheVariants.{Divide, Multiply, Subtract}
-use Rattle.epl_syntax.specs.Tree.{TypeTree, Upgrade, Change, Expression}
+use Rattle.epl_syntax.specs.Tree.{TypeTree, Upgrade, UpgradeAssignment, Expression}
 use Rattle.epl_syntax.specs.Edentype.{declared}
 use Rattle.epl_syntax.specs.Meaning.{durable_from}
 use Rattle.epl_syntax.proofs.Written.{called, numeral, int, held_in, with_operator, durable_int, int_parameter, simple_type, me}
@@ -13,7 +13,7 @@ use Rattle.epl_syntax.proofs.Written.{called, numeral, int, held_in, with_operat
 abbrev kept_by : ℕ → List Datum → Rep
 kept_by version values = record { type_name = codes "Tally"; version = version; values = values }
 
-abbrev sets : List ℕ → Expression → Change
+abbrev sets : List ℕ → Expression → UpgradeAssignment
 sets name value = record { name = called name; value = value }
 
 -- version 2, with this upgrade from version 1

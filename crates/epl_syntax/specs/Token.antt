@@ -85,8 +85,8 @@ Leads text from (t ∷ ts) to =
     × (t.start ≤ t.end) × Leads text t.end ts to
 
 -- the whole text spells these tokens
-abbrev pub Spells : List ℕ → List Token → Type 0
-Spells text ts = Leads text 0 ts (length text)
+abbrev pub SpellsTokens : List ℕ → List Token → Type 0
+SpellsTokens text ts = Leads text 0 ts (length text)
 
 -- No token begins at this place, behind tokens that the text has before it.
 pub record Breaks (text : List ℕ) (place : ℕ) : Type 0 where
@@ -97,7 +97,7 @@ pub record Breaks (text : List ℕ) (place : ℕ) : Type 0 where
 
 -- what `tokens` answers
 abbrev pub TokensAre : List ℕ → Result (Vec Token Global) ParseRefusal → Type 0
-TokensAre text (Ok v) = Spells text v.items
+TokensAre text (Ok v) = SpellsTokens text v.items
 TokensAre text (Err (BadToken place)) = Breaks text place
 TokensAre text (Err (TooDeep place)) = ⊥
 TokensAre text (Err OutOfMemory) = Unit {0}

@@ -215,19 +215,19 @@ abbrev pub process : ProcDecl → Process
 process p = record { name = p.name; locals = map local_of p.locals.items; body = map statement p.body.items }
 
 -- an assignment of an upgrade
-pub record Change : Type 0 where
+pub record UpgradeAssignment : Type 0 where
   pub name : Name
   pub value : Expression
 
 -- the one that an assignment of the code is
-abbrev pub change : Assignment → Change
+abbrev pub change : Assignment → UpgradeAssignment
 change a = record { name = a.name; value = expression a.value }
 
 -- an upgrade from an earlier version
 pub record Upgrade : Type 0 where
   pub from : Number
   pub params : List Parameter
-  pub changes : List Change
+  pub changes : List UpgradeAssignment
   pub place : ℕ
 
 -- the one that a declaration of the code is

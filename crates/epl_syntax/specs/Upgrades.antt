@@ -9,14 +9,14 @@ use Rattle.eden_codec.specs.declared.rep.Rep.{Rep}
 use Rattle.epl_syntax.specs.declared.effect.FaultCause.{FaultCause}
 use Rattle.eden_model.specs.Map.{with_item}
 use Rattle.epl_syntax.specs.Kinds.{have_shapes}
-use Rattle.epl_syntax.specs.Tree.{TypeTree, Change, Upgrade}
+use Rattle.epl_syntax.specs.Tree.{TypeTree, UpgradeAssignment, Upgrade}
 use Rattle.epl_syntax.specs.Operators.{found}
 use Rattle.epl_syntax.specs.Memory.{Memory, set, arguments, variables, value_of_constant}
 use Rattle.epl_syntax.specs.Expressions.{value_of}
 use Rattle.epl_syntax.specs.Turns.{values_in}
 
 -- the assignments, in order
-abbrev pub assigned : List Change → Memory → Result Memory FaultCause
+abbrev pub assigned : List UpgradeAssignment → Memory → Result Memory FaultCause
 assigned [] m = Ok m
 assigned (c ∷ cs) m = found (value_of m c.value) (λ d. assigned cs (set c.name.text d m))
 

@@ -1,7 +1,7 @@
 //! What is promised of definitions, apart from any code.
 ghost use Rattle.std.specs.Prelude.{◌≡◌, ℕ, List};
 ghost use Rattle.epl_syntax.specs.declared.token.Token.{Token};
-ghost use Rattle.epl_syntax.specs.Token.{Spells, Breaks};
+ghost use Rattle.epl_syntax.specs.Token.{SpellsTokens, Breaks};
 ghost use Rattle.epl_syntax.specs.Authority.{TurnKeepsCaps, BeginKeepsCaps, FirstHaveNone, DurableKeepCaps, StartKeepsCaps};
 ghost use Rattle.epl_syntax.specs.Monitors.{OperationsBeginGuarded, ProcessesBeginGuarded, TurnStaysGuarded, TurnKeepsMonitors};
 ghost use Rattle.epl_syntax.specs.Pipelines.{FiltersMakeTheirFunctions, FiltersEndAsTheirFunctions, PipelinesKeepFronts};
@@ -9,9 +9,9 @@ ghost use Rattle.epl_syntax.specs.Pipelines.{FiltersMakeTheirFunctions, FiltersE
 /// A text spells at most one list of tokens; where it spells one, no place is refused, and else at
 /// most one place is.
 pub fn tokens_are_one()
-    ensures one_list { (text : List ℕ) (ts us : List Token) → Spells text ts → Spells text us → ts ≡ us }
+    ensures one_list { (text : List ℕ) (ts us : List Token) → SpellsTokens text ts → SpellsTokens text us → ts ≡ us }
     ensures one_place { (text : List ℕ) (p q : ℕ) → Breaks text p → Breaks text q → p ≡ q }
-    ensures never_both { (text : List ℕ) (ts : List Token) (p : ℕ) → Spells text ts → Breaks text p → ⊥ }
+    ensures never_both { (text : List ℕ) (ts : List Token) (p : ℕ) → SpellsTokens text ts → Breaks text p → ⊥ }
 {}
 
 /// No type makes capabilities: whatever is held, those in the values, the rest and the effect of a turn are below it where those

@@ -1,8 +1,8 @@
 //! Reading tokens. A token takes as many bytes as its form allows; blanks and line feeds part tokens.
 ghost use Rattle.std.specs.Prelude.{◌≡◌, ◌≤◌, ◌<◌, ◌^◌, length, drop, false, None, IfOk, IfSome};
 ghost use Rattle.epl_syntax.specs.Form.{is_digit, is_blank, name_length, digit_count, number_of, text_body};
-ghost use Rattle.epl_syntax.specs.Token.{mark_of, name_token, number_token, text_token, token_at, AreBlanks, Leads, TokensAre, Spells};
-ghost use Rattle.epl_syntax.specs.Token.{Breaks};
+ghost use Rattle.epl_syntax.specs.Token.{mark_of, name_token, number_token, text_token, token_at, AreBlanks, Leads, TokensAre};
+ghost use Rattle.epl_syntax.specs.Token.{SpellsTokens, Breaks};
 
 use crate::token::{INT_LIMIT, Mark, NAME_LIMIT, ParseRefusal, Token, TokenKind};
 use crate::word::word_of;

@@ -5,7 +5,7 @@ use Rattle.passive_store.specs.declared.store.Pick.{Pick}
 use Rattle.passive_store.specs.declared.store.Progress.TheVariants.{Going, Done}
 use Rattle.passive_store.specs.declared.store.StoreRefusal.{StoreRefusal}
 use Rattle.passive_store.specs.Acts.{DiskCall}
-use Rattle.passive_store.specs.Kept.{Change, doubt_in, Kept, Work, Idle, Busy, Unsettled, is_unsettled, worked_on, unsure_in, settled}
+use Rattle.passive_store.specs.Kept.{StoreChange, doubt_in, Kept, Work, Idle, Busy, Unsettled, is_unsettled, worked_on, unsure_in, settled}
 use Rattle.passive_store.specs.Kept.{work_settled}
 use Rattle.passive_store.specs.Kept.{work_changed, work_unchanged, kept_changed, work_begun, work_advanced, kept_advanced, work_finished}
 use Rattle.passive_store.specs.Kept.{kept_finished, bodies_after, SettlesFirst, SettlesAfterMemory}
@@ -55,8 +55,8 @@ idle_alike = tt
 pub alike_by : (w v x y : Work) → w ≡ x → v ≡ y → AreAlikeWorks x y → AreAlikeWorks w v
 alike_by w v x y e f h = subst (λ u. AreAlikeWorks u v) (sym e) (subst (AreAlikeWorks x) (sym f) h)
 
-pub begun_alike : (c d : Change) (calls others : List DiskCall) (w v : Work) (r q : Result (Unit {0}) StoreRefusal) → IsDone r → IsDone q
-    → c.uid ≡ d.uid → c.body ≡ d.body → AreAlikeWorks (work_begun c calls w r) (work_begun d others v q)
+pub begun_alike : (c d : StoreChange) (calls others : List DiskCall) (w v : Work) (r q : Result (Unit {0}) StoreRefusal) → IsDone r
+    → IsDone q → c.uid ≡ d.uid → c.body ≡ d.body → AreAlikeWorks (work_begun c calls w r) (work_begun d others v q)
 begun_alike c d calls others w v (Ok done) (Ok too) h k uid body = (uid, body)
 begun_alike c d calls others w v (Err e) q h k uid body = absurd h
 begun_alike c d calls others w v r (Err e) h k uid body = absurd k
@@ -104,12 +104,12 @@ none_settled p w (Err e) is sure = none_found p is
 pub settled_keeps : (p : Option Pick) (w : Work) (k : Kept) → p ≡ None → settled p w k ≡ k
 settled_keeps p w k none = ap (λ x. settled x w k) none
 
-pub changed_bodies : {T : Type 0} (p : Option Pick) (c : Change) (w : Work) (k : Kept) (r : Result T StoreRefusal) → p ≡ None → IsDone r
-    → (kept_changed p c w k r).bodies ≡ bodies_after c.uid c.body k.bodies
+pub changed_bodies : {T : Type 0} (p : Option Pick) (c : StoreChange) (w : Work) (k : Kept) (r : Result T StoreRefusal) → p ≡ None
+    → IsDone r → (kept_changed p c w k r).bodies ≡ bodies_after c.uid c.body k.bodies
 changed_bodies p c w k (Ok done) none h = ap (λ x. bodies_after c.uid c.body (settled x w k).bodies) none
 changed_bodies p c w k (Err e) none h = absurd h
 
-pub changed_work : {T : Type 0} (p : Option Pick) (c : Change) (w : Work) (r : Result T StoreRefusal) → IsDone r
+pub changed_work : {T : Type 0} (p : Option Pick) (c : StoreChange) (w : Work) (r : Result T StoreRefusal) → IsDone r
     → work_changed p c w r ≡ Idle
 changed_work p c w (Ok done) h = refl
 changed_work p c w (Err e) h = absurd h

@@ -26,7 +26,7 @@ use Rattle.epl_syntax.specs.declared.effect.Effect.{Effect}
 use Rattle.epl_syntax.specs.declared.effect.Effect.TheVariants as effect
 use Rattle.epl_syntax.specs.Edentype.{Edentype}
 use Rattle.epl_syntax.specs.Meaning.{rep_of, type_of, first_values}
-use Rattle.journal.specs.Change.{Change, body, removal}
+use Rattle.journal.specs.EjectChange.{EjectChange, body, removal}
 use Rattle.journal.specs.World.{Site, Eject, Active, StoreRequest, eject_in, on_eject, on_node, on_traffic}
 use Rattle.journal.specs.Ejects.{with_active, with_queued, on_active, on_crew, is_there, told, tells, dropped_of, without_requests}
 use Rattle.journal.specs.Ejects.{deactivated, turned_away, gone_if_unkept, fresh, next_uid, newborn, born}
@@ -47,7 +47,7 @@ abbrev pub Queued : Site → Type 0
 Queued s = Queue s.node.requests s.node.ejects
 
 -- what the second site has in place of the first
-pub record Comes (s t : Site) (now : Uid → Facts) (work : Uid → Option Change) : Type 0 where
+pub record Comes (s t : Site) (now : Uid → Facts) (work : Uid → Option EjectChange) : Type 0 where
   pub facts : (u : Uid) → facts_in t u ≡ now u
   pub works : (u : Uid) → begun t.node.requests u ≡ work u
   pub there : (u : Uid) → is_some (eject_in s u) ≡ true → is_some (eject_in t u) ≡ true
@@ -251,7 +251,7 @@ keeps-gone : (v : Uid) (s : Site) → Keeps s (gone_if_unkept v s)
 keeps-gone v s = keeps-item s (eject_in s v) _
     (λ e is. keeps-cond (is_there e) s s (turned_away v status.Gone s) (stays s) (keeps-turned_away v status.Gone s))
 
-keeps-asks : (v : Uid) (p : ℕ) (c : Change) (s : Site) → is_some (eject_in s v) ≡ true → Keeps s (asks_store v p c s)
+keeps-asks : (v : Uid) (p : ℕ) (c : EjectChange) (s : Site) → is_some (eject_in s v) ≡ true → Keeps s (asks_store v p c s)
 keeps-asks v p c s is = and-then s (on_eject v (on_active (on_crew (set_waits p outside))) s) _
     (keeps-on_active v (on_crew (set_waits p outside)) s)
     (keeps-more (record { uid = v; process = Some p; change = c; made = 0 })
@@ -371,7 +371,7 @@ comes-down s = record {
   queue = record { unmade = tt; there = tt };
 }
 
-pub comes-then : (s t v : Site) (now : Uid → Facts) (work : Uid → Option Change) → Comes s t now work → Keeps t v → Comes s v now work
+pub comes-then : (s t v : Site) (now : Uid → Facts) (work : Uid → Option EjectChange) → Comes s t now work → Keeps t v → Comes s v now work
 comes-then s t v now work x keeps = let y = keeps x.queue in
     record {
       facts = λ u. y.facts u ∙ x.facts u;

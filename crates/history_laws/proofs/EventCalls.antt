@@ -23,7 +23,7 @@ use Rattle.epl_syntax.specs.declared.effect.Effect.TheVariants as effect
 use Rattle.epl_syntax.specs.Edentype.{Edentype}
 use Rattle.epl_syntax.specs.Meaning.{Turned, rep_of, type_of, first_values}
 use Rattle.passive_store.specs.declared.store.Pick.{Pick}
-use Rattle.journal.specs.Change.{Change, body, removal, kept_of}
+use Rattle.journal.specs.EjectChange.{EjectChange, body, removal, kept_of}
 use Rattle.journal.specs.declared.event.StartEnd.{StartEnd}
 use Rattle.journal.specs.declared.event.StartEnd.TheVariants as start_end
 use Rattle.journal.specs.declared.event.RequestEnd.{RequestEnd}
@@ -98,7 +98,7 @@ deactivated-on v s mid h = item-on s mid (eject_in mid v) _ h (λ e is. item-on 
 gone-on : (v : Uid) (s mid : Site) → On s mid → On s (gone_if_unkept v mid)
 gone-on v s mid h = item-on s mid (eject_in mid v) _ h (λ e is. cond-on (is_there e) s mid _ h (turned_away-on v status.Gone s mid h))
 
-asks-on : (v : Uid) (p : ℕ) (c : Change) (s mid : Site) → On s mid → On s (asks_store v p c mid)
+asks-on : (v : Uid) (p : ℕ) (c : EjectChange) (s mid : Site) → On s mid → On s (asks_store v p c mid)
 asks-on v p c s mid h = node-on _ s (on_eject v (on_active (on_crew (set_waits p outside))) mid)
     (eject-on v (on_active (on_crew (set_waits p outside))) s mid h)
 
@@ -213,7 +213,7 @@ ended-on r why s mid h = go r.process
     go None = node-on (λ it. record it { requests = rest it.requests }) s mid h
     go (Some p) = tells-on r.uid p (Code why) s ended (node-on (λ it. record it { requests = rest it.requests }) s mid h)
 
-removed-on : (c : Change) (v : Uid) (s mid : Site) → On s mid → On s (removed c v mid)
+removed-on : (c : EjectChange) (v : Uid) (s mid : Site) → On s mid → On s (removed c v mid)
 removed-on (body bytes) v s mid h = h
 removed-on removal v s mid h = turned_away-on v status.Gone s (deactivated v mid) (deactivated-on v s mid h)
 

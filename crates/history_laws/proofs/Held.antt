@@ -39,7 +39,7 @@ use Rattle.epl_syntax.proofs.Authority.{turn_keeps_caps, begin_keeps_caps, decla
 use Rattle.epl_syntax.proofs.Authority.{start_keeps_caps}
 use Rattle.passive_store.specs.declared.store.Pick.{Pick}
 use Rattle.passive_store.specs.declared.store.Pick.TheVariants as pick
-use Rattle.journal.specs.Change.{Change, body, removal, kept_of}
+use Rattle.journal.specs.EjectChange.{EjectChange, body, removal, kept_of}
 use Rattle.journal.specs.declared.event.BootEnd.{BootEnd}
 use Rattle.journal.specs.declared.event.BootEnd.TheVariants as boot_end
 use Rattle.journal.specs.declared.event.StartEnd.{StartEnd}
@@ -373,7 +373,7 @@ holds-gone : {n : ℕ} {D : Uid → List Cap} (v : Uid) (s : Site) → HoldsAt n
 holds-gone v s h = holds-item s (eject_in s v) _ (λ e is.
     holds-cond (is_there e) s (turned_away v status.Gone s) h (holds-turned_away v status.Gone s h)) h
 
-holds-asks : {n : ℕ} {D : Uid → List Cap} (v : Uid) (p : ℕ) (c : Change) (s : Site) → HoldsAt n D s → HoldsAt n D (asks_store v p c s)
+holds-asks : {n : ℕ} {D : Uid → List Cap} (v : Uid) (p : ℕ) (c : EjectChange) (s : Site) → HoldsAt n D s → HoldsAt n D (asks_store v p c s)
 holds-asks v p c s h = holds-on_node _ (on_eject v (on_active (on_crew (set_waits p outside))) s)
     (holds-on_crew v (set_waits p outside) s h)
 
@@ -562,7 +562,7 @@ holds-ended {n = n} {D = D} r why s h = go r.process
     go (Some p) = holds-tells r.uid p (Code why) (on_node (λ it. record it { requests = rest it.requests }) s) tt
         (holds-on_node (λ it. record it { requests = rest it.requests }) s h)
 
-holds-removed : {n : ℕ} {D : Uid → List Cap} (v : Uid) (c : Change) (s : Site) → HoldsAt n D s → HoldsAt n D (removed c v s)
+holds-removed : {n : ℕ} {D : Uid → List Cap} (v : Uid) (c : EjectChange) (s : Site) → HoldsAt n D s → HoldsAt n D (removed c v s)
 holds-removed v (body bytes) s h = h
 holds-removed v removal s h = holds-turned_away v status.Gone (deactivated v s) (holds-deactivated v s h)
 

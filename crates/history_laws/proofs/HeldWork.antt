@@ -38,7 +38,7 @@ use Rattle.epl_syntax.specs.declared.effect.Effect.TheVariants as effect
 use Rattle.epl_syntax.specs.Edentype.{Edentype}
 use Rattle.epl_syntax.specs.Meaning.{Turned, rep_of, type_of, first_values, values_from}
 use Rattle.passive_store.specs.declared.store.Pick.{Pick}
-use Rattle.journal.specs.Change.{Change, body, removal, kept_of}
+use Rattle.journal.specs.EjectChange.{EjectChange, body, removal, kept_of}
 use Rattle.journal.specs.declared.event.BootEnd.{BootEnd}
 use Rattle.journal.specs.declared.event.BootEnd.TheVariants as boot_end
 use Rattle.journal.specs.declared.event.StartEnd.{StartEnd}
@@ -372,7 +372,7 @@ part-waits : (v : Uid) (p : ℕ) (first s : Site) → Part [] first s → Part [
 part-waits v p first s h = part-on_active v (on_crew (set_waits p outside)) [] first s (λ it at k.
     rw (runs-set p outside it.crew) (omega arith)) h
 
-part-asks : (v : Uid) (p : ℕ) (c : Change) (first s : Site) → Part [] first s → Part [] first (asks_store v p c s)
+part-asks : (v : Uid) (p : ℕ) (c : EjectChange) (first s : Site) → Part [] first s → Part [] first (asks_store v p c s)
 part-asks v p c first s h = part-on_node [] _ first (on_eject v (on_active (on_crew (set_waits p outside))) s) (λ u.
     record { active = refl; queued = refl }) (part-waits v p first s h)
 
@@ -693,7 +693,7 @@ part-ended r why first s h = go r.process
     go None = part-same (λ it. record it { requests = rest it.requests }) first s refl h
     go (Some p) = part-tells r.uid p (Code why) first ended_one (part-same (λ it. record it { requests = rest it.requests }) first s refl h)
 
-part-removed : (c : Change) (v : Uid) (first s : Site) → Part [] first s → Part [] first (removed c v s)
+part-removed : (c : EjectChange) (v : Uid) (first s : Site) → Part [] first s → Part [] first (removed c v s)
 part-removed (body bytes) v first s h = h
 part-removed removal v first s h = part-turned_away v status.Gone first (deactivated v s) (part-deactivated v first s h)
 

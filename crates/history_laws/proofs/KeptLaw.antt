@@ -22,7 +22,7 @@ use Rattle.epl_syntax.specs.declared.effect.Effect.{Effect}
 use Rattle.epl_syntax.specs.declared.effect.Effect.TheVariants as effect
 use Rattle.epl_syntax.specs.Edentype.{Edentype}
 use Rattle.epl_syntax.specs.Meaning.{rep_of, type_of, first_values}
-use Rattle.journal.specs.Change.{Change, body, removal}
+use Rattle.journal.specs.EjectChange.{EjectChange, body, removal}
 use Rattle.journal.specs.World.{Site, Node, Eject, Active, eject_in, on_eject, on_node, on_traffic}
 use Rattle.journal.specs.Ejects.{with_active, with_queued, on_active, on_crew, is_there, told, tells, without_requests, deactivated}
 use Rattle.journal.specs.Ejects.{turned_away, gone_if_unkept, fresh, next_uid, newborn, born}
@@ -99,7 +99,7 @@ kept-gone u v s = kept-item u s (eject_in s v) (λ e. cond (is_there e) s (turne
     (λ e. elim (is_there e) as (λ b. kept_in (cond b s (turned_away v status.Gone s)) u ≡ kept_in s u)
     [ true ↦ refl | false ↦ kept-turned_away u v status.Gone s ])
 
-kept-asks : (u v : Uid) (p : ℕ) (c : Change) (s : Site) → kept_in (asks_store v p c s) u ≡ kept_in s u
+kept-asks : (u v : Uid) (p : ℕ) (c : EjectChange) (s : Site) → kept_in (asks_store v p c s) u ≡ kept_in s u
 kept-asks u v p c s =
     kept-on_node u (λ it. record it { requests = _ }) (λ it. refl) (on_eject v (on_active (on_crew (set_waits p outside))) s)
     ∙ kept-on_active u v (on_crew (set_waits p outside)) s

@@ -18,7 +18,7 @@ use Rattle.eden_model.proofs.Laws.{eq-same}
 use Rattle.epl_syntax.specs.declared.effect.Answer.TheVariants.{Reply as Told, Code}
 use Rattle.passive_store.specs.declared.store.Pick.{Pick}
 use Rattle.passive_store.specs.declared.store.Pick.TheVariants as pick
-use Rattle.journal.specs.Change.{Change, body, removal, kept_of}
+use Rattle.journal.specs.EjectChange.{EjectChange, body, removal, kept_of}
 use Rattle.journal.specs.declared.event.RequestEnd.{RequestEnd}
 use Rattle.journal.specs.declared.event.RequestEnd.TheVariants as end
 use Rattle.journal.specs.World.{Site, Eject, StoreRequest, eject_in, on_eject, on_node, on_traffic}
@@ -92,7 +92,7 @@ settled-one : (o : Option Eject) → (kept_of_eject (option_map (settled_eject p
 settled-one None = inl refl
 settled-one (Some e) = go e.doubt refl
   where
-    go : (d : Option Change) → e.doubt ≡ d → (with_item e.doubt kept_of e.kept ≡ e.kept) ⊎ IsTrue (is_some e.doubt)
+    go : (d : Option EjectChange) → e.doubt ≡ d → (with_item e.doubt kept_of e.kept ≡ e.kept) ⊎ IsTrue (is_some e.doubt)
     go None is = inl (rw is refl)
     go (Some c) is = inr (rw is refl)
 
@@ -122,7 +122,7 @@ kept-ended : (u : Uid) (r : StoreRequest) (why : Status) (s : Site) → kept_in 
 kept-ended u r why s = kept-tells_code u r.uid r.process why (on_node (λ it. record it { requests = rest it.requests }) s)
     ∙ kept-on_node u (λ it. record it { requests = rest it.requests }) (λ it. refl) s
 
-kept-removed : (u v : Uid) (c : Change) (s : Site) → kept_in (removed c v s) u ≡ kept_in s u
+kept-removed : (u v : Uid) (c : EjectChange) (s : Site) → kept_in (removed c v s) u ≡ kept_in s u
 kept-removed u v (body bytes) s = refl
 kept-removed u v removal s = kept-turned_away u v status.Gone (deactivated v s) ∙ kept-deactivated u v s
 

@@ -29,7 +29,7 @@ use Rattle.epl_syntax.specs.declared.effect.Effect.TheVariants as effect
 use Rattle.epl_syntax.specs.Edentype.{Edentype}
 use Rattle.epl_syntax.specs.Meaning.{rep_of, type_of, first_values}
 use Rattle.passive_store.specs.declared.store.Pick.{Pick}
-use Rattle.journal.specs.Change.{Change, body, removal, kept_of}
+use Rattle.journal.specs.EjectChange.{EjectChange, body, removal, kept_of}
 use Rattle.journal.specs.declared.event.BootEnd.{BootEnd}
 use Rattle.journal.specs.declared.event.StartEnd.{StartEnd}
 use Rattle.journal.specs.declared.event.StartEnd.TheVariants as start_end
@@ -253,7 +253,7 @@ asks-gone : {Q : ℕ → Type 0} (v : Uid) (s : Site) → Asks Q s → Asks Q (g
 asks-gone v s h = asks-item s (eject_in s v) _
     (λ e. asks-cond (is_there e) s (turned_away v status.Gone s) h (asks-turned_away v status.Gone s h)) h
 
-asks-asks : {Q : ℕ → Type 0} (v : Uid) (p : ℕ) (c : Change) (s : Site) → Asks Q s → Asks Q (asks_store v p c s)
+asks-asks : {Q : ℕ → Type 0} (v : Uid) (p : ℕ) (c : EjectChange) (s : Site) → Asks Q s → Asks Q (asks_store v p c s)
 asks-asks v p c s h = asks-on_node _ (on_eject v (on_active (on_crew (set_waits p outside))) s)
     (asks-on_eject v (on_active (on_crew (set_waits p outside))) s h)
 
@@ -357,7 +357,7 @@ asks-ended {Q = Q} r why s h = go r.process
     go (Some p) = asks-tells r.uid p (Code why) (on_node (λ it. record it { requests = rest it.requests }) s)
         (asks-on_node (λ it. record it { requests = rest it.requests }) s h)
 
-asks-removed : {Q : ℕ → Type 0} (v : Uid) (c : Change) (s : Site) → Asks Q s → Asks Q (removed c v s)
+asks-removed : {Q : ℕ → Type 0} (v : Uid) (c : EjectChange) (s : Site) → Asks Q s → Asks Q (removed c v s)
 asks-removed v (body bytes) s h = h
 asks-removed v removal s h = asks-turned_away v status.Gone (deactivated v s) (asks-deactivated v s h)
 

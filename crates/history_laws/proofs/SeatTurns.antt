@@ -41,7 +41,7 @@ use Rattle.epl_syntax.specs.Monitors.{inside, inside_rest}
 use Rattle.epl_syntax.specs.Meaning.{of_declared, Turned, turn, begin, declared, setup_of, rep_of, type_of, first_values, values_from}
 use Rattle.passive_store.specs.declared.store.Pick.{Pick}
 use Rattle.passive_store.specs.declared.store.Pick.TheVariants as pick
-use Rattle.journal.specs.Change.{Change, body, removal, kept_of}
+use Rattle.journal.specs.EjectChange.{EjectChange, body, removal, kept_of}
 use Rattle.journal.specs.declared.event.BootEnd.{BootEnd}
 use Rattle.journal.specs.declared.event.BootEnd.TheVariants as boot_end
 use Rattle.journal.specs.declared.event.StartEnd.{StartEnd}
@@ -291,7 +291,7 @@ module _ (o : Turnover) where
   seats-outside v p s runs h = seats-on_active v (on_crew (set_waits p outside)) s (λ it at x.
       in-set (has_monitor it.kind) (condition_of it.kind) p outside nothing it.crew _ (runs it at) tt tt x) h
 
-  pub seats-asks : (v : Uid) (p : ℕ) (c : Change) (s : Site) → ((it : Active) → HasPart s v it → Runs it.crew p) → SeatsIn o s
+  pub seats-asks : (v : Uid) (p : ℕ) (c : EjectChange) (s : Site) → ((it : Active) → HasPart s v it → Runs it.crew p) → SeatsIn o s
       → SeatsIn o (asks_store v p c s)
   seats-asks v p c s runs h = seats-on_node (λ it. record it {
     requests = it.requests ++ record { uid = v; process = Some p; change = c; made = 0 } ∷ [];
@@ -678,7 +678,7 @@ seats-request_ended r why s loose h = go r.process refl
 seats-done : (r : StoreRequest) (s : Site) → LooseFor s r → SeatsIn settled_so s → SeatsIn settled_so (done r s)
 seats-done r s loose h = go r.change (seats-request_ended r status.Ok s loose h)
   where
-    go : (c : Change) → SeatsIn settled_so (request_ended r status.Ok s)
+    go : (c : EjectChange) → SeatsIn settled_so (request_ended r status.Ok s)
         → SeatsIn settled_so (removed c r.uid (request_ended r status.Ok s))
     go (body bytes) x = x
     go removal x = seats-turned_away settled_so r.uid status.Gone (deactivated r.uid (request_ended r status.Ok s))

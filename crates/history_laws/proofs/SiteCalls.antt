@@ -15,7 +15,7 @@ use Rattle.eden_model.specs.Crew.{outside, set_waits}
 use Rattle.eden_model.specs.Traffic.{Traffic, Call, call_at, next_call, new_call, with_call}
 use Rattle.eden_model.specs.declared.Asker.{Asker}
 use Rattle.eden_model.specs.declared.Asker.TheVariants.{Eject as Asking}
-use Rattle.journal.specs.Change.{Change}
+use Rattle.journal.specs.EjectChange.{EjectChange}
 use Rattle.journal.specs.World.{StoreRequest, Site, eject_in, on_eject, on_node, on_traffic}
 use Rattle.journal.specs.Ejects.{on_active, on_crew}
 use Rattle.journal.specs.Processes.{asks_store}
@@ -43,14 +43,14 @@ both-true : (a b : Bool) → (a && b) ≡ true → (a ≡ true) × (b ≡ true)
 both-true true b e = (refl, e)
 both-true false b e = absurd (cc e)
 
-abbrev asking : Uid → ℕ → Change → StoreRequest
+abbrev asking : Uid → ℕ → EjectChange → StoreRequest
 asking v p change = record { uid = v; process = Some p; change = change; made = 0 }
 
 zero-unless : (n : ℕ) → (1 ≤ n → ⊥) → n ≡ 0
 zero-unless zero not_some = refl
 zero-unless (suc n) not_some = absurd (not_some (omega arith))
 
-stays-asked : (v : Uid) (p : ℕ) (change : Change) (s : Site) → v.node ≡ s.number → (Claims s v p → ⊥) → WaitsIn (eject_in s v) p
+stays-asked : (v : Uid) (p : ℕ) (change : EjectChange) (s : Site) → v.node ≡ s.number → (Claims s v p → ⊥) → WaitsIn (eject_in s v) p
     → SoundSite s
     → StaysSound s (on_node (λ it. record it { requests = it.requests ++ asking v p change ∷ [] }) s)
 unfolding on_node
@@ -104,7 +104,7 @@ stays-asked v p change s here free waits h = record {
       laid = fit.laid;
     }
 
-pub stays-asks : (v : Uid) (p : ℕ) (change : Change) (s : Site) → Ready s v p → SoundSite s → StaysSound s (asks_store v p change s)
+pub stays-asks : (v : Uid) (p : ℕ) (change : EjectChange) (s : Site) → Ready s v p → SoundSite s → StaysSound s (asks_store v p change s)
 stays-asks v p change s ready h = let step = nothing-waits v p s ready in
     stays-then s (on_eject v (on_active (on_crew (set_waits p outside))) s) (asks_store v p change s)
     (nothing-stays s (on_eject v (on_active (on_crew (set_waits p outside))) s) step h)

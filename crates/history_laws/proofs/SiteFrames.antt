@@ -21,7 +21,7 @@ use Rattle.epl_syntax.specs.declared.effect.Effect.TheVariants as effect
 use Rattle.epl_syntax.specs.Edentype.{Edentype}
 use Rattle.epl_syntax.specs.Meaning.{rep_of, type_of, first_values}
 use Rattle.passive_store.specs.declared.store.Pick.{Pick}
-use Rattle.journal.specs.Change.{Change, body, removal, kept_of}
+use Rattle.journal.specs.EjectChange.{EjectChange, body, removal, kept_of}
 use Rattle.journal.specs.declared.event.BootEnd.{BootEnd}
 use Rattle.journal.specs.declared.event.BootEnd.TheVariants as boot_end
 use Rattle.journal.specs.declared.event.StartEnd.{StartEnd}
@@ -157,7 +157,7 @@ leaves-gone : (v : Uid) (s : Site) → Leaves with_ejects s (gone_if_unkept v s)
 leaves-gone v s = leaves-item with_ejects ejects s (eject_in s v) _ (λ e.
     leaves-cond with_ejects (is_there e) s s _ (leaves-same with_ejects ejects s) (leaves-turned_away v status.Gone s))
 
-leaves-asks : (v : Uid) (p : ℕ) (c : Change) (s : Site) → Leaves with_work s (asks_store v p c s)
+leaves-asks : (v : Uid) (p : ℕ) (c : EjectChange) (s : Site) → Leaves with_work s (asks_store v p c s)
 leaves-asks v p c s = let waits : Site = on_eject v (on_active (on_crew (set_waits p outside))) s in
     leaves-then with_work work s waits _ (wider-work s waits (leaves-on_eject v (on_active (on_crew (set_waits p outside))) s))
     (leaves-on_node with_work (λ it. record it {
@@ -264,7 +264,7 @@ leaves-ended r why s = leaves-then with_work work s ended _ (leaves-on_node with
     code None = leaves-same with_ejects ejects ended
     code (Some p) = leaves-tells r.uid p (Code why) ended
 
-leaves-removed : (c : Change) (v : Uid) (s : Site) → Leaves with_work s (removed c v s)
+leaves-removed : (c : EjectChange) (v : Uid) (s : Site) → Leaves with_work s (removed c v s)
 leaves-removed (body bytes) v s = leaves-same with_work work s
 leaves-removed removal v s = leaves-then with_work work s (deactivated v s) _ (leaves-deactivated v s)
     (wider-work (deactivated v s) _ (leaves-turned_away v status.Gone (deactivated v s)))

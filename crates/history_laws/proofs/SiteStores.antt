@@ -22,7 +22,7 @@ use Rattle.epl_syntax.specs.Edentype.{Edentype}
 use Rattle.epl_syntax.specs.Meaning.{type_of, durable_from, started_from, values_from}
 use Rattle.passive_store.specs.declared.store.Pick.{Pick}
 use Rattle.passive_store.specs.declared.store.Pick.TheVariants as pick
-use Rattle.journal.specs.Change.{Change, body, removal, kept_of}
+use Rattle.journal.specs.EjectChange.{EjectChange, body, removal, kept_of}
 use Rattle.journal.specs.World.{Eject, StoreRequest, Node, Site, eject_in, on_eject, on_node}
 use Rattle.journal.specs.Ejects.{tells, deactivated, fresh}
 use Rattle.journal.specs.Processes.{start}
@@ -142,7 +142,7 @@ made-same u p (r ∷ rs) = omega arith
 
 -- 3. A turn of the store
 
-stays-removed : (c : Change) (v : Uid) (s : Site) → v.node ≡ s.number → SoundSite s → StaysSound s (removed c v s)
+stays-removed : (c : EjectChange) (v : Uid) (s : Site) → v.node ≡ s.number → SoundSite s → StaysSound s (removed c v s)
 stays-removed (body bytes) v s here h = stays-same s h
 stays-removed removal v s here h = let one = stays-deactivated v s here h in
     stays-then s (deactivated v s) _ one (λ later. stays-turned_away v status.Gone (deactivated v s) (here ∙ sym one.number) later)

@@ -30,7 +30,7 @@ use Rattle.epl_syntax.specs.declared.types.Native.{Native}
 use Rattle.epl_syntax.specs.declared.types.Native.TheVariants as code
 use Rattle.epl_syntax.specs.Edentype.{Edentype, native, declared}
 use Rattle.epl_syntax.specs.Meaning.{setup_of, rep_of, type_of, first_values}
-use Rattle.journal.specs.Change.{body, removal}
+use Rattle.journal.specs.EjectChange.{body, removal}
 use Rattle.journal.specs.World.{Active, Eject, Site, eject_in, on_eject, on_node, on_traffic}
 use Rattle.journal.specs.Ejects.{with_active, on_active, on_crew, tells, deactivated, fresh, next_uid, newborn, born}
 use Rattle.journal.specs.Processes.{serving, without_process, asks_store, answers, refused_at_once, waits_or_told, creates, checkpoints}

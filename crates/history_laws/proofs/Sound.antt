@@ -31,7 +31,7 @@ use Rattle.epl_syntax.specs.Edentype.{Edentype}
 use Rattle.epl_syntax.specs.Meaning.{rep_of, type_of, first_values, values_from}
 use Rattle.passive_store.specs.declared.store.Pick.{Pick}
 use Rattle.passive_store.specs.declared.store.Pick.TheVariants as pick
-use Rattle.journal.specs.Change.{Change, body, removal, kept_of}
+use Rattle.journal.specs.EjectChange.{EjectChange, body, removal, kept_of}
 use Rattle.journal.specs.declared.event.BootEnd.{BootEnd}
 use Rattle.journal.specs.declared.event.BootEnd.TheVariants as boot_end
 use Rattle.journal.specs.declared.event.StartEnd.{StartEnd}
@@ -211,7 +211,7 @@ sound-gone : {n : ℕ} (v : Uid) (s : Site) → Sound n s.node → Sound n (gone
 sound-gone v s h = sound-item s (eject_in s v) (λ e. cond (is_there e) s (turned_away v status.Gone s))
     (λ e is. sound-cond (is_there e) s (turned_away v status.Gone s) h (sound-turned_away v status.Gone s h)) h
 
-sound-asks : {n : ℕ} (v : Uid) (p : ℕ) (c : Change) (s : Site) → is_some (eject_in s v) ≡ true → Sound n s.node
+sound-asks : {n : ℕ} (v : Uid) (p : ℕ) (c : EjectChange) (s : Site) → is_some (eject_in s v) ≡ true → Sound n s.node
     → Sound n (asks_store v p c s).node
 sound-asks {n = n} v p c s is h = let t = on_eject v (on_active (on_crew (set_waits p outside))) s in
     sound-on_node (λ it. record it { requests = it.requests ++ record { uid = v; process = Some p; change = c; made = 0 } ∷ [] }) t
@@ -401,7 +401,7 @@ sound-ended {n = n} r why s h = go r.process
     go (Some p) = sound-tells r.uid p (Code why) (on_node (λ it. record it { requests = rest it.requests }) s)
         (sound-on_node (λ it. record it { requests = rest it.requests }) s (sound-rest n s.node.size s.node.requests s.node.ejects h))
 
-sound-removed : {n : ℕ} (v : Uid) (c : Change) (s : Site) → Sound n s.node → Sound n (removed c v s).node
+sound-removed : {n : ℕ} (v : Uid) (c : EjectChange) (s : Site) → Sound n s.node → Sound n (removed c v s).node
 sound-removed v (body bytes) s h = h
 sound-removed v removal s h = sound-turned_away v status.Gone (deactivated v s) (sound-deactivated v s h)
 

@@ -9,7 +9,7 @@ use Rattle.eden_model.specs.Map.{with_item, uid_cmp, value_at}
 use Rattle.eden_model.proofs.Laws.{eq-same}
 use Rattle.passive_store.specs.declared.store.Pick.{Pick}
 use Rattle.passive_store.specs.declared.store.Pick.TheVariants as pick
-use Rattle.journal.specs.Change.{Change, kept_of}
+use Rattle.journal.specs.EjectChange.{EjectChange, kept_of}
 use Rattle.journal.specs.World.{World, Site, Node, node_at, eject_at, at_node, site_of}
 use Rattle.journal.specs.Run.{Step}
 use Rattle.journal.specs.Kept.{cut_short, in_progress, start_bytes}
@@ -24,10 +24,10 @@ abbrev pub held_of : World → Uid → Option (List ℕ)
 held_of opening u = with_item (eject_at opening u) (λ e. e.kept) None
 
 -- what a node says of u
-abbrev pub By : (Facts → Option Change → Type 0) → Uid → Option Node → Type 0
+abbrev pub By : (Facts → Option EjectChange → Type 0) → Uid → Option Node → Type 0
 By C u o = C (facts_of (with_item o (λ it. value_at uid_cmp u it.ejects) None)) (with_item o (λ it. begun it.requests u) None)
 
-pub lift : (w : World) (n : ℕ) (f : Site → Site) (u : Uid) (C : Facts → Option Change → Type 0)
+pub lift : (w : World) (n : ℕ) (f : Site → Site) (u : Uid) (C : Facts → Option EjectChange → Type 0)
     → ((it : Node) → node_at w n ≡ Some it → u.node ≡ n → node_at w u.node ≡ Some it → By C u (Some (after_at n f w it)))
     → (eq_by_cmp nat_cmp u.node n ≡ false → By C u (node_at w u.node))
     → (node_at w n ≡ None → By C u (node_at w u.node))
@@ -103,6 +103,6 @@ pub start-picked : (held : Option (List ℕ)) (u : Uid) (f : Facts) (p : Pick) (
 start-picked held u f pick.Old past t = t.kept
 start-picked held u f pick.New past t = λ i. with_item (none-begun held u f past t i) kept_of (t.kept i)
 
-pub start-unpicked : (held : Option (List ℕ)) (u : Uid) (f : Facts) (now : Option Change) (past : List Step) → IsTold held u f now past
+pub start-unpicked : (held : Option (List ℕ)) (u : Uid) (f : Facts) (now : Option EjectChange) (past : List Step) → IsTold held u f now past
     → f.0 ≡ start_bytes held u None past
 start-unpicked held u f now past t = t.kept

@@ -6,7 +6,7 @@ use Rattle.capability.specs.declared.Uid.{Uid}
 use Rattle.eden_value.specs.declared.status.Status.TheVariants as status
 use Rattle.eden_model.specs.Map.{with_item, same_uid, first}
 use Rattle.passive_store.specs.declared.store.Pick.{Pick}
-use Rattle.journal.specs.Change.{Change}
+use Rattle.journal.specs.EjectChange.{EjectChange}
 use Rattle.journal.specs.declared.event.StartEnd.{StartEnd}
 use Rattle.journal.specs.declared.event.StartEnd.TheVariants as start_end
 use Rattle.journal.specs.declared.event.BootEnd.{BootEnd}
@@ -31,10 +31,10 @@ abbrev pub is_stopped : StartEnd → Bool
 is_stopped start_end.Stop = true
 is_stopped _ = false
 
-abbrev left_begun : StartEnd → (Uid → Option Change) → Uid → Option Change
+abbrev left_begun : StartEnd → (Uid → Option EjectChange) → Uid → Option EjectChange
 left_begun how work u = cond (is_stopped how) None (work u)
 
-comes-activated : (how : StartEnd) (v : Uid) (s t : Site) (now : Uid → Facts) (work : Uid → Option Change) → Comes s t now work
+comes-activated : (how : StartEnd) (v : Uid) (s t : Site) (now : Uid → Facts) (work : Uid → Option EjectChange) → Comes s t now work
     → Comes s (activated v how t) now (left_begun how work)
 comes-activated start_end.Ok v s t now work x = comes-then s t (activated v start_end.Ok t) now work x (keeps-awake v t)
 comes-activated start_end.Gone v s t now work x = comes-then s t (activated v start_end.Gone t) now work x
@@ -49,7 +49,7 @@ pub idle-begun : (rs : List StoreRequest) (u : Uid) → with_item (first rs) (λ
 idle-begun [] u is = refl
 idle-begun (r ∷ rs) u is = go (same_uid r.uid u) (nat_lt 0 r.made) is
   where
-    go : (a b : Bool) → b ≡ false → cond {A = Option Change} (a && b) (Some r.change) None ≡ None
+    go : (a b : Bool) → b ≡ false → cond {A = Option EjectChange} (a && b) (Some r.change) None ≡ None
     go true true e = absurd (cc e)
     go true false e = refl
     go false b e = refl
@@ -85,7 +85,7 @@ activation-leaves held u past st s v how p q starts seen t = go (to_settle s) re
         by_stop true x = told-crash held u past st (facts_in s u) (begun s.node.requests u) x t
         by_stop false x = told-quiet held u past st (facts_in s u) (begun s.node.requests u) x t
 
-    gone : (b : Bool) (o : Option Change) → o ≡ None → None ≡ cond b None o
+    gone : (b : Bool) (o : Option EjectChange) → o ≡ None → None ≡ cond b None o
     gone true o e = refl
     gone false o e = sym e
 
@@ -174,7 +174,7 @@ told-at opening w past st n f it is here elsewhere all = record {
   queues = queue-at_node w n f (λ jt at q. home-queue jt at) all.queues;
 }
   where
-    C : (u : Uid) (past : List Step) → Facts → Option Change → Type 0
+    C : (u : Uid) (past : List Step) → Facts → Option EjectChange → Type 0
     C u past facts now = IsTold (held_of opening u) u facts now past
 
     left : (u : Uid) → u.node ≡ n → node_at w u.node ≡ Some it → Leaves (held_of opening u) u (st ∷ past) (f (site_of w n it))

@@ -18,7 +18,7 @@ use Rattle.epl_syntax.specs.declared.effect.Answer.TheVariants.{Reply as Told}
 use Rattle.epl_syntax.specs.Edentype.{Edentype}
 use Rattle.epl_syntax.specs.Meaning.{type_of, first_values}
 use Rattle.passive_store.specs.declared.store.Pick.{Pick}
-use Rattle.journal.specs.Change.{Change}
+use Rattle.journal.specs.EjectChange.{EjectChange}
 use Rattle.journal.specs.declared.command.Command.{Command}
 use Rattle.journal.specs.declared.command.Command.TheVariants as command
 use Rattle.journal.specs.declared.event.Key.{Key}
@@ -112,7 +112,7 @@ own-elsewhere : (u v : Uid) (s : Site) (r : StoreRequest) (how : RequestEnd) →
 own-elsewhere u v s r how of other = go (same_uid r.uid u) refl (makes_own_call (work_of s r))
   where
     go : (a : Bool) → same_uid r.uid u ≡ a → (b : Bool)
-        → cond {A = Option (Change × RequestEnd)} (a && b) (Some (r.change, how)) None ≡ None
+        → cond {A = Option (EjectChange × RequestEnd)} (a && b) (Some (r.change, how)) None ≡ None
     go false is b = refl
     go true is b = absurd (let same : v ≡ u = of ∙ eq-same uid_cmp uid_cmp-IsAntisymmetric r.uid u is in
         let bad : true ≡ false = sym (eq-eqb v.node u.node (ap (λ (x : Uid). x.node) same)) ∙ other in cc bad)

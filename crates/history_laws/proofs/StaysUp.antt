@@ -22,7 +22,7 @@ use Rattle.epl_syntax.specs.Edentype.{Edentype}
 use Rattle.epl_syntax.specs.Meaning.{rep_of, type_of, first_values}
 use Rattle.passive_store.specs.declared.store.Pick.{Pick}
 use Rattle.passive_store.specs.declared.store.Pick.TheVariants as pick
-use Rattle.journal.specs.Change.{Change, body, removal, kept_of}
+use Rattle.journal.specs.EjectChange.{EjectChange, body, removal, kept_of}
 use Rattle.journal.specs.declared.event.StartEnd.{StartEnd}
 use Rattle.journal.specs.declared.event.StartEnd.TheVariants as start_end
 use Rattle.journal.specs.declared.event.RequestEnd.{RequestEnd}
@@ -85,7 +85,7 @@ up-gone : (v : Uid) (s : Site) → IsUp s → IsUp (gone_if_unkept v s)
 up-gone v s h = up-item s (eject_in s v) _
     (λ e is. up-cond (is_there e) s (turned_away v status.Gone s) h (up-turned_away v status.Gone s h)) h
 
-up-asks : (v : Uid) (p : ℕ) (c : Change) (s : Site) → IsUp s → IsUp (asks_store v p c s)
+up-asks : (v : Uid) (p : ℕ) (c : EjectChange) (s : Site) → IsUp s → IsUp (asks_store v p c s)
 up-asks v p c s h = up-on_node _ (on_eject v (on_active (on_crew (set_waits p outside))) s)
     (up-on_eject v (on_active (on_crew (set_waits p outside))) s h)
 
@@ -169,7 +169,7 @@ up-ended r why s h = go r.process
     go (Some p) = up-tells r.uid p (Code why) (on_node (λ it. record it { requests = rest it.requests }) s)
         (up-on_node (λ it. record it { requests = rest it.requests }) s h)
 
-up-removed : (v : Uid) (c : Change) (s : Site) → IsUp s → IsUp (removed c v s)
+up-removed : (v : Uid) (c : EjectChange) (s : Site) → IsUp s → IsUp (removed c v s)
 up-removed v (body bytes) s h = h
 up-removed v removal s h = up-turned_away v status.Gone (deactivated v s) (up-deactivated v s h)
 

@@ -14,7 +14,7 @@ use Rattle.eden_model.proofs.Laws.{eq-same}
 use Rattle.epl_syntax.specs.declared.effect.Answer.TheVariants.{Code}
 use Rattle.passive_store.specs.declared.store.Pick.{Pick}
 use Rattle.passive_store.specs.declared.store.Pick.TheVariants as pick
-use Rattle.journal.specs.Change.{Change, body, removal, kept_of}
+use Rattle.journal.specs.EjectChange.{EjectChange, body, removal, kept_of}
 use Rattle.journal.specs.declared.event.RequestEnd.{RequestEnd}
 use Rattle.journal.specs.declared.event.RequestEnd.TheVariants as end
 use Rattle.journal.specs.World.{Site, Eject, StoreRequest, eject_in, on_eject, on_node}
@@ -97,7 +97,7 @@ comes-ended r why s q = comes-then s (on_node (λ it. record it { requests = res
     (λ u. None) (comes-rest s q)
     (keeps-tells_code r.uid r.process why (on_node (λ it. record it { requests = rest it.requests }) s))
 
-keeps-removed : (c : Change) (v : Uid) (s : Site) → Keeps s (removed c v s)
+keeps-removed : (c : EjectChange) (v : Uid) (s : Site) → Keeps s (removed c v s)
 keeps-removed (body bytes) v s = stays s
 keeps-removed removal v s = and-then s (deactivated v s) _ (keeps-deactivated v s) (keeps-turned_away v status.Gone (deactivated v s))
 
@@ -106,8 +106,8 @@ comes-done r s q = comes-then s (request_ended r status.Ok s) (done r s) (facts_
     (keeps-removed r.change r.uid (request_ended r status.Ok s))
 
 -- one change, then another, of which the first has an equation for each
-pub comes-after : (s t v : Site) (now later : Uid → Facts) (work next : Uid → Option Change) → Comes s t now work → Comes t v later next
-    → ((u : Uid) → later u ≡ now u) → Comes s v now next
+pub comes-after : (s t v : Site) (now later : Uid → Facts) (work next : Uid → Option EjectChange) → Comes s t now work
+    → Comes t v later next → ((u : Uid) → later u ≡ now u) → Comes s v now next
 comes-after s t v now later work next x y same =
     record { facts = λ u. y.facts u ∙ same u; works = y.works; there = λ u h. y.there u (x.there u h); queue = y.queue }
 
@@ -206,23 +206,23 @@ same-sym u v = go (same_uid u v) refl (same_uid v u) refl
 
 -- 4. What the entries tell after one more
 
-abbrev in_step : Bool → Option (Change × RequestEnd) → Option Change → Option Change
+abbrev in_step : Bool → Option (EjectChange × RequestEnd) → Option EjectChange → Option EjectChange
 in_step crash own before = cond crash None (with_item own under_way before)
 
-abbrev cut_step : Option Pick → Option (Change × RequestEnd) → Bool → Option Change → Option Change → Option Change
+abbrev cut_step : Option Pick → Option (EjectChange × RequestEnd) → Bool → Option EjectChange → Option EjectChange → Option EjectChange
 cut_step p own crash begun cut = cond (is_some p) None (with_item own cut_by (cond crash (or_else begun cut) cut))
 
-abbrev kept_step : Option Pick → Option (Change × RequestEnd) → Option Change → Option (List ℕ) → Option (List ℕ)
+abbrev kept_step : Option Pick → Option (EjectChange × RequestEnd) → Option EjectChange → Option (List ℕ) → Option (List ℕ)
 kept_step p own cut before = with_item (or_else (with_item own acknowledged None) (with_pick p cut)) kept_of before
 
 -- what the entry is to the Eject: its own call, its pick and its crash
-pub record IsSeen (u : Uid) (st : Step) (own : Option (Change × RequestEnd)) (p : Option Pick) (crash : Bool) : Type 0 where
+pub record IsSeen (u : Uid) (st : Step) (own : Option (EjectChange × RequestEnd)) (p : Option Pick) (crash : Bool) : Type 0 where
   pub own_is : own_call u st.world st.entry.event ≡ own
   pub pick_is : picked u.node st.entry.event ≡ p
   pub crash_is : crashes u.node st.entry.event ≡ crash
 
-told-by : (held : Option (List ℕ)) (u : Uid) (past : List Step) (st : Step) (own : Option (Change × RequestEnd)) (p : Option Pick)
-    (crash : Bool) (f : Facts) (now : Option Change)
+told-by : (held : Option (List ℕ)) (u : Uid) (past : List Step) (st : Step) (own : Option (EjectChange × RequestEnd)) (p : Option Pick)
+    (crash : Bool) (f : Facts) (now : Option EjectChange)
     → IsSeen u st own p crash
     → f.0 ≡ kept_step p own (cut_short u past) (last_kept held u past)
     → f.1 ≡ or_else (in_step crash own (in_progress u past)) (cut_step p own crash (in_progress u past) (cut_short u past))
@@ -235,15 +235,15 @@ told-by held u past st own p crash f now seen k d b = record {
 }
 
 -- nothing of u; a crash; a pick, where nothing of u is begun
-pub told-quiet : (held : Option (List ℕ)) (u : Uid) (past : List Step) (st : Step) (f : Facts) (now : Option Change)
+pub told-quiet : (held : Option (List ℕ)) (u : Uid) (past : List Step) (st : Step) (f : Facts) (now : Option EjectChange)
     → IsSeen u st None None false → IsTold held u f now past → IsTold held u f now (st ∷ past)
 told-quiet held u past st f now seen t = told-by held u past st None None false f now seen t.kept t.doubt t.begun
 
-pub told-crash : (held : Option (List ℕ)) (u : Uid) (past : List Step) (st : Step) (f : Facts) (now : Option Change)
+pub told-crash : (held : Option (List ℕ)) (u : Uid) (past : List Step) (st : Step) (f : Facts) (now : Option EjectChange)
     → IsSeen u st None None true → IsTold held u f now past → IsTold held u f None (st ∷ past)
 told-crash held u past st f now seen t = told-by held u past st None None true f None seen t.kept t.doubt refl
 
-pub none-first : (a b : Option Change) → a ≡ None → or_else a b ≡ b
+pub none-first : (a b : Option EjectChange) → a ≡ None → or_else a b ≡ b
 none-first a b is = ap (λ o. or_else o b) is
 
 pub told-picked : (held : Option (List ℕ)) (u : Uid) (past : List Step) (st : Step) (f : Facts) (p : Pick) (crash : Bool)
@@ -277,7 +277,7 @@ pub record Leaves (held : Option (List ℕ)) (u : Uid) (past : List Step) (t : S
   pub told : IsTold held u (facts_in t u) (begun t.node.requests u) past
   pub queue : Queued t
 
-pub leaves : (held : Option (List ℕ)) (u : Uid) (past : List Step) (s t : Site) (now : Uid → Facts) (work : Uid → Option Change)
+pub leaves : (held : Option (List ℕ)) (u : Uid) (past : List Step) (s t : Site) (now : Uid → Facts) (work : Uid → Option EjectChange)
     → Comes s t now work → IsTold held u (now u) (work u) past → Leaves held u past t
 leaves held u past s t now work x told = record {
   told = record {
@@ -303,26 +303,26 @@ is_stop _ = false
 no-own : (u : Uid) (s : Site) (r : StoreRequest) (how : RequestEnd) → makes_own_call (work_of s r) ≡ false → own_call_of u s r how ≡ None
 no-own u s r how is = go (same_uid r.uid u) (makes_own_call (work_of s r)) is
   where
-    go : (a b : Bool) → b ≡ false → cond {A = Option (Change × RequestEnd)} (a && b) (Some (r.change, how)) None ≡ None
+    go : (a b : Bool) → b ≡ false → cond {A = Option (EjectChange × RequestEnd)} (a && b) (Some (r.change, how)) None ≡ None
     go true true e = absurd (cc e)
     go true false e = refl
     go false b e = refl
 
 -- the first request has made no call, so nothing is begun
-pub not-begun : (held : Option (List ℕ)) (u : Uid) (past : List Step) (f : Facts) (a b : Option Change) → a ≡ b → IsTold held u f a past
-    → IsTold held u f b past
+pub not-begun : (held : Option (List ℕ)) (u : Uid) (past : List Step) (f : Facts) (a b : Option EjectChange) → a ≡ b
+    → IsTold held u f a past → IsTold held u f b past
 not-begun held u past f a b is t = record { kept = t.kept; doubt = t.doubt; begun = sym is ∙ t.begun }
 
-abbrev own_facts : Bool → Change → RequestEnd → Facts → Facts
+abbrev own_facts : Bool → EjectChange → RequestEnd → Facts → Facts
 own_facts own c end.Done f = cond own (kept_of c, None) f
 own_facts own c _ f = cond own (f.0, Some c) f
 
-abbrev own_begun : Bool → Change → RequestEnd → Option Change
+abbrev own_begun : Bool → EjectChange → RequestEnd → Option EjectChange
 own_begun own c end.Part = cond own (Some c) None
 own_begun own c _ = None
 
-told-own : (held : Option (List ℕ)) (u : Uid) (past : List Step) (st : Step) (f : Facts) (now : Option Change) (c : Change)
-    (how : RequestEnd) (own : Bool) → IsSeen u st (cond {A = Option (Change × RequestEnd)} own (Some (c, how)) None) None (is_stop how)
+told-own : (held : Option (List ℕ)) (u : Uid) (past : List Step) (st : Step) (f : Facts) (now : Option EjectChange) (c : EjectChange)
+    (how : RequestEnd) (own : Bool) → IsSeen u st (cond {A = Option (EjectChange × RequestEnd)} own (Some (c, how)) None) None (is_stop how)
     → (own ≡ false → now ≡ None) → IsTold held u f now past
     → (how ≡ end.Full → ⊥)
     → IsTold held u (own_facts own c how f) (own_begun own c how) (st ∷ past)
@@ -344,11 +344,11 @@ told-own held u past st f now c end.Fault false seen other t full = told-quiet h
 told-own held u past st f now c end.Stop false seen other t full = told-crash held u past st f now seen t
 
 own-of-calls : (u : Uid) (s : Site) (r : StoreRequest) (how : RequestEnd) → work_of s r ≡ calls
-    → own_call_of u s r how ≡ cond {A = Option (Change × RequestEnd)} (same_uid r.uid u) (Some (r.change, how)) None
+    → own_call_of u s r how ≡ cond {A = Option (EjectChange × RequestEnd)} (same_uid r.uid u) (Some (r.change, how)) None
 own-of-calls u s r how is = go (same_uid r.uid u) (makes_own_call (work_of s r)) (ap makes_own_call is)
   where
-    go : (a b : Bool) → b ≡ true → cond {A = Option (Change × RequestEnd)} (a && b) (Some (r.change, how)) None
-        ≡ cond {A = Option (Change × RequestEnd)} a (Some (r.change, how)) None
+    go : (a b : Bool) → b ≡ true → cond {A = Option (EjectChange × RequestEnd)} (a && b) (Some (r.change, how)) None
+        ≡ cond {A = Option (EjectChange × RequestEnd)} a (Some (r.change, how)) None
     go true true e = refl
     go true false e = absurd (cc e)
     go false b e = refl
@@ -375,14 +375,14 @@ calls-leave held u past st s r how p is q at ends seen t = go how ends seen refl
     other e = begun-first s.node.requests r u is ∙ ap (λ b. cond (b && nat_lt 0 r.made) (Some r.change) None) e
 
     seen-by : (h : RequestEnd) → p ≡ None → IsSeen u st (own_call_of u s r h) p (is_stop h)
-        → IsSeen u st (cond {A = Option (Change × RequestEnd)} own (Some (r.change, h)) None) None (is_stop h)
+        → IsSeen u st (cond {A = Option (EjectChange × RequestEnd)} own (Some (r.change, h)) None) None (is_stop h)
     seen-by h none x = record { own_is = x.own_is ∙ own-of-calls u s r h at; pick_is = x.pick_is ∙ none; crash_is = x.crash_is }
 
     told : (h : RequestEnd) → (h ≡ end.Full → ⊥) → p ≡ None → IsSeen u st (own_call_of u s r h) p (is_stop h)
         → IsTold held u (own_facts own r.change h (facts_in s u)) (own_begun own r.change h) (st ∷ past)
     told h full none x = told-own held u past st (facts_in s u) (begun s.node.requests u) r.change h own (seen-by h none x) other t full
 
-    by-own : (g : Facts → Facts) (now : Option Change) (past' : List Step)
+    by-own : (g : Facts → Facts) (now : Option EjectChange) (past' : List Step)
         → IsTold held u (cond own (g (facts_in s u)) (facts_in s u)) now past' → IsTold held u (changed_facts r.uid g s u) now past'
     by-own g now past' x = subst (λ b. IsTold held u (cond b (g (facts_in s u)) (facts_in s u)) now past') (same-sym u r.uid) x
 

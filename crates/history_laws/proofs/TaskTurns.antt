@@ -33,7 +33,7 @@ use Rattle.epl_syntax.specs.Kinds.{have_shapes}
 use Rattle.epl_syntax.specs.Meaning.{Turned, rep_of, type_of, first_values, values_from, operation_of}
 use Rattle.passive_store.specs.declared.store.Pick.{Pick}
 use Rattle.passive_store.specs.declared.store.Pick.TheVariants as pick
-use Rattle.journal.specs.Change.{Change, body, removal, kept_of}
+use Rattle.journal.specs.EjectChange.{EjectChange, body, removal, kept_of}
 use Rattle.journal.specs.declared.event.BootEnd.{BootEnd}
 use Rattle.journal.specs.declared.event.BootEnd.TheVariants as boot_end
 use Rattle.journal.specs.declared.event.StartEnd.{StartEnd}
@@ -219,7 +219,7 @@ module _ (types : List Edentype) (later : Traffic) where
   tasks-gone v s h = tasks-item s (eject_in s v) _ (λ e is.
       tasks-cond (is_there e) s (turned_away v status.Gone s) h (tasks-turned_away v status.Gone s h)) h
 
-  tasks-asks : (v : Uid) (p : ℕ) (c : Change) (s : Site) → AllFitIn types later s → AllFitIn types later (asks_store v p c s)
+  tasks-asks : (v : Uid) (p : ℕ) (c : EjectChange) (s : Site) → AllFitIn types later s → AllFitIn types later (asks_store v p c s)
   tasks-asks v p c s h = tasks-on_node (λ it. record it {
     requests = it.requests ++ record { uid = v; process = Some p; change = c; made = 0 } ∷ [];
   }) (on_eject v (on_active (on_crew (set_waits p outside))) s) refl
@@ -402,7 +402,7 @@ module _ (types : List Edentype) (later : Traffic) where
       go (Some p) = tasks-tells r.uid p (Code why) (on_node (λ it. record it { requests = rest it.requests }) s)
           (tasks-on_node (λ it. record it { requests = rest it.requests }) s refl h)
 
-  tasks-removed : (v : Uid) (c : Change) (s : Site) → AllFitIn types later s → AllFitIn types later (removed c v s)
+  tasks-removed : (v : Uid) (c : EjectChange) (s : Site) → AllFitIn types later s → AllFitIn types later (removed c v s)
   tasks-removed v (body bytes) s h = h
   tasks-removed v removal s h = tasks-turned_away v status.Gone (deactivated v s) (tasks-deactivated v s h)
 

@@ -28,7 +28,7 @@ use Rattle.epl_syntax.specs.Edentype.{Edentype}
 use Rattle.epl_syntax.specs.Meaning.{rep_of, type_of, first_values}
 use Rattle.passive_store.specs.declared.store.Pick.{Pick}
 use Rattle.passive_store.specs.declared.store.Pick.TheVariants as pick
-use Rattle.journal.specs.Change.{Change, body, removal, kept_of}
+use Rattle.journal.specs.EjectChange.{EjectChange, body, removal, kept_of}
 use Rattle.journal.specs.declared.event.RequestEnd.{RequestEnd}
 use Rattle.journal.specs.declared.event.RequestEnd.TheVariants as end
 use Rattle.journal.specs.declared.event.StartEnd.{StartEnd}
@@ -113,7 +113,7 @@ fit-gone : {G : Uid → Type 0} (v : Uid) (s : Site) → Fit G s.node → Fit G 
 fit-gone v s fit = fit-item s (eject_in s v) (λ e. cond (is_there e) s (turned_away v status.Gone s))
     (λ e. fit-cond (is_there e) s (turned_away v status.Gone s) fit (fit-turned_away v status.Gone s fit)) fit
 
-fit-asks : {G : Uid → Type 0} (v : Uid) (p : ℕ) (c : Change) (s : Site) → Fit G s.node → Fit G (asks_store v p c s).node
+fit-asks : {G : Uid → Type 0} (v : Uid) (p : ℕ) (c : EjectChange) (s : Site) → Fit G s.node → Fit G (asks_store v p c s).node
 fit-asks v p c s fit = fit-on_node (λ it. record it { requests = _ }) (on_eject v (on_active (on_crew (set_waits p outside))) s)
     (fit-on_eject v (on_active (on_crew (set_waits p outside))) s fit)
 
@@ -273,7 +273,7 @@ fit-ended {G = G} r why s fit = go r.process
     go (Some p) = fit-tells r.uid p (Code why) (on_node (λ it. record it { requests = rest it.requests }) s)
         (fit-on_node (λ it. record it { requests = rest it.requests }) s fit)
 
-fit-removed : {G : Uid → Type 0} (v : Uid) (c : Change) (s : Site) → Fit G s.node → Fit G (removed c v s).node
+fit-removed : {G : Uid → Type 0} (v : Uid) (c : EjectChange) (s : Site) → Fit G s.node → Fit G (removed c v s).node
 fit-removed v (body bytes) s fit = fit
 fit-removed v removal s fit = fit-turned_away v status.Gone (deactivated v s) (fit-deactivated v s fit)
 

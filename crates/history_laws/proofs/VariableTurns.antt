@@ -30,7 +30,7 @@ use Rattle.epl_syntax.specs.Edentype.{Edentype}
 use Rattle.epl_syntax.specs.Meaning.{Turned, rep_of, type_of, first_values, values_from}
 use Rattle.passive_store.specs.declared.store.Pick.{Pick}
 use Rattle.passive_store.specs.declared.store.Pick.TheVariants as pick
-use Rattle.journal.specs.Change.{Change, body, removal, kept_of}
+use Rattle.journal.specs.EjectChange.{EjectChange, body, removal, kept_of}
 use Rattle.journal.specs.declared.event.BootEnd.{BootEnd}
 use Rattle.journal.specs.declared.event.BootEnd.TheVariants as boot_end
 use Rattle.journal.specs.declared.event.Shown.{Shown}
@@ -153,7 +153,7 @@ module _ (A : Uid → Type 0) (Q : Uid → List Datum → Type 0) (any : (u : Ui
   vars-gone v s h = vars-item s (eject_in s v) _ (λ e is.
       vars-cond (is_there e) s (turned_away v status.Gone s) h (vars-turned_away v status.Gone s h)) h
 
-  vars-asks : (v : Uid) (p : ℕ) (c : Change) (s : Site) → VarsIn A Q s → VarsIn A Q (asks_store v p c s)
+  vars-asks : (v : Uid) (p : ℕ) (c : EjectChange) (s : Site) → VarsIn A Q s → VarsIn A Q (asks_store v p c s)
   vars-asks v p c s h = vars-on_node (λ it. record it {
     requests = it.requests ++ record { uid = v; process = Some p; change = c; made = 0 } ∷ [];
   }) (on_eject v (on_active (on_crew (set_waits p outside))) s) refl (vars-on_crew v (set_waits p outside) s h)
@@ -274,7 +274,7 @@ module _ (A : Uid → Type 0) (Q : Uid → List Datum → Type 0) (any : (u : Ui
       go (Some p) = vars-tells r.uid p (Code why) (on_node (λ it. record it { requests = rest it.requests }) s)
           (vars-on_node (λ it. record it { requests = rest it.requests }) s refl h)
 
-  vars-removed : (v : Uid) (c : Change) (s : Site) → VarsIn A Q s → VarsIn A Q (removed c v s)
+  vars-removed : (v : Uid) (c : EjectChange) (s : Site) → VarsIn A Q s → VarsIn A Q (removed c v s)
   vars-removed v (body bytes) s h = h
   vars-removed v removal s h = vars-turned_away v status.Gone (deactivated v s) (vars-deactivated v s h)
 

@@ -17,8 +17,8 @@ use Rattle.invocation.specs.Queues.{sent_to, on_way, sent_from}
 use Rattle.invocation.specs.Numbers.{item_in, numbers_where, passes_at}
 use Rattle.invocation.specs.Mail.{Mail, queue_at, is_open, target_of, number_of, spent, over, received, with_reply, let_go, crashed_call}
 use Rattle.invocation.specs.Mail.{closed_if, closed_where, asked_call, asked_by, crosses, enters, touches}
-use Rattle.invocation.specs.Answered.{Change, asked, replied, delivered, lost, cut, crashed, changed, answered, answered_by, all_answered}
-use Rattle.invocation.specs.Answered.{with_delivery}
+use Rattle.invocation.specs.Answered.{MailChange, asked, replied, delivered, lost, cut, crashed, changed, answered, answered_by}
+use Rattle.invocation.specs.Answered.{all_answered, with_delivery}
 
 -- a call that may still get an answer: it is open, or not asked yet
 abbrev waits_in : List Call → ℕ → Bool
@@ -165,7 +165,7 @@ reply-waits j s results m k = go (item_in j m.calls)
     go None = refl
     go (Some c) = spent-waits (j - 1) m.calls k
 
-waited : (c : Change) (m : Mail) (k : ℕ) → waits_in (changed c m).calls k ≡ true → waits_in m.calls k ≡ true
+waited : (c : MailChange) (m : Mail) (k : ℕ) → waits_in (changed c m).calls k ≡ true → waits_in m.calls k ≡ true
 waited (asked asker target operation args None) m k h = push-waits m.calls (asked_call asker target operation args false) k h
 waited (asked asker target operation args (Some s)) m k h = push-waits m.calls (asked_call asker target operation args true) k h
 waited (replied j s results) m k h = sym (reply-waits j s results m k) ∙ h
@@ -241,7 +241,7 @@ enters-closes : (n : ℕ) (c : Call) → enters n c ≡ true → is_open (crashe
 enters-closes n c h = let e = and-first (target_of c == n) (not (asking_station c.asker == n)) h in rw e refl
 
 -- a call that is answered waited before, and waits no more
-ends : (c : Change) (m : Mail) (k : ℕ) → has k (answered c m) ≡ true
+ends : (c : MailChange) (m : Mail) (k : ℕ) → has k (answered c m) ≡ true
     → (waits_in m.calls k ≡ true) × (waits_in (changed c m).calls k ≡ false)
 ends (asked asker target operation args None) m k h = absurd (let bad : false ≡ true = h in cc)
 ends (asked asker target operation args (Some s)) m k h =
@@ -285,7 +285,7 @@ ends (crashed n) m k h =
           m.calls k is,
     )
 
-each-once : (c : Change) (m : Mail) → Distinct (answered c m)
+each-once : (c : MailChange) (m : Mail) → Distinct (answered c m)
 each-once (asked asker target operation args None) m = tt
 each-once (asked asker target operation args (Some s)) m = (refl, tt)
 each-once (replied j s results) m = tt
@@ -305,13 +305,13 @@ each-once (crashed n) m = numbers-distinct (λ c. is_open c && enters n c) 1 m.c
 
 -- 4. Runs
 
-run-waited : (cs : List Change) (m : Mail) (k : ℕ) → has k (all_answered m cs) ≡ true → waits_in m.calls k ≡ true
+run-waited : (cs : List MailChange) (m : Mail) (k : ℕ) → has k (all_answered m cs) ≡ true → waits_in m.calls k ≡ true
 run-waited [] m k h = absurd (let bad : false ≡ true = h in cc)
 run-waited (c ∷ cs) m k h =
     has-either (answered c m) (all_answered (changed c m) cs) k (waits_in m.calls k ≡ true) h (λ there. (ends c m k there).0)
     (λ there. waited c m k (run-waited cs (changed c m) k there))
 
-pub answered-once : (cs : List Change) (m : Mail) → Distinct (all_answered m cs)
+pub answered-once : (cs : List MailChange) (m : Mail) → Distinct (all_answered m cs)
 answered-once [] m = tt
 answered-once (c ∷ cs) m =
     distinct-append (answered c m) (all_answered (changed c m) cs) (each-once c m) (answered-once cs (changed c m))

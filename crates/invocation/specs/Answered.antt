@@ -13,13 +13,13 @@ use Rattle.invocation.specs.Mail.{Mail, queue_at, is_open, received, with_reply,
 use Rattle.invocation.specs.Mail.{cut_link, cut_node}
 
 -- a call is asked, a reply is sent, a message is delivered, an Eject is lost, a link is cut, or a node crashes
-pub data Change : Type 0 where
-  asked : Asker → Cap → List ℕ → List Datum → Option Status → Change
-  replied : ℕ → Status → List Datum → Change
-  delivered : ℕ → ℕ → Change
-  lost : Uid → Change
-  cut : ℕ → ℕ → Change
-  crashed : ℕ → Change
+pub data MailChange : Type 0 where
+  asked : Asker → Cap → List ℕ → List Datum → Option Status → MailChange
+  replied : ℕ → Status → List Datum → MailChange
+  delivered : ℕ → ℕ → MailChange
+  lost : Uid → MailChange
+  cut : ℕ → ℕ → MailChange
+  crashed : ℕ → MailChange
 
 -- the first message leaves its queue and is received
 abbrev pub with_delivery : ℕ → ℕ → List Message → Mail → Mail
@@ -27,7 +27,7 @@ with_delivery a b [] m = m
 with_delivery a b (x ∷ xs) m = record { calls = received x m.calls; queues = with_row a b xs m.queues }
 
 -- the mail after a change
-abbrev pub changed : Change → Mail → Mail
+abbrev pub changed : MailChange → Mail → Mail
 changed (asked asker target operation args at_once) m = with_asked asker target operation args at_once m
 changed (replied k s results) m = with_reply k s results m
 changed (delivered a b) m = with_delivery a b (queue_at a b m) m
@@ -47,7 +47,7 @@ answered_by (Request k ∷ xs) m = []
 answered_by (Reply k s results ∷ xs) m = cond (passes_at is_open m.calls k) (k ∷ []) []
 
 -- the calls that get their answer in this change
-abbrev pub answered : Change → Mail → List ℕ
+abbrev pub answered : MailChange → Mail → List ℕ
 answered (asked asker target operation args at_once) m = answered_at_once at_once (length m.calls + 1)
 answered (replied k s results) m = []
 answered (delivered a b) m = answered_by (queue_at a b m) m
@@ -56,6 +56,6 @@ answered (cut a b) m = broken_where (crosses a b) m
 answered (crashed n) m = broken_where (enters n) m
 
 -- the calls that get their answer in a run
-abbrev pub all_answered : Mail → List Change → List ℕ
+abbrev pub all_answered : Mail → List MailChange → List ℕ
 all_answered m [] = []
 all_answered m (c ∷ cs) = answered c m ++ all_answered (changed c m) cs

@@ -19,7 +19,7 @@ ghost use Rattle.eden_model.specs.Traffic as traffic;
 ghost use Rattle.invocation.specs.Mail.{Mail, no_mail, Delivers, is_waiting, next_number, is_open, Asks, with_reply};
 ghost use Rattle.invocation.specs.Mail.{refused_at_once, received, broken_where, orphaned, crosses, cut_link, enters, cut_node};
 ghost use Rattle.invocation.specs.Numbers.{item_in, passes_at};
-ghost use Rattle.invocation.specs.Answered.{Change, all_answered};
+ghost use Rattle.invocation.specs.Answered.{MailChange, all_answered};
 ghost use Rattle.invocation.specs.Carries.{Carries, CarriesDelivery, no_traffic};
 
 use crate::askers::{close_own, note};
@@ -273,7 +273,7 @@ impl Calls {
 /// Each call is answered at most once: over any run of changes, no number stands twice among the
 /// calls that were refused at once, broken by a cut or a crash, or open as their reply arrived.
 pub fn no_call_answered_twice()
-    ensures { (m : Mail) (cs : List Change) → Distinct (all_answered m cs) }
+    ensures { (m : Mail) (cs : List MailChange) → Distinct (all_answered m cs) }
 {}
 
 /// The status that refuses a call at once, if any. TooLarge comes before Unreachable.

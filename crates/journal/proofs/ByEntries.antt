@@ -2,7 +2,7 @@
 use Rattle.std.proofs.Common.{◌≡◌, ℕ, List, [], ◌∷◌, None, Some, take, refl}
 use Rattle.std.specs.Prelude.{reverse}
 use Rattle.eden_model.specs.Crew.{least_number}
-use Rattle.journal.specs.Change.{body}
+use Rattle.journal.specs.EjectChange.{body}
 use Rattle.journal.specs.World.{at_node, on_eject, on_node, on_traffic}
 use Rattle.journal.specs.Settling.{epoch_uid}
 use Rattle.journal.specs.Run.{beginning, steps, end_of}

@@ -4,7 +4,7 @@ use Rattle.capability.specs.declared.Uid.{Uid}
 use Rattle.eden_model.specs.Map.{with_item, or_else, same_uid}
 use Rattle.passive_store.specs.declared.store.Pick.{Pick}
 use Rattle.passive_store.specs.declared.store.Pick.TheVariants as pick
-use Rattle.journal.specs.Change.{Change, kept_of}
+use Rattle.journal.specs.EjectChange.{EjectChange, kept_of}
 use Rattle.journal.specs.declared.event.Event.{Event}
 use Rattle.journal.specs.declared.event.Event.TheVariants as event
 use Rattle.journal.specs.declared.event.StartEnd.TheVariants as start_end
@@ -32,36 +32,36 @@ crashes n (event.Store u clock request_end.Stop p) = u.node == n
 crashes n _ = false
 
 -- a device call of a put or a removal of u: the change, and how the call ended
-abbrev pub own_call_of : Uid → Site → StoreRequest → RequestEnd → Option (Change × RequestEnd)
+abbrev pub own_call_of : Uid → Site → StoreRequest → RequestEnd → Option (EjectChange × RequestEnd)
 own_call_of u s r how = cond (same_uid r.uid u && makes_own_call (work_of s r)) (Some (r.change, how)) None
 
-abbrev pub own_call_at : Uid → Site → RequestEnd → Option (Change × RequestEnd)
+abbrev pub own_call_at : Uid → Site → RequestEnd → Option (EjectChange × RequestEnd)
 own_call_at u s how = with_item (first_request s.node) (λ r. own_call_of u s r how) None
 
-abbrev pub own_call : Uid → World → Event → Option (Change × RequestEnd)
+abbrev pub own_call : Uid → World → Event → Option (EjectChange × RequestEnd)
 own_call u w (event.Store v clock how p) = with_item (site_at w v.node) (λ s. own_call_at u s how) None
 own_call u w _ = None
 
 -- 2. What was cut short
 
 -- a change that has made a device call, and has not ended
-abbrev pub under_way : Change × RequestEnd → Option Change
+abbrev pub under_way : EjectChange × RequestEnd → Option EjectChange
 under_way (c, request_end.Part) = Some c
 under_way (c, how) = None
 
-abbrev pub in_progress : Uid → List Step → Option Change
+abbrev pub in_progress : Uid → List Step → Option EjectChange
 in_progress u [] = None
 in_progress u (s ∷ past) =
     cond (crashes u.node s.entry.event) None (with_item (own_call u s.world s.entry.event) under_way (in_progress u past))
 
 -- a failure or a stop cuts it short
-abbrev pub cut_by : Change × RequestEnd → Option Change
+abbrev pub cut_by : EjectChange × RequestEnd → Option EjectChange
 cut_by (c, request_end.Fault) = Some c
 cut_by (c, request_end.Stop) = Some c
 cut_by (c, how) = None
 
 -- the last change of u that a failure, a stop or a crash ended, and that no pick has settled since
-abbrev pub cut_short : Uid → List Step → Option Change
+abbrev pub cut_short : Uid → List Step → Option EjectChange
 cut_short u [] = None
 cut_short u (s ∷ past) = cond (is_some (picked u.node s.entry.event)) None
     (with_item (own_call u s.world s.entry.event) cut_by
@@ -69,16 +69,16 @@ cut_short u (s ∷ past) = cond (is_some (picked u.node s.entry.event)) None
 
 -- 3. What is kept
 
-abbrev pub acknowledged : Change × RequestEnd → Option Change
+abbrev pub acknowledged : EjectChange × RequestEnd → Option EjectChange
 acknowledged (c, request_end.Done) = Some c
 acknowledged (c, how) = None
 
-abbrev pub with_pick : Option Pick → Option Change → Option Change
+abbrev pub with_pick : Option Pick → Option EjectChange → Option EjectChange
 with_pick (Some pick.New) cut = cut
 with_pick _ cut = None
 
 -- the change that the entry made: one acknowledged, or one cut short that it found done
-abbrev pub change_by : Uid → Step → List Step → Option Change
+abbrev pub change_by : Uid → Step → List Step → Option EjectChange
 change_by u s past = or_else (with_item (own_call u s.world s.entry.event) acknowledged None)
     (with_pick (picked u.node s.entry.event) (cut_short u past))
 

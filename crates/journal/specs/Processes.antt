@@ -21,7 +21,7 @@ use Rattle.epl_syntax.specs.declared.effect.Effect.{Effect}
 use Rattle.epl_syntax.specs.declared.effect.Effect.TheVariants as effect
 use Rattle.epl_syntax.specs.Edentype.{Edentype}
 use Rattle.epl_syntax.specs.Meaning.{Turned, turn, begin, operation_of, rep_of, type_of, first_values}
-use Rattle.journal.specs.Change.{Change, body, removal}
+use Rattle.journal.specs.EjectChange.{EjectChange, body, removal}
 use Rattle.journal.specs.declared.event.Shown.{Shown}
 use Rattle.journal.specs.declared.event.Shown.TheVariants as shown
 use Rattle.journal.specs.World.{Active, Eject, Site, eject_in, on_eject, on_node, on_traffic}
@@ -71,7 +71,7 @@ abbrev pub without_process : ℕ → Active → Active
 without_process p it = record it { tasks = where_key nat_cmp (λ k. not (k == p)) it.tasks; crew = ended p it.crew }
 
 -- the process waits for the store
-abbrev pub asks_store : Uid → ℕ → Change → Site → Site
+abbrev pub asks_store : Uid → ℕ → EjectChange → Site → Site
 asks_store u p change s =
     on_node (λ it. record it { requests = it.requests ++ record { uid = u; process = Some p; change = change; made = 0 } ∷ [] })
     (on_eject u (on_active (on_crew (set_waits p outside))) s)

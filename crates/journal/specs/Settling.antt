@@ -7,7 +7,7 @@ use Rattle.passive_store.specs.declared.store.Pick.{Pick}
 use Rattle.passive_store.specs.declared.store.Pick.TheVariants as pick
 use Rattle.std.specs.FinMap as finite
 use Rattle.passive_store.specs.Kept.{Layout}
-use Rattle.journal.specs.Change.{Change, body, kept_of}
+use Rattle.journal.specs.EjectChange.{EjectChange, body, kept_of}
 use Rattle.journal.specs.World.{Eject, StoreRequest, Node, Site, on_node}
 
 -- the uid under which a node keeps its epoch, and the four bytes
@@ -19,14 +19,14 @@ epoch_bytes e = (e / 16777216) % 256 ∷ (e / 65536) % 256 ∷ (e / 256) % 256 �
 
 -- 1. What is in doubt on a node: at most one uid
 
-abbrev pub epoch_doubts : ℕ → Option ℕ → List (Uid × Change)
+abbrev pub epoch_doubts : ℕ → Option ℕ → List (Uid × EjectChange)
 epoch_doubts n None = []
 epoch_doubts n (Some e) = (epoch_uid n, body (epoch_bytes e)) ∷ []
 
-abbrev pub doubt_entry : Uid × Eject → Option (Uid × Change)
+abbrev pub doubt_entry : Uid × Eject → Option (Uid × EjectChange)
 doubt_entry e = with_item e.1.doubt (λ c. Some (e.0, c)) None
 
-abbrev pub doubts : ℕ → Node → List (Uid × Change)
+abbrev pub doubts : ℕ → Node → List (Uid × EjectChange)
 doubts n it = epoch_doubts n it.epoch_doubt ++ filter_map doubt_entry it.ejects
 
 abbrev pub in_doubt : ℕ → Node → Bool
@@ -54,11 +54,11 @@ settled_epoch pick.Old it = it.epoch
 settled_epoch pick.New it = with_item it.epoch_doubt (λ e. Some e) it.epoch
 
 -- the ledger after one more change
-abbrev pub written_with : Layout → Change → List ℕ → List ℕ
+abbrev pub written_with : Layout → EjectChange → List ℕ → List ℕ
 written_with layout c ledger = ledger ++ layout.grows (kept_of c)
 
 -- the same after these changes
-abbrev pub all_written : Layout → List (Uid × Change) → List ℕ → List ℕ
+abbrev pub all_written : Layout → List (Uid × EjectChange) → List ℕ → List ℕ
 all_written layout [] ledger = ledger
 all_written layout (c ∷ cs) ledger = all_written layout cs (written_with layout c.1 ledger)
 
@@ -101,5 +101,5 @@ kept_map n it = epoch_entries n it.epoch ++ filter_map kept_entry it.ejects
 abbrev pub room : Site → Option ℕ
 room s = s.layout.room_of s.node.size (finite.from_entries (kept_map s.number s.node)) s.node.ledger
 
-abbrev pub finds_room : Uid → Change → Site → Bool
+abbrev pub finds_room : Uid → EjectChange → Site → Bool
 finds_room u c s = s.layout.has_room (room s) u (kept_of c)

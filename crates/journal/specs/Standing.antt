@@ -9,7 +9,7 @@ use Rattle.eden_disk.specs.Calls.{Counts, Due}
 use Rattle.eden_disk.specs.Moments.{LeftAfter, LeftIn}
 use Rattle.eden_disk.specs.Timed.{Timed}
 use Rattle.passive_store.specs.Kept.{Layout}
-use Rattle.journal.specs.Change.{Change, body, removal}
+use Rattle.journal.specs.EjectChange.{EjectChange, body, removal}
 use Rattle.journal.specs.declared.event.Event.{Event}
 use Rattle.journal.specs.declared.event.Event.TheVariants as event
 use Rattle.journal.specs.World.{World, Node, StoreRequest, site_at, node_at}
@@ -24,7 +24,7 @@ use Rattle.journal.specs.Run.{Step}
 -- what is kept (none where the opening image has no map), and the changes that may have been made to it
 pub record Standing : Type 0 where
   pub kept : Option (List (Uid × List ℕ))
-  pub changes : List (Uid × Change)
+  pub changes : List (Uid × EjectChange)
 
 abbrev pub kept_of_node : ℕ → Node → Option (List (Uid × List ℕ))
 kept_of_node n it = cond (is_some it.damaged) None (Some (kept_map n it))
@@ -47,16 +47,16 @@ from_past n m [] = []
 from_past n m (s ∷ later) = cond (is_past n m s) (s ∷ later) (from_past n m later)
 
 -- a put of the epoch behind this one, where there is one
-abbrev pub put_behind : ℕ → ℕ → List (Uid × Change)
+abbrev pub put_behind : ℕ → ℕ → List (Uid × EjectChange)
 put_behind n e = cond (nat_lt e last_epoch) ((epoch_uid n, body (epoch_bytes (e + 1))) ∷ []) []
 
 -- the epoch that a boot of this node puts, or would put, after its pick
-abbrev pub epoch_put : ℕ → World → Event → List (Uid × Change)
+abbrev pub epoch_put : ℕ → World → Event → List (Uid × EjectChange)
 epoch_put n w (event.Boot m e how p began) =
     cond (m == n) (with_item (site_at w n) (λ s. put_behind n (stored_epoch (settled p s).node)) []) []
 epoch_put n w _ = []
 
-abbrev pub with_changes : List (Uid × Change) → Standing → Standing
+abbrev pub with_changes : List (Uid × EjectChange) → Standing → Standing
 with_changes cs s = record s { changes = s.changes ++ cs }
 
 -- `last` is the world at the end
@@ -69,12 +69,12 @@ at last run n m = state_before n last (from_past n m run)
 
 -- 3. Images
 
-abbrev pub changed_map : Uid × Change → List (Uid × List ℕ) → List (Uid × List ℕ)
+abbrev pub changed_map : Uid × EjectChange → List (Uid × List ℕ) → List (Uid × List ℕ)
 changed_map (u, body bytes) kept = put_at uid_cmp u bytes kept
 changed_map (u, removal) kept = where_key uid_cmp (λ v. not (same_uid v u)) kept
 
 -- what is found is what is kept with any of these changes made, in their order
-abbrev pub IsAnyOf : List (Uid × List ℕ) → List (Uid × Change) → Result (List (Uid × List ℕ)) ℕ → Type 0
+abbrev pub IsAnyOf : List (Uid × List ℕ) → List (Uid × EjectChange) → Result (List (Uid × List ℕ)) ℕ → Type 0
 IsAnyOf kept [] found = found ≡ Ok kept
 IsAnyOf kept (c ∷ cs) found = IsAnyOf kept cs found ⊎ IsAnyOf (changed_map c kept) cs found
 
@@ -82,7 +82,7 @@ abbrev pub IsDamaged : Result (List (Uid × List ℕ)) ℕ → Type 0
 IsDamaged (Ok kept) = ⊥
 IsDamaged (Err place) = Unit {0}
 
-abbrev pub StandsFor : Option (List (Uid × List ℕ)) → List (Uid × Change) → Result (List (Uid × List ℕ)) ℕ → Type 0
+abbrev pub StandsFor : Option (List (Uid × List ℕ)) → List (Uid × EjectChange) → Result (List (Uid × List ℕ)) ℕ → Type 0
 StandsFor None changes found = IsDamaged found
 StandsFor (Some kept) changes found = IsAnyOf kept changes found
 
@@ -106,21 +106,21 @@ pub record DiskRun : Type 0 where
 
 -- what may be under way besides, at a moment of a node's disk
 abbrev pub Added : Type 0
-Added = ℕ → ℕ → List (Uid × Change)
+Added = ℕ → ℕ → List (Uid × EjectChange)
 
 -- nothing, where the run came to its end
 abbrev pub nothing_added : Added
 nothing_added n m = []
 
 -- the first request of the node, and its next epoch, counted from the doubtful one where that is in doubt
-abbrev pub request_changes : Option StoreRequest → List (Uid × Change)
+abbrev pub request_changes : Option StoreRequest → List (Uid × EjectChange)
 request_changes None = []
 request_changes (Some r) = (r.uid, r.change) ∷ []
 
 abbrev pub highest_epoch : Node → ℕ
 highest_epoch it = with_item it.epoch_doubt (λ e. e) (stored_epoch it)
 
-abbrev pub unfinished_at : ℕ → Node → List (Uid × Change)
+abbrev pub unfinished_at : ℕ → Node → List (Uid × EjectChange)
 unfinished_at n it = request_changes (first_request it) ++ put_behind n (highest_epoch it)
 
 -- where want of memory ended the run in this world: these, at moments past the node's last entry

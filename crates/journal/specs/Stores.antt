@@ -6,7 +6,7 @@ use Rattle.eden_value.specs.declared.status.Status.TheVariants as status
 use Rattle.eden_model.specs.Map.{with_item, rest}
 use Rattle.epl_syntax.specs.declared.effect.Answer.TheVariants.{Code}
 use Rattle.passive_store.specs.declared.store.Pick.{Pick}
-use Rattle.journal.specs.Change.{Change, body, removal, kept_of}
+use Rattle.journal.specs.EjectChange.{EjectChange, body, removal, kept_of}
 use Rattle.journal.specs.declared.event.RequestEnd.{RequestEnd}
 use Rattle.journal.specs.declared.event.RequestEnd.TheVariants as end
 use Rattle.journal.specs.World.{StoreRequest, Node, Site, eject_in, on_eject, on_node}
@@ -96,7 +96,7 @@ abbrev pub request_ended : StoreRequest → Status → Site → Site
 request_ended r status s = tells_code r.uid r.process status (on_node (λ it. record it { requests = rest it.requests }) s)
 
 -- a successful removal removes the Eject
-abbrev pub removed : Change → Uid → Site → Site
+abbrev pub removed : EjectChange → Uid → Site → Site
 removed (body bytes) u s = s
 removed removal u s = turned_away u status.Gone (deactivated u s)
 

@@ -12,7 +12,7 @@ use Rattle.epl_syntax.specs.declared.effect.Answer.{Answer}
 use Rattle.epl_syntax.specs.Edentype.{Edentype}
 use Rattle.epl_syntax.specs.Meaning.{Rest}
 use Rattle.passive_store.specs.Kept.{Layout}
-use Rattle.journal.specs.Change.{Change}
+use Rattle.journal.specs.EjectChange.{EjectChange}
 use Rattle.journal.specs.declared.event.Key.{Key}
 
 -- 1. Ejects
@@ -34,7 +34,7 @@ pub record Eject : Type 0 where
   pub active : Option Active
   pub queued : List ℕ
   pub kept : Option (List ℕ)
-  pub doubt : Option Change
+  pub doubt : Option EjectChange
 
 -- 2. Nodes
 
@@ -42,7 +42,7 @@ pub record Eject : Type 0 where
 pub record StoreRequest : Type 0 where
   pub uid : Uid
   pub process : Option ℕ
-  pub change : Change
+  pub change : EjectChange
   pub made : ℕ
 
 pub record Node : Type 0 where

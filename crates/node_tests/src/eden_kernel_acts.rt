@@ -52,7 +52,7 @@ pub enum Seen {
 }
 
 /// What the last of some acts showed, and whether the node goes on.
-pub type Shown = (Seen, TurnEnd);
+pub type TurnShown = (Seen, TurnEnd);
 
 /// The disk of a node in its first epoch, on which these bytes are kept of one Eject.
 pub fn seeded<St: Store + Drop>(
@@ -117,7 +117,7 @@ fn activate<St: Store>(
     node: &mut Node<St>,
     types: &Types,
     calls: &mut Calls,
-) -> Option<Shown>
+) -> Option<TurnShown>
     requires { IsWhole (held St.seen node.old) }
     ensures { IfSome result (λ r. IsWholeBehind r.1 (held St.seen node.new)) }
 {
@@ -179,7 +179,7 @@ fn store_turn<St: Store>(
     alloc: Global,
     node: &mut Node<St>,
     calls: &mut Calls,
-) -> Option<Shown>
+) -> Option<TurnShown>
     requires { IsWhole (held St.seen node.old) }
     ensures { IfSome result (λ r. IsWholeBehind r.1 (held St.seen node.new)) }
 {
@@ -250,7 +250,7 @@ fn take<St: Store>(
     types: &Types,
     calls: &mut Calls,
     act: Act,
-) -> Option<Shown>
+) -> Option<TurnShown>
     requires { IsWhole (held St.seen node.old) }
     ensures { IfSome result (λ r. IsWholeBehind r.1 (held St.seen node.new)) }
 {
@@ -269,7 +269,7 @@ pub fn run<St: Store>(
     types: &Types,
     calls: &mut Calls,
     acts: &[Act],
-) -> Option<Shown>
+) -> Option<TurnShown>
     requires { IsWhole (held St.seen node.old) }
     ensures { IfSome result (λ r. IsWholeBehind r.1 (held St.seen node.new)) }
 {
@@ -347,7 +347,7 @@ fn shown_on<St: Store + Drop>(
     bytes: &[u8],
     before: &[Act],
     acts: &[Act],
-) -> Option<Shown>
+) -> Option<TurnShown>
 where
     St::Device: Drop,
 {
@@ -366,7 +366,7 @@ pub fn shown(
     bytes: &[u8],
     before: &[Act],
     acts: &[Act],
-) -> Option<Shown> {
+) -> Option<TurnShown> {
     let disk = blank(alloc).expect(rt, "memory");
     shown_on::<Log>(rt, alloc, disk, bytes, before, acts)
 }

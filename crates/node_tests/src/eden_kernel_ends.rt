@@ -5,7 +5,7 @@ ghost use Rattle.eden_kernel.specs.Stands.{held, IsWhole};
 
 use crate::common::{assert_same, native_types, no_calls};
 use crate::eden_kernel_acts::{
-    Act, CELL, DAMAGED, Seen, Shown, found, run, run_on, seeded, shown, up,
+    Act, CELL, DAMAGED, Seen, TurnShown, found, run, run_on, seeded, shown, up,
 };
 use eden_disk::{Arm, Disk, DiskRefusal, ImageMode, SimDisk};
 use eden_kernel::{Node, TurnEnd};
@@ -32,7 +32,7 @@ const SAVING: &[Act] = &[
 type Found = (Option<Pick>, Option<i64>);
 
 /// What a save came to: what its last turn showed, whether a node that is up has more to keep, and what the next boot finds.
-type Saved = (Shown, bool, Found);
+type Saved = (TurnShown, bool, Found);
 
 /// A save with this trouble, and these turns of the store: what the last showed.
 fn save<St: Store>(
@@ -41,7 +41,7 @@ fn save<St: Store>(
     node: &mut Node<St>,
     trouble: &[Act],
     turns: &[Act],
-) -> Shown
+) -> TurnShown
     requires { IsWhole (held St.seen node.old) }
 {
     let types = native_types(rt, alloc);
@@ -88,13 +88,13 @@ const OLD: Found = (Some(Pick::Old), Some(5));
 
 const NEW: Found = (Some(Pick::New), Some(9));
 
-const STOP: Shown = (Seen::Store(RequestEnd::Stop), TurnEnd::Down);
+const STOP: TurnShown = (Seen::Store(RequestEnd::Stop), TurnEnd::Down);
 
-const PART: Shown = (Seen::Store(RequestEnd::Part), TurnEnd::Up);
+const PART: TurnShown = (Seen::Store(RequestEnd::Part), TurnEnd::Up);
 
-const DONE: Shown = (Seen::Store(RequestEnd::Done), TurnEnd::Up);
+const DONE: TurnShown = (Seen::Store(RequestEnd::Done), TurnEnd::Up);
 
-const FAULT: Shown = (Seen::Store(RequestEnd::Fault), TurnEnd::Up);
+const FAULT: TurnShown = (Seen::Store(RequestEnd::Fault), TurnEnd::Up);
 
 const KEEP: ImageMode = ImageMode::Keep;
 
@@ -294,15 +294,15 @@ const UNSETTLED: &[Act] = &[
 
 const WAKE: Act = Act::Activate;
 
-const WOKEN: Shown = (Seen::Activation(StartEnd::Ok), TurnEnd::Up);
+const WOKEN: TurnShown = (Seen::Activation(StartEnd::Ok), TurnEnd::Up);
 
-const UNREAD: Shown = (Seen::Activation(StartEnd::Fault), TurnEnd::Up);
+const UNREAD: TurnShown = (Seen::Activation(StartEnd::Fault), TurnEnd::Up);
 
-const HALTED: Shown = (Seen::Activation(StartEnd::Stop), TurnEnd::Down);
+const HALTED: TurnShown = (Seen::Activation(StartEnd::Stop), TurnEnd::Down);
 
-const SPOILT: Shown = (Seen::Activation(StartEnd::Damaged), TurnEnd::Up);
+const SPOILT: TurnShown = (Seen::Activation(StartEnd::Damaged), TurnEnd::Up);
 
-const ACTIVATIONS: &[(&[u8], &[Act], &[Act], Shown)] = &[
+const ACTIVATIONS: &[(&[u8], &[Act], &[Act], TurnShown)] = &[
     (CELL, ASKED, &[WAKE], WOKEN),
     (CELL, ASKED, &[Act::Fail(0), WAKE], UNREAD),
     (CELL, ASKED, &[Act::Stop(0, KEEP), WAKE], HALTED),

@@ -1,5 +1,5 @@
 use crate::common::assert_same;
-use crate::eden_kernel_acts::{Act, DAMAGED, Seen, Shown, seeded, shown, up};
+use crate::eden_kernel_acts::{Act, DAMAGED, Seen, TurnShown, seeded, shown, up};
 use eden_disk::{Arm, Disk, ImageMode};
 use eden_kernel::{Node, TurnEnd};
 use eden_value::Status;
@@ -9,16 +9,16 @@ use passive_store::{Doubt, Store};
 use std::alloc::Global;
 use std::process::Abort;
 
-const ACCEPTED: Option<Shown> = Some((Seen::Request(None), TurnEnd::Up));
+const ACCEPTED: Option<TurnShown> = Some((Seen::Request(None), TurnEnd::Up));
 
-const GONE: Option<Shown> = Some((Seen::Request(Some(Status::Gone)), TurnEnd::Up));
+const GONE: Option<TurnShown> = Some((Seen::Request(Some(Status::Gone)), TurnEnd::Up));
 
-const NONE: Option<Shown> = Some((Seen::Nothing, TurnEnd::Up));
+const NONE: Option<TurnShown> = Some((Seen::Nothing, TurnEnd::Up));
 
 /// An Eject of which something is kept is asked, and one of which nothing is.
 const ASKED: &[Act] = &[Act::Ask(1, b"Get", None), Act::Ask(2, b"Get", None)];
 
-const ROWS: &[(&[Act], &[Act], Option<Shown>)] = &[
+const ROWS: &[(&[Act], &[Act], Option<TurnShown>)] = &[
     // Requests of passive and of absent Ejects.
     (ASKED, &[Act::Deliver; 1], ACCEPTED),
     (ASKED, &[Act::Deliver; 2], GONE),

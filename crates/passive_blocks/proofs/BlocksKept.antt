@@ -7,7 +7,7 @@ use Rattle.std.proofs.lemmas.Bool.{false≢true}
 use Rattle.std.proofs.lemmas.Bool.Decides.{nat_tests}
 use Rattle.std.proofs.lemmas.List.{length-append, length-take-le, length-drop}
 use Rattle.capability.specs.declared.Uid.{Uid}
-use Rattle.passive_store.specs.Kept.{Change, Kept}
+use Rattle.passive_store.specs.Kept.{StoreChange, Kept}
 use Rattle.passive_store.specs.Log.{with_record}
 use Rattle.block_tables.specs.Blocks.{Head, Chain, numbers, data_blocks, data_count, blocks_of, head_bytes, head_in, is_head, joined_head}
 use Rattle.block_tables.specs.Blocks.{heads_among, heads_of, head_numbers, keeping, counts, has, without, next_block, on_block}
@@ -189,7 +189,8 @@ changes_each : (R : Uid → List ℕ → Type 0) (image : List ℕ) (cs : List C
 changes_each R image [] each = tt
 changes_each R image (c ∷ cs) each = by_test c.whole refl (changes_each R image cs each.1)
   where
-    joins : (r : Change) (found : Result (List Change) ℕ) → Gives R r → EachOf (Gives R) found → EachOf (Gives R) (with_record r found)
+    joins : (r : StoreChange) (found : Result (List StoreChange) ℕ) → Gives R r → EachOf (Gives R) found
+        → EachOf (Gives R) (with_record r found)
     joins r (Ok rs) gives rest = (gives, rest)
     joins r (Err place) gives rest = tt
 

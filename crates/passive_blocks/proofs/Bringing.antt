@@ -13,7 +13,7 @@ use Rattle.eden_disk.proofs.Held.{passes_join, passes_weaker}
 use Rattle.passive_store.specs.declared.store.StoreRefusal.{StoreRefusal}
 use Rattle.passive_store.specs.declared.store.StoreRefusal.TheVariants.{Failed, Stopped, Full, Damaged, OutOfMemory}
 use Rattle.passive_store.specs.Acts.{DiskCall, Read, AllTold, CallsTold}
-use Rattle.passive_store.specs.Kept.{Change, Kept, Stands, IsAnyOf, IsOverfull, IsDamagedFrom, OpeningMade, OpeningTold, IsOverfullBy}
+use Rattle.passive_store.specs.Kept.{StoreChange, Kept, Stands, IsAnyOf, IsOverfull, IsDamagedFrom, OpeningMade, OpeningTold, IsOverfullBy}
 use Rattle.passive_store.specs.Kept.{refused, end_of_store}
 use Rattle.passive_store.specs.Log.{log_map}
 use Rattle.passive_store.specs.Seen.{DiskSeen}
@@ -38,7 +38,7 @@ use Rattle.passive_blocks.proofs.StagedSays.{finished_long}
 
 -- 1. What is found the same is kept
 
-says_stands : (node told : ℕ) (kept : Kept) (changes : List Change) (xs ys : List ℕ) → SaysSame node xs ys
+says_stands : (node told : ℕ) (kept : Kept) (changes : List StoreChange) (xs ys : List ℕ) → SaysSame node xs ys
     → Stands block_layout node told kept changes ys → Stands block_layout node told kept changes xs
 says_stands node told kept changes xs ys same s = record {
   found = subst (λ m. IsAnyOf kept changes m) (sym same.found) s.found;

@@ -8,7 +8,7 @@ use Rattle.std.proofs.lemmas.Bool.{false≢true, leb-true, le-leb, not-true}
 use Rattle.capability.specs.declared.Uid.{Uid}
 use Rattle.capability.proofs.Uids.{uid_cmp_total}
 use Rattle.eden_disk.specs.Calls.{Counts}
-use Rattle.passive_store.specs.Kept.{Change, IsFresh, IsJobOf, IsOwn, marks_after}
+use Rattle.passive_store.specs.Kept.{StoreChange, IsFresh, IsJobOf, IsOwn, marks_after}
 use Rattle.passive_store.specs.Seen.{asked, has_room_for}
 use Rattle.block_tables.specs.declared.heads.HeadFields.{HeadFields}
 use Rattle.block_tables.specs.declared.table.Table.{Table}
@@ -112,7 +112,7 @@ full_shown node size more counts image t pending uid body held long chains some 
     reach g h m same less more = omega (arith, same, less, more)
 
 -- A change gives its uid a mark of its own: a value a later one, and a removal none where there was one.
-pub fresh_shown : (size : ℕ) (counts : Counts) (image : List ℕ) (t : Table) (pending : Option Pending) (c : Change)
+pub fresh_shown : (size : ℕ) (counts : Counts) (image : List ℕ) (t : Table) (pending : Option Pending) (c : StoreChange)
     → IsHeld size counts t pending
     → HasChains image t → c.mark ≡ greatest_in t + 1 → (c.body ≡ None → IsSome (keeper t c.uid))
     → ((s : HeadFields) → keeper t c.uid ≡ Some s → s.sequence ≤ greatest_in t) → IsFresh c (shown image t)

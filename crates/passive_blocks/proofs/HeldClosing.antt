@@ -11,7 +11,7 @@ use Rattle.capability.specs.declared.Uid.{Uid}
 use Rattle.capability.specs.Uids.{uid_cmp}
 use Rattle.eden_disk.specs.Calls.{Counts}
 use Rattle.block_tables.specs.declared.heads.HeadFields.{HeadFields}
-use Rattle.block_tables.specs.declared.index.Entry.{Entry}
+use Rattle.block_tables.specs.declared.index.IndexEntry.{IndexEntry}
 use Rattle.block_tables.specs.declared.table.Table.{Table}
 use Rattle.block_tables.specs.declared.head_table.HeadTable.{HeadTable}
 use Rattle.passive_blocks.specs.declared.block_store.Pending.{Pending}
@@ -28,7 +28,7 @@ use Rattle.block_tables.proofs.OpenHeads.{open_is}
 use Rattle.passive_blocks.proofs.HeldSums.{uid_is, is_of, same_itself}
 use Rattle.passive_blocks.proofs.HeldKeepers.{apart_closed, keeping_when_closed, keeper_known, entry_when_closed, entry_beside_closed}
 
-closed_it : (n j : ℕ) (e : Entry) → is_it j (closed_entry n e).latest ≡ true
+closed_it : (n j : ℕ) (e : IndexEntry) → is_it j (closed_entry n e).latest ≡ true
     → (is_it j e.latest ≡ true) × (e.others ≡ 0 → (closed_entry n e).others ≡ 0)
 closed_it n j e there = go (is_it n e.latest) there
   where
@@ -93,12 +93,12 @@ still_it t h n j uid c there = elim (cases_Bool (eq_by_cmp uid_cmp uid (slot_at 
       let is : entry_at h.index uid ≡ closed_entry n (entry_at t.heads.index uid) =
       entry_when_closed t.heads h n uid c.old c.heads c.apart c.may.on c.may.opened c.may.alone c.items
       (same_uids uid (slot_at t.heads.slots.items n).uid same) in
-      let parts = closed_it n j (entry_at t.heads.index uid) (sym (ap (λ (e : Entry). is_it j e.latest) is) ∙ there) in
-      (parts.0, λ none. ap (λ (e : Entry). e.others) is ∙ parts.1 none)
+      let parts = closed_it n j (entry_at t.heads.index uid) (sym (ap (λ (e : IndexEntry). is_it j e.latest) is) ∙ there) in
+      (parts.0, λ none. ap (λ (e : IndexEntry). e.others) is ∙ parts.1 none)
   | inr other ↦
       let is : entry_at h.index uid ≡ entry_at t.heads.index uid =
       entry_beside_closed t.heads h n uid c.old c.heads c.apart c.may.on c.items other in
-      (sym (ap (λ (e : Entry). is_it j e.latest) is) ∙ there, λ none. ap (λ (e : Entry). e.others) is ∙ none)
+      (sym (ap (λ (e : IndexEntry). is_it j e.latest) is) ∙ there, λ none. ap (λ (e : IndexEntry). e.others) is ∙ none)
 ]
 
 -- another head that may be closed still may
@@ -123,7 +123,7 @@ left_alone : (t : Table) (h : HeadTable) (n k : ℕ) → Closed t h n → ((j : 
 left_alone t h n k c closing left =
     let slots : List HeadFields = t.heads.slots.items in
     let own : Uid = (slot_at slots n).uid in
-    let entry : Entry = entry_at t.heads.index own in
+    let entry : IndexEntry = entry_at t.heads.index own in
     let latest : entry.latest ≡ Some k = it_is k entry.latest left.1 in
     let is : IsLatest slots own (Some k) = subst (IsLatest slots own) latest (c.old.entries own).0 in
     let uid : (slot_at slots k).uid ≡ own = uid_is (slot_at slots k) own is.0 in
@@ -134,7 +134,7 @@ left_alone t h n k c closing left =
     let now : entry_at h.index own ≡ closed_entry n entry =
     entry_when_closed t.heads h n own c.old c.heads c.apart c.may.on c.may.opened c.may.alone c.items refl in
     let none : (entry_at h.index own).others ≡ 0 =
-    ap (λ (e : Entry). e.others) now
+    ap (λ (e : IndexEntry). e.others) now
     ∙ ap (λ b. (if b then no_entry else record { latest = entry.latest; others = entry.others - 1 }).others) left.0 ∙ left.3 in (
       record {
         on = omega (
@@ -244,7 +244,7 @@ closes_behind : (t : Table) (h : HeadTable) (n k : ℕ) → Closed t h n → ((j
 closes_behind t h n k c closing apart_n =
     let slots : List HeadFields = t.heads.slots.items in
     let own : Uid = (slot_at slots n).uid in
-    let entry : Entry = entry_at t.heads.index own in
+    let entry : IndexEntry = entry_at t.heads.index own in
     let at : slot_at h.slots.items k ≡ slot_at slots k = closed_at t h n k c apart_n in
     let left = λ (is : is_it k (lone_in slots (closed_entry n entry)) ≡ true). lone_is slots n k entry.latest entry.others is in
     let of_own = λ (is : is_it k (lone_in slots (closed_entry n entry)) ≡ true).
@@ -282,7 +282,7 @@ closes_behind t h n k c closing apart_n =
       ]
     ]
   where
-    same_place : {a b : HeadFields} → a ≡ b → (f : Uid → Entry)
+    same_place : {a b : HeadFields} → a ≡ b → (f : Uid → IndexEntry)
         → (is_open a && (not (is_it k (f a.uid).latest) || (a.removal && (f a.uid).others == 0)))
         ≡ (is_open b && (not (is_it k (f b.uid).latest) || (b.removal && (f b.uid).others == 0)))
     same_place same f = ap (λ (s : HeadFields). is_open s && (not (is_it k (f s.uid).latest) || (s.removal && (f s.uid).others == 0))) same
@@ -303,7 +303,7 @@ pub held_when_closed : (size : ℕ) (counts : Counts) (t : Table) (h : HeadTable
 held_when_closed size counts t h pending n held there heads items closing lone keys =
     let slots : List HeadFields = t.heads.slots.items in
     let own : Uid = (slot_at slots n).uid in
-    let entry : Entry = entry_at t.heads.index own in
+    let entry : IndexEntry = entry_at t.heads.index own in
     let may : MayClose t n = held.closing n there in
     let new : Table = record { heads = h; blocks = t.blocks } in
     let c : Closed t h n = record { old = held.table.heads; heads = heads; apart = held.apart; may = may; items = items } in

@@ -9,7 +9,7 @@ use Rattle.std.proofs.lemmas.Bool.{eqb-false}
 use Rattle.capability.specs.declared.Uid.{Uid}
 use Rattle.capability.specs.Uids.{uid_cmp}
 use Rattle.block_tables.specs.declared.heads.HeadFields.{HeadFields}
-use Rattle.block_tables.specs.declared.index.Entry.{Entry}
+use Rattle.block_tables.specs.declared.index.IndexEntry.{IndexEntry}
 use Rattle.block_tables.specs.declared.head_table.HeadTable.{HeadTable}
 use Rattle.block_tables.specs.Blocks.{Head, same_uid, counts, keeping}
 use Rattle.block_tables.specs.HeadSeen.{head_of}
@@ -35,7 +35,7 @@ latest_unique slots uid (Some m) (Some n) apart p q =
     ap Some (apart m n (open_is (slot_at slots m) uid p.0) (omega (arith, p.1 n q.0, q.1 m p.0)))
 
 -- So the entry of a uid is known by the heads.
-pub entry_unique : (slots : List HeadFields) (uid : Uid) (a b : Entry) → AreApart slots → IsEntryOf slots uid a → IsEntryOf slots uid b
+pub entry_unique : (slots : List HeadFields) (uid : Uid) (a b : IndexEntry) → AreApart slots → IsEntryOf slots uid a → IsEntryOf slots uid b
     → a ≡ b
 entry_unique slots uid a b apart p q =
     let latest : a.latest ≡ b.latest = latest_unique slots uid a.latest b.latest apart p.0 q.0 in

@@ -11,7 +11,7 @@ use Rattle.capability.specs.declared.Uid.{Uid}
 use Rattle.capability.specs.Uids.{uid_cmp}
 use Rattle.eden_disk.specs.Calls.{Counts}
 use Rattle.block_tables.specs.declared.heads.HeadFields.{HeadFields}
-use Rattle.block_tables.specs.declared.index.Entry.{Entry}
+use Rattle.block_tables.specs.declared.index.IndexEntry.{IndexEntry}
 use Rattle.block_tables.specs.declared.table.Table.{Table}
 use Rattle.block_tables.specs.declared.block_table.BlockTable.{BlockTable}
 use Rattle.passive_blocks.specs.declared.block_store.Pending.{Pending}
@@ -57,7 +57,7 @@ pub keeper_beside_made : (t new : Table) (x : HeadFields) (uid : Uid) → Made t
 keeper_beside_made t new x uid m other =
     let slots : List HeadFields = t.heads.slots.items in
     ap (λ s. kept_slot s (entry_at new.heads.index uid).latest) m.items
-    ∙ ap (λ (e : Entry). kept_slot (set slots x.number x) e.latest)
+    ∙ ap (λ (e : IndexEntry). kept_slot (set slots x.number x) e.latest)
     (entry_beside_joined t.heads new.heads x uid m.old.heads m.table.heads m.apart m.within m.shut m.later m.items other)
     ∙ kept_beside slots x x.number uid (entry_at t.heads.index uid).latest (m.old.heads.entries uid).0 m.shut
 
@@ -98,9 +98,9 @@ made_may t new x k m may =
           → (entry_at new.heads.index s.uid).others ≡ 0) (sym at)
           (λ there.
           let same : entry_at new.heads.index uid ≡ entry_at t.heads.index uid = beside t new x k uid m other there in
-          ap (λ (e : Entry). e.others) same ∙ may.alone (sym (ap (λ (e : Entry). is_it k e.latest) same) ∙ there));
+          ap (λ (e : IndexEntry). e.others) same ∙ may.alone (sym (ap (λ (e : IndexEntry). is_it k e.latest) same) ∙ there));
       removal = subst (λ (s : HeadFields). is_it k (entry_at new.heads.index s.uid).latest ≡ true → s.removal ≡ true) (sym at)
-          (λ there. may.removal (sym (ap (λ (e : Entry). is_it k e.latest) (beside t new x k uid m other there)) ∙ there));
+          (λ there. may.removal (sym (ap (λ (e : IndexEntry). is_it k e.latest) (beside t new x k uid m other there)) ∙ there));
     }
 
 -- so may the one that counted before
@@ -166,7 +166,7 @@ moved_or false false true false = refl
 moved_or false false false true = refl
 moved_or false false false false = refl
 
-same_place : (f : Uid → Entry) (k : ℕ) (a b : HeadFields) → a ≡ b
+same_place : (f : Uid → IndexEntry) (k : ℕ) (a b : HeadFields) → a ≡ b
     → (is_open a && (not (is_it k (f a.uid).latest) || (a.removal && (f a.uid).others == 0)))
     ≡ (is_open b && (not (is_it k (f b.uid).latest) || (b.removal && (f b.uid).others == 0)))
 same_place f k a b same = ap (λ (s : HeadFields). is_open s && (not (is_it k (f s.uid).latest) || (s.removal
@@ -181,7 +181,7 @@ closes_own t new x m =
     let slots : List HeadFields = t.heads.slots.items in
     let here : HeadFields = slot_at slots x.number in
     let now : HeadFields = slot_at new.heads.slots.items x.number in
-    let entry : Entry = entry_at new.heads.index x.uid in
+    let entry : IndexEntry = entry_at new.heads.index x.uid in
     let at : now ≡ x = made_here t new x m in
     let latest : is_it x.number entry.latest ≡ true =
     ap (is_it x.number) (latest_when_joined t.heads new.heads x x.uid m.table.heads m.apart m.within m.opened m.later m.items refl)
@@ -423,9 +423,10 @@ same_may t new k items entries may =
       opened = ap is_open at ∙ may.opened;
       alone = subst (λ (s : HeadFields). is_it k (entry_at new.heads.index s.uid).latest ≡ true
           → (entry_at new.heads.index s.uid).others ≡ 0) (sym at)
-          (subst (λ (e : Entry). is_it k e.latest ≡ true → e.others ≡ 0) (sym (entries uid)) may.alone);
+          (subst (λ (e : IndexEntry). is_it k e.latest ≡ true → e.others ≡ 0) (sym (entries uid)) may.alone);
       removal = subst (λ (s : HeadFields). is_it k (entry_at new.heads.index s.uid).latest ≡ true → s.removal ≡ true) (sym at)
-          (subst (λ (e : Entry). is_it k e.latest ≡ true → (slot_at t.heads.slots.items k).removal ≡ true) (sym (entries uid)) may.removal);
+          (subst (λ (e : IndexEntry). is_it k e.latest ≡ true → (slot_at t.heads.slots.items k).removal ≡ true)
+            (sym (entries uid)) may.removal);
     }
 
 same_next : (t new : Table) (k : ℕ) → new.heads.slots.items ≡ t.heads.slots.items → ((q : Uid) → entry_at new.heads.index q
@@ -438,7 +439,7 @@ same_next t new k items entries =
 same_keeper : (t new : Table) (uid : Uid) → new.heads.slots.items ≡ t.heads.slots.items
     → ((q : Uid) → entry_at new.heads.index q ≡ entry_at t.heads.index q) → keeper new uid ≡ keeper t uid
 same_keeper t new uid items entries =
-    ap (λ s. kept_slot s (entry_at new.heads.index uid).latest) items ∙ ap (λ (e : Entry). kept_slot t.heads.slots.items e.latest)
+    ap (λ s. kept_slot s (entry_at new.heads.index uid).latest) items ∙ ap (λ (e : IndexEntry). kept_slot t.heads.slots.items e.latest)
     (entries uid)
 
 dropped : (b : BlockTable) (x : HeadFields) → blocks_under b (if x.removal then None else Some x) ≡ blocks_planned b.next.items x

@@ -21,7 +21,7 @@ use Rattle.passive_store.specs.Kept.{Kept, kept_after, bodies_after, reserved_ui
 use Rattle.passive_store.specs.Seen.{TellsBehind}
 use Rattle.block_tables.specs.declared.heads.HeadFields.{HeadFields}
 use Rattle.block_tables.specs.declared.table.Table.{Table}
-use Rattle.block_tables.specs.declared.index.Entry.{Entry}
+use Rattle.block_tables.specs.declared.index.IndexEntry.{IndexEntry}
 use Rattle.block_tables.specs.declared.head_table.HeadTable.{HeadTable}
 use Rattle.passive_blocks.specs.declared.block_store.Pending.{Pending}
 use Rattle.block_tables.specs.Members.{is_member}
@@ -381,7 +381,7 @@ each_keeps size counted t pending held closing lone =
     all_kept (λ h. counts (heads_in slots) h && not h.removal) (heads_in slots)
     (each_open (λ h. counts (heads_in slots) h && not h.removal) slots (λ k opened.
     let slot : HeadFields = slot_at slots k in
-    let entry : Entry = entry_at t.heads.index slot.uid in
+    let entry : IndexEntry = entry_at t.heads.index slot.uid in
     let parts = kept_parts (is_open slot) (is_it k entry.latest) slot.removal (entry.others == 0) (stays k) opened in
     let is_counted = counts_is slots k entry.latest held.apart opened (held.table.heads.entries slot.uid).0 in
     and_from (counts (heads_in slots) (head_of slot)) (not slot.removal) (is_counted ∙ parts.0)

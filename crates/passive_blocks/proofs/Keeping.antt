@@ -13,18 +13,18 @@ use Rattle.std.proofs.lemmas.Bool.{false≢true}
 use Rattle.capability.specs.declared.Uid.{Uid}
 use Rattle.capability.specs.Uids.{uid_cmp}
 use Rattle.capability.proofs.Uids.{uid_cmp_total, uid_cmp-IsAntisymmetric}
-use Rattle.passive_store.specs.Kept.{Change, Kept, nothing_kept, bodies_after, marks_after, kept_after, kept_from, kept_by}
+use Rattle.passive_store.specs.Kept.{StoreChange, Kept, nothing_kept, bodies_after, marks_after, kept_after, kept_from, kept_by}
 
 -- each body that is kept stands under its uid in the relation R
 abbrev pub KeepsOnly : (Uid → List ℕ → Type 0) → Kept → Type 0
 KeepsOnly R kept = (uid : Uid) (body : List ℕ) → finite.get kept.bodies uid ≡ Some body → R uid body
 
 -- and so does the body that a change gives
-abbrev pub Gives : (Uid → List ℕ → Type 0) → Change → Type 0
+abbrev pub Gives : (Uid → List ℕ → Type 0) → StoreChange → Type 0
 Gives R c = (body : List ℕ) → c.body ≡ Some body → R c.uid body
 
 -- each of these changes has P, where they were found
-abbrev pub EachOf : (Change → Type 0) → Result (List Change) ℕ → Type 0
+abbrev pub EachOf : (StoreChange → Type 0) → Result (List StoreChange) ℕ → Type 0
 EachOf P (Ok cs) = AllByRecursion P cs
 EachOf P (Err place) = Unit {0}
 
@@ -45,12 +45,12 @@ by_choice R uid q true new old body e given before h =
     subst (λ u. R u body) (sym (uid_cmp-IsAntisymmetric q uid (tied (uid_cmp q uid) e))) (given body h)
 by_choice R uid q false new old body e given before h = before body h
 
-keeps_more : (R : Uid → List ℕ → Type 0) (c : Change) (kept : Kept) → Gives R c → KeepsOnly R kept → KeepsOnly R (kept_after c kept)
+keeps_more : (R : Uid → List ℕ → Type 0) (c : StoreChange) (kept : Kept) → Gives R c → KeepsOnly R kept → KeepsOnly R (kept_after c kept)
 keeps_more R c kept given before uid body h =
     by_choice R c.uid uid (eq_by_cmp uid_cmp uid c.uid) c.body (finite.get kept.bodies uid) body refl given (before uid)
     (sym (body_now c.uid uid c.body kept.bodies) ∙ h)
 
-pub keeps_all : (R : Uid → List ℕ → Type 0) (cs : List Change) (kept : Kept) → AllByRecursion (Gives R) cs → KeepsOnly R kept
+pub keeps_all : (R : Uid → List ℕ → Type 0) (cs : List StoreChange) (kept : Kept) → AllByRecursion (Gives R) cs → KeepsOnly R kept
     → KeepsOnly R (kept_from kept cs)
 keeps_all R [] kept each before = before
 keeps_all R (c ∷ cs) kept each before = keeps_all R cs (kept_after c kept) each.1 (keeps_more R c kept each.0 before)
@@ -58,7 +58,7 @@ keeps_all R (c ∷ cs) kept each before = keeps_all R cs (kept_after c kept) eac
 pub keeps_nothing : (R : Uid → List ℕ → Type 0) → KeepsOnly R nothing_kept
 keeps_nothing R uid body h = absurd (let bad : Option.None ≡ Some body = sym (finite.get-empty uid_cmp uid) ∙ h in cc)
 
-pub keeps_found : (R : Uid → List ℕ → Type 0) (found : Result (List Change) ℕ) (kept : Kept) → EachOf (Gives R) found
+pub keeps_found : (R : Uid → List ℕ → Type 0) (found : Result (List StoreChange) ℕ) (kept : Kept) → EachOf (Gives R) found
     → kept_by found ≡ Ok kept → KeepsOnly R kept
 keeps_found R (Ok cs) kept each is =
     let same : kept_from nothing_kept cs ≡ kept = cc in
@@ -86,14 +86,14 @@ same_after uid q (Some body) mark marks bodies same =
     ∙ same_choice (eq_by_cmp uid_cmp q uid) (Some mark) (finite.get marks q) (Some body) (finite.get bodies q) refl same
     ∙ sym (ap is_some (finite.get-insert uid_cmp_total bodies uid body q))
 
-pub same_all : (cs : List Change) (kept : Kept) → SameKeys kept → SameKeys (kept_from kept cs)
+pub same_all : (cs : List StoreChange) (kept : Kept) → SameKeys kept → SameKeys (kept_from kept cs)
 same_all [] kept same = same
 same_all (c ∷ cs) kept same = same_all cs (kept_after c kept) (λ uid. same_after c.uid uid c.body c.mark kept.marks kept.bodies (same uid))
 
 pub same_nothing : SameKeys nothing_kept
 same_nothing uid = ap is_some (finite.get-empty uid_cmp uid) ∙ sym (ap is_some (finite.get-empty uid_cmp uid))
 
-pub same_found : (found : Result (List Change) ℕ) (kept : Kept) → kept_by found ≡ Ok kept → SameKeys kept
+pub same_found : (found : Result (List StoreChange) ℕ) (kept : Kept) → kept_by found ≡ Ok kept → SameKeys kept
 same_found (Ok cs) kept is =
     let same : kept_from nothing_kept cs ≡ kept = cc in
     subst SameKeys same (same_all cs nothing_kept same_nothing)

@@ -16,7 +16,7 @@ use Rattle.std.proofs.lemmas.List.Sums.{sum_by-cons}
 use Rattle.capability.specs.declared.Uid.{Uid}
 use Rattle.capability.specs.Uids.{uid_cmp}
 use Rattle.capability.proofs.Uids.{uid_cmp_total}
-use Rattle.passive_store.specs.Kept.{Change, Kept, nothing_kept, kept_after, kept_from, bodies_after, reserved_uid, IsOwn}
+use Rattle.passive_store.specs.Kept.{StoreChange, Kept, nothing_kept, kept_after, kept_from, bodies_after, reserved_uid, IsOwn}
 use Rattle.passive_store.specs.LogLayout.{within_room}
 use Rattle.block_tables.specs.declared.heads.HeadFields.{HeadFields}
 use Rattle.block_tables.specs.declared.table.Table.{Table}
@@ -97,7 +97,7 @@ total_empty f =
     ap (sum_by (λ (e : Uid × List ℕ). f e.1)) none
 
 -- What is summed over the bodies that heads give, where each is of a uid of its own.
-total_kept : (f : List ℕ → ℕ) (v : Head → Change) (body : Head → List ℕ) → IsOfUid v → ((h : Head) → (v h).body ≡ Some (body h))
+total_kept : (f : List ℕ → ℕ) (v : Head → StoreChange) (body : Head → List ℕ) → IsOfUid v → ((h : Head) → (v h).body ≡ Some (body h))
     → (hs : List Head) (kept : Kept) → AtMostOne hs
     → ((uid : Uid) → 1 ≤ length (filter (λ (g : Head). eq_by_cmp uid_cmp uid g.uid) hs) → finite.get kept.bodies uid ≡ None)
     → total f (kept_from kept (map v hs)).bodies ≡ total f kept.bodies + sum_by (λ h. f (body h)) hs

@@ -11,7 +11,7 @@ use Rattle.std.proofs.Common.{eq-eqb}
 use Rattle.std.proofs.lemmas.List.{length-take-le}
 use Rattle.capability.specs.declared.Uid.{Uid}
 use Rattle.capability.specs.Uids.{uid_cmp}
-use Rattle.passive_store.specs.Kept.{Change, Kept, nothing_kept, kept_from, IsNextOf, IsOwn, reserved_uid, body_at, IsNextKept}
+use Rattle.passive_store.specs.Kept.{StoreChange, Kept, nothing_kept, kept_from, IsNextOf, IsOwn, reserved_uid, body_at, IsNextKept}
 use Rattle.passive_store.specs.LogState.{is_eject}
 use Rattle.block_tables.specs.declared.heads.HeadFields.{HeadFields}
 use Rattle.block_tables.specs.declared.table.Table.{Table}
@@ -50,7 +50,7 @@ kept_is image t kept chains found =
     same : (a b : Kept) → ◌≡◌ {A = Result Kept ℕ} (Ok a) (Ok b) → a ≡ b
     same a b e = cc
 
-last_listed : (X : Type 0) (f : Change → Option X) (v : Head → Change) → IsOfUid v → (hs : List Head) (q : Uid) (old : Option X)
+last_listed : (X : Type 0) (f : StoreChange → Option X) (v : Head → StoreChange) → IsOfUid v → (hs : List Head) (q : Uid) (old : Option X)
     → last_of f (map v hs) q old ≡ last_of f (map v (filter (λ (g : Head). eq_by_cmp uid_cmp q g.uid) hs)) q old
 last_listed X f v uids [] q old = refl
 last_listed X f v uids (h ∷ hs) q old = go (eq_by_cmp uid_cmp q h.uid) refl (last_listed X f v uids hs q)
@@ -65,7 +65,7 @@ last_listed X f v uids (h ∷ hs) q old = go (eq_by_cmp uid_cmp q h.uid) refl (l
         ap (λ b. last_of f (map v hs) q (cond b (f (v h)) old)) (ap (eq_by_cmp uid_cmp q) (uids h) ∙ is) ∙ rest old
 
 -- what the head that keeps a value gives
-abbrev given_by : {X : Type 0} → (Change → Option X) → (Head → Change) → Option HeadFields → Option X
+abbrev given_by : {X : Type 0} → (StoreChange → Option X) → (Head → StoreChange) → Option HeadFields → Option X
 given_by f v None = None
 given_by f v (Some s) = f (v (head_of s))
 
@@ -78,15 +78,15 @@ kept_uid slots uid (Some m) is = go (slot_at slots m).removal
     go true = tt
     go false = uid_is (slot_at slots m) uid is.0
 
-last_under : (X : Type 0) (f : Change → Option X) (v : Head → Change) → IsOfUid v → (uid : Uid) (o : Option HeadFields)
+last_under : (X : Type 0) (f : StoreChange → Option X) (v : Head → StoreChange) → IsOfUid v → (uid : Uid) (o : Option HeadFields)
     → IfSome o (λ (s : HeadFields). s.uid ≡ uid) → last_of f (map v (heads_under o)) uid None ≡ given_by f v o
 last_under X f v uids uid None of = refl
 last_under X f v uids uid (Some s) of =
     ap (λ b. cond b (f (v (head_of s))) None)
     (ap (eq_by_cmp uid_cmp uid) (uids (head_of s) ∙ of) ∙ same_itself uid)
 
-last_kept : (X : Type 0) (f : Change → Option X) (v : Head → Change) → IsOfUid v → (slots : List HeadFields) (uid : Uid) (latest : Option ℕ)
-    → AreApart slots → IsLatest slots uid latest
+last_kept : (X : Type 0) (f : StoreChange → Option X) (v : Head → StoreChange) → IsOfUid v
+    → (slots : List HeadFields) (uid : Uid) (latest : Option ℕ) → AreApart slots → IsLatest slots uid latest
     → last_of f (map v (keeping (heads_in slots))) uid None ≡ given_by f v (kept_slot slots latest)
 last_kept X f v uids slots uid latest apart is =
     last_listed X f v uids (keeping (heads_in slots)) uid None
@@ -111,7 +111,7 @@ pub mark_in_memory : (image : List ℕ) (t : Table) (uid : Uid) → IsTable t �
     → finite.get (memory_kept image t).marks uid ≡ sequence_of (keeper t uid)
 mark_in_memory image t uid is apart =
     let slots : List HeadFields = t.heads.slots.items in
-    let v : Head → Change = value_on image t.blocks.next.items in
+    let v : Head → StoreChange = value_on image t.blocks.next.items in
     marks_from (map v (keeping (heads_in slots))) nothing_kept uid
     ∙ ap (last_of mark_in (map v (keeping (heads_in slots))) uid) (finite.get-empty uid_cmp uid)
     ∙ last_kept ℕ mark_in v (λ h. refl) slots uid (entry_at t.heads.index uid).latest apart (latest_held t uid is)
@@ -121,7 +121,7 @@ pub body_in_memory : (image : List ℕ) (t : Table) (uid : Uid) → IsTable t �
     → finite.get (memory_kept image t).bodies uid ≡ body_under image t.blocks.next.items (keeper t uid)
 body_in_memory image t uid is apart =
     let slots : List HeadFields = t.heads.slots.items in
-    let v : Head → Change = value_on image t.blocks.next.items in
+    let v : Head → StoreChange = value_on image t.blocks.next.items in
     bodies_from (map v (keeping (heads_in slots))) nothing_kept uid
     ∙ ap (last_of body_in (map v (keeping (heads_in slots))) uid) (finite.get-empty uid_cmp uid)
     ∙ last_kept (List ℕ) body_in v (λ h. refl) slots uid (entry_at t.heads.index uid).latest apart (latest_held t uid is)

@@ -9,7 +9,7 @@ use Rattle.eden_disk.specs.Held.{Passes}
 use Rattle.eden_disk.specs.Calls.{End, Fine, SyncTold, ReadTold}
 use Rattle.eden_disk.proofs.Held.{passes_sync, passes_read, passes_join, passes_weaker}
 use Rattle.passive_store.specs.Acts.{Read}
-use Rattle.passive_store.specs.Kept.{Change, Kept, Stands, IsOverfull, IsDamagedFrom, IsAnyOf, nothing_kept, kept_by}
+use Rattle.passive_store.specs.Kept.{StoreChange, Kept, Stands, IsOverfull, IsDamagedFrom, IsAnyOf, nothing_kept, kept_by}
 use Rattle.block_tables.specs.Blocks.{numbers, is_block_size, head_place, head_bytes, heads_among, heads_of, heads_or_none}
 use Rattle.block_tables.specs.Blocks.{chains_of, chains_among}
 use Rattle.block_tables.specs.Blocks.{taken_by, kept_in_blocks, changes_on}
@@ -135,7 +135,7 @@ empty_says_same node size old new allowed o n =
     let b = keeps_nothing node size new allowed n in
     record { map = b.map ∙ sym a.map; opens = b.opens ∙ sym a.opens; told = b.told ∙ sym a.told }
 
-stands_same : (node told : ℕ) (kept : Kept) (changes : List Change) (old new : List ℕ) → SaysTheSame node old new
+stands_same : (node told : ℕ) (kept : Kept) (changes : List StoreChange) (old new : List ℕ) → SaysTheSame node old new
     → Stands block_layout node told kept changes old → Stands block_layout node told kept changes new
 stands_same node told kept changes old new same s = record {
   found = subst (IsAnyOf kept changes) (sym same.map) s.found;

@@ -13,7 +13,7 @@ use Rattle.std.proofs.lemmas.List.Sums.{sum_by-cons}
 use Rattle.capability.specs.declared.Uid.{Uid}
 use Rattle.capability.specs.Uids.{uid_cmp}
 use Rattle.capability.proofs.Uids.{uid_cmp_total}
-use Rattle.passive_store.specs.Kept.{Change, Kept, NeverOverfull, nothing_kept, kept_after, kept_from, kept_by, bodies_after}
+use Rattle.passive_store.specs.Kept.{StoreChange, Kept, NeverOverfull, nothing_kept, kept_after, kept_from, kept_by, bodies_after}
 use Rattle.passive_store.specs.Log.{length_of, uid_of, are_fields, is_record, record_of, with_record, records_behind, records_of}
 use Rattle.passive_store.specs.Log.{log_map}
 use Rattle.block_tables.specs.Blocks.{is_block_size, blocks_of}
@@ -34,7 +34,7 @@ abbrev uid_at : ℕ → ℕ → Uid
 uid_at node s = record { node = node; epoch = 1; serial = s }
 
 -- the changes of these records
-AreOf : ℕ → ℕ → List Change → Type 0
+AreOf : ℕ → ℕ → List StoreChange → Type 0
 AreOf node zero [] = Unit {0}
 AreOf node zero (c ∷ cs) = ⊥
 AreOf node (suc m) [] = ⊥
@@ -61,7 +61,7 @@ good_record node s rest some small more =
 
 -- the records are found
 found_of : (node n place : ℕ) (tail : List ℕ) → n < 65536
-    → (cs : List Change) × (records_behind node 0 place (log_of node n (0 ∷ tail)) ≡ Ok cs) × AreOf node n cs
+    → (cs : List StoreChange) × (records_behind node 0 place (log_of node n (0 ∷ tail)) ≡ Ok cs) × AreOf node n cs
 unfolding log_of records_behind AreOf
 found_of node zero place tail small = ([], refl, tt)
 found_of node (suc m) place tail small =
@@ -77,7 +77,7 @@ found_of node (suc m) place tail small =
     )
 
 -- Each of them is kept.
-many_kept : (node n : ℕ) (cs : List Change) (kept : Kept) → AreOf node n cs
+many_kept : (node n : ℕ) (cs : List StoreChange) (kept : Kept) → AreOf node n cs
     → ((q : Uid) → q.serial ≤ n → finite.get kept.bodies q ≡ None)
     → finite.len kept.bodies + n ≤ finite.len (kept_from kept cs).bodies
 unfolding AreOf

@@ -12,7 +12,7 @@ use Rattle.std.proofs.lemmas.Bool.Decides.{nat_tests}
 use Rattle.std.proofs.lemmas.List.{length-set}
 use Rattle.capability.specs.declared.Uid.{Uid}
 use Rattle.block_tables.specs.declared.heads.HeadFields.{HeadFields}
-use Rattle.block_tables.specs.declared.index.Entry.{Entry}
+use Rattle.block_tables.specs.declared.index.IndexEntry.{IndexEntry}
 use Rattle.block_tables.specs.declared.head_table.HeadTable.{HeadTable}
 use Rattle.block_tables.specs.declared.table.Table.{Table}
 use Rattle.block_tables.specs.declared.block_table.BlockTable.{BlockTable}
@@ -156,7 +156,7 @@ closing_at slots x latest mine now k shut is other same apart =
         ∙ ap (λ b. b && not (is_it k mine)) opened ∙ sym (ap (λ b. b && not (is_it k now)) opened)
 
 -- the entry of another uid stays
-other_entry : (old : List HeadFields) (x s : HeadFields) (before after : Entry) → x.number < length old → AreApart (set old x.number x)
+other_entry : (old : List HeadFields) (x s : HeadFields) (before after : IndexEntry) → x.number < length old → AreApart (set old x.number x)
     → is_open (slot_at old x.number) ≡ false → is_open s ≡ true → is_open_of x.uid s ≡ false
     → IsEntryOf old s.uid before → IsEntryOf (set old x.number x) s.uid after → after.latest ≡ before.latest
 other_entry old x s before after within apart shut opened none was is =
@@ -182,7 +182,7 @@ read_more t0 t1 heads before after x read within opened fresh slots entries clos
     let n : ℕ = x.number in
     let new : List HeadFields = set old n x in
     let items_are : heads.slots.items ≡ new = items ∙ ap (λ s. set s.items n x) slots in
-    let entry : Entry = entry_at t0.heads.index x.uid in
+    let entry : IndexEntry = entry_at t0.heads.index x.uid in
     let latest : Option ℕ = entry.latest in
     let shut : is_open (slot_at old n) ≡ false = read.ahead n (omega arith) in
     let none : is_open_of x.uid (slot_at old n) ≡ false = closed_not (slot_at old n) x.uid shut in
@@ -198,7 +198,7 @@ read_more t0 t1 heads before after x read within opened fresh slots entries clos
     (mine k)))) =
     λ k. closes k
     ∙ ap (λ s. is_it k (outdated s.items x (entry_at t1.heads.index x.uid).latest) || is_member t1.heads.closing k) slots
-    ∙ ap (λ (e : Entry). is_it k (outdated old x e.latest) || is_member t1.heads.closing k) (entries x.uid)
+    ∙ ap (λ (e : IndexEntry). is_it k (outdated old x e.latest) || is_member t1.heads.closing k) (entries x.uid)
     ∙ ap (λ c. is_it k (outdated old x latest) || is_member c k) closing
     ∙ ap (λ b. is_it k (outdated old x latest) || b) (read.counted.closing k) in
     let here : (k : ℕ) → k ≡ n → slot_at heads.slots.items k ≡ x =

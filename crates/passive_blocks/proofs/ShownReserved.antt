@@ -6,7 +6,7 @@ use Rattle.std.specs.Ordering.{eq_by_cmp}
 use Rattle.std.proofs.lemmas.Bool.{false≢true}
 use Rattle.capability.specs.declared.Uid.{Uid}
 use Rattle.capability.specs.Uids.{uid_cmp}
-use Rattle.passive_store.specs.Kept.{Change, nothing_kept, kept_by, body_at}
+use Rattle.passive_store.specs.Kept.{StoreChange, nothing_kept, kept_by, body_at}
 use Rattle.passive_store.specs.Log.{with_record}
 use Rattle.block_tables.specs.declared.heads.HeadFields.{HeadFields}
 use Rattle.block_tables.specs.declared.table.Table.{Table}
@@ -36,11 +36,11 @@ chain_head h image free block (suc more) =
     go false rest = refl
 
 -- of these changes none is under a uid
-abbrev HasNone : Uid → Result (List Change) ℕ → Type 0
+abbrev HasNone : Uid → Result (List StoreChange) ℕ → Type 0
 HasNone q (Ok cs) = last_of body_in cs q None ≡ None
 HasNone q (Err place) = Unit {0}
 
-with_none : (q : Uid) (c : Change) (rest : Result (List Change) ℕ) → eq_by_cmp uid_cmp q c.uid ≡ false → HasNone q rest
+with_none : (q : Uid) (c : StoreChange) (rest : Result (List StoreChange) ℕ) → eq_by_cmp uid_cmp q c.uid ≡ false → HasNone q rest
     → HasNone q (with_record c rest)
 with_none q c (Ok cs) other none = ap (λ b. last_of body_in cs q (cond b c.body None)) other ∙ none
 with_none q c (Err place) other none = tt
@@ -76,7 +76,7 @@ none_among image free (h ∷ hs) q none =
         on_rest c c.whole (ap (λ (g : Head). eq_by_cmp uid_cmp q g.uid) (chain_head h image free h.first (blocks_of h.size)) ∙ is)
         (behind rest)
 
-none_kept : (q : Uid) (found : Result (List Change) ℕ) → HasNone q found → body_at (kept_or_none (kept_by found)) q ≡ None
+none_kept : (q : Uid) (found : Result (List StoreChange) ℕ) → HasNone q found → body_at (kept_or_none (kept_by found)) q ≡ None
 none_kept q (Ok cs) none =
     bodies_from cs nothing_kept q ∙ ap (last_of body_in cs q) (finite.get-empty uid_cmp q) ∙ none
 none_kept q (Err place) none = finite.get-empty uid_cmp q

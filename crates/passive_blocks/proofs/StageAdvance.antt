@@ -7,7 +7,7 @@ use Rattle.eden_disk.specs.Told.{Contents, Told, at_rest, contents, EachMoment}
 use Rattle.eden_disk.specs.Calls.{Counts, End, Fine, power_after}
 use Rattle.eden_disk.specs.Held.{Passes}
 use Rattle.passive_store.specs.Acts.{DiskCall, CallTold}
-use Rattle.passive_store.specs.Kept.{Kept, Change, Stands, IsFresh}
+use Rattle.passive_store.specs.Kept.{Kept, StoreChange, Stands, IsFresh}
 use Rattle.block_tables.specs.declared.table.Table.{Table}
 use Rattle.passive_blocks.specs.declared.block_store.Pending.{Pending}
 use Rattle.passive_blocks.specs.declared.block_store.Stage.{Stage}
@@ -106,7 +106,7 @@ IsFirstEarly made WriteHead = Unit {0}
 IsFirstEarly made SyncHead = Unit {0}
 IsFirstEarly made (Ended gate synced) = Unit {0}
 
-early_either : (node size more : ℕ) (counts : Counts) (t : Table) (p : Pending) (kept : Kept) (old new : Told) (cs : List Change)
+early_either : (node size more : ℕ) (counts : Counts) (t : Table) (p : Pending) (kept : Kept) (old new : Told) (cs : List StoreChange)
     → (cs ≡ []) ⊎ (cs ≡ change_of p ∷ []) → IsHeld size counts t (Some p) → (e : IsEarly node more t p (contents old))
     → kept_in_blocks (contents old).now (Ok (heads_in t.heads.slots.items)) ≡ Ok kept
     → Passes (EarlyImages node more t p (contents old) e) old new → EachMoment (Stands block_layout node more kept cs) old new
@@ -118,7 +118,7 @@ early_either node size more counts t p kept old new cs (inr one) held e is passe
     (early_moments_with node size more counts t p kept old new held e is passes)
 
 pub advance_moments : (node size more : ℕ) (counts : Counts) (t : Table) (p : Pending) (clock : ℕ) (kept : Kept) (old new : Told)
-    (stage : Stage) (end : End) (cs : List Change) → (cs ≡ []) ⊎ (cs ≡ change_of p ∷ [])
+    (stage : Stage) (end : End) (cs : List StoreChange) → (cs ≡ []) ⊎ (cs ≡ change_of p ∷ [])
     → IsHeld size counts t (Some p) → IsStaged t p stage → IsSpelled node t.blocks.size p.head
     → IsStageOn node more t p (contents old) true stage → is_going stage ≡ true
     → (stage ≡ Close → is_member t.heads.closing (first_closed t) ≡ true)

@@ -11,7 +11,7 @@ use Rattle.passive_store.specs.declared.store.Progress.{Progress}
 use Rattle.passive_store.specs.declared.store.Progress.TheVariants.{Going, Done}
 use Rattle.passive_store.specs.declared.store.StoreRefusal.{StoreRefusal}
 use Rattle.passive_store.specs.Acts.{DiskCall, CallTold}
-use Rattle.passive_store.specs.Kept.{Kept, Change, Work, Idle, Busy, Unsettled, Stands, changes_in, doubt_in, kept_after, progress_at}
+use Rattle.passive_store.specs.Kept.{Kept, StoreChange, Work, Idle, Busy, Unsettled, Stands, changes_in, doubt_in, kept_after, progress_at}
 use Rattle.passive_store.specs.Kept.{end_of_store, IsDiskRefusal}
 use Rattle.passive_store.specs.Seen.{Seen, DiskSeen, Advances}
 use Rattle.passive_store.proofs.Joining.{none_refused_after}
@@ -39,10 +39,10 @@ pub record OneCall (tells obeys : Bool) (call : DiskCall) (end : End) (old new :
 more_left : (n : ℕ) → 1 ≤ n → nat_le (suc n) 1 ≡ false
 more_left n some = grind (arith, nat_tests, some)
 
-doubt_then : (c : Change) (made : ℕ) (rest : List DiskCall) → doubt_in (Busy c (made + 1) rest) ≡ Some c
+doubt_then : (c : StoreChange) (made : ℕ) (rest : List DiskCall) → doubt_in (Busy c (made + 1) rest) ≡ Some c
 doubt_then c made rest = ap (λ n. doubt_in (Busy c n rest)) (let e : made + 1 ≡ suc made = omega arith in e)
 
-pub going_record : (tells obeys : Bool) (node more made : ℕ) (c : Change) (call : DiskCall) (rest : List DiskCall) (w v : Work)
+pub going_record : (tells obeys : Bool) (node more made : ℕ) (c : StoreChange) (call : DiskCall) (rest : List DiskCall) (w v : Work)
     (picked : Option Pick) (kept then_kept : Kept) (old new : DiskSeen) → w ≡ Busy c made (call ∷ rest) → v ≡ Busy c (made + 1) rest
     → 1 ≤ length rest → OneCall tells obeys call Fine old new → (IsTrue tells → then_kept ≡ kept)
     → (IsTrue tells → LeavesOnly (Stands block_layout node more then_kept (c ∷ [])) (contents new.told))
@@ -73,7 +73,7 @@ going_record tells obeys node more made c call rest w v picked kept then_kept ol
           (moments tells);
     }))
 
-pub done_record : (tells obeys : Bool) (node more made : ℕ) (c : Change) (call : DiskCall) (w : Work)
+pub done_record : (tells obeys : Bool) (node more made : ℕ) (c : StoreChange) (call : DiskCall) (w : Work)
     (picked : Option Pick) (kept then_kept : Kept) (old new : DiskSeen) → w ≡ Busy c made (call ∷ [])
     → OneCall tells obeys call Fine old new → (IsTrue tells → then_kept ≡ kept_after c kept)
     → (IsTrue tells → LeavesOnly (Stands block_layout node more then_kept []) (contents new.told))
@@ -97,7 +97,7 @@ done_record tells obeys node more made c call w picked kept then_kept old new is
           (moments tells);
     })
 
-pub refused_record : (tells obeys : Bool) (node more made : ℕ) (c : Change) (call : DiskCall) (rest : List DiskCall) (w : Work)
+pub refused_record : (tells obeys : Bool) (node more made : ℕ) (c : StoreChange) (call : DiskCall) (rest : List DiskCall) (w : Work)
     (picked : Option Pick) (kept then_kept : Kept) (old new : DiskSeen) (e : StoreRefusal) → w ≡ Busy c made (call ∷ rest)
     → IsDiskRefusal e → OneCall tells obeys call (end_of_store {T = Progress} (Err e)) old new → (IsTrue tells → then_kept ≡ kept)
     → (IsTrue tells → LeavesOnly (Stands block_layout node more then_kept (c ∷ [])) (contents new.told))

@@ -12,7 +12,7 @@ use Rattle.passive_store.specs.declared.store.Pick.{Pick}
 use Rattle.passive_store.specs.declared.store.Pick.TheVariants.{Old, New}
 use Rattle.passive_store.specs.declared.store.StoreRefusal.{StoreRefusal}
 use Rattle.passive_store.specs.Acts.{DiskCall, CallsTold}
-use Rattle.passive_store.specs.Kept.{Layout, Kept, Change, Work, Idle, Busy}
+use Rattle.passive_store.specs.Kept.{Layout, Kept, StoreChange, Work, Idle, Busy}
 use Rattle.passive_store.specs.Kept.{Unsettled, Stands, Ran, IsFresh, changes_in, doubt_in, end_of_store}
 use Rattle.passive_store.specs.Kept.{is_unsettled, is_synced, unsynced, settling_calls, settling_of, settled, work_settled}
 use Rattle.passive_store.specs.Seen.{Seen, DiskSeen, Settled}
@@ -190,12 +190,12 @@ settled_none tells obeys layout unsettled old new power is a =
     }
 
 -- A store over blocks: what a crash leaves of it at any stage.
-either_stands : (node more made : ℕ) (kept : Kept) (c : Change) (left : List DiskCall) (image : List ℕ)
+either_stands : (node more made : ℕ) (kept : Kept) (c : StoreChange) (left : List DiskCall) (image : List ℕ)
     → Stands block_layout node more kept [] image → Stands block_layout node more kept (changes_in (doubt_in (Busy c made left))) image
 either_stands node more zero kept c left image s = s
 either_stands node more (suc made) kept c left image s = stands_with node more kept c image s
 
-doubt_some : (c : Change) (made : ℕ) (left : List DiskCall) → 1 ≤ made → doubt_in (Busy c made left) ≡ Some c
+doubt_some : (c : StoreChange) (made : ℕ) (left : List DiskCall) → 1 ≤ made → doubt_in (Busy c made left) ≡ Some c
 doubt_some c zero left some = absurd (let bad : ⊥ = omega (arith, some) in bad)
 doubt_some c (suc made) left some = refl
 
@@ -270,7 +270,7 @@ store_stands tells node size more old t (Some p) store power so =
     store.staged.later
 
 -- the change in doubt gives its uid a mark of its own
-busy_fresh : (c : Change) (made : ℕ) (left : List DiskCall) (kept : Kept) → IsFresh c kept
+busy_fresh : (c : StoreChange) (made : ℕ) (left : List DiskCall) (kept : Kept) → IsFresh c kept
     → IfSome (doubt_in (Busy c made left)) (λ d. IsFresh d kept)
 busy_fresh c zero left kept fresh = tt
 busy_fresh c (suc made) left kept fresh = fresh

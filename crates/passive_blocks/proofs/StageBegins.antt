@@ -12,8 +12,8 @@ use Rattle.passive_store.specs.declared.store.Pick.{Pick}
 use Rattle.passive_store.specs.declared.store.StoreRefusal.{StoreRefusal}
 use Rattle.passive_store.specs.declared.store.StoreRefusal.TheVariants.{Full}
 use Rattle.passive_store.specs.Acts.{Sync}
-use Rattle.passive_store.specs.Kept.{Change, Kept, Work, Idle, Busy, HasJob, IsJobOf, IsFresh, IsOwn, IsEarlyRefusal, body_at, change_in}
-use Rattle.passive_store.specs.Kept.{reserved_uid}
+use Rattle.passive_store.specs.Kept.{StoreChange, Kept, Work, Idle, Busy, HasJob, IsJobOf, IsFresh, IsOwn, IsEarlyRefusal, body_at}
+use Rattle.passive_store.specs.Kept.{change_in, reserved_uid}
 use Rattle.passive_store.specs.Seen.{Asked, Begins, DiskSeen, TellsBehind, asked, change_asked, has_room_for}
 use Rattle.block_tables.specs.declared.heads.HeadFields.{HeadFields}
 use Rattle.block_tables.specs.declared.table.Table.{Table}
@@ -512,14 +512,14 @@ begun_store tells node size more d t new pending p uid removal sure bytes a c be
           (λ k. ap (λ (h : HeadTable). is_member h.lone k) c.heads ∙ store.staged k) (closes_or_none new p c.stage)
           (last_sequence node size more less d.counts t p.head.sequence (contents d.told) d.counts.power store.held (store.on tell) fewer
           c.sequence.0)
-          (subst (λ (ch : Change). IsOwn node p.head.uid (size_of ch.body)) (sym change)
+          (subst (λ (ch : StoreChange). IsOwn node p.head.uid (size_of ch.body)) (sym change)
           (subst (λ n. IsOwn node p.head.uid n) (sym (size_asked removal bytes a.empty)) (subst (λ u. IsOwn node u (length bytes))
           (sym c.uid_is) a.own)))
           (λ gone. subst (λ (u : Uid). 1 ≤ u.epoch) (sym c.uid_is) (a.eject (sym c.removal_is ∙ gone)))
           (λ value. in_room c (room_there t uid removal (length bytes) c.room (sym c.removal_is ∙ value)));
       first = λ tell some.
           subst (λ k. TellsBehind node k p.head.uid (change_of p).body) (sym same)
-          (subst (λ (ch : Change). TellsBehind node (kept_seen d.told t) ch.uid ch.body) (sym change)
+          (subst (λ (ch : StoreChange). TellsBehind node (kept_seen d.told t) ch.uid ch.body) (sym change)
           (first_of_flag node (contents d.told).now t uid removal sure bytes store.held.table store.held.apart (store.on tell).1.chains
           a.own (λ is. behind is tell) (told_flag t node more uid sure some)));
     }

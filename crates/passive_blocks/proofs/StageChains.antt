@@ -6,7 +6,7 @@ use Rattle.std.proofs.lemmas.Bool.{false≢true, eqb-true}
 use Rattle.std.proofs.lemmas.Bool.Decides.{nat_tests}
 use Rattle.std.proofs.lemmas.List.Concat.{flat_map-cons}
 use Rattle.std.proofs.lemmas.List.Sums.{sum_by-cons}
-use Rattle.passive_store.specs.Kept.{Change, kept_from, nothing_kept, kept_by}
+use Rattle.passive_store.specs.Kept.{StoreChange, kept_from, nothing_kept, kept_by}
 use Rattle.passive_store.specs.Log.{with_record}
 use Rattle.block_tables.specs.Blocks.{Head, Chain, has, without, next_block, on_block, chain_from, chain_of, chains_among, chains_of}
 use Rattle.block_tables.specs.Blocks.{data_blocks}
@@ -268,7 +268,7 @@ chains_by_links image next size heads long once linked ended =
     linked ended
 
 -- what a head gives by the blocks that memory has for it
-abbrev pub value_on : List ℕ → List ℕ → Head → Change
+abbrev pub value_on : List ℕ → List ℕ → Head → StoreChange
 value_on image next h = change_on image (chain_in next h)
 
 changes_in_order : (image next : List ℕ) (hs : List Head) → changes_on image (map (chain_in next) hs) ≡ Ok (map (value_on image next) hs)

@@ -10,7 +10,7 @@ use Rattle.passive_store.specs.declared.store.Progress.{Progress}
 use Rattle.passive_store.specs.declared.store.Progress.TheVariants.{Going, Done}
 use Rattle.passive_store.specs.declared.store.StoreRefusal.{StoreRefusal}
 use Rattle.passive_store.specs.Acts.{DiskCall, CallTold}
-use Rattle.passive_store.specs.Kept.{Kept, Change, Idle, Busy, Unsettled, Stands, IsFresh, IsDiskRefusal, changes_in, doubt_in}
+use Rattle.passive_store.specs.Kept.{Kept, StoreChange, Idle, Busy, Unsettled, Stands, IsFresh, IsDiskRefusal, changes_in, doubt_in}
 use Rattle.passive_store.specs.Kept.{end_of_store, kept_after}
 use Rattle.passive_store.specs.Kept.{kept_from, nothing_kept}
 use Rattle.passive_store.specs.Seen.{DiskSeen, Advances, TellsBehind}
@@ -97,12 +97,12 @@ first_there node size t p stage staged same =
     first_closed_is t some.0 some.1
 
 -- which changes a crash in the call may show: none in the first
-doubt_either : (c : Change) (made : ℕ) (left : List DiskCall)
+doubt_either : (c : StoreChange) (made : ℕ) (left : List DiskCall)
     → (changes_in (doubt_in (Busy c made left)) ≡ []) ⊎ (changes_in (doubt_in (Busy c made left)) ≡ c ∷ [])
 doubt_either c zero left = inl refl
 doubt_either c (suc made) left = inr refl
 
-doubt_some : (c : Change) (made : ℕ) (left : List DiskCall) → 1 ≤ made → changes_in (doubt_in (Busy c made left)) ≡ c ∷ []
+doubt_some : (c : StoreChange) (made : ℕ) (left : List DiskCall) → 1 ≤ made → changes_in (doubt_in (Busy c made left)) ≡ c ∷ []
 doubt_some c zero left some = absurd (let bad : ⊥ = omega (arith, some) in bad)
 doubt_some c (suc made) left some = refl
 

@@ -9,7 +9,7 @@ use Rattle.std.proofs.lemmas.List.Elements.{filter-append}
 use Rattle.capability.specs.declared.Uid.{Uid}
 use Rattle.capability.specs.Uids.{uid_cmp}
 use Rattle.capability.proofs.Uids.{uid_cmp_total, uid_cmp-IsAntisymmetric}
-use Rattle.passive_store.specs.Kept.{Change, Kept, nothing_kept, marks_after, kept_after, kept_from}
+use Rattle.passive_store.specs.Kept.{StoreChange, Kept, nothing_kept, marks_after, kept_after, kept_from}
 use Rattle.block_tables.specs.Blocks.{Head, same_uid, counts, keeping}
 use Rattle.block_tables.proofs.Slots.{same_uids}
 use Rattle.passive_blocks.proofs.Among.{filter_twice}
@@ -26,40 +26,40 @@ mark_now uid q None mark m = finite.get-remove uid_cmp_total m uid q
 mark_now uid q (Some body) mark m = finite.get-insert uid_cmp_total m uid mark q
 
 -- what the last of these changes leaves under a uid
-abbrev pub last_of : {X : Type 0} → (Change → Option X) → List Change → Uid → Option X → Option X
+abbrev pub last_of : {X : Type 0} → (StoreChange → Option X) → List StoreChange → Uid → Option X → Option X
 last_of f [] q old = old
 last_of f (c ∷ cs) q old = last_of f cs q (cond (eq_by_cmp uid_cmp q c.uid) (f c) old)
 
-abbrev pub body_in : Change → Option (List ℕ)
+abbrev pub body_in : StoreChange → Option (List ℕ)
 body_in c = c.body
 
-abbrev pub mark_in : Change → Option ℕ
+abbrev pub mark_in : StoreChange → Option ℕ
 mark_in c = mark_of c.body c.mark
 
-pub bodies_from : (cs : List Change) (kept : Kept) (q : Uid) → finite.get (kept_from kept cs).bodies q ≡ last_of body_in cs q
+pub bodies_from : (cs : List StoreChange) (kept : Kept) (q : Uid) → finite.get (kept_from kept cs).bodies q ≡ last_of body_in cs q
     (finite.get kept.bodies q)
 bodies_from [] kept q = refl
 bodies_from (c ∷ cs) kept q = bodies_from cs (kept_after c kept) q ∙ ap (last_of body_in cs q) (body_now c.uid q c.body kept.bodies)
 
-pub marks_from : (cs : List Change) (kept : Kept) (q : Uid) → finite.get (kept_from kept cs).marks q ≡ last_of mark_in cs q
+pub marks_from : (cs : List StoreChange) (kept : Kept) (q : Uid) → finite.get (kept_from kept cs).marks q ≡ last_of mark_in cs q
     (finite.get kept.marks q)
 marks_from [] kept q = refl
 marks_from (c ∷ cs) kept q = marks_from cs (kept_after c kept) q ∙ ap (last_of mark_in cs q) (mark_now c.uid q c.body c.mark kept.marks)
 
-last_append : (X : Type 0) (f : Change → Option X) (xs ys : List Change) (q : Uid) (old : Option X)
+last_append : (X : Type 0) (f : StoreChange → Option X) (xs ys : List StoreChange) (q : Uid) (old : Option X)
     → last_of f (xs ++ ys) q old ≡ last_of f ys q (last_of f xs q old)
 last_append X f [] ys q old = refl
 last_append X f (x ∷ xs) ys q old = last_append X f xs ys q (cond (eq_by_cmp uid_cmp q x.uid) (f x) old)
 
 -- a change for each head, under its uid
-abbrev pub IsOfUid : (Head → Change) → Type 0
+abbrev pub IsOfUid : (Head → StoreChange) → Type 0
 IsOfUid v = (h : Head) → (v h).uid ≡ h.uid
 
 abbrev beside : Head → Head → Bool
 beside h g = not (same_uid h g)
 
 -- under another uid it does not matter whether those of this one are there
-last_other : (X : Type 0) (f : Change → Option X) (v : Head → Change) → IsOfUid v → (h : Head) (hs : List Head) (q : Uid)
+last_other : (X : Type 0) (f : StoreChange → Option X) (v : Head → StoreChange) → IsOfUid v → (h : Head) (hs : List Head) (q : Uid)
     → eq_by_cmp uid_cmp q h.uid ≡ false → (old : Option X)
     → last_of f (map v (filter (beside h) hs)) q old ≡ last_of f (map v hs) q old
 last_other X f v uids h [] q other old = refl
@@ -76,7 +76,7 @@ last_other X f v uids h (g ∷ gs) q other old = go (same_uid h g) refl (last_ot
     go false is rest = rest (cond (eq_by_cmp uid_cmp q (v g).uid) (f (v g)) old)
 
 -- under this one none of the others is
-last_none : (X : Type 0) (f : Change → Option X) (v : Head → Change) → IsOfUid v → (h : Head) (hs : List Head) (q : Uid)
+last_none : (X : Type 0) (f : StoreChange → Option X) (v : Head → StoreChange) → IsOfUid v → (h : Head) (hs : List Head) (q : Uid)
     → eq_by_cmp uid_cmp q h.uid ≡ true → (old : Option X) → last_of f (map v (filter (beside h) hs)) q old ≡ old
 last_none X f v uids h [] q same old = refl
 last_none X f v uids h (g ∷ gs) q same old = go (same_uid h g) refl (last_none X f v uids h gs q same)
@@ -92,7 +92,7 @@ last_none X f v uids h (g ∷ gs) q same old = go (same_uid h g) refl (last_none
         ap (eq_by_cmp uid_cmp q) (uids g) ∙ ap (λ u. eq_by_cmp uid_cmp u g.uid) it ∙ is in
         ap (last_of f (map v (filter (beside h) gs)) q) (ap (λ b. cond b (f (v g)) old) not_it) ∙ rest old
 
-map_append : (v : Head → Change) (xs ys : List Head) → map v (xs ++ ys) ≡ map v xs ++ map v ys
+map_append : (v : Head → StoreChange) (xs ys : List Head) → map v (xs ++ ys) ≡ map v xs ++ map v ys
 map_append v [] ys = refl
 map_append v (x ∷ xs) ys = ap (λ zs. v x ∷ zs) (map_append v xs ys)
 
@@ -100,11 +100,11 @@ map_append v (x ∷ xs) ys = ap (λ zs. v x ∷ zs) (map_append v xs ys)
 abbrev between : Head → List Head → List Head → List Head
 between h xs ys = filter (beside h) xs ++ (if h.removal then filter (beside h) ys else h ∷ filter (beside h) ys)
 
-abbrev given : {X : Type 0} → (Change → Option X) → (Head → Change) → Head → Option X
+abbrev given : {X : Type 0} → (StoreChange → Option X) → (Head → StoreChange) → Head → Option X
 given f v h = if h.removal then None else f (v h)
 
-last_between : (X : Type 0) (f : Change → Option X) (v : Head → Change) → IsOfUid v → (h : Head) (xs ys : List Head) (q : Uid) (b : Bool)
-    → eq_by_cmp uid_cmp q h.uid ≡ b
+last_between : (X : Type 0) (f : StoreChange → Option X) (v : Head → StoreChange) → IsOfUid v
+    → (h : Head) (xs ys : List Head) (q : Uid) (b : Bool) → eq_by_cmp uid_cmp q h.uid ≡ b
     → last_of f (map v (between h xs ys)) q None ≡ cond b (given f v h) (last_of f (map v (xs ++ ys)) q None)
 last_between X f v uids h xs ys q b is = go b is h.removal refl
   where
@@ -148,10 +148,11 @@ last_between X f v uids h xs ys q b is = go b is h.removal refl
         ∙ sym whole
 
 -- changes that add nothing to the ledger leave it
-abbrev pub AddsNothing : (Head → Change) → Type 0
+abbrev pub AddsNothing : (Head → StoreChange) → Type 0
 AddsNothing v = (h : Head) → (v h).wrote ≡ []
 
-ledger_none : (v : Head → Change) → AddsNothing v → (hs : List Head) (kept : Kept) → kept.ledger ≡ [] → (kept_from kept (map v hs)).ledger
+ledger_none : (v : Head → StoreChange) → AddsNothing v → (hs : List Head) (kept : Kept) → kept.ledger ≡ []
+    → (kept_from kept (map v hs)).ledger
     ≡ []
 ledger_none v adds [] kept none = none
 ledger_none v adds (h ∷ hs) kept none =
@@ -168,13 +169,13 @@ kept_same a b bodies marks ledger =
     ∙ ap (λ l. record { bodies = b.bodies; marks = b.marks; ledger = l }) ledger
 
 -- the change that a head makes
-pub record Makes (v : Head → Change) (h : Head) (c : Change) : Type 0 where
+pub record Makes (v : Head → StoreChange) (h : Head) (c : StoreChange) : Type 0 where
   pub uid : c.uid ≡ h.uid
   pub body : c.body ≡ (if h.removal then None else (v h).body)
   pub mark : mark_in c ≡ (if h.removal then None else mark_in (v h))
   pub wrote : c.wrote ≡ []
 
-after_between : (v : Head → Change) (h : Head) (xs ys : List Head) (c : Change) → IsOfUid v → AddsNothing v → Makes v h c
+after_between : (v : Head → StoreChange) (h : Head) (xs ys : List Head) (c : StoreChange) → IsOfUid v → AddsNothing v → Makes v h c
     → kept_from nothing_kept (map v (between h xs ys)) ≡ kept_after c (kept_from nothing_kept (map v (xs ++ ys)))
 after_between v h xs ys c uids adds makes =
     kept_same (kept_from nothing_kept (map v (between h xs ys))) (kept_after c (kept_from nothing_kept (map v (xs ++ ys))))
@@ -201,7 +202,7 @@ after_between v h xs ys c uids adds makes =
     ∙ ap (λ l. l ++ []) (ledger_none v adds (xs ++ ys) nothing_kept refl)))
 
 -- What the heads keep behind a change: what they kept before it, with the change made.
-pub kept_with : (v : Head → Change) (front back : List Head) (h : Head) (c : Change) → IsOfUid v → AddsNothing v → Makes v h c
+pub kept_with : (v : Head → StoreChange) (front back : List Head) (h : Head) (c : StoreChange) → IsOfUid v → AddsNothing v → Makes v h c
     → list_all (is_earlier h) front ≡ true → list_all (is_earlier h) back ≡ true → counts (front ++ h ∷ back) h ≡ true
     → kept_from nothing_kept (map v (keeping (front ++ h ∷ back))) ≡ kept_after c (kept_from nothing_kept (map v (keeping (front ++ back))))
 kept_with v front back h c uids adds makes before behind is =

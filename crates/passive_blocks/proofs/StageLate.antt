@@ -11,7 +11,7 @@ use Rattle.std.proofs.lemmas.Bool.Decides.{nat_tests}
 use Rattle.std.proofs.lemmas.List.{length-set, length-take, take-take}
 use Rattle.std.proofs.Math.Seq.{drop-cons}
 use Rattle.eden_disk.specs.Calls.{Counts}
-use Rattle.passive_store.specs.Kept.{Kept, Change, Stands, IsFresh, kept_after, kept_from, nothing_kept, kept_by}
+use Rattle.passive_store.specs.Kept.{Kept, StoreChange, Stands, IsFresh, kept_after, kept_from, nothing_kept, kept_by}
 use Rattle.block_tables.specs.declared.heads.HeadFields.{HeadFields}
 use Rattle.block_tables.specs.declared.table.Table.{Table}
 use Rattle.passive_blocks.specs.declared.block_store.Pending.{Pending}
@@ -485,7 +485,7 @@ pub new_kept : (node size : ℕ) (counts : Counts) (ready image : List ℕ) (t :
     → kept_in_blocks image (Ok (heads_in (slots_with t p))) ≡ Ok (kept_after (change_of p) kept)
 new_kept node size counts ready image t p kept w fit is =
     let plan : IsPlanned t p = w.held.planned in
-    let v : Head → Change = value_on image (next_of t) in
+    let v : Head → StoreChange = value_on image (next_of t) in
     let front : List Head = front_of (slots_of t) p.head.number in
     let back : List Head = back_of (slots_of t) p.head.number in
     let parts = all_parts (is_earlier (head_of p.head)) front back (earlier_all t p plan) in

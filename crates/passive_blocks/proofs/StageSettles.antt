@@ -10,7 +10,7 @@ use Rattle.passive_store.specs.declared.store.Progress.{Progress}
 use Rattle.passive_store.specs.declared.store.Progress.TheVariants.{Going, Done}
 use Rattle.passive_store.specs.declared.store.StoreRefusal.{StoreRefusal}
 use Rattle.passive_store.specs.Acts.{DiskCall, Sync, Read, CallTold, settling_call}
-use Rattle.passive_store.specs.Kept.{Kept, Change, Idle, Unsettled, Stands, IsFresh, IsDiskRefusal, end_of_store}
+use Rattle.passive_store.specs.Kept.{Kept, StoreChange, Idle, Unsettled, Stands, IsFresh, IsDiskRefusal, end_of_store}
 use Rattle.passive_store.specs.Kept.{settled}
 use Rattle.passive_store.specs.Seen.{DiskSeen, SettlesOneCall}
 use Rattle.block_tables.specs.declared.table.Table.{Table}
@@ -62,7 +62,7 @@ settle_moments node size more counts t p power gate kept old new held spelled (i
     late_moments node size more counts t p kept old new held spelled late.0 is fresh (keeps _ late.0.fits)
 
 -- A call of it that was refused,
-pub settle_failed : (tells obeys : Bool) (node more : ℕ) (c : Change) (synced : Bool) (call : DiskCall) (picked : Option Pick)
+pub settle_failed : (tells obeys : Bool) (node more : ℕ) (c : StoreChange) (synced : Bool) (call : DiskCall) (picked : Option Pick)
     (kept then_kept : Kept) (old new : DiskSeen) (e : StoreRefusal) → call ≡ settling_call synced → IsDiskRefusal e
     → OneCall tells obeys call (end_of_store {T = Progress} (Err e)) old new → (IsTrue tells → then_kept ≡ kept)
     → (IsTrue tells → IsFresh c kept)
@@ -86,7 +86,8 @@ settle_failed tells obeys node more c synced call picked kept then_kept old new 
 }
 
 -- its sync,
-pub settle_synced : (tells obeys : Bool) (node more : ℕ) (c : Change) (picked : Option Pick) (kept then_kept : Kept) (old new : DiskSeen)
+pub settle_synced : (tells obeys : Bool) (node more : ℕ) (c : StoreChange) (picked : Option Pick) (kept then_kept : Kept)
+    (old new : DiskSeen)
     → OneCall tells obeys Sync Fine old new → (IsTrue tells → then_kept ≡ kept) → (IsTrue tells → IsFresh c kept)
     → (IsTrue tells → LeavesOnly (Stands block_layout node more then_kept (c ∷ [])) (contents new.told))
     → (IsTrue tells → EachMoment (Stands block_layout node more kept (c ∷ [])) old.told new.told)
@@ -108,7 +109,7 @@ settle_synced tells obeys node more c picked kept then_kept old new one same fre
 }
 
 -- and its read, which ends it.
-pub settle_done : (tells obeys : Bool) (node more : ℕ) (c : Change) (picked : Option Pick) (pick : Pick) (kept then_kept : Kept)
+pub settle_done : (tells obeys : Bool) (node more : ℕ) (c : StoreChange) (picked : Option Pick) (pick : Pick) (kept then_kept : Kept)
     (old new : DiskSeen)
     → OneCall tells obeys Read Fine old new → (IsTrue tells → then_kept ≡ settled (Some pick) (Unsettled c true) kept)
     → (IsTrue tells → IsFresh c kept)

@@ -5,7 +5,7 @@ use Rattle.eden_disk.specs.Told.{Contents, Told, at_rest, contents, LeavesOnly, 
 use Rattle.eden_disk.specs.Calls.{Counts}
 use Rattle.eden_disk.specs.Held.{Holds, Passes}
 use Rattle.eden_disk.proofs.Held.{moments_weaker, holds_at_rest}
-use Rattle.passive_store.specs.Kept.{Kept, Change, Stands, IsFresh, kept_from, nothing_kept}
+use Rattle.passive_store.specs.Kept.{Kept, StoreChange, Stands, IsFresh, kept_from, nothing_kept}
 use Rattle.block_tables.specs.declared.table.Table.{Table}
 use Rattle.passive_blocks.specs.declared.block_store.Pending.{Pending}
 use Rattle.block_tables.specs.Blocks.{keeping, kept_in_blocks, blocks_map, is_block_size}
@@ -50,7 +50,7 @@ early_stands node size more counts t p c kept image held e is fit =
     (subst (λ n. more ≤ n) (changes_is node e.began e.heads kept sized e.begun.format e.begun.found map_is) e.told) fit
 
 -- also with the change in doubt,
-pub stands_with : (node more : ℕ) (kept : Kept) (c : Change) (image : List ℕ) → Stands block_layout node more kept [] image
+pub stands_with : (node more : ℕ) (kept : Kept) (c : StoreChange) (image : List ℕ) → Stands block_layout node more kept [] image
     → Stands block_layout node more kept (c ∷ []) image
 stands_with node more kept c image s = record { found = inl s.found; opens = s.opens; told = s.told }
 

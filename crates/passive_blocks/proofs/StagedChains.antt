@@ -12,7 +12,7 @@ use Rattle.std.specs.Ordering.{eq_by_cmp, is_lt, is_eq}
 use Rattle.std.specs.FinMap.Entries.{is_sorted, below_all}
 use Rattle.capability.specs.declared.Uid.{Uid}
 use Rattle.capability.specs.Uids.{uid_cmp}
-use Rattle.passive_store.specs.Kept.{Change, kept_by, kept_from, nothing_kept}
+use Rattle.passive_store.specs.Kept.{StoreChange, kept_by, kept_from, nothing_kept}
 use Rattle.passive_store.specs.Log.{with_record}
 use Rattle.block_tables.specs.Blocks.{Head, Chain, numbers, blocks_of, has, without, next_block, on_block, chain_from, chain_of}
 use Rattle.block_tables.specs.Blocks.{chains_among, chains_of, data_blocks, changes_on, kept_in_blocks, blocks_map, heads_of}
@@ -212,7 +212,7 @@ unfolding moved_from chain_for chain_on data_on
 changes_stand image number first [] long fits written = refl
 changes_stand image number first (e ∷ es) long fits written =
     let count : ℕ = blocks_of (length e.1) in
-    let rest : Result (List Change) ℕ = changes_on image (map chain_for (moved_from (number + 1) (first + count) es)) in
+    let rest : Result (List StoreChange) ℕ = changes_on image (map chain_for (moved_from (number + 1) (first + count) es)) in
     ap (λ b. with_record (record { uid = e.0; body = Some b; mark = number + 1; wrote = [] }) rest)
     (body_stands image first count e.1 (holds_all (length e.1)) (omega (arith, fits, long)) written.0)
     ∙ ap (λ r. with_record (record { uid = e.0; body = Some e.1; mark = number + 1; wrote = [] }) r)

@@ -6,9 +6,9 @@ use Rattle.eden_disk.proofs.Held.{moments_join, moments_weaker}
 use Rattle.passive_store.specs.declared.store.StoreRefusal.{StoreRefusal}
 use Rattle.passive_store.specs.Acts.{DiskCall, AllTold, CallsTold}
 use Rattle.passive_store.specs.declared.store.StoreRefusal.TheVariants.{Full}
-use Rattle.passive_store.specs.Kept.{Kept, Change, Layout, Busy, Stands, Ran, IsAnyOf, HasJob, IsJobOf, settling_of, job_left, end_of_store}
-use Rattle.passive_store.specs.Kept.{changes_begun, changes_in, change_in, doubt_in, settled, settling_calls, calls_left, work_finished}
-use Rattle.passive_store.specs.Kept.{kept_finished}
+use Rattle.passive_store.specs.Kept.{Kept, StoreChange, Layout, Busy, Stands, Ran, IsAnyOf, HasJob, IsJobOf, settling_of, job_left}
+use Rattle.passive_store.specs.Kept.{end_of_store, changes_begun, changes_in, change_in, doubt_in, settled, settling_calls, calls_left}
+use Rattle.passive_store.specs.Kept.{work_finished, kept_finished}
 use Rattle.passive_store.specs.Kept.{work_changed, kept_changed, is_busy, IsRefusedIn}
 use Rattle.passive_store.specs.Seen.{Seen, Asked, Settled, Begins, Finishes, Changes, change_asked}
 use Rattle.passive_store.proofs.Joining.{as_before, stands_weaker, stands_fewer, settled_now, calls_told_more}
@@ -24,7 +24,7 @@ pub begun_changes : (tells obeys : Bool) (layout : Layout) (ask : Asked) (result
     → Finishes tells obeys layout result began new → Changes tells layout ask result old new
 begun_changes tells obeys layout ask result old mid began new idle at s b fewer f =
     let w = old.work in
-    let c : Change = change_asked layout ask b.mark in
+    let c : StoreChange = change_asked layout ask b.mark in
     let job : List DiskCall = b.calls in
     let busy : began.work ≡ Busy c 0 job = b.work in
     let pk : new.picked ≡ mid.picked = f.picked ∙ b.picked in
@@ -88,7 +88,7 @@ pub unsettled_changes : (tells obeys : Bool) (layout : Layout) (ask : Asked) (e 
     → Settled tells obeys layout (Err e) old new → Changes tells layout ask (Err e) old new
 unsettled_changes tells obeys layout ask e old new at j s =
     let w = old.work in
-    let c : Change = change_asked layout ask 0 in
+    let c : StoreChange = change_asked layout ask 0 in
     record {
       mark = 0;
       calls = j.calls;

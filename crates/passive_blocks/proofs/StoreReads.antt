@@ -8,7 +8,7 @@ use Rattle.eden_disk.specs.Calls.{End, Fine, AtFault, AtStop, ReadTold, power_af
 use Rattle.eden_disk.specs.Held.{Holds}
 use Rattle.eden_disk.proofs.Held.{only_now, passes_read, holds_at_rest, moments_weaker}
 use Rattle.passive_store.specs.Acts.{DiskCall}
-use Rattle.passive_store.specs.Kept.{Kept, Change, Stands, IsFresh, Busy, changes_in, doubt_in}
+use Rattle.passive_store.specs.Kept.{Kept, StoreChange, Stands, IsFresh, Busy, changes_in, doubt_in}
 use Rattle.passive_store.specs.Seen.{DiskSeen, TellsBehind}
 use Rattle.block_tables.specs.declared.table.Table.{Table}
 use Rattle.passive_blocks.specs.declared.block_store.Pending.{Pending}
@@ -44,13 +44,13 @@ rest_read old new clock rest (inl cut) =
 rest_read old new clock rest (inr same) = ap contents same.1
 
 -- The images that a crash may leave: each stands for what is kept, and keeps what is seen to be kept.
-pub record Images (node more : ℕ) (t : Table) (kept : Kept) (changes : List Change) (c : Contents) : Type 1 where
+pub record Images (node more : ℕ) (t : Table) (kept : Kept) (changes : List StoreChange) (c : Contents) : Type 1 where
   pub among : List ℕ → Type 0
   pub holds : Holds among c
   pub stand : (image : List ℕ) → among image → Stands block_layout node more kept changes image
   pub keep : (image : List ℕ) → among image → kept_in_blocks image (Ok (heads_in t.heads.slots.items)) ≡ Ok kept
 
-early_images : (node size more : ℕ) (t : Table) (p : Pending) (told : Told) (cs : List Change) (s : DiskSeen) → IsHeld size s.counts t
+early_images : (node size more : ℕ) (t : Table) (p : Pending) (told : Told) (cs : List StoreChange) (s : DiskSeen) → IsHeld size s.counts t
     (Some p)
     → IsEarly node more t p (contents told) → (cs ≡ []) ⊎ (cs ≡ change_of p ∷ []) → Images node more t (kept_seen told t) cs (contents told)
 early_images node size more t p told cs s held e (inl none) =
@@ -75,7 +75,7 @@ early_images node size more t p told cs s held e (inr some) =
           ∙ sym (early_kept node more t p (contents told) (contents told).now e e.fits.now) ∙ is;
     }
 
-late_images : (node size more : ℕ) (t : Table) (p : Pending) (told : Told) (cs : List Change) (s : DiskSeen) → IsHeld size s.counts t
+late_images : (node size more : ℕ) (t : Table) (p : Pending) (told : Told) (cs : List StoreChange) (s : DiskSeen) → IsHeld size s.counts t
     (Some p)
     → IsWaiting node size t p → IsFresh (change_of p) (kept_seen told t)
     → IsLate node more t p (contents told) → cs ≡ change_of p ∷ [] → Images node more t (kept_seen told t) cs (contents told)
@@ -92,12 +92,12 @@ late_images node size more t p told cs s held waits fresh l some =
           ∙ sym (late_kept node size s.counts l.ready (contents told).now t p w l.fits.now) ∙ is;
     }
 
-doubt_either : (c : Change) (made : ℕ) (left : List DiskCall)
+doubt_either : (c : StoreChange) (made : ℕ) (left : List DiskCall)
     → (changes_in (doubt_in (Busy c made left)) ≡ []) ⊎ (changes_in (doubt_in (Busy c made left)) ≡ c ∷ [])
 doubt_either c zero left = inl refl
 doubt_either c (suc made) left = inr refl
 
-doubt_some : (c : Change) (made : ℕ) (left : List DiskCall) → 1 ≤ made → changes_in (doubt_in (Busy c made left)) ≡ c ∷ []
+doubt_some : (c : StoreChange) (made : ℕ) (left : List DiskCall) → 1 ≤ made → changes_in (doubt_in (Busy c made left)) ≡ c ∷ []
 doubt_some c zero left some = absurd (let bad : ⊥ = omega (arith, some) in bad)
 doubt_some c (suc made) left some = refl
 

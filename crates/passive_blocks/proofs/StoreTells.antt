@@ -15,8 +15,8 @@ use Rattle.passive_store.specs.declared.store.Pick.{Pick}
 use Rattle.passive_store.specs.declared.store.Pick.TheVariants.{Old, New}
 use Rattle.passive_store.specs.declared.store.StoreRefusal.TheVariants.{OutOfMemory}
 use Rattle.passive_store.specs.Acts.{DiskCall}
-use Rattle.passive_store.specs.Kept.{Change, Kept, Work, Idle, Busy, Unsettled, IsFresh, IsOwn, bodies_after, body_at, change_in, doubt_in}
-use Rattle.passive_store.specs.Kept.{reserved_uid, settled}
+use Rattle.passive_store.specs.Kept.{StoreChange, Kept, Work, Idle, Busy, Unsettled, IsFresh, IsOwn, bodies_after, body_at, change_in}
+use Rattle.passive_store.specs.Kept.{doubt_in, reserved_uid, settled}
 use Rattle.passive_store.specs.Seen.{Asked, DiskSeen, Changes, Whole, Puts, Deletes, TellsBehind}
 use Rattle.passive_store.proofs.Joining.{none_refused, timed_still}
 use Rattle.passive_store.proofs.Changing.{memory_is_not_room}
@@ -40,7 +40,7 @@ use Rattle.passive_blocks.proofs.StoreJobs.{job_asked}
 use Rattle.passive_blocks.proofs.StoreReads.{store_chains, store_long, store_stands, store_still}
 
 -- A change in doubt gives its uid a mark of its own.
-doubt_made : (c : Change) (made : ℕ) (left : List DiskCall) (kept : Kept) → IsFresh c kept
+doubt_made : (c : StoreChange) (made : ℕ) (left : List DiskCall) (kept : Kept) → IsFresh c kept
     → IfSome (doubt_in (Busy c made left)) (λ x. IsFresh x kept)
 doubt_made c zero left kept fresh = tt
 doubt_made c (suc made) left kept fresh = fresh

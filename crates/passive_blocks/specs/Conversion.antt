@@ -5,7 +5,7 @@ use Rattle.std.specs.Prelude.{map, flat_map, sum_by, slice_range, Some, Result, 
 use Rattle.std.specs.FinMap as finite
 use Rattle.capability.specs.declared.Uid.{Uid}
 use Rattle.passive_store.specs.Acts.{DiskCall, Write, Sync, Read}
-use Rattle.passive_store.specs.Kept.{Change, Kept, kept_from, nothing_kept}
+use Rattle.passive_store.specs.Kept.{StoreChange, Kept, kept_from, nothing_kept}
 use Rattle.block_tables.specs.Blocks.{Head, numbers, blocks_of}
 use Rattle.block_tables.specs.Changes.{chain_writes, spelled_head}
 
@@ -38,7 +38,7 @@ abbrev pub moved_heads : Kept → List Head
 moved_heads kept = map (λ (m : Moved). m.head) (moved kept)
 
 -- what the blocks of a conversion keep, which is what the log keeps, each value under its new sequence
-abbrev pub moved_change : Moved → Change
+abbrev pub moved_change : Moved → StoreChange
 moved_change m = record { uid = m.head.uid; body = Some m.body; mark = m.head.sequence; wrote = [] }
 
 abbrev pub moved_map : Result Kept ℕ → Result Kept ℕ

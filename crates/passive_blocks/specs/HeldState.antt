@@ -8,7 +8,7 @@ use Rattle.capability.specs.Uids.{uid_cmp}
 use Rattle.eden_disk.specs.Calls.{Counts}
 use Rattle.passive_store.specs.Kept.{IsOwn}
 use Rattle.block_tables.specs.declared.heads.HeadFields.{HeadFields}
-use Rattle.block_tables.specs.declared.index.Entry.{Entry}
+use Rattle.block_tables.specs.declared.index.IndexEntry.{IndexEntry}
 use Rattle.block_tables.specs.declared.table.Table.{Table}
 use Rattle.passive_blocks.specs.declared.block_store.Pending.{Pending}
 use Rattle.block_tables.specs.Members.{is_member}
@@ -51,7 +51,7 @@ abbrev pub AreApart : List HeadFields → Type 0
 AreApart slots = (j k : ℕ) → is_open (slot_at slots j) ≡ true → (slot_at slots j).sequence ≡ (slot_at slots k).sequence → j ≡ k
 
 -- The next change closes a head that is open and does not count, or is a removal and the only open one of its uid.
-abbrev pub must_close : List HeadFields → ℕ → Entry → Bool
+abbrev pub must_close : List HeadFields → ℕ → IndexEntry → Bool
 must_close slots k entry = is_open (slot_at slots k) && (not (is_it k entry.latest) || ((slot_at slots k).removal && entry.others == 0))
 
 abbrev pub closes_next : Table → ℕ → Bool

@@ -5,7 +5,7 @@ use Rattle.eden_disk.specs.Told.{Told, Contents, contents, at_rest}
 use Rattle.eden_disk.specs.Held.{Holds, Passes}
 use Rattle.passive_store.specs.declared.store.StoreRefusal.{StoreRefusal}
 use Rattle.passive_store.specs.Acts.{DiskCall, Read, AllTold}
-use Rattle.passive_store.specs.Kept.{Change, Kept, Stands, IsOverfull, IsDamagedFrom, OpeningMade, OpeningTold, kept_by}
+use Rattle.passive_store.specs.Kept.{StoreChange, Kept, Stands, IsOverfull, IsDamagedFrom, OpeningMade, OpeningTold, kept_by}
 use Rattle.passive_store.specs.Log.{log_map, records_of}
 use Rattle.block_tables.specs.Blocks.{heads_of}
 use Rattle.passive_blocks.specs.Conversion.{old_log, staged_bytes, staging_calls, finishing_calls, finished, is_too_much, blocks_moved}
@@ -104,7 +104,7 @@ pub record AreReady (node : ℕ) (image : List ℕ) (c : Contents) : Type 0 wher
 
 -- Whatever the images of a disk stood for, they stand for it at each moment of this stretch of time, and behind it.
 pub record KeepsThrough (node : ℕ) (old new : Told) : Type 0 where
-  pub mapped : (told : ℕ) (kept : Kept) (changes : List Change) → Holds (Stands block_layout node told kept changes) (contents old)
+  pub mapped : (told : ℕ) (kept : Kept) (changes : List StoreChange) → Holds (Stands block_layout node told kept changes) (contents old)
       → Passes (Stands block_layout node told kept changes) old new
   pub overfull : (kept : Kept) → Holds (IsOverfull block_layout node kept) (contents old) → Passes
       (IsOverfull block_layout node kept) old new

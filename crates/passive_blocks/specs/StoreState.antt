@@ -11,10 +11,10 @@ use Rattle.eden_disk.specs.Told.{Told, contents}
 use Rattle.eden_disk.specs.Calls.{Counts, Due}
 use Rattle.passive_store.specs.declared.store.Pick.{Pick}
 use Rattle.passive_store.specs.Acts.{DiskCall, Write, Sync}
-use Rattle.passive_store.specs.Kept.{Change, Kept, Work, Idle, Busy, Unsettled, nothing_kept, reserved_uid}
+use Rattle.passive_store.specs.Kept.{StoreChange, Kept, Work, Idle, Busy, Unsettled, nothing_kept, reserved_uid}
 use Rattle.passive_store.specs.Seen.{Seen, disk_seen}
 use Rattle.block_tables.specs.declared.heads.HeadFields.{HeadFields}
-use Rattle.block_tables.specs.declared.index.Entry.{Entry}
+use Rattle.block_tables.specs.declared.index.IndexEntry.{IndexEntry}
 use Rattle.block_tables.specs.declared.table.Table.{Table}
 use Rattle.block_tables.specs.declared.block_table.BlockTable.{BlockTable}
 use Rattle.passive_blocks.specs.declared.block_store.Pending.{Pending}
@@ -35,7 +35,7 @@ abbrev pub members_of : List ℕ → List ℕ
 members_of ranks = filter (is_member ranks) (numbers 0 (length ranks))
 
 -- the change that a job makes
-abbrev pub change_of : Pending → Change
+abbrev pub change_of : Pending → StoreChange
 change_of p = record {
   uid = p.head.uid;
   body = if p.head.removal then None else Some p.body.items;
@@ -86,7 +86,7 @@ pub record BlockState (D : Type 0) : Type 0 where
   -- by its number what each open head says
   pub slots : List HeadFields
   -- of the index, empty ones among them
-  pub entries : List (Uid × Entry)
+  pub entries : List (Uid × IndexEntry)
   -- the blocks of all values that are kept
   pub needed : ℕ
   pub work : Work
@@ -110,7 +110,7 @@ has_first_head node heads =
     || list_any (λ (h : Head). eq_by_cmp uid_cmp h.uid (reserved_uid node)) (keeping heads)
 
 -- the index has an entry for a uid, so that none has to be made
-abbrev pub HasEntry : List (Uid × Entry) → Uid → Type 0
+abbrev pub HasEntry : List (Uid × IndexEntry) → Uid → Type 0
 HasEntry entries uid = IsSome (lookup (is_at (uid_cmp uid)) entries)
 
 -- what a change gives its uid: these bytes, or nothing where it is a removal

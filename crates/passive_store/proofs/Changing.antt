@@ -11,7 +11,7 @@ use Rattle.passive_store.specs.declared.store.Pick.{Pick}
 use Rattle.passive_store.specs.declared.store.Pick.TheVariants.{Old, New}
 use Rattle.passive_store.proofs.Joining.{stands_weaker, ran_join, refused_told_more}
 use Rattle.passive_store.specs.Seen.{Seen, Asked, Changes, Settles}
-use Rattle.passive_store.specs.Kept.{IsEarlyRefusal, Layout, Work, Idle, Busy, Unsettled, Change, Kept, Stands, Ran, IsDiskRefusal}
+use Rattle.passive_store.specs.Kept.{IsEarlyRefusal, Layout, Work, Idle, Busy, Unsettled, StoreChange, Kept, Stands, Ran, IsDiskRefusal}
 use Rattle.passive_store.specs.Kept.{IsAnyOf, IsFresh, changes_in, doubt_in, is_busy, is_unsettled, settling_calls, settling_before}
 use Rattle.passive_store.specs.Kept.{settled, work_settled, work_changed, work_finished, kept_finished, kept_changed, kept_after}
 use Rattle.passive_store.specs.Kept.{SettlesFirst, SettlesAfterMemory, IsFullBy, changes_refused, changes_begun, calls_due, settling_due}
@@ -19,7 +19,7 @@ use Rattle.passive_store.specs.Kept.{settling_of, work_unchanged, end_of_store, 
 use Rattle.passive_store.specs.Acts.{DiskCall, CallsTold}
 
 -- whose changes a crash may show, where the settling of a change was refused, and where its job was begun
-pub refused_changes : (pick : Option Pick) (w : Work) (c : Change) (e : StoreRefusal) → IsDiskRefusal e → is_some pick ≡ false
+pub refused_changes : (pick : Option Pick) (w : Work) (c : StoreChange) (e : StoreRefusal) → IsDiskRefusal e → is_some pick ≡ false
     → is_unsettled w ≡ true → changes_in (doubt_in w) ≡ changes_begun {T = Unit {0}} pick c w (Err e)
 refused_changes (Some pick) w c e only p u = absurd (false≢true (sym p))
 refused_changes None Idle c e only p u = absurd (false≢true u)
@@ -29,26 +29,26 @@ refused_changes None (Unsettled d synced) c e (inl f) p u =
 refused_changes None (Unsettled d synced) c e (inr f) p u =
     ap (λ x. changes_begun {T = Unit {0}} None c (Unsettled d synced) (Err x)) (sym f)
 
-changes_stopped : (pick : Option Pick) (w : Work) (c : Change) → is_some pick ≡ is_unsettled w → changes_in (doubt_in w) ++ c
+changes_stopped : (pick : Option Pick) (w : Work) (c : StoreChange) → is_some pick ≡ is_unsettled w → changes_in (doubt_in w) ++ c
     ∷ [] ≡ changes_refused pick c w
 changes_stopped (Some pick) w c p = refl
 changes_stopped None Idle c p = refl
 changes_stopped None (Busy d made left) c p = refl
 changes_stopped None (Unsettled d synced) c p = absurd (false≢true p)
 
-pub any_more : (kept : Kept) (cs : List Change) (c : Change) (found : Result Kept ℕ) → IsAnyOf kept cs found
+pub any_more : (kept : Kept) (cs : List StoreChange) (c : StoreChange) (found : Result Kept ℕ) → IsAnyOf kept cs found
     → IsAnyOf kept (cs ++ c ∷ []) found
 any_more kept [] c found is = inl is
 any_more kept (d ∷ cs) c found (inl old) = inl (any_more kept cs c found old)
 any_more kept (d ∷ cs) c found (inr new) = inr (new.0, any_more (kept_after d kept) cs c found new.1)
 
-pub moments_more : (layout : Layout) (n f : ℕ) (kept : Kept) (cs : List Change) (c : Change) (old new : Told)
+pub moments_more : (layout : Layout) (n f : ℕ) (kept : Kept) (cs : List StoreChange) (c : StoreChange) (old new : Told)
     → EachMoment (Stands layout n f kept cs) old new → EachMoment (Stands layout n f kept (cs ++ c ∷ [])) old new
 moments_more layout n f kept cs c old new m =
     moments_weaker (Stands layout n f kept cs) (Stands layout n f kept (cs ++ c ∷ [])) old new
     (λ image h. stands_weaker layout n f kept kept cs (cs ++ c ∷ []) image (any_more kept cs c (layout.map_of n image)) h) m
 
-pub settled_then : (pick : Option Pick) (w : Work) (s : Kept) (c : Change) (found : Result Kept ℕ) → is_busy w ≡ false
+pub settled_then : (pick : Option Pick) (w : Work) (s : Kept) (c : StoreChange) (found : Result Kept ℕ) → is_busy w ≡ false
     → is_some pick ≡ is_unsettled w → IfSome (doubt_in w) (λ d. IsFresh d s) →
     IsAnyOf (settled pick w s) (c ∷ []) found → IsAnyOf s (changes_in (doubt_in w) ++ c ∷ []) found
 settled_then None Idle s c found idle p fresh is = is
@@ -118,7 +118,7 @@ settling_order w OutOfMemory old new (inl e) told = absurd cc
 settling_order w OutOfMemory old new (inr e) told = absurd cc
 
 -- the same moments of a change whose job was begun
-pub begun_moments : (layout : Layout) (n f : ℕ) (kept : Kept) (pick : Option Pick) (w : Work) (c : Change)
+pub begun_moments : (layout : Layout) (n f : ℕ) (kept : Kept) (pick : Option Pick) (w : Work) (c : StoreChange)
     (r : Result (Unit {0}) StoreRefusal) (old new : Told) → MatchDisk r → is_some pick ≡ is_unsettled w →
     EachMoment (Stands layout n f kept (changes_in (doubt_in w) ++ c ∷ [])) old new
     → EachMoment (Stands layout n f kept (changes_begun pick c w r)) old new
@@ -131,7 +131,7 @@ begun_moments layout n f kept pick w c (Err Full) old new only p each = absurd o
 begun_moments layout n f kept pick w c (Err (Damaged place)) old new only p each = absurd only
 begun_moments layout n f kept pick w c (Err OutOfMemory) old new only p each = absurd only
 
-pub work_then : (pick : Option Pick) (w v : Work) (c : Change) (left : List DiskCall) (r : Result (Unit {0}) StoreRefusal)
+pub work_then : (pick : Option Pick) (w v : Work) (c : StoreChange) (left : List DiskCall) (r : Result (Unit {0}) StoreRefusal)
     → is_busy w ≡ false → is_some pick ≡ is_unsettled w → MatchDisk r → v ≡ work_finished (Busy c 0 left) r → v ≡ work_changed pick c w r
 work_then pick w v c left (Ok done) idle p only e = e
 work_then None Idle v c left (Err Failed) idle p only e = e
@@ -150,13 +150,13 @@ work_then pick w v c left (Err Full) idle p only e = absurd only
 work_then pick w v c left (Err (Damaged place)) idle p only e = absurd only
 work_then pick w v c left (Err OutOfMemory) idle p only e = absurd only
 
-pub shown_then : (pick : Option Pick) (w : Work) (s t mid : Kept) (c : Change) (left : List DiskCall) (r : Result (Unit {0}) StoreRefusal)
-    → mid ≡ settled pick w s → t ≡ kept_finished (Busy c 0 left) mid r → t ≡ kept_changed pick c w s r
+pub shown_then : (pick : Option Pick) (w : Work) (s t mid : Kept) (c : StoreChange) (left : List DiskCall)
+    (r : Result (Unit {0}) StoreRefusal) → mid ≡ settled pick w s → t ≡ kept_finished (Busy c 0 left) mid r → t ≡ kept_changed pick c w s r
 shown_then pick w s t mid c left (Ok done) m e = e ∙ ap (kept_after c) m
 shown_then pick w s t mid c left (Err x) m e = e ∙ m
 
 -- the settling of a change was refused
-pub refused_work : (pick : Option Pick) (w v : Work) (c : Change) (e : StoreRefusal) → IsDiskRefusal e → is_some pick ≡ false
+pub refused_work : (pick : Option Pick) (w v : Work) (c : StoreChange) (e : StoreRefusal) → IsDiskRefusal e → is_some pick ≡ false
     → is_unsettled w ≡ true → v ≡ work_settled pick w → v ≡ work_changed {T = Unit {0}} pick c w (Err e)
 refused_work (Some pick) w v c e only p u is = absurd (false≢true (sym p))
 refused_work None Idle v c e only p u is = absurd (false≢true u)

@@ -20,13 +20,13 @@ use Rattle.passive_store.specs.declared.store.Pick.{Pick}
 use Rattle.passive_store.specs.declared.store.Pick.TheVariants.{Old, New}
 use Rattle.passive_store.specs.Seen.{Seen, SettlesOneCall, Settled, Advances, Finishes}
 use Rattle.passive_store.specs.Kept.{OpeningMade, OpeningTold, IsOverfullBy, kept_after, kept_finished, work_finished, settling_calls}
-use Rattle.passive_store.specs.Kept.{Layout, Work, Idle, Busy, Unsettled, Change, Kept, Stands, Ran, IsDiskRefusal, changes_in}
+use Rattle.passive_store.specs.Kept.{Layout, Work, Idle, Busy, Unsettled, StoreChange, Kept, Stands, Ran, IsDiskRefusal, changes_in}
 use Rattle.passive_store.specs.Kept.{change_in, doubt_in, is_busy, is_unsettled, is_synced, calls_left, job_left, settling_of, reads_due}
 use Rattle.passive_store.specs.Kept.{refused, NextTold, progress_at, end_of_store, work_stepped, work_advanced, kept_advanced, settled}
 use Rattle.passive_store.specs.Kept.{work_settled, IsAnyOf, IsFresh, IsRefusedIn, IsRefusedAfter}
 
 -- the same moments, under equal names
-pub as_before : (layout : Layout) (n m f h : ℕ) (s t : Kept) (d e : Option Change) (mid new : Told) → m ≡ n → h ≡ f → t ≡ s → e ≡ d →
+pub as_before : (layout : Layout) (n m f h : ℕ) (s t : Kept) (d e : Option StoreChange) (mid new : Told) → m ≡ n → h ≡ f → t ≡ s → e ≡ d →
     EachMoment (Stands layout m h t (changes_in e)) mid new → EachMoment (Stands layout n f s (changes_in d)) mid new
 as_before layout n m f h s t d e mid new nodes mores kept doubts each =
     subst (λ x. EachMoment (Stands layout n f s (changes_in x)) mid new) doubts
@@ -35,13 +35,13 @@ as_before layout n m f h s t d e mid new nodes mores kept doubts each =
     (subst (λ x. EachMoment (Stands layout x h t (changes_in e)) mid new) nodes each)))
 
 -- an image that stands for what is kept with some changes stands for it with others that allow what was found
-pub stands_weaker : (layout : Layout) (n f : ℕ) (s t : Kept) (cs ds : List Change) (image : List ℕ)
+pub stands_weaker : (layout : Layout) (n f : ℕ) (s t : Kept) (cs ds : List StoreChange) (image : List ℕ)
     → (IsAnyOf s cs (layout.map_of n image) → IsAnyOf t ds (layout.map_of n image)) →
     Stands layout n f s cs image → Stands layout n f t ds image
 stands_weaker layout n f s t cs ds image weaker h = record { found = weaker h.found; opens = h.opens; told = h.told }
 
 -- and for fewer changes more
-pub stands_fewer : (layout : Layout) (n f g : ℕ) (s : Kept) (cs : List Change) (image : List ℕ) → g ≤ f → Stands layout n f s cs image
+pub stands_fewer : (layout : Layout) (n f g : ℕ) (s : Kept) (cs : List StoreChange) (image : List ℕ) → g ≤ f → Stands layout n f s cs image
     → Stands layout n g s cs image
 stands_fewer layout n f g s cs image fewer h = record { found = h.found; opens = h.opens; told = omega (arith, fewer, h.told) }
 
@@ -616,30 +616,31 @@ stepped_refused (Unsettled c synced) v (Some pick) e u none is = absurd (false�
 
 -- after its sync the same change is in doubt
 stepped_on : (w v : Work) (p : Progress) → is_unsettled w ≡ true → is_synced w ≡ false → p ≡ progress_at (is_synced w)
-    → v ≡ work_stepped w (Ok p) → (c : Change) × (w ≡ Unsettled c false) × (v ≡ Unsettled c true)
+    → v ≡ work_stepped w (Ok p) → (c : StoreChange) × (w ≡ Unsettled c false) × (v ≡ Unsettled c true)
 stepped_on Idle v p u n last is = absurd (false≢true u)
 stepped_on (Busy c made left) v p u n last is = absurd (false≢true u)
 stepped_on (Unsettled c synced) v p u n last is =
     (c, ap (λ b. Unsettled c b) n, is ∙ ap (λ x. work_stepped (Unsettled c synced) (Ok x)) (last ∙ ap progress_at n))
 
-stepped_done : (c : Change) (w v x : Work) (q : Progress) (pick : Option Pick) → w ≡ Unsettled c false → v ≡ Unsettled c true
+stepped_done : (c : StoreChange) (w v x : Work) (q : Progress) (pick : Option Pick) → w ≡ Unsettled c false → v ≡ Unsettled c true
     → q ≡ progress_at (is_synced v) → is_some pick ≡ (true && is_synced v) → x ≡ work_stepped v (Ok q) → x ≡ work_settled pick w
 stepped_done c w v x q None ew ev last found is = absurd (false≢true (found ∙ ap is_synced ev))
 stepped_done c w v x q (Some pick) ew ev last found is =
     is ∙ ap (λ y. work_stepped v (Ok y)) (last ∙ ap (λ (y : Work). progress_at (is_synced y)) ev)
     ∙ ap (λ (y : Work). work_stepped y (Ok Done)) ev ∙ sym (ap (work_settled (Some pick)) ew)
 
-stepped_stopped : (c : Change) (w v x : Work) (e : StoreRefusal) (pick : Option Pick) → w ≡ Unsettled c false → v ≡ Unsettled c true
+stepped_stopped : (c : StoreChange) (w v x : Work) (e : StoreRefusal) (pick : Option Pick) → w ≡ Unsettled c false → v ≡ Unsettled c true
     → is_some pick ≡ false → x ≡ work_stepped v (Err e) → x ≡ work_settled pick w
 stepped_stopped c w v x e None ew ev none is = is ∙ ap (λ (y : Work). work_stepped y (Err e)) ev ∙ sym (ap (work_settled None) ew)
 stepped_stopped c w v x e (Some pick) ew ev none is = absurd (false≢true (sym none))
 
-same_settled : (pick : Option Pick) (c : Change) (a b : Bool) (s : Kept) → settled pick (Unsettled c a) s ≡ settled pick (Unsettled c b) s
+same_settled : (pick : Option Pick) (c : StoreChange) (a b : Bool) (s : Kept)
+    → settled pick (Unsettled c a) s ≡ settled pick (Unsettled c b) s
 same_settled None c a b s = refl
 same_settled (Some Old) c a b s = refl
 same_settled (Some New) c a b s = refl
 
-stepped_kept : (c : Change) (w v : Work) (pick : Option Pick) (s t : Kept) → w ≡ Unsettled c false → v ≡ Unsettled c true → t ≡ s
+stepped_kept : (c : StoreChange) (w v : Work) (pick : Option Pick) (s t : Kept) → w ≡ Unsettled c false → v ≡ Unsettled c true → t ≡ s
     → settled pick v t ≡ settled pick w s
 stepped_kept c w v pick s t ew ev kept = ap (settled pick v) kept ∙ ap (λ (x : Work). settled pick x s) ev
     ∙ same_settled pick c true false s ∙ sym (ap (λ (x : Work). settled pick x s) ew)

@@ -17,7 +17,7 @@ use Rattle.std.proofs.lemmas.Nat.{be_bytes_4}
 use Rattle.capability.specs.declared.Uid.{Uid}
 use Rattle.capability.specs.Uids.{uid_cmp}
 use Rattle.capability.proofs.Uids.{uid_cmp_total, uid_cmp-IsAntisymmetric}
-use Rattle.passive_store.specs.Kept.{Change, Kept, IsOwn, reserved_uid, nothing_kept, bodies_after, marks_after, kept_after, kept_from}
+use Rattle.passive_store.specs.Kept.{StoreChange, Kept, IsOwn, reserved_uid, nothing_kept, bodies_after, marks_after, kept_after, kept_from}
 use Rattle.passive_store.specs.Kept.{kept_by}
 use Rattle.passive_store.specs.Log.{length_of, uid_of, kind_of, log_grows, is_record, record_of, with_record, records_behind, records_of}
 use Rattle.passive_store.specs.Log.{log_map}
@@ -27,23 +27,24 @@ use Rattle.passive_store.proofs.Parsing.{split_test}
 use Rattle.passive_store.proofs.Openings.{opening_is}
 
 -- each record that was found has P
-abbrev pub EachOf : (Change → Type 0) → Result (List Change) ℕ → Type 0
+abbrev pub EachOf : (StoreChange → Type 0) → Result (List StoreChange) ℕ → Type 0
 EachOf P (Ok rs) = AllByRecursion P rs
 EachOf P (Err place) = Unit {0}
 
-with_each : (P : Change → Type 0) (r : Change) (found : Result (List Change) ℕ) → P r → EachOf P found → EachOf P (with_record r found)
+with_each : (P : StoreChange → Type 0) (r : StoreChange) (found : Result (List StoreChange) ℕ) → P r → EachOf P found
+    → EachOf P (with_record r found)
 with_each P r (Ok rs) p each = (p, each)
 with_each P r (Err place) p each = tt
 
-by_gate : (P : Change → Type 0) (stands good : Bool) (r : Change) (found : Result (List Change) ℕ) (place : ℕ) → (good ≡ true → P r)
-    → EachOf P found →
+by_gate : (P : StoreChange → Type 0) (stands good : Bool) (r : StoreChange) (found : Result (List StoreChange) ℕ) (place : ℕ)
+    → (good ≡ true → P r) → EachOf P found →
     EachOf P (if stands then (if good then with_record r found else Err place) else Ok [])
 by_gate P false good r found place p each = tt
 by_gate P true false r found place p each = tt
 by_gate P true true r found place p each = with_each P r found (p refl) each
 
 -- What holds of each record by its bytes holds of all that a walk finds.
-pub records_each : (P : Change → Type 0) (Q : List ℕ → Type 0) (node : ℕ) → ((byte : ℕ) (bytes : List ℕ) → Q (byte ∷ bytes) → Q bytes)
+pub records_each : (P : StoreChange → Type 0) (Q : List ℕ → Type 0) (node : ℕ) → ((byte : ℕ) (bytes : List ℕ) → Q (byte ∷ bytes) → Q bytes)
     → ((place : ℕ) (bytes : List ℕ) → Q bytes → is_record node bytes ≡ true → P (record_of place bytes)) →
     (skip place : ℕ) (bytes : List ℕ) → Q bytes → EachOf P (records_behind node skip place bytes)
 unfolding records_behind
@@ -56,12 +57,12 @@ records_each P Q node rest each zero place (gate ∷ bytes) q =
     (λ good. each place bytes (rest gate bytes q) good)
     (records_each P Q node rest each (14 + length_of bytes) (place + 1) bytes (rest gate bytes q))
 
-each_or_none : (P : Change → Type 0) (found : Result (List Change) ℕ) → EachOf P found → AllByRecursion P (records_or_none found)
+each_or_none : (P : StoreChange → Type 0) (found : Result (List StoreChange) ℕ) → EachOf P found → AllByRecursion P (records_or_none found)
 each_or_none P (Ok rs) each = each
 each_or_none P (Err place) each = tt
 
 -- the ledger of a log is the lengths of its bodies
-ledger_from : (rs : List Change) (kept : Kept) → AllByRecursion (λ (c : Change). c.wrote ≡ log_grows c.body) rs
+ledger_from : (rs : List StoreChange) (kept : Kept) → AllByRecursion (λ (c : StoreChange). c.wrote ≡ log_grows c.body) rs
     → (kept_from kept rs).ledger ≡ kept.ledger ++ map body_length rs
 ledger_from [] kept each = sym (append-nil kept.ledger)
 ledger_from (r ∷ rs) kept each = ledger_from rs (kept_after r kept) each.1 ∙ ap (λ w. (kept.ledger ++ w) ++ map body_length rs) each.0
@@ -70,15 +71,15 @@ ledger_from (r ∷ rs) kept each = ledger_from rs (kept_after r kept) each.1 ∙
 pub log_ledger : (node tail : ℕ) (bytes : List ℕ) → (log_kept node tail bytes).ledger ≡ map body_length (records_before node tail bytes)
 log_ledger node tail bytes =
     ledger_from (records_before node tail bytes) nothing_kept
-    (each_or_none (λ (c : Change). c.wrote ≡ log_grows c.body) (records_of node (take tail bytes ++ 0 ∷ []))
-    (records_each (λ (c : Change). c.wrote ≡ log_grows c.body) (λ bs. Unit {0}) node (λ byte bs q. tt) (λ place bs q good. refl) 16 0
+    (each_or_none (λ (c : StoreChange). c.wrote ≡ log_grows c.body) (records_of node (take tail bytes ++ 0 ∷ []))
+    (records_each (λ (c : StoreChange). c.wrote ≡ log_grows c.body) (λ bs. Unit {0}) node (λ byte bs q. tt) (λ place bs q good. refl) 16 0
     (take tail bytes ++ 0 ∷ []) tt))
 
 -- each body that is kept stands under its uid in the relation R
 abbrev pub KeepsOnly : (Uid → List ℕ → Type 0) → Kept → Type 0
 KeepsOnly R kept = (uid : Uid) (body : List ℕ) → finite.get kept.bodies uid ≡ Some body → R uid body
 
-abbrev Gives : (Uid → List ℕ → Type 0) → Change → Type 0
+abbrev Gives : (Uid → List ℕ → Type 0) → StoreChange → Type 0
 Gives R c = (body : List ℕ) → c.body ≡ Some body → R c.uid body
 
 body_now : (uid q : Uid) (body : Option (List ℕ)) (m : FinMap uid_cmp (List ℕ))
@@ -98,12 +99,12 @@ by_choice R uid q true new old body e given before h =
     subst (λ u. R u body) (sym (uid_cmp-IsAntisymmetric q uid (tied (uid_cmp q uid) e))) (given body h)
 by_choice R uid q false new old body e given before h = before body h
 
-keeps_more : (R : Uid → List ℕ → Type 0) (c : Change) (kept : Kept) → Gives R c → KeepsOnly R kept → KeepsOnly R (kept_after c kept)
+keeps_more : (R : Uid → List ℕ → Type 0) (c : StoreChange) (kept : Kept) → Gives R c → KeepsOnly R kept → KeepsOnly R (kept_after c kept)
 keeps_more R c kept given before uid body h =
     by_choice R c.uid uid (eq_by_cmp uid_cmp uid c.uid) c.body (finite.get kept.bodies uid) body refl given (before uid)
     (sym (body_now c.uid uid c.body kept.bodies) ∙ h)
 
-keeps_all : (R : Uid → List ℕ → Type 0) (rs : List Change) (kept : Kept) → AllByRecursion (Gives R) rs → KeepsOnly R kept
+keeps_all : (R : Uid → List ℕ → Type 0) (rs : List StoreChange) (kept : Kept) → AllByRecursion (Gives R) rs → KeepsOnly R kept
     → KeepsOnly R (kept_from kept rs)
 keeps_all R [] kept each before = before
 keeps_all R (r ∷ rs) kept each before = keeps_all R rs (kept_after r kept) each.1 (keeps_more R r kept each.0 before)
@@ -132,7 +133,7 @@ same_after uid q (Some body) mark marks bodies same =
     ∙ same_choice (eq_by_cmp uid_cmp q uid) (Some mark) (finite.get marks q) (Some body) (finite.get bodies q) refl same
     ∙ sym (ap is_some (finite.get-insert uid_cmp_total bodies uid body q))
 
-same_all : (rs : List Change) (kept : Kept) → SameKeys kept → SameKeys (kept_from kept rs)
+same_all : (rs : List StoreChange) (kept : Kept) → SameKeys kept → SameKeys (kept_from kept rs)
 same_all [] kept same = same
 same_all (r ∷ rs) kept same = same_all rs (kept_after r kept) (λ uid. same_after r.uid uid r.body r.mark kept.marks kept.bodies (same uid))
 
@@ -248,16 +249,16 @@ byte_each node bytes are =
     bytes are
 
 -- what holds of what the map of a log keeps
-by_tests : (C : Kept → Type 0) (P : Change → Type 0) (small log : Bool) (found : Result (List Change) ℕ) (kept : Kept) → C nothing_kept
-    → EachOf P found → ((rs : List Change) → AllByRecursion P rs → C (kept_from nothing_kept rs)) →
+by_tests : (C : Kept → Type 0) (P : StoreChange → Type 0) (small log : Bool) (found : Result (List StoreChange) ℕ) (kept : Kept)
+    → C nothing_kept → EachOf P found → ((rs : List StoreChange) → AllByRecursion P rs → C (kept_from nothing_kept rs)) →
     (if small then Err 0 else (if log then kept_by found else Ok nothing_kept)) ≡ Ok kept → C kept
 by_tests C P true log found kept none each all e = absurd cc
 by_tests C P false false found kept none each all e = let same : nothing_kept ≡ kept = cc in subst C same none
 by_tests C P false true (Ok rs) kept none each all e = let same : kept_from nothing_kept rs ≡ kept = cc in subst C same (all rs each)
 by_tests C P false true (Err place) kept none each all e = absurd cc
 
-by_map : (C : Kept → Type 0) (P : Change → Type 0) (node : ℕ) (image : List ℕ) (kept : Kept) → C nothing_kept
-    → EachOf P (records_of node image) → ((rs : List Change) → AllByRecursion P rs → C (kept_from nothing_kept rs)) →
+by_map : (C : Kept → Type 0) (P : StoreChange → Type 0) (node : ℕ) (image : List ℕ) (kept : Kept) → C nothing_kept
+    → EachOf P (records_of node image) → ((rs : List StoreChange) → AllByRecursion P rs → C (kept_from nothing_kept rs)) →
     log_map node image ≡ Ok kept → C kept
 by_map C P node image kept none each all e =
     by_tests C P (nat_lt (length image) 17) (slice_index image 0 == 237) (records_of node image) kept none each all e
@@ -272,11 +273,11 @@ map_bytes node image kept is are =
     by_map (KeepsOnly IsByteBody) (Gives IsByteBody) node image kept (keeps_nothing IsByteBody) (byte_each node image are)
     (λ rs each. keeps_all IsByteBody rs nothing_kept each (keeps_nothing IsByteBody)) is
 
-marks_each : (P : Change → Type 0) → ((c : Change) → P c) → (rs : List Change) → AllByRecursion P rs
+marks_each : (P : StoreChange → Type 0) → ((c : StoreChange) → P c) → (rs : List StoreChange) → AllByRecursion P rs
 marks_each P p [] = tt
 marks_each P p (r ∷ rs) = (p r, marks_each P p rs)
 
-any_each : (found : Result (List Change) ℕ) → EachOf (λ c. Unit {0}) found
+any_each : (found : Result (List StoreChange) ℕ) → EachOf (λ c. Unit {0}) found
 any_each (Ok rs) = marks_each (λ c. Unit {0}) (λ c. tt) rs
 any_each (Err place) = tt
 

@@ -13,7 +13,7 @@ use Rattle.capability.specs.Uids.{uid_cmp}
 use Rattle.capability.proofs.Uids.{uid_cmp_total, uid_cmp-IsAntisymmetric}
 use Rattle.passive_store.specs.declared.store.Pick.{Pick}
 use Rattle.passive_store.specs.declared.store.Pick.TheVariants.{Old, New}
-use Rattle.passive_store.specs.Kept.{Kept, Change, IsAnyOf, IsFresh, bodies_after, marks_after, kept_after}
+use Rattle.passive_store.specs.Kept.{Kept, StoreChange, IsAnyOf, IsFresh, bodies_after, marks_after, kept_after}
 use Rattle.passive_store.specs.Marks.{IsOldOrNew, PickTellsMark}
 
 old_is_not_new : Option.Some Old ≡ Some New → ⊥
@@ -22,7 +22,7 @@ old_is_not_new e = cc
 none_is_not_new : Option.None ≡ Some New → ⊥
 none_is_not_new e = cc
 
-pub pick_tells_mark : (pick : Option Pick) (c : Change) (synced : Bool) (s : Kept) → IsFresh c s → PickTellsMark pick c synced s
+pub pick_tells_mark : (pick : Option Pick) (c : StoreChange) (synced : Bool) (s : Kept) → IsFresh c s → PickTellsMark pick c synced s
 pick_tells_mark None c synced s fresh = (λ e. absurd (none_is_not_new e), λ other. absurd (other refl))
 pick_tells_mark (Some Old) c synced s fresh = (λ e. absurd (old_is_not_new e), λ other. absurd (other refl))
 pick_tells_mark (Some New) c synced s fresh = (λ e. fresh, λ other. refl)
@@ -58,7 +58,7 @@ other_mark uid q None mark m apart = map.get-remove uid_cmp_total m uid q ∙ ap
 other_mark uid q (Some body) mark m apart = map.get-insert uid_cmp_total m uid mark q
     ∙ ap (λ b. cond b (Some mark) (map.get m q)) (other_uid q uid apart)
 
-pub old_or_new : (kept : Kept) (c : Change) (found : Result Kept ℕ) → IsAnyOf kept (c ∷ []) found → IsOldOrNew kept c found
+pub old_or_new : (kept : Kept) (c : StoreChange) (found : Result Kept ℕ) → IsAnyOf kept (c ∷ []) found → IsOldOrNew kept c found
 old_or_new kept c found (inl old) =
     record { there = kept; is = old; state = inl (refl, refl); marks = λ uid apart. refl; bodies = λ uid apart. refl }
 old_or_new kept c found (inr new) = record {

@@ -19,7 +19,7 @@ use Rattle.passive_store.specs.declared.store.StoreRefusal.TheVariants.{Failed a
 use Rattle.passive_store.specs.declared.store.StoreRefusal.TheVariants.{OutOfMemory}
 use Rattle.passive_store.specs.Kept.{IsDiskRefusal}
 use Rattle.passive_store.specs.declared.index.Slot.{Slot}
-use Rattle.passive_store.specs.Kept.{Change, Kept, Stands, IsDamagedFrom, IsAnyOf, nothing_kept, refused, end_of_store, OpeningMade}
+use Rattle.passive_store.specs.Kept.{StoreChange, Kept, Stands, IsDamagedFrom, IsAnyOf, nothing_kept, refused, end_of_store, OpeningMade}
 use Rattle.passive_store.specs.Kept.{OpeningTold}
 use Rattle.passive_store.specs.declared.opening.Found.{Found}
 use Rattle.passive_store.specs.Kept.{kept_by, kept_from}
@@ -175,7 +175,7 @@ empty_records node image long shut =
     ∙ passed_over node 0 (take 16 image) (slice_index image 16 ∷ drop 17 image)
     ∙ closed node (0 + length (take 16 image)) (slice_index image 16) (drop 17 image) shut
 
-header_or_not : (b : Bool) (found : Result (List Change) ℕ) → found ≡ Ok []
+header_or_not : (b : Bool) (found : Result (List StoreChange) ℕ) → found ≡ Ok []
     → (if b then kept_by found else Ok nothing_kept) ≡ Ok nothing_kept
 header_or_not true found none = ap kept_by none
 header_or_not false found none = refl
@@ -195,13 +195,13 @@ keeps_by node Q old new end h long (inr blank) =
     passes_weaker IsEmptyImage (λ image. Q (log_map node image)) old new (λ image e. subst Q (sym (empty_map node image e)) empty) blank.1
 
 -- what of a log stands or is damaged, by its map
-stands_by : (node told : ℕ) (kept : Kept) (changes : List Change) (old new : Told) → told ≤ log_changes
+stands_by : (node told : ℕ) (kept : Kept) (changes : List StoreChange) (old new : Told) → told ≤ log_changes
     → Passes (λ image. IsAnyOf kept changes (log_map node image)) old new → Passes (Stands log_layout node told kept changes) old new
 stands_by node told kept changes old new most p =
     passes_weaker (λ image. IsAnyOf kept changes (log_map node image)) (Stands log_layout node told kept changes) old new
     (λ image found. record { found = found; opens = refl; told = most }) p
 
-found_by : (node told : ℕ) (kept : Kept) (changes : List Change) (c : Contents) → Holds (Stands log_layout node told kept changes) c
+found_by : (node told : ℕ) (kept : Kept) (changes : List StoreChange) (c : Contents) → Holds (Stands log_layout node told kept changes) c
     → Holds (λ image. IsAnyOf kept changes (log_map node image)) c
 found_by node told kept changes c h = record { now = h.now.found; left = λ image l. (h.left image l).found }
 
@@ -308,10 +308,10 @@ opened_old node size tail bytes index long ends header w shut =
           (records_up_to node bytes) records);
     }
 
-no_records : (rs : List Change) (found : Result (List Change) ℕ) → found ≡ Ok rs → found ≡ Ok [] → rs ≡ []
+no_records : (rs : List StoreChange) (found : Result (List StoreChange) ℕ) → found ≡ Ok rs → found ≡ Ok [] → rs ≡ []
 no_records rs found a b = ap records_or_none (sym a ∙ b)
 
-no_damage : (place : ℕ) (found : Result (List Change) ℕ) → found ≡ Err place → found ≡ Ok [] → ⊥
+no_damage : (place : ℕ) (found : Result (List StoreChange) ℕ) → found ≡ Err place → found ≡ Ok [] → ⊥
 no_damage place found a b = cc
 
 opened_new : (node size tail : ℕ) (before : List ℕ) (c : Contents) (index : BTreeMap Uid (Option Slot)) → 17 ≤ length before → tail < size

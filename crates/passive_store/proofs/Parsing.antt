@@ -4,9 +4,9 @@ use Rattle.std.specs.Prelude.{◌==◌, Option, None, Some, slice_range, slice_i
 use Rattle.std.specs.Int.{w32, from_be_bytes}
 use Rattle.std.proofs.lemmas.Bool.Decides.{nat_tests}
 use Rattle.std.proofs.lemmas.List.{take-take, take-append-le, length-take-le}
-use Rattle.passive_store.specs.Log.{length_of, uid_of, kind_of, body_of, log_grows, are_fields, is_record, Spells}
+use Rattle.passive_store.specs.Log.{length_of, uid_of, kind_of, body_of, log_grows, are_fields, is_record, SpellsRecord}
 use Rattle.capability.specs.declared.Uid.{Uid}
-use Rattle.passive_store.specs.Kept.{Change}
+use Rattle.passive_store.specs.Kept.{StoreChange}
 use Rattle.passive_store.proofs.Tails.{same_below, same_part}
 
 pub same_length : (xs ys : List ℕ) → take 14 xs ≡ take 14 ys → length_of xs ≡ length_of ys
@@ -33,7 +33,7 @@ join_test : (node : ℕ) (bs : List ℕ) → 14 + length_of bs + 1 ≤ length bs
     → is_record node bs ≡ true
 join_test node bs fits h = grind (arith, nat_tests)
 
-pub parsed : (node : ℕ) (bs : List ℕ) → is_record node bs ≡ true → Spells node (take (14 + length_of bs) bs) (uid_of bs) (body_of bs)
+pub parsed : (node : ℕ) (bs : List ℕ) → is_record node bs ≡ true → SpellsRecord node (take (14 + length_of bs) bs) (uid_of bs) (body_of bs)
 parsed node bs h =
     let t = split_test node bs h in
     let long : length (take (14 + length_of bs) bs) ≡ 14 + length_of bs = length-take-le (14 + length_of bs) bs (omega (arith, t.0)) in
@@ -60,7 +60,7 @@ parsed node bs h =
           let ys : List ℕ = take (14 + length_of bs) bs ++ gate ∷ rest in
           let part : slice_range ys 14 (14 + length_of bs) ≡ slice_range bs 14 (14 + length_of bs) = same_part ys bs
           (14 + length_of bs) 14 (14 + length_of bs) (same gate rest) (omega arith) in
-          let of_body : Uid → Option (List ℕ) → Change = λ u b. record { uid = u; body = b; mark = place; wrote = log_grows b } in
+          let of_body : Uid → Option (List ℕ) → StoreChange = λ u b. record { uid = u; body = b; mark = place; wrote = log_grows b } in
           ap (λ u. of_body u (body_of ys)) (same_uid ys bs (head gate rest))
           ∙ ap (λ k. of_body (uid_of bs) (if k == 1 then Some (slice_range ys 14 (14 + length_of ys)) else None))
           (same_kind ys bs (head gate rest))

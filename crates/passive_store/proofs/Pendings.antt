@@ -25,7 +25,7 @@ use Rattle.passive_store.specs.declared.index.Slot.{Slot}
 use Rattle.passive_store.specs.declared.log_store.Pending.{Pending}
 use Rattle.passive_store.specs.declared.log_store.Stage.{Stage}
 use Rattle.passive_store.specs.declared.log_store.Stage.TheVariants.{Begun, Written, Synced, Opened, Ended}
-use Rattle.passive_store.specs.Kept.{Change, Kept, Work, Idle, Busy, Unsettled, nothing_kept, kept_after, kept_from, kept_advanced}
+use Rattle.passive_store.specs.Kept.{StoreChange, Kept, Work, Idle, Busy, Unsettled, nothing_kept, kept_after, kept_from, kept_advanced}
 use Rattle.passive_store.specs.Kept.{IsFresh, Stands, changes_in, change_in, doubt_in, is_busy, settled, is_unsettled, is_synced}
 use Rattle.passive_store.specs.Kept.{unsynced, settling_calls, NextTold, HasJob, IsJobOf, work_begun, end_of_store, refused}
 use Rattle.passive_store.specs.declared.store.StoreRefusal.{StoreRefusal}
@@ -88,7 +88,7 @@ pub keeps_shown : (node size tail : ℕ) (old new : Told) (before after : Counts
 keeps_shown node size tail old new before after index q p k =
     ap (λ rs. kept_from nothing_kept rs) (keeps_records node size tail old new before after index q p k)
 
-staged_change : (tail : ℕ) (bytes : List ℕ) (c : Change) (s : Stage) → change_in (staged tail bytes c s) ≡ Some c
+staged_change : (tail : ℕ) (bytes : List ℕ) (c : StoreChange) (s : Stage) → change_in (staged tail bytes c s) ≡ Some c
 staged_change tail bytes c Begun = refl
 staged_change tail bytes c Written = refl
 staged_change tail bytes c Synced = refl
@@ -114,8 +114,8 @@ where_begun P Q Synced f p = tt
 where_begun P Q Opened f p = tt
 where_begun P Q (Ended synced) f p = tt
 
-by_stage : (P : List Change → Type 0) (tail : ℕ) (bytes : List ℕ) (c : Change) (stage : Stage) → WhereBegun stage (P []) → P (c ∷ [])
-    → P (changes_in (doubt_in (staged tail bytes c stage)))
+by_stage : (P : List StoreChange → Type 0) (tail : ℕ) (bytes : List ℕ) (c : StoreChange) (stage : Stage) → WhereBegun stage (P [])
+    → P (c ∷ []) → P (changes_in (doubt_in (staged tail bytes c stage)))
 by_stage P tail bytes c Begun first any = first
 by_stage P tail bytes c Written first any = any
 by_stage P tail bytes c Synced first any = any
@@ -129,7 +129,7 @@ pub step_moments : (node size tail : ℕ) (old new : Told) (before after : Count
     EachMoment (Stands log_layout node log_changes (kept_from nothing_kept (records_before node tail (contents old).now))
     (changes_in (doubt_in (pending_work tail q)))) old new
 step_moments node size tail old new before after index q p k first =
-    let P : List Change → Type 0 = λ changes. EachMoment
+    let P : List StoreChange → Type 0 = λ changes. EachMoment
     (Stands log_layout node log_changes (kept_from nothing_kept (records_before node tail (contents old).now)) changes) old new in
     let l : IsLog node size tail (contents old) index (Some p) = subst (IsLog node size tail (contents old) index) k.is k.log in
     subst (λ x. P (changes_in (doubt_in (pending_work tail x)))) (sym k.is)
@@ -140,7 +140,7 @@ step_moments node size tail old new before after index q p k first =
     (writing_moments node size tail old new before index q p k.placed k.log l.end.1 k.passes.moments))
 
 -- what is told of the next call of a job, by its stage
-staged_told : (tail : ℕ) (bytes : List ℕ) (c : Change) (stage : Stage) (clock : ℕ) (old new : Told) (end : End)
+staged_told : (tail : ℕ) (bytes : List ℕ) (c : StoreChange) (stage : Stage) (clock : ℕ) (old new : Told) (end : End)
     → CallTold (stage_call tail bytes stage) clock old new end → NextTold (staged tail bytes c stage) clock old new end
 staged_told tail bytes c Begun clock old new end told = told
 staged_told tail bytes c Written clock old new end told = told
@@ -274,7 +274,7 @@ keeps_next node size tail old new before after index q p items next k same e job
     (same_front node size tail old new before after index q p k)
     (subst (λ w. JobFacts (take tail (contents old).now) w (made_at p.stage + 1) (contents new)) same job.1)
 
-last_facts : (front items : List ℕ) (c d : Contents) (tail : ℕ) (bytes : List ℕ) (change : Change) (stage : Stage)
+last_facts : (front items : List ℕ) (c d : Contents) (tail : ℕ) (bytes : List ℕ) (change : StoreChange) (stage : Stage)
     → stage_after stage ≡ None → is_busy (staged tail bytes change stage) ≡ true → JobFacts front items (made_at stage + 1) d →
     (rest : List ℕ) × (d ≡ at_rest (front ++ 225 ∷ (items ++ rest)))
 last_facts front items c d tail bytes change Begun e busy facts = absurd cc
@@ -318,7 +318,7 @@ shown_going Idle s = refl
 shown_going (Busy c made left) s = refl
 shown_going (Unsettled c synced) s = refl
 
-staged_done : (tail : ℕ) (bytes : List ℕ) (c : Change) (stage : Stage) (s : Kept) → is_busy (staged tail bytes c stage) ≡ true
+staged_done : (tail : ℕ) (bytes : List ℕ) (c : StoreChange) (stage : Stage) (s : Kept) → is_busy (staged tail bytes c stage) ≡ true
     → kept_after c s ≡ kept_advanced (staged tail bytes c stage) s (Ok Done)
 staged_done tail bytes c Begun s busy = refl
 staged_done tail bytes c Written s busy = refl
@@ -417,7 +417,7 @@ settled_new node size tail old new before after index more q p slot k same rest 
           ∙ kept_from_more nothing_kept (records_before node tail (contents old).now) (change_of tail p),
     )
 
-staged_new : (tail : ℕ) (bytes : List ℕ) (c : Change) (stage : Stage) (s : Kept) → is_unsettled (staged tail bytes c stage) ≡ true
+staged_new : (tail : ℕ) (bytes : List ℕ) (c : StoreChange) (stage : Stage) (s : Kept) → is_unsettled (staged tail bytes c stage) ≡ true
     → kept_after c s ≡ settled (Some New) (staged tail bytes c stage) s
 staged_new tail bytes c Begun s u = absurd (false≢true u)
 staged_new tail bytes c Written s u = absurd (false≢true u)
@@ -602,7 +602,7 @@ anew_unsettled Idle v e u = absurd (false≢true u)
 anew_unsettled (Busy c made left) v e u = absurd (false≢true u)
 anew_unsettled (Unsettled c synced) v e u = (ap is_unsettled e, ap is_synced e)
 
-staged_fresh : (tail : ℕ) (bytes : List ℕ) (c : Change) (stage : Stage) (kept : Kept) → IsFresh c kept
+staged_fresh : (tail : ℕ) (bytes : List ℕ) (c : StoreChange) (stage : Stage) (kept : Kept) → IsFresh c kept
     → IfSome (doubt_in (staged tail bytes c stage)) (λ d. IsFresh d kept)
 staged_fresh tail bytes c Begun kept fresh = tt
 staged_fresh tail bytes c Written kept fresh = fresh

@@ -9,7 +9,7 @@ use Rattle.eden_disk.specs.Calls.{Counts, Obeyed, end_of}
 use Rattle.eden_disk.specs.Timed.{Timed}
 use Rattle.eden_disk.specs.declared.disk.DiskRefusal.{DiskRefusal}
 use Rattle.eden_disk.specs.declared.disk.DiskRefusal.TheVariants.{Failed as DiskFailed, Stopped as DiskStopped}
-use Rattle.passive_store.specs.Kept.{Change, Work, Unsettled, is_unsettled, unsynced, IsDiskRefusal, refused, end_of_store}
+use Rattle.passive_store.specs.Kept.{StoreChange, Work, Unsettled, is_unsettled, unsynced, IsDiskRefusal, refused, end_of_store}
 use Rattle.passive_store.specs.Kept.{Kept, Stands, Idle, Busy, changes_in, doubt_in, is_busy, calls_left, progress_at, work_advanced}
 use Rattle.passive_store.specs.Kept.{IsFresh, Ran, settled, settling_calls, settling_of, work_settled}
 use Rattle.passive_store.specs.Acts.{CallsTold}
@@ -29,7 +29,8 @@ use Rattle.passive_store.specs.LogState.{pending_work, staged, stage_ended, stag
 use Rattle.passive_store.specs.LogState.{IsUntouched, stage_after}
 use Rattle.passive_store.proofs.Pendings.{Keeps, keeps_log, with_stage}
 
-staged_unsettled : (tail : ℕ) (bytes : List ℕ) (c : Change) (stage : Stage) → is_unsettled (staged tail bytes c stage) ≡ stage_ended stage
+staged_unsettled : (tail : ℕ) (bytes : List ℕ) (c : StoreChange) (stage : Stage)
+    → is_unsettled (staged tail bytes c stage) ≡ stage_ended stage
 staged_unsettled tail bytes c Begun = refl
 staged_unsettled tail bytes c Written = refl
 staged_unsettled tail bytes c Synced = refl
@@ -42,7 +43,7 @@ pub unsettled_pending : (tail : ℕ) (q : Option Pending) (p : Pending) → q �
 unsettled_pending tail q p e = ap (λ x. is_unsettled (pending_work tail x)) e
     ∙ staged_unsettled tail p.bytes.items (change_of tail p) p.stage
 
-staged_going : (tail : ℕ) (bytes : List ℕ) (c : Change) (stage : Stage) → stage_ended stage ≡ false
+staged_going : (tail : ℕ) (bytes : List ℕ) (c : StoreChange) (stage : Stage) → stage_ended stage ≡ false
     → staged tail bytes c stage ≡ unsynced (staged tail bytes c stage)
 staged_going tail bytes c Begun going = refl
 staged_going tail bytes c Written going = refl
@@ -56,7 +57,7 @@ pub unsynced_pending : (tail : ℕ) (q : Option Pending) (p : Pending) → q ≡
 unsynced_pending tail q p e going = staged_going tail p.bytes.items (change_of tail p) p.stage going
     ∙ ap (λ x. unsynced (pending_work tail x)) (sym e)
 
-staged_ended : (tail : ℕ) (bytes : List ℕ) (c : Change) (stage : Stage) → stage_ended stage ≡ true
+staged_ended : (tail : ℕ) (bytes : List ℕ) (c : StoreChange) (stage : Stage) → stage_ended stage ≡ true
     → staged tail bytes c stage ≡ Unsettled c (stage_synced stage)
 staged_ended tail bytes c Begun over = absurd (false≢true over)
 staged_ended tail bytes c Written over = absurd (false≢true over)
@@ -120,7 +121,7 @@ restaged_log tells power node size tail old new before after index q p stage e p
       at,
     )
 
-staged_next : (tail : ℕ) (bytes : List ℕ) (c : Change) (stage next : Stage) → stage_after stage ≡ Some next
+staged_next : (tail : ℕ) (bytes : List ℕ) (c : StoreChange) (stage next : Stage) → stage_after stage ≡ Some next
     → (staged tail bytes c next ≡ work_advanced (staged tail bytes c stage) (Ok Going))
     × (Going ≡ progress_at (nat_le (calls_left (staged tail bytes c stage)) 1))
 staged_next tail bytes c Begun next e =
@@ -142,7 +143,7 @@ next_work tail q p next e after =
       staged_as.1 ∙ ap (λ x. progress_at (nat_le (calls_left (pending_work tail x)) 1)) (sym e),
     )
 
-staged_over : (tail : ℕ) (bytes : List ℕ) (c : Change) (stage : Stage) → stage_after stage ≡ None
+staged_over : (tail : ℕ) (bytes : List ℕ) (c : StoreChange) (stage : Stage) → stage_after stage ≡ None
     → is_busy (staged tail bytes c stage) ≡ true →
     (Idle ≡ work_advanced (staged tail bytes c stage) (Ok Done)) × (Done ≡ progress_at (nat_le (calls_left (staged tail bytes c stage)) 1))
 staged_over tail bytes c Begun e busy = absurd cc
@@ -161,7 +162,7 @@ last_work tail q p e after busy =
       over.1 ∙ ap (λ x. progress_at (nat_le (calls_left (pending_work tail x)) 1)) (sym e),
     )
 
-staged_refused : (tail : ℕ) (bytes : List ℕ) (c : Change) (stage : Stage) (refusal : StoreRefusal)
+staged_refused : (tail : ℕ) (bytes : List ℕ) (c : StoreChange) (stage : Stage) (refusal : StoreRefusal)
     → is_busy (staged tail bytes c stage) ≡ true → Unsettled c false ≡ work_advanced (staged tail bytes c stage) (Err refusal)
 staged_refused tail bytes c Begun refusal busy = refl
 staged_refused tail bytes c Written refusal busy = refl
@@ -197,19 +198,19 @@ none_there None e = refl
 none_there (Some a) e = absurd (false≢true (sym e))
 
 -- A settling that begins anew is settled as the one before it.
-anew_same : {A : Type 0} (f : Work → A) (w v : Work) → ((c : Change) (synced : Bool) → f (Unsettled c false) ≡ f (Unsettled c synced))
+anew_same : {A : Type 0} (f : Work → A) (w v : Work) → ((c : StoreChange) (synced : Bool) → f (Unsettled c false) ≡ f (Unsettled c synced))
     → v ≡ unsynced w → f v ≡ f w
 anew_same f Idle v same e = ap f e
 anew_same f (Busy c made left) v same e = ap f e
 anew_same f (Unsettled c synced) v same e = ap f e ∙ same c synced
 
-settled_same : (pick : Option Pick) (kept : Kept) (c : Change) (synced : Bool)
+settled_same : (pick : Option Pick) (kept : Kept) (c : StoreChange) (synced : Bool)
     → settled pick (Unsettled c false) kept ≡ settled pick (Unsettled c synced) kept
 settled_same None kept c synced = refl
 settled_same (Some Old) kept c synced = refl
 settled_same (Some New) kept c synced = refl
 
-work_same : (pick : Option Pick) (c : Change) (synced : Bool)
+work_same : (pick : Option Pick) (c : StoreChange) (synced : Bool)
     → work_settled pick (Unsettled c false) ≡ work_settled pick (Unsettled c synced)
 work_same None c synced = refl
 work_same (Some pick) c synced = refl

@@ -11,7 +11,7 @@ use Rattle.passive_store.specs.LogLayout.{spelled_record}
 use Rattle.passive_store.specs.LogState.{IsRecordOf}
 use Rattle.capability.specs.declared.Uid.{Uid}
 use Rattle.passive_store.specs.Kept.{IsOwn, IsEject}
-use Rattle.passive_store.specs.Log.{length_of, uid_of, log_grows, are_fields, Spells}
+use Rattle.passive_store.specs.Log.{length_of, uid_of, log_grows, are_fields, SpellsRecord}
 
 abbrev spelled_value : ℕ → Uid → ℕ → List ℕ → List ℕ
 spelled_value node uid n body = spelled_record node uid 1 n body
@@ -40,7 +40,7 @@ body_is node n uid body gate rest size = ap (λ m. take m (body ++ gate ∷ rest
 
 -- A value's bytes are its spelling.
 pub spells_value : (node n : ℕ) (uid : Uid) (body : List ℕ) → length body ≡ n → n ≤ 262144 → uid.epoch < 2 ^ 32 → uid.serial < 2 ^ 32
-    → IsOwn node uid n → Spells node (spelled_value node uid n body) uid (Some body)
+    → IsOwn node uid n → SpellsRecord node (spelled_value node uid n body) uid (Some body)
 spells_value node n uid body size limit e s own =
     let fits : n < 2 ^ 32 = omega arith in
     let test : ℕ → Uid → ℕ → Bool = λ l u long. nat_le (14 + l + 1) long && are_fields node l u 1 in
@@ -85,7 +85,7 @@ removal_uid node uid tail own e s =
     ∙ ap (λ x. record { node = x; epoch = uid.epoch; serial = uid.serial }) (sym own)
 
 pub spells_removal : (node : ℕ) (uid : Uid) → uid.epoch < 2 ^ 32 → uid.serial < 2 ^ 32 → IsEject node uid
-    → Spells node (spelled_record node uid 2 0 []) uid None
+    → SpellsRecord node (spelled_record node uid 2 0 []) uid None
 spells_removal node uid e s own =
     let test : Uid → ℕ → Bool = λ u long. nat_le (14 + 0 + 1) long && are_fields node 0 u 2 in
     record {
@@ -110,7 +110,7 @@ record_of_value node n uid body items size limit e s own is =
     record {
       bytes = spelled_value node uid n body;
       is = is;
-      spells = subst (λ b. Spells node (spelled_value node uid n body) uid (Some b)) (sym part)
+      spells = subst (λ b. SpellsRecord node (spelled_value node uid n body) uid (Some b)) (sym part)
           (spells_value node n uid body size limit e s own);
       long = omega (arith, size);
       empty = λ so. absurd (false≢true so);

@@ -21,7 +21,7 @@ use Rattle.eden_disk.specs.Held.{Holds}
 use Rattle.eden_disk.proofs.Held.{only_now, moments_weaker}
 use Rattle.passive_store.specs.declared.index.Slot.{Slot}
 use Rattle.passive_store.specs.declared.log_store.Pending.{Pending}
-use Rattle.passive_store.specs.Kept.{Change, Kept, Idle, nothing_kept, kept_after, kept_from, kept_by, marks_after, bodies_after}
+use Rattle.passive_store.specs.Kept.{StoreChange, Kept, Idle, nothing_kept, kept_after, kept_from, kept_by, marks_after, bodies_after}
 use Rattle.passive_store.specs.Kept.{IsAnyOf, IsFresh, Stands, changes_in, doubt_in}
 use Rattle.passive_store.specs.Log.{records_of, IsFront, HalfWritten, Unwritten, log_map, log_grows}
 use Rattle.passive_store.specs.declared.log_store.Stage.{Stage}
@@ -44,7 +44,7 @@ half_long size front bytes image (whole, inl closed) = omega (arith, ap length c
 half_long size front bytes image (whole, inr opened) = omega (arith, ap length opened.1, length-append front (225 ∷ (bytes ++ opened.0)))
 
 -- what the walk before the tail finds
-pub before_is : (node tail : ℕ) (bytes front : List ℕ) (rs : List Change) → take tail bytes ≡ front → IsFront node front rs
+pub before_is : (node tail : ℕ) (bytes front : List ℕ) (rs : List StoreChange) → take tail bytes ≡ front → IsFront node front rs
     → records_before node tail bytes ≡ rs
 before_is node tail bytes front rs same f = ap (λ l. records_or_none (records_of node (l ++ 0 ∷ []))) same ∙ ap records_or_none
     (front_closed node 0 front [] rs f refl)
@@ -168,7 +168,7 @@ part_behind front record_bytes rest tail len at long =
     (omega arith) in
     ap (take len) body ∙ take-append-le len (drop 14 record_bytes) rest (omega (arith, length-drop 14 record_bytes))
 
-pub used_more : (rs : List Change) (r : Change)
+pub used_more : (rs : List StoreChange) (r : StoreChange)
     → used_by (map body_length (rs ++ r ∷ [])) ≡ used_by (map body_length rs) + (15 + body_length r)
 used_more [] r = omega arith
 used_more (x ∷ rs) r = ap (λ n. 15 + body_length x + n) (used_more rs r) ∙ omega arith
@@ -186,8 +186,8 @@ grown node size tail c bytes rest old new q p begins ends within l is whole stan
     let front : List ℕ = take tail c.now in
     let at : length front ≡ tail = length-take-le tail c.now (omega (arith, l.whole)) in
     let more : List ℕ = front ++ 225 ∷ is.bytes in
-    let change : Change = change_of tail p in
-    let rs : List Change = records_before node tail c.now in
+    let change : StoreChange = change_of tail p in
+    let rs : List StoreChange = records_before node tail c.now in
     let split : bytes ≡ more ++ 0 ∷ rest = stands ∙ ap (λ r. front ++ 225 ∷ (r ++ rest)) is.is ∙ ap (λ r. front ++ 225 ∷ r)
     (append_assoc is.bytes (0 ∷ []) rest) ∙ sym (append_assoc front (225 ∷ is.bytes) (0 ∷ rest)) in
     let size_is : length more ≡ tail + p.length + 15 = omega (arith, at, is.size, length-append front (225 ∷ is.bytes)) in
@@ -222,12 +222,12 @@ grown node size tail c bytes rest old new q p begins ends within l is whole stan
     )
 
 -- An image of a log can be opened, and its room is told for ever.
-pub log_image : (node : ℕ) (kept : Kept) (changes : List Change) (image : List ℕ) → IsAnyOf kept changes (log_map node image)
+pub log_image : (node : ℕ) (kept : Kept) (changes : List StoreChange) (image : List ℕ) → IsAnyOf kept changes (log_map node image)
     → Stands log_layout node log_changes kept changes image
 log_image node kept changes image found = record { found = found; opens = refl; told = omega arith }
 
 -- While the gate of a record is closed, an image stands for what is kept.
-pub shut_stands : (node size tail : ℕ) (front : List ℕ) (rs : List Change) (image : List ℕ) → length front ≡ tail → 16 ≤ tail
+pub shut_stands : (node size tail : ℕ) (front : List ℕ) (rs : List StoreChange) (image : List ℕ) → length front ≡ tail → 16 ≤ tail
     → slice_index front 0 ≡ 237 → IsFront node front rs → Unwritten size front image →
     log_map node image ≡ Ok (kept_from nothing_kept rs)
 shut_stands node size tail front rs image at begins header f (whole, closed) =
@@ -238,13 +238,13 @@ shut_stands node size tail front rs image at begins header f (whole, closed) =
     (ap (records_of node) closed.3 ∙ front_closed node closed.0 front closed.1 rs f closed.2)
 
 -- While a record is being written, an image stands for what is kept, with its change or without.
-pub half_stands : (node size tail : ℕ) (kept_front : List ℕ) (rs : List Change) (p : Pending) (image : List ℕ) →
+pub half_stands : (node size tail : ℕ) (kept_front : List ℕ) (rs : List StoreChange) (p : Pending) (image : List ℕ) →
     length kept_front ≡ tail → 16 ≤ tail → slice_index kept_front 0 ≡ 237 → IsFront node kept_front rs
     → IsPendingOf node tail (kept_from nothing_kept rs) p →
     HalfWritten size kept_front p.bytes.items image →
     Stands log_layout node log_changes (kept_from nothing_kept rs) (change_of tail p ∷ []) image
 half_stands node size tail front rs p image at begins header f is half =
-    let change : Change = change_of tail p in
+    let change : StoreChange = change_of tail p in
     let first : slice_index image 0 ≡ 237 = same_below image front (length front) 0
     (half_front size front p.bytes.items image half ∙ sym (take_all (length front) front (omega arith))) (omega arith) ∙ header in
     let opened_log : log_map node image ≡ kept_by (records_of node image) = log_stands_there node image
@@ -472,7 +472,7 @@ written_log node size tail c d rest counts old new q p placed l is stands whole 
       ap (λ (x : Contents). records_before node (tail + p.length + 15) x.now) stands ∙ done.1,
     )
 
-staged_idle : (tail : ℕ) (bytes : List ℕ) (c : Change) (stage : Stage) → staged tail bytes c stage ≡ Idle → ⊥
+staged_idle : (tail : ℕ) (bytes : List ℕ) (c : StoreChange) (stage : Stage) → staged tail bytes c stage ≡ Idle → ⊥
 staged_idle tail bytes c Begun e = cc
 staged_idle tail bytes c Written e = cc
 staged_idle tail bytes c Synced e = cc

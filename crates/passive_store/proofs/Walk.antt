@@ -4,9 +4,9 @@ use Rattle.std.proofs.Common.{length-append, Result, Option, Ok, Err, add-zero, 
 use Rattle.std.specs.Prelude.{◌==◌, if◌then◌else◌, nat_lt, slice_index}
 use Rattle.std.proofs.lemmas.Bool.Decides.{nat_tests}
 use Rattle.capability.specs.declared.Uid.{Uid}
-use Rattle.passive_store.specs.Kept.{Change, Kept, kept_after, nothing_kept}
+use Rattle.passive_store.specs.Kept.{StoreChange, Kept, kept_after, nothing_kept}
 use Rattle.passive_store.specs.Kept.{kept_from, kept_by}
-use Rattle.passive_store.specs.Log.{records_behind, records_of, with_record, with_records, record_of, is_record, length_of, Spells}
+use Rattle.passive_store.specs.Log.{records_behind, records_of, with_record, with_records, record_of, is_record, length_of, SpellsRecord}
 use Rattle.passive_store.specs.Log.{IsFront, log_grows, log_map}
 
 pub passed_over : (node place : ℕ) (bytes rest : List ℕ)
@@ -27,7 +27,7 @@ unfolding records_behind
 opened_gate node place bytes = refl
 
 pub opened : (node place : ℕ) (bytes : List ℕ) (uid : Uid) (body : Option (List ℕ)) (gate : ℕ) (rest : List ℕ)
-    → Spells node bytes uid body →
+    → SpellsRecord node bytes uid body →
     records_behind node 0 place (225 ∷ (bytes ++ gate ∷ rest)) ≡ with_record
     (record { uid = uid; body = body; mark = place; wrote = log_grows body })
     (records_behind node 0 (place + 1 + length bytes) (gate ∷ rest))
@@ -42,14 +42,14 @@ opened node place bytes uid body gate rest s =
     ∙ ap (with_record (record { uid = uid; body = body; mark = place; wrote = log_grows body }))
     (passed_over node (place + 1) bytes (gate ∷ rest))
 
-one_more_record : (rs : List Change) (r : Change) (found : Result (List Change) ℕ)
+one_more_record : (rs : List StoreChange) (r : StoreChange) (found : Result (List StoreChange) ℕ)
     → with_records rs (with_record r found) ≡ with_records (rs ++ r ∷ []) found
 one_more_record rs r (Ok ts) = ap (λ l. Ok l) (sym (append_assoc rs (r ∷ []) ts))
 one_more_record rs r (Err place) = refl
 
 -- a front with one more record
-pub front_more : (node : ℕ) (front bytes : List ℕ) (rs : List Change) (uid : Uid) (body : Option (List ℕ)) → IsFront node front rs
-    → Spells node bytes uid body →
+pub front_more : (node : ℕ) (front bytes : List ℕ) (rs : List StoreChange) (uid : Uid) (body : Option (List ℕ)) → IsFront node front rs
+    → SpellsRecord node bytes uid body →
     IsFront node (front ++ 225 ∷ bytes) (rs ++ record { uid = uid; body = body; mark = length front; wrote = log_grows body } ∷ [])
 front_more node front bytes rs uid body f s gate rest =
     ap (records_of node) (append_assoc front (225 ∷ bytes) (gate ∷ rest))
@@ -61,12 +61,13 @@ front_more node front bytes rs uid body f s gate rest =
     (records_behind node 0 n (gate ∷ rest))) (omega (arith, length-append front (225 ∷ bytes)))
 
 -- a front with a closed gate behind it
-pub front_closed : (node gate : ℕ) (front rest : List ℕ) (rs : List Change) → IsFront node front rs → (gate == 225) ≡ false
+pub front_closed : (node gate : ℕ) (front rest : List ℕ) (rs : List StoreChange) → IsFront node front rs → (gate == 225) ≡ false
     → records_of node (front ++ gate ∷ rest) ≡ Ok rs
 front_closed node gate front rest rs f shut =
     f gate rest ∙ ap (with_records rs) (closed node (length front) gate rest shut) ∙ ap (λ l. Ok l) (append-nil rs)
 
-pub kept_from_more : (kept : Kept) (rs : List Change) (r : Change) → kept_from kept (rs ++ r ∷ []) ≡ kept_after r (kept_from kept rs)
+pub kept_from_more : (kept : Kept) (rs : List StoreChange) (r : StoreChange)
+    → kept_from kept (rs ++ r ∷ []) ≡ kept_after r (kept_from kept rs)
 kept_from_more kept [] r = refl
 kept_from_more kept (s ∷ rs) r = kept_from_more (kept_after s kept) rs r
 

@@ -19,7 +19,7 @@ use Rattle.eden_disk.proofs.Timed.{timed_join}
 use Rattle.passive_store.proofs.Joining.{timed_still}
 use Rattle.passive_store.specs.declared.index.Slot.{Slot}
 use Rattle.passive_store.specs.declared.records.Header.{Header}
-use Rattle.passive_store.specs.Kept.{Change, nothing_kept, kept_after}
+use Rattle.passive_store.specs.Kept.{StoreChange, nothing_kept, kept_after}
 use Rattle.passive_store.specs.Kept.{kept_from}
 use Rattle.passive_store.specs.Log.{length_of, uid_of, kind_of, body_of, records_of, records_behind, with_record, with_records}
 use Rattle.passive_store.specs.Log.{record_of, log_grows, IsFront}
@@ -36,7 +36,7 @@ pub around : (bytes : List ℕ) (place : ℕ) → place < length bytes
     → bytes ≡ take place bytes ++ slice_index bytes place ∷ drop (place + 1) bytes
 around bytes place h = sym (take-append-drop place bytes) ∙ ap (λ r. take place bytes ++ r) (drop_more bytes place 0 h)
 
-with_none : (found : Result (List Change) ℕ) → with_records [] found ≡ found
+with_none : (found : Result (List StoreChange) ℕ) → with_records [] found ≡ found
 with_none (Ok rs) = refl
 with_none (Err place) = refl
 
@@ -69,7 +69,7 @@ walk_begun node size bytes index room whole none =
     )
 
 -- the record that a header tells of
-abbrev pub change_at : ℕ → List ℕ → Change
+abbrev pub change_at : ℕ → List ℕ → StoreChange
 change_at place bytes = let bs = drop (place + 1) bytes in
     record { uid = uid_of bs; body = body_of bs; mark = place; wrote = log_grows (body_of bs) }
 
@@ -115,8 +115,8 @@ walk_more node size tail bytes old mid new h slot within ends w at same slots se
     let bytes_of : List ℕ = take (14 + len) bs in
     let front : List ℕ = take tail bytes in
     let more : List ℕ = front ++ 225 ∷ bytes_of in
-    let rs : List Change = records_before node tail bytes in
-    let change : Change = change_at tail bytes in
+    let rs : List StoreChange = records_before node tail bytes in
+    let change : StoreChange = change_at tail bytes in
     let long : length bytes_of ≡ 14 + len = length-take-le (14 + len) bs (omega (arith, fits.0)) in
     let front_long : length front ≡ tail = length-take-le tail bytes (omega (arith, w.whole, ends)) in
     let more_long : length more ≡ tail + h.length + 15 = omega (arith, front_long, long, size_is, length-append front (225 ∷ bytes_of)) in
@@ -134,7 +134,7 @@ walk_more node size tail bytes old mid new h slot within ends w at same slots se
     let part : slice_range bs 14 (14 + len) ≡ body =
     ap (λ m. take m (drop 14 bs)) (omega (arith, size_is)) ∙ ap (take (tail + 15 + h.length - (tail + 15)))
     (drop-drop 14 (tail + 1) bytes ∙ ap (λ n. drop n bytes) (omega arith)) in
-    let of_body : Uid → Option (List ℕ) → Change = λ u b. record { uid = u; body = b; mark = tail; wrote = log_grows b } in
+    let of_body : Uid → Option (List ℕ) → StoreChange = λ u b. record { uid = u; body = b; mark = tail; wrote = log_grows b } in
     let change_is : of_body h.uid (cond h.removal None (Some body)) ≡ change =
     ap (λ u. of_body u (cond h.removal None (Some body))) at.2.uid
     ∙ ap (λ b. of_body (uid_of bs) (cond b None (Some body))) at.2.removal
@@ -179,7 +179,7 @@ pub walk_damaged : (node size tail : ℕ) (bytes : List ℕ) (index : BTreeMap U
 walk_damaged node size tail bytes index ends w bad =
     let front : List ℕ = take tail bytes in
     let bs : List ℕ = drop (tail + 1) bytes in
-    let rs : List Change = records_before node tail bytes in
+    let rs : List StoreChange = records_before node tail bytes in
     ap (records_of node) (around bytes tail (omega (arith, w.whole, ends)) ∙ ap (λ g. front ++ g ∷ bs) bad.0)
     ∙ w.front 225 bs
     ∙ ap (with_records rs) (opened_gate node (length front) bs)

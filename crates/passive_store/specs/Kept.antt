@@ -19,7 +19,7 @@ use Rattle.eden_disk.specs.Calls.{End, Fine, AtFault, AtStop, Counts, DeviceCall
 use Rattle.passive_store.specs.Acts.{DiskCall, Write, Sync, Read, CallTold, AllTold, SomeTold}
 
 -- new bytes of a uid, or its removal, and the number of the record that says so
-pub record Change : Type 0 where
+pub record StoreChange : Type 0 where
   pub uid : Uid
   pub body : Option (List ℕ)
   pub mark : ℕ
@@ -44,7 +44,7 @@ abbrev pub marks_after : Uid → Option (List ℕ) → ℕ → FinMap uid_cmp �
 marks_after uid None mark m = map.remove m uid
 marks_after uid (Some body) mark m = map.insert m uid mark
 
-abbrev pub kept_after : Change → Kept → Kept
+abbrev pub kept_after : StoreChange → Kept → Kept
 kept_after c k = record {
   bodies = bodies_after c.uid c.body k.bodies;
   marks = marks_after c.uid c.body c.mark k.marks;
@@ -52,39 +52,39 @@ kept_after c k = record {
 }
 
 -- what is kept after these changes, the first of them first
-abbrev pub kept_from : Kept → List Change → Kept
+abbrev pub kept_from : Kept → List StoreChange → Kept
 kept_from kept [] = kept
 kept_from kept (c ∷ cs) = kept_from (kept_after c kept) cs
 
-abbrev pub kept_by : Result (List Change) ℕ → Result Kept ℕ
+abbrev pub kept_by : Result (List StoreChange) ℕ → Result Kept ℕ
 kept_by (Ok cs) = Ok (kept_from nothing_kept cs)
 kept_by (Err place) = Err place
 
 -- the change gives its uid another mark, None being that of an absent one
-abbrev pub IsFresh : Change → Kept → Type 0
+abbrev pub IsFresh : StoreChange → Kept → Type 0
 IsFresh c k = map.get (marks_after c.uid c.body c.mark k.marks) c.uid ≢ map.get k.marks c.uid
 
 -- the change that a store works on, or that is in doubt
 pub data Work : Type 0 where
   Idle : Work
   -- a job goes on: how many device calls it made, and those that it has left, in their order
-  Busy : Change → ℕ → List DiskCall → Work
+  Busy : StoreChange → ℕ → List DiskCall → Work
   -- a job was refused its last call: the change is made or not, and whether the sync of the settling is done
-  Unsettled : Change → Bool → Work
+  Unsettled : StoreChange → Bool → Work
 
 -- From the first device call of its job on, a change is in doubt.
-abbrev pub doubt_in : Work → Option Change
+abbrev pub doubt_in : Work → Option StoreChange
 doubt_in Idle = None
 doubt_in (Busy c zero left) = None
 doubt_in (Busy c (suc made) left) = Some c
 doubt_in (Unsettled c synced) = Some c
 
-abbrev pub change_in : Work → Option Change
+abbrev pub change_in : Work → Option StoreChange
 change_in Idle = None
 change_in (Busy c made left) = Some c
 change_in (Unsettled c synced) = Some c
 
-abbrev pub uid_of_change : Option Change → Option Uid
+abbrev pub uid_of_change : Option StoreChange → Option Uid
 uid_of_change None = None
 uid_of_change (Some c) = Some c.uid
 
@@ -160,17 +160,17 @@ pub record Layout : Type 0 where
   pub reading_calls : Option (List ℕ) → ℕ
 
 -- What is found in an image is what is kept with any of these changes made, in their order.
-abbrev pub IsAnyOf : Kept → List Change → Result Kept ℕ → Type 0
+abbrev pub IsAnyOf : Kept → List StoreChange → Result Kept ℕ → Type 0
 IsAnyOf kept [] found = found ≡ Ok kept
 IsAnyOf kept (c ∷ cs) found = IsAnyOf kept cs found ⊎ (IsFresh c kept × IsAnyOf (kept_after c kept) cs found)
 
-abbrev pub changes_in : Option Change → List Change
+abbrev pub changes_in : Option StoreChange → List StoreChange
 changes_in None = []
 changes_in (Some c) = c ∷ []
 
 -- An image that a store leaves: it can be opened, and stands for what is kept with any of these changes; and for so many
 -- more changes its room is told.
-pub record Stands (layout : Layout) (node more : ℕ) (kept : Kept) (changes : List Change) (image : List ℕ) : Type 0 where
+pub record Stands (layout : Layout) (node more : ℕ) (kept : Kept) (changes : List StoreChange) (image : List ℕ) : Type 0 where
   pub found : IsAnyOf kept changes (layout.map_of node image)
   pub opens : layout.is_overfull node image ≡ false
   pub told : more ≤ layout.changes_told node image
@@ -189,7 +189,7 @@ LeavesKept layout node more kept work told = LeavesOnly (Stands layout node more
 
 -- At each moment from one state of the disk to another, in or between any two device calls, a crash leaves only images
 -- that stand for what is kept, with any of these changes made.
-abbrev pub StandsThrough : Layout → ℕ → ℕ → Kept → List Change → Told → Told → Type 0
+abbrev pub StandsThrough : Layout → ℕ → ℕ → Kept → List StoreChange → Told → Told → Type 0
 StandsThrough layout node more kept changes old new = EachMoment (Stands layout node more kept changes) old new
 
 -- whether a change finds room on a disk of this size
@@ -315,19 +315,19 @@ pub record Ran {T : Type 0} (settling calls : ℕ) (result : Result T StoreRefus
 abbrev pub IsJobOf : ℕ → ℕ → Type 0
 IsJobOf size calls = (2 ≤ calls) × ((kib : ℕ) × (kib * 1024 ≤ size) × (calls ≤ 2 * kib + 4))
 
-abbrev pub work_begun : {T : Type 0} → Change → List DiskCall → Work → Result T StoreRefusal → Work
+abbrev pub work_begun : {T : Type 0} → StoreChange → List DiskCall → Work → Result T StoreRefusal → Work
 work_begun c calls old (Ok done) = Busy c 0 calls
 work_begun c calls old (Err e) = old
 
 -- Where a device refused a call: a change whose settling failed has not begun; any other is in doubt.
-abbrev pub work_refused : Option Pick → Change → Work → Work
+abbrev pub work_refused : Option Pick → StoreChange → Work → Work
 work_refused (Some pick) c old = Unsettled c false
 work_refused None c Idle = Unsettled c false
 work_refused None c (Busy d made left) = Unsettled c false
 work_refused None c (Unsettled d synced) = Unsettled d false
 
 -- after a whole put or removal that settled with this pick
-abbrev pub work_changed : {T : Type 0} → Option Pick → Change → Work → Result T StoreRefusal → Work
+abbrev pub work_changed : {T : Type 0} → Option Pick → StoreChange → Work → Result T StoreRefusal → Work
 work_changed pick c old (Ok done) = Idle
 work_changed pick c old (Err Failed) = work_refused pick c old
 work_changed pick c old (Err Stopped) = work_refused pick c old
@@ -335,7 +335,7 @@ work_changed pick c old (Err Full) = Idle
 work_changed pick c old (Err (Damaged place)) = old
 work_changed pick c old (Err OutOfMemory) = old
 
-abbrev pub kept_changed : {T : Type 0} → Option Pick → Change → Work → Kept → Result T StoreRefusal → Kept
+abbrev pub kept_changed : {T : Type 0} → Option Pick → StoreChange → Work → Kept → Result T StoreRefusal → Kept
 kept_changed pick c work s (Ok done) = kept_after c (settled pick work s)
 kept_changed pick c work s (Err e) = settled pick work s
 
@@ -404,13 +404,13 @@ reads_due work reads (Err OutOfMemory) = settling_of work
 
 -- The changes that a crash at some moment of a whole put or removal may show: what was in doubt, and the new change where
 -- its job was begun.
-abbrev pub changes_refused : Option Pick → Change → Work → List Change
+abbrev pub changes_refused : Option Pick → StoreChange → Work → List StoreChange
 changes_refused (Some pick) c old = changes_in (doubt_in old) ++ c ∷ []
 changes_refused None c Idle = c ∷ []
 changes_refused None c (Busy d made left) = changes_in (doubt_in (Busy d made left)) ++ c ∷ []
 changes_refused None c (Unsettled d synced) = d ∷ []
 
-abbrev pub changes_begun : {T : Type 0} → Option Pick → Change → Work → Result T StoreRefusal → List Change
+abbrev pub changes_begun : {T : Type 0} → Option Pick → StoreChange → Work → Result T StoreRefusal → List StoreChange
 changes_begun pick c old (Ok done) = changes_in (doubt_in old) ++ c ∷ []
 changes_begun pick c old (Err Failed) = changes_refused pick c old
 changes_begun pick c old (Err Stopped) = changes_refused pick c old

@@ -3,7 +3,7 @@ use Rattle.std.specs.Prelude.{◌≡◌, ◌⊎◌, ℕ, ◌+◌, Bool, true, fa
 use Rattle.std.specs.Prelude.{length, take, slice_index, slice_range, Option, None, Some, Result, Ok, Err, if◌then◌else◌}
 use Rattle.std.specs.Int.{w32, from_be_bytes}
 use Rattle.capability.specs.declared.Uid.{Uid}
-use Rattle.passive_store.specs.Kept.{Change, Kept, nothing_kept, kept_by}
+use Rattle.passive_store.specs.Kept.{StoreChange, Kept, nothing_kept, kept_by}
 
 -- the fields of a record, of the bytes behind its gate
 abbrev pub length_of : List ℕ → ℕ
@@ -39,15 +39,15 @@ are_fields node size uid kind =
 abbrev pub is_record : ℕ → List ℕ → Bool
 is_record node bytes = nat_le (14 + length_of bytes + 1) (length bytes) && are_fields node (length_of bytes) (uid_of bytes) (kind_of bytes)
 
-abbrev pub record_of : ℕ → List ℕ → Change
+abbrev pub record_of : ℕ → List ℕ → StoreChange
 record_of place bytes = record { uid = uid_of bytes; body = body_of bytes; mark = place; wrote = log_grows (body_of bytes) }
 
-abbrev pub with_record : Change → Result (List Change) ℕ → Result (List Change) ℕ
+abbrev pub with_record : StoreChange → Result (List StoreChange) ℕ → Result (List StoreChange) ℕ
 with_record r (Ok rs) = Ok (r ∷ rs)
 with_record r (Err place) = Err place
 
 -- The records from a place on, once so many bytes are passed over; or the place of the first damaged one.
-unfoldable pub records_behind : ℕ → ℕ → ℕ → List ℕ → Result (List Change) ℕ
+unfoldable pub records_behind : ℕ → ℕ → ℕ → List ℕ → Result (List StoreChange) ℕ
 records_behind node skip place [] = Ok []
 records_behind node (suc skip) place (byte ∷ bytes) = records_behind node skip (place + 1) bytes
 records_behind node zero place (gate ∷ bytes) =
@@ -56,12 +56,12 @@ records_behind node zero place (gate ∷ bytes) =
     Err place)
     else Ok []
 
-abbrev pub with_records : List Change → Result (List Change) ℕ → Result (List Change) ℕ
+abbrev pub with_records : List StoreChange → Result (List StoreChange) ℕ → Result (List StoreChange) ℕ
 with_records rs (Ok ts) = Ok (rs ++ ts)
 with_records rs (Err place) = Err place
 
 -- the records of a whole image
-abbrev pub records_of : ℕ → List ℕ → Result (List Change) ℕ
+abbrev pub records_of : ℕ → List ℕ → Result (List StoreChange) ℕ
 records_of node image = records_behind node 16 0 image
 
 -- What an image keeps: nothing where no log stands on it, and else what its open records leave. One of fewer than 17
@@ -71,12 +71,12 @@ log_map node image = if nat_lt (length image) 17 then Err 0 else
     (if slice_index image 0 == 237 then kept_by (records_of node image) else Ok nothing_kept)
 
 -- These bytes are whole records from byte 16 on, and the log goes on behind them.
-abbrev pub IsFront : ℕ → List ℕ → List Change → Type 0
+abbrev pub IsFront : ℕ → List ℕ → List StoreChange → Type 0
 IsFront node front rs = (gate : ℕ) (rest : List ℕ)
     → records_of node (front ++ gate ∷ rest) ≡ with_records rs (records_behind node 0 (length front) (gate ∷ rest))
 
 -- These bytes stand for a change, as a record behind its gate, wherever they stand.
-pub record Spells (node : ℕ) (bytes : List ℕ) (uid : Uid) (body : Option (List ℕ)) : Type 0 where
+pub record SpellsRecord (node : ℕ) (bytes : List ℕ) (uid : Uid) (body : Option (List ℕ)) : Type 0 where
   pub whole : (gate : ℕ) (rest : List ℕ) → is_record node (bytes ++ gate ∷ rest) ≡ true
   pub size : (gate : ℕ) (rest : List ℕ) → 14 + length_of (bytes ++ gate ∷ rest) ≡ length bytes
   pub reads : (place gate : ℕ) (rest : List ℕ)

@@ -4,18 +4,18 @@ use Rattle.std.specs.Prelude.{map, slice_index, Option, None, Some, Result, Ok, 
 use Rattle.std.specs.Int.{w32, to_be_bytes}
 use Rattle.capability.specs.declared.Uid.{Uid}
 use Rattle.passive_store.specs.Acts.{DiskCall, Write, Sync, Read}
-use Rattle.passive_store.specs.Kept.{Change, Kept, Layout, nothing_kept, kept_from}
+use Rattle.passive_store.specs.Kept.{StoreChange, Kept, Layout, nothing_kept, kept_from}
 use Rattle.passive_store.specs.Log.{records_of, body_size, log_grows, log_map}
 
-abbrev pub records_or_none : Result (List Change) ℕ → List Change
+abbrev pub records_or_none : Result (List StoreChange) ℕ → List StoreChange
 records_or_none (Ok rs) = rs
 records_or_none (Err place) = []
 
 -- the records before the place where the log ends
-abbrev pub records_before : ℕ → ℕ → List ℕ → List Change
+abbrev pub records_before : ℕ → ℕ → List ℕ → List StoreChange
 records_before node tail bytes = records_or_none (records_of node (take tail bytes ++ 0 ∷ []))
 
-abbrev pub body_length : Change → ℕ
+abbrev pub body_length : StoreChange → ℕ
 body_length c = body_size c.body
 
 -- the bytes of a log that its records take
@@ -34,7 +34,7 @@ abbrev pub within_room : Option ℕ → ℕ → Bool
 within_room None n = false
 within_room (Some room) n = nat_le n room
 
-abbrev pub records_found : ℕ → List ℕ → List Change
+abbrev pub records_found : ℕ → List ℕ → List StoreChange
 records_found node image = if slice_index image 0 == 237 then records_or_none (records_of node image) else []
 
 -- the bytes of a record behind its gate
@@ -68,11 +68,11 @@ reads_for None = 0
 reads_for (Some body) = 1
 
 -- the records that an opening reads: all, or those before the first damaged one
-abbrev pub records_up_to : ℕ → List ℕ → Result (List Change) ℕ → List Change
+abbrev pub records_up_to : ℕ → List ℕ → Result (List StoreChange) ℕ → List StoreChange
 records_up_to node image (Ok rs) = rs
 records_up_to node image (Err place) = records_before node place image
 
-abbrev pub records_read : ℕ → List ℕ → List Change
+abbrev pub records_read : ℕ → List ℕ → List StoreChange
 records_read node image = if slice_index image 0 == 237 then records_up_to node image (records_of node image) else []
 
 -- the device calls that make a log on a blank disk: its first gate is closed before its first byte says that it is a log

@@ -18,10 +18,10 @@ use Rattle.passive_store.specs.declared.index.Slot.{Slot}
 use Rattle.passive_store.specs.declared.log_store.Pending.{Pending}
 use Rattle.passive_store.specs.declared.log_store.Stage.{Stage}
 use Rattle.passive_store.specs.declared.log_store.Stage.TheVariants.{Begun, Written, Synced, Opened, Ended}
-use Rattle.passive_store.specs.Kept.{Change, Kept, Work, Idle, Busy, Unsettled, IsFresh}
+use Rattle.passive_store.specs.Kept.{StoreChange, Kept, Work, Idle, Busy, Unsettled, IsFresh}
 use Rattle.passive_store.specs.Seen.{Seen, disk_seen}
 use Rattle.passive_store.specs.Acts.{DiskCall, Write, Sync}
-use Rattle.passive_store.specs.Log.{log_grows, IsFront, Spells, HalfWritten}
+use Rattle.passive_store.specs.Log.{log_grows, IsFront, SpellsRecord, HalfWritten}
 use Rattle.passive_store.specs.LogLayout.{body_length, log_changes, log_kept, records_before, record_job, used_by}
 
 -- what is seen of a store over a log
@@ -58,10 +58,10 @@ HasEntry entries uid = IsSome (lookup (is_at (uid_cmp uid)) entries)
 abbrev pub pending_body : Pending → Option (List ℕ)
 pending_body p = cond p.removal None (Some (slice_range p.bytes.items 14 (14 + p.length)))
 
-abbrev pub change_of : ℕ → Pending → Change
+abbrev pub change_of : ℕ → Pending → StoreChange
 change_of tail p = record { uid = p.uid; body = pending_body p; mark = tail; wrote = log_grows (pending_body p) }
 
-abbrev pub pending_change : ℕ → Option Pending → Option Change
+abbrev pub pending_change : ℕ → Option Pending → Option StoreChange
 pending_change tail None = None
 pending_change tail (Some p) = Some (change_of tail p)
 
@@ -73,7 +73,7 @@ stage_call tail bytes Synced = Write tail (225 ∷ [])
 stage_call tail bytes Opened = Sync
 stage_call tail bytes (Ended synced) = Sync
 
-abbrev pub staged : ℕ → List ℕ → Change → Stage → Work
+abbrev pub staged : ℕ → List ℕ → StoreChange → Stage → Work
 staged tail bytes c Begun = Busy c 0 (record_job tail bytes)
 staged tail bytes c Written = Busy c 1 (Sync ∷ Write tail (225 ∷ []) ∷ Sync ∷ [])
 staged tail bytes c Synced = Busy c 2 (Write tail (225 ∷ []) ∷ Sync ∷ [])
@@ -110,7 +110,7 @@ pub record IsIndex (index : BTreeMap Uid (Option Slot)) (kept : Kept) (tail : �
 pub record IsPendingOf (node tail : ℕ) (kept : Kept) (p : Pending) : Type 0 where
   pub bytes : List ℕ
   pub is : p.bytes.items ≡ bytes ++ 0 ∷ []
-  pub spells : Spells node bytes p.uid (pending_body p)
+  pub spells : SpellsRecord node bytes p.uid (pending_body p)
   pub size : length bytes ≡ 14 + p.length
   pub long : body_length (change_of tail p) ≡ p.length
   pub fresh : IsFresh (change_of tail p) kept
@@ -119,7 +119,7 @@ pub record IsPendingOf (node tail : ℕ) (kept : Kept) (p : Pending) : Type 0 wh
 pub record IsRecordOf (node : ℕ) (items : List ℕ) (uid : Uid) (removal : Bool) (size : ℕ) : Type 0 where
   pub bytes : List ℕ
   pub is : items ≡ bytes ++ 0 ∷ []
-  pub spells : Spells node bytes uid (cond removal None (Some (slice_range items 14 (14 + size))))
+  pub spells : SpellsRecord node bytes uid (cond removal None (Some (slice_range items 14 (14 + size))))
   pub long : length bytes ≡ 14 + size
   pub empty : removal ≡ true → size ≡ 0
 

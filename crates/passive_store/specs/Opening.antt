@@ -10,7 +10,7 @@ use Rattle.passive_store.specs.declared.index.Slot.{Slot}
 use Rattle.passive_store.specs.declared.opening.Found.{Found}
 use Rattle.passive_store.specs.declared.store.StoreRefusal.{StoreRefusal}
 use Rattle.passive_store.specs.declared.store.StoreRefusal.TheVariants.{Failed, Stopped, Full, Damaged, OutOfMemory}
-use Rattle.passive_store.specs.Kept.{Change, Kept, Stands, IsDamagedFrom}
+use Rattle.passive_store.specs.Kept.{StoreChange, Kept, Stands, IsDamagedFrom}
 use Rattle.passive_store.specs.Log.{IsFront}
 use Rattle.passive_store.specs.LogLayout.{log_kept, log_layout, records_before, used_by, body_length}
 use Rattle.passive_store.specs.LogState.{IsIndex, slot_at}
@@ -83,7 +83,7 @@ IsReadied old new end =
 
 -- Whatever the images of a disk stood for, they stand for it at each moment of this stretch of time, and behind it.
 pub record IsKeptThrough (node : ℕ) (old new : Told) : Type 0 where
-  pub mapped : (told : ℕ) (kept : Kept) (changes : List Change) → Holds (Stands log_layout node told kept changes) (contents old)
+  pub mapped : (told : ℕ) (kept : Kept) (changes : List StoreChange) → Holds (Stands log_layout node told kept changes) (contents old)
       → Passes (Stands log_layout node told kept changes) old new
   -- and a damaged disk stays damaged at its place
   pub unmapped : (place : ℕ) → Holds (IsDamagedFrom log_layout node place) (contents old)

@@ -12,7 +12,7 @@ use Rattle.passive_store.specs.declared.store.Progress.{Progress}
 use Rattle.passive_store.specs.declared.store.StoreRefusal.{StoreRefusal}
 use Rattle.passive_store.specs.declared.store.StoreRefusal.TheVariants.{Full, Damaged, OutOfMemory}
 use Rattle.passive_store.specs.Acts.{DiskCall, CallTold, CallsTold, settling_call}
-use Rattle.passive_store.specs.Kept.{Change, Kept, Layout, Work, Idle, IsFresh, Stands, IsDamagedFrom, IsOverfull, IsRefusedIn}
+use Rattle.passive_store.specs.Kept.{StoreChange, Kept, Layout, Work, Idle, IsFresh, Stands, IsDamagedFrom, IsOverfull, IsRefusedIn}
 use Rattle.passive_store.specs.Kept.{IsRefusedAfter, LeavesKept, StandsThrough, HasJob, NextTold, Ran, IsJobOf, changes_in, doubt_in}
 use Rattle.passive_store.specs.Kept.{change_in, is_unsettled, is_synced, calls_left, job_left, settling_of, settling_calls}
 use Rattle.passive_store.specs.Kept.{settling_before, settling_due, settled, finds_room, calls_due, reads_due, progress_at, end_of_store}
@@ -115,7 +115,7 @@ abbrev pub asked : Uid → Option (List ℕ) → Asked
 asked uid body = record { uid = uid; body = body }
 
 -- the change that it makes, whose record has this number
-abbrev pub change_asked : Layout → Asked → ℕ → Change
+abbrev pub change_asked : Layout → Asked → ℕ → StoreChange
 change_asked layout ask mark = record { uid = ask.uid; body = ask.body; mark = mark; wrote = layout.grows ask.body }
 
 -- whether it finds room
@@ -291,7 +291,7 @@ pub record Opens (tells obeys : Bool) (layout : Layout) (node : ℕ) (result : R
   pub stands : IsTrue tells → IfOk result (λ s. LeavesKept layout node s.more s.kept Idle new.told)
   -- whatever the images stood for, they go on standing for it at each moment of the opening
   pub moments : IsTrue tells
-      → (told : ℕ) (then : Kept) (changes : List Change) → Holds (Stands layout node told then changes) (contents old.told)
+      → (told : ℕ) (then : Kept) (changes : List StoreChange) → Holds (Stands layout node told then changes) (contents old.told)
       → EachMoment (Stands layout node told then changes) old.told new.told
   pub overfull : IsTrue tells
       → (then : Kept) → Holds (IsOverfull layout node then) (contents old.told) → EachMoment (IsOverfull layout node then) old.told new.told

@@ -28,7 +28,7 @@ use Rattle.epl_syntax.specs.Edentype.{Edentype}
 use Rattle.epl_syntax.specs.Meaning.{Turned, rep_of, type_of, first_values, values_from}
 use Rattle.passive_store.specs.declared.store.Pick.{Pick}
 use Rattle.passive_store.specs.declared.store.Pick.TheVariants as pick
-use Rattle.journal.specs.Change.{Change, body, removal, kept_of}
+use Rattle.journal.specs.EjectChange.{EjectChange, body, removal, kept_of}
 use Rattle.journal.specs.declared.event.StartEnd.{StartEnd}
 use Rattle.journal.specs.declared.event.StartEnd.TheVariants as start_end
 use Rattle.journal.specs.declared.event.RequestEnd.{RequestEnd}
@@ -95,7 +95,7 @@ module _ (those : Uid → Bool) where
     at = λ v other. ap deciding (eject-on_eject u v (on_active (turned p t)) s) ∙ go (eq_by_cmp uid_cmp v u) (eject_in s v);
   }
     where
-      one : (it : Option Active) (queued : List ℕ) (kept : Option (List ℕ)) (doubt : Option Change)
+      one : (it : Option Active) (queued : List ℕ) (kept : Option (List ℕ)) (doubt : Option EjectChange)
           → deciding (Some (on_active (turned p t) (record { active = it; queued = queued; kept = kept; doubt = doubt })))
           ≡ (option_map part_of it, queued)
       one None queued kept doubt = refl
@@ -141,7 +141,7 @@ module _ (those : Uid → Bool) where
   same-gone u s on = same-item s (eject_in s u) _ (λ e is.
       same-cond s (is_there e) s (turned_away u status.Gone s) (same-here s) (same-turned_away u status.Gone s on))
 
-  same-asks : (u : Uid) (p : ℕ) (c : Change) (s : Site) → those u ≡ true → SameBut those s (asks_store u p c s)
+  same-asks : (u : Uid) (p : ℕ) (c : EjectChange) (s : Site) → those u ≡ true → SameBut those s (asks_store u p c s)
   same-asks u p c s on = then-node (λ it. record it {
     requests = it.requests ++ record { uid = u; process = Some p; change = c; made = 0 } ∷ [];
   }) s (on_eject u (on_active (on_crew (set_waits p outside))) s) refl (same-eject u (on_active (on_crew (set_waits p outside))) s on)
@@ -270,7 +270,7 @@ module _ (those : Uid → Bool) where
       go (Some p) = then-tells r.uid p (Code why) s left-out on
           (then-node (λ it. record it { requests = rest it.requests }) s s refl (same-here s))
 
-  same-removed : (c : Change) (u : Uid) (s : Site) → those u ≡ true → SameBut those s (removed c u s)
+  same-removed : (c : EjectChange) (u : Uid) (s : Site) → those u ≡ true → SameBut those s (removed c u s)
   same-removed (body bytes) u s on = same-here s
   same-removed removal u s on =
       same-then s (deactivated u s) (turned_away u status.Gone (deactivated u s)) (same-deactivated u s on)

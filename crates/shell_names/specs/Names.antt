@@ -17,15 +17,15 @@ meaning (meant.Results items) = results items
 meaning meant.Nothing = nothing
 
 -- a name and what it stands for, as the map holds them
-abbrev pub Entry : Type 0
-Entry = Vec ℕ Global × Meant
+abbrev pub BoundName : Type 0
+BoundName = Vec ℕ Global × Meant
 
 -- names in a row, each with what it stands for
 abbrev pub Names : Type 0
 Names = List (List ℕ × Meaning)
 
 -- the names of a map
-abbrev pub names_in : List Entry → Names
+abbrev pub names_in : List BoundName → Names
 names_in es = map (λ e. (e.0.items, meaning e.1)) es
 
 -- 2. What a name stands for

@@ -215,10 +215,10 @@ fn logs_become_blocks_or_are_refused(rt: HostRuntime) {
 }
 
 /// Bytes from a place on.
-type Standing = (usize, Bytes);
+type Stood = (usize, Bytes);
 
 /// The heads of what `CHANGES` keeps.
-const HEADS: &[Standing] = &[
+const HEADS: &[Stood] = &[
     (
         0,
         (
@@ -254,7 +254,7 @@ const HEADS: &[Standing] = &[
 
 /// The gates of the disk, and the bodies of what `CHANGES` keeps on the blocks from 1,024 on, each with the number of the
 /// next one.
-const BODIES: &[Standing] = &[
+const BODIES: &[Stood] = &[
     (0, (&[0xED, 0xEB, 0xEA, 0], 1)),
     (1_048_576, (&[0, 0, 0, 0, 0, 1], 1)),
     (1_049_600, (&[4, 2], 1)),
@@ -269,7 +269,7 @@ const BODIES: &[Standing] = &[
 ];
 
 /// Whether all these bytes stand on an image, counted from a place on.
-fn all_stand(image: &[u8], from: usize, all: &[Standing]) -> bool {
+fn all_stand(image: &[u8], from: usize, all: &[Stood]) -> bool {
     for &(place, bytes) in all {
         let place = place.saturating_add(from);
         let count = bytes.0.len().saturating_mul(bytes.1);

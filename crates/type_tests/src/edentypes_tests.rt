@@ -215,14 +215,14 @@ fn calls_fit_or_not(rt: HostRuntime) {
 
 /// What is kept of an Eject: its type's name, its version and its values. And the place of the type of the Eject that starts
 /// from it, with its durable values, if one does.
-type Kept = (
+type KeptRow = (
     &'static [u8],
     u16,
     &'static [Given],
     Option<(usize, &'static [u8])>,
 );
 
-const KEPT: &[Kept] = &[
+const KEPT: &[KeptRow] = &[
     (b"Cell", 1, &[Given::Number { n: 7 }], Some((0, b"[7]"))),
     (b"Cell", 2, &[Given::Number { n: 7 }], None),
     (b"Cell", 1, &[], None),
@@ -285,7 +285,7 @@ fn starts_so(
     rt: &impl Abort,
     alloc: Global,
     types: &Types,
-    &(name, version, values, wanted): &Kept,
+    &(name, version, values, wanted): &KeptRow,
 ) -> bool {
     let kept = rep_of(rt, alloc, name, version, values);
     let found = started(rt, alloc, types, &kept);

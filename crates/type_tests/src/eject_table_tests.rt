@@ -28,7 +28,7 @@ enum Seen {
     Refused,
     Nothing,
     Number { n: u32 },
-    Stands(Standing),
+    Stands(EjectStanding),
     Full(CreateRefusal),
 }
 
@@ -80,9 +80,9 @@ fn created(rt: &impl Abort, table: &mut EjectTable<u32>, alloc: Global, value: u
 /// Notes the Eject where it is not active.
 fn noted(rt: &impl Abort, table: &mut EjectTable<u32>, alloc: Global, uid: Uid) -> Seen {
     match table.find(uid) {
-        Standing::Active => return Seen::Refused,
-        Standing::Passive => table.note_passive(alloc, uid).expect(rt, "memory"),
-        Standing::Absent => table.note_passive(alloc, uid).expect(rt, "memory"),
+        EjectStanding::Active => return Seen::Refused,
+        EjectStanding::Passive => table.note_passive(alloc, uid).expect(rt, "memory"),
+        EjectStanding::Absent => table.note_passive(alloc, uid).expect(rt, "memory"),
     }
     Seen::Done
 }
@@ -90,7 +90,7 @@ fn noted(rt: &impl Abort, table: &mut EjectTable<u32>, alloc: Global, uid: Uid) 
 /// Wakes the Eject where it is passive.
 fn woken(table: &mut EjectTable<u32>, alloc: Global, uid: Uid, value: u32) -> Seen {
     match table.find(uid) {
-        Standing::Passive => match table.wake(alloc, uid, value) {
+        EjectStanding::Passive => match table.wake(alloc, uid, value) {
             Ok(()) => Seen::Done,
             Err(_) => Seen::Nothing,
         },
@@ -101,9 +101,9 @@ fn woken(table: &mut EjectTable<u32>, alloc: Global, uid: Uid, value: u32) -> Se
 /// Forgets the Eject where it is not active.
 fn forgotten(table: &mut EjectTable<u32>, uid: Uid) -> Seen {
     match table.find(uid) {
-        Standing::Active => return Seen::Refused,
-        Standing::Passive => table.forget(uid),
-        Standing::Absent => table.forget(uid),
+        EjectStanding::Active => return Seen::Refused,
+        EjectStanding::Passive => table.forget(uid),
+        EjectStanding::Absent => table.forget(uid),
     }
     Seen::Done
 }
@@ -160,11 +160,11 @@ fn new_table(rt: &impl Abort, alloc: Global, epoch: u32, last: u32) -> Box<Eject
     Box::new(alloc, table).expect(rt, "memory")
 }
 
-const ABSENT: Seen = Seen::Stands(Standing::Absent);
+const ABSENT: Seen = Seen::Stands(EjectStanding::Absent);
 
-const PASSIVE: Seen = Seen::Stands(Standing::Passive);
+const PASSIVE: Seen = Seen::Stands(EjectStanding::Passive);
 
-const ACTIVE: Seen = Seen::Stands(Standing::Active);
+const ACTIVE: Seen = Seen::Stands(EjectStanding::Active);
 
 /// The last serial is given, and there is none past it.
 const SPENT: &[(Step, Seen)] = &[

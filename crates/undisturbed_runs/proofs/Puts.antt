@@ -26,7 +26,7 @@ use Rattle.epl_syntax.specs.Edentype.{Edentype}
 use Rattle.epl_syntax.specs.Meaning.{rep_of, type_of, first_values}
 use Rattle.passive_store.specs.declared.store.Pick.{Pick}
 use Rattle.passive_store.specs.declared.store.Pick.TheVariants as pick
-use Rattle.journal.specs.Change.{Change, body, removal, kept_of}
+use Rattle.journal.specs.EjectChange.{EjectChange, body, removal, kept_of}
 use Rattle.journal.specs.declared.event.Event.{Event}
 use Rattle.journal.specs.declared.event.Event.TheVariants as event
 use Rattle.journal.specs.declared.event.BootEnd.{BootEnd}
@@ -197,7 +197,7 @@ module _ (u : Uid) (q : ℕ) (bytes : List ℕ) where
   left-gone v s h = left-item s (eject_in s v) _
       (λ e is. left-cond (is_there e) s (turned_away v status.Gone s) h (left-turned_away v status.Gone s h)) h
 
-  has-asks : (v : Uid) (p : ℕ) (c : Change) (s : Site) → Has s → Has (asks_store v p c s)
+  has-asks : (v : Uid) (p : ℕ) (c : EjectChange) (s : Site) → Has s → Has (asks_store v p c s)
   has-asks v p c s h = has-on_node _ (on_eject v (on_active (on_crew (set_waits p outside))) s)
       (includes-more _ _ (has-on_eject v (on_active (on_crew (set_waits p outside))) s h))
 
@@ -332,7 +332,7 @@ module _ (u : Uid) (q : ℕ) (bytes : List ℕ) where
       go (Some p) = has-tells r.uid p (Code why) (on_node (λ it. record it { requests = rest it.requests }) s)
           (has-on_node (λ it. record it { requests = rest it.requests }) s h)
 
-  left-removed : (v : Uid) (c : Change) (s : Site) → Has s → Left (removed c v s)
+  left-removed : (v : Uid) (c : EjectChange) (s : Site) → Has s → Left (removed c v s)
   left-removed v (body put) s h = inl h
   left-removed v removal s h = left-turned_away v status.Gone (deactivated v s) (left-deactivated v s h)
 

@@ -14,7 +14,7 @@ use Rattle.eden_model.proofs.LineLaws.{set-same}
 use Rattle.epl_syntax.specs.declared.effect.Answer.{Answer}
 use Rattle.epl_syntax.specs.declared.effect.Answer.TheVariants.{Code}
 use Rattle.passive_store.specs.declared.store.Pick.{Pick}
-use Rattle.journal.specs.Change.{body, kept_of}
+use Rattle.journal.specs.EjectChange.{body, kept_of}
 use Rattle.journal.specs.declared.event.RequestEnd.{RequestEnd}
 use Rattle.journal.specs.declared.event.RequestEnd.TheVariants as end
 use Rattle.journal.specs.World.{Task, Active, Eject, StoreRequest, Site, eject_in, on_node}

@@ -2,7 +2,7 @@
 use Rattle.std.proofs.Common.{◌≡◌, ℕ, [], ◌∷◌, None, Some, take, refl, inl}
 use Rattle.eden_model.specs.Map.{with_item}
 use Rattle.eden_model.specs.Crew.{least_number}
-use Rattle.journal.specs.Change.{body}
+use Rattle.journal.specs.EjectChange.{body}
 use Rattle.journal.specs.declared.event.Event.TheVariants as event
 use Rattle.journal.specs.declared.event.RequestEnd.TheVariants as end
 use Rattle.journal.specs.declared.event.BootEnd.TheVariants as boot_end

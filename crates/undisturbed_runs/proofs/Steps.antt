@@ -22,7 +22,7 @@ use Rattle.journal.specs.declared.event.StartEnd.{StartEnd}
 use Rattle.journal.specs.declared.event.StartEnd.TheVariants as start_end
 use Rattle.journal.specs.declared.event.RequestEnd.{RequestEnd}
 use Rattle.journal.specs.declared.event.RequestEnd.TheVariants as request_end
-use Rattle.journal.specs.Change.{body}
+use Rattle.journal.specs.EjectChange.{body}
 use Rattle.journal.specs.World.{World, Node, Eject, Site, StoreRequest, node_at, site_at, site_of, eject_in}
 use Rattle.journal.specs.Ejects.{fresh, told, stored_epoch}
 use Rattle.journal.specs.Settling.{first_request, settled, to_settle}

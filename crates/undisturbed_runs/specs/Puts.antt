@@ -10,7 +10,7 @@ use Rattle.eden_model.specs.Crew.{Runs}
 use Rattle.eden_model.specs.Map.{with_item, value_at}
 use Rattle.epl_syntax.specs.Meaning.{rep_of}
 use Rattle.epl_syntax.specs.declared.effect.Answer.TheVariants.{Code}
-use Rattle.journal.specs.Change.{body}
+use Rattle.journal.specs.EjectChange.{body}
 use Rattle.journal.specs.declared.event.Event.TheVariants as event
 use Rattle.journal.specs.declared.event.Shown.TheVariants as shown
 use Rattle.journal.specs.World.{World, StoreRequest, Site, node_at, site_at}

@@ -187,7 +187,7 @@ fn is_so(rt: &impl Abort, alloc: Global, names: &ShellNames, name: &str, ask: As
 
 /// What a name comes to stand for.
 #[derive(Clone, Copy)]
-enum Change {
+enum NameChange {
     /// The one result 5.
     Five,
     /// What is held, of this serial.
@@ -293,26 +293,26 @@ fn is_told(
     alloc: Global,
     names: &mut ShellNames,
     name: &Txt,
-    change: Change,
+    change: NameChange,
 ) -> bool {
     match change {
-        Change::Five => {
+        NameChange::Five => {
             bind_five(rt, alloc, names, name);
             true
         }
-        Change::Hold(serial) => is_held(rt, alloc, names, name, serial),
-        Change::Restrict(k, is_capability) => is_restricted(
+        NameChange::Hold(serial) => is_held(rt, alloc, names, name, serial),
+        NameChange::Restrict(k, is_capability) => is_restricted(
             rt,
             alloc,
             names,
             name,
             (k, is_capability),
         ),
-        Change::Create(status, serial) => {
+        NameChange::Create(status, serial) => {
             is_created(rt, alloc, names, name, (status, maybe_uid(serial)))
         }
-        Change::Ask(number) => is_asked(rt, alloc, names, name, number),
-        Change::Hear(status, is_open) => {
+        NameChange::Ask(number) => is_asked(rt, alloc, names, name, number),
+        NameChange::Hear(status, is_open) => {
             hear(rt, alloc, names, name, status, is_open);
             true
         }
@@ -320,10 +320,15 @@ fn is_told(
 }
 
 /// Changes of names, and then questions about them, each with its name.
-type Row<'a> = (&'a [(&'a str, Change)], &'a [(&'a str, Ask<'a>)]);
+type Row<'a> = (&'a [(&'a str, NameChange)], &'a [(&'a str, Ask<'a>)]);
 
 /// Makes these changes, which are told so.
-fn change_all(rt: &impl Abort, alloc: Global, names: &mut ShellNames, changes: &[(&str, Change)]) {
+fn change_all(
+    rt: &impl Abort,
+    alloc: Global,
+    names: &mut ShellNames,
+    changes: &[(&str, NameChange)],
+) {
     for &(name, change) in changes {
         let is_told = is_told(rt, alloc, names, &txt(rt, alloc, name), change);
         assert!(rt; is_told, "{name} is changed");
@@ -394,7 +399,7 @@ fn names_have_values(rt: HostRuntime) {
 
 /// The later one counts, and another name is as it was.
 const TWO_MEANINGS: &[Row<'static>] = &[(
-    &[("a", Change::Five)],
+    &[("a", NameChange::Five)],
     &[
         ("a", Ask::Value(1, "5")),
         ("a", Ask::Capability(0, None)),
@@ -410,11 +415,11 @@ fn of_two_meanings_the_later_counts(rt: HostRuntime) {
 
 const COMMANDS: &[Row<'static>] = &[(
     &[
-        ("h", Change::Hold(9)),
-        ("s", Change::Restrict(2, true)),
-        ("v", Change::Restrict(3, false)),
-        ("c", Change::Create(Status::Ok, Some(4))),
-        ("d", Change::Create(Status::Full, None)),
+        ("h", NameChange::Hold(9)),
+        ("s", NameChange::Restrict(2, true)),
+        ("v", NameChange::Restrict(3, false)),
+        ("c", NameChange::Create(Status::Ok, Some(4))),
+        ("d", NameChange::Create(Status::Full, None)),
     ],
     &[
         ("h", Ask::Capability(0, Some((9, 0xFFFF)))),
@@ -432,21 +437,21 @@ fn commands_bind_their_names(rt: HostRuntime) {
 
 /// Until it is answered.
 const CALLS: &[Row<'static>] = &[
-    (&[("r", Change::Ask(3))], &[("r", Ask::IsFound(false))]),
+    (&[("r", NameChange::Ask(3))], &[("r", Ask::IsFound(false))]),
     (
-        &[("r", Change::Hear(Status::Ok, false))],
+        &[("r", NameChange::Hear(Status::Ok, false))],
         &[("r", Ask::IsFound(false))],
     ),
     (
-        &[("r", Change::Hear(Status::Ok, true))],
+        &[("r", NameChange::Hear(Status::Ok, true))],
         &[("r", Ask::IsFound(true))],
     ),
     (
-        &[("r", Change::Hear(Status::Gone, false))],
+        &[("r", NameChange::Hear(Status::Gone, false))],
         &[("r", Ask::IsFound(true))],
     ),
     (
-        &[("r", Change::Hear(Status::Gone, true))],
+        &[("r", NameChange::Hear(Status::Gone, true))],
         &[("r", Ask::IsFound(false))],
     ),
 ];

@@ -7,8 +7,8 @@ use Rattle.epl_syntax.specs.declared.tree.Name.{Name}
 use Rattle.epl_syntax.specs.declared.tree.Number.{Number}
 use Rattle.epl_syntax.specs.declared.tree.ClassDecl.{ClassDecl}
 use Rattle.epl_syntax.specs.declared.tree.CondDecl.{CondDecl}
-use Rattle.epl_syntax.specs.Tree.{PlacedShape, Beginning, Variable, Local, Parameter, Operation, Process, Change, Upgrade, TypeTree}
-use Rattle.epl_syntax.specs.Tree.{block_of}
+use Rattle.epl_syntax.specs.Tree.{PlacedShape, Beginning, Variable, Local, Parameter, Operation, Process, UpgradeAssignment, Upgrade}
+use Rattle.epl_syntax.specs.Tree.{TypeTree, block_of}
 use Rattle.epl_syntax.specs.declared.rule.Broken.{Broken}
 use Rattle.epl_syntax.specs.declared.rule.Rule.TheVariants.{UnknownName, BadLimit}
 use Rattle.epl_syntax.specs.Rules.First.{broken_if, broken_at}
@@ -83,7 +83,7 @@ abbrev pub names_of_locals : List Local → List Name
 names_of_locals vs = map (λ v. v.name) vs
 
 -- of assignments
-abbrev pub names_of_changes : List Change → List Name
+abbrev pub names_of_changes : List UpgradeAssignment → List Name
 names_of_changes cs = map (λ c. c.name) cs
 
 -- the names of one body: each once, and none that is a variable of the type
@@ -150,7 +150,7 @@ broken_durable None place = broken_at UnknownName place ∷ []
 broken_durable (Some kind) place = []
 
 -- what an assignment of an upgrade breaks
-abbrev pub broken_change : Scope → List Variable → Change → List Broken
+abbrev pub broken_change : Scope → List Variable → UpgradeAssignment → List Broken
 broken_change scope vars change =
     let wanted = durable_named vars change.name.text in
     broken_durable wanted change.name.place ++ broken_expression scope None change.value

@@ -9,7 +9,7 @@ use Rattle.std.proofs.lemmas.Bool.{false≢true}
 use Rattle.std.proofs.lemmas.Map.Lookups.{CmpEqualImpliesEq, exact_pairs, exact_unsigned}
 use Rattle.capability.specs.declared.Uid.{Uid}
 use Rattle.capability.specs.Uids.{uid_cmp}
-use Rattle.block_tables.specs.declared.index.Entry.{Entry}
+use Rattle.block_tables.specs.declared.index.IndexEntry.{IndexEntry}
 use Rattle.block_tables.specs.HeadState.{entry_at, entry_or_none, no_entry}
 use Rattle.block_tables.proofs.index.make_entry.Goals as goal
 
@@ -29,13 +29,13 @@ no_value None h = refl
 no_value (Some x) h = absurd (false≢true (sym h))
 
 -- an empty entry for a uid that had none changes none
-empty_entry : (old : BTreeMap Uid Entry) (uid q : Uid) (b : Bool) → is_at (uid_cmp uid) q ≡ b → tree.get uid_cmp old uid ≡ None →
+empty_entry : (old : BTreeMap Uid IndexEntry) (uid q : Uid) (b : Bool) → is_at (uid_cmp uid) q ≡ b → tree.get uid_cmp old uid ≡ None →
     entry_or_none (cond b (Some no_entry) (tree.get uid_cmp old q)) ≡ entry_at old q
 empty_entry old uid q true e absent = sym (ap (entry_at old) (sym (exact_uid uid q (alike (uid_cmp uid q) e))) ∙ ap
     entry_or_none absent)
 empty_entry old uid q false e absent = refl
 
-entry_stays : (b : Bool) (old : Option Entry) → IsSome old → IsSome (cond b (Some no_entry) old)
+entry_stays : (b : Bool) (old : Option IndexEntry) → IsSome old → IsSome (cond b (Some no_entry) old)
 entry_stays true old h = refl
 entry_stays false old h = h
 

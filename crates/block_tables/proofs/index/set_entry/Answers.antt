@@ -7,24 +7,24 @@ use Rattle.std.specs.BTreeMap.{BTreeMap, Updates}
 use Rattle.capability.specs.declared.Uid.{Uid}
 use Rattle.capability.specs.Uids.{uid_cmp}
 use Rattle.capability.proofs.Uids.{uid_cmp_total}
-use Rattle.block_tables.specs.declared.index.Entry.{Entry}
+use Rattle.block_tables.specs.declared.index.IndexEntry.{IndexEntry}
 use Rattle.block_tables.specs.HeadState.{entry_at, entry_or_none}
 use Rattle.block_tables.proofs.index.set_entry.Goals as goal
 
 -- an insert does not fail where the key is there
-set_or_absent : {E : Type 0} {T : Type 0} (r : Result T E) (old new : BTreeMap Uid Entry) (uid : Uid) (entry : Entry) →
+set_or_absent : {E : Type 0} {T : Type 0} (r : Result T E) (old new : BTreeMap Uid IndexEntry) (uid : Uid) (entry : IndexEntry) →
     IsSome (tree.get uid_cmp old uid) → OnErr r (tree.get uid_cmp old uid ≡ None) → OnOk r (Updates uid_cmp old new uid (Some entry))
     → Updates uid_cmp old new uid (Some entry)
 set_or_absent (Ok x) old new uid entry here absent updates = updates
-set_or_absent (Err e) old new uid entry here absent updates = let no : IsSome {T = Entry} None = subst IsSome absent here in
+set_or_absent (Err e) old new uid entry here absent updates = let no : IsSome {T = IndexEntry} None = subst IsSome absent here in
     absurd (false≢true no)
 
-chosen : (b : Bool) (entry : Entry) (old : Option Entry)
+chosen : (b : Bool) (entry : IndexEntry) (old : Option IndexEntry)
     → entry_or_none (cond b (Some entry) old) ≡ cond b entry (entry_or_none old)
 chosen true entry old = refl
 chosen false entry old = refl
 
-kept_key : (b : Bool) (entry : Entry) (old : Option Entry) → IsSome old → IsSome (cond b (Some entry) old)
+kept_key : (b : Bool) (entry : IndexEntry) (old : Option IndexEntry) → IsSome old → IsSome (cond b (Some entry) old)
 kept_key true entry old h = refl
 kept_key false entry old h = h
 

@@ -1,5 +1,5 @@
 use Rattle.grammar.proofs.FirstBad.{one_value, no_prefix, one_place}
-use Rattle.eden_codec.specs.Spells.{Spells}
+use Rattle.eden_codec.specs.Spells.{SpellsRep}
 use Rattle.eden_codec.specs.Reading.{rep_at}
 use Rattle.eden_codec.proofs.Whole.{rep_exact, reading_spelled, spelled_reading}
 use Rattle.eden_codec.proofs.OneSpelling.{spelled, spelled_has_form, spelling_is, one_spelling}
@@ -10,9 +10,9 @@ returns c = record {
   spelled = spelled;
   only = spelled_has_form;
   one = one_spelling;
-  own = one_value Spells rep_at rep_exact;
-  apart = no_prefix Spells rep_at rep_exact;
+  own = one_value SpellsRep rep_at rep_exact;
+  apart = no_prefix SpellsRep rep_at rep_exact;
   computed = spelling_is;
-  place = one_place Spells;
+  place = one_place SpellsRep;
   read = λ bytes r. (reading_spelled bytes r, spelled_reading bytes r);
 }

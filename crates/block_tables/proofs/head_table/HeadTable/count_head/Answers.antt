@@ -1,11 +1,12 @@
 use Rattle.std.proofs.Common.{◌≤◌, sym, subst, refl}
-use Rattle.block_tables.specs.declared.index.Entry.{Entry}
+use Rattle.block_tables.specs.declared.index.IndexEntry.{IndexEntry}
 use Rattle.block_tables.proofs.Slots.{few_others, heads_join_from}
 use Rattle.block_tables.proofs.head_table.HeadTable.count_head.Goals as goal
 
 pub joined_entry-joined-requires : goal.joined_entry-joined-requires
 joined_entry-joined-requires c =
-    subst (λ (e : Entry). e.others ≤ 65536) (sym c.find_entry-entry.ensures) (few_others c.args.self.now c.args.head.uid c.requires.heads)
+    subst (λ (e : IndexEntry). e.others ≤ 65536) (sym c.find_entry-entry.ensures)
+      (few_others c.args.self.now c.args.head.uid c.requires.heads)
 
 pub returns-then-late-clause-heads : goal.returns-then-late-clause-heads
 returns-then-late-clause-heads c =

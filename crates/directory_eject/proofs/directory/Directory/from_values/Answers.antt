@@ -5,7 +5,7 @@ use Rattle.eden_value.specs.View.{datum, datums}
 use Rattle.eden_value.specs.declared.value.Value.{Value}
 use Rattle.epl_syntax.specs.Directory.{are_entries}
 use Rattle.epl_syntax.specs.Simple.{argument, items_in}
-use Rattle.directory_eject.specs.View.{Entry, names_in, held_in, vars_of}
+use Rattle.directory_eject.specs.View.{DirectoryEntry, names_in, held_in, vars_of}
 use Rattle.directory_eject.proofs.Stored.{AreStored, HasFirst, AreOfKinds, one_more, are_stored, are_lists, all_there}
 use Rattle.directory_eject.proofs.directory.Directory.from_values.Goals as goal
 
@@ -20,7 +20,7 @@ stored_here ds names held kinds condition n h =
     subst (λ (p : List Datum × List Datum). AreStored p.0 p.1) (λ j. (sym n j, sym h j)) (are_stored ds kinds condition)
 
 all_here : (ds names held : List Datum) → AreOfKinds ds → are_entries ds ≡ true → names ≡ items_in (argument 0 ds)
-    → held ≡ items_in (argument 1 ds) → (es : List Entry) (i : ℕ) → HasFirst es i names held → length names ≤ i → vars_of es ≡ ds
+    → held ≡ items_in (argument 1 ds) → (es : List DirectoryEntry) (i : ℕ) → HasFirst es i names held → length names ≤ i → vars_of es ≡ ds
 all_here ds names held kinds condition n h es i has end =
     all_there ds kinds condition es i (subst (λ (p : List Datum × List Datum). HasFirst es i p.0 p.1) (λ j. (n j, h j)) has)
     (subst (λ l. length l ≤ i) n end)

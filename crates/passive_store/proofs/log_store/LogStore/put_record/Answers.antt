@@ -7,7 +7,7 @@ use Rattle.std.proofs.lemmas.Result.{err_from_is_err_and}
 use Rattle.eden_disk.specs.Told.{contents, EachMoment}
 use Rattle.eden_disk.proofs.Held.{moments_join, moments_weaker, obeyed_more}
 use Rattle.eden_disk.specs.Calls.{End, Fine, DeviceCalls, Obeyed}
-use Rattle.passive_store.specs.Kept.{Kept, Change, settling_of, job_left, end_of_store, changes_begun, Busy, Stands, Ran, changes_in}
+use Rattle.passive_store.specs.Kept.{Kept, StoreChange, settling_of, job_left, end_of_store, changes_begun, Busy, Stands, Ran, changes_in}
 use Rattle.passive_store.specs.Kept.{change_in, is_busy, doubt_in, settled, settling_calls, calls_left, work_finished, kept_finished}
 use Rattle.passive_store.specs.Kept.{work_changed, kept_changed, IsAnyOf}
 use Rattle.passive_store.specs.Acts.{DiskCall, AllTold, CallsTold}
@@ -29,7 +29,7 @@ returns-in_err-settle_log-clause-changes g c =
     let w = c.args.self.now.work in
     let s : Kept = state_kept g.D.Disk.told c.args.self.now in
     let body : Option (List ℕ) = Some (slice_range c.args.record_bytes.items 14 (14 + c.args.length)) in
-    let new : Change = record { uid = c.args.uid; body = body; mark = 0; wrote = log_grows body } in
+    let new : StoreChange = record { uid = c.args.uid; body = body; mark = 0; wrote = log_grows body } in
     let p = err_from_is_err_and c.from_residual.result c.from_residual.ensures.1 in
     rw (p.1, p.2) (record {
       mark = 0;
@@ -56,7 +56,7 @@ returns-in_err-start-clause-changes g c =
     let w = c.args.self.now.work in
     let s : Kept = state_kept g.D.Disk.told c.args.self.now in
     let body : Option (List ℕ) = Some (slice_range c.args.record_bytes.items 14 (14 + c.args.length)) in
-    let new : Change = record { uid = c.args.uid; body = body; mark = 0; wrote = log_grows body } in
+    let new : StoreChange = record { uid = c.args.uid; body = body; mark = 0; wrote = log_grows body } in
     let p = err_from_is_err_and c.from_residual-in_err-start.result c.from_residual-in_err-start.ensures.1 in
     rw (p.1, p.2, c.in_err-start.ensures.only) (record {
       mark = 0;
@@ -83,7 +83,7 @@ returns-clause-changes g c =
     let w = c.args.self.now.work in
     let s : Kept = state_kept g.D.Disk.told c.args.self.now in
     let body : Option (List ℕ) = Some (slice_range c.args.record_bytes.items 14 (14 + c.args.length)) in
-    let new : Change = record { uid = c.args.uid; body = body; mark = c.settle_log.new.self.tail; wrote = log_grows body } in
+    let new : StoreChange = record { uid = c.args.uid; body = body; mark = c.settle_log.new.self.tail; wrote = log_grows body } in
     let job : List DiskCall = record_job c.settle_log.new.self.tail c.args.record_bytes.items in
     let busy : c.start.new.self.work ≡ Busy new 0 job = c.in_ok-start.ensures.work in
     let mid : Kept = state_kept g.D.Disk.told c.settle_log.new.self in

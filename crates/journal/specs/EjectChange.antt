@@ -2,11 +2,11 @@
 use Rattle.std.specs.Prelude.{ℕ, List, Option, None, Some}
 
 -- bytes are put, or what is kept is removed
-pub data Change : Type 0 where
-  body : List ℕ → Change
-  removal : Change
+pub data EjectChange : Type 0 where
+  body : List ℕ → EjectChange
+  removal : EjectChange
 
 -- the bytes that are kept after a change
-abbrev pub kept_of : Change → Option (List ℕ)
+abbrev pub kept_of : EjectChange → Option (List ℕ)
 kept_of (body bytes) = Some bytes
 kept_of removal = None
