@@ -18,7 +18,7 @@ use Rattle.agenda.specs.declared.Agenda.{Agenda}
 abbrev pub uids_of : Index → List Uid
 uids_of i = map (λ e. e.0) i.uids.entries
 
--- and of all three
+-- the Ejects of the three indices of an agenda
 abbrev pub indices_of : Agenda → Indices
 indices_of a = record { wake = uids_of a.wake; start = uids_of a.start; run = uids_of a.run }
 
@@ -27,13 +27,13 @@ abbrev pub entry_if : Bool → Option Bool
 entry_if true = Some true
 entry_if false = None
 
--- whether the key of a process of an Eject comes behind
+-- whether the key of this Eject and this process comes behind the last one
 abbrev pub comes : Behind → Uid → ℕ → Bool
 comes All u q = true
 comes (Past v p) u q = is_lt (ordering_then (uid_cmp v u) (nat_cmp p q))
 comes Nothing u q = false
 
--- it is this Eject
+-- there is an Eject, and it is this one
 abbrev pub is_it : Option Uid → Uid → Bool
 is_it o u = with_item o (λ v. same_uid v u) false
 
@@ -41,7 +41,7 @@ is_it o u = with_item o (λ v. same_uid v u) false
 abbrev pub wake_keys_but : ℕ → Option Uid → List Uid → List Key
 wake_keys_but station worked us = flat_map (λ u. key_unless (is_it worked u) (activity station 2 u 0)) us
 
--- the key of a turn of the store, where a request waits
+-- the key of a turn of the store, where it has a request
 abbrev pub store_key : ℕ → Bool → List Key
 store_key station true = activity station 5 no_uid 0 ∷ []
 store_key station false = []

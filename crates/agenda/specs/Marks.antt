@@ -11,11 +11,11 @@ pub record Marks : Type 0 where
   pub start : Uid → Bool
   pub run : Uid → Bool
 
--- by the node's parts
+-- which Ejects may do so by the node's parts
 abbrev pub marks_of : Parts → Marks
 marks_of n = record { wake = may_wake n; start = λ u. may_start (body_at n u); run = λ u. may_run (body_at n u) }
 
--- the indices have exactly those
+-- the indices have exactly the Ejects that are marked
 pub record HasMarks (a : Indices) (t : Marks) : Type 0 where
   pub wake : Indexes a.wake t.wake
   pub start : Indexes a.start t.start
@@ -29,7 +29,7 @@ marked those new old = record {
   run = λ v. cond (those v) (new.run v) (old.run v);
 }
 
--- all but these Ejects may do the same
+-- all Ejects but these may do the same as before
 pub record MayBut (those : Uid → Bool) (n new : Parts) : Type 0 where
   pub wake : (v : Uid) → those v ≡ false → may_wake new v ≡ may_wake n v
   pub start : (v : Uid) → those v ≡ false → may_start (body_at new v) ≡ may_start (body_at n v)

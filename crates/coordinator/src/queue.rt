@@ -78,7 +78,6 @@ impl Queue {
         remove_from(&mut self.calls, &mut self.classes, call);
     }
 
-    /// For how many numbers and for how many classes there is room now.
     /// The numbers of the calls, in order.
     pub fn into_numbers(self) -> Vec<u32>
         ensures { result.items ≡ map (λ i. i.call) self }

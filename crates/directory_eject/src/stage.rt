@@ -1,7 +1,6 @@
 //! What is left to do of an operation, and how one begins.
 ghost use Rattle.std.specs.Prelude.{◌≡◌, IfOk, true};
 ghost use Rattle.eden_value.specs.View.{datums};
-ghost use Rattle.eden_model.specs.Map.{same_text};
 ghost use Rattle.epl_syntax.specs.declared.types.Native.TheVariants as types;
 ghost use Rattle.epl_syntax.specs.Natives.{first_stage};
 ghost use Rattle.epl_syntax.specs.Simple.{argument, text_in, cap_in};
@@ -9,6 +8,7 @@ ghost use Rattle.directory_eject.specs.Stages.{stage_of, are_taken};
 
 use capability::Cap;
 use eden_value::{Items, Txt, Value};
+use epl_syntax::is_called;
 use std::alloc::{AllocError, Global};
 
 /// What is left to do of an operation of a directory.
@@ -24,12 +24,6 @@ pub enum Stage {
     Tells,
     /// The operation returned, or the checkpoint of a change was asked for.
     Changed,
-}
-
-fn is_called(operation: &Txt, name: &[u8]) -> bool
-    ensures { result ≡ same_text operation.now name.now }
-{
-    operation.bytes.as_slice() == name
 }
 
 /// The text that stands at a place, the empty one where none does.

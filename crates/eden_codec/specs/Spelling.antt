@@ -21,6 +21,7 @@ option_spelling None = 4 ∷ []
 option_spelling (Some c) = 5 ∷ cap_spelling c
 
 abbrev mutual
+  -- a value: one byte for what it is, from 1 to 6, and what it holds; a list has the number of its items in two bytes
   pub value_spelling : Datum → List ℕ
   value_spelling (number z) = 1 ∷ bytes_high_first 8 (of_z w64 z)
   value_spelling (truth true) = 2 ∷ 1 ∷ []
@@ -29,6 +30,7 @@ abbrev mutual
   value_spelling (cap c) = option_spelling c
   value_spelling (list ds) = 6 ∷ (bytes_high_first 2 (length (items_of ds)) ++ data_spelling ds)
 
+  -- the items of a list, one behind the other
   pub data_spelling : Data → List ℕ
   data_spelling no_data = []
   data_spelling (data_and d ds) = value_spelling d ++ data_spelling ds

@@ -7,15 +7,15 @@ use Rattle.eden_disk.specs.declared.disk.Arm.{Arm}
 use Rattle.eden_disk.specs.declared.disk.Arm.TheVariants.{Fail, Stop}
 use Rattle.eden_disk.specs.Told.{Told, contents, noted, Left, Wrote, Synced, Cut}
 
--- what each disk shows
+-- what each disk shows: its size, whether it has power, and its counts
 pub record Counts : Type 0 where
   pub size : ℕ
   pub power : Bool
-  -- of device calls
+  -- how many device calls there were
   pub clock : ℕ
   pub faults : ℕ
   pub stops : ℕ
-  -- of device calls that found no memory; each of them is a fault too
+  -- how many of them found no memory; each of these is a fault, too
   pub wants : ℕ
 
 -- how a device call ended, or the last of several
@@ -56,8 +56,7 @@ power_after AtStop = false
 abbrev pub WantsAfter : End → ℕ → ℕ → Type 0
 WantsAfter end old new = (new ≡ old) ⊎ ((new ≡ one_more old) × (end ≡ AtFault))
 
--- A device call, on a disk that has power: it raises the count of its answer alone, and the wants. At the last clock it
--- fails.
+-- A device call, on a disk that has power: it raises the clock, the count of its answer alone, and maybe wants. At the last clock it fails.
 pub record DeviceCall (old new : Counts) (end : End) : Type 0 where
   pub size : new.size ≡ old.size
   pub power : new.power ≡ power_after end
@@ -71,8 +70,7 @@ pub record DeviceCall (old new : Counts) (end : End) : Type 0 where
 abbrev pub more_by : ℕ → ℕ → ℕ
 more_by made n = n + min made (2 ^ 64 - 1 - n)
 
--- From this clock on each of so many device calls was counted, unless the last of them failed: so none was made at the last
--- clock.
+-- From this clock on each of so many device calls was counted, unless the last of them failed: so none was made at the last clock.
 abbrev pub IsCounted : ℕ → ℕ → End → Type 0
 IsCounted clock made Fine = made ≤ 2 ^ 64 - 1 - clock
 IsCounted clock made AtFault = Unit {0}
@@ -98,7 +96,7 @@ abbrev pub is_due : Option ℕ → ℕ → Bool
 is_due None clock = false
 is_due (Some due) clock = due == clock
 
--- what falls due behind a request
+-- what falls due once this was asked for at this clock
 abbrev pub armed : Arm → ℕ → Due → Due
 armed (Fail after) clock due = record { failure = Some (clock + after); stop = due.stop }
 armed (Stop after mode) clock due = record { failure = due.failure; stop = Some (clock + after) }

@@ -11,8 +11,8 @@ pub record Imaged : Type 0 where
 abbrev pub reach_of : Fronted → Fronted → ℕ
 reach_of first rest = if nat_lt first.reach (length first.bytes) then first.reach else length first.bytes + rest.reach
 
--- The first part is one of thirty-two of the whole, rounded down, and the second one is the rest. Of neither can more be
--- written than there is.
+-- The first part is one of thirty-two of the whole, rounded down, and the second one is the rest.
+-- Of neither can more be written than there is.
 pub record IsParted (size : ℕ) (first rest : Fronted) : Type 0 where
   pub first_long : length first.bytes ≡ size / 32
   pub rest_long : length rest.bytes ≡ size - size / 32

@@ -1,4 +1,4 @@
--- What a crash may leave in the middle of one device call, and behind it.
+-- What is unsynced in the middle of a write.
 use Rattle.std.specs.Prelude.{ℕ, ◌∷◌}
 use Rattle.eden_disk.specs.Told.{Contents}
 

@@ -14,24 +14,26 @@ StoodBehind (Wrote clock at bytes) m = m < clock
 StoodBehind (Synced clock) m = m < clock
 StoodBehind (Cut clock image) m = m ≤ clock
 
--- in the middle of call m an act was on its way, or done: a write that is on its way has its range unsynced
+-- in the middle of call m an act was done already; a write may be on its way as well, and then its range is unsynced
 abbrev pub StandsIn : Act → ℕ → Type 0
 StandsIn (Wrote clock at bytes) m = clock ≤ m
 StandsIn (Synced clock) m = clock < m
 StandsIn (Cut clock image) m = clock < m
 
+-- in the middle of call m what stood before an act still stood: also in a sync itself, and in the call behind which a cut comes
 abbrev pub StoodIn : Act → ℕ → Type 0
 StoodIn (Wrote clock at bytes) m = m < clock
 StoodIn (Synced clock) m = m ≤ clock
 StoodIn (Cut clock image) m = m ≤ clock
 
--- From contents that stood at a clock on, through these acts, the newest first: a crash behind device call m and
--- before the next may have left this image, and one in the middle of call m.
+-- by the acts, the newest first, since a clock at which these contents stood:
+-- a crash behind device call m and before the next may have left this image
 abbrev pub LeftBehind : Contents → ℕ → List Act → ℕ → List ℕ → Type 0
 LeftBehind c clock [] m image = (clock ≤ m) × Left c image
 LeftBehind c clock (act ∷ acts) m image = ((clock_of act ≤ m) × Left (contents_from c (act ∷ acts)) image)
     ⊎ (StoodBehind act m × LeftBehind c clock acts m image)
 
+-- by the same acts: a crash in the middle of device call m may have left this image
 abbrev pub LeftWithin : Contents → ℕ → List Act → ℕ → List ℕ → Type 0
 LeftWithin c clock [] m image = (clock < m) × Left c image
 LeftWithin c clock (act ∷ acts) m image = (StandsIn act m × Left (contents_from c (act ∷ acts)) image)
@@ -41,9 +43,10 @@ LeftWithin c clock (act ∷ acts) m image = (StandsIn act m × Left (contents_fr
 abbrev pub acts_since : Told → Told → List Act
 acts_since old new = take (length new.acts - length old.acts) new.acts
 
--- the same of a disk, from the moment at which it was handed in
+-- the image may be left by a crash behind device call m and before the next, by what the disk told since it was handed in
 abbrev pub LeftAfter : Told → ℕ → Told → ℕ → List ℕ → Type 0
 LeftAfter old clock new m image = LeftBehind (contents old) clock (acts_since old new) m image
 
+-- the image may be left by a crash in the middle of device call m, by what the disk told since it was handed in
 abbrev pub LeftIn : Told → ℕ → Told → ℕ → List ℕ → Type 0
 LeftIn old clock new m image = LeftWithin (contents old) clock (acts_since old new) m image

@@ -59,15 +59,15 @@ abbrev pub mode_of : Option ArmedStop → ImageMode
 mode_of None = Keep
 mode_of (Some s) = s.mode
 
--- the call is counted
+-- a device call is counted
 abbrev pub counted : Simulated → Simulated
 counted d = record d { counts = record d.counts { clock = one_more d.counts.clock } }
 
--- and then changes the contents
+-- a change of the contents is told
 abbrev pub changed : Act → Simulated → Simulated
 changed act d = record d { told = noted act d.told }
 
--- or is refused
+-- a call that fails: one more fault
 abbrev pub failed : Simulated → Simulated
 failed d = record d { counts = record d.counts { faults = one_more d.counts.faults } }
 
@@ -82,13 +82,13 @@ stopped d = record d {
 abbrev pub without_memory : Simulated → Simulated
 without_memory d = record (failed (counted d)) { counts = record (failed (counted d)).counts { wants = one_more d.counts.wants } }
 
--- What a call leaves by how it ended: a read,
+-- what a read leaves, by how it ended
 abbrev pub after_read : End → Simulated → Simulated
 after_read Fine d = counted d
 after_read AtFault d = failed (counted d)
 after_read AtStop d = stopped (counted d)
 
--- a sync,
+-- what a sync leaves, by how it ended
 abbrev pub after_sync : End → Simulated → Simulated
 after_sync Fine d = changed (Synced (counted d).counts.clock) (counted d)
 after_sync AtFault d = failed (counted d)
@@ -98,8 +98,8 @@ after_sync AtStop d = stopped (counted d)
 abbrev pub written : ℕ → List ℕ → Simulated → Simulated
 written at bytes d = changed (Wrote d.counts.clock at bytes) d
 
--- and a write. One that fails leaves the first half of its bytes, and at the last clock nothing. One that is stopped has
--- written all, and then loses the power.
+-- what a write leaves, by how it ended: one that fails leaves the first half of its bytes, and at the last clock nothing; one that is
+-- stopped has written all, and then loses the power
 abbrev pub after_write : ℕ → List ℕ → End → Simulated → Simulated
 after_write at bytes Fine d = written at bytes (counted d)
 after_write at bytes AtFault d =

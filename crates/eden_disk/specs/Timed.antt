@@ -15,8 +15,7 @@ MayCome c (Wrote clock at bytes) = 1 ≤ clock
 MayCome c (Synced clock) = 1 ≤ clock
 MayCome c (Cut clock image) = Left c image
 
--- From these contents at one clock on, the acts came in order up to another clock, the newest first, each in a call of
--- its own.
+-- From these contents at one clock the acts came in order up to another, the newest first, each write and sync in a call of its own.
 abbrev pub InOrder : Contents → ℕ → List Act → ℕ → Type 0
 InOrder c before [] after = before ≤ after
 InOrder c before (act ∷ acts) after = (clock_of act ≤ after) × MayCome (contents_from c acts) act × InOrder c before acts (clock_before act)

@@ -24,6 +24,7 @@ drawn seed k m = picked (random seed (suc k)) m
 
 -- 2. Lines
 
+-- a piece of a script, as bytes
 abbrev pub Text : Type 0
 Text = List ℕ
 
@@ -51,9 +52,11 @@ crash_text node = codes "crash " ++ decimal node ++ codes "\nrestart " ++ decima
 -- 3. Rounds. A round makes a draw of 16, which chooses what is done, a draw of 6, for a Cell, and, for a Set, a draw of 1,000, for
 -- its value.
 
+-- whether the first draw of a round chooses a Set: the six least of its 16 numbers do
 abbrev pub sets : ℕ → Bool
 sets choice = nat_lt choice 6
 
+-- the lines of a round with this number, by what its draws gave: the choice, the Cell, counted from 1, and the value of a Set
 abbrev pub chosen_text : ℕ → ℕ → ℕ → ℕ → Text
 chosen_text round choice cell value =
     if sets choice then call_text round cell (set_text value)
@@ -86,5 +89,6 @@ creations_text cells = flat_map create_text (range_with_len 1 cells)
 unfoldable pub rounds_text : ℕ → ℕ → Text
 rounds_text seed rounds = flat_map (λ behind. round_text seed (draws_before seed behind) (behind + 1)) (range_with_len 0 rounds)
 
+-- the script of a seed: three nodes with six Cells, 2,000 rounds, and `go 5000` before the end
 abbrev pub script_text : ℕ → Text
 script_text seed = codes "nodes 3\n" ++ creations_text 6 ++ rounds_text seed 2000 ++ codes "go 5000\nend\n"

@@ -13,14 +13,17 @@ abbrev pub Distinct : List ℕ → Type 0
 Distinct [] = Unit {0}
 Distinct (x ∷ xs) = (has x xs ≡ false) × Distinct xs
 
+-- each process of the list is there and waits for this
 abbrev pub AllWait : List (ℕ × Process) → Waiting → List ℕ → Type 0
 AllWait processes w [] = Unit {0}
 AllWait processes w (p ∷ ps) = (waits_at p processes ≡ Some w) × AllWait processes w ps
 
+-- the queue has no process twice, and each that stands there waits for just what it is the queue of
 pub record IsLine (processes : List (ℕ × Process)) (w : Waiting) (line : List ℕ) : Type 0 where
   pub once : Distinct line
   pub wait : AllWait processes w line
 
+-- the entry queue of each monitor is such a queue, and so are the waiters of each condition
 pub record AreLines (crew : Crew) : Type 0 where
   pub entering : (i : ℕ) (it : Monitor) → slice_get crew.monitors i ≡ Some it → IsLine crew.processes (entry (i + 1)) it.entering
   pub waiting : (i : ℕ) (it : Condition) → slice_get crew.conditions i ≡ Some it → IsLine crew.processes (condition i) it.waiters

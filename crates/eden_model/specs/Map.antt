@@ -7,11 +7,12 @@ pub use Rattle.std.specs.FinMap.Entries.{find as value_at, put as put_at, where_
 pub use Rattle.capability.specs.Uids.{uid_cmp}
 use Rattle.capability.specs.declared.Uid.{Uid}
 
--- f of the item, where there is one
+-- f of the item where there is one, else the other
 abbrev pub with_item : {X Y : Type 0} → Option X → (X → Y) → Y → Y
 with_item None f other = other
 with_item (Some x) f other = f x
 
+-- there is no item
 abbrev pub is_none : {X : Type 0} → Option X → Bool
 is_none None = true
 is_none (Some x) = false
@@ -21,11 +22,12 @@ abbrev pub or_else : {X : Type 0} → Option X → Option X → Option X
 or_else None other = other
 or_else (Some x) other = Some x
 
--- the head of a queue, and the rest of it
+-- the head of a queue, if there is one
 abbrev pub first : {X : Type 0} → List X → Option X
 first [] = None
 first (x ∷ xs) = Some x
 
+-- what is behind the head of a queue; an empty one stays empty
 abbrev pub rest : {X : Type 0} → List X → List X
 rest [] = []
 rest (x ∷ xs) = xs

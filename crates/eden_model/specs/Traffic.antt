@@ -16,6 +16,7 @@ pub data Place : Type 0 where
   answered : Status → List Datum → Place
   done : Place
 
+-- a call: its asker, the capability by which it asks, the operation and its arguments, whether it is open, and where it stands
 pub record Call : Type 0 where
   pub asker : Asker
   pub target : Cap
@@ -31,13 +32,16 @@ pub record Traffic : Type 0 where
 
 -- 1. Queues
 
+-- the call of this number, if there is one
 abbrev pub call_at : Traffic → ℕ → Option Call
 call_at t k = value_at nat_cmp k t.calls
 
+-- the station of an asker: 0 for the shell, else the node of its Eject
 abbrev pub asking_station : Asker → ℕ
 asking_station (Shell name) = 0
 asking_station (Eject u p) = u.node
 
+-- the node of the Eject that is called
 abbrev pub target_station : Call → ℕ
 target_station c = c.target.uid.node
 
@@ -47,6 +51,7 @@ goes_by asked asker target a b = (asker == a) && (target == b)
 goes_by (answered s results) asker target a b = (asker == b) && (target == a)
 goes_by _ asker target a b = false
 
+-- the message of call k goes from station a to station b, by where the call stands
 abbrev pub goes : Traffic → ℕ → ℕ → ℕ → Bool
 goes t a b k = with_item (call_at t k) (λ c. goes_by c.place (asking_station c.asker) (target_station c) a b) false
 
@@ -64,12 +69,15 @@ next_message t a b = first (queue t a b)
 
 -- 2. Changes
 
+-- the call of this number is changed, and all else is as it was
 abbrev pub changed_call : ℕ → (Call → Call) → Traffic → Traffic
 changed_call k f t = record t { calls = changed_at nat_cmp k f t.calls }
 
+-- the call stands at this place
 abbrev pub at_place : Place → Call → Call
 at_place place c = record c { place = place }
 
+-- the call is over, and nobody waits for it
 abbrev pub closed : Call → Call
 closed c = record c { open_ = false; place = done }
 
@@ -90,13 +98,14 @@ abbrev pub all_replied : Status → List ℕ → Traffic → Traffic
 all_replied s [] t = t
 all_replied s (k ∷ ks) t = all_replied s ks (replied s [] k t)
 
--- a new call is asked, and answered at once where a status is given
+-- a new call: it is asked, or over at once where a status is given
 abbrev pub new_call : Asker → Cap → List ℕ → List Datum → Option Status → Call
 new_call asker target operation args None =
     record { asker = asker; target = target; operation = operation; args = args; open_ = true; place = asked }
 new_call asker target operation args (Some s) =
     record { asker = asker; target = target; operation = operation; args = args; open_ = false; place = done }
 
+-- the call joins the others under this number, and its request is sent where no status is given
 abbrev pub with_call : ℕ → Asker → Cap → List ℕ → List Datum → Option Status → Traffic → Traffic
 with_call k asker target operation args at_once t = record {
   calls = put_at nat_cmp k (new_call asker target operation args at_once) t.calls;
@@ -105,6 +114,7 @@ with_call k asker target operation args at_once t = record {
 
 -- 3. What closes calls
 
+-- the asker is a process of this Eject
 abbrev pub asks : Uid → Asker → Bool
 asks u (Shell name) = false
 asks u (Eject v p) = same_uid v u
@@ -113,15 +123,17 @@ asks u (Eject v p) = same_uid v u
 abbrev pub orphaned : Uid → Traffic → Traffic
 orphaned u t = record t { calls = each_value (λ c. cond (asks u c.asker) (record c { open_ = false }) c) t.calls }
 
+-- a request or a reply is on its way
 abbrev pub in_transit : Place → Bool
 in_transit asked = true
 in_transit (answered s results) = true
 in_transit _ = false
 
+-- the call goes to this node, or was asked there
 abbrev pub touches : ℕ → Call → Bool
 touches n c = (target_station c == n) || (asking_station c.asker == n)
 
--- a crash of a node: what stands there or goes there is lost
+-- a call once a node has crashed: one to it or from it is closed, and over where it goes there or is on its way
 abbrev pub crashed_call : ℕ → Call → Call
 crashed_call n c = cond (touches n c)
     (record c { open_ = false; place = cond ((target_station c == n) || in_transit c.place) done c.place }) c
@@ -130,10 +142,11 @@ crashed_call n c = cond (touches n c)
 abbrev pub is_link : ℕ → ℕ → ℕ → ℕ → Bool
 is_link a b x y = not (x == y) && (((x == a) && (y == b)) || ((x == b) && (y == a)))
 
+-- asker and target of the call are at the two ends of this link
 abbrev pub on_link : ℕ → ℕ → Call → Bool
 on_link a b c = is_link a b (asking_station c.asker) (target_station c)
 
--- a cut of a link: what is on its way there is lost
+-- a call once a link is cut: one across it is closed, and over where it is on its way
 abbrev pub cut_call : ℕ → ℕ → Call → Call
 cut_call a b c = cond (on_link a b c) (record c { open_ = false; place = cond (in_transit c.place) done c.place }) c
 
@@ -141,9 +154,11 @@ cut_call a b c = cond (on_link a b c) (record c { open_ = false; place = cond (i
 abbrev pub lost : (Call → Bool) → (Call → Call) → Traffic → Traffic
 lost hits f t = record { calls = each_value f t.calls; transit = filter (λ k. not (with_item (call_at t k) hits false)) t.transit }
 
+-- a node has crashed: the calls to it and from it are closed, and their messages are lost
 abbrev pub without_node : ℕ → Traffic → Traffic
 without_node n t = lost (touches n) (crashed_call n) t
 
+-- a link is cut: the calls across it are closed, and their messages are lost
 abbrev pub without_link : ℕ → ℕ → Traffic → Traffic
 without_link a b t = lost (on_link a b) (cut_call a b) t
 
@@ -153,6 +168,7 @@ without_link a b t = lost (on_link a b) (cut_call a b) t
 abbrev pub broken_by_node : ℕ → Call → Bool
 broken_by_node n c = c.open_ && ((target_station c == n) && not (asking_station c.asker == n))
 
+-- the open calls across a link
 abbrev pub broken_by_link : ℕ → ℕ → Call → Bool
 broken_by_link a b c = c.open_ && on_link a b c
 
@@ -169,13 +185,15 @@ shell_name (Eject u p) = None
 abbrev pub names_of : (Call → Bool) → Traffic → List (List ℕ)
 names_of hits t = filter_map (λ e. cond (hits e.1) (shell_name e.1.asker) None) t.calls
 
--- the processes that wait for such a call
+-- the process that made a call, with its Eject; none where the shell did
 abbrev pub waiting_process : Asker → Option (Uid × ℕ)
 waiting_process (Shell name) = None
 waiting_process (Eject u p) = Some (u, p)
 
+-- the processes that made the calls which pass the test, by call number
 abbrev pub processes_of : (Call → Bool) → Traffic → List (Uid × ℕ)
 processes_of hits t = filter_map (λ e. cond (hits e.1) (waiting_process e.1.asker) None) t.calls
 
+-- somebody still waits for the call's answer
 abbrev pub is_open : Call → Bool
 is_open c = c.open_

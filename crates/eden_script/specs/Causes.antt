@@ -48,12 +48,12 @@ abbrev pub ResultFits : Option ℕ → Type 0
 ResultFits None = Unit {0}
 ResultFits (Some k) = Within 1 8 k
 
--- 64 bits, one of them the sign
+-- an integer has 64 bits, one of them the sign
 abbrev pub IntFits : ℤ → Type 0
 IntFits (pos n) = n < 2 ^ 63
 IntFits (negsuc n) = n < 2 ^ 63
 
--- a value that is no list: an integer of 64 bits
+-- an integer has 64 bits; of other values nothing is asked
 abbrev pub PlainFits : Datum → Type 0
 PlainFits (number n) = IntFits n
 PlainFits (truth b) = Unit {0}
@@ -62,22 +62,24 @@ PlainFits (cap c) = Unit {0}
 PlainFits (list ds) = Unit {0}
 
 abbrev mutual
+  -- each integer of an argument has 64 bits, and each result that it refers to is from 1 to 8
   pub WrittenFits : WrittenArg → Type 0
   WrittenFits (plain d) = PlainFits d
   WrittenFits (named r) = ResultFits r.result
   WrittenFits (several gs) = RowFits gs
 
+  -- so it is with every argument in a row
   pub RowFits : Row → Type 0
   RowFits no_more = Unit {0}
   RowFits (and_more g gs) = WrittenFits g × RowFits gs
 
--- a byte
+-- the byte of `garble` is from 0 to 255
 abbrev pub HowFits : WrittenMode → Type 0
 HowFits keep = Unit {0}
 HowFits lose = Unit {0}
 HowFits (garble b) = Within 0 255 b
 
--- the numbers of a command, where there are so many nodes
+-- each number of a command is in its range, where there are so many nodes
 abbrev pub Fits : ℕ → WrittenCommand → Type 0
 Fits most (create name n t) = Within 1 most n
 Fits most (hold name n e s) = Within 1 most n × Within 1 4294967295 e × Within 1 4294967295 s
@@ -94,7 +96,7 @@ Fits most (fail n k) = Within 1 most n × Within 1 1000000 k
 Fits most (stop n k how) = Within 1 most n × Within 1 1000000 k × HowFits how
 Fits most finish = Unit {0}
 
--- the numbers of a line, where there are so many nodes, 0 before `nodes`
+-- each number of a line is in its range, where there are so many nodes, 0 before `nodes`
 abbrev pub LineFits : ℕ → Line → Type 0
 LineFits most idle = Unit {0}
 LineFits most (nodes n) = Within 1 8 n
@@ -105,11 +107,13 @@ LineFits most unended = Unit {0}
 -- ## Names
 
 abbrev mutual
+  -- the names that an argument refers to, from left to right, each as often as it stands there
   pub names_in : WrittenArg → List (List ℕ)
   names_in (named r) = r.name ∷ []
   names_in (several gs) = names_of gs
   names_in (plain d) = []
 
+  -- those of all arguments in a row, in their order
   pub names_of : Row → List (List ℕ)
   names_of no_more = []
   names_of (and_more g gs) = names_in g ++ names_of gs
@@ -121,7 +125,7 @@ uses (does (restrict name r mask)) = r.name ∷ []
 uses (does (walk name r path)) = r.name ∷ []
 uses _ = []
 
--- the name that a line introduces
+-- the name that a line introduces, if it introduces one
 abbrev pub brings : Line → List (List ℕ)
 brings (does (create name n t)) = name ∷ []
 brings (does (hold name n e s)) = name ∷ []
@@ -130,7 +134,7 @@ brings (does (restrict name r mask)) = name ∷ []
 brings (does (walk name r path)) = name ∷ []
 brings _ = []
 
--- the types that a line refers to
+-- the names of the types that a line refers to
 abbrev pub types : Line → List (List ℕ)
 types (does (create name n t)) = t ∷ []
 types _ = []
@@ -180,14 +184,14 @@ TypePasses _ seen body i = Unit {0}
 
 -- ### Parts
 
--- Whether the line i of a part, counted from 0, passes the test that a cause stands for. Of an Edentype without `endtype`
--- only the bytes and lengths of its lines are tested.
+-- Whether the line i of an Edentype without `endtype`, counted from 0, passes the test that a cause stands for:
+-- only its bytes and its length are tested.
 abbrev pub UnclosedPasses : ScriptCause → List (List ℕ) → ℕ → Type 0
 UnclosedPasses BadByte lines i = list_all is_printable (line_at lines i) ≡ true
 UnclosedPasses LongLine lines i = length (line_at lines i) ≤ 4096
 UnclosedPasses _ lines i = Unit {0}
 
--- the same of any part
+-- Whether the line i of a part, counted from 0, passes the test that a cause stands for.
 abbrev pub Passes : ScriptCause → Seen → Part → ℕ → Type 0
 Passes c seen (line bytes) i = LinePasses c seen bytes
 Passes c seen (declaration body) i = TypePasses c seen body i
@@ -220,7 +224,7 @@ Tells seen (line bytes) l = LineTells seen bytes l
 Tells seen (declaration body) l = (t : TypeTree) × (l ≡ declares t) × Declares seen.types body t
 Tells seen (unclosed lines) l = l ≡ unended
 
--- a part that passes all tests, and what it says
+-- the part passes all tests, and says this
 pub record IsSaid (seen : Seen) (part : Part) (l : Line) : Type 0 where
   pub passes : (i : ℕ) (c : ScriptCause) → Passes c seen part i
   pub tells : Tells seen part l

@@ -10,7 +10,7 @@ pub record IsFirstLine (bytes line rest : List ℕ) : Type 0 where
   pub clean : list_all is_no_feed line ≡ true
   pub split : (bytes ≡ line ++ 10 ∷ rest) ⊎ ((bytes ≡ line) × (rest ≡ []))
 
--- the first part of the bytes is an Edentype with its end, or they are the lines of one without
+-- the first part of the bytes is this Edentype with its end, and these bytes make the other parts; or all are the lines of one without
 abbrev pub IsDeclaration : List ℕ → Option (Bor (List ℕ) × Bor (List ℕ)) → Type 0
 IsDeclaration bytes (Some found) =
     (parts_of (lines_of bytes) ≡ declaration found.0.now ∷ parts_of (lines_of found.1.now)) × (8 ≤ length found.0.now)

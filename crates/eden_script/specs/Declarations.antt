@@ -24,7 +24,7 @@ pub record Types : Type 0 where
 abbrev pub native_alone : Types
 native_alone = record { native = native_types; declared = [] }
 
--- one more at the end
+-- the types with one more declared, behind the others
 abbrev pub with_declared : Types → TypeTree → Types
 with_declared types t = record { native = types.native; declared = types.declared ++ t ∷ [] }
 
@@ -32,11 +32,11 @@ with_declared types t = record { native = types.native; declared = types.declare
 abbrev pub types_in : TypeList → Types
 types_in types = record { native = types.native; declared = map type_tree types.declared }
 
--- the names of all of them
+-- the names of all types, the native ones first
 abbrev pub type_names : Types → List (List ℕ)
 type_names types = map native_name types.native ++ map (λ t. t.name.text) types.declared
 
--- blanks and line feeds part the tokens of a text
+-- a blank or a line feed, which part the tokens of a text
 abbrev pub is_space : ℕ → Bool
 is_space b = b == 32 || b == 10
 
@@ -48,7 +48,7 @@ name_place text = 8 + length (take_while is_space (drop 8 text))
 abbrev pub name_at : List ℕ → ℕ → List ℕ
 name_at text place = take_while is_name_byte (drop place text)
 
--- the place and the bytes of the name of a text's type, where the text begins with `edentype` and a name
+-- of a text that begins with `edentype`: the place and the bytes of its type's name, where a blank or line feed and a name come next
 abbrev pub declared_name : List ℕ → Option (ℕ × List ℕ)
 declared_name text =
     if nat_lt 8 (name_place text) && is_upper (name_at text (name_place text))

@@ -26,16 +26,16 @@ line_flaw i (bytes ∷ lines) =
 abbrev pub place_flaw : Seen → Option Place
 place_flaw seen = if seen.ended then Some (0, AfterEnd) else (if seen.nodes == 0 then None else Some (0, Misplaced))
 
--- the flaw of a name that was found, with its place
+-- the flaw of the name that was found at a place, if it is one of those that are known
 abbrev pub name_flaw' : List (List ℕ) → List ℕ → Option (ℕ × List ℕ) → Option Place
 name_flaw' known text None = None
 name_flaw' known text (Some found) = if is_among known found.1 then Some (line_of_place text found.0, DoubledName) else None
 
--- a name of a type that is there
+-- the flaw of a text whose type has the name of one that is there
 abbrev pub name_flaw : Types → List ℕ → Option Place
 name_flaw types text = name_flaw' (type_names types) text (declared_name text)
 
--- on an earlier line, or on the same one by an earlier test
+-- on an earlier line, or on the same one by a test that is not later
 abbrev pub is_earlier : Place → Place → Bool
 is_earlier a b = nat_lt a.0 b.0 || (a.0 == b.0 && nat_le (rank a.1) (rank b.1))
 
@@ -45,7 +45,7 @@ earlier None b = b
 earlier (Some a) None = Some a
 earlier (Some a) (Some b) = if is_earlier a b then Some a else Some b
 
--- what may be found of an Edentype's text before it is read as one
+-- the first flaw of an Edentype's text that is found before it is read as one
 abbrev pub outer_flaw : Seen → List ℕ → Option Place
 outer_flaw seen text = earlier (line_flaw 0 (lines_of text)) (earlier (place_flaw seen) (name_flaw seen.types text))
 

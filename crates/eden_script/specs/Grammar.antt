@@ -9,8 +9,8 @@ use Rattle.eden_script.specs.Tree.{row_depth, WrittenCommand, create, hold, call
 use Rattle.eden_script.specs.Tree.{fail, stop}
 use Rattle.eden_script.specs.Tree.{finish, Line, idle, nodes, does, declares, unended}
 
--- one form right behind another
 infixr 30 ◌⋅◌
+-- one form right behind another: the bytes fall into two parts, the first of the one form and the second of the other
 abbrev pub ◌⋅◌ : (List ℕ → Type 0) → (List ℕ → Type 0) → List ℕ → Type 0
 (P ⋅ Q) bytes = (x y : List ℕ) × P x × Q y × (bytes ≡ x ++ y)
 
@@ -30,7 +30,7 @@ Lower name bytes = (bytes ≡ name) × (is_lower name ≡ true)
 abbrev pub Upper : List ℕ → List ℕ → Type 0
 Upper name bytes = (bytes ≡ name) × (is_upper name ≡ true)
 
--- leading zeros may stand
+-- digits that stand for this number; zeros may lead
 abbrev pub Number : ℕ → List ℕ → Type 0
 Number n bytes = (is_number bytes ≡ true) × (number_of bytes ≡ n)
 
@@ -47,7 +47,7 @@ Refers' (Some k) name = Lower name ⋅ Is (codes ".") ⋅ Number k
 abbrev pub Refers : WrittenRef → List ℕ → Type 0
 Refers r = Refers' r.result r.name
 
--- a number, with its sign
+-- the negative of a number; 0 for 0
 abbrev pub minus : ℕ → ℤ
 minus zero = pos zero
 minus (suc n) = negsuc n
@@ -61,7 +61,7 @@ abbrev pub truth_word : Bool → List ℕ
 truth_word true = codes "true"
 truth_word false = codes "false"
 
--- A name alone that is one of the three words of values stands for that value.
+-- a name alone is none of the three words of values, since such a word stands for its value
 abbrev pub Apart : Option ℕ → List ℕ → Type 0
 Apart None name = is_constant name ≡ false
 Apart (Some k) name = Unit {0}
@@ -81,15 +81,18 @@ Plain (list ds) bytes = ⊥
 
 -- VALUE, and values parted by a comma and a blank
 abbrev mutual
+  -- a value that is no list, a reference in place of one, or at most 256 values between square brackets
   pub Value : WrittenArg → List ℕ → Type 0
   Value (plain d) bytes = Plain d bytes
   Value (named r) bytes = Named r bytes
   Value (several gs) bytes = (Is (codes "[") ⋅ Values gs ⋅ Is (codes "]")) bytes × (size gs ≤ 256)
 
+  -- the values of a row, with a comma and a blank between each two; no bytes where there are none
   pub Values : Row → List ℕ → Type 0
   Values no_more bytes = bytes ≡ []
   Values (and_more g gs) bytes = (Value g ⋅ Behind gs) bytes
 
+  -- the values behind a first one, with a comma and a blank before each
   pub Behind : Row → List ℕ → Type 0
   Behind no_more bytes = bytes ≡ []
   Behind (and_more g gs) bytes = (Is (codes ", ") ⋅ Value g ⋅ Behind gs) bytes
@@ -100,7 +103,7 @@ Mode keep = Is (codes " keep")
 Mode lose = Is (codes " lose")
 Mode (garble b) = Is (codes " garble ") ⋅ Number b
 
--- a crash without a mode loses
+-- such a mode behind a crash; without one the crash loses
 abbrev pub CrashMode : WrittenMode → List ℕ → Type 0
 CrashMode keep bytes = Mode keep bytes
 CrashMode lose bytes = Mode lose bytes ⊎ (bytes ≡ [])
@@ -131,7 +134,7 @@ Holds (cut a b) = a ≢ b
 Holds (join a b) = a ≢ b
 Holds _ = Unit {0}
 
--- a blank line or a comment does nothing
+-- a blank line, which has no bytes, or a comment, which begins with `#`
 abbrev pub Idle : List ℕ → Type 0
 Idle [] = Unit {0}
 Idle (b ∷ bs) = b ≡ 35

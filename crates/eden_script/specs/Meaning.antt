@@ -12,7 +12,7 @@ use Rattle.eden_script.specs.Tree.{and_more, row_of}
 use Rattle.eden_script.specs.Tree.{WrittenCommand, create, hold, call, restrict, walk, turn, go, crash, restart, cut, join, fail, stop}
 use Rattle.eden_script.specs.Tree.{finish}
 
--- the result of a call, counted from 1, or a name alone
+-- the number of a result of a call, counted from 1; none for 0, which is a name alone
 abbrev pub result_of : ℕ → Option ℕ
 result_of zero = None
 result_of (suc k) = Some (suc k)
@@ -21,27 +21,29 @@ result_of (suc k) = Some (suc k)
 abbrev pub reference : List ℕ → ℕ → WrittenRef
 reference name k = record { name = name; result = result_of k }
 
--- a reference of the code
+-- a reference of the code, as it is written
 abbrev pub reference_of : Ref → WrittenRef
 reference_of r = reference r.name r.result
 
 abbrev mutual
+  -- an argument of a call, as it is written; a name with result 0 stands alone
   pub written_arg : Argument → WrittenArg
   written_arg (value.plain d) = plain d
   written_arg (value.named name k) = named (reference name k)
   written_arg (value.several gs) = several (row_from gs)
 
+  -- the items of a list, each as an argument is written, in their order
   pub row_from : Arguments → Row
   row_from value.no_arguments = no_more
   row_from (value.argument_and g gs) = and_more (written_arg g) (row_from gs)
 
--- what a power cut leaves, of the code
+-- a mode of the code, which says what a power cut leaves, as it is written
 abbrev pub written_mode : ImageMode → WrittenMode
 written_mode image.Keep = keep
 written_mode image.Lose = lose
 written_mode (image.Garble b) = garble b
 
--- a command of the code
+-- a command of the code, as it is written
 abbrev pub written_command : Command → WrittenCommand
 written_command (command.Create name n t) = create name n t
 written_command (command.Hold name uid) = hold name uid.node uid.epoch uid.serial
@@ -58,6 +60,6 @@ written_command (command.Fail n k) = fail n k
 written_command (command.Stop n k how) = stop n k (written_mode how)
 written_command command.End = finish
 
--- commands of the code
+-- commands of the code, each as it is written
 abbrev pub written_commands : List Command → List WrittenCommand
 written_commands cs = map written_command cs

@@ -3,11 +3,12 @@ use Rattle.std.specs.Prelude.{ℕ, zero, suc, ◌+◌, ◌==◌, Bool, List, [],
 use Rattle.std.specs.List.{filter}
 use Rattle.std.specs.Str.{bytes_eq}
 
--- Lines end with a line feed; the last may lack it.
+-- a byte in front of the first line; where there is no line, it makes one
 abbrev pub onto : ℕ → List (List ℕ) → List (List ℕ)
 onto b [] = (b ∷ []) ∷ []
 onto b (line ∷ lines) = (b ∷ line) ∷ lines
 
+-- the lines of some bytes, each without the line feed that ends it; the last may lack one, and behind one at the end there is no other
 abbrev pub lines_of : List ℕ → List (List ℕ)
 lines_of [] = []
 lines_of (b ∷ bytes) = if b == 10 then [] ∷ lines_of bytes else onto b (lines_of bytes)
@@ -27,12 +28,13 @@ begins_type bytes = bytes_eq (take 8 bytes) (codes "edentype")
 abbrev pub ends_type : List ℕ → Bool
 ends_type bytes = bytes_eq bytes (codes "endtype")
 
--- the parts that some lines make, and the parts that they make behind the first lines of an Edentype
 abbrev mutual
+  -- the parts of these lines, where the first of them begins a part
   pub parts_of : List (List ℕ) → List Part
   parts_of [] = []
   parts_of (bytes ∷ lines) = if begins_type bytes then parts_behind (bytes ++ 10 ∷ []) lines else line bytes ∷ parts_of lines
 
+  -- the parts where this text of an Edentype has begun: it ends with the next line `endtype`, or is unclosed where none comes
   pub parts_behind : List ℕ → List (List ℕ) → List Part
   parts_behind text [] = unclosed (lines_of text) ∷ []
   parts_behind text (bytes ∷ lines) =
@@ -49,7 +51,7 @@ abbrev pub line_count : List Part → ℕ
 line_count [] = 0
 line_count (p ∷ ps) = length (lines_in p) + line_count ps
 
--- the line so many behind the first, counted from 0
+-- the line so many behind the first; no bytes where there is none
 abbrev pub line_at : List (List ℕ) → ℕ → List ℕ
 line_at [] i = []
 line_at (bytes ∷ lines) zero = bytes

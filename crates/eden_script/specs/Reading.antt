@@ -24,13 +24,14 @@ abbrev pub Reading : Type 0 → Type 0
 Reading A = Result (A × List ℕ) ScriptCause
 
 infixl 10 ◌>>=◌
+-- what reading on makes of a value; a cause stays as it is
 abbrev pub ◌>>=◌ : {A B : Type 0} → Judged A → (A → Judged B) → Judged B
 (Ok x) >>= f = f x
 (Err e) >>= f = Err e
 
 -- ## Words, names and numbers
 
--- what stands behind a word
+-- what stands behind a word, where the bytes begin with it
 abbrev pub behind : List ℕ → List ℕ → Option (List ℕ)
 behind word bytes = if bytes_eq (take (length word) bytes) word then Some (drop (length word) bytes) else None
 
@@ -65,11 +66,11 @@ read_upper bytes = read_while is_name_byte is_upper bytes
 abbrev pub read_digits : List ℕ → Reading (List ℕ)
 read_digits bytes = read_while is_digit is_number bytes
 
--- a number within its bounds
+-- the number of some digits, where it is at most so great
 abbrev pub up_to : ℕ → List ℕ → Option ℕ
 up_to most digits = if nat_le (number_of digits) most then Some (number_of digits) else None
 
--- a number that is not too great, from a least one on
+-- a number that was not too great, where it is at least so great
 abbrev pub at_least : ℕ → Option ℕ → Judged ℕ
 at_least low None = Err BadNumber
 at_least low (Some n) = if nat_le low n then Ok n else Err BadNumber
@@ -80,7 +81,7 @@ within low high digits = at_least low (up_to high digits)
 
 -- ## Texts
 
--- what is found behind a front
+-- the text that was found, with a front before it, and what stands behind it
 abbrev pub with_front : List ℕ → Option (List ℕ × List ℕ) → Option (List ℕ × List ℕ)
 with_front front None = None
 with_front front (Some found) = Some (front ++ found.0, found.1)
@@ -90,7 +91,7 @@ abbrev pub text_and : ℕ → Option (List ℕ × List ℕ) → Option (List ℕ
 text_and b None = None
 text_and b (Some found) = Some (b ∷ found.0, found.1)
 
--- behind the first quote: what stands there, and the bytes behind the last
+-- behind the first quote, right behind a backslash or not: the text up to its last quote, and the bytes behind that, if it is a text
 abbrev pub text_body : Bool → List ℕ → Option (List ℕ × List ℕ)
 text_body escaped [] = None
 text_body true (b ∷ bytes) = if b == 34 || b == 92 then text_and b (text_body false bytes) else None
@@ -113,7 +114,7 @@ read_quoted bytes = read_word (codes "\"") bytes >>= read_text
 
 -- ## References
 
--- a digit behind a point
+-- a point and a digit stand there
 abbrev pub has_result : List ℕ → Bool
 has_result bytes = (slice_index bytes 0 == 46) && is_digit (slice_index bytes 1)
 
@@ -131,7 +132,7 @@ abbrev pub result_within : List ℕ → Judged ℕ → Judged WrittenRef
 result_within name (Err e) = Err e
 result_within name (Ok k) = Ok (record { name = name; result = Some k })
 
--- a reference whose number is from 1 to 8
+-- a reference; the result that it names, if it names one, is from 1 to 8
 abbrev pub reference : List ℕ × Option (List ℕ) → Judged WrittenRef
 reference (name, None) = Ok (record { name = name; result = None })
 reference (name, Some digits) = result_within name (within 1 8 digits)
@@ -168,7 +169,7 @@ constant word =
     else (if bytes_eq word (codes "none") then Some (plain (cap None))
     else None))
 
--- a reference to the result of this number
+-- a reference to the result of this number, if that is in its range and not 0
 abbrev pub result_value' : List ℕ → Option ℕ → Maybe
 result_value' name None = None
 result_value' name (Some k) = if k == 0 then None else Some (named (record { name = name; result = Some k }))
@@ -227,7 +228,7 @@ added (Some gs) (Some g) = Some (gs ++ g ∷ [])
 abbrev pub read_close : List ℕ → Option (List WrittenArg) → List ℕ → Reading (Option (List WrittenArg))
 read_close close so_far bytes = read_word close bytes >>= λ rest. Ok (so_far, rest)
 
--- what is read behind a comma, or else
+-- what is read on behind a comma, if one was found, or else the other reading
 abbrev pub more_by : Option (List ℕ) → Reading (Option (List WrittenArg)) → (List ℕ → Reading (Option (List WrittenArg)))
     → Reading (Option (List WrittenArg))
 more_by None else_ then_ = else_
@@ -240,12 +241,12 @@ more_values value close (suc n) so_far bytes =
     more_by (behind (codes ", ") bytes) (read_close close so_far bytes)
     (λ rest. value rest >>= λ x. more_values value close n (added so_far x.0) x.1)
 
--- no values, or else
+-- no values, if what closes them was found, or else the other reading
 abbrev pub closed_by : Option (List ℕ) → Reading (Option (List WrittenArg)) → Reading (Option (List WrittenArg))
 closed_by None else_ = else_
 closed_by (Some rest) else_ = Ok (Some [], rest)
 
--- values up to and with what closes them, at most so many and one
+-- values up to and with what closes them, at most one more than so many
 abbrev pub read_values : (List ℕ → Reading Maybe) → List ℕ → ℕ → List ℕ → Reading (Option (List WrittenArg))
 read_values value close most bytes =
     closed_by (behind close bytes) (value bytes >>= λ x. more_values value close most (added (Some []) x.0) x.1)
@@ -255,7 +256,7 @@ abbrev pub listed : Option (List WrittenArg) → Maybe
 listed None = None
 listed (Some gs) = Some (several (row_of gs))
 
--- a list where it begins, or else
+-- a list, if its beginning was found, or else the other reading
 abbrev pub list_by : Option (List ℕ) → Reading Maybe → (List ℕ → Reading Maybe) → Reading Maybe
 list_by None else_ then_ = else_
 list_by (Some rest) else_ then_ = then_ rest
@@ -299,7 +300,7 @@ abbrev pub garbled : Option ℕ → Option WrittenMode
 garbled None = None
 garbled (Some b) = Some (garble b)
 
--- a mode is none where its byte is out of its range
+-- a mode, with the blank before; none where its byte is out of its range
 abbrev pub read_mode : List ℕ → Judged (Option WrittenMode)
 read_mode bytes =
     if bytes_eq bytes (codes " keep") then Ok (Some keep)
@@ -362,11 +363,11 @@ read_crash most bytes =
 abbrev pub read_restart : ℕ → List ℕ → Judged WrittenCommand
 read_restart most bytes = read_last_digits bytes >>= λ d. within 1 most d >>= λ node. Ok (restart node)
 
--- two stations of a link differ
+-- the digits of two stations, which have to differ
 abbrev pub two_stations : List ℕ × List ℕ → Judged (List ℕ × List ℕ)
 two_stations words = if number_of words.0 == number_of words.1 then Err BadForm else Ok words
 
--- two stations
+-- the two stations of a link, which differ
 abbrev pub read_stations : ℕ → List ℕ → Judged (ℕ × ℕ)
 read_stations most bytes =
     read_two_digits bytes >>= λ words. two_stations words >>= λ words.
@@ -391,7 +392,7 @@ read_stop most bytes =
     read_digits_and (codes " ") bytes >>= λ d. read_digits d.1 >>= λ k. read_mode k.1 >>= λ how.
     within 1 most d.0 >>= λ node. within 1 1000000 k.0 >>= λ after. in_range how >>= λ how. Ok (stop node after how)
 
--- what is read behind a word, or else
+-- what is read behind a word, if it was found, or else the other reading
 abbrev pub when : Option (List ℕ) → (List ℕ → Judged WrittenCommand) → Judged WrittenCommand → Judged WrittenCommand
 when None read else_ = else_
 when (Some rest) read else_ = read rest
@@ -435,7 +436,7 @@ abbrev pub is_idle : List ℕ → Bool
 is_idle [] = true
 is_idle (b ∷ bytes) = b == 35
 
--- the names of a command that is read
+-- a command that was read, or the first cause by its names
 abbrev pub named_in : Seen → Line → Judged Line
 named_in seen l =
     if not (list_all (is_among seen.names) (uses l)) then Err UnknownName

@@ -17,32 +17,36 @@ pub data WrittenMode : Type 0 where
 
 -- an argument of a call: a value that is no list, what a name stands for, or a list
 mutual
+  -- one argument, before its names are looked up
   pub data WrittenArg : Type 0 where
     plain : Datum → WrittenArg
     named : WrittenRef → WrittenArg
     several : Row → WrittenArg
 
+  -- arguments in a row: those of a call, or the items of a list
   pub data Row : Type 0 where
     no_more : Row
     and_more : WrittenArg → Row → Row
 
--- the values of a list
+-- these arguments in a row
 abbrev pub row_of : List WrittenArg → Row
 row_of [] = no_more
 row_of (g ∷ gs) = and_more g (row_of gs)
 
--- how many they are
+-- how many arguments stand in a row
 abbrev pub size : Row → ℕ
 size no_more = 0
 size (and_more g gs) = suc (size gs)
 
 -- how deep lists stand in one another; a reference counts as no list
 abbrev mutual
+  -- of an argument: 0 where it is no list, and else one more than that of its items
   pub depth : WrittenArg → ℕ
   depth (plain d) = 0
   depth (named r) = 0
   depth (several gs) = suc (row_depth gs)
 
+  -- of arguments in a row: that of the deepest, 0 where there is none
   pub row_depth : Row → ℕ
   row_depth no_more = 0
   row_depth (and_more g gs) = max (depth g) (row_depth gs)

@@ -32,11 +32,12 @@ use Rattle.eden_script.specs.declared.reader.Fault.{Fault}
 use Rattle.eden_script.specs.declared.reader.Fault.TheVariants.{Bad, Memory}
 use Rattle.eden_script.specs.Meaning.{written_arg, written_command}
 
--- What a function returned, seen by view, is what reading gives, unless memory ran out.
+-- it failed for the cause that reading gives, or for want of memory
 abbrev pub Fails : {B : Type 0} → Fault → Judged B → Type 0
 Fails Memory r = Unit {0}
 Fails (Bad cause) r = r ≡ Err cause
 
+-- a value that was returned is, by this view, what reading gives; a failure has the cause that reading gives, or is want of memory
 abbrev pub Gives : {X B : Type 0} → (X → B) → Result X Fault → Judged B → Type 0
 Gives view (Ok x) r = r ≡ Ok (view x)
 Gives view (Err e) r = Fails e r
@@ -55,11 +56,13 @@ plainly v = plain (datum v)
 
 -- the value that an argument without names is
 abbrev mutual
+  -- of one argument; a name in it counts as the absent capability
   pub value_in : WrittenArg → Datum
   value_in (plain d) = d
   value_in (named r) = cap None
   value_in (several gs) = list (data_in gs)
 
+  -- the items of a list, each by its value
   pub data_in : Row → Data
   data_in no_more = no_data
   data_in (and_more g gs) = data_and (value_in g) (data_in gs)
@@ -76,11 +79,11 @@ line_of code.Unended = unended
 abbrev pub seen_of : Seen → Known
 seen_of s = record { types = types_in s.types; nodes = s.nodes; names = s.names; ended = s.ended }
 
--- so many types may be declared yet
+-- the room is how many types may be declared yet
 abbrev pub IsCounted : Seen → Type 0
 IsCounted s = s.room ≡ DECLARED_LIMIT - declared_count (seen_of s)
 
--- and so many behind a part
+-- how many types may be declared behind a part, of so many before it
 abbrev pub room_after : ℕ → Line → ℕ
 room_after room (declares t) = room - 1
 room_after room _ = room
@@ -96,19 +99,21 @@ KeepsRules types _ = Unit {0}
 abbrev pub place_of : CodePlace → Place
 place_of p = (p.line, p.cause)
 
--- What a function found of a part, or its first flaw, unless memory ran out.
+-- Fails holds of the line and the cause of a flaw; of want of memory nothing is said
 abbrev pub FailsBy : (ℕ → ScriptCause → Type 0) → Flaw → Type 0
 FailsBy Fails flaw.Memory = Unit {0}
 FailsBy Fails (flaw.At at) = Fails at.line at.cause
 
+-- Says holds of what was found; or there was a flaw, of which Fails holds, or no memory
 abbrev pub Finds : {X : Type 0} → (X → Type 0) → (ℕ → ScriptCause → Type 0) → Result X Flaw → Type 0
 Finds Says Fails (Ok x) = Says x
 Finds Says Fails (Err e) = FailsBy Fails e
 
--- what a function found of one part, and of the first part of some bytes
+-- what a function found of a part: what it says, or its first flaw
 abbrev pub PartFinds : Known → Part → Result CodeLine Flaw → Type 0
 PartFinds seen part found = Finds (λ l. IsSaid seen part (line_of l)) (IsCause seen part) found
 
+-- of the first part of some bytes: what it says, its number of lines and the bytes behind it; or its first flaw
 abbrev pub FirstFinds : Known → List ℕ → Result (CodeLine × ℕ × Bor (List ℕ)) Flaw → Type 0
 FirstFinds seen bytes found = Finds (λ x. FirstSays seen bytes (line_of x.0) x.1 x.2.now) (FirstFails seen bytes) found
 

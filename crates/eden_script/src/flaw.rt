@@ -11,7 +11,7 @@ ghost use Rattle.eden_script.specs.View.{place_of};
 
 use crate::cause::ScriptCause;
 use crate::cut::first_line;
-use crate::reader::is_printable;
+use eden_value::is_printable;
 use std::alloc::AllocError;
 
 /// A line of a part, counted from 0, and a test that it fails.

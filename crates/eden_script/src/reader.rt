@@ -9,6 +9,7 @@ ghost use Rattle.eden_script.specs.Reading as reading;
 ghost use Rattle.eden_script.specs.View.{Gives};
 
 use crate::cause::ScriptCause;
+use eden_value::is_name_byte;
 use std::alloc::{AllocError, AllocFailed};
 
 /// Why reading stops.
@@ -40,27 +41,6 @@ impl<T: Drop> From<AllocFailed<T>> for Fault {
     fn from(_: AllocFailed<T>) -> Fault {
         Fault::Memory
     }
-}
-
-/// Whether a byte is a digit.
-pub fn is_digit(b: u8) -> bool
-    ensures { result ≡ form.is_digit b }
-{
-    b'0' <= b && b <= b'9'
-}
-
-/// Whether a byte is a letter, a digit or an underscore.
-pub fn is_name_byte(b: u8) -> bool
-    ensures { result ≡ form.is_name_byte b }
-{
-    b.is_ascii_alphanumeric() || b == b'_'
-}
-
-/// Whether a byte may stand in a line.
-pub fn is_printable(b: u8) -> bool
-    ensures { result ≡ form.is_printable b }
-{
-    0x20 <= b && b <= 0x7e
 }
 
 /// What stands behind a word.
@@ -109,7 +89,7 @@ fn all_name_bytes(bytes: &[u8]) -> bool
 fn all_digits(bytes: &[u8]) -> bool
     ensures { result ≡ list_all form.is_digit bytes.now }
 {
-    bytes.iter().all(|b| is_digit(*b))
+    bytes.iter().all(|b| b.is_ascii_digit())
 }
 
 fn is_lower(bytes: &[u8]) -> bool
@@ -135,7 +115,7 @@ fn is_number(bytes: &[u8]) -> bool
     ensures { result ≡ form.is_number bytes.now }
 {
     match bytes.first() {
-        Some(b) => is_digit(*b) && all_digits(bytes),
+        Some(b) => b.is_ascii_digit() && all_digits(bytes),
         None => false,
     }
 }
@@ -151,7 +131,7 @@ pub fn name_length(bytes: &[u8]) -> usize
 fn digit_count(bytes: &[u8]) -> usize
     ensures { result ≡ length (take_while form.is_digit bytes.now) }
 {
-    bytes.iter().take_while(|b| is_digit(**b)).count()
+    bytes.iter().take_while(|b| b.is_ascii_digit()).count()
 }
 
 /// A front and what is behind it.

@@ -10,8 +10,8 @@ ghost use Rattle.eden_script.specs.Meaning.{reference_of};
 ghost use Rattle.eden_script.specs.View.{Gives, written, plainly, values_read};
 
 use crate::cause::ScriptCause;
-use crate::reader::{Fault, behind, digits, is_digit, is_printable, lower, up_to, within, word};
-use eden_value::{Txt, Value};
+use crate::reader::{Fault, behind, digits, lower, up_to, within, word};
+use eden_value::{Txt, Value, is_printable};
 use journal::{Arg, Args, Ref};
 use std::alloc::{AllocError, Global};
 
@@ -75,7 +75,7 @@ fn has_result(bytes: &[u8]) -> bool
     ensures { result ≡ reading.has_result bytes.now }
 {
     match bytes {
-        [b'.', digit, ..] => is_digit(*digit),
+        [b'.', digit, ..] => digit.is_ascii_digit(),
         _ => false,
     }
 }
@@ -266,7 +266,7 @@ fn flat(alloc: Global, names: bool, bytes: &[u8]) -> Result<Found<'_>, Fault>
         text_value(alloc, rest)
     } else if *first == b'-' {
         negative_value(rest)
-    } else if is_digit(*first) {
+    } else if first.is_ascii_digit() {
         positive_value(bytes)
     } else {
         named_value(alloc, names, bytes)

@@ -13,6 +13,7 @@ pub record IsText (bytes : List ℕ) : Type 0 where
 
 -- how deep lists nest
 abbrev mutual
+  -- of one value: 0 where it is no list, and else one more than its deepest item
   pub depth : Datum → ℕ
   depth (number n) = 0
   depth (truth b) = 0
@@ -33,6 +34,7 @@ depth_of (d ∷ ds) = max (depth d) (depth_of ds)
 -- What an Eject may hold: texts and lists within their limits, at most so many lists in one another,
 -- and no capability but of an Eject.
 abbrev mutual
+  -- one value; its numbers may be of any size, and the absent capability is one
   pub IsValue : (most_deep : ℕ) → Datum → Type 0
   IsValue most_deep (number n) = Unit {0}
   IsValue most_deep (truth b) = Unit {0}

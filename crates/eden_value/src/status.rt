@@ -19,7 +19,7 @@ pub enum Status {
     Unreachable,
     /// The link was cut or the target's node crashed before the reply was delivered.
     Broken,
-    /// The disk failed, so what was asked was not done.
+    /// The disk failed in what was asked. A change of what is kept may have been made all the same.
     StoreFault,
     /// The bytes that are kept are no representation that fits a type.
     Damaged,

@@ -29,6 +29,7 @@ use Rattle.eden_world.specs.declared.breaks.Waiter.TheVariants as waits
 
 -- 1. Who waits for a call
 
+-- who waits for a call of this asker: the shell, under a name, or a process of an Eject
 abbrev pub waiter_by : Asker → Waiter
 waiter_by (Shell name) = waits.Shell name
 waiter_by (Process u p) = waits.Process u p

@@ -8,11 +8,12 @@ use Rattle.passive_store.specs.Seen.{Seen}
 use Rattle.eden_world.specs.Carried.{CreatesIn}
 use Rattle.eden_world.specs.declared.World.{World as Program}
 
--- how it ended, and the uid of the new Eject, if there is one
+-- the status with which a creation ended
 abbrev pub status_of : Result Uid Status → Status
 status_of (Ok u) = status.Ok
 status_of (Err why) = why
 
+-- the uid of the Eject that was made; none where the creation was refused
 abbrev pub uid_made : Result Uid Status → Option Uid
 uid_made (Ok u) = Some u
 uid_made (Err why) = None

@@ -34,6 +34,7 @@ seen_at seen disk (Some place.Moving) = None
 
 -- 2. The whole
 
+-- the program by what is seen of it: the places and the names by look-up, its types, calls and stations as they are
 abbrev pub in_hand : {T D : Type 0} → (T → Seen) → (D → DiskSeen) → Program T D → InHand
 in_hand seen disk p = record {
   types = p.types;
@@ -43,11 +44,12 @@ in_hand seen disk p = record {
   names = meanings p.names;
 }
 
--- the parts of each node that is up fit together, and it stands at its place
+-- the parts of this node fit together, and its number is that of its place
 pub record IsWholeAt {T D : Type 0} (seen : T → Seen) (n : ℕ) (s : ScheduledNode T D) : Type 0 where
   pub whole : IsWhole (held seen s.node)
   pub number : s.node.number ≡ n
 
+-- every node that is up has parts that fit together, and stands at its own place
 abbrev pub AreWhole : {T D : Type 0} → (T → Seen) → Program T D → Type 0
 AreWhole seen p = (n : ℕ) (s : ScheduledNode _ _) → place_at p n ≡ Some (place.Up s) → IsWholeAt seen n s
 

@@ -14,8 +14,7 @@ abbrev pub first_seen : DiskRun → DiskSeen
 first_seen d = record { counts = d.first; told = d.before; due = d.due }
 
 -- The types of the script, no call and no name; all nodes down with no doubt noted, each with the disk that was handed in for it, whose
--- size
--- is that of its image; and all links joined.
+-- size is that of its image; and all links joined.
 pub record IsFirst (script : Script) (disks : List DiskRun) (h : InHand) : Type 0 where
   pub types : h.types ≡ script.types
   pub seats : EachDisk disks (λ n d. h.seats n ≡ Some (down None (first_seen d)))

@@ -37,6 +37,7 @@ station_in (Some (place.Up s)) = Some s
 station_in (Some (place.Down d doubt)) = None
 station_in (Some place.Moving) = None
 
+-- the node that is up at the place of this number, if one is
 abbrev pub station_at : {T D : Type 0} → Program T D → ℕ → Option (ScheduledNode T D)
 station_at p n = station_in (place_at p n)
 

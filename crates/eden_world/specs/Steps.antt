@@ -71,7 +71,7 @@ Names name m old new = (other : List ℕ) → new.names other ≡ cond (same_tex
 abbrev pub Shows : Entry → ℕ → ℕ → ℕ → Type 0
 Shows e n before after = ((e.node ≡ n) × (e.clock ≡ after)) ⊎ ((e.node ≡ 0) × (e.clock ≡ 0) × (after ≡ before))
 
--- it touched none, and answered no call of the shell
+-- it touched none, and broke no call of the shell
 pub record TouchesNone (e : Entry) : Type 0 where
   pub disk : e.node ≡ 0
   pub clock : e.clock ≡ 0

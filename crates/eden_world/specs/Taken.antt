@@ -20,12 +20,13 @@ pub record Takes {T D : Type 0} (layout : Layout) (seen : T → Seen) (look : D 
   pub goes : Goes layout more w None e (in_hand seen look old) (in_hand seen look new)
   pub agendas : HaveAgendas new
 
--- F holds of each world that a history may have reached, for which the program stood with room for one more entry, and where this key is
--- enabled.
+-- F holds of each world that a history may have reached, for which the program stood with room for one more entry, and where this key
+-- is enabled.
 abbrev pub AtEach : {T D : Type 0} → Bool → Layout → (T → Seen) → (D → DiskSeen) → Program T D → Key → (ℕ → World → Type 0) → Type 0
 AtEach tells layout seen look old key F = (more : ℕ) (w : World) → IsReached w → Stands tells layout seen look old (suc more) w
     → Contains (enabled w) key → F more w
 
+-- in each such world this entry is the turn of the key, from the old program to the new one
 abbrev pub TakesAtEach : {T D : Type 0} → Bool → Layout → (T → Seen) → (D → DiskSeen) → Program T D → Program T D → Key → Entry → Type 0
 TakesAtEach tells layout seen look old new key e = AtEach tells layout seen look old key (λ more w.
     Takes layout seen look old new more w key e)

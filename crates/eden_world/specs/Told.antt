@@ -112,8 +112,7 @@ pub record IsTelling (layout : Layout) (more : ℕ) (key : Option Key) (n clock 
     pub ends : tells_each (filter_map (waiting_at h.mail) left) world ≡ last
 
 -- The loop over the numbers of the calls that broke: from what was in hand at its start, these are left, and these names of the shell's
--- calls
--- were listed. No disk was touched.
+-- calls were listed. No disk was touched.
 pub record Tells (layout : Layout) (start now : InHand) (numbers left : List ℕ) (names : List (List ℕ)) : Type 0 where
   pub on : (more : ℕ) (key : Option Key) (n clock : ℕ) (last : World) → IsTelling layout more key n clock last start numbers
       → IsTelling layout more key n clock last now left

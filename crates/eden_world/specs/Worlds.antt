@@ -35,10 +35,12 @@ DiskStands layout more s noted d =
     ((told : ℕ) × (more ≤ told) × RestStands layout s.number told s noted d.counts.size d.counts.clock d.told)
     ⊎ ((bar : Bar) × (noted ≡ None) × BarStands layout s.number s bar d.counts.size d.counts.clock d.told)
 
+-- A node that is down: none of its Ejects is active or has a queued call, and its disk can be opened or is barred.
 pub record DownStands (layout : Layout) (more : ℕ) (s : Site) (noted : Option Doubt) (d : DiskSeen) : Type 0 where
   pub asleep : IsAsleep s
   pub disk : DiskStands layout more s noted d
 
+-- what stands at a place stands for a site: a node that is up, or the disk of one that is down
 abbrev pub SeatStands : Layout → TypeList → Mail → ℕ → Site → Seat → Type 0
 SeatStands layout ts m more s (up h) = UpStands layout ts m more s h
 SeatStands layout ts m more s (down noted d) = DownStands layout more s noted d
@@ -62,6 +64,7 @@ pub record IsNumber (n : ℕ) : Type 0 where
   pub first : 1 ≤ n
   pub last : n ≤ 8
 
+-- the numbers of the nodes, in ascending order
 abbrev pub eight : List ℕ
 eight = 1 ∷ 2 ∷ 3 ∷ 4 ∷ 5 ∷ 6 ∷ 7 ∷ 8 ∷ []
 

@@ -2,12 +2,11 @@
 ghost use Rattle.std.specs.Prelude.{◌≡◌, IfOk, [], ◌∷◌};
 ghost use Rattle.eden_value.specs.Datum.{number};
 ghost use Rattle.eden_value.specs.View.{datums};
-ghost use Rattle.eden_model.specs.Map.{same_text};
 ghost use Rattle.epl_syntax.specs.Cell as meaning;
 ghost use Rattle.edentypes.specs.View.{stage_of};
 
 use eden_value::{Items, Txt, Value, copy_items};
-use epl_syntax::{Answer, Effect};
+use epl_syntax::{Answer, Effect, is_called};
 use std::alloc::{AllocError, Global};
 
 /// What is left to do of an operation of a Cell.
@@ -27,13 +26,6 @@ pub enum CellStage {
     Kills,
     /// It returns the status of the destroy.
     Killed,
-}
-
-/// Whether an operation has this name.
-fn is_called(operation: &Txt, name: &[u8]) -> bool
-    ensures { result ≡ same_text operation.now name.now }
-{
-    operation.bytes.as_slice() == name
 }
 
 /// The stage of Set with its argument.

@@ -42,24 +42,30 @@ pub record Known : Type 0 where
   pub queued : List ℕ
   pub there : Bool
 
+-- what is known by the Eject that a world has; of none, that it is not active, has no queue and is not there
 abbrev pub known : Option Eject → Known
 known None = record { active = None; queued = []; there = false }
 known (Some e) = record { active = e.active; queued = e.queued; there = is_there e }
 
+-- the active part of an Eject, if it has one
 abbrev pub body_at : Parts → Uid → Option Body
 body_at n u = active_in (n.standing u)
 
+-- the queue that was looked up, empty where none was found
 abbrev pub queue_in : Option (List ℕ) → List ℕ
 queue_in None = []
 queue_in (Some ks) = ks
 
+-- the calls in the queue of an active part; where there is none, those that wait for an activation
 abbrev pub queue_of : Option Body → Option (List ℕ) → List ℕ
 queue_of (Some b) waiting = calls_of b.crew.queued
 queue_of None waiting = queue_in waiting
 
+-- the calls that are queued at an Eject of the node
 abbrev pub queue_at : Parts → Uid → List ℕ
 queue_at n u = queue_of (body_at n u) (value_at uid_cmp u n.waiting)
 
+-- what the parts know of an Eject; it is there where it stands active or passive
 abbrev pub held_of : Parts → Uid → Known
 held_of n u = record { active = option_map active_of (body_at n u); queued = queue_at n u; there = is_some (n.standing u) }
 
@@ -67,6 +73,7 @@ held_of n u = record { active = option_map active_of (body_at n u); queued = que
 abbrev pub HasClass : Traffic → Edentype → Invocation → Type 0
 HasClass t kind i = IsSomeAnd (call_at t i.call) (λ c. i.class ≡ class_of kind c)
 
+-- so has each invocation in the queue of an active part, where there is one
 abbrev pub HasClasses : Traffic → Option Body → Type 0
 HasClasses t None = Unit {0}
 HasClasses t (Some b) = AllByRecursion (HasClass t b.kind) b.crew.queued
@@ -90,5 +97,6 @@ pub record IsStep (reach : ℕ → Bool) (new : Parts) (later : Mail) (s : Site)
   pub allowed : AllowsAt s e
   pub is_at : IsAt new later (site_turn reach e s)
 
+-- the event takes the old parts and calls to the new ones, at each sound site for which the old ones stand
 abbrev pub Steps : (ℕ → Bool) → Parts → Mail → Parts → Mail → Event → Type 0
 Steps reach old m new later e = (s : Site) → IsSoundSite s → IsAt old m s → IsStep reach new later s e

@@ -11,6 +11,7 @@ pub record SameAt (n new : Parts) (v : Uid) : Type 0 where
   pub standing : new.standing v ≡ n.standing v
   pub waiting : value_at uid_cmp v new.waiting ≡ value_at uid_cmp v n.waiting
 
+-- the new parts differ from the old ones in nothing but what they hold of this Eject
 pub record OnlyAt (u : Uid) (n new : Parts) : Type 0 where
   pub node : SameNode n new
   pub others : (v : Uid) → same_uid v u ≡ false → SameAt n new v

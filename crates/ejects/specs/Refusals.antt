@@ -7,6 +7,7 @@ use Rattle.eden_model.specs.Traffic.{Call}
 use Rattle.journal.specs.Deliveries.{misfit}
 use Rattle.ejects.specs.Parts.{Known}
 
+-- the status that refuses a call, if one does: `gone`, then `busy` from 64 queued calls on, then what does not fit an active target
 abbrev pub refusal_of : Call → Known → Option Status
 refusal_of c k = cond (not k.there) (Some status.Gone)
     (cond (not (nat_lt (length k.queued) 64)) (Some status.Busy) (with_item k.active (λ it. misfit it.kind c) None))

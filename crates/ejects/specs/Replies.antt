@@ -28,6 +28,7 @@ abbrev pub IsOut : Option Invocation → Traffic → Type 0
 IsOut None t = Unit {0}
 IsOut (Some i) t = has i.call t.transit ≡ false
 
+-- no message of any of these calls is on its way
 abbrev pub AreOut : Traffic → List ℕ → Type 0
 AreOut t ks = AllByRecursion (λ k. has k t.transit ≡ false) ks
 

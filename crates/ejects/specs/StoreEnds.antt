@@ -49,6 +49,7 @@ takes_eject removes Stopped = false
 
 -- 2. Which request it was
 
+-- whether a change removes the Eject and gives it no new bytes
 abbrev pub is_removal : EjectChange → Bool
 is_removal (body bytes) = false
 is_removal removal = true
@@ -85,6 +86,7 @@ abbrev pub WentAs : Option Body → Uid → Parts → Parts → Mail → Mail �
 WentAs None u old new m later = Vanished u old new m later
 WentAs (Some b) u old new m later = Slept u false b old new m later
 
+-- the Eject went, as an active or as a passive one, by how the old parts hold it
 abbrev pub Went : Uid → Parts → Parts → Mail → Mail → Type 0
 Went u old new m later = WentAs (body_at old u) u old new m later
 

@@ -12,7 +12,7 @@ use Rattle.epl_syntax.specs.declared.rule.Rule.TheVariants.{Doubled}
 use Rattle.epl_syntax.specs.Rules.First.{broken_at}
 use Rattle.epl_syntax.specs.Rules.Scopes.{number_in}
 
--- what an index of texts has at one
+-- what an index by texts has for this one, if it has anything
 abbrev pub at : {V : Type 0} → BTreeMap (Vec ℕ Global) V → List ℕ → Option V
 at m text = get_by (λ k. slice_cmp nat_cmp text k.items) m
 

@@ -16,6 +16,7 @@ refusal_for rule.Nested p = refusal.Nested p
 refusal_for rule.Doubled p = refusal.Doubled p
 refusal_for rule.BadLimit p = refusal.BadLimit p
 
+-- the refusal that tells what is broken, and where
 abbrev pub refusal_of : Broken → CheckRefusal
 refusal_of b = refusal_for b.rule b.place
 

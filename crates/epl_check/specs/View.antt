@@ -25,6 +25,7 @@ abbrev pub seen_of : Option Variable → Option Seen
 seen_of None = None
 seen_of (Some v) = Some (record { kind = shape v.kind.now; monitor = v.monitor })
 
+-- the kinds of an operation's results; a process and an upgrade have none
 abbrev pub results_of : Option (Bor (List WrittenKind)) → Option (List PlacedShape)
 results_of None = None
 results_of (Some kinds) = Some (map written kinds.now)
@@ -33,6 +34,7 @@ results_of (Some kinds) = Some (map written kinds.now)
 abbrev pub types_seen : Name → TypeList → List (List ℕ)
 types_seen own earlier = own.text ∷ names_of earlier
 
+-- the scope that the code's form of one stands for
 unfoldable pub seen : Sight → Scope
 seen s = record {
   locals = map local_of s.locals.items.now;
@@ -50,6 +52,7 @@ passes_at [] i s = true
 passes_at (t ∷ ts) zero s = t s
 passes_at (t ∷ ts) (suc i) s = passes_at ts i s
 
+-- of three truth values the one at a place, counted from 0; behind them it is true
 abbrev pub at_place : ℕ → Truth → Truth → Truth → Truth
 at_place zero first second third = first
 at_place (suc zero) first second third = second
@@ -61,11 +64,12 @@ abbrev pub first_of : ℕ → Option Shape → Option Shape → Option Shape
 first_of zero first this = this
 first_of (suc i) first this = first
 
--- one value of a `return`, of the kind that is wanted at its place, if one is
+-- a kind that is wanted, with its place, or none
 abbrev pub kind_wanted : Option (Bor WrittenKind) → Option PlacedShape
 kind_wanted None = None
 kind_wanted (Some k) = Some (written k.now)
 
+-- what a value of a `return` breaks, by itself and by the kind that is wanted of it, if one is
 abbrev pub broken_value : Scope → Option ℕ → Option PlacedShape → Expression → List Broken
 broken_value scope held None e = broken_expression scope held e
 broken_value scope held (Some k) e = broken_as k.shape scope held e

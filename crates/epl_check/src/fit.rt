@@ -70,7 +70,9 @@ fn fit_joined(left: &Option<Kind>, right: &Option<Kind>, place: u32, first: &mut
 /// An operand's kind and its place.
 #[derive(Clone, Copy)]
 pub(crate) struct Operand<'a> {
+    /// Its kind, or None where that is not known.
     pub kind: &'a Option<Kind>,
+    /// Where its first token stands.
     pub place: u32,
 }
 

@@ -15,7 +15,9 @@ pub(crate) type Numbers = BTreeMap<Vec<u8>, usize>;
 /// What is declared in one list, with the numbers of its names.
 #[derive_where(Clone, Copy)]
 pub(crate) struct Listed<'a, T> {
+    /// What is declared, in order.
     pub items: &'a [T],
+    /// The number of each name among them, counted from 1.
     pub numbers: &'a Numbers,
 }
 

@@ -13,10 +13,15 @@ use epl_syntax::{Binding, CondDecl, LocalDecl, Name, ParDecl, VarDecl, binding_a
 /// The names that a body sees, each list in order of declaration.
 #[derive(Clone, Copy)]
 pub(crate) struct BodyNames<'a> {
+    /// The parameters of an operation or an upgrade; none in a process.
     pub params: &'a [ParDecl],
+    /// The variables of the body itself; none in an upgrade.
     pub locals: &'a [LocalDecl],
+    /// The variables of the type.
     pub vars: &'a [VarDecl],
+    /// The names of its monitors.
     pub monitors: &'a [Name],
+    /// The conditions of all its monitors.
     pub conditions: &'a [CondDecl],
 }
 

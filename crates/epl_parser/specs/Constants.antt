@@ -16,6 +16,7 @@ use Rattle.epl_parser.specs.WrittenKinds.{IsWrittenKind, read_written_kind}
 abbrev pub text_at : List ℕ → Token → List ℕ
 text_at bytes t = stands_for false (drop 1 (bytes_at bytes t))
 
+-- what a variable starts with, where the constant begins with this token
 abbrev pub begins_with : Constant → Token → Beginning
 begins_with c t = record { value = c; place = t.start }
 
@@ -41,6 +42,7 @@ abbrev pub read_kind_in_parens : ℕ → Looker Token PlacedShape
 read_kind_in_parens outer = look_both (look_one outer (the_mark mark.Open))
     (λ u. look_closed 32 outer (the_mark mark.Close) (read_written_kind outer))
 
+-- a constant that has this head, behind its first token t
 abbrev pub read_constant_rest : List ℕ → ℕ → ConstantHead → Token → Looker Token Beginning
 read_constant_rest bytes outer (first.Int n) t = look_here (begins_with (integer n) t)
 read_constant_rest bytes outer first.Minus t = look_mapped (λ n. begins_with (integer n) t) (look_one outer (λ u. negated u.kind))
@@ -49,5 +51,6 @@ read_constant_rest bytes outer (first.Bool b) t = look_here (begins_with (truth 
 read_constant_rest bytes outer first.Absent t = look_here (begins_with absent t)
 read_constant_rest bytes outer first.EmptyList t = look_mapped (λ k. begins_with (empty_list k) t) (read_kind_in_parens outer)
 
+-- a constant with which a variable starts, its tokens at this depth or deeper
 unfoldable pub read_constant : List ℕ → ℕ → Looker Token Beginning
 read_constant bytes outer = look_both (look_one outer (headed constant_head)) (λ h. read_constant_rest bytes outer h.0 h.1)

@@ -20,21 +20,25 @@ use Rattle.epl_parser.specs.Heads.{operator_at, comparison, primary_head}
 use Rattle.epl_parser.specs.WrittenKinds.{IsWrittenKind}
 use Rattle.epl_parser.specs.Constants.{text_at}
 
--- An expression, the depth of a token behind it that goes on with it, and the place of its first token.
+-- An expression, the depth at its end, and the place of its first token. A token behind it that goes on with it is at least one deeper.
 pub record Parsed : Type 0 where
   pub tree : Expression
   pub behind : ℕ
   pub begins : ℕ
 
+-- an operator between two operands: it begins as the left one does, and is as deep at its end as the right one
 abbrev pub joined : Operator → Parsed → Parsed → Parsed
 joined op x y = record { tree = Binary op x.tree y.tree x.begins; behind = y.behind; begins = x.begins }
 
+-- an operator before its operand: it begins with this token, and is as deep at its end as the operand
 abbrev pub prefixed : Prefix → Token → Parsed → Parsed
 prefixed p t x = record { tree = Unary p x.tree t.start; behind = x.behind; begins = t.start }
 
+-- an expression with an index behind it: it begins as before, and is one deeper at its end
 abbrev pub at_index : Parsed → Parsed → Parsed
 at_index x y = record { tree = Index x.tree y.tree x.begins; behind = suc x.behind; begins = x.begins }
 
+-- an operand that begins with this token, and is at this depth at its end
 abbrev pub single : Expression → Token → ℕ → Parsed
 single e t d = record { tree = e; behind = d; begins = t.start }
 
@@ -53,6 +57,7 @@ mutual
     term : {d : ℕ} {ps : List (Token × ℕ)} {x : Parsed} → IsChain bytes outer level.Term d ps x → IsPart bytes outer level.Sum d ps x
     unit : {d : ℕ} {ps : List (Token × ℕ)} {x : Parsed} → IsUnit bytes outer d ps x → IsPart bytes outer level.Term d ps x
 
+  -- operators of a level, each with the part behind it, that go on with an expression; there may be none
   pub data IsMore (bytes : List ℕ) (outer : ℕ) : Level → Parsed → List (Token × ℕ) → Parsed → Type 0 where
     no_more : {l : Level} {x : Parsed} → IsMore bytes outer l x [] x
     more : {l : Level} {ps qs : List (Token × ℕ)} {x y z : Parsed} (t : Token) (op : Operator) → operator_at l t.kind ≡ Some op
@@ -79,6 +84,7 @@ mutual
     indexed : {d : ℕ} {ps qs : List (Token × ℕ)} {x y : Parsed} → IsPrimary bytes outer d ps x → IsIndices bytes outer x qs y
         → IsUnit bytes outer d (ps ++ qs) y
 
+  -- { "[" expr "]" }, behind an operand
   pub data IsIndices (bytes : List ℕ) (outer : ℕ) : Parsed → List (Token × ℕ) → Parsed → Type 0 where
     no_index : {x : Parsed} → IsIndices bytes outer x [] x
     index : {ps qs : List (Token × ℕ)} {x y z : Parsed} (t u : Token) → t.kind ≡ kind.Mark mark.OpenList
@@ -86,8 +92,8 @@ mutual
         → IsIndices bytes outer (at_index x y) qs z
         → IsIndices bytes outer x ((t, max outer (suc x.behind)) ∷ ((ps ++ (u, max outer (suc x.behind)) ∷ []) ++ qs)) z
 
-  -- prim = INT | TEXT | "true" | "false" | "none" | "self" | LOWER | "(" expr ")" | "[" exprs "]" | "list" "(" kind
-  -- ")" | builtin "(" exprs ")"
+  -- prim = INT | TEXT | "true" | "false" | "none" | "self" | LOWER | "(" expr ")" | "[" exprs "]" | "list" "(" kind ")"
+  --     | builtin "(" exprs ")"
   pub data IsPrimary (bytes : List ℕ) (outer : ℕ) : ℕ → List (Token × ℕ) → Parsed → Type 0 where
     int_operand : {d : ℕ} {n : ℤ} (t : Token) → primary_head t.kind ≡ Some (head.Int n)
         → IsPrimary bytes outer d ((t, max outer d) ∷ []) (single (Const_ (integer n) t.start) t d)

@@ -26,6 +26,7 @@ operator_at level.Term (kind.Mark mark.Divide) = Some operator.Divide
 operator_at level.Term (kind.Word word.Mod) = Some operator.Modulo
 operator_at _ _ = None
 
+-- the comparison that a token of this kind is
 unfoldable pub comparison : TokenKind → Option Operator
 comparison (kind.Mark mark.Equal) = Some operator.Equal
 comparison (kind.Mark mark.Different) = Some operator.Different

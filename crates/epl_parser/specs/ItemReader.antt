@@ -25,11 +25,12 @@ use Rattle.epl_parser.specs.StatementReader.{look_in_parens, read_body}
 use Rattle.epl_parser.specs.Items.{with_variable, with_class, with_monitor, with_condition, with_operation}
 use Rattle.epl_parser.specs.Items.{with_process, with_upgrades, without_items, declared, member_head, item_head}
 
--- a name with a small first letter
+-- a value for the kind of names with a small first letter
 unfoldable pub lower_kind : TokenKind → Option (Unit {0})
 lower_kind kind.Lower = Some tt
 lower_kind _ = None
 
+-- a version behind its word, or none
 unfoldable pub read_version : Looker Token (Option Number)
 read_version =
     look_if (the_word word.Version) None (do
@@ -38,6 +39,7 @@ read_version =
 
 module _ (bytes : List ℕ) (turns : ℕ) where
   -- ---- variables and parameters
+  -- a parameter: a name and its kind
   unfoldable pub read_parameter : Looker Token Parameter
   read_parameter = do
     name ← look_one 0 (the_lower bytes)
@@ -45,6 +47,7 @@ module _ (bytes : List ℕ) (turns : ℕ) where
     of_kind ← read_written_kind 0
     look_here (record { name = name; kind = of_kind })
 
+  -- a name, its kind, and the constant that it holds at first
   unfoldable pub read_binding : Looker Token Local
   read_binding = do
     x ← read_parameter
@@ -52,27 +55,34 @@ module _ (bytes : List ℕ) (turns : ℕ) where
     start ← read_constant bytes 0
     look_here (record { name = x.name; kind = x.kind; start = start })
 
+  -- a variable of a body, with the word "var" before it
   unfoldable pub read_local : Looker Token Local
   read_local = do
     look_one 0 (the_word word.Var)
     read_binding
 
+  -- the variables of a body, one behind another
   unfoldable pub read_locals : Looker Token (List Local)
   read_locals = look_row (the_word word.Var) read_local turns []
 
+  -- at least one parameter, with commas between each two
   unfoldable pub read_parameters : Looker Token (List Parameter)
   read_parameters = look_separated 32 0 (the_mark mark.Comma) turns read_parameter
 
+  -- parameters in parentheses, which may be empty
   unfoldable pub read_parameter_list : Looker Token (List Parameter)
   read_parameter_list = look_in_parens 0 read_parameters
 
+  -- at least one kind, with commas between each two
   unfoldable pub read_kinds : Looker Token (List PlacedShape)
   read_kinds = look_separated 32 0 (the_mark mark.Comma) turns (read_written_kind 0)
 
+  -- kinds in parentheses, which may be empty
   unfoldable pub read_results : Looker Token (List PlacedShape)
   read_results = look_in_parens 0 read_kinds
 
   -- ---- items, each behind its first word
+  -- a class: its name and its limit
   unfoldable pub read_class : Looker Token ClassDecl
   read_class = do
     name ← look_one 0 (the_lower bytes)
@@ -95,6 +105,7 @@ module _ (bytes : List ℕ) (turns : ℕ) where
     look_one 0 (the_word word.End)
     look_here (locals, body)
 
+  -- an operation: its name, the rights that it needs, its class, its signature and its code
   unfoldable pub read_operation : Looker Token Operation
   read_operation = do
     name ← look_one 0 (the_upper bytes)
@@ -104,6 +115,7 @@ module _ (bytes : List ℕ) (turns : ℕ) where
     c ← read_code
     look_here (record { name = name; needs = needs; class = class; params = s.0; results = s.1; locals = c.0; body = c.1 })
 
+  -- a process: its name and its code
   unfoldable pub read_process : Looker Token Process
   read_process = do
     name ← look_one 0 (the_upper bytes)
@@ -116,29 +128,35 @@ module _ (bytes : List ℕ) (turns : ℕ) where
     x ← read_binding
     look_here (with_variable (declared durable number x) e)
 
+  -- a condition of the monitor of this number, added to the type
   unfoldable pub read_condition : ℕ → TypeTree → Looker Token TypeTree
   read_condition number e = do
     name ← look_one 0 (the_lower bytes)
     look_here (with_condition (record { name = name; monitor = number }) e)
 
+  -- a part of that monitor that has this head, behind its first word
   abbrev pub read_member_rest : ℕ → TypeTree → MemberHead → Looker Token TypeTree
   read_member_rest number e member.Durable = read_variable true number e
   read_member_rest number e member.Working = read_variable false number e
   read_member_rest number e member.Condition = read_condition number e
 
+  -- a part of that monitor, added to the type
   unfoldable pub read_member : ℕ → TypeTree → Looker Token TypeTree
   read_member number e = do
     h ← look_one 0 (λ t. member_head t.kind)
     read_member_rest number e h
 
+  -- the parts of that monitor, one behind another
   unfoldable pub read_members : ℕ → TypeTree → Looker Token TypeTree
   read_members number e = look_many (λ t. member_head t.kind) (read_member number) turns e
 
+  -- a monitor, which takes the next number, with its parts, up to its end
   unfoldable pub read_monitor : TypeTree → Looker Token TypeTree
   read_monitor e = do
     name ← look_one 0 (the_upper bytes)
     look_closed 32 0 (the_word word.End) (read_members (length e.monitors + 1) (with_monitor name e))
 
+  -- an item that has this head, behind its first word
   abbrev pub read_item_rest : TypeTree → ItemHead → Looker Token TypeTree
   read_item_rest e item.Durable = read_variable true 0 e
   read_item_rest e item.Working = read_variable false 0 e
@@ -153,15 +171,18 @@ module _ (bytes : List ℕ) (turns : ℕ) where
     p ← read_process
     look_here (with_process p e)
 
+  -- an item, added to the type
   unfoldable pub read_item : TypeTree → Looker Token TypeTree
   read_item e = do
     h ← look_one 0 (λ t. item_head t.kind)
     read_item_rest e h
 
+  -- the items of a type, one behind another
   unfoldable pub read_items : TypeTree → Looker Token TypeTree
   read_items e = look_many (λ t. item_head t.kind) read_item turns e
 
   -- ---- upgrades
+  -- an assignment: a name and the expression of its value
   unfoldable pub read_change : Looker Token UpgradeAssignment
   read_change = do
     name ← look_one 0 (the_lower bytes)
@@ -169,6 +190,7 @@ module _ (bytes : List ℕ) (turns : ℕ) where
     value ← read_expression bytes turns 0
     look_here (record { name = name; value = value })
 
+  -- the assignments of an upgrade, one behind another
   unfoldable pub read_changes : Looker Token (List UpgradeAssignment)
   read_changes = look_row (λ t. lower_kind t.kind) read_change turns []
 
@@ -180,6 +202,7 @@ module _ (bytes : List ℕ) (turns : ℕ) where
     look_one 0 (the_word word.End)
     look_here (params, changes)
 
+  -- an upgrade: the version from which it leads, its parameters and assignments
   unfoldable pub read_upgrade : Looker Token Upgrade
   read_upgrade = do
     first ← look_one 0 (the_word word.Upgrade)
@@ -187,10 +210,12 @@ module _ (bytes : List ℕ) (turns : ℕ) where
     c ← read_conversion
     look_here (record { from = from; params = c.0; changes = c.1; place = first.start })
 
+  -- the upgrades of a type, one behind another
   unfoldable pub read_upgrades : Looker Token (List Upgrade)
   read_upgrades = look_row (the_word word.Upgrade) read_upgrade turns []
 
   -- ---- the type
+  -- a type, from "edentype" to "endtype"
   unfoldable pub read_edentype : Looker Token TypeTree
   read_edentype = do
     look_one 0 (the_word word.Edentype)
@@ -201,6 +226,6 @@ module _ (bytes : List ℕ) (turns : ℕ) where
     look_one 0 (the_word word.Endtype)
     look_here (with_upgrades upgrades e)
 
-  -- all the tokens
+  -- a type, of all the tokens
   unfoldable pub read_program : Looker Token TypeTree
   read_program = look_whole read_edentype

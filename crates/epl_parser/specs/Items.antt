@@ -25,24 +25,31 @@ use Rattle.epl_parser.specs.Expressions.{IsExpression}
 use Rattle.epl_parser.specs.Statements.{InParens, IsStatement}
 
 -- ---- what a type has, with one more
+-- a variable more, behind those of the type
 abbrev pub with_variable : Variable → TypeTree → TypeTree
 with_variable v e = record e { vars = e.vars ++ v ∷ [] }
 
+-- a class more, behind its other classes
 abbrev pub with_class : ClassDecl → TypeTree → TypeTree
 with_class c e = record e { classes = e.classes ++ c ∷ [] }
 
+-- a monitor more, whose number is the last
 abbrev pub with_monitor : Name → TypeTree → TypeTree
 with_monitor name e = record e { monitors = e.monitors ++ name ∷ [] }
 
+-- a condition more, behind those of all monitors
 abbrev pub with_condition : CondDecl → TypeTree → TypeTree
 with_condition c e = record e { conditions = e.conditions ++ c ∷ [] }
 
+-- an operation more, behind its other operations
 abbrev pub with_operation : Operation → TypeTree → TypeTree
 with_operation o e = record e { operations = e.operations ++ o ∷ [] }
 
+-- a process more, behind its other processes
 abbrev pub with_process : Process → TypeTree → TypeTree
 with_process p e = record e { processes = e.processes ++ p ∷ [] }
 
+-- the type with these upgrades in place of those that it has
 abbrev pub with_upgrades : List Upgrade → TypeTree → TypeTree
 with_upgrades upgrades e = record e { upgrades = upgrades }
 
@@ -163,6 +170,7 @@ item_head (kind.Word word.Operation) = Some item.Operation
 item_head (kind.Word word.Process) = Some item.Process
 item_head _ = None
 
+-- what a type becomes by an item of this head, whose first word stands before
 abbrev pub ItemRest : List ℕ → TypeTree → ItemHead → Grammar (Placed Token) TypeTree
 -- ( "durable" | "working" ) LOWER ":" kind "=" const
 ItemRest bytes e item.Durable = do

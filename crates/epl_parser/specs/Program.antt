@@ -1,7 +1,7 @@
 -- Which Edentype a text spells, and where a text is refused: by its tokens and the grammar alone.
 use Rattle.std.specs.Prelude.{◌≡◌, ℕ, ◌-◌, ◌<◌, ◌≤◌, List, [], ◌∷◌, length, drop, None, Result, Ok, Err, ◌⊎◌}
 use Rattle.std.specs.List.{AllByRecursion}
-use Rattle.grammar.specs.FirstFault.{SpellsTokens as SpellsShallow, Breaks as BreaksGrammar, Deepens}
+use Rattle.grammar.specs.FirstFault.{Spells as SpellsShallow, Breaks as BreaksGrammar, Deepens}
 use Rattle.epl_syntax.specs.declared.token.ParseRefusal.{ParseRefusal}
 use Rattle.epl_syntax.specs.declared.token.ParseRefusal.TheVariants.{BadToken, TooDeep, OutOfMemory}
 use Rattle.epl_syntax.specs.declared.token.Token.{Token}

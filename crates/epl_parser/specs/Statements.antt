@@ -50,6 +50,7 @@ if_target bytes t kind.Lower = Some (target.Name (name_at bytes t))
 if_target bytes t (kind.Word word.Me) = Some (target.Me t.start)
 if_target bytes t _ = None
 
+-- the target of an invocation that a token is, if it is one
 unfoldable pub the_target : List ℕ → Token → Option Target
 the_target bytes t = if_target bytes t t.kind
 
@@ -129,6 +130,7 @@ PlainRest bytes d _ t = Nowhere
 
 -- A token's depth is the number of statements in which it stands, and of an expression's token that of expressions where it is greater.
 mutual
+  -- a statement: one in which no statements stand, or an "if", a "while" or a "with"
   pub data IsStatement (bytes : List ℕ) : ℕ → List (Token × ℕ) → Statement → Type 0 where
     plain : {d : ℕ} {ps : List (Token × ℕ)} {s : Statement} (h : StatementHead) (t : Token) → statement_head t.kind ≡ Some h
         → PlainRest bytes d h t ps s → IsStatement bytes d ((t, d) ∷ ps) s

@@ -23,8 +23,8 @@ use epl_syntax::{Builtin, Const, Expr, Mark, Operator, Prefix, Token, Word};
 use grammar::Halt;
 use std::alloc::Global;
 
-/// An expression, the depth of a token behind it that goes on with it, and the place of its first
-/// token.
+/// An expression, the depth at its end, and the place of its first token. A token behind it that
+/// goes on with it is at least one deeper.
 #[derive(Drop)]
 pub(crate) struct Found {
     tree: Expr,

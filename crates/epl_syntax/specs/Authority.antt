@@ -22,12 +22,12 @@ use Rattle.epl_syntax.specs.Turns.{values_in}
 use Rattle.epl_syntax.specs.Meaning.{Edentype, Rest, of_native, of_declared, Turned, turn, begin, declared, first_values, values_from}
 use Rattle.epl_syntax.specs.Meaning.{durable_of, durable_from}
 
--- below one of these
+-- the capability is below one of these
 abbrev pub IsBelowOne : Cap → List Cap → Type 0
 IsBelowOne c [] = ⊥
 IsBelowOne c (d ∷ ds) = IsBelow c d ⊎ IsBelowOne c ds
 
--- each of them is
+-- each capability of the first list is below one of the second
 abbrev pub AllBelow : List Cap → List Cap → Type 0
 AllBelow [] ds = Unit {0}
 AllBelow (c ∷ cs) ds = IsBelowOne c ds × AllBelow cs ds
@@ -69,32 +69,33 @@ rest_caps (of_native stage) = stage_caps stage
 rest_caps (of_declared left) = caps_of (values_in left.own)
 
 -- ---- the capabilities in an answer and in an effect
--- a call that did not succeed gives no results
+-- of a reply: those of the results; a call that did not succeed gives none
 abbrev pub reply_caps : Status → List Datum → List Cap
 reply_caps status.Ok results = caps_of results
 reply_caps _ results = []
 
--- those of the results, or the one of a new Eject
+-- of an answer: those of a reply, or the one of a new Eject
 abbrev pub answer_caps : Answer → List Cap
 answer_caps (answer.Reply status results) = reply_caps status results
 answer_caps (answer.Created status c) = caps (cap c)
 answer_caps _ = []
 
--- that of the target, and those of the arguments or the results
+-- of an effect: that of the target, and those of the arguments or the results
 abbrev pub effect_caps : Effect → List Cap
 effect_caps (effect.Invoke target operation args) = target ∷ caps_of args
 effect_caps (effect.Return results) = caps_of results
 effect_caps _ = []
 
 -- ---- the laws
--- what a turn is given: the values of the variables, what is left to do, the answer, and the Eject's own capability
+-- what a turn is given is below what is held: the values of the variables, what is left to do, the answer,
+-- and the Eject's own capability
 pub record AreGiven (held : List Cap) (values : List Datum) (left : Rest) (told : Answer) (u : Uid) : Type 0 where
   pub vars : AllBelow (caps_of values) held
   pub rest : AllBelow (rest_caps left) held
   pub answer : AllBelow (answer_caps told) held
   pub own : IsBelowOne (full u) held
 
--- and what it leaves
+-- and so is what it leaves: the values of the variables, what is left to do, and the effect
 pub record AreLeft (held : List Cap) (t : Turned) : Type 0 where
   pub vars : AllBelow (caps_of t.vars) held
   pub rest : AllBelow (rest_caps t.rest) held
@@ -123,7 +124,7 @@ abbrev pub DurableKeepCaps : Type 0
 DurableKeepCaps = (held : List Cap) (t : Edentype) (vars : List Datum)
     → AllBelow (caps_of vars) held → AllBelow (caps_of (durable_of t vars)) held
 
--- an Eject that starts, by an upgrade or not, has those of its representation and its own
+-- an Eject that starts, by an upgrade or not, has only those of its representation and its own
 abbrev pub StartKeepsCaps : Type 0
 StartKeepsCaps = (held : List Cap) (t : Edentype) (rep : Rep) (me : Uid) (durable : List Datum)
     → durable_from t rep me ≡ Some durable → AllBelow (caps_of rep.values) held → IsBelowOne (full me) held

@@ -31,10 +31,12 @@ pub record Names : Type 0 where
 abbrev pub place_of : List Name → List ℕ → Option ℕ
 place_of names text = position_from (λ n. same_text n.text text) 0 names
 
+-- whether a name was found, and at this place
 abbrev pub is_at : Option ℕ → ℕ → Bool
 is_at None at = false
 is_at (Some i) at = i == at
 
+-- whether a name was not found
 abbrev pub is_nowhere : Option ℕ → Bool
 is_nowhere None = true
 is_nowhere (Some i) = false
@@ -64,11 +66,12 @@ abbrev mutual
   each_of_expression test (ListOf items place) = each_of_expressions test items
   each_of_expression test (Apply builtin args place) = each_of_expressions test args
 
+  -- of the variables in expressions in a row
   pub each_of_expressions : (Sort → Name → Bool) → Expressions → Bool
   each_of_expressions test no_expressions = true
   each_of_expressions test (expression_and e es) = each_of_expression test e && each_of_expressions test es
 
--- of whom an invocation is sent to
+-- of the variable that an invocation is sent to; the Eject itself has no name
 abbrev pub each_of_target : (Sort → Name → Bool) → Target → Bool
 each_of_target test (target.Name name) = test variable name
 each_of_target test (target.Me place) = true
@@ -92,6 +95,7 @@ abbrev mutual
       each_of_target test to && list_all (each_of_expression test) args && test variable status && list_all (test variable) gives
   each_of_statement test (Return results place) = list_all (each_of_expression test) results
 
+  -- of the names in a row of statements
   pub each_of_block : (Sort → Name → Bool) → Statements → Bool
   each_of_block test no_statements = true
   each_of_block test (statement_and s ss) = each_of_statement test s && each_of_block test ss
@@ -115,13 +119,15 @@ binding_at bindings place = with_item (slice_get bindings place) (λ s. s) ByNam
 abbrev pub has_binding : List Binding → Names → Sort → Name → Bool
 has_binding bindings names sort name = is_right names sort name.text (binding_at bindings name.place)
 
+-- in the body of an operation, which sees its parameters and its own variables, the binding of each name is right
 abbrev pub operation_resolved : List Binding → TypeTree → Operation → Bool
 operation_resolved bindings t o = list_all (each_of_statement (has_binding bindings (names_seen t o.params o.locals))) o.body
 
+-- the same of the body of a process, which has no parameters
 abbrev pub process_resolved : List Binding → TypeTree → Process → Bool
 process_resolved bindings t p = list_all (each_of_statement (has_binding bindings (names_seen t [] p.locals))) p.body
 
--- an upgrade sees its parameters and the variables of the type
+-- the same of the assignments of an upgrade, which sees its parameters and the variables of the type
 abbrev pub upgrade_resolved : List Binding → TypeTree → Upgrade → Bool
 upgrade_resolved bindings t u =
     let test = has_binding bindings (names_seen t u.params []) in

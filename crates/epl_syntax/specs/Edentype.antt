@@ -9,7 +9,7 @@ use Rattle.epl_syntax.specs.Outline.{Operation, Slot, Outline}
 use Rattle.epl_syntax.specs.Memory.{value_of_constant}
 use Rattle.epl_syntax.specs.Natives.{native_outline}
 
--- with the tree that its text spells, where it is declared
+-- a type: a native one, or a declared one by the tree that its text spells
 pub data Edentype : Type 0 where
   native : Native → Edentype
   declared : TypeTree → Edentype

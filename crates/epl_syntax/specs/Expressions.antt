@@ -9,7 +9,7 @@ use Rattle.epl_syntax.specs.Operators.{Found, found, before_operand, between, it
 use Rattle.epl_syntax.specs.Memory.{Memory, value_of_constant, value_as}
 
 abbrev mutual
-  -- of one expression
+  -- the value of one expression, or its fault
   pub value_of : Memory → Expression → Found
   value_of m (Const_ value place) = Ok (value_of_constant value)
   value_of m (Name_ name) = value_as m name.text
@@ -20,7 +20,7 @@ abbrev mutual
   value_of m (ListOf items place) = found (values_of m items) list_of
   value_of m (Apply builtin args place) = found (values_of m args) (applied builtin)
 
-  -- of several
+  -- the values of several expressions, or the first fault
   pub values_of : Memory → Expressions → Result (List Datum) FaultCause
   values_of m no_expressions = Ok []
   values_of m (expression_and e es) = found (value_of m e) (λ d. found (values_of m es) (λ ds. Ok (d ∷ ds)))

@@ -100,12 +100,12 @@ abbrev pub filter_slots : Rule → List Slot
 filter_slots r = kept (cap None) caps true ∷ (r.arg ++
     (kept (number (pos 0)) ints true ∷ kept (number (pos 0)) ints true ∷ kept (text []) texts true ∷ saved_slot ∷ []))
 
--- its variables and operations
+-- what is seen of a filter: its variables and operations
 abbrev pub filter_outline : Rule → Outline
 filter_outline r = outline r.name (filter_slots r)
     (of_one_class (codes "Open") 1 (caps ∷ map (λ v. v.kind) r.arg) ∷ of_one_class (codes "Transfer") 2 (ints ∷ []) ∷ [])
 
--- this in the values of the variables
+-- what a filter holds whose variables have these values
 abbrev pub filter : Rule → List Datum → Filter
 filter r vars = let n = length r.arg in record {
   src = cap_in (argument 0 vars);
@@ -116,11 +116,11 @@ filter r vars = let n = length r.arg in record {
   saved = truth_in (argument (n + 4) vars);
 }
 
--- the values of the variables with this
+-- the values of the variables of a filter that holds this
 abbrev pub values_of : Filter → List Datum
 values_of f = cap f.src ∷ (f.arg ++ (number f.got ∷ number f.made ∷ f.last ∷ truth f.saved ∷ []))
 
--- what stored values have to meet: no fewer items than none were handed on, and no more than were taken in
+-- what stored values have to meet: the number of items handed on is at least 0 and at most that of items taken in
 abbrev pub counts_fit : Rule → List Datum → Bool
 counts_fit r vars = let f = filter r vars in int_le (pos 0) f.made && int_le f.made f.got
 
@@ -152,11 +152,11 @@ answers f effect = (values_of f, asked, effect)
 abbrev pub saves : Filter → Stage → Moved
 saves f then_ = (values_of (record f { saved = false }), then_, Checkpoint)
 
--- f where the checkpoint was acknowledged, else trouble
+-- behind a checkpoint: it goes on as saved where that was acknowledged, else the turn ends in the other answer
 abbrev pub saved_so : Filter → Answer → Effect → (Filter → Moved) → Moved
 saved_so f answer otherwise go = cond (is_fine answer) (go (record f { saved = true })) (answers f otherwise)
 
--- the stage before is asked for the next item, while its number is one
+-- the stage before is asked for the next item; trouble where there is none, or where as many were taken in as a number can tell
 abbrev pub asks : Filter → Moved
 asks f = cond (int_eq f.got greatest) (answers f (returns_none trouble))
     (with_item f.src (λ c. (values_of f, asked, asks_for c f.got)) (answers f (returns_none trouble)))
@@ -186,7 +186,7 @@ after_asking r f (an_item item) = takes r f item
 after_asking r f the_end = answers f (returns_none end_code)
 after_asking r f nothing = answers f (returns_none trouble)
 
--- with the stage before, and the argument
+-- it keeps the stage before and the argument
 abbrev pub opened : List Datum → Filter → Filter
 opened args f = record f { src = cap_in (argument 0 args); arg = drop 1 args }
 

@@ -25,11 +25,11 @@ pub record Source : Type 0 where
   pub items : List Datum
   pub saved : Bool
 
--- this in the values of the variables
+-- what is in variables with these values
 abbrev pub source : List Datum → Source
 source vars = record { filled = truth_in (argument 0 vars); items = items_in (argument 1 vars); saved = truth_in (argument 2 vars) }
 
--- the values of the variables with this
+-- the values of variables in which this is
 abbrev pub values_of : Source → List Datum
 values_of s = truth s.filled ∷ list (data_of s.items) ∷ truth s.saved ∷ []
 
@@ -45,7 +45,7 @@ pub data Stage : Type 0 where
 abbrev pub first_stage : List ℕ → List Datum → Stage
 first_stage name args = cond (same_text name (codes "Fill")) (fills (items_in (argument 0 args))) (transfers (number_in (argument 0 args)))
 
--- the item at a position
+-- the item at a position is returned; right behind the last one the end, and elsewhere that it is out of reach
 abbrev pub item_at : List Datum → ℤ → Effect
 item_at items (pos i) = with_item (slice_get items i) returns_item (returns_none (cond (i == length items) end_code out_of_reach))
 item_at items (negsuc i) = returns_none out_of_reach

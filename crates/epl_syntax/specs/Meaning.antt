@@ -1,5 +1,4 @@
--- What the types of a script mean. Those above look at a type, and at what is left to do of a process, by these words
--- alone.
+-- What the types of a script mean. Those above look at a type, and at what is left to do of a process, by these words alone.
 use Rattle.std.specs.Prelude.{ℕ, Bool, true, cond, ◌==◌, ◌&&◌, List, [], ◌++◌, map, Option, None, Some, is_some, IsTrue}
 use Rattle.std.specs.List.{find}
 use Rattle.std.specs.Option.{option_map}
@@ -89,8 +88,7 @@ rep_of t vars = record { type_name = name_of t; version = version_of t; values =
 abbrev pub is_current : Edentype → Rep → Bool
 is_current t rep = (rep.version == version_of t) && (have_shapes rep.values (durable_kinds t) && meets_condition t rep.values)
 
--- the durable values with which an Eject of this type starts: those of the representation, or those that an upgrade makes
--- of them
+-- the durable values with which an Eject of this type starts: those of the representation, or those that an upgrade makes of them
 abbrev pub durable_from : Edentype → Rep → Uid → Option (List Datum)
 durable_from t rep me = cond (is_current t rep) (Some rep.values) (upgraded t rep me)
 
@@ -99,9 +97,8 @@ abbrev pub started_from : List Edentype → Rep → Uid → Option (Edentype × 
 started_from types rep me =
     with_item (type_of types rep.type_name) (λ t. with_item (durable_from t rep me) (λ durable. Some (t, durable)) None) None
 
--- A representation fits: its type is one of these; and its version is that type's, its values are of the kinds of the
--- durable variables and meet the type's condition, or the type has an upgrade from its version that takes its values and
--- does not fault.
+-- A representation fits: its type is one of these; and its version is that type's, its values are of the kinds of the durable variables
+-- and meet the type's condition, or the type has an upgrade from its version that takes its values and does not fault.
 abbrev pub Fits : Rep → List Edentype → Uid → Type 0
 Fits rep types me = IsTrue (is_some (started_from types rep me))
 
@@ -112,12 +109,12 @@ pub data Rest : Type 0 where
   of_native : Stage → Rest
   of_declared : Left → Rest
 
--- an operation begins
+-- what is left to do of an operation at its beginning
 abbrev pub begin : Edentype → List ℕ → List Datum → Rest
 begin (native n) operation args = of_native (first_stage n operation args)
 begin (declared_type t) operation args = of_declared (operation_left t operation args)
 
--- what the declared processes do, in order
+-- what is left to do of the declared processes at their beginning, in order
 abbrev pub declared : Edentype → List Rest
 declared (native n) = []
 declared (declared_type t) = map (λ p. of_declared (process_left p)) t.processes
@@ -133,7 +130,7 @@ abbrev pub turned_as : {R : Type 0} → (R → Rest) → List Datum × R × Effe
 turned_as of t = record { vars = t.0; rest = of t.1; effect = t.2 }
 
 -- A turn of a process of the Eject `me`, up to its next effect: of its type, by the values of all variables, what is left
--- to do, and the answer to the effect before. What is left of a process of another type comes to nothing.
+-- to do, and the answer to the effect before. What is left of a process of another type just ends.
 abbrev pub turn : Edentype → List Datum → Rest → Answer → Uid → Turned
 turn (native n) vars (of_native stage) answer me = turned_as of_native (native_turn n vars stage answer)
 turn (declared_type t) vars (of_declared left) answer me = turned_as of_declared (process_turn t vars left answer me)

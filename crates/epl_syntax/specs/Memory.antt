@@ -34,11 +34,11 @@ pub record Memory : Type 0 where
 abbrev pub is_called : List ℕ → Held → Bool
 is_called name v = same_text v.name name
 
--- a name stands for a variable of the process before one of the Eject
+-- the variable that a name stands for: one of the process before one of the Eject
 abbrev pub held_as : Memory → List ℕ → Option Held
 held_as m name = find (is_called name) (m.own ++ m.shared)
 
--- A name that stands for nothing is a fault, which no type that keeps the rules has.
+-- the value of the variable that a name stands for; a name that stands for none is a fault
 abbrev pub value_as : Memory → List ℕ → Found
 value_as m name = with_item (held_as m name) (λ v. Ok v.value) (Err BadKind)
 
@@ -52,7 +52,7 @@ abbrev pub set : List ℕ → Datum → Memory → Memory
 set name d m =
     cond (list_any (is_called name) m.own) (record m { own = put_into name d m.own }) (record m { shared = put_into name d m.shared })
 
--- several, from left to right
+-- several variables get a value each, from left to right
 abbrev pub set_each : List (List ℕ) → List Datum → Memory → Memory
 set_each [] ds m = m
 set_each (name ∷ names) [] m = m

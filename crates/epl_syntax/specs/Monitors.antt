@@ -1,5 +1,4 @@
--- Monitors: a process touches a variable of a monitor only in its `with`, from the effect that locks the monitor to the effect that leaves
--- it.
+-- Monitors: a process touches a variable of a monitor only in its `with`, from the effect that locks the monitor to that which leaves it.
 use Rattle.std.specs.Prelude.{◌≡◌, ℕ, ◌<◌, ◌≤◌, Bool, true, false, not, List, [], ◌∷◌, ◌++◌, length, slice_get, Option, None, Some}
 use Rattle.std.specs.Prelude.{is_some, IfSome}
 use Rattle.std.specs.List.{AllByRecursion, list_all, list_any}
@@ -54,7 +53,7 @@ awaited_names (a_reply status gives) = status ∷ gives
 abbrev pub may_set : Scope → Option ℕ → List ℕ → Bool
 may_set scope held name = with_item (variable_named scope name) (λ v. is_guarded held v.monitor) false
 
--- the number of one of these monitors, which are counted from 1
+-- the number is that of one of these monitors, which are counted from 1
 abbrev pub IsNumberIn : List Name → ℕ → Type 0
 IsNumberIn monitors k = (1 ≤ k) × (k ≤ length monitors)
 
@@ -127,7 +126,7 @@ SameWhere test _ _ _ = ⊥
 abbrev pub is_open : Option ℕ → Variable → Bool
 is_open held v = is_guarded held v.monitor
 
--- whether it may not
+-- whether a variable may not be touched there
 abbrev pub is_shut : Option ℕ → Variable → Bool
 is_shut held v = not (is_open held v)
 
@@ -161,7 +160,7 @@ TurnStaysGuarded = (earlier : List (List ℕ)) (t : TypeTree) (left : Left) (var
     → IsGuardedOf earlier t left
     → StaysGuarded earlier t left (process_turn t vars left told me).1 (process_turn t vars left told me).2
 
--- and touches only what it may
+-- a turn of a guarded rest touches only the variables that it may
 abbrev pub TurnKeepsMonitors : Type 0
 TurnKeepsMonitors = (earlier : List (List ℕ)) (t : TypeTree) (left : Left) (vars : List Datum) (told : Answer) (me : Uid)
     → IsGuardedOf earlier t left

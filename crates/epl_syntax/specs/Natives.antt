@@ -13,18 +13,18 @@ use Rattle.epl_syntax.specs.Filters.{Rule, take_rule, skip_rule, only_rule, numb
 use Rattle.epl_syntax.specs.Filters as filters
 use Rattle.epl_syntax.specs.Sink as sink
 
--- the rule of a filter; that of another type is never looked at
+-- the rule of a filter; for a type that is none it is that of Take
 abbrev pub rule_of : Native → Rule
 rule_of native.Skip = skip_rule
 rule_of native.Only = only_rule
 rule_of native.Number = number_rule
 rule_of _ = take_rule
 
--- in order
+-- the native types, in order
 abbrev pub native_types : List Native
 native_types = native.Cell ∷ native.Directory ∷ native.Lines ∷ native.Take ∷ native.Skip ∷ native.Only ∷ native.Number ∷ native.Sink ∷ []
 
--- what is seen of each
+-- what is seen of a native type
 abbrev pub native_outline : Native → Outline
 native_outline native.Cell = cell.cell
 native_outline native.Directory = directory.directory
@@ -35,7 +35,7 @@ native_outline native.Only = filters.filter_outline only_rule
 native_outline native.Number = filters.filter_outline number_rule
 native_outline native.Sink = sink.sink
 
--- its name
+-- the name of a native type
 abbrev pub native_name : Native → List ℕ
 native_name n = (native_outline n).name
 

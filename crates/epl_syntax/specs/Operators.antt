@@ -68,6 +68,7 @@ numbers (number a) (number b) f = f a b
 numbers _ _ f = Err fault.BadKind
 
 -- ---- texts and lists have at most so many bytes and values, and lists are at most so deep
+-- a text of these bytes, unless they are too many
 abbrev pub text_of : List ℕ → Found
 text_of bytes = if nat_le (length bytes) TEXT_LIMIT then Ok (text bytes) else Err fault.TooLong
 

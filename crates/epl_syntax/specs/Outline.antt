@@ -19,7 +19,7 @@ pub record Slot : Type 0 where
   pub durable : Bool
   pub start : Datum
 
--- all of it
+-- all that is seen of a type
 pub record Outline : Type 0 where
   pub name : List ℕ
   pub version : ℕ

@@ -34,7 +34,7 @@ pub data Sieve : Type 0 where
   keeps : (front : List ℕ) → Sieve
   numbers : Sieve
 
--- what it makes of a list
+-- what a filter makes of a list
 abbrev pub sifted : Sieve → List (List ℕ) → List (List ℕ)
 sifted (takes count) items = first_items count items
 sifted (skips count) items = later_items count items
@@ -48,21 +48,21 @@ piped (s ∷ sieves) items = piped sieves (sifted s items)
 
 -- ---- a filter that takes in a list item by item
 
--- the rule of its type
+-- the rule of the type of a filter
 abbrev pub rule_of : Sieve → Rule
 rule_of (takes count) = take_rule
 rule_of (skips count) = skip_rule
 rule_of (keeps front) = only_rule
 rule_of numbers = number_rule
 
--- its argument, as values
+-- the argument of a filter, as values
 abbrev pub argument_of : Sieve → List Datum
 argument_of (takes count) = number count ∷ []
 argument_of (skips count) = number count ∷ []
 argument_of (keeps front) = text front ∷ []
 argument_of numbers = []
 
--- what it holds once it has taken in a list: its argument, how many items these are, and how many it has made of them
+-- what a filter holds once it has taken in a list: its argument, how many items these are, and how many it has made of them
 pub record HasTaken (s : Sieve) (items : List (List ℕ)) (f : Filter) : Type 0 where
   pub argument : f.arg ≡ argument_of s
   pub got : f.got ≡ pos (length items)
@@ -88,7 +88,7 @@ FiltersMakeTheirFunctions = (s : Sieve) (items : List (List ℕ)) (item : List �
     → (sifted s (items ++ item ∷ []) ≡ sifted s items ++ hands_on (rule_of s) item f)
     × HasTaken s (items ++ item ∷ []) (takes_in (rule_of s) item f)
 
--- and one that is over has made all of it, whatever comes
+-- a filter that is over has handed on all that its function makes, whatever items come
 abbrev pub FiltersEndAsTheirFunctions : Type 0
 FiltersEndAsTheirFunctions = (s : Sieve) (items more : List (List ℕ)) (f : Filter)
     → HasTaken s items f → (rule_of s).is_over f ≡ true → sifted s (items ++ more) ≡ sifted s items

@@ -26,6 +26,7 @@ abbrev mutual
   same (list a) (list b) = same_data a b
   same _ _ = false
 
+  -- as many items in both, and each the same as the one at its place in the other
   pub same_data : Data → Data → Bool
   same_data no_data no_data = true
   same_data (data_and a x) (data_and b y) = same a b && same_data x y

@@ -30,27 +30,27 @@ outline name slots operations = record {
 abbrev pub argument : ℕ → List Datum → Datum
 argument i args = with_item (slice_get args i) (λ d. d) (cap None)
 
--- The number in a value. One of another kind never stands there, here and below.
+-- the number in a value; 0 for a value of another kind
 abbrev pub number_in : Datum → ℤ
 number_in (number n) = n
 number_in _ = pos 0
 
--- the truth value in a value
+-- the truth value in a value; false for a value of another kind
 abbrev pub truth_in : Datum → Bool
 truth_in (truth b) = b
 truth_in _ = false
 
--- the text
+-- the text in a value; an empty one for a value of another kind
 abbrev pub text_in : Datum → List ℕ
 text_in (text t) = t
 text_in _ = []
 
--- the capability, if it is a present one
+-- the capability in a value, if it is a present one
 abbrev pub cap_in : Datum → Option Cap
 cap_in (cap c) = c
 cap_in _ = None
 
--- the items of a list
+-- the items in a value; none where it is no list
 abbrev pub items_in : Datum → List Datum
 items_in (list ds) = items_of ds
 items_in _ = []

@@ -31,11 +31,11 @@ pub record Drain : Type 0 where
   pub items : List Datum
   pub saved : Bool
 
--- this in the values of the variables
+-- what is in variables with these values
 abbrev pub drain : List Datum → Drain
 drain vars = record { src = cap_in (argument 0 vars); items = items_in (argument 1 vars); saved = truth_in (argument 2 vars) }
 
--- the values of the variables with this
+-- the values of variables in which this is
 abbrev pub values_of : Drain → List Datum
 values_of s = cap s.src ∷ list (data_of s.items) ∷ truth s.saved ∷ []
 

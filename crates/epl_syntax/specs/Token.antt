@@ -47,15 +47,15 @@ name_token bytes upper =
     (if upper then Some (kind.Upper, name_length bytes) else named (word_of (take (name_length bytes) bytes)) (name_length bytes))
     else None
 
--- a number in front
+-- a number in front, and how many bytes it takes
 abbrev pub number_token : List ℕ → Option (TokenKind × ℕ)
 number_token bytes = option_and_then (λ value. Some (kind.Int value, digit_count bytes)) (number_of (take (digit_count bytes) bytes))
 
--- behind the first quote
+-- a text of which these bytes stand behind the first quote, and how many bytes it takes with both
 abbrev pub text_token : List ℕ → Option (TokenKind × ℕ)
 text_token body = option_and_then (λ found. if nat_le found.1 1024 then Some (kind.Text, found.0 + 1) else None) (text_body false body)
 
--- a mark in front
+-- a mark in front, which this byte begins, and how many bytes it takes
 abbrev pub mark_token : ℕ → List ℕ → Option (TokenKind × ℕ)
 mark_token first rest = option_and_then (λ found. Some (kind.Mark found.0, found.1)) (mark_of first (slice_index rest 0))
 
@@ -76,7 +76,7 @@ pub record AreBlanks (text : List ℕ) (from to : ℕ) : Type 0 where
   pub blank : (k : ℕ) → from ≤ k → k < to → is_blank (slice_index text k) ≡ true
   pub stops : to < length text → is_blank (slice_index text to) ≡ false
 
--- From one place on, the text has these tokens, parted by blanks, and then comes the other place:
+-- From one place on, the text has these tokens, with blanks or none before each, and behind such blanks comes the other place:
 -- a byte that is no blank, or the text's end.
 abbrev pub Leads : List ℕ → ℕ → List Token → ℕ → Type 0
 Leads text from [] to = AreBlanks text from to

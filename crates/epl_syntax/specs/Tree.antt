@@ -31,7 +31,7 @@ pub record PlacedShape : Type 0 where
   pub shape : Shape
   pub place : ℕ
 
--- a kind that is written, and its place
+-- the kind, with its place, that a written one of the code is
 abbrev pub written : WrittenKind → PlacedShape
 written k = record { shape = shape k.kind; place = k.place }
 
@@ -53,6 +53,7 @@ constant (const.EmptyList k) = empty_list (written k)
 
 -- ---- expressions
 mutual
+  -- an expression, with the place of its first token
   pub data Expression : Type 0 where
     Const_ : (value : Constant) (place : ℕ) → Expression
     Name_ : (name : Name) → Expression
@@ -63,6 +64,7 @@ mutual
     ListOf : (items : Expressions) (place : ℕ) → Expression
     Apply : (builtin : Builtin) (args : Expressions) (place : ℕ) → Expression
 
+  -- a row of expressions: none, or one in front of others
   pub data Expressions : Type 0 where
     no_expressions : Expressions
     expression_and : (first : Expression) (rest : Expressions) → Expressions
@@ -73,6 +75,7 @@ in_order [] = no_expressions
 in_order (e ∷ es) = expression_and e (in_order es)
 
 abbrev mutual
+  -- the expression that one of the code is
   pub expression : Expr → Expression
   expression (expr.Const value place) = Const_ (constant value) place
   expression (expr.Name name) = Name_ name
@@ -83,6 +86,7 @@ abbrev mutual
   expression (expr.ListOf' m items place) = ListOf (expression_row items) place
   expression (expr.Apply' builtin m args place) = Apply builtin (expression_row args) place
 
+  -- the expressions of a row of the code, in order
   pub expression_row : {m : _} → expr.Row_of-Expr m → Expressions
   expression_row expr.end_of-Expr = no_expressions
   expression_row (expr.more_of-Expr e rest) = expression_and (expression e) (expression_row rest)
@@ -93,6 +97,7 @@ expressions es = in_order (map expression es)
 
 -- ---- statements
 mutual
+  -- a statement, with the place of its first token, which in an assignment is the name
   pub data Statement : Type 0 where
     Assign : (name : Name) (value : Expression) → Statement
     If : (test : Expression) (so otherwise : Statements) (place : ℕ) → Statement
@@ -108,6 +113,7 @@ mutual
     Invoke : (target : Target) (operation : Name) (args : List Expression) (status : Name) (gives : List Name) (place : ℕ) → Statement
     Return : (results : List Expression) (place : ℕ) → Statement
 
+  -- a row of statements: none, or one in front of others
   pub data Statements : Type 0 where
     no_statements : Statements
     statement_and : (first : Statement) (rest : Statements) → Statements
@@ -118,6 +124,7 @@ block_of [] = no_statements
 block_of (s ∷ ss) = statement_and s (block_of ss)
 
 abbrev mutual
+  -- the statement that one of the code is
   pub statement : Stmt → Statement
   statement (stmt.Assign name value) = Assign name (expression value)
   statement (stmt.If' test m so n otherwise place) = If (expression test) (statement_row so) (statement_row otherwise) place
@@ -134,6 +141,7 @@ abbrev mutual
       Invoke target operation (map expression args.items) status gives.items place
   statement (stmt.Return results place) = Return (map expression results.items) place
 
+  -- the statements of a row of the code, in order
   pub statement_row : {m : _} → stmt.Row_of-Stmt m → Statements
   statement_row stmt.end_of-Stmt = no_statements
   statement_row (stmt.more_of-Stmt s rest) = statement_and (statement s) (statement_row rest)
@@ -143,6 +151,7 @@ abbrev pub statements : List Stmt → Statements
 statements ss = block_of (map statement ss)
 
 -- ---- declarations
+-- the constant that a variable holds at first, and where it is written
 pub record Beginning : Type 0 where
   pub value : Constant
   pub place : ℕ
@@ -169,7 +178,7 @@ pub record Local : Type 0 where
   pub kind : PlacedShape
   pub start : Beginning
 
--- the one that a declaration of the code is
+-- the variable of a body that a declaration of the code is
 abbrev pub local_of : LocalDecl → Local
 local_of v = record { name = v.name; kind = written v.kind; start = beginning v.start }
 
@@ -178,7 +187,7 @@ pub record Parameter : Type 0 where
   pub name : Name
   pub kind : PlacedShape
 
--- the one that a declaration of the code is
+-- the parameter that a declaration of the code is
 abbrev pub parameter : ParDecl → Parameter
 parameter p = record { name = p.name; kind = written p.kind }
 
@@ -192,7 +201,7 @@ pub record Operation : Type 0 where
   pub locals : List Local
   pub body : List Statement
 
--- the one that a declaration of the code is
+-- the operation that a declaration of the code is
 abbrev pub operation : OpDecl → Operation
 operation o = record {
   name = o.name;
@@ -210,7 +219,7 @@ pub record Process : Type 0 where
   pub locals : List Local
   pub body : List Statement
 
--- the one that a declaration of the code is
+-- the process that a declaration of the code is
 abbrev pub process : ProcDecl → Process
 process p = record { name = p.name; locals = map local_of p.locals.items; body = map statement p.body.items }
 
@@ -219,7 +228,7 @@ pub record UpgradeAssignment : Type 0 where
   pub name : Name
   pub value : Expression
 
--- the one that an assignment of the code is
+-- the assignment of an upgrade that one of the code is
 abbrev pub change : Assignment → UpgradeAssignment
 change a = record { name = a.name; value = expression a.value }
 
@@ -230,7 +239,7 @@ pub record Upgrade : Type 0 where
   pub changes : List UpgradeAssignment
   pub place : ℕ
 
--- the one that a declaration of the code is
+-- the upgrade that a declaration of the code is
 abbrev pub upgrade : UpgradeDecl → Upgrade
 upgrade u = record { from = u.from; params = map parameter u.params.items; changes = map change u.assignments.items; place = u.place }
 

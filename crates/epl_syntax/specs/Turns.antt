@@ -39,8 +39,8 @@ code s = number (pos (status_number s))
 abbrev pub kinds_as : Memory → List (List ℕ) → List Shape
 kinds_as m names = filter_map (λ name. option_map (λ v. v.kind) (held_as m name)) names
 
--- The results of an invocation that was answered so: where the status is 0, as many as there are variables that take them, each of its
--- variable's kind.
+-- The results of an invocation that was answered so: where the status is 0, as many as there are variables that take them,
+-- each of its variable's kind.
 abbrev pub taken : List (List ℕ) → Status → List Datum → Memory → Result Memory FaultCause
 taken gives status.Ok results m = if have_shapes results (kinds_as m gives) then Ok (set_each gives results m) else Err BadKind
 taken gives _ results m = Ok m
@@ -90,14 +90,14 @@ as_turn returns (ends e m awaits rest) = (values_in m.shared, record { steps = r
 as_turn returns (goes_on m rest) =
     (values_in m.shared, record { steps = rest; own = m.own; awaits = no_answer; returns = returns }, effect.Yield)
 
--- a turn of a process: from the values of the Eject's variables, what is left and the answer to the values after it, what is left then, and
--- the effect
+-- a turn of a process: from the values of the Eject's variables, what is left to do and the answer
+-- to the values after it, what is left then, and the effect
 abbrev pub process_turn : TypeTree → List Datum → Left → Answer → Uid → List Datum × Left × Effect
 process_turn t vars left answer me = let m = seen_by t vars left me in as_turn left.returns (came_to t left m (told left.awaits answer m))
 
 -- ---- 4. How processes begin
 
--- an operation with these arguments
+-- what is left to do of an operation with these arguments at its beginning
 abbrev pub left_of : Operation → List Datum → Left
 left_of o args = record { steps = map does o.body; own = arguments o.params args ++ locals o.locals; awaits = no_answer; returns = true }
 
@@ -105,10 +105,10 @@ left_of o args = record { steps = map does o.body; own = arguments o.params args
 abbrev pub nothing_left : Left
 nothing_left = record { steps = []; own = []; awaits = no_answer; returns = false }
 
--- the operation of a name, with arguments
+-- the same of the operation of this name, if there is one
 abbrev pub operation_left : TypeTree → List ℕ → List Datum → Left
 operation_left t name args = with_item (find (λ o. same_text o.name.text name) t.operations) (λ o. left_of o args) nothing_left
 
--- a declared process
+-- what is left to do of a declared process at its beginning
 abbrev pub process_left : Process → Left
 process_left p = record { steps = map does p.body; own = locals p.locals; awaits = no_answer; returns = false }

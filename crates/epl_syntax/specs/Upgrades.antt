@@ -15,7 +15,7 @@ use Rattle.epl_syntax.specs.Memory.{Memory, set, arguments, variables, value_of_
 use Rattle.epl_syntax.specs.Expressions.{value_of}
 use Rattle.epl_syntax.specs.Turns.{values_in}
 
--- the assignments, in order
+-- what is held once the assignments were made in order, or the first fault
 abbrev pub assigned : List UpgradeAssignment → Memory → Result Memory FaultCause
 assigned [] m = Ok m
 assigned (c ∷ cs) m = found (value_of m c.value) (λ d. assigned cs (set c.name.text d m))

@@ -2,7 +2,8 @@
 ghost use Rattle.std.specs.Prelude.{◌≡◌, ℕ, List};
 ghost use Rattle.epl_syntax.specs.declared.token.Token.{Token};
 ghost use Rattle.epl_syntax.specs.Token.{SpellsTokens, Breaks};
-ghost use Rattle.epl_syntax.specs.Authority.{TurnKeepsCaps, BeginKeepsCaps, FirstHaveNone, DurableKeepCaps, StartKeepsCaps};
+ghost use Rattle.epl_syntax.specs.Authority.{TurnKeepsCaps, BeginKeepsCaps, DeclaredHaveNone, FirstHaveNone};
+ghost use Rattle.epl_syntax.specs.Authority.{DurableKeepCaps, StartKeepsCaps};
 ghost use Rattle.epl_syntax.specs.Monitors.{OperationsBeginGuarded, ProcessesBeginGuarded, TurnStaysGuarded, TurnKeepsMonitors};
 ghost use Rattle.epl_syntax.specs.Pipelines.{FiltersMakeTheirFunctions, FiltersEndAsTheirFunctions, PipelinesKeepFronts};
 
@@ -20,6 +21,7 @@ pub fn tokens_are_one()
 pub fn types_make_no_capabilities()
     ensures turn { TurnKeepsCaps }
     ensures begin { BeginKeepsCaps }
+    ensures declared { DeclaredHaveNone }
     ensures first { FirstHaveNone }
     ensures durable { DurableKeepCaps }
     ensures start { StartKeepsCaps }
@@ -35,8 +37,8 @@ pub fn types_keep_monitors()
     ensures others { TurnKeepsMonitors }
 {}
 
-/// A filter of a stream that has taken in a list has handed on what its function makes of it, and of the beginning of a list a
-/// pipeline makes the beginning of what it makes of all.
+/// A filter of a stream makes of an item, and of the end, what its function makes of them, behind what it has taken in; and of the
+/// beginning of a list a pipeline makes the beginning of what it makes of all.
 pub fn filters_make_their_functions()
     ensures one_more { FiltersMakeTheirFunctions }
     ensures end { FiltersEndAsTheirFunctions }

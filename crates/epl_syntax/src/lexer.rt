@@ -1,6 +1,6 @@
 //! Reading tokens. A token takes as many bytes as its form allows; blanks and line feeds part tokens.
 ghost use Rattle.std.specs.Prelude.{◌≡◌, ◌≤◌, ◌<◌, ◌^◌, length, drop, false, None, IfOk, IfSome};
-ghost use Rattle.epl_syntax.specs.Form.{is_digit, is_blank, name_length, digit_count, number_of, text_body};
+ghost use Rattle.epl_syntax.specs.Form.{is_blank, name_length, digit_count, number_of, text_body};
 ghost use Rattle.epl_syntax.specs.Token.{mark_of, name_token, number_token, text_token, token_at, AreBlanks, Leads, TokensAre};
 ghost use Rattle.epl_syntax.specs.Token.{SpellsTokens, Breaks};
 
@@ -15,12 +15,6 @@ fn is_blank(b: u8) -> bool
     b == b' ' || b == b'\n'
 }
 
-fn is_digit(b: u8) -> bool
-    ensures { result ≡ is_digit b }
-{
-    b'0' <= b && b <= b'9'
-}
-
 /// How many bytes of a name stand in front.
 fn name_length(bytes: &[u8]) -> usize
     ensures { result ≡ name_length bytes.now }
@@ -32,7 +26,7 @@ fn name_length(bytes: &[u8]) -> usize
 fn digit_count(bytes: &[u8]) -> usize
     ensures { result ≡ digit_count bytes.now }
 {
-    bytes.iter().take_while(|b| is_digit(**b)).count()
+    bytes.iter().take_while(|b| b.is_ascii_digit()).count()
 }
 
 /// The number that digits stand for, within the limit.
@@ -149,7 +143,7 @@ fn token_at(bytes: &[u8]) -> Option<(TokenKind, usize)>
         name_token(bytes, true)
     } else if first.is_ascii_lowercase() {
         name_token(bytes, false)
-    } else if is_digit(*first) {
+    } else if first.is_ascii_digit() {
         number_token(bytes)
     } else if *first == b'"' {
         text_token(rest)

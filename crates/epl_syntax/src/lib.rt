@@ -25,7 +25,7 @@ pub use law::{
 };
 pub use lexer::{leading_tokens, tokens};
 pub use rule::{Broken, Rule};
-pub use text::same_text;
+pub use text::{is_called, same_text};
 pub use token::{INT_LIMIT, Mark, NAME_LIMIT, ParseRefusal, Token, TokenKind};
 pub use tree::{
     Assignment, Builtin, ClassDecl, CondDecl, Const, Expr, LocalDecl, Name, Number, OpDecl,

@@ -10,3 +10,10 @@ pub fn same_text(a: &Txt, b: &Txt) -> bool
 {
     a.bytes == b.bytes
 }
+
+/// Whether a text is these bytes.
+pub fn is_called(text: &Txt, name: &[u8]) -> bool
+    ensures { result ≡ same_text text.now name.now }
+{
+    text.bytes.as_slice() == name
+}

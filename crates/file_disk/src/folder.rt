@@ -165,7 +165,7 @@ fn open_all(
 /// Opens the files `disk1` to `disk8` of a folder as disks, in their order, each at its own size, which is one of these.
 /// Those that are not there are made of zeros, in the size for new ones.
 ///
-/// Where one cannot be opened or made, or has another size, the folder is left as it was.
+/// Where one cannot be opened or made, or has another size, the files that were made are removed again.
 pub fn open_disks(
     alloc: Global,
     rt: &HostRuntime,

@@ -18,7 +18,7 @@ Shallow limit [] = Unit {0}
 Shallow limit (p ∷ ps) = (p.1 ≤ limit) × Shallow limit ps
 
 -- ---- grammars that say at which depth a symbol stands
--- one symbol, for which f has a value, at the depth of that value
+-- one symbol, which spells the value that f has for it, and stands at the depth of that value
 abbrev pub At : {S A : Type 0} → (A → ℕ) → (S → Option A) → Grammar (Placed S) A
 At depth f [] a = ⊥
 At depth f (p ∷ []) a = (p.1 ≡ depth a) × (f p.0 ≡ Some a)
@@ -66,19 +66,22 @@ look_here a symbols = Ok (a, symbols)
 abbrev pub look_mapped : {S A B : Type 0} → (A → B) → Looker S A → Looker S B
 look_mapped f read = look_both read (λ a. look_here (f a))
 
+-- behind a symbol whose depth was tested: its value where the test was passed, else a stop at the symbol, as too deep
 abbrev pub fits : {S A : Type 0} → Bool → A → Looker S A
 fits true a symbols = Ok (a, symbols)
 fits false a symbols = Err (deep (suc (length symbols)))
 
+-- behind a symbol: its value, if it has one whose depth is not past the limit; else a stop at the symbol
 abbrev pub found_at : {S A : Type 0} → ℕ → (A → ℕ) → Option A → Looker S A
 found_at limit depth None symbols = Err (bad (suc (length symbols)))
 found_at limit depth (Some a) symbols = fits (nat_le (depth a) limit) a symbols
 
--- one symbol, for which f has a value, at the depth of that value
+-- a reader of one symbol, for which f has a value whose depth is not past the limit
 abbrev pub look_at : {S A : Type 0} → ℕ → (A → ℕ) → (S → Option A) → Looker S A
 look_at limit depth f [] = Err (bad 0)
 look_at limit depth f (s ∷ symbols) = found_at limit depth (f s) symbols
 
+-- by the value of the first symbol: what is read where it has one, and else the other answer
 abbrev pub led : {S A K : Type 0} → Option K → Looker S A → Look S A → Looker S A
 led None read other symbols = other
 led (Some k) read other symbols = read symbols
@@ -88,7 +91,7 @@ abbrev pub look_if : {S A K : Type 0} → (S → Option K) → A → Looker S A 
 look_if f a read [] = Ok (a, [])
 look_if f a read (s ∷ symbols) = led (f s) read (Ok (a, s ∷ symbols)) (s ∷ symbols)
 
--- steps while f has a value for the first symbol, at most so many
+-- steps while f has a value for the first symbol, fewer than so many: at 0 reading stops as spent, even where no step follows
 abbrev pub look_many : {S A K : Type 0} → (S → Option K) → (A → Looker S A) → ℕ → A → Looker S A
 look_many f read zero a symbols = Err spent
 look_many f read (suc n) a symbols = look_if f a (look_both (read a) (look_many f read n)) symbols
@@ -101,8 +104,8 @@ SameHead (s ∷ symbols) (t ∷ more) = s ≡ t
 SameHead [] (t ∷ more) = ⊥
 SameHead (s ∷ symbols) [] = ⊥
 
--- A spelling of the value stands in front of the rest, no symbol of it past the limit; and it is read so before all that begins like the
--- rest.
+-- A spelling of the value stands in front of the rest, no symbol of it past the limit;
+-- and it is read so before all that begins like the rest.
 pub record Took {S A : Type 0} (limit : ℕ) (G : List (S × ℕ) → A → Type 0) (R : List S → Result (A × List S) Fault) (symbols : List S)
     (a : A) (rest : List S) : Type 0 where
   pub front : List (S × ℕ)

@@ -11,7 +11,7 @@ pub record Spells {S A : Type 0} (limit : ℕ) (G : List (S × ℕ) → A → Ty
   pub shallow : Shallow limit placed
   pub member : G placed a
 
--- no spelling has these symbols and then the next of the rest, or, where nothing is left, no others
+-- no spelling begins with these symbols and the first of the rest; where nothing is left, none has just these symbols
 abbrev pub NoneGoesOn : {S A : Type 0} → Grammar (Placed S) A → List S → List S → Type 0
 NoneGoesOn {S} {A} G front [] = (ps : List (S × ℕ)) (a : A) → G ps a → bare ps ≡ front → ⊥
 NoneGoesOn {S} {A} G front (s ∷ rest) = (ps : List (S × ℕ)) (a : A) → G ps a → (more : List S) → bare ps ≡ front ++ s ∷ more → ⊥
@@ -33,7 +33,7 @@ pub record Breaks {S A : Type 0} (limit : ℕ) (G : List (S × ℕ) → A → Ty
 abbrev pub NoneWithin : {S A : Type 0} → ℕ → Grammar (Placed S) A → List S → Type 0
 NoneWithin {S} {A} limit G front = (ps more : List (S × ℕ)) (a : A) → G (ps ++ more) a → bare ps ≡ front → Shallow limit ps → ⊥
 
--- Behind the front of a spelling, no symbol of it past the limit, comes the first symbol that is; and no spelling that
+-- Behind the front of a spelling, no symbol of it past the limit, comes the first symbol that is past it; and no spelling that
 -- begins with the same symbols has them all within the limit.
 pub record Deepens {S A : Type 0} (limit : ℕ) (G : List (S × ℕ) → A → Type 0) (symbols : List S) (left : ℕ) : Type 0 where
   pub front : List (S × ℕ)

@@ -23,12 +23,12 @@ nothing a symbols = Ok (a, symbols)
 abbrev pub mapped : {S A B : Type 0} → (A → B) → Reader S A → Reader S B
 mapped f read symbols = read_then (read symbols) (λ a. nothing (f a))
 
--- one symbol, for which f has a value
+-- behind a symbol: the value that was found for it, or else a stop at the symbol
 abbrev pub found_one : {S A : Type 0} → Option A → Reader S A
 found_one None symbols = Err (suc (length symbols))
 found_one (Some a) symbols = Ok (a, symbols)
 
--- one symbol that stands for a value
+-- one symbol, for which f has a value
 abbrev pub one : {S A : Type 0} → (S → Option A) → Reader S A
 one f [] = Err 0
 one f (s ∷ symbols) = found_one (f s) symbols

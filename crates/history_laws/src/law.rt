@@ -47,13 +47,15 @@ pub fn first_part_follows_so_far()
 {}
 
 /// At the end of a history so far, over disks that are handed in as they have to be, each key that is
-/// enabled has its turn: an entry that shows it may come next. The types of the script keep the rules.
+/// enabled has its turn: the world allows some entry of it as a turn, whatever is due in the script and
+/// however many turns were taken. The types of the script keep the rules, and each of their conditions is
+/// of a monitor.
 pub fn an_enabled_key_has_its_turn()
     ensures { EnabledKeysHaveTurns }
 {}
 
 /// A node that is down at the end of a history so far, over disks that are handed in as they have to be,
-/// is at rest: no request, no active part, no queued call, and no call on its way to it.
+/// is at rest: no request, no active part, no queued call, and no message on its way to it or from it.
 pub fn a_node_that_is_down_rests()
     ensures { DownNodesRest }
 {}
@@ -96,7 +98,8 @@ pub fn another_clock_is_refused()
     ensures { OtherClockIsRefused }
 {}
 
-/// Blank disks are handed in as they have to be, so none of these is refused for that.
+/// Blank disks of 17 bytes or more, with a log as their layout, are handed in as they have to be, so none
+/// of these is refused for that.
 pub fn blank_disks_may_be_handed_in()
     ensures { BlankDisksMayBeHandedIn }
 {}

@@ -12,7 +12,8 @@ abbrev pub begun_by_call : Work → StoreRequest → Site → Site
 begun_by_call calls r s = doubted r s
 begun_by_call _ r s = s
 
--- an activation may have settled a doubt, or begun its settling anew
+-- the site as an event leaves it before its node falls: an activation may have settled a doubt, or begun its settling anew, and a turn of
+-- the store may have brought a change in doubt; for other events it is as it was
 abbrev pub before_fall : Event → Site → Site
 before_fall (event.Activate u how p) s = start_settled p s
 before_fall (event.Store u clock how p) s = with_item (first_request s.node) (λ r. begun_by_call (work_of s r) r s) s

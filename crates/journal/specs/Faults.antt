@@ -13,14 +13,16 @@ use Rattle.journal.specs.declared.event.RequestEnd.TheVariants as request_end
 use Rattle.journal.specs.Run.{Step, EachStep}
 use Rattle.journal.specs.Standing.{DiskRun}
 
--- 1. Entries that show one, on node n
+-- 1. Entries that show a failure or a stop, on node n
 
+-- a boot, an activation or a store's turn of node n that a failed device call ended
 abbrev pub shows_fault : ℕ → Event → Bool
 shows_fault n (event.Boot m e boot_end.DiskFault p began) = m == n
 shows_fault n (event.Activate u start_end.Fault p) = u.node == n
 shows_fault n (event.Store u c request_end.Fault p) = u.node == n
 shows_fault n _ = false
 
+-- a boot, an activation or a store's turn of node n in which its disk stopped
 abbrev pub shows_stop : ℕ → Event → Bool
 shows_stop n (event.Boot m e boot_end.Stop p began) = m == n
 shows_stop n (event.Activate u start_end.Stop p) = u.node == n
@@ -43,28 +45,33 @@ abbrev pub RoseByAtLeast : ℕ → ℕ → ℕ → Type 0
 RoseByAtLeast shown before after = after < 2 ^ 64 - 1 → before + shown ≤ after
 
 -- Each fault of the disk of node n is shown by an entry of its own, and each such entry shows one: none is made up, and none is hidden.
--- So is
--- each stop.
+-- So it is with each stop.
 pub record ShowsEach (history : List Entry) (n : ℕ) (d : DiskRun) : Type 0 where
+  -- the count of faults rose by the number of entries that show one, unless it ended at its greatest number
   pub faults : RoseBy (number_of (shows_fault n) history) d.first.faults d.last.faults
+  -- the count of stops by the number of those that show a stop, with the same exception
   pub stops : RoseBy (number_of (shows_stop n) history) d.first.stops d.last.stops
 
--- None is made up. A device call that found no memory is a fault as well, and no entry may show it: it may have ended the run.
+-- None is made up. One may be hidden: a device call that found no memory is a fault as well, and it may have ended the run.
 pub record ShowsNoMore (history : List Entry) (n : ℕ) (d : DiskRun) : Type 0 where
+  -- the count of faults rose by no fewer than the entries that show one, unless it ended at its greatest number
   pub faults : RoseByAtLeast (number_of (shows_fault n) history) d.first.faults d.last.faults
+  -- the count of stops by no fewer than those that show a stop, with the same exception
   pub stops : RoseByAtLeast (number_of (shows_stop n) history) d.first.stops d.last.stops
 
 -- 3. The command that asked for it; the past has the newest step first
 
+-- how many device calls later a failure is asked for; none where it is a stop
 abbrev pub fail_after : Arm → Option ℕ
 fail_after (arm.Fail k) = Some k
 fail_after (arm.Stop k mode) = None
 
+-- how many device calls later a stop is asked for; none where it is a failure
 abbrev pub stop_after : Arm → Option ℕ
 stop_after (arm.Fail k) = None
 stop_after (arm.Stop k mode) = Some k
 
--- the clock at which a request falls due
+-- the clock at which what the event arms on node n falls due; None where it arms nothing of this sort there
 abbrev pub due_clock : (Arm → Option ℕ) → ℕ → Entry → Event → Option ℕ
 due_clock after n e (event.Armed m what) = cond (m == n) (with_item (after what) (λ k. Some (e.clock + k)) None) None
 due_clock after n e _ = None
@@ -79,27 +86,34 @@ abbrev pub clock_of : ℕ → ℕ → List Step → ℕ
 clock_of n began [] = began
 clock_of n began (s ∷ past) = cond (s.entry.node == n) s.entry.clock (clock_of n began past)
 
--- an entry that shows one: its request fell due in it
+-- where an entry shows one (true), the last request of this sort fell due in it: past the clock before it, and by its own
 abbrev pub IsAsked : (Arm → Option ℕ) → Bool → ℕ → ℕ → List Step → Step → Type 0
 IsAsked after false n began past s = Unit {0}
 IsAsked after true n began past s = IsSomeAnd (last_due after n past) (λ due. (clock_of n began past < due) × (due ≤ s.entry.clock))
 
--- each fault and each stop has its command
+-- a fault or a stop that the entry shows on node n has the command that asked for it; this is asked of obedient disks alone
 pub record HasItsCommand (n began : ℕ) (past : List Step) (s : Step) : Type 0 where
+  -- where the entry shows a fault, the last `fail` before it on this node fell due in it
   pub fault : IsAsked fail_after (shows_fault n s.entry.event) n began past s
+  -- where it shows a stop, the last `stop` before it on this node did
   pub stop : IsAsked stop_after (shows_stop n s.entry.event) n began past s
 
--- A disk of which that holds: it does what is asked of it, nothing that was asked before it was handed in is still to come, its clock
--- has not
--- reached its end, and no device call has wanted memory.
+-- An obedient disk: it does what is asked of it, nothing that was asked before it was handed in is still to come, its clock has not
+-- reached its end, and no device call of it wanted memory.
 pub record IsObedient (d : DiskRun) : Type 0 where
+  -- the disk does what `fail` and `stop` ask
   pub obeys : IsTrue d.obeys
+  -- a failure that was asked for before it was handed in was due by its first clock
   pub no_failure : IfSome d.due.failure (λ clock. clock ≤ d.first.clock)
+  -- and so was a stop
   pub no_stop : IfSome d.due.stop (λ clock. clock ≤ d.first.clock)
+  -- its clock did not come to 2^64 - 1, where it stands still
   pub below : d.last.clock < 2 ^ 64 - 1
+  -- the count of device calls that found no memory did not rise
   pub no_wants : d.last.wants ≡ d.first.wants
-  -- of a count that stands at its end it is not told whether it rose
+  -- and it began below its end, at which it could not have risen
   pub wants_told : d.first.wants < 2 ^ 64 - 1
 
+-- of an obedient disk each fault and each stop that an entry of its node shows has its command
 abbrev pub EachHasItsCommand : List Step → ℕ → DiskRun → Type 0
 EachHasItsCommand run n d = IsObedient d → EachStep (HasItsCommand n d.first.clock) [] run

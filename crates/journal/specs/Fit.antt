@@ -29,14 +29,16 @@ Within low high n = (low ≤ n) × (n ≤ high)
 
 -- what a name, a type or an operation is called: from one to 32 letters, digits and underscores
 pub record IsWord (word : List ℕ) : Type 0 where
+  -- each byte is a letter, a digit or an underscore
   pub bytes : list_all is_name_byte word ≡ true
+  -- it has from one to 32 bytes
   pub length_ : Within 1 32 (length word)
 
--- the greatest result of a call that may be named
+-- the number of the last result of a call that may be named, counted from 1
 abbrev pub most_results : ℕ
 most_results = 8
 
--- a byte that may stand in place of unsynced ones
+-- the byte that the mode puts in place of unsynced ones, if it puts one, is at most 255
 abbrev pub ModeFits : ImageMode → Type 0
 ModeFits (image.Garble b) = b ≤ 255
 ModeFits _ = Unit {0}
@@ -45,30 +47,37 @@ ModeFits _ = Unit {0}
 
 -- a value that is written out: an integer of 64 bits, a truth value, a text within its limits, or the absent capability
 pub record IsPlain (d : Datum) : Type 0 where
+  -- an integer fits into 64 bits with a sign
   pub in_range : InRange d
+  -- it is no list, and a text is within its limits
   pub no_list : IsValue 0 d
+  -- no capability is present in it
   pub no_capability : caps d ≡ []
 
 -- An argument with at most so many lists in one another, of which each has at most 256 items. What a name stands for counts as no list
 -- here, and is measured when the call is made.
 abbrev mutual
+  -- one argument: a plain value, a name with no result past the 8th, or, where a list may still begin, a list of such
   pub IsArgument : ℕ → Argument → Type 0
   IsArgument deep (plain d) = IsPlain d
   IsArgument deep (named name k) = k ≤ most_results
   IsArgument zero (several gs) = ⊥
   IsArgument (suc deep) (several gs) = (length (arguments_in gs) ≤ LIST_LIMIT) × AreArguments deep gs
 
+  -- each of arguments in a row is one
   pub AreArguments : ℕ → Arguments → Type 0
   AreArguments deep no_arguments = Unit {0}
   AreArguments deep (argument_and g gs) = IsArgument deep g × AreArguments deep gs
 
 -- the names that stand in arguments
 abbrev mutual
+  -- those in one argument, from left to right
   pub names_in : Argument → List (List ℕ)
   names_in (plain d) = []
   names_in (named name k) = name ∷ []
   names_in (several gs) = names_in_each gs
 
+  -- those in arguments in a row
   pub names_in_each : Arguments → List (List ℕ)
   names_in_each no_arguments = []
   names_in_each (argument_and g gs) = names_in g ++ names_in_each gs
@@ -103,8 +112,8 @@ operation_named _ = []
 
 -- 4. Commands
 
--- The numbers of a command are in their ranges, where there are so many nodes: a node is one of them, a station one of them or the
--- shell's 0.
+-- The numbers of a command are in their ranges, where there are so many nodes: a node is one of them, and a station one of them or the
+-- shell, which is 0.
 abbrev pub NumbersFit : ℕ → Command → Type 0
 NumbersFit nodes (command.Create name n type_name) = Within 1 nodes n
 NumbersFit nodes (command.Hold name uid) = Within 1 nodes uid.node × Within 1 4294967295 uid.epoch × Within 1 4294967295 uid.serial
@@ -121,29 +130,35 @@ NumbersFit nodes (command.Fail n after) = Within 1 nodes n × Within 1 1000000 a
 NumbersFit nodes (command.Stop n after mode) = Within 1 nodes n × Within 1 1000000 after × ModeFits mode
 NumbersFit nodes command.End = Unit {0}
 
--- the two stations of a link are two
+-- the two stations of a link that is cut or joined differ
 abbrev pub StationsDiffer : Command → Type 0
 StationsDiffer (command.Cut a b) = a ≢ b
 StationsDiffer (command.Join a b) = a ≢ b
 StationsDiffer _ = Unit {0}
 
--- a path is a text
+-- the path of a walk is a text
 abbrev pub PathFits : Command → Type 0
 PathFits (command.Walk name target path) = IsText path
 PathFits _ = Unit {0}
 
+-- the arguments of a call are fit, with no more lists in one another than a value may have
 abbrev pub ArgumentsFit : Command → Type 0
 ArgumentsFit (command.Call name target operation args) = AreArguments DEPTH_LIMIT (arguments_of args)
 ArgumentsFit _ = Unit {0}
 
--- a command that is fit where these types and so many nodes are there, but for its names
+-- a command that is fit where these types and so many nodes are there, whatever names were introduced before it
 pub record IsFitCommand (types : List (List ℕ)) (nodes : ℕ) (c : Command) : Type 0 where
+  -- each of its numbers is in its range
   pub numbers : NumbersFit nodes c
+  -- a link that it cuts or joins has two different ends
   pub stations : StationsDiffer c
-  -- the name that it introduces and the operation that it invokes are words
+  -- a name that it introduces is a word
   pub name : All IsWord (introduced c)
+  -- so is the name of an operation that it invokes
   pub operation : All IsWord (operation_named c)
+  -- a path that it walks is a text
   pub path : PathFits c
+  -- the arguments of its call are fit
   pub arguments : ArgumentsFit c
   -- the type of which it creates an Eject is one of the types
   pub type_is_known : All (Contains types) (type_named c)
@@ -166,18 +181,23 @@ EndsOnce (c ∷ d ∷ cs) = (c ≢ command.End) × EndsOnce (d ∷ cs)
 abbrev pub DECLARED_LIMIT : ℕ
 DECLARED_LIMIT = 64
 
+-- a script that is fit for a world, by its nodes, its types, its commands and their names
 pub record IsFit (script : Script) : Type 0 where
   -- from one node to eight
   pub nodes : Within 1 8 script.nodes
+  -- it declares at most 64 types
   pub few_types : length script.types.declared ≤ DECLARED_LIMIT
-  -- no two types have one name, each keeps the rules behind those before it, and its conditions are of its monitors
+  -- no two types, native or declared, have one name
   pub names_differ : NamesDiffer script.types
+  -- no declared type breaks a rule, where each sees the names of the types before it
   pub keep_rules : KeepRules script.types
+  -- each condition of a declared type is of one of that type's monitors
   pub have_monitors : HaveMonitors script.types
   -- each command for itself
   pub commands : All (IsFitCommand (names_of script.types) script.nodes) script.commands
   -- each name is introduced once, and before it is referred to
   pub names : NamesFit [] script.commands
+  -- its last command is its only `end`
   pub ends_once : EndsOnce script.commands
 
 -- 6. Calls

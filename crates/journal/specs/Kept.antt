@@ -1,4 +1,5 @@
--- What is kept of an Eject, and which change of it was cut short, by the entries alone. The past is a list of steps, the newest first.
+-- What is kept of an Eject, and which change of it was cut short, by the entries and the requests that they
+-- were about. The past is a list of steps, the newest first.
 use Rattle.std.specs.Prelude.{ℕ, ◌==◌, Bool, false, cond, ◌&&◌, List, [], ◌∷◌, Option, None, Some, is_some}
 use Rattle.capability.specs.declared.Uid.{Uid}
 use Rattle.eden_model.specs.Map.{with_item, or_else, same_uid}
@@ -35,9 +36,11 @@ crashes n _ = false
 abbrev pub own_call_of : Uid → Site → StoreRequest → RequestEnd → Option (EjectChange × RequestEnd)
 own_call_of u s r how = cond (same_uid r.uid u && makes_own_call (work_of s r)) (Some (r.change, how)) None
 
+-- the same of the node's first request, if it has one
 abbrev pub own_call_at : Uid → Site → RequestEnd → Option (EjectChange × RequestEnd)
 own_call_at u s how = with_item (first_request s.node) (λ r. own_call_of u s r how) None
 
+-- the same by the event, in the world before it: only a turn of the store makes such a call
 abbrev pub own_call : Uid → World → Event → Option (EjectChange × RequestEnd)
 own_call u w (event.Store v clock how p) = with_item (site_at w v.node) (λ s. own_call_at u s how) None
 own_call u w _ = None
@@ -49,12 +52,13 @@ abbrev pub under_way : EjectChange × RequestEnd → Option EjectChange
 under_way (c, request_end.Part) = Some c
 under_way (c, how) = None
 
+-- the change of u whose last device call left more of them to make, unless its node crashed since
 abbrev pub in_progress : Uid → List Step → Option EjectChange
 in_progress u [] = None
 in_progress u (s ∷ past) =
     cond (crashes u.node s.entry.event) None (with_item (own_call u s.world s.entry.event) under_way (in_progress u past))
 
--- a failure or a stop cuts it short
+-- the change, where a failure or a stop of this call cut it short
 abbrev pub cut_by : EjectChange × RequestEnd → Option EjectChange
 cut_by (c, request_end.Fault) = Some c
 cut_by (c, request_end.Stop) = Some c
@@ -69,10 +73,12 @@ cut_short u (s ∷ past) = cond (is_some (picked u.node s.entry.event)) None
 
 -- 3. What is kept
 
+-- the change, where this call ended it as done
 abbrev pub acknowledged : EjectChange × RequestEnd → Option EjectChange
 acknowledged (c, request_end.Done) = Some c
 acknowledged (c, how) = None
 
+-- the change that was cut short, where a settling found it done
 abbrev pub with_pick : Option Pick → Option EjectChange → Option EjectChange
 with_pick (Some pick.New) cut = cut
 with_pick _ cut = None
@@ -82,7 +88,7 @@ abbrev pub change_by : Uid → Step → List Step → Option EjectChange
 change_by u s past = or_else (with_item (own_call u s.world s.entry.event) acknowledged None)
     (with_pick (picked u.node s.entry.event) (cut_short u past))
 
--- by the last change, else what the opening image held
+-- what was kept last: by the last change of u that was made, else what the opening image held
 abbrev pub last_kept : Option (List ℕ) → Uid → List Step → Option (List ℕ)
 last_kept held u [] = held
 last_kept held u (s ∷ past) = with_item (change_by u s past) kept_of (last_kept held u past)

@@ -27,9 +27,11 @@ use Rattle.journal.specs.Granted.{AllGranted, uses, kept_after_pick}
 
 -- 1. Every start is whole
 
+-- the bytes that are kept of the Eject, if there are any
 abbrev pub kept_at : World → Uid → Option (List ℕ)
 kept_at w u = with_item (eject_at w u) (λ e. e.kept) None
 
+-- what an `ok` activation finds kept is what the opening world, the past and its own pick say; of other events nothing is asked
 abbrev pub StartIsWhole : World → List Step → Step → Event → Type 0
 StartIsWhole opening past s (event.Activate u start_end.Ok p) =
     kept_after_pick s.world u (event.Activate u start_end.Ok p) ≡ start_bytes (kept_at opening u) u p past
@@ -42,9 +44,11 @@ abbrev pub ChangesKept : World → Uid → Event → Type 0
 ChangesKept w u (event.Store v clock request_end.Done p) = v ≡ u
 ChangesKept w u e = (picked u.node e ≡ Some pick.New) × IsTrue (with_item (eject_at w u) (λ e. is_some e.doubt) false)
 
+-- whether the Eject has an active part
 abbrev pub is_active_at : World → Uid → Bool
 is_active_at w u = with_item (eject_at w u) (λ e. is_some e.active) false
 
+-- the step changes what is kept only where it ends or settles a change of that Eject, and a crash ends active parts of its node only
 pub record NoneRolledBack (s : Step) : Type 0 where
   -- what is kept of an Eject changes only by its own put or removal, acknowledged or found done
   pub kept : (u : Uid) → (kept_at s.later u ≡ kept_at s.world u) ⊎ ChangesKept s.world u s.entry.event
@@ -53,12 +57,13 @@ pub record NoneRolledBack (s : Step) : Type 0 where
 
 -- 3. No uid is given twice
 
+-- the Eject that the event created, by a command or a process, if it created one
 abbrev pub created_by : Event → Option Uid
 created_by (event.Made name status u) = u
 created_by (event.Process u p (shown.Created v)) = Some v
 created_by _ = None
 
--- none of the past created this one
+-- no step of the past created this Eject
 abbrev pub NotCreatedIn : List Step → Uid → Type 0
 NotCreatedIn [] u = Unit {0}
 NotCreatedIn (s ∷ past) u = (created_by s.entry.event ≢ Some u) × NotCreatedIn past u
@@ -70,6 +75,7 @@ IsNew w past (Some u) = (eject_at w u ≡ None) × NotCreatedIn past u
 
 -- 4. What every run keeps, whether it came to its end or not
 
+-- what holds of the steps from the opening world to the last, over these disks; `added` is what may be under way on one besides
 pub record IsSafeRun (layout : Layout) (opening last : World) (run : List Step) (added : Added) (disks : List (ℕ × DiskRun)) : Type 0 where
   -- an activation starts from what was kept last, or from what was cut short since
   pub starts_are_whole : EachStep (λ past s. StartIsWhole opening past s s.entry.event) [] run
@@ -82,15 +88,16 @@ pub record IsSafeRun (layout : Layout) (opening last : World) (run : List Step) 
   -- at each moment each disk stands for the history up to there
   pub each_disk_stands : (n : ℕ) (d : DiskRun) → value_at nat_cmp n disks ≡ Some d → StandsThroughout layout last run added n d
 
--- the disks with the numbers of their nodes, in ascending order
+-- the disks with the numbers of their nodes, from n on, in ascending order
 abbrev pub numbered_from : ℕ → List DiskRun → List (ℕ × DiskRun)
 numbered_from n [] = []
 numbered_from n (d ∷ disks) = (n, d) ∷ numbered_from (n + 1) disks
 
--- nodes are numbered from 1
+-- the same from 1 on, as nodes are numbered
 abbrev pub numbered : List DiskRun → List (ℕ × DiskRun)
 numbered disks = numbered_from 1 disks
 
+-- the bytes of each disk as it is handed in, by the number of its node
 abbrev pub images : List (ℕ × DiskRun) → List (ℕ × List ℕ)
 images disks = map (λ d. (d.0, (contents d.1.before).now)) disks
 
@@ -98,16 +105,19 @@ images disks = map (λ d. (d.0, (contents d.1.before).now)) disks
 abbrev pub opening_world : Layout → Script → List DiskRun → World
 opening_world layout script disks = opening (types_in script.types) layout (images (numbered disks))
 
+-- the entries of a history as steps, with the script begun in this world
 abbrev pub run_of : World → Script → List Entry → List Step
 run_of world script history = steps (beginning world script.nodes script.commands) history
 
+-- the world behind such a history
 abbrev pub last_world : World → Script → List Entry → World
 last_world world script history = world_after world script.nodes script.commands history
 
--- the steps of a history over these disks, and the world in which it ends
+-- the steps of a history of this script over these disks
 abbrev pub run_over : Layout → Script → List DiskRun → List Entry → List Step
 run_over layout script disks history = run_of (opening_world layout script disks) script history
 
+-- the world behind a history over these disks, which is the opening one where it has no entry
 abbrev pub end_over : Layout → Script → List DiskRun → List Entry → World
 end_over layout script disks history = last_world (opening_world layout script disks) script history
 
@@ -118,8 +128,7 @@ abbrev pub EachDisk : List DiskRun → (ℕ → DiskRun → Type 0) → Type 0
 EachDisk disks P = (n : ℕ) (d : DiskRun) → value_at nat_cmp n (numbered disks) ≡ Some d → P n d
 
 -- The last entry on a disk shows the clock with which the disk is given back, so that no device call is made behind it. A disk with no
--- entry
--- has the clock with which it was handed in.
+-- entry is given back with the clock with which it was handed in.
 abbrev pub EndsAt : Option ℕ → DiskRun → Type 0
 EndsAt None d = d.last.clock ≡ d.first.clock
 EndsAt (Some clock) d = d.last.clock ≡ clock
@@ -142,19 +151,21 @@ pub record IsLegalRun (layout : Layout) (script : Script) (disks : List DiskRun)
 pub record IsLegalSoFar (layout : Layout) (script : Script) (disks : List DiskRun) (history : List Entry) : Type 0 where
   -- the entries are those with which the script begins
   pub begins : FollowsSoFar (opening_world layout script disks) script.nodes script.commands history
-  -- and they keep what every run keeps
+  -- and they keep the same, with what was unfinished added to what each disk may stand for
   pub safe : IsSafeRun layout (opening_world layout script disks) (end_over layout script disks history)
       (run_over layout script disks history) (unfinished (end_over layout script disks history)) (numbered disks)
   -- no fault and no stop is made up
   pub faults : EachDisk disks (ShowsNoMore history)
 
--- What it takes for granted of the disk that is handed in for node n. What a layout owes of every image is no part of it (IsLayout).
+-- What is taken for granted of the disk that is handed in for node n. What a layout owes of every image is no part of it (IsLayout).
 pub record IsHandedIn (layout : Layout) (n : ℕ) (d : DiskRun) : Type 0 where
-  -- the disk is at rest
+  -- no place of the disk is unsynced
   pub nothing_unsynced : (contents d.before).unsynced ≡ []
+  -- a read sees what the last sync left
   pub same : (contents d.before).stable ≡ (contents d.before).now
   -- it holds bytes
   pub bytes : All (λ byte. byte < 256) (contents d.before).now
+  -- these are an image that is fit for the node
   pub fit : IsFitImage layout n (contents d.before).now
 
 -- each of the disks that are handed in

@@ -18,7 +18,7 @@ use Rattle.journal.specs.Processes.{turn_of}
 
 -- 1. Places
 
--- the first monitor that the process holds, counted from the first of these with the number n
+-- the number of the first of these monitors that process p holds, where they are numbered from n on; None where it holds none of them
 abbrev pub held_from : ℕ → ℕ → List Monitor → Option ℕ
 held_from p n [] = None
 held_from p n (m ∷ ms) = cond (is_held_by p m.holder) (Some n) (held_from p (suc n) ms)
@@ -29,13 +29,15 @@ monitor_for crew p (entry m) = Some m
 monitor_for crew p (condition c) = with_item (slice_get crew.conditions c) (λ it. Some it.monitor) None
 monitor_for crew p _ = held_from p 1 crew.monitors
 
--- that of what is left to do of each process; and a process that holds a monitor is inside of it
+-- each process is inside of the monitor that it holds, or is to hold once it goes on, and of no other
 pub record IsInItsMonitor (it : Active) : Type 0 where
+  -- what is left to do of each process is inside of the monitor that it holds, or is to hold once it goes on; else of none
   pub each : (p : ℕ) (t : Task) (q : Worker) → value_at nat_cmp p it.tasks ≡ Some t → value_at nat_cmp p it.crew.processes ≡ Some q
       → inside_rest t.rest ≡ monitor_for it.crew p q.waits
+  -- where a process holds a monitor, what is left to do of it is inside of that one
   pub only : (p m : ℕ) (t : Task) → Holds it.crew p m → value_at nat_cmp p it.tasks ≡ Some t → inside_rest t.rest ≡ Some m
 
--- of all active parts of a world
+-- so it is in each active part of a world
 abbrev pub AreInTheirMonitors : World → Type 0
 AreInTheirMonitors w = (u : Uid) → IfSome (eject_at w u) (λ e. IfSome e.active IsInItsMonitor)
 
@@ -60,19 +62,25 @@ with_vars vars it = record it { vars = vars }
 -- From these other values of variables that it may not touch, a process comes to the same: the same rest and the same effect, the same
 -- values of the variables that it may touch, and the others as they were.
 pub record ComesToTheSame (crew : Crew) (p : ℕ) (t : TypeTree) (now : Turned) (others : List Datum) (instead : Turned) : Type 0 where
+  -- the variables that the process may touch end with the same values
   pub touched : SameWhere (may_touch crew p) t.vars now.vars instead.vars
+  -- the variables that it may not touch keep the other values from which it began
   pub untouched : SameWhere (may_not_touch crew p) t.vars others instead.vars
+  -- the same is left to do
   pub rest : instead.rest ≡ now.rest
+  -- the turn ends in the same effect
   pub effect : instead.effect ≡ now.effect
 
 -- What this process of an active part comes to in its turn: each variable of a monitor that it does not hold is as it was, and was not
 -- read, since from other values of such variables the process comes to the same.
 pub record TouchesItsOwn (u : Uid) (p : ℕ) (it : Active) (t : TypeTree) (now : Turned) : Type 0 where
+  -- the variables that the process may not touch have the values that they had before the turn
   pub changes_no_other : SameWhere (may_not_touch it.crew p) t.vars it.vars now.vars
+  -- whatever other values those have before it, the turn comes to the same
   pub reads_no_other : (others : List Datum) → SameWhere (may_touch it.crew p) t.vars it.vars others
       → IsSomeAnd (turn_of u (with_vars others it) p) (ComesToTheSame it.crew p t now others)
 
--- the turn of this process of an active part, where that is of a declared type
+-- in its turn this process of an active part touches no variable of a monitor that it does not hold, where its type is a declared one
 abbrev pub KeepsMonitors : Uid → ℕ → Active → Type 0
 KeepsMonitors u p it = (t : TypeTree) → it.kind ≡ declared t → IsSomeAnd (turn_of u it p) (TouchesItsOwn u p it t)
 
@@ -80,7 +88,7 @@ KeepsMonitors u p it = (t : TypeTree) → it.kind ≡ declared t → IsSomeAnd (
 abbrev pub active_at : World → Uid → Option Active
 active_at w u = with_item (eject_at w u) (λ e. e.active) None
 
--- the turn that an event is, in the world before it
+-- so it is with an event that is the turn of a process, by the world before it; of other events nothing is asked
 abbrev pub EventKeepsMonitors : World → Event → Type 0
 EventKeepsMonitors w (event.Process u p said) = IsSomeAnd (active_at w u) (KeepsMonitors u p)
 EventKeepsMonitors w _ = Unit {0}
@@ -98,7 +106,7 @@ abbrev pub Leaves : Option ℕ → Active → List Datum → Type 0
 Leaves None it later = later ≡ it.vars
 Leaves (Some p) it later = (t : TypeTree) → it.kind ≡ declared t → SameWhere (may_not_touch it.crew p) t.vars it.vars later
 
--- of each Eject that is active before an event and after it
+-- and so of each Eject that is active before an event and after it
 abbrev pub LeavesVariables : World → Event → World → Type 0
 LeavesVariables w e later = (u : Uid) (it after : Active) → active_at w u ≡ Some it → active_at later u ≡ Some after
     → Leaves (whose_turn u e) it after.vars

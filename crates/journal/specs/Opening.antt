@@ -11,18 +11,20 @@ use Rattle.journal.specs.World.{World, Eject, Node}
 use Rattle.journal.specs.Settling.{epoch_uid}
 use Rattle.journal.specs.Run.{most_turns}
 
+-- a passive Eject of which these bytes are kept, with nothing queued and nothing in doubt
 abbrev pub passive : List ℕ → Eject
 passive bytes = record { active = None; queued = []; kept = Some bytes; doubt = None }
 
--- the reserved uid is no Eject's
+-- the passive Eject of a uid, by the bytes that are kept under it; None for the reserved uid, whose serial is 0
 abbrev pub passive_entry : Uid × List ℕ → Option (Uid × Eject)
 passive_entry e = cond (e.0.serial == 0) None (Some (e.0, passive e.1))
 
--- a number in bytes, the highest first
+-- the number that these bytes spell behind n, the highest first
 abbrev pub number_from : ℕ → List ℕ → ℕ
 number_from n [] = n
 number_from n (b ∷ bytes) = number_from (n * 256 + b) bytes
 
+-- the epoch that node n has stored, by the bytes under its reserved uid; None where nothing is kept there
 abbrev pub epoch_in : ℕ → List (Uid × List ℕ) → Option ℕ
 epoch_in n kept = with_item (value_at uid_cmp (epoch_uid n) kept) (λ bytes. Some (number_from 0 bytes)) None
 
@@ -30,7 +32,7 @@ epoch_in n kept = with_item (value_at uid_cmp (epoch_uid n) kept) (λ bytes. Som
 abbrev pub last_serial_of_all : ℕ
 last_serial_of_all = 4294967295
 
--- a node by the size of its disk and what the image holds
+-- a node by its number, the size of its disk, what the image keeps or its first damaged place, whether it is overfull, and the ledger
 abbrev pub node_from : ℕ → ℕ → Result (List (Uid × List ℕ)) ℕ → Bool → List ℕ → Node
 node_from n size (Ok kept) overfull ledger = record {
   size = size;
@@ -66,6 +68,7 @@ abbrev pub entries_of : Result Kept ℕ → Result (List (Uid × List ℕ)) ℕ
 entries_of (Ok kept) = Ok (finite.entries kept.bodies)
 entries_of (Err place) = Err place
 
+-- the ledger that is found in an image; of a damaged one it is empty
 abbrev pub ledger_of : Result Kept ℕ → List ℕ
 ledger_of (Ok kept) = kept.ledger
 ledger_of (Err place) = []
@@ -74,21 +77,25 @@ ledger_of (Err place) = []
 abbrev pub found_in : Layout → ℕ → List ℕ → Result (List (Uid × List ℕ)) ℕ
 found_in layout n image = entries_of (layout.map_of n image)
 
+-- a stored epoch, or 0 where none is stored
 abbrev pub epoch_or_zero : Option ℕ → ℕ
 epoch_or_zero epoch = with_item epoch (λ e. e) 0
 
--- A run makes fewer changes on a disk than this: each entry makes at most one, a script of at most 1,048,576 bytes has fewer commands than
--- that, with the boots of its nodes, and all else are turns.
+-- A run makes fewer changes on a disk than this: each entry makes at most one; a script of at most 1,048,576 bytes has fewer commands
+-- than that, with the boots of its nodes, and all else are turns.
 abbrev pub most_changes : ℕ
 most_changes = 1048576 + most_turns
 
 -- An image is fit where it keeps nothing of an epoch past the stored one, and its room is told for all that a run can change. An image that
 -- has no map is fit.
 pub record IsFitImage (layout : Layout) (n : ℕ) (image : List ℕ) : Type 0 where
+  -- the image keeps nothing under a uid whose epoch is past the stored one, or past 0 where none is stored
   pub epochs : (kept : List (Uid × List ℕ)) → found_in layout n image ≡ Ok kept → (u : Uid) → IsTrue (is_some (value_at uid_cmp u kept))
       → u.epoch ≤ epoch_or_zero (epoch_in n kept)
+  -- where the image has a map, its room is told for `most_changes` changes or more
   pub room_is_told : (kept : Kept) → layout.map_of n image ≡ Ok kept → most_changes ≤ layout.changes_told n image
 
+-- the node with this number and this image on its disk, before the first event: down, and with what the image keeps
 abbrev pub node_of : Layout → ℕ × List ℕ → Node
 node_of layout d = node_from d.0 (length d.1) (found_in layout d.0 d.1) (layout.is_overfull d.0 d.1) (ledger_of (layout.map_of d.0 d.1))
 
@@ -105,6 +112,6 @@ opening_of types layout nodes = record {
   last = None;
 }
 
--- the images by the numbers of their nodes
+-- the world before the first event, by the types, the layout, and the images with the numbers of their nodes
 abbrev pub opening : List Edentype → Layout → List (ℕ × List ℕ) → World
 opening types layout images = opening_of types layout (map (λ d. (d.0, node_of layout d)) images)

@@ -34,22 +34,27 @@ plain e = record { event = e; node = 0; clock = 0; broken = [] }
 abbrev pub on_disk : ℕ → ℕ → Event → Entry
 on_disk n c e = record { event = e; node = n; clock = c; broken = [] }
 
+-- 1.1.1, the uid of the first Eject that node 1 creates in its first epoch
 abbrev pub c_uid : Uid
 c_uid = record { node = 1; epoch = 1; serial = 1 }
 
+-- the name c as a reference: what it stands for alone
 abbrev pub ref_c : Ref
 ref_c = record { name = codes "c"; result = 0 }
 
+-- a natural number as a value
 abbrev pub int : ℕ → Datum
 int n = number (pos n)
 
--- a script that declares these types, and one that declares none
+-- a script of so many nodes with these types and these commands
 abbrev pub script_with : TypeList → ℕ → List Command → Script
 script_with types n cs = record { types = types; nodes = n; commands = cs }
 
+-- a script of so many nodes with these commands, whose types are the native ones alone
 abbrev pub script_of : ℕ → List Command → Script
 script_of n cs = script_with native_only n cs
 
+-- the bytes of a blank disk of this size
 abbrev pub zeros : ℕ → List ℕ
 zeros size = replicate size 0
 
@@ -59,6 +64,7 @@ blank_told size = record { image = zeros size; acts = [] }
 
 -- 2. A save is acknowledged, a crash loses what is unsynced, and the value is found; but the disk was never written.
 
+-- a Cell is set to 5 and saves; behind a crash, which loses what is unsynced, and a restart its value is asked for
 unfoldable pub saving : List Command
 saving = command.Create (codes "c") 1 (codes "Cell")
     ∷ command.Call (codes "a") ref_c (codes "Set") (given (int 5) ∷ [])
@@ -72,6 +78,7 @@ saving = command.Create (codes "c") 1 (codes "Cell")
     ∷ command.End
     ∷ []
 
+-- a history of `saving` in which the save is acknowledged, and the value 5 is found behind the crash
 unfoldable pub saved : List Entry
 saved = on_disk 1 11 (event.Boot 1 1 boot_end.Up None true)
     ∷ plain (event.Made (codes "c") status.Ok (Some c_uid))
@@ -104,12 +111,14 @@ saved = on_disk 1 11 (event.Boot 1 1 boot_end.Up None true)
     ∷ plain (event.Left [])
     ∷ []
 
+-- over a blank disk of 1,048,576 bytes that is given back blank, with a log as its layout, `saved` is no legal history
 abbrev pub UnwrittenDiskIsRefused : Type 0
 UnwrittenDiskIsRefused = (d : DiskRun) → d.before ≡ blank_told 1048576 → d.after ≡ blank_told 1048576
     → IsLegalRun log_layout (script_of 1 saving) (d ∷ []) saved → ⊥
 
 -- 3. Two disks are given back in each other's place.
 
+-- blank disks of 65,536 and of 1,048,576 bytes, each given back as the other was handed in, have no legal history
 abbrev pub ExchangedDisksAreRefused : Type 0
 ExchangedDisksAreRefused =
     (layout : Layout) (script : Script) (history : List Entry) (d e : DiskRun) → d.before ≡ blank_told 65536 → e.before ≡ blank_told 1048576
@@ -117,9 +126,11 @@ ExchangedDisksAreRefused =
 
 -- 4. Each boot fails, on a disk that counted no fault.
 
+-- the boot of node 1 ends in a disk fault at the clock 1, with no epoch begun
 abbrev pub failed_boot : Entry
 failed_boot = on_disk 1 1 (event.Boot 1 0 boot_end.DiskFault None false)
 
+-- a history of `saving` in which node 1 does not come up in either of its boots, so that each call is void
 unfoldable pub faults : List Entry
 faults = failed_boot
     ∷ plain (event.Made (codes "c") status.Unreachable None)
@@ -134,31 +145,36 @@ faults = failed_boot
     ∷ plain (event.Left [])
     ∷ []
 
+-- over a disk whose count of faults is 0 as it is handed in and as it is given back, `faults` is no legal history
 abbrev pub InventedFaultsAreRefused : Type 0
 InventedFaultsAreRefused =
     (layout : Layout) (d : DiskRun) → d.first.faults ≡ 0 → d.last.faults ≡ 0 → IsLegalRun layout (script_of 1 saving) (d ∷ []) faults → ⊥
 
 -- 5. A disk that does what is asked of it stops in its first boot, and nothing asked for that.
 
+-- a history of `end` alone in which the boot of node 1 ends in a stop at the clock 1
 abbrev pub stopped : List Entry
 stopped = on_disk 1 1 (event.Boot 1 0 boot_end.Stop None false) ∷ plain (event.Left []) ∷ []
 
+-- over an obedient disk `stopped` is no legal history of `end` alone, which arms no stop
 abbrev pub UnaskedStopIsRefused : Type 0
 UnaskedStopIsRefused =
     (layout : Layout) (d : DiskRun) → IsObedient d → IsLegalRun layout (script_of 1 (command.End ∷ [])) (d ∷ []) stopped → ⊥
 
 -- 6. A boot shows a clock that its disk has not reached.
 
+-- a history of `end` alone in which node 1 comes up with the epoch 1 at the clock 11
 abbrev pub booted : List Entry
 booted = on_disk 1 11 (event.Boot 1 1 boot_end.Up None true) ∷ plain (event.Left []) ∷ []
 
+-- over a disk that is given back with a clock below 11, `booted` is no legal history
 abbrev pub OtherClockIsRefused : Type 0
 OtherClockIsRefused =
     (layout : Layout) (d : DiskRun) → d.last.clock < 11 → IsLegalRun layout (script_of 1 (command.End ∷ [])) (d ∷ []) booted → ⊥
 
--- 7. None of them is refused for the disks that were handed in: a disk of zeros, on which nothing was ever written, is handed in as it
--- has to
--- be wherever a log has room on it.
+-- 7. None of them is refused for the disks that were handed in: a disk of zeros, on which nothing was ever written, is handed in
+-- as it has to be, wherever the layout of a log allows its size.
 
+-- a blank disk of 17 bytes or more is handed in as it has to be, for any node, with a log as its layout
 abbrev pub BlankDisksMayBeHandedIn : Type 0
 BlankDisksMayBeHandedIn = (n size : ℕ) (d : DiskRun) → 17 ≤ size → d.before ≡ blank_told size → IsHandedIn log_layout n d

@@ -67,11 +67,11 @@ FallsAreLast = (w : World) (n : ℕ) (it : Node) (e : Event) → node_at w n ≡
 
 -- 3. Every event at a node
 
--- keeps the number of the site, the types and the layout, and all fields of the node but those of its kind
+-- an event at a node keeps the site's number, types and layout, and all fields of the node but those that its kind may change
 abbrev pub EventsKeepSites : Type 0
 EventsKeepSites = (reach : ℕ → Bool) (e : Event) (s : Site) → KeepsSite e s (site_turn reach e s)
 
--- and the calls: each goes on, and what is new was asked by a process of the node
+-- around an event that is allowed at a sound site each call goes on, and what is new was asked by a process of the node
 abbrev pub EventsKeepCalls : Type 0
 EventsKeepCalls = (reach : ℕ → Bool) (e : Event) (s : Site) → IsSoundSite s → AllowsAt s e
     → CallsGoOn s.number s.traffic (site_turn reach e s).traffic
@@ -84,7 +84,7 @@ StatesStayElsewhere = (layout : Layout) (script : Script) (disks : List DiskRun)
     (run_of (opening_world layout script disks) script history)
 
 -- 5. In each turn of a process of a declared type each variable of a monitor that the process does not hold stays as it was, and is not
--- read, where the types of the script keep the rules.
+-- read, where the types of the script keep the rules and each of their conditions is of a monitor.
 abbrev pub MonitorsKeepVariables : Type 0
 MonitorsKeepVariables = (layout : Layout) (script : Script) (disks : List DiskRun) (history : List Entry) → IsLayout layout
     → AreHandedIn layout disks → KeepRules script.types → HaveMonitors script.types → Begins layout script disks history

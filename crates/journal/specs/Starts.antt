@@ -20,7 +20,7 @@ use Rattle.journal.specs.Crashes.{crashed}
 
 -- 1. What the bytes say
 
--- the type and the durable values with which an Eject starts from these bytes
+-- the type and the durable values with which an Eject starts from these bytes, if it does
 abbrev pub start_of : List Edentype → List ℕ → Uid → Option (Edentype × List Datum)
 start_of types bytes me = with_item (reading bytes) (λ rep. started_from types rep me) None
 
@@ -34,13 +34,13 @@ StartsSo types u (Some bytes) end.Fault = Unit {0}
 StartsSo types u (Some bytes) end.Stop = Unit {0}
 StartsSo types u (Some bytes) end.Gone = ⊥
 
--- the settling may fail, and then nothing is picked
+-- how an activation may end whose settling failed: in a fault or a stop
 abbrev pub FailsSettling : StartEnd → Type 0
 FailsSettling end.Fault = Unit {0}
 FailsSettling end.Stop = Unit {0}
 FailsSettling _ = ⊥
 
--- where there is a doubt to settle, a pick comes exactly where its settling succeeds
+-- how an activation may end with this pick: there is a pick exactly where there was a doubt to settle (true) and its settling succeeded
 abbrev pub StartsFrom : Site → Uid → Bool → StartEnd → Option Pick → Type 0
 StartsFrom s u false how p = (p ≡ None) × IsSomeAnd (eject_in s u) (λ e. StartsSo s.types u e.kept how)
 StartsFrom s u true how None = FailsSettling how
@@ -50,10 +50,15 @@ StartsFrom s u true how (Some p) = IsSomeAnd (eject_in (settled (Some p) s) u) (
 abbrev pub is_worked_on : Site → Uid → Bool
 is_worked_on s u = is_working s.node && with_item (first_request s.node) (λ r. same_uid r.uid u) false
 
+-- the Eject e, whose uid is u, may be activated with this end and this pick
 pub record AllowsActivate (s : Site) (u : Uid) (how : StartEnd) (p : Option Pick) (e : Eject) : Type 0 where
+  -- it has no active part
   pub is_passive : e.active ≡ None
+  -- a call is queued at it
   pub has_queued : IsTrue (is_some (first e.queued))
+  -- the store does not work on it
   pub not_worked_on : is_worked_on s u ≡ false
+  -- the end is one that what is kept of it allows, behind the settling where there is a doubt to settle
   pub starts : StartsFrom s u (to_settle s) how p
 
 -- 2. What it changes
@@ -64,9 +69,11 @@ misfits_answered t [] traffic = traffic
 misfits_answered t (k ∷ ks) traffic = misfits_answered t ks
     (with_item (call_at traffic k) (λ c. with_item (misfit t c) (λ status. replied status [] k traffic) traffic) traffic)
 
+-- whether the type has the operation of call k, and the call has the rights and the arguments for it
 abbrev pub fits_at : Edentype → Traffic → ℕ → Bool
 fits_at t traffic k = with_item (call_at traffic k) (λ c. not (is_some (misfit t c))) false
 
+-- the Eject starts with this type and these durable values; queued calls that do not fit the type are answered and leave the queue
 abbrev pub awake_as : Uid → Eject → Edentype × List Datum → Site → Site
 awake_as u e start s = on_traffic (misfits_answered start.0 e.queued)
     (on_eject u (λ old. record old {
@@ -74,14 +81,15 @@ awake_as u e start s = on_traffic (misfits_answered start.0 e.queued)
       queued = filter (fits_at start.0 s.traffic) e.queued;
     }) s)
 
--- from these bytes
+-- the Eject starts from these bytes; where they start none, nothing changes
 abbrev pub awake_from : Uid → Eject → List ℕ → Site → Site
 awake_from u e bytes s = with_item (start_of s.types bytes u) (λ start. awake_as u e start s) s
 
--- from what is kept
+-- the Eject starts from what is kept of it, if something is
 abbrev pub awake : Uid → Site → Site
 awake u s = with_item (eject_in s u) (λ e. with_item e.kept (λ bytes. awake_from u e bytes s) s) s
 
+-- what an activation comes to by its end: the Eject is awake, its queued calls are turned away, or the node crashes
 abbrev pub activated : Uid → StartEnd → Site → Site
 activated u end.Ok s = awake u s
 activated u end.Gone s = turned_away u status.Gone s
@@ -89,9 +97,10 @@ activated u end.Fault s = turned_away u status.StoreFault s
 activated u end.Damaged s = turned_away u status.Damaged s
 activated u end.Stop s = crashed s
 
--- an activation that settles, or fails to, begins the settling anew
+-- where there is a doubt to settle, the settling begins anew, and what was picked, if anything was, settles it
 abbrev pub start_settled : Option Pick → Site → Site
 start_settled p s = cond (to_settle s) (settled p (unsynced s)) s
 
+-- the site after an activation: the settling comes first, where there is a doubt to settle
 abbrev pub activation_turn : Uid → StartEnd → Option Pick → Site → Site
 activation_turn u how p s = activated u how (start_settled p s)

@@ -31,6 +31,7 @@ use Rattle.journal.specs.Enabled.{no_uid}
 abbrev pub IsActiveAnd : Site → Uid → (Eject → Active → Type 0) → Type 0
 IsActiveAnd s u P = IsSomeAnd (eject_in s u) (λ e. IsSomeAnd e.active (λ it. P e it))
 
+-- the event, one of the five kinds of turns, a boot or a power cut, may happen at this site; no other event may
 abbrev pub AllowsAt : Site → Event → Type 0
 AllowsAt s (event.Request k a b refused) = AllowsRequest s k a b refused
 AllowsAt s (event.Reply k a b name status values) = AllowsReply s.traffic k a b name status values
@@ -42,7 +43,7 @@ AllowsAt s (event.Boot n e how p began) = AllowsBoot s e how p began
 AllowsAt s (event.Crash n) = s.node.up ≡ true
 AllowsAt s _ = ⊥
 
--- `reach` says which nodes are reached from this one
+-- the site after an event there; `reach` says which nodes are reached from this one
 abbrev pub site_turn : (ℕ → Bool) → Event → Site → Site
 site_turn reach (event.Request k a b refused) s = requested k refused s
 site_turn reach (event.Reply k a b name status values) s = heard k status values s
@@ -71,19 +72,22 @@ abbrev pub AllowsEvent : World → Option Command → Event → Type 0
 AllowsEvent w None e = AllowsInTurn w e
 AllowsEvent w (Some c) e = AllowsCommand w c e
 
--- 2. Which disk an event touches: by a device call, a power cut or an arming
+-- 2. Which disk an event touches: by a boot, a device call of a turn, a power cut or an arming
 
+-- the node where the test holds; else 0, which stands for none
 abbrev pub node_if : Bool → ℕ → ℕ
 node_if true n = n
 node_if false n = 0
 
--- an activation settles, or reads what is kept
+-- whether an activation makes a device call: it settles, or reads what is kept
 abbrev pub touches_start : Site → Uid → Bool
 touches_start s u = cond (to_settle s) true (with_item (eject_in s u) (λ e. is_some e.kept) false)
 
+-- whether a turn of the store makes a device call, for its first request or for the settling before it
 abbrev pub touches_store : Site → Bool
 touches_store s = with_item (first_request s.node) (λ r. makes_call (work_of s r)) false
 
+-- the node whose disk the event touches; a boot always touches its own, also where it makes no device call; 0 for none
 abbrev pub touched : World → Event → ℕ
 touched w (event.Boot n e how p began) = n
 touched w (event.Crash n) = n
@@ -94,6 +98,7 @@ touched w _ = 0
 
 -- 3. The clock of that disk
 
+-- the clock at which a disk stands still: 2^64 - 1 device calls
 abbrev pub last_clock : ℕ
 last_clock = 2 ^ 64 - 1
 
@@ -101,6 +106,7 @@ last_clock = 2 ^ 64 - 1
 abbrev pub one_more : ℕ → ℕ
 one_more c = cond (nat_lt c last_clock) (c + 1) c
 
+-- the clock of the last entry on the disk of this node; None where there was none yet
 abbrev pub clock_before : World → ℕ → Option ℕ
 clock_before w n = with_item (node_at w n) (λ it. it.clock) None
 
@@ -108,24 +114,25 @@ clock_before w n = with_item (node_at w n) (λ it. it.clock) None
 abbrev pub NotBefore : ℕ → Option ℕ → Type 0
 NotBefore c before = IfSome before (λ b. b ≤ c)
 
--- an entry that touches no disk has the clock 0
+-- the clock that an entry may show: from the last one of the disk that it touched on, and 0 where it touched none
 abbrev pub ClockFits : World → ℕ → ℕ → Type 0
 ClockFits w zero c = c ≡ 0
 ClockFits w (suc n) c = NotBefore c (clock_before w (suc n))
 
 -- A store's turn shows the disk's clock; with a device call it is one more, and without one it is what it was. A node with a request has
--- been
--- booted, so its disk has a clock.
+-- been booted, so its disk has a clock.
 abbrev pub StoreClockFits : ℕ → Option ℕ → ℕ → ℕ → Type 0
 StoreClockFits zero before shown c = IfSome before (λ b. shown ≡ b)
 StoreClockFits (suc n) before shown c = (shown ≡ c) × IfSome before (λ b. c ≡ one_more b)
 
+-- where the event is a turn of a store, the clock that it shows goes with the device call that it made, if it made one
 abbrev pub StoreClock : World → Event → ℕ → Type 0
 StoreClock w (event.Store u shown how p) c = StoreClockFits (touched w (event.Store u shown how p)) (clock_before w u.node) shown c
 StoreClock w _ c = Unit {0}
 
 -- 4. Which calls of the shell an event answers `broken`
 
+-- whether the event breaks this call: an open one from elsewhere to the node that falls, or over the link that is cut
 abbrev pub breaks : Event → Call → Bool
 breaks (event.Crash n) c = broken_by_node n c
 breaks (event.Link a b false) c = broken_by_link a b c
@@ -135,19 +142,26 @@ breaks _ c = false
 
 -- 5. An entry that is allowed
 
+-- the world allows this entry, of this command, or of a turn where there is none; which command or turn is due is not asked here
 pub record Allows (w : World) (c : Option Command) (e : Entry) : Type 0 where
+  -- its event may come of the command, or of a turn
   pub event : AllowsEvent w c e.event
+  -- its names are those of the shell's calls that the event breaks, by call number
   pub broken : e.broken ≡ names_of (breaks e.event) w.traffic
+  -- its node is the one whose disk the event touches, or 0
   pub disk : e.node ≡ touched w e.event
+  -- its clock is not before the last one of that disk; it is 0 where no disk is touched
   pub clock : ClockFits w e.node e.clock
+  -- a store's turn shows the clock of its disk, and where it made a device call that is the entry's clock
   pub store_clock : StoreClock w e.event e.clock
 
 -- 6. The world after an event
 
--- an event at a node; one that ends in a stop crashes the node, and that is told elsewhere
+-- the world after an event at node n, which changes nothing but its site
 abbrev pub at_site : World → ℕ → Event → World
 at_site w n e = at_node n (site_turn (reaches w n) e) w
 
+-- the world after an event that crashes node n: the processes elsewhere whose calls it breaks are told so
 abbrev pub stopped_at : World → ℕ → Event → World
 stopped_at w n e = crash_by n (site_turn (reaches w n) e) w
 
@@ -158,6 +172,7 @@ heard_by_shell k name status values w = record w {
   names = cond (with_item (call_at w.traffic k) (λ c. c.open_) false) ((name, meaning_of_reply status values) ∷ w.names) w.names;
 }
 
+-- a reply is delivered: with the name of its call to the shell, without one to a process at node b
 abbrev pub replied : ℕ → ℕ → ℕ → Option (List ℕ) → Status → List Datum → World → World
 replied k a b None status values w = at_site w b (event.Reply k a b None status values)
 replied k a b (Some name) status values w = heard_by_shell k name status values w
@@ -184,13 +199,14 @@ after_command w c (event.Bound name held) = bound c held w
 after_command w c (event.Asked k name at_once) = asked_by c k at_once w
 after_command w c _ = w
 
+-- the world after what happened, by this command, or in a turn where there is none
 abbrev pub happened : World → Option Command → Event → World
 happened w None e = after_turn w e
 happened w (Some c) e = after_command w c e
 
 -- 7. Turns and clocks
 
--- the key of a turn, by its event
+-- the key of a turn, by its event; None where that is no turn
 abbrev pub key_of : Event → Option Key
 key_of (event.Request k a b refused) = Some (record { station = b; kind = 1; sender = a; uid = no_uid; process = 0 })
 key_of (event.Reply k a b name s results) = Some (record { station = b; kind = 1; sender = a; uid = no_uid; process = 0 })
@@ -200,13 +216,15 @@ key_of (event.Process u p said) = Some (record { station = u.node; kind = 4; sen
 key_of (event.Store u c how p) = Some (record { station = u.node; kind = 5; sender = 0; uid = no_uid; process = 0 })
 key_of _ = None
 
+-- one more turn was taken, by this key; where there is no key, none was
 abbrev pub counted : Option Key → World → World
 counted None w = w
 counted (Some k) w = record w { turns = w.turns + 1; last = Some k }
 
+-- this clock is the last one of the node's disk; for node 0 nothing changes
 abbrev pub clocked : ℕ → ℕ → World → World
 clocked n c w = record w { nodes = cond (n == 0) w.nodes (changed_at nat_cmp n (λ it. record it { clock = Some c }) w.nodes) }
 
--- the world after an entry that is allowed
+-- the world after an entry: what happened, then its clock as the last one of its disk, and one more turn where it is one
 abbrev pub next : World → Option Command → Entry → World
 next w c e = counted (key_of e.event) (clocked e.node e.clock (happened w c e.event))

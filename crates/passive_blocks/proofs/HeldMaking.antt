@@ -426,7 +426,7 @@ same_may t new k items entries may =
           (subst (λ (e : IndexEntry). is_it k e.latest ≡ true → e.others ≡ 0) (sym (entries uid)) may.alone);
       removal = subst (λ (s : HeadFields). is_it k (entry_at new.heads.index s.uid).latest ≡ true → s.removal ≡ true) (sym at)
           (subst (λ (e : IndexEntry). is_it k e.latest ≡ true → (slot_at t.heads.slots.items k).removal ≡ true)
-            (sym (entries uid)) may.removal);
+          (sym (entries uid)) may.removal);
     }
 
 same_next : (t new : Table) (k : ℕ) → new.heads.slots.items ≡ t.heads.slots.items → ((q : Uid) → entry_at new.heads.index q

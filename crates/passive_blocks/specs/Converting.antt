@@ -34,7 +34,7 @@ pub record IsStaged (image : List ℕ) : Type 0 where
 abbrev pub heads_planned : List Moved → List Head
 heads_planned moved = map (λ (m : Moved). head_of m.head) moved
 
--- each of them begins on a block that a head can name
+-- each of these values begins on a block that a head can name
 abbrev pub ArePlanned : List Moved → Type 0
 ArePlanned moved = All (λ (m : Moved). m.head.first < 65536) moved
 
@@ -51,10 +51,11 @@ pub record IsMovable (m : Moved) : Type 0 where
 abbrev pub moved_in : List ℕ → Moved → Value
 moved_in image m = record { head = head_of m.head; body = slice_range image m.place (m.place + m.head.size) }
 
+-- all that is to be moved, each with its body on the image, in their order
 abbrev pub all_moved_in : List ℕ → List Moved → List Value
 all_moved_in image moved = map (moved_in image) moved
 
--- a value that a head can spell
+-- the uid and the size of a value that a head of this node can spell
 pub record IsGoodEntry (node : ℕ) (uid : Uid) (size : ℕ) : Type 0 where
   pub node_is : uid.node ≡ node
   pub epoch : uid.epoch < 2 ^ 32
@@ -62,11 +63,12 @@ pub record IsGoodEntry (node : ℕ) (uid : Uid) (size : ℕ) : Type 0 where
   pub limit : size ≤ 262144
   pub own : ((1 ≤ uid.epoch) × (1 ≤ uid.serial)) ⊎ ((uid.epoch ≡ 0) × (uid.serial ≡ 0) × (size ≡ 4))
 
--- the entries of the index of a log that have a slot, in their order
+-- an entry in front of those behind it, if it has a slot
 abbrev pub with_slot : Uid → Option Slot → List (Uid × Slot) → List (Uid × Slot)
 with_slot uid None slots = slots
 with_slot uid (Some slot) slots = (uid, slot) ∷ slots
 
+-- the uids that have a slot among these entries, each with its slot, in their order
 abbrev pub slots_in : List (Uid × Option Slot) → List (Uid × Slot)
 slots_in [] = []
 slots_in (e ∷ es) = with_slot e.0 e.1 (slots_in es)
@@ -78,14 +80,15 @@ planned_at number first uid slot = record {
   place = slot.gate + 15;
 }
 
--- In the order of uids they get heads, sequences and blocks one behind the other, as `moved_from` says it of their bodies.
+-- These values get heads, sequences and blocks one behind the other, as `moved_from` says it of their bodies.
 unfoldable pub planned_from : ℕ → ℕ → List (Uid × Slot) → List Moved
 planned_from number first [] = []
 planned_from number first (s ∷ ss) = planned_at number first s.0 s.1 ∷ planned_from (number + 1) (first + blocks_of s.1.length) ss
 
+-- all values that an index has, as they are to be moved: to heads from 0 and blocks from 1,024 on
 abbrev pub planned : BTreeMap Uid (Option Slot) → List Moved
 planned index = planned_from 0 1024 (slots_in index.entries)
 
--- the blocks that they take
+-- how many blocks these values take together
 abbrev pub blocks_planned : List (Uid × Slot) → ℕ
 blocks_planned slots = sum_by (λ (s : Uid × Slot). blocks_of s.1.length) slots

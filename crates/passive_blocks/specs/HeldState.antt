@@ -21,6 +21,7 @@ use Rattle.block_tables.specs.TableState.{IsTable, IsKeptOn, keeper}
 abbrev pub times : ℕ → List ℕ → ℕ
 times k blocks = length (filter (λ b. b == k) blocks)
 
+-- 1 where this is so, and else 0
 abbrev pub one_if : Bool → ℕ
 one_if true = 1
 one_if false = 0
@@ -38,10 +39,11 @@ chain_by next h = walk next h.first (blocks_of h.size)
 abbrev pub times_kept : List ℕ → List Head → ℕ → ℕ
 times_kept next heads k = sum_by (λ (h : Head). times k (chain_by next h)) (keeping heads)
 
--- the blocks of a change
+-- the blocks of a change, by its head; a removal has none
 abbrev pub blocks_planned : List ℕ → HeadFields → List ℕ
 blocks_planned next h = if h.removal then [] else walk next h.first (blocks_of h.size)
 
+-- the blocks of the change that waits, if one does
 abbrev pub planned_blocks : List ℕ → Option Pending → List ℕ
 planned_blocks next None = []
 planned_blocks next (Some p) = blocks_planned next p.head
@@ -54,6 +56,7 @@ AreApart slots = (j k : ℕ) → is_open (slot_at slots j) ≡ true → (slot_at
 abbrev pub must_close : List HeadFields → ℕ → IndexEntry → Bool
 must_close slots k entry = is_open (slot_at slots k) && (not (is_it k entry.latest) || ((slot_at slots k).removal && entry.others == 0))
 
+-- whether the next change closes the head under this number, by what the index has of its uid
 abbrev pub closes_next : Table → ℕ → Bool
 closes_next t k = must_close t.heads.slots.items k (entry_at t.heads.index (slot_at t.heads.slots.items k).uid)
 
@@ -95,7 +98,7 @@ pub record IsHeld (size : ℕ) (counts : Counts) (t : Table) (pending : Option P
       + (times_kept t.blocks.next.items (heads_in t.heads.slots.items) k + times k (planned_blocks t.blocks.next.items pending))
       ≡ one_if (is_data size k)
   pub closing : (k : ℕ) → is_member t.heads.closing k ≡ true → MayClose t k
-  -- the heads that are closed once the job has ended are none of those that it closes
+  -- the heads that wait for the end of a job may be closed then, and are none of those that the job closes
   pub lone : (k : ℕ) → is_member t.heads.lone k ≡ true → MayClose t k × (is_member t.heads.closing k ≡ false)
   pub all : (k : ℕ) → (is_member t.heads.lone k || is_member t.heads.closing k) ≡ closes_next t k
   pub planned : IfSome pending (IsPlanned t)

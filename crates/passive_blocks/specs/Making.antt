@@ -7,7 +7,7 @@ use Rattle.passive_store.specs.Acts.{DiskCall, CallsTold}
 use Rattle.passive_store.specs.Kept.{OpeningMade, OpeningTold, end_of_store}
 use Rattle.passive_store.specs.Seen.{DiskSeen}
 
--- all of them were made, or some up to one that was refused
+-- of so many calls all were made, or some up to one that was refused
 abbrev pub IsMadeOf : ℕ → End → ℕ → Type 0
 IsMadeOf calls Fine made = made ≡ calls
 IsMadeOf calls AtFault made = 1 ≤ made
@@ -22,7 +22,7 @@ pub record Makes (tells obeys : Bool) (calls : List DiskCall) (old new : DiskSee
   pub timed : IsTrue tells → Timed old.counts.clock old.told new.counts.clock new.told
   pub order : IsTrue tells → CallsTold calls old.told new.told end
 
--- The same of calls that want of memory may end too, behind any of them; with another refusal all of them were made.
+-- The same of calls that want of memory may end too, behind any of them; with Full or Damaged all of them were made.
 pub record Runs {T : Type 0} (tells obeys : Bool) (calls : List DiskCall) (old new : DiskSeen) (result : Result T StoreRefusal) : Type 0
   where
     pub made : ℕ

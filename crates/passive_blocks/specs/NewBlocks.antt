@@ -16,20 +16,20 @@ pub record MayEmpty (size k b : ℕ) : Type 0 where
   pub log : k ≡ 0 → (b == 237) ≡ false
   pub gate : (n : ℕ) → n < size / 1024 → k ≡ head_place n → (b == 225) ≡ false
 
--- an image on which nothing stands, or blocks without a head
+-- an image on which nothing stands, or blocks without an open head
 pub record IsEmptyImage (size : ℕ) (image : List ℕ) : Type 0 where
   pub long : length image ≡ size
   pub log : (slice_index image 0 == 237) ≡ false
   pub heads : ((slice_index image 1 == 235) ≡ false) ⊎ ((n : ℕ) → n < size / 1024 → (slice_index image (head_place n) == 225) ≡ false)
 
--- a disk of this size on which nothing stands
+-- a disk of this size, at rest, on which nothing stands
 pub record IsBlankDisk (size : ℕ) (c : Contents) : Type 0 where
   pub rest : c ≡ at_rest c.now
   pub long : length c.now ≡ size
   pub log : (slice_index c.now 0 == 237) ≡ false
   pub format : (slice_index c.now 1 == 235) ≡ false
 
--- a disk with blocks without a head
+-- a disk of this size, at rest, with blocks of which no head is open
 pub record IsNewBlocks (size : ℕ) (c : Contents) : Type 0 where
   pub rest : c ≡ at_rest c.now
   pub long : length c.now ≡ size
@@ -41,11 +41,11 @@ pub record AreCleared (size blocks : ℕ) (now : List ℕ) : Type 0 where
   pub long : length now ≡ size
   pub zeros : (k : ℕ) → 1024 ≤ k → k < 1024 * (1 + blocks) → slice_index now k ≡ 0
 
--- a write of zeros over each of them
+-- a write of zeros over each of the first blocks of heads, so many
 abbrev pub clearing_calls : ℕ → List DiskCall
 clearing_calls blocks = map (λ block. Write (block * 1024) (replicate 1024 0)) (numbers 1 blocks)
 
--- a disk whose heads are cleared, and on which nothing stands at any moment
+-- a disk whose heads are cleared, and on which nothing stands, nor on any image that a crash may leave of it
 pub record IsClearedDisk (size : ℕ) (c : Contents) : Type 0 where
   pub holds : Holds (Fits MayBlank size) c
   pub cleared : AreCleared size (size / 32768) c.now

@@ -20,7 +20,7 @@ use Rattle.block_tables.specs.TableState.{IsTable}
 abbrev pub is_latest : Table → ℕ → Bool
 is_latest t k = is_it k (entry_at t.heads.index (slot_at t.heads.slots.items k).uid).latest
 
--- The heads in memory are those that were read, and those that do not count are to be closed.
+-- What holds of the heads that were read: no two have one sequence, and those that do not count are to be closed.
 pub record AreCounted (t : Table) : Type 0 where
   pub table : IsTable t
   pub apart : AreApart t.heads.slots.items
@@ -47,7 +47,7 @@ pub record AreTaken (b0 b : BlockTable) (first : ℕ) (taken : List ℕ) : Type 
   pub others : (k : ℕ) → has k taken ≡ false → slice_index b.next.items k ≡ slice_index b0.next.items k
   pub chain : walk b.next.items first (length taken) ≡ taken
 
--- A chain was followed, to its end or to where it is damaged. The number is of the reads.
+-- A chain was followed, to its end or to where it is damaged. The number is that of the reads.
 pub record IsFollowed (b0 b : BlockTable) (value : HeadFields) (whole : Bool) (made : ℕ) : Type 0 where
   pub taken : List ℕ
   pub reads : made ≡ length taken
@@ -56,7 +56,7 @@ pub record IsFollowed (b0 b : BlockTable) (value : HeadFields) (whole : Bool) (m
   pub long : whole ≡ true → length taken ≡ blocks_of value.size
   pub ends : whole ≡ true → behind_walk b.next.items value.first (blocks_of value.size) ≡ 0
 
--- what an image says of it
+-- the chain of this value on an image is the one that was followed, with as many blocks as there were reads
 abbrev pub IsChainOn : List ℕ → BlockTable → BlockTable → HeadFields → Bool → ℕ → Type 0
 IsChainOn image b0 b value whole made =
     chain_of image (free_in b0) (head_of value) ≡ record {
@@ -66,7 +66,7 @@ IsChainOn image b0 b value whole made =
           whole;
     }
 
--- A chain was followed to its end, and its value is kept. The number is of the reads.
+-- A chain was followed to its end, and its value is kept. The number is that of the reads.
 pub record IsChainRead (b0 b : BlockTable) (value : HeadFields) (made : ℕ) : Type 0 where
   pub taken : List ℕ
   pub reads : made ≡ length taken
@@ -90,10 +90,11 @@ ChainRead image b0 b value (Err OutOfMemory) made = Unit {0}
 abbrev pub keeps_value : HeadTable → HeadFields → Bool
 keeps_value h slot = is_open slot && (is_it slot.number (entry_at h.index slot.uid).latest && not slot.removal)
 
--- the heads that keep values, among the first so many, and those behind them
+-- the heads that keep values among the first so many
 abbrev pub kept_to : Table → ℕ → List Head
 kept_to t i = map head_of (filter (keeps_value t.heads) (take i t.heads.slots.items))
 
+-- the heads that keep values among all but the first so many
 abbrev pub kept_behind : Table → ℕ → List Head
 kept_behind t i = map head_of (filter (keeps_value t.heads) (drop i t.heads.slots.items))
 

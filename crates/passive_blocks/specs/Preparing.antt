@@ -1,4 +1,4 @@
--- What stands on a disk before its blocks are read.
+-- What is made of what stands on a disk, before its blocks are read.
 use Rattle.std.specs.Prelude.{◌≡◌, ℕ, ◌+◌, ◌==◌, Bool, true, false, List, [], ◌∷◌, ◌++◌, length, replicate, slice_index}
 use Rattle.std.specs.Prelude.{slice_range, Result, Ok, Err, if◌then◌else◌}
 use Rattle.eden_disk.specs.Told.{Told, Contents, contents, at_rest}
@@ -14,7 +14,7 @@ use Rattle.passive_blocks.specs.BlockLayout.{Format, Blocks, Staged, OldLog, For
 use Rattle.passive_blocks.specs.BlockLayout.{overfull_by}
 use Rattle.passive_blocks.specs.BlockLayout.{reads_of_blocks, format_calls, walk_reads, opening_by, block_layout}
 
--- the device calls of a log that is brought over, behind its reading
+-- the device calls that bring a log over, behind its reading, by what it keeps; none where it is damaged
 abbrev pub moving_calls : Result Kept ℕ → List DiskCall
 moving_calls (Ok kept) = staging_calls kept ++ finishing_calls (staged_bytes kept)
 moving_calls (Err place) = []
@@ -23,11 +23,12 @@ moving_calls (Err place) = []
 abbrev pub log_found : ℕ → List ℕ → Result Kept ℕ
 log_found node image = kept_by (records_of node (old_log image))
 
--- the device calls that read it, copy its values and stage their heads, where they are not too much
+-- the device calls that copy the values of a log and stage their heads, by what was found of it; none where it is too much or damaged
 abbrev pub staging_of : Result Kept ℕ → List DiskCall
 staging_of (Ok kept) = if is_too_much (Ok kept) then [] else staging_calls kept
 staging_of (Err place) = []
 
+-- the device calls that read the log of an image, copy its values and stage their heads, where they are not too much
 abbrev pub log_calls : ℕ → List ℕ → List DiskCall
 log_calls node image = walk_reads node (old_log image) ++ staging_of (log_found node image)
 
@@ -49,28 +50,30 @@ pub record IsPrepared (node : ℕ) (image now : List ℕ) : Type 0 where
   pub calls : opening_by (format_of image) node image
       ≡ making_by (format_of image) node image ++ replicate (reads_of_blocks now (heads_of node now)) Read
 
--- the device calls of an opening behind its sync, up to where blocks stand on the disk, and all of them
+-- the device calls of an opening behind its sync, up to where blocks stand on the disk
 abbrev pub calls_to_blocks : ℕ → List ℕ → List DiskCall
 calls_to_blocks node image = Read ∷ making_by (format_of image) node image
 
+-- all device calls of an opening but its sync: the look, and those that follow by what stands on the image
 abbrev pub calls_behind_sync : ℕ → List ℕ → List DiskCall
 calls_behind_sync node image = Read ∷ opening_by (format_of image) node image
 
--- how many of these were made until blocks stood there, or it was refused
+-- how many of these were made: all up to where blocks stand, or with a refusal as many as of an opening that is refused so
 abbrev pub PreparingMade : ℕ → List ℕ → Result (Unit {0}) StoreRefusal → ℕ → Type 0
 PreparingMade node image (Ok done) made = made ≡ length (calls_to_blocks node image)
 PreparingMade node image (Err e) made = OpeningMade {S = Unit {0}} (length (calls_behind_sync node image)) (Err e) made
 
--- what a telling disk notes of them
+-- what a telling disk notes of them, likewise
 abbrev pub PreparingTold : ℕ → List ℕ → Told → Told → Result (Unit {0}) StoreRefusal → Type 0
 PreparingTold node image old new (Ok done) = AllTold (calls_to_blocks node image) old new
 PreparingTold node image old new (Err e) = OpeningTold {S = Unit {0}} (calls_behind_sync node image) old new (Err e)
 
--- A log that is brought over makes these calls but for the look.
+-- how many device calls were made to bring a log over: the same, but for the look
 abbrev pub BringingMade : ℕ → List ℕ → Result (Unit {0}) StoreRefusal → ℕ → Type 0
 BringingMade node image (Ok done) made = made ≡ length (making_by (format_of image) node image)
 BringingMade node image (Err e) made = OpeningMade {S = Unit {0}} (length (opening_by (format_of image) node image)) (Err e) made
 
+-- what a telling disk notes of a log that is brought over, by how that ended
 abbrev pub BringingTold : ℕ → List ℕ → Told → Told → Result (Unit {0}) StoreRefusal → Type 0
 BringingTold node image old new (Ok done) = AllTold (making_by (format_of image) node image) old new
 BringingTold node image old new (Err e) = OpeningTold {S = Unit {0}} (opening_by (format_of image) node image) old new (Err e)

@@ -8,7 +8,7 @@ use Rattle.passive_store.specs.Seen.{Seen, Goes}
 use Rattle.capability.specs.declared.Uid.{Uid}
 use Rattle.passive_blocks.specs.BlockLayout.{block_layout}
 
--- Nothing that is seen of a store but its disk changes.
+-- What is kept under a uid was read, or the read was refused: nothing that is seen of the store but its disk changes.
 pub record ReadsBody (tells obeys : Bool) (uid : Uid) (result : Result (Option (List ℕ)) StoreRefusal) (old new : Seen) : Type 0 where
   pub goes : Goes tells obeys block_layout result old new
   pub only : IfErr result (λ e. IsDiskRefusal e ⊎ (e ≡ OutOfMemory))

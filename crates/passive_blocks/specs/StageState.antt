@@ -38,10 +38,11 @@ use Rattle.passive_blocks.specs.StoreState.{IsTableOf, IsImageOf, chain_in, chan
 abbrev pub gate_open : List ℕ → ℕ → Bool
 gate_open image number = slice_index image (head_place number) == 225
 
--- a head that the change closes
+-- a head that may be closed while a job is under way: it does not count, or it is a removal and the only open one of its uid
 abbrev pub may_close : List Head → Head → Bool
 may_close heads h = not (counts heads h) || (h.removal && is_alone heads h)
 
+-- whether the head of this number is among those that the change closes
 abbrev pub closes : List Head → ℕ → Bool
 closes heads number = has number (map (λ (h : Head). h.number) (closing heads))
 
@@ -59,7 +60,7 @@ pub record MayStand (heads : List Head) (began : List ℕ) (place byte : ℕ) : 
   pub block : (b o : ℕ) → has b (taken_by (chains_of began heads)) ≡ true → o < 1024 → place ≡ b * 1024 + o
       → byte ≡ slice_index began place
 
--- behind its first sync nothing but the gate of its head may differ
+-- behind the first sync of a job nothing but the gate of its head may differ
 abbrev pub MayOpen : List ℕ → ℕ → ℕ → ℕ → Type 0
 MayOpen ready number place byte = (place ≡ head_place number) ⊎ (byte ≡ slice_index ready place)
 
@@ -73,7 +74,7 @@ pub record IsBegun (node : ℕ) (began : List ℕ) (heads : List Head) (t : Tabl
   pub closed : list_all (λ (h : Head). is_open (slot_at t.heads.slots.items h.number) || may_close heads h) heads ≡ true
   pub closing : (k : ℕ) → is_member t.heads.closing k ≡ true → closes heads k ≡ true
 
--- a part of a body, by its number
+-- the part of a body with this number, from 0 on; each is of up to 1,022 bytes
 abbrev pub part_of_body : List ℕ → ℕ → List ℕ
 part_of_body body i = take 1022 (drop (1022 * i) body)
 
@@ -82,17 +83,17 @@ abbrev pub HasPart : List ℕ → List ℕ → ℕ → List ℕ → Type 0
 HasPart image next block part =
     (next_block image block ≡ slice_index next block) × (slice_range image (block * 1024 + 2) (block * 1024 + 2 + length part) ≡ part)
 
--- the first blocks of a change are written
+-- the first blocks of a change, so many, are written
 abbrev pub IsWritten : List ℕ → List ℕ → ℕ → List ℕ → ℕ → Type 0
 IsWritten image next first body count =
     (i : ℕ) → i < count → HasPart image next (behind_walk next first i) (part_of_body body i)
 
--- all of them are, if it is no removal
+-- all blocks of a change are written, if it is no removal
 abbrev pub IsBodyWritten : List ℕ → List ℕ → Pending → Type 0
 IsBodyWritten image next p =
     p.head.removal ≡ false → IsWritten image next p.head.first p.body.items (blocks_of (length p.body.items))
 
--- its head is written behind the gate
+-- the head of a change is written behind its gate
 abbrev pub IsHeadWritten : List ℕ → HeadFields → Type 0
 IsHeadWritten image h = slice_range image (head_place h.number + 1) (head_place h.number + 32) ≡ spelled_head (head_of h)
 
@@ -101,7 +102,7 @@ pub record IsSpelled (node size : ℕ) (h : HeadFields) : Type 0 where
   pub same : head_of h ≡ head_in h.number (225 ∷ spelled_head (head_of h))
   pub good : is_head node size (225 ∷ spelled_head (head_of h)) (head_of h) ≡ true
 
--- What is seen of a job before the first sync.
+-- What is seen of a job before its first sync: the blocks before the next one stand there, then all of them, and then the head too.
 abbrev pub IsSeenAt : List ℕ → Table → Pending → Stage → Type 0
 IsSeenAt now t p Close = Unit {0}
 IsSeenAt now t p (WritePart block from) = IsWritten now t.blocks.next.items p.head.first p.body.items (from / 1022)
@@ -117,7 +118,7 @@ pub record IsEarly (node more : ℕ) (t : Table) (p : Pending) (c : Contents) : 
   pub heads : List Head
   pub begun : IsBegun node began heads t
   pub shut : gate_open began p.head.number ≡ false
-  -- for so many more changes that image tells the room
+  -- for so many more changes the room is told by the image at which the job began
   pub told : more ≤ block_changes node began
   pub fits : Holds (Fits (MayStand heads began) (length began)) c
 
@@ -135,7 +136,7 @@ pub record IsToldReady (node more : ℕ) (ready : List ℕ) (t : Table) (p : Pen
       → more ≤ changes_left node (length ready) (heads_in (slice_set t.heads.slots.items p.head.number p.head))
       (Ok (kept_after (change_of p) kept))
 
--- The images from then on.
+-- The images that a crash may leave from the first sync on.
 pub record IsLate (node more : ℕ) (t : Table) (p : Pending) (c : Contents) : Type 0 where
   pub ready : List ℕ
   pub is : IsReady node ready t p
@@ -155,7 +156,7 @@ pub record IsSeenRefused (node : ℕ) (now : List ℕ) (t : Table) (p : Pending)
   pub closed : (gate ≡ p.head.number → ⊥) → gate_open now gate ≡ false
       → IsImageOf node now (slots_without t gate) t.blocks.next.items t.blocks.size
 
--- A job was refused before its first sync or behind it.
+-- A job was refused up to its first sync, or behind it.
 abbrev pub IsRefusedAt : ℕ → ℕ → Table → Pending → Contents → Bool → ℕ → Type 0
 IsRefusedAt node more t p c power gate =
     (IsEarly node more t p c × (IsTrue power → IsSeenRefused node c.now t p gate)) ⊎ (IsLate node more t p c × (gate ≡ p.head.number))
@@ -179,12 +180,11 @@ abbrev pub IsOnDisk : ℕ → ℕ → Table → Option Pending → Contents → 
 IsOnDisk node more t None c power = (c ≡ at_rest c.now) × IsTableOf node c.now t × (more ≤ block_changes node c.now)
 IsOnDisk node more t (Some p) c power = IsStageOn node more t p c power p.stage
 
--- What holds of a change that waits, at a stage of its job, whatever the disk tells: some heads are still to be closed, or none are
--- and so much of the body is written.
+-- no head is left that the job is to close
 abbrev pub NoneCloses : Table → Type 0
 NoneCloses t = (k : ℕ) → is_member t.heads.closing k ≡ false
 
--- a block of the body is next
+-- a block of the body is to be written next, with the bytes from this place on
 pub record IsPartNext (t : Table) (p : Pending) (block from : ℕ) : Type 0 where
   pub value : p.head.removal ≡ false
   pub count : ℕ
@@ -193,14 +193,17 @@ pub record IsPartNext (t : Table) (p : Pending) (block from : ℕ) : Type 0 wher
   pub before : from ≡ 1022 * count
   pub closed : NoneCloses t
 
--- the stage behind the closing of heads, and that behind the write of a block
+-- the stage behind the closing of heads: the write of the first block, or of the head where the change is a removal
 abbrev pub behind_closing : HeadFields → Stage
 behind_closing head = if head.removal then WriteHead else WritePart head.first 0
 
+-- the stage behind the write of a block: that of the next block on its chain, or of the head where there is none
 abbrev pub behind_part : List ℕ → List ℕ → ℕ → ℕ → Stage
 behind_part next body block from =
     if slice_index next block == 0 then WriteHead else WritePart (slice_index next block) (min (from + 1022) (length body))
 
+-- What holds of a change that waits, at a stage of its job, whatever the disk tells: some heads are still to be closed, or none are
+-- and so much of the body is written; once a call was refused the gate in doubt is that of its head, or of one that was to be closed.
 abbrev pub IsStaged : Table → Pending → Stage → Type 0
 IsStaged t p Close = (k : ℕ) × (is_member t.heads.closing k ≡ true)
 IsStaged t p (WritePart block from) = IsPartNext t p block from
@@ -216,12 +219,12 @@ pub record IsWaiting (node size : ℕ) (t : Table) (p : Pending) : Type 0 where
   pub spelled : IsSpelled node size p.head
   pub short : p.head.first < 65536
   pub limit : length p.body.items ≤ 262144
-  -- of all the calls of its job some are made, and the others left
+  -- the calls of its job that are made, and those that are left, are no more than this
   pub few : p.made + length (calls_at t p p.stage) ≤ 131072
-  -- no first call opens the head
+  -- where the head is opened by the next call, or is open, a call was made already
   pub later : (p.stage ≡ Open → 1 ≤ p.made) × (p.stage ≡ SyncOpen → 1 ≤ p.made)
 
--- Between jobs no removal waits for the end of one.
+-- Where no change waits, no removal waits for the end of a job; and one that waits may be written.
 abbrev pub AreStaged : ℕ → ℕ → Table → Option Pending → Type 0
 AreStaged node size t None = (k : ℕ) → is_member t.heads.lone k ≡ false
 AreStaged node size t (Some p) = IsWaiting node size t p
@@ -242,7 +245,7 @@ abbrev pub IsBehindClosing : Table → HeadFields → Stage → Type 0
 IsBehindClosing t head stage =
     ((stage ≡ Close) × ((k : ℕ) × (is_member t.heads.closing k ≡ true))) ⊎ ((stage ≡ behind_closing head) × NoneCloses t)
 
--- the head that is closed next
+-- the number of the head that is closed next, 0 where none is
 abbrev pub first_closed : Table → ℕ
 first_closed t = first_or_zero (members_of t.heads.closing)
 
@@ -267,7 +270,7 @@ IsNext old new p Open next = (next ≡ Some SyncOpen) × (new ≡ old)
 IsNext old new p SyncOpen next = (next ≡ None) × (new ≡ old)
 IsNext old new p (Ended gate synced) next = Unit {0}
 
--- the gate that tells whether a refused call was made
+-- the head whose gate tells what a refused call of this stage left, by its number
 abbrev pub gate_of : Table → Pending → Stage → ℕ
 gate_of t p Close = first_closed t
 gate_of t p (WritePart block from) = p.head.number
@@ -277,6 +280,7 @@ gate_of t p Open = p.head.number
 gate_of t p SyncOpen = p.head.number
 gate_of t p (Ended gate synced) = p.head.number
 
+-- whether a job goes on at this stage, no call of it refused
 abbrev pub is_going : Stage → Bool
 is_going Close = true
 is_going (WritePart block from) = true
@@ -286,7 +290,7 @@ is_going Open = true
 is_going SyncOpen = true
 is_going (Ended gate synced) = false
 
--- At the first sync the room is told with the change as well.
+-- where the first sync is the next call, the room is told on what is seen, with the change and without it
 abbrev pub TellsBehindSync : ℕ → ℕ → Table → Pending → Contents → Stage → Type 0
 TellsBehindSync node more t p c Close = Unit {0}
 TellsBehindSync node more t p c (WritePart block from) = Unit {0}
@@ -302,9 +306,11 @@ settled_slots t p gate opened =
     if gate == p.head.number then (if opened then slice_set t.heads.slots.items p.head.number p.head else t.heads.slots.items)
     else (if opened then t.heads.slots.items else slots_without t gate)
 
+-- what a settling picks by a gate: New where it is the change's own and open, and Old in any other case
 abbrev pub settled_pick : Pending → ℕ → Bool → Pick
 settled_pick p gate opened = if gate == p.head.number && opened then New else Old
 
+-- a settling left this table and this pick, by what a gate said: no chain changes, and no removal waits for a job's end
 pub record IsSettledBy (old new : Table) (p : Pending) (gate : ℕ) (opened : Bool) (found : Pick) : Type 0 where
   pub items : new.heads.slots.items ≡ settled_slots old p gate opened
   pub next : new.blocks.next ≡ old.blocks.next
@@ -324,7 +330,7 @@ pub record IsTelling (node more : ℕ) (t : Table) (p : Pending) : Type 0 where
   pub room : p.head.removal ≡ false → t.blocks.needed + (blocks_of p.head.size + spare p.head.uid) ≤ data_count t.blocks.size
   pub free : FreeBeside t p ⊎ ((k : ℕ) × (is_member t.heads.closing k ≡ true))
 
--- The value is that under the reserved uid, or there is one.
+-- The value is that under the reserved uid, or one is kept there already.
 abbrev pub is_first_kept : Table → ℕ → Uid → Bool
 is_first_kept t node uid = uid.epoch == 0 || is_some (keeper t (reserved_uid node))
 

@@ -43,15 +43,15 @@ change_of p = record {
   wrote = [];
 }
 
--- the last device calls of a job: its head is written behind its gate, and opened
+-- the last device calls of a job: its head is written behind its gate, and opened, with a sync behind each of the two writes
 abbrev pub last_calls : HeadFields → List DiskCall
 last_calls h = Write (head_place h.number + 1) (spelled_head (head_of h)) ∷ Sync ∷ Write (head_place h.number) (225 ∷ []) ∷ Sync ∷ []
 
--- those from the write of a block on, on which these bytes and what is behind them are to stand
+-- those from the write of this block on; on it and the blocks behind it go these bytes, what is left of the body
 abbrev pub calls_from : BlockTable → HeadFields → ℕ → List ℕ → List DiskCall
 calls_from t h block body = chain_writes (walk t.next.items block (blocks_of (length body))) body ++ last_calls h
 
--- those behind the closing of heads
+-- those behind the closing of heads; a removal writes no block
 abbrev pub calls_behind : BlockTable → Pending → List DiskCall
 calls_behind t p = if p.head.removal then last_calls p.head else calls_from t p.head p.head.first p.body.items
 
@@ -65,6 +65,7 @@ calls_at t p Open = Write (head_place p.head.number) (225 ∷ []) ∷ Sync ∷ [
 calls_at t p SyncOpen = Sync ∷ []
 calls_at t p (Ended gate synced) = []
 
+-- a change as work at this stage: how many calls are made and which are left, or unsettled where the job has ended
 abbrev pub work_at : Table → Pending → Stage → Work
 work_at t p Close = Busy (change_of p) p.made (calls_at t p Close)
 work_at t p (WritePart block from) = Busy (change_of p) p.made (calls_at t p (WritePart block from))
@@ -74,6 +75,7 @@ work_at t p Open = Busy (change_of p) p.made (calls_at t p Open)
 work_at t p SyncOpen = Busy (change_of p) p.made (calls_at t p SyncOpen)
 work_at t p (Ended gate synced) = Unsettled (change_of p) synced
 
+-- the work by the change that waits in memory and its stage; without one the store is idle
 abbrev pub pending_work : Table → Option Pending → Work
 pending_work t None = Idle
 pending_work t (Some p) = work_at t p p.stage
@@ -85,15 +87,16 @@ pub record BlockState (D : Type 0) : Type 0 where
   pub size : ℕ
   -- by its number what each open head says
   pub slots : List HeadFields
-  -- of the index, empty ones among them
+  -- the entries of the index, empty ones among them
   pub entries : List (Uid × IndexEntry)
-  -- the blocks of all values that are kept
+  -- how many blocks all values take that are kept
   pub needed : ℕ
   pub work : Work
   pub picked : Option Pick
   -- for so many more changes the room is told
   pub more : ℕ
 
+-- what an image keeps, or nothing where it is damaged
 abbrev pub kept_or_none : Result Kept ℕ → Kept
 kept_or_none (Ok kept) = kept
 kept_or_none (Err place) = nothing_kept
@@ -117,12 +120,13 @@ HasEntry entries uid = IsSome (lookup (is_at (uid_cmp uid)) entries)
 abbrev pub body_asked : Bool → List ℕ → Option (List ℕ)
 body_asked removal bytes = if removal then None else Some bytes
 
--- For so many more changes the room is told.
+-- For so many more changes the room is told, with these open heads and so many blocks that the kept values take.
 abbrev pub changes_known : ℕ → ℕ → ℕ → List Head → ℕ
 changes_known node size needed heads =
     if is_some (free_head size heads) && (nat_le 1 (data_count size - needed) && has_first_head node heads) then 2 ^ 63 - greatest heads
     else 0
 
+-- this store as each store is seen, by what its disk counts, tells and has due; it notes no place of a refused write
 abbrev pub block_seen : {D : Type 0} → (D → Counts) → (D → Told) → (D → Due) → BlockState D → Seen
 block_seen counts told due s = record {
   node = s.node;
@@ -145,6 +149,6 @@ pub record IsImageOf (node : ℕ) (image : List ℕ) (slots : List HeadFields) (
   pub heads : heads_of node image ≡ Ok (heads_in slots)
   pub chains : chains_of image (heads_in slots) ≡ map (chain_in next) (keeping (heads_in slots))
 
--- The table is that of an image.
+-- The heads and blocks in memory are those of an image.
 abbrev pub IsTableOf : ℕ → List ℕ → Table → Type 0
 IsTableOf node image t = IsImageOf node image t.heads.slots.items t.blocks.next.items t.blocks.size

@@ -8,6 +8,7 @@ abbrev pub AllOrSome : {T : Type 0} → ℕ → Result T DiskRefusal → ℕ →
 AllOrSome calls (Ok done) made = made ≡ calls
 AllOrSome calls (Err e) made = (1 ≤ made) × (made ≤ calls)
 
+-- the counts of a disk before and behind the reading of a value that takes so many calls
 pub record ReadsMade {T : Type 0} (calls : ℕ) (result : Result T DiskRefusal) (before after : Counts) : Type 0 where
   pub made : ℕ
   pub number : AllOrSome calls result made

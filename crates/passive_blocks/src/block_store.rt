@@ -31,20 +31,30 @@ use std::marker::Model;
 /// The next device call of a job; or that one was refused, and which gate tells whether its write was made.
 #[derive(Clone, Copy, Debug, PartialEq, Eq)]
 pub enum Stage {
+    /// Closes the gate of the next head that is to be closed.
     Close,
+    /// Writes the bytes of the body from this place on, up to 1,022, on this block.
     Write { block: u32, from: u32 },
+    /// Writes the head of the change behind its gate.
     Head,
+    /// Syncs what was written, with that gate still closed.
     SyncHead,
+    /// Opens that gate.
     Open,
+    /// Syncs the open gate, as the last call.
     SyncOpen,
+    /// A call was refused. The gate of this head tells what it left, and the sync of the settling is made or not.
     Ended { gate: u32, synced: bool },
 }
 
 /// A change that is under way or in doubt: its head, and its body.
 #[derive(Drop)]
 pub struct Pending {
+    /// The head that the change opens.
     pub head: HeadFields,
+    /// The bytes that it puts, none for a removal.
     pub body: Vec<u8>,
+    /// Where its job stands.
     pub stage: Stage,
     // how many device calls it has made
     pub made: u32,

@@ -58,7 +58,9 @@ pub const BLOCKS: u8 = 0xEB;
 /// A value of a log: the head that it is to have, and the place of its body.
 #[derive(Clone, Copy, Debug, PartialEq, Eq)]
 pub struct Moved {
+    /// The head that it is to have.
     pub head: HeadFields,
+    /// Where its body begins in the log, in bytes.
     pub place: u32,
 }
 

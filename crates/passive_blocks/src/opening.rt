@@ -46,8 +46,11 @@ const LOG: u8 = 0xED;
 /// What stands on a disk.
 #[derive(Clone, Copy, Debug, PartialEq, Eq)]
 pub enum Format {
+    /// Blocks: byte 1 is EB.
     Blocks,
+    /// A log: byte 0 is ED, and no blocks stand there. Its heads are staged where byte 2 is EA.
     Log { staged: bool },
+    /// Neither.
     Blank,
 }
 

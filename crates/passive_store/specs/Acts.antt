@@ -9,7 +9,7 @@ pub data DiskCall : Type 0 where
   Sync : DiskCall
   Read : DiskCall
 
--- What a telling disk notes of it at a clock, however it ended. Of a read it notes nothing.
+-- what a telling disk notes of one device call, made at this clock, by how it ended; of a read nothing but the cut of a stop
 abbrev pub CallTold : DiskCall → ℕ → Told → Told → End → Type 0
 CallTold (Write at bytes) clock old new end = WriteTold clock at bytes old new end
 CallTold Sync clock old new end = SyncTold clock old new end
@@ -20,7 +20,7 @@ abbrev pub AllTold : List DiskCall → Told → Told → Type 0
 AllTold [] old new = new ≡ old
 AllTold (call ∷ calls) old new = (mid : Told) × (clock : ℕ) × CallTold call clock old mid Fine × AllTold calls mid new
 
--- of these calls, made one behind the other, one was refused, which was the last
+-- some of these calls were made, from the first on: the last of them ended so, and those before it were not refused
 abbrev pub SomeTold : List DiskCall → Told → Told → End → Type 0
 SomeTold [] old new end = ⊥
 SomeTold (call ∷ calls) old new end = ((clock : ℕ) × CallTold call clock old new end)
@@ -32,7 +32,7 @@ CallsTold calls old new Fine = AllTold calls old new
 CallsTold calls old new AtFault = SomeTold calls old new AtFault
 CallsTold calls old new AtStop = SomeTold calls old new AtStop
 
--- a settling makes its sync, and then its read
+-- the next device call of a settling, by whether its sync is made: the sync, and then the read
 abbrev pub settling_call : Bool → DiskCall
 settling_call false = Sync
 settling_call true = Read

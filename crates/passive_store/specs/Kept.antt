@@ -18,7 +18,7 @@ use Rattle.eden_disk.specs.Told.{Told, contents, EachMoment, LeavesOnly}
 use Rattle.eden_disk.specs.Calls.{End, Fine, AtFault, AtStop, Counts, DeviceCalls}
 use Rattle.passive_store.specs.Acts.{DiskCall, Write, Sync, Read, CallTold, AllTold, SomeTold}
 
--- new bytes of a uid, or its removal, and the number of the record that says so
+-- new bytes of a uid, or its removal, under a mark: of a log the place of the record, of blocks the sequence of the head
 pub record StoreChange : Type 0 where
   pub uid : Uid
   pub body : Option (List ℕ)
@@ -26,24 +26,28 @@ pub record StoreChange : Type 0 where
   -- what it adds to the ledger
   pub wrote : List ℕ
 
--- what is kept under each uid, and the number of the record that keeps it
+-- what is kept: under each uid its bytes, with the mark of the change that gave it these
 pub record Kept : Type 0 where
   pub bodies : FinMap uid_cmp (List ℕ)
   pub marks : FinMap uid_cmp ℕ
   -- what else decides the room, in the words of the layout: of a log the lengths of all bodies written, of blocks nothing
   pub ledger : List ℕ
 
+-- what is kept before the first change: nothing, with an empty ledger
 abbrev pub nothing_kept : Kept
 nothing_kept = record { bodies = map.empty; marks = map.empty; ledger = [] }
 
+-- the bodies behind a change of this uid: it has this body, or with None no body at all
 abbrev pub bodies_after : Uid → Option (List ℕ) → FinMap uid_cmp (List ℕ) → FinMap uid_cmp (List ℕ)
 bodies_after uid None m = map.remove m uid
 bodies_after uid (Some body) m = map.insert m uid body
 
+-- the marks behind the same change: its uid has this mark, or none where it was removed
 abbrev pub marks_after : Uid → Option (List ℕ) → ℕ → FinMap uid_cmp ℕ → FinMap uid_cmp ℕ
 marks_after uid None mark m = map.remove m uid
 marks_after uid (Some body) mark m = map.insert m uid mark
 
+-- what is kept behind a change: of its uid the new body and mark, or neither; and a ledger longer by what the change wrote
 abbrev pub kept_after : StoreChange → Kept → Kept
 kept_after c k = record {
   bodies = bodies_after c.uid c.body k.bodies;
@@ -56,6 +60,7 @@ abbrev pub kept_from : Kept → List StoreChange → Kept
 kept_from kept [] = kept
 kept_from kept (c ∷ cs) = kept_from (kept_after c kept) cs
 
+-- what these changes leave where nothing was kept before; or, where they cannot be told, the damaged place
 abbrev pub kept_by : Result (List StoreChange) ℕ → Result Kept ℕ
 kept_by (Ok cs) = Ok (kept_from nothing_kept cs)
 kept_by (Err place) = Err place
@@ -64,53 +69,61 @@ kept_by (Err place) = Err place
 abbrev pub IsFresh : StoreChange → Kept → Type 0
 IsFresh c k = map.get (marks_after c.uid c.body c.mark k.marks) c.uid ≢ map.get k.marks c.uid
 
--- the change that a store works on, or that is in doubt
+-- what a store has under way: nothing, the job of a change, or a change that waits to be settled
 pub data Work : Type 0 where
   Idle : Work
   -- a job goes on: how many device calls it made, and those that it has left, in their order
   Busy : StoreChange → ℕ → List DiskCall → Work
-  -- a job was refused its last call: the change is made or not, and whether the sync of the settling is done
+  -- a device call of a job was refused: the change is made or not; and whether the sync of its settling is made
   Unsettled : StoreChange → Bool → Work
 
--- From the first device call of its job on, a change is in doubt.
+-- the change in doubt, if there is one: that of a job once its first device call is made, or the one that waits to be settled
 abbrev pub doubt_in : Work → Option StoreChange
 doubt_in Idle = None
 doubt_in (Busy c zero left) = None
 doubt_in (Busy c (suc made) left) = Some c
 doubt_in (Unsettled c synced) = Some c
 
+-- the change of a job, also of one that has made no device call yet, or the one that waits to be settled
 abbrev pub change_in : Work → Option StoreChange
 change_in Idle = None
 change_in (Busy c made left) = Some c
 change_in (Unsettled c synced) = Some c
 
+-- the uid that is changed, if there is a change
 abbrev pub uid_of_change : Option StoreChange → Option Uid
 uid_of_change None = None
 uid_of_change (Some c) = Some c.uid
 
+-- the uid of the change in doubt, if there is one
 abbrev pub unsure_in : Work → Option Uid
 unsure_in work = uid_of_change (doubt_in work)
 
+-- the uid of a job that goes on, from its begin to its end; none where its change waits to be settled
 abbrev pub worked_on : Work → Option Uid
 worked_on Idle = None
 worked_on (Busy c made left) = Some c.uid
 worked_on (Unsettled c synced) = None
 
+-- whether a job goes on
 abbrev pub is_busy : Work → Bool
 is_busy Idle = false
 is_busy (Busy c made left) = true
 is_busy (Unsettled c synced) = false
 
+-- whether a change waits to be settled, since a device call of its job was refused
 abbrev pub is_unsettled : Work → Bool
 is_unsettled Idle = false
 is_unsettled (Busy c made left) = false
 is_unsettled (Unsettled c synced) = true
 
+-- whether a change waits to be settled, and the sync of its settling is made
 abbrev pub is_synced : Work → Bool
 is_synced Idle = false
 is_synced (Busy c made left) = false
 is_synced (Unsettled c synced) = synced
 
+-- how many device calls a job has left, 0 where none goes on
 abbrev pub calls_left : Work → ℕ
 calls_left Idle = 0
 calls_left (Busy c made left) = length left
@@ -122,22 +135,23 @@ job_left Idle = []
 job_left (Busy c made left) = left
 job_left (Unsettled c synced) = []
 
--- the device calls of a whole settling, in their order, and their number
+-- the device calls of a whole settling, in their order; none where no change waits for one
 abbrev pub settling_of : Work → List DiskCall
 settling_of Idle = []
 settling_of (Busy c made left) = []
 settling_of (Unsettled c synced) = Sync ∷ Read ∷ []
 
+-- how many device calls a whole settling makes, 0 where no change waits for one
 abbrev pub settling_calls : Work → ℕ
 settling_calls Idle = 0
 settling_calls (Busy c made left) = 0
 settling_calls (Unsettled c synced) = 2
 
--- What a layout says of images, and of the room on them.
+-- What a layout of disks says: what images keep, the room on them, and the device calls that open, change and read them.
 pub record Layout : Type 0 where
   -- whether a disk of this size can hold it
   pub allows : ℕ → Bool
-  -- by a node: what an image keeps, or its first damaged place
+  -- what an image keeps as one of this node, or its first damaged place
   pub map_of : ℕ → List ℕ → Result Kept ℕ
   -- whether an image, which was written by another layout, keeps too much to be brought over, so that it is not opened
   pub is_overfull : ℕ → List ℕ → Bool
@@ -152,18 +166,19 @@ pub record Layout : Type 0 where
   -- The device calls of the job of a put of this body, or of a removal, on this image, in their order. The number, where there
   -- is one, is the place of a byte that a write was refused and that has neither been read nor written since.
   pub job_calls : ℕ → Option ℕ → List ℕ → Uid → Option (List ℕ) → List DiskCall
-  -- whether the job of a put of this body, or of a removal, may have so many of them
+  -- whether the job of a put of this body, or of a removal, may have so many device calls
   pub is_job : Option (List ℕ) → ℕ → Bool
   -- the device calls that open an image, or find that it cannot be opened, in their order
   pub opening_calls : ℕ → List ℕ → List DiskCall
   -- how many device calls read what is kept under a uid
   pub reading_calls : Option (List ℕ) → ℕ
 
--- What is found in an image is what is kept with any of these changes made, in their order.
+-- What is found in an image is what is kept with any of these changes made, in their order, each of which gives its uid another mark.
 abbrev pub IsAnyOf : Kept → List StoreChange → Result Kept ℕ → Type 0
 IsAnyOf kept [] found = found ≡ Ok kept
 IsAnyOf kept (c ∷ cs) found = IsAnyOf kept cs found ⊎ (IsFresh c kept × IsAnyOf (kept_after c kept) cs found)
 
+-- a list of this change, or an empty one where there is none
 abbrev pub changes_in : Option StoreChange → List StoreChange
 changes_in None = []
 changes_in (Some c) = c ∷ []
@@ -204,19 +219,20 @@ settled (Some New) Idle s = s
 settled (Some New) (Busy c made left) s = s
 settled (Some New) (Unsettled c synced) s = kept_after c s
 
+-- the work behind a whole settling: with a pick the doubt has ended, without one its sync is to be made again; a job is as it was
 abbrev pub work_settled : Option Pick → Work → Work
 work_settled pick Idle = Idle
 work_settled pick (Busy c made left) = Busy c made left
 work_settled None (Unsettled c synced) = Unsettled c false
 work_settled (Some pick) (Unsettled c synced) = Idle
 
--- a settling that begins anew
+-- the work with its settling begun anew, so that the sync is to be made again; where no change waits for one it is as it was
 abbrev pub unsynced : Work → Work
 unsynced Idle = Idle
 unsynced (Busy c made left) = Busy c made left
 unsynced (Unsettled c synced) = Unsettled c false
 
--- after one call of a settling
+-- the work behind one call of a settling: the read is next, or the doubt has ended; with a refusal the settling begins anew
 abbrev pub work_stepped : Work → Result Progress StoreRefusal → Work
 work_stepped Idle r = Idle
 work_stepped (Busy c made left) r = Busy c made left
@@ -224,7 +240,7 @@ work_stepped (Unsettled c synced) (Ok Going) = Unsettled c true
 work_stepped (Unsettled c synced) (Ok Done) = Idle
 work_stepped (Unsettled c synced) (Err e) = Unsettled c false
 
--- after one call of a job
+-- the work behind one call of a job: one call fewer is left, or the job has ended; with a refusal its change waits to be settled
 abbrev pub work_advanced : Work → Result Progress StoreRefusal → Work
 work_advanced Idle r = Idle
 work_advanced (Busy c made left) (Ok Going) = Busy c (made + 1) (drop 1 left)
@@ -232,6 +248,7 @@ work_advanced (Busy c made left) (Ok Done) = Idle
 work_advanced (Busy c made left) (Err e) = Unsettled c false
 work_advanced (Unsettled c synced) r = Unsettled c synced
 
+-- what is kept behind one call of a job: the last, which answers Done, makes the change
 abbrev pub kept_advanced : Work → Kept → Result Progress StoreRefusal → Kept
 kept_advanced Idle s r = s
 kept_advanced (Busy c made left) s (Ok Going) = s
@@ -239,24 +256,25 @@ kept_advanced (Busy c made left) s (Ok Done) = kept_after c s
 kept_advanced (Busy c made left) s (Err e) = s
 kept_advanced (Unsettled c synced) s r = s
 
--- a job that was begun has all the device calls of its layout before it, by what its disk held then
+-- a job that was begun has all the device calls of its layout left, by what its disk held then, and adds to the ledger what that says
 abbrev pub HasJob : Layout → ℕ → Option ℕ → List ℕ → Work → Type 0
 HasJob layout node refused image Idle = Unit {0}
 HasJob layout node refused image (Busy c made left) =
     (left ≡ layout.job_calls node refused image c.uid c.body) × (c.wrote ≡ layout.grows c.body)
 HasJob layout node refused image (Unsettled c synced) = Unit {0}
 
--- A place where a write was refused joins by a refused call of these alone; it may be forgotten once it does not matter.
+-- the place of a write; a sync and a read have none
 abbrev pub place_of : DiskCall → Option ℕ
 place_of (Write at bytes) = Some at
 place_of Sync = None
 place_of Read = None
 
+-- what may be noted behind these calls as the place of a refused write: that of one of them, the one noted before, or none
 abbrev pub IsRefusedIn : List DiskCall → Option ℕ → Option ℕ → Type 0
 IsRefusedIn [] old new = (new ≡ None) ⊎ (new ≡ old)
 IsRefusedIn (call ∷ calls) old new = (new ≡ place_of call) ⊎ IsRefusedIn calls old new
 
--- the same after one call of a job
+-- the same behind the next call of a job, the first of these: its own place is noted only where it was refused
 abbrev pub IsRefusedAfter : List DiskCall → Result Progress StoreRefusal → Option ℕ → Option ℕ → Type 0
 IsRefusedAfter calls (Ok progress) old new = IsRefusedIn [] old new
 IsRefusedAfter calls (Err e) old new = IsRefusedIn (take 1 calls) old new
@@ -268,7 +286,7 @@ NextTold (Busy c made []) clock old new end = Unit {0}
 NextTold (Busy c made (call ∷ left)) clock old new end = CallTold call clock old new end
 NextTold (Unsettled c synced) clock old new end = Unit {0}
 
--- a call that is the last answers Done
+-- what a call answers, by whether it is the last: Done, and else Going
 abbrev pub progress_at : Bool → Progress
 progress_at true = Done
 progress_at false = Going
@@ -291,11 +309,12 @@ end_of_store (Err OutOfMemory) = Fine
 abbrev pub IsDiskRefusal : StoreRefusal → Type 0
 IsDiskRefusal e = (e ≡ Failed) ⊎ (e ≡ Stopped)
 
--- a refusal that came before any device call
+-- a refusal that comes before the first device call of a job: for want of room, or of memory
 abbrev pub IsEarlyRefusal : StoreRefusal → Type 0
 IsEarlyRefusal e = (e ≡ Full) ⊎ (e ≡ OutOfMemory)
 
--- So many device calls were made: all of the settling and of what comes behind it, or some of them.
+-- So many device calls were made: all of the settling and of what comes behind it; where the disk refused one, some of these;
+-- and with any other refusal those of the settling alone.
 abbrev pub CallsMade : {T : Type 0} → ℕ → ℕ → Result T StoreRefusal → ℕ → Type 0
 CallsMade settling calls (Ok done) made = made ≡ settling + calls
 CallsMade settling calls (Err Failed) made = (1 ≤ made) × (made ≤ settling + calls)
@@ -304,7 +323,7 @@ CallsMade settling calls (Err Full) made = made ≡ settling
 CallsMade settling calls (Err (Damaged place)) made = made ≡ settling
 CallsMade settling calls (Err OutOfMemory) made = made ≡ settling
 
--- the device calls of one call of a store
+-- the device calls of one call of a store: how many were made, and what they left of the counts of the disk
 pub record Ran {T : Type 0} (settling calls : ℕ) (result : Result T StoreRefusal) (before after : Counts) : Type 0 where
   pub made : ℕ
   pub number : CallsMade settling calls result made
@@ -315,18 +334,19 @@ pub record Ran {T : Type 0} (settling calls : ℕ) (result : Result T StoreRefus
 abbrev pub IsJobOf : ℕ → ℕ → Type 0
 IsJobOf size calls = (2 ≤ calls) × ((kib : ℕ) × (kib * 1024 ≤ size) × (calls ≤ 2 * kib + 4))
 
+-- the work once a job was asked for: it has all its device calls left; where it was refused, the work as it was
 abbrev pub work_begun : {T : Type 0} → StoreChange → List DiskCall → Work → Result T StoreRefusal → Work
 work_begun c calls old (Ok done) = Busy c 0 calls
 work_begun c calls old (Err e) = old
 
--- Where a device refused a call: a change whose settling failed has not begun; any other is in doubt.
+-- Where the disk refused a call: a change whose settling failed has not begun, and the old doubt stays; any other is in doubt.
 abbrev pub work_refused : Option Pick → StoreChange → Work → Work
 work_refused (Some pick) c old = Unsettled c false
 work_refused None c Idle = Unsettled c false
 work_refused None c (Busy d made left) = Unsettled c false
 work_refused None c (Unsettled d synced) = Unsettled d false
 
--- after a whole put or removal that settled with this pick
+-- the work behind a whole put or removal that settled with this pick; with Damaged or OutOfMemory it is as it was
 abbrev pub work_changed : {T : Type 0} → Option Pick → StoreChange → Work → Result T StoreRefusal → Work
 work_changed pick c old (Ok done) = Idle
 work_changed pick c old (Err Failed) = work_refused pick c old
@@ -335,11 +355,12 @@ work_changed pick c old (Err Full) = Idle
 work_changed pick c old (Err (Damaged place)) = old
 work_changed pick c old (Err OutOfMemory) = old
 
+-- what is kept behind a whole put or removal: the doubt is settled by this pick, and the change is made where it was done
 abbrev pub kept_changed : {T : Type 0} → Option Pick → StoreChange → Work → Kept → Result T StoreRefusal → Kept
 kept_changed pick c work s (Ok done) = kept_after c (settled pick work s)
 kept_changed pick c work s (Err e) = settled pick work s
 
--- What a call found that settles first. It tells of a settling exactly where it ended one.
+-- a call that settles first has a pick where a change waited to be settled, and nowhere else; where the disk refused it, it may have none
 abbrev pub SettlesFirst : {T : Type 0} → Option Pick → Work → Result T StoreRefusal → Type 0
 SettlesFirst pick work (Ok done) = is_some pick ≡ is_unsettled work
 SettlesFirst pick work (Err Failed) = IsTrue (is_some pick) → IsTrue (is_unsettled work)
@@ -348,7 +369,7 @@ SettlesFirst pick work (Err Full) = is_some pick ≡ is_unsettled work
 SettlesFirst pick work (Err (Damaged place)) = is_some pick ≡ is_unsettled work
 SettlesFirst pick work (Err OutOfMemory) = is_some pick ≡ is_unsettled work
 
--- the same of a call that takes its memory before it settles
+-- the same of a call that takes its memory before it settles: where that is wanting it has no pick
 abbrev pub SettlesAfterMemory : {T : Type 0} → Option Pick → Work → Result T StoreRefusal → Type 0
 SettlesAfterMemory pick work (Ok done) = is_some pick ≡ is_unsettled work
 SettlesAfterMemory pick work (Err Failed) = IsTrue (is_some pick) → IsTrue (is_unsettled work)
@@ -357,8 +378,8 @@ SettlesAfterMemory pick work (Err Full) = is_some pick ≡ is_unsettled work
 SettlesAfterMemory pick work (Err (Damaged place)) = is_some pick ≡ is_unsettled work
 SettlesAfterMemory pick work (Err OutOfMemory) = pick ≡ None
 
--- A change is refused for want of room exactly where, settled, there is none. One that failed once it was settled had
--- room.
+-- A change is refused as Full only where, settled, there is no room. One that was done had room, and so had one that the disk
+-- refused once it was settled.
 abbrev pub IsFullBy : {T : Type 0} → Bool → Option Pick → Work → Result T StoreRefusal → Type 0
 IsFullBy room pick work (Ok done) = IsTrue room
 IsFullBy room pick work (Err Failed) = is_some pick ≡ is_unsettled work → IsTrue room
@@ -367,7 +388,7 @@ IsFullBy room pick work (Err Full) = room ≡ false
 IsFullBy room pick work (Err (Damaged place)) = Unit {0}
 IsFullBy room pick work (Err OutOfMemory) = Unit {0}
 
--- the settling of a put that wanted memory makes no call
+-- how many device calls the settling of a whole put or removal makes; with OutOfMemory or Damaged none
 abbrev pub settling_before : {T : Type 0} → Work → Result T StoreRefusal → ℕ
 settling_before work (Ok done) = settling_calls work
 settling_before work (Err Failed) = settling_calls work
@@ -376,7 +397,7 @@ settling_before work (Err Full) = settling_calls work
 settling_before work (Err (Damaged place)) = 0
 settling_before work (Err OutOfMemory) = 0
 
--- the device calls of a whole put or removal in their order: the settling, and the job, which one without room does not begin
+-- the device calls of a whole put or removal, in their order: the settling and the job; with Full no job, with OutOfMemory or Damaged none
 abbrev pub calls_due : {T : Type 0} → Work → List DiskCall → Result T StoreRefusal → List DiskCall
 calls_due work calls (Ok done) = settling_of work ++ calls
 calls_due work calls (Err Failed) = settling_of work ++ calls
@@ -385,6 +406,7 @@ calls_due work calls (Err Full) = settling_of work
 calls_due work calls (Err (Damaged place)) = []
 calls_due work calls (Err OutOfMemory) = []
 
+-- the device calls of a removal of what is not kept: the settling, or none where the answer is OutOfMemory or Damaged
 abbrev pub settling_due : {T : Type 0} → Work → Result T StoreRefusal → List DiskCall
 settling_due work (Ok done) = settling_of work
 settling_due work (Err Failed) = settling_of work
@@ -393,7 +415,7 @@ settling_due work (Err Full) = settling_of work
 settling_due work (Err (Damaged place)) = []
 settling_due work (Err OutOfMemory) = []
 
--- the same of a get: the settling, and so many reads, which one that wants memory does not begin
+-- the device calls of a get, in their order: the settling and so many reads; with Full, Damaged or OutOfMemory no read
 abbrev pub reads_due : {T : Type 0} → Work → ℕ → Result T StoreRefusal → List DiskCall
 reads_due work reads (Ok done) = settling_of work ++ replicate reads Read
 reads_due work reads (Err Failed) = settling_of work ++ replicate reads Read
@@ -402,14 +424,15 @@ reads_due work reads (Err Full) = settling_of work
 reads_due work reads (Err (Damaged place)) = settling_of work
 reads_due work reads (Err OutOfMemory) = settling_of work
 
--- The changes that a crash at some moment of a whole put or removal may show: what was in doubt, and the new change where
--- its job was begun.
+-- The changes that a crash at some moment of a whole put or removal may show that the disk refused: what was in doubt, and the new
+-- change where its job was begun.
 abbrev pub changes_refused : Option Pick → StoreChange → Work → List StoreChange
 changes_refused (Some pick) c old = changes_in (doubt_in old) ++ c ∷ []
 changes_refused None c Idle = c ∷ []
 changes_refused None c (Busy d made left) = changes_in (doubt_in (Busy d made left)) ++ c ∷ []
 changes_refused None c (Unsettled d synced) = d ∷ []
 
+-- the same by the answer: where that is Full, Damaged or OutOfMemory the job was not begun, and only the old doubt may show
 abbrev pub changes_begun : {T : Type 0} → Option Pick → StoreChange → Work → Result T StoreRefusal → List StoreChange
 changes_begun pick c old (Ok done) = changes_in (doubt_in old) ++ c ∷ []
 changes_begun pick c old (Err Failed) = changes_refused pick c old
@@ -418,7 +441,7 @@ changes_begun pick c old (Err Full) = changes_in (doubt_in old)
 changes_begun pick c old (Err (Damaged place)) = changes_in (doubt_in old)
 changes_begun pick c old (Err OutOfMemory) = changes_in (doubt_in old)
 
--- after a removal of what is not kept once the doubt is settled, which is done with the settling
+-- the work behind a removal of what is not kept, which is done with the settling; with OutOfMemory or Damaged it is as it was
 abbrev pub work_unchanged : {T : Type 0} → Option Pick → Work → Result T StoreRefusal → Work
 work_unchanged pick old (Ok done) = work_settled pick old
 work_unchanged pick old (Err Failed) = work_settled pick old
@@ -431,22 +454,23 @@ work_unchanged pick old (Err OutOfMemory) = old
 abbrev pub IsEject : ℕ → Uid → Type 0
 IsEject node uid = (uid.node ≡ node) × (1 ≤ uid.epoch) × (1 ≤ uid.serial)
 
--- a uid under which a store of this node keeps bytes: that of an Eject, or the reserved one with its four
+-- a uid under which a store of this node keeps so many bytes: that of an Eject, or the reserved one with four
 abbrev pub IsOwn : ℕ → Uid → ℕ → Type 0
 IsOwn node uid size = (uid.node ≡ node) × (((1 ≤ uid.epoch) × (1 ≤ uid.serial)) ⊎ ((uid.epoch ≡ 0) × (uid.serial ≡ 0) × (size ≡ 4)))
 
+-- the uid under which a node's epoch is kept, with 0 for epoch and serial
 abbrev pub reserved_uid : ℕ → Uid
 reserved_uid node = record { node = node; epoch = 0; serial = 0 }
 
--- what is kept under a uid, once the doubt is settled
+-- the bytes that are kept under a uid, or None
 abbrev pub body_at : Kept → Uid → Option (List ℕ)
 body_at s uid = map.get s.bodies uid
 
--- The room goes on being told where another value is put only once the epoch is kept.
+-- behind a put under this uid the room goes on being told: it is the reserved one, or the epoch is kept already
 abbrev pub KeepsTelling : ℕ → Kept → Uid → Type 0
 KeepsTelling node s uid = (uid ≡ reserved_uid node) ⊎ IsTrue (is_some (body_at s (reserved_uid node)))
 
--- The device calls of an opening: all that its image takes, unless the disk or want of memory ended it before.
+-- How many device calls an opening made: all that its image takes, unless the disk or want of memory ended it before.
 abbrev pub OpeningMade : {S : Type 0} → ℕ → Result S StoreRefusal → ℕ → Type 0
 OpeningMade calls (Ok store) made = made ≡ calls
 OpeningMade calls (Err Failed) made = 1 ≤ made
@@ -455,7 +479,7 @@ OpeningMade calls (Err Full) made = made ≡ calls
 OpeningMade calls (Err (Damaged place)) made = made ≡ calls
 OpeningMade calls (Err OutOfMemory) made = Unit {0}
 
--- what a telling disk notes of them
+-- what a telling disk notes of these calls of an opening: of all, or of those up to where the disk or want of memory ended it
 abbrev pub OpeningTold : {S : Type 0} → List DiskCall → Told → Told → Result S StoreRefusal → Type 0
 OpeningTold calls old new (Ok store) = AllTold calls old new
 OpeningTold calls old new (Err Failed) = SomeTold calls old new AtFault
@@ -465,7 +489,7 @@ OpeningTold calls old new (Err (Damaged place)) = AllTold calls old new
 OpeningTold calls old new (Err OutOfMemory) =
     (done : List DiskCall) × (rest : List DiskCall) × (calls ≡ done ++ rest) × AllTold done old new
 
--- an opening is refused as Full where its image is overfull, and no such image is opened
+-- an opening is refused as Full only where its image is overfull, and no such image is opened, or found damaged
 abbrev pub IsOverfullBy : {S : Type 0} → Bool → Result S StoreRefusal → Type 0
 IsOverfullBy overfull (Ok store) = overfull ≡ false
 IsOverfullBy overfull (Err Failed) = Unit {0}
@@ -474,33 +498,34 @@ IsOverfullBy overfull (Err Full) = overfull ≡ true
 IsOverfullBy overfull (Err (Damaged place)) = overfull ≡ false
 IsOverfullBy overfull (Err OutOfMemory) = Unit {0}
 
--- a layout that opens every image that has a map
+-- a layout for which no image keeps too much to be opened
 abbrev pub NeverOverfull : Layout → Type 0
 NeverOverfull layout = (node : ℕ) (image : List ℕ) → layout.is_overfull node image ≡ false
 
--- in the order of uids
+-- the uid comes behind this one in the order of uids; behind None each does
 abbrev pub IsBehind : Option Uid → Uid → Type 0
 IsBehind None uid = Unit {0}
 IsBehind (Some from) uid = uid_cmp from uid ≡ Less
 
--- the next uid behind one that is of a kind, the reserved one apart; or there is none
+-- the next of the uids that `is_one` picks, but for the reserved one, behind a given uid or of all; or there is none
 abbrev pub IsNextOf : (Uid → Bool) → Uid → Option Uid → Option Uid → Type 0
 IsNextOf is_one reserved from None = (uid : Uid) → IsBehind from uid → IsTrue (is_one uid) → uid ≢ reserved → ⊥
 IsNextOf is_one reserved from (Some next) =
     IsBehind from next × IsTrue (is_one next) × (next ≢ reserved)
     × ((uid : Uid) → IsBehind from uid → IsTrue (is_one uid) → uid ≢ reserved → (uid ≡ next) ⊎ (uid_cmp next uid ≡ Less))
 
--- the next kept uid of an Eject
+-- the next kept uid of an Eject behind a given one, or of all; or there is none
 abbrev pub IsNextKept : ℕ → Kept → Option Uid → Option Uid → Type 0
 IsNextKept node s from next = IsNextOf (λ uid. is_some (body_at s uid)) (reserved_uid node) from next
 
--- after the rest of a job
+-- the work behind the rest of a job: none is left, or with a refusal its change waits to be settled
 abbrev pub work_finished : {T : Type 0} → Work → Result T StoreRefusal → Work
 work_finished Idle r = Idle
 work_finished (Busy c made left) (Ok done) = Idle
 work_finished (Busy c made left) (Err e) = Unsettled c false
 work_finished (Unsettled c synced) r = Unsettled c synced
 
+-- what is kept behind the rest of a job, which makes the change unless a call of it is refused
 abbrev pub kept_finished : {T : Type 0} → Work → Kept → Result T StoreRefusal → Kept
 kept_finished Idle s r = s
 kept_finished (Busy c made left) s (Ok done) = kept_after c s

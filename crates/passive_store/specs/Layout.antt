@@ -5,6 +5,7 @@ use Rattle.std.specs.FinMap as map
 use Rattle.capability.specs.declared.Uid.{Uid}
 use Rattle.passive_store.specs.Kept.{Kept, Layout, IsOwn, reserved_uid}
 
+-- what has to hold of a layout, whatever the node and the image
 pub record IsLayout (layout : Layout) : Type 0 where
   -- an image of a size that is not allowed keeps nothing, and is damaged at its first byte
   pub sized : (node : ℕ) (image : List ℕ) → layout.allows (length image) ≡ false → layout.map_of node image ≡ Err 0
@@ -13,7 +14,7 @@ pub record IsLayout (layout : Layout) : Type 0 where
   pub own : (node : ℕ) (image : List ℕ) (kept : Kept) → layout.map_of node image ≡ Ok kept
       → (uid : Uid) (body : List ℕ) → map.get kept.bodies uid ≡ Some body
       → IsOwn node uid (length body) × (length body ≤ 262144)
-  -- of an image of bytes, uids are of four bytes and bodies of bytes
+  -- of an image of bytes, epochs and serials fit in four bytes, and bodies are of bytes
   pub bytes : (node : ℕ) (image : List ℕ) (kept : Kept) → layout.map_of node image ≡ Ok kept
       → All (λ byte. byte < 256) image → (uid : Uid) (body : List ℕ) → map.get kept.bodies uid ≡ Some body
       → (uid.epoch < 2 ^ 32) × (uid.serial < 2 ^ 32) × All (λ byte. byte < 256) body

@@ -5,17 +5,20 @@ use Rattle.std.specs.Int.{w32, from_be_bytes}
 use Rattle.capability.specs.declared.Uid.{Uid}
 use Rattle.passive_store.specs.Kept.{StoreChange, Kept, nothing_kept, kept_by}
 
--- the fields of a record, of the bytes behind its gate
+-- the length of the body of a record, in the first four of the bytes behind its gate
 abbrev pub length_of : List ℕ → ℕ
 length_of bytes = from_be_bytes w32 (take 4 bytes)
 
+-- the uid, behind the length: one byte of node, four of epoch, four of serial
 abbrev pub uid_of : List ℕ → Uid
 uid_of bytes = record
     { node = slice_index bytes 4; epoch = from_be_bytes w32 (slice_range bytes 5 9); serial = from_be_bytes w32 (slice_range bytes 9 13) }
 
+-- the kind, in the byte behind the uid: 1 gives the uid a body, 2 removes it
 abbrev pub kind_of : List ℕ → ℕ
 kind_of bytes = slice_index bytes 13
 
+-- the body, behind the kind; a record that is not of kind 1 has none
 abbrev pub body_of : List ℕ → Option (List ℕ)
 body_of bytes = if kind_of bytes == 1 then Some (slice_range bytes 14 (14 + length_of bytes)) else None
 
@@ -24,6 +27,7 @@ abbrev pub body_size : Option (List ℕ) → ℕ
 body_size None = 0
 body_size (Some body) = length body
 
+-- that length as a list of one, as a ledger takes it
 abbrev pub log_grows : Option (List ℕ) → List ℕ
 log_grows body = body_size body ∷ []
 
@@ -39,9 +43,11 @@ are_fields node size uid kind =
 abbrev pub is_record : ℕ → List ℕ → Bool
 is_record node bytes = nat_le (14 + length_of bytes + 1) (length bytes) && are_fields node (length_of bytes) (uid_of bytes) (kind_of bytes)
 
+-- the change of a record whose gate is at this place, by the bytes behind the gate; the place is its mark
 abbrev pub record_of : ℕ → List ℕ → StoreChange
 record_of place bytes = record { uid = uid_of bytes; body = body_of bytes; mark = place; wrote = log_grows (body_of bytes) }
 
+-- a record in front of those behind it; or, where one of these is damaged, the place of that
 abbrev pub with_record : StoreChange → Result (List StoreChange) ℕ → Result (List StoreChange) ℕ
 with_record r (Ok rs) = Ok (r ∷ rs)
 with_record r (Err place) = Err place
@@ -56,11 +62,12 @@ records_behind node zero place (gate ∷ bytes) =
     Err place)
     else Ok []
 
+-- several records in front of those behind them; a damaged place stays
 abbrev pub with_records : List StoreChange → Result (List StoreChange) ℕ → Result (List StoreChange) ℕ
 with_records rs (Ok ts) = Ok (rs ++ ts)
 with_records rs (Err place) = Err place
 
--- the records of a whole image
+-- the records of a whole image, from byte 16 on; or the place of the first damaged one
 abbrev pub records_of : ℕ → List ℕ → Result (List StoreChange) ℕ
 records_of node image = records_behind node 16 0 image
 
@@ -90,8 +97,7 @@ IsShutBehind front image = (gate : ℕ) × (rest : List ℕ) × ((gate == 225) �
 abbrev pub Unwritten : ℕ → List ℕ → List ℕ → Type 0
 Unwritten size front image = (length image ≡ size) × IsShutBehind front image
 
--- An image in which a record is being written behind a front: its gate is closed, or it stands there whole, with what
--- follows it.
+-- An image in which a record is being written behind a front: its gate is closed, or it stands there whole, with what follows it.
 abbrev pub HalfWritten : ℕ → List ℕ → List ℕ → List ℕ → Type 0
 HalfWritten size front bytes image = (length image ≡ size)
     × (IsShutBehind front image

@@ -7,33 +7,38 @@ use Rattle.passive_store.specs.Acts.{DiskCall, Write, Sync, Read}
 use Rattle.passive_store.specs.Kept.{StoreChange, Kept, Layout, nothing_kept, kept_from}
 use Rattle.passive_store.specs.Log.{records_of, body_size, log_grows, log_map}
 
+-- the records that were found, or none where a damaged place was found
 abbrev pub records_or_none : Result (List StoreChange) ℕ → List StoreChange
 records_or_none (Ok rs) = rs
 records_or_none (Err place) = []
 
--- the records before the place where the log ends
+-- the records of a log that ends at this tail, by the bytes before it; none where one of them is damaged
 abbrev pub records_before : ℕ → ℕ → List ℕ → List StoreChange
 records_before node tail bytes = records_or_none (records_of node (take tail bytes ++ 0 ∷ []))
 
+-- the length of the body of a change, 0 for a removal
 abbrev pub body_length : StoreChange → ℕ
 body_length c = body_size c.body
 
--- the bytes of a log that its records take
+-- how many bytes the records of a log take, by the lengths of their bodies: for each its body, and 15 more
 abbrev pub used_by : List ℕ → ℕ
 used_by [] = 0
 used_by (n ∷ ns) = 15 + n + used_by ns
 
+-- what a log of this node keeps that ends at this tail, by the bytes of its disk
 abbrev pub log_kept : ℕ → ℕ → List ℕ → Kept
 log_kept node tail bytes = kept_from nothing_kept (records_before node tail bytes)
 
--- A body has room where it and its record leave 16 bytes.
+-- the longest body that finds room behind bodies of these lengths, or none: it needs 16 bytes more, for its record and the next gate
 abbrev pub log_room : ℕ → List ℕ → Option ℕ
 log_room size lengths = if nat_le (32 + used_by lengths) size then Some (size - (32 + used_by lengths)) else None
 
+-- whether a body of this length finds room, where that is the longest that does; with None no body does
 abbrev pub within_room : Option ℕ → ℕ → Bool
 within_room None n = false
 within_room (Some room) n = nat_le n room
 
+-- the records of the log on an image; none where no log stands there, or where it is damaged
 abbrev pub records_found : ℕ → List ℕ → List StoreChange
 records_found node image = if slice_index image 0 == 237 then records_or_none (records_of node image) else []
 
@@ -47,7 +52,7 @@ abbrev pub bytes_for : ℕ → Uid → Option (List ℕ) → List ℕ
 bytes_for node uid None = spelled_record node uid 2 0 [] ++ 0 ∷ []
 bytes_for node uid (Some body) = spelled_record node uid 1 (length body) body ++ 0 ∷ []
 
--- for so many changes more the room of a log is told: for more than there can be
+-- for how many more changes the room of a log is told: for more than there can be
 abbrev pub log_changes : ℕ
 log_changes = 2 ^ 63
 
@@ -60,9 +65,11 @@ log_tail node image = 16 + used_by (map body_length (records_found node image))
 abbrev pub record_job : ℕ → List ℕ → List DiskCall
 record_job tail bytes = Write (tail + 1) bytes ∷ Sync ∷ Write tail (225 ∷ []) ∷ Sync ∷ []
 
+-- the job of a put of this body, or of a removal: its record at the tail, whatever write was refused before
 abbrev pub log_job : ℕ → Option ℕ → List ℕ → Uid → Option (List ℕ) → List DiskCall
 log_job node refused image uid body = record_job (log_tail node image) (bytes_for node uid body)
 
+-- how many reads of a log give what is kept under a uid: one, or none where nothing is
 abbrev pub reads_for : Option (List ℕ) → ℕ
 reads_for None = 0
 reads_for (Some body) = 1
@@ -72,6 +79,7 @@ abbrev pub records_up_to : ℕ → List ℕ → Result (List StoreChange) ℕ �
 records_up_to node image (Ok rs) = rs
 records_up_to node image (Err place) = records_before node place image
 
+-- the records that an opening reads on an image; none where no log stands there
 abbrev pub records_read : ℕ → List ℕ → List StoreChange
 records_read node image = if slice_index image 0 == 237 then records_up_to node image (records_of node image) else []
 
@@ -91,6 +99,7 @@ log_opening node image =
     if nat_lt (length image) 17 then []
     else (Sync ∷ (looks (slice_index image 0 == 237) ++ replicate (length (records_read node image) + 1) Read))
 
+-- a log as a layout: the ledger and the size decide the room, no image is overfull, and a job has four device calls
 abbrev pub log_layout : Layout
 log_layout = record {
   allows = λ size. nat_le 17 size;

@@ -31,14 +31,14 @@ pub record LogState (D : Type 0) : Type 0 where
   pub tail : ℕ
   pub work : Work
   pub picked : Option Pick
-  -- of the index, empty ones among them
+  -- the entries of the index, empty ones among them
   pub entries : List (Uid × Option Slot)
 
 -- what a store over a log shows, by what its disk tells
 abbrev pub state_kept : {D : Type 0} → (D → Told) → LogState D → Kept
 state_kept told s = log_kept s.node s.tail (contents (told s.device)).now
 
--- what is seen of it
+-- this store as each store is seen, by what its disk counts, tells and has due; it notes no place of a refused write
 abbrev pub log_seen : {D : Type 0} → (D → Counts) → (D → Told) → (D → Due) → LogState D → Seen
 log_seen counts told due s = record {
   node = s.node;
@@ -58,14 +58,16 @@ HasEntry entries uid = IsSome (lookup (is_at (uid_cmp uid)) entries)
 abbrev pub pending_body : Pending → Option (List ℕ)
 pending_body p = cond p.removal None (Some (slice_range p.bytes.items 14 (14 + p.length)))
 
+-- the change that a pending record stands for; its mark is the tail, where its gate is
 abbrev pub change_of : ℕ → Pending → StoreChange
 change_of tail p = record { uid = p.uid; body = pending_body p; mark = tail; wrote = log_grows (pending_body p) }
 
+-- the change of the pending record, or None where no record is pending
 abbrev pub pending_change : ℕ → Option Pending → Option StoreChange
 pending_change tail None = None
 pending_change tail (Some p) = Some (change_of tail p)
 
--- the next device call of a job or of a settling, by its stage
+-- the next device call of a job, by its stage; of one that was refused the sync of its settling
 abbrev pub stage_call : ℕ → List ℕ → Stage → DiskCall
 stage_call tail bytes Begun = Write (tail + 1) bytes
 stage_call tail bytes Written = Sync
@@ -73,6 +75,7 @@ stage_call tail bytes Synced = Write tail (225 ∷ [])
 stage_call tail bytes Opened = Sync
 stage_call tail bytes (Ended synced) = Sync
 
+-- a change as work at this stage: how many calls of its job are made, and those left; or unsettled, where the job has ended
 abbrev pub staged : ℕ → List ℕ → StoreChange → Stage → Work
 staged tail bytes c Begun = Busy c 0 (record_job tail bytes)
 staged tail bytes c Written = Busy c 1 (Sync ∷ Write tail (225 ∷ []) ∷ Sync ∷ [])
@@ -80,6 +83,7 @@ staged tail bytes c Synced = Busy c 2 (Write tail (225 ∷ []) ∷ Sync ∷ [])
 staged tail bytes c Opened = Busy c 3 (Sync ∷ [])
 staged tail bytes c (Ended synced) = Unsettled c synced
 
+-- what the store works on, by its pending record and the stage of that; without one it is idle
 abbrev pub pending_work : ℕ → Option Pending → Work
 pending_work tail None = Idle
 pending_work tail (Some p) = staged tail p.bytes.items (change_of tail p) p.stage
@@ -88,7 +92,7 @@ pending_work tail (Some p) = staged tail p.bytes.items (change_of tail p) p.stag
 abbrev pub slot_at : BTreeMap Uid (Option Slot) → Uid → Option Slot
 slot_at index uid = option_and_then (λ slot. slot) (tree.get uid_cmp index uid)
 
--- the slot of a record at a place
+-- the slot of a record at a place; a removal has none
 abbrev pub slot_of : Bool → ℕ → ℕ → Option Slot
 slot_of removal gate length = cond removal None (Some (record { gate = gate; length = length }))
 
@@ -100,7 +104,7 @@ is_eject node uid = uid.node == node && (not (uid.epoch == 0) && not (uid.serial
 abbrev pub SetsSlot : BTreeMap Uid (Option Slot) → BTreeMap Uid (Option Slot) → Uid → Option Slot → Type 0
 SetsSlot old new uid slot = (q : Uid) → slot_at new q ≡ cond (eq_by_cmp uid_cmp q uid) slot (slot_at old q)
 
--- The index has each kept uid, with the place of its record and the bytes that stand there.
+-- The index has each kept uid and no other, with the place of its record, which is its mark, and of its body in these bytes.
 pub record IsIndex (index : BTreeMap Uid (Option Slot)) (kept : Kept) (tail : ℕ) (bytes : List ℕ) : Type 0 where
   pub marks : (uid : Uid) → finite.get kept.marks uid ≡ option_map (λ (s : Slot). s.gate) (slot_at index uid)
   pub bodies : (uid : Uid)
@@ -127,10 +131,11 @@ pub record IsRecordOf (node : ℕ) (items : List ℕ) (uid : Uid) (removal : Boo
 abbrev pub IsClosed : ℕ → Contents → Type 0
 IsClosed tail c = (c ≡ at_rest c.now) × ((slice_index c.now tail == 225) ≡ false)
 
--- a record stands behind a gate that is closed, or open
+-- these bytes stand behind the front and a closed gate
 abbrev pub IsShut : List ℕ → List ℕ → List ℕ → Type 0
 IsShut front bytes now = (gate : ℕ) × (rest : List ℕ) × ((gate == 225) ≡ false) × (now ≡ front ++ gate ∷ (bytes ++ rest))
 
+-- these bytes stand behind the front and an open gate
 abbrev pub IsOpened : List ℕ → List ℕ → List ℕ → Type 0
 IsOpened front bytes now = (rest : List ℕ) × (now ≡ front ++ 225 ∷ (bytes ++ rest))
 
@@ -145,9 +150,11 @@ JobFacts front bytes (suc (suc (suc zero))) c = IsOpened front bytes c.now
 JobFacts front bytes (suc (suc (suc (suc zero)))) c = (c ≡ at_rest c.now) × IsOpened front bytes c.now
 JobFacts front bytes (suc (suc (suc (suc (suc more))))) c = Unit {0}
 
+-- so many calls of a job are made: the contents are as `JobFacts` says, and a crash leaves the gate closed or the record whole
 abbrev pub IsJobAfter : ℕ → List ℕ → List ℕ → ℕ → Contents → Type 0
 IsJobAfter size front bytes made c = Holds (HalfWritten size front bytes) c × JobFacts front bytes made c
 
+-- how many calls of its job are made at a stage; of one that was refused 5, of which `JobFacts` says nothing
 abbrev pub made_at : Stage → ℕ
 made_at Begun = 0
 made_at Written = 1
@@ -155,6 +162,7 @@ made_at Synced = 2
 made_at Opened = 3
 made_at (Ended synced) = 5
 
+-- the stage behind the next call of a job; none behind the last, and where the job has ended
 abbrev pub stage_after : Stage → Option Stage
 stage_after Begun = Some Written
 stage_after Written = Some Synced
@@ -162,7 +170,7 @@ stage_after Synced = Some Opened
 stage_after Opened = None
 stage_after (Ended synced) = None
 
--- this holds in the first call of a job
+-- this holds where a job has made no device call; at a later stage nothing is asked
 abbrev pub WhereBegun : Stage → Type 0 → Type 0
 WhereBegun Begun P = P
 WhereBegun Written P = Unit {0}
@@ -170,6 +178,7 @@ WhereBegun Synced P = Unit {0}
 WhereBegun Opened P = Unit {0}
 WhereBegun (Ended synced) P = Unit {0}
 
+-- whether the sync of the settling is made; before the job has ended it is not
 abbrev pub stage_synced : Stage → Bool
 stage_synced Begun = false
 stage_synced Written = false
@@ -177,6 +186,7 @@ stage_synced Synced = false
 stage_synced Opened = false
 stage_synced (Ended synced) = synced
 
+-- whether a call of the job was refused, so that its change waits to be settled
 abbrev pub stage_ended : Stage → Bool
 stage_ended Begun = false
 stage_ended Written = false
@@ -184,7 +194,7 @@ stage_ended Synced = false
 stage_ended Opened = false
 stage_ended (Ended synced) = true
 
--- before its first device call a job has changed nothing
+-- before the first device call of a job nothing is unsynced, and the gate at the tail is closed
 abbrev pub IsUntouched : ℕ → Contents → Stage → Type 0
 IsUntouched tail c Begun = IsClosed tail c
 IsUntouched tail c Written = Unit {0}
@@ -201,6 +211,7 @@ IsAtStage tail bytes c Opened = IsOpened (take tail c.now) bytes c.now
 IsAtStage tail bytes c (Ended false) = Unit {0}
 IsAtStage tail bytes c (Ended true) = c ≡ at_rest c.now
 
+-- the contents are as the stage of the pending record says; where no record is pending nothing is asked
 abbrev pub IsStaged : ℕ → Contents → Option Pending → Type 0
 IsStaged tail c None = Unit {0}
 IsStaged tail c (Some p) = IsAtStage tail p.bytes.items c p.stage
@@ -212,7 +223,7 @@ IsTailOf node size tail c (Some p) =
     Holds (HalfWritten size (take tail c.now) p.bytes.items) c × IsPendingOf node tail (log_kept node tail c.now) p
     × IsUntouched tail c p.stage
 
--- The disk has this log.
+-- The disk has the log that memory has: with this tail, this index, and the record that is pending, if one is.
 pub record IsLog (node size tail : ℕ) (c : Contents) (index : BTreeMap Uid (Option Slot)) (pending : Option Pending) : Type 0 where
   pub whole : length c.now ≡ size
   pub header : slice_index c.now 0 ≡ 237
@@ -221,7 +232,7 @@ pub record IsLog (node size tail : ℕ) (c : Contents) (index : BTreeMap Uid (Op
   pub sum : tail ≡ 16 + used_by (map body_length (records_before node tail c.now))
   pub end : IsTailOf node size tail c pending
 
--- What holds of the store whatever the disk tells.
+-- What holds of the store whatever the disk tells: its records, and the pending one, have their places on the disk.
 pub record IsPlaced (size tail : ℕ) (counts : Counts) (index : BTreeMap Uid (Option Slot)) (pending : Option Pending) : Type 0 where
   pub sized : counts.size ≡ size
   pub begins : 16 ≤ tail

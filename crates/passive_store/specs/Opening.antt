@@ -15,25 +15,24 @@ use Rattle.passive_store.specs.Log.{IsFront}
 use Rattle.passive_store.specs.LogLayout.{log_kept, log_layout, records_before, used_by, body_length}
 use Rattle.passive_store.specs.LogState.{IsIndex, slot_at}
 
--- The walk over these bytes has come to this tail, and the index goes along.
+-- The walk over these bytes has come to this tail, and the index has what the records before it keep.
 pub record IsWalk (node size tail : ℕ) (bytes : List ℕ) (index : BTreeMap Uid (Option Slot)) : Type 0 where
   pub whole : length bytes ≡ size
   pub front : IsFront node (take tail bytes) (records_before node tail bytes)
   pub indexed : IsIndex index (log_kept node tail bytes) tail bytes
   pub sum : tail ≡ 16 + used_by (map body_length (records_before node tail bytes))
 
--- Whatever the disk tells: the walk stands behind the head of the log and before its last byte, and each slot's record
--- before the walk.
+-- Whatever the disk tells: the walk stands at byte 16 or behind it, with a byte left, and the record of each slot before the walk.
 pub record IsBounded (size tail : ℕ) (index : BTreeMap Uid (Option Slot)) : Type 0 where
   pub begins : 16 ≤ tail
   pub ends : tail + 1 ≤ size
   pub slots : (uid : Uid) → IfSome (slot_at index uid) (λ (s : Slot). s.gate + 15 + s.length ≤ tail)
 
--- and each slot's body is within the limit
+-- the body of each slot is within the limit
 abbrev pub AreWithinLimit : BTreeMap Uid (Option Slot) → Type 0
 AreWithinLimit index = (uid : Uid) → IfSome (slot_at index uid) (λ (s : Slot). s.length ≤ 262144)
 
--- the reads of a walk: one at the place of each record, and one at the place where it ended
+-- how many reads a walk made: one at each record, and one where it ended; at least one where the disk refused one
 abbrev pub ReadsMade : ℕ → List ℕ → Result Found StoreRefusal → ℕ → Type 0
 ReadsMade node bytes (Ok found) made = made ≡ length (records_before node found.tail bytes) + 1
 ReadsMade node bytes (Err Failed) made = 1 ≤ made
@@ -42,34 +41,35 @@ ReadsMade node bytes (Err Full) made = Unit {0}
 ReadsMade node bytes (Err (Damaged place)) made = made ≡ length (records_before node place bytes) + 1
 ReadsMade node bytes (Err OutOfMemory) made = Unit {0}
 
--- bytes that were written and synced
+-- bytes were written, and the sync behind that ended so
 abbrev pub IsThrough : ℕ → List ℕ → Told → Told → End → Type 0
 IsThrough at bytes old new end = (mid : Told) × (wrote : ℕ) × (synced : ℕ) × (mid ≡ noted (Wrote wrote at bytes) old)
     × SyncTold synced mid new end
 
--- the same of a write or a sync that was refused
+-- a write of bytes and a sync behind it, by how they ended: a refusal is that of the write, or that of the sync
 abbrev pub ThroughTold : ℕ → List ℕ → Told → Told → End → Type 0
 ThroughTold at bytes old new Fine = IsThrough at bytes old new Fine
 ThroughTold at bytes old new AtFault = ((clock : ℕ) × WriteTold clock at bytes old new AtFault) ⊎ IsThrough at bytes old new AtFault
 ThroughTold at bytes old new AtStop = ((clock : ℕ) × WriteTold clock at bytes old new AtStop) ⊎ IsThrough at bytes old new AtStop
 
--- an image on which no log stands, or one without a record
+-- an image with room for a log, on which none stands, or one without a record
 abbrev pub IsEmptyImage : List ℕ → Type 0
 IsEmptyImage image = (17 ≤ length image) × (((slice_index image 0 == 237) ≡ false) ⊎ ((slice_index image 16 == 225) ≡ false))
 
--- a disk with room for a log, on which none stands
+-- a disk at rest with room for a log, on which none stands
 pub record IsBlank (c : Contents) : Type 0 where
   pub rest : c ≡ at_rest c.now
   pub long : 17 ≤ length c.now
   pub blank : (slice_index c.now 0 == 237) ≡ false
 
--- a disk with a log that has no record
+-- a disk at rest with a log that has no record
 pub record IsNewLog (c : Contents) : Type 0 where
   pub rest : c ≡ at_rest c.now
   pub long : 17 ≤ length c.now
   pub header : slice_index c.now 0 ≡ 237
   pub shut : (slice_index c.now 16 == 225) ≡ false
 
+-- this holds where no device call was refused
 abbrev pub OnFine : End → Type 0 → Type 0
 OnFine Fine P = P
 OnFine AtFault P = Unit {0}

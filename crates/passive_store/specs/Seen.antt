@@ -30,7 +30,7 @@ pub record DiskSeen : Type 0 where
   -- when what was armed falls due
   pub due : Due
 
--- by the ghost members of its type
+-- what is seen of a disk, by the ghost members of its type
 abbrev pub disk_seen : {D : Type 0} → (D → Counts) → (D → Told) → (D → Due) → D → DiskSeen
 disk_seen counts told due disk = record { counts = counts disk; told = told disk; due = due disk }
 
@@ -40,7 +40,7 @@ pub record Seen : Type 0 where
   pub node : ℕ
   -- the change that is worked on or in doubt
   pub work : Work
-  -- what the last settling call found
+  -- what the last call that settles found, or None
   pub picked : Option Pick
   -- what is kept, with the old state of a uid in doubt; where the disk tells
   pub kept : Kept
@@ -105,24 +105,24 @@ pub record Settled (tells obeys : Bool) (layout : Layout) (result : Result (Unit
   pub fresh : IsTrue tells → IfSome (doubt_in old.work) (λ c. IsFresh c old.kept)
   pub moments : IsTrue tells → StandsThrough layout old.node old.more old.kept (changes_in (doubt_in old.work)) old.disk.told new.disk.told
 
--- what a put or a removal asks: a uid, and its new bytes
+-- what a put or a removal asks: a uid, and its new bytes, or None
 pub record Asked : Type 0 where
   pub uid : Uid
   pub body : Option (List ℕ)
 
--- in one word
+-- a uid and its new bytes, or None, as one value
 abbrev pub asked : Uid → Option (List ℕ) → Asked
 asked uid body = record { uid = uid; body = body }
 
--- the change that it makes, whose record has this number
+-- the change that is asked, under this mark; it adds to the ledger what the layout says
 abbrev pub change_asked : Layout → Asked → ℕ → StoreChange
 change_asked layout ask mark = record { uid = ask.uid; body = ask.body; mark = mark; wrote = layout.grows ask.body }
 
--- whether it finds room
+-- whether what is asked finds room on a disk of this size
 abbrev pub has_room_for : Layout → ℕ → Kept → Asked → Bool
 has_room_for layout size kept ask = finds_room layout size kept ask.uid ask.body
 
--- The room goes on being told behind it: behind a removal, and behind a put once the epoch is kept.
+-- The room goes on being told behind a change: behind a removal, and behind a put of the epoch or once the epoch is kept.
 abbrev pub TellsBehind : ℕ → Kept → Uid → Option (List ℕ) → Type 0
 TellsBehind node kept uid None = Unit {0}
 TellsBehind node kept uid (Some body) = KeepsTelling node kept uid
@@ -134,8 +134,9 @@ pub record Begins (tells : Bool) (layout : Layout) (ask : Asked) (result : Resul
   pub only : IfErr result IsEarlyRefusal
   pub picked : new.picked ≡ old.picked
   pub at : new.refused_at ≡ old.refused_at
-  -- the number of its record, and its device calls
+  -- the mark of the change
   pub mark : ℕ
+  -- all device calls of its job
   pub calls : List DiskCall
   pub bounded : IsJobOf old.disk.counts.size (length calls)
   pub job : IsTrue (layout.is_job ask.body (length calls))
@@ -175,7 +176,7 @@ pub record Finishes (tells obeys : Bool) (layout : Layout) (result : Result (Uni
   pub moments : IsTrue tells → StandsThrough layout old.node old.more old.kept (changes_in (change_in old.work)) old.disk.told new.disk.told
 
 -- A settling and a job: its device calls, what is kept and in doubt behind it, and what a crash at any moment of it leaves.
--- Of places where a write was refused it takes the one before it.
+-- Its calls are those of the layout, by the place of a refused write that was noted before.
 pub record Changes (tells : Bool) (layout : Layout) (ask : Asked) (result : Result (Unit {0}) StoreRefusal) (old new : Seen) : Type 0 where
   pub mark : ℕ
   pub calls : List DiskCall
@@ -225,7 +226,7 @@ pub record Removes (tells : Bool) (layout : Layout) (ask : Asked) (result : Resu
   pub full : IsTrue tells → 1 ≤ old.more
       → IsFullBy (has_room_for layout old.disk.counts.size (settled new.picked old.work old.kept) ask) new.picked old.work result
 
--- and of what is not, which wants no room
+-- a removal of what is not kept, once the doubt is settled, which wants no room
 pub record FindsNothing (tells : Bool) (layout : Layout) (ask : Asked)
     (result : Result (Unit {0}) StoreRefusal) (old new : Seen) : Type 0 where
   pub settles : Settles tells layout result old new
@@ -266,7 +267,7 @@ abbrev pub opened : {S D : Type 0} → (S → Seen) → Result S (D × StoreRefu
 opened seen (Ok store) = Ok (seen store)
 opened seen (Err refusal) = Err refusal.1
 
--- what is seen of its disk then, which a refusal hands back
+-- what is seen of the disk behind an opening, which a refusal hands back
 abbrev pub disk_opened : {S D : Type 0} → (S → Seen) → (D → DiskSeen) → Result S (D × StoreRefusal) → DiskSeen
 disk_opened seen of (Ok store) = (seen store).disk
 disk_opened seen of (Err refusal) = of refusal.0

@@ -30,23 +30,34 @@ use std::marker::Model;
 /// What of a job is done, or that a device call of it was refused.
 #[derive(Clone, Copy, Debug, PartialEq, Eq)]
 pub enum Stage {
+    /// No device call was made.
     Begun,
+    /// The record is written behind its gate, with the closed gate that follows.
     Written,
+    /// What was written is synced, and the gate is still closed.
     Synced,
+    /// The gate is written open, and only the last sync is left.
     Opened,
+    /// A device call was refused. The change waits for its settling, whose sync is made or not.
     Ended { synced: bool },
 }
 
 /// A record that is being written at the tail, or that may stand there or not: its bytes behind the gate.
 #[derive(Drop)]
 pub struct Pending {
+    /// The uid that is given a body, or removed.
     pub uid: Uid,
+    /// Whether it is removed.
     pub removal: bool,
+    /// The length of the body in bytes, 0 for a removal.
     pub length: u32,
+    /// The record from behind its gate to the closed gate that follows.
     pub bytes: Vec<u8>,
+    /// How far its job has come.
     pub stage: Stage,
 }
 
+/// A store over a log on a disk. Its index, in memory, has each kept uid with the place of its record.
 #[derive(Drop)]
 pub struct LogStore<D: Disk> {
     disk: D,

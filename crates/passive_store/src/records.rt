@@ -28,8 +28,11 @@ pub const DELETED: u8 = 2;
 /// What a record says between its gate and its body.
 #[derive(Clone, Copy, Debug, PartialEq, Eq)]
 pub struct Header {
+    /// The uid that the record gives a body, or removes.
     pub uid: Uid,
+    /// Whether the record removes its uid.
     pub removal: bool,
+    /// How many bytes of body stand behind the header, 0 in a removal.
     pub length: u32,
 }
 

@@ -21,8 +21,9 @@ pub enum StoreRefusal {
     Stopped,
     /// The change has no room; or, at an opening, what another layout kept on the disk is too much to be brought over.
     Full,
-    /// The bytes from this place on are no record of the layout.
+    /// The bytes from this place on are not what the layout has there: of a log no record, of blocks no head or chain.
     Damaged { place: u32 },
+    /// There was no memory for the call.
     OutOfMemory,
 }
 
@@ -48,14 +49,18 @@ impl From<DiskRefusal> for StoreRefusal {
 /// What a settling found: the state before the change in doubt, or the one behind it.
 #[derive(Clone, Copy, Debug, PartialEq, Eq)]
 pub enum Pick {
+    /// The change was not made.
     Old,
+    /// The change was made.
     New,
 }
 
 /// Whether a call of steps was the last of them.
 #[derive(Clone, Copy, Debug, PartialEq, Eq)]
 pub enum Progress {
+    /// More steps are left.
     Going,
+    /// It was the last step.
     Done,
 }
 
@@ -64,7 +69,9 @@ pub enum Progress {
 /// Where the uid has another mark after the opening, the change in doubt was made.
 #[derive(Clone, Copy, Debug, PartialEq, Eq)]
 pub struct Doubt {
+    /// The uid whose change was in doubt.
     pub uid: Uid,
+    /// Its mark when the doubt was noted, or None where nothing was kept under it.
     pub mark: Option<u64>,
 }
 
@@ -129,7 +136,7 @@ pub trait Store: Sized {
     fn picked(&self) -> Option<Pick>
         ensures { result ≡ (seen self.now).picked };
 
-    /// The number of the record that counts for a uid, or None where it is not kept.
+    /// The mark of what counts for a uid, or None where it is not kept.
     fn mark(&self, uid: Uid) -> Option<u64>
         ensures { IsTrue Self.Device.tells → result ≡ map.get (seen self.now).kept.marks uid };
 

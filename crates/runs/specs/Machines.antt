@@ -38,6 +38,7 @@ Leaves M = M → M → Type 0
 
 -- 2. One step
 
+-- a step: an entry, with the world before it and the one after it
 abbrev pub step : World → Entry → World → Step
 step w e later = record { world = w; entry = e; later = later }
 
@@ -80,7 +81,7 @@ is_idle event.Quiet = true
 is_idle event.Spent = true
 is_idle _ = false
 
--- a turn that takes no key leaves the machine as it is
+-- what a step did to the machine: a turn that takes no key leaves it as it is
 abbrev pub DidStep : {M : Type 0} → Did M → M → Step → M → Type 0
 DidStep did first s last = cond (is_idle s.entry.event) (last ≡ first) (did first s last)
 
@@ -99,6 +100,7 @@ DidPart did starved first run w last = (between : _) × DidAll did first run bet
 abbrev pub ShowsOne : {M : Type 0} → Shows M → M → Entry → M → Type 0
 ShowsOne shows first e last = shows first e last ⊎ ((is_idle e.event ≡ true) × (last ≡ first))
 
+-- from the first machine to the last, by what each entry of a history shows of it
 abbrev pub ShowsAll : {M : Type 0} → Shows M → M → List Entry → M → Type 0
 ShowsAll shows first [] last = last ≡ first
 ShowsAll shows first (e ∷ history) last = (between : _) × ShowsOne shows first e between × ShowsAll shows between history last

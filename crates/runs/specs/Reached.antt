@@ -14,6 +14,7 @@ use Rattle.journal.specs.Fit.{IsFitCommand}
 
 -- 1. Worlds
 
+-- the world has a node of this number
 abbrev pub is_node : World → ℕ → Bool
 is_node w n = is_some (node_at w n)
 
@@ -25,6 +26,7 @@ NextIsNew s = (u : Uid) → next_uid s ≡ Ok u → eject_in s u ≡ None
 abbrev pub NextInDoubt : Node → Type 0
 NextInDoubt it = IfSome it.epoch_doubt (λ e. e ≡ stored_epoch it + 1)
 
+-- the world is one that a history may have reached: what machines rely on
 pub record IsReached (w : World) : Type 0 where
   -- its nodes stand in order, and a call on its way goes to one of them
   pub sound : SoundWorld (is_node w) w

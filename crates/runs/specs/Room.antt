@@ -4,7 +4,7 @@ use Rattle.journal.specs.declared.command.Command.{Command}
 use Rattle.journal.specs.declared.command.Command.TheVariants as command
 use Rattle.journal.specs.Run.{most_turns, components}
 
--- commands that give one entry
+-- the command gives one entry, which is of no turn
 abbrev pub is_single : Command → Bool
 is_single (command.Go n) = false
 is_single (command.Turn i) = false
@@ -18,6 +18,7 @@ entries_of (command.Turn i) = 0
 entries_of (command.Walk name target path) = length (components path)
 entries_of _ = 1
 
+-- how many entries these commands give at most besides those of turns
 abbrev pub entries_in : List Command → ℕ
 entries_in [] = 0
 entries_in (c ∷ cs) = entries_of c + entries_in cs

@@ -60,11 +60,13 @@ pub record IsOn {M : Type 0} (stands : Stands M) (did : Did M) (o : Origin M) (o
   pub last : p.world.last ≡ run.last
   pub again : IsTrue run.again → Repeats p.world
 
+-- the position in this world at which this is due, with these commands behind it
 abbrev pub due_in : World → Due → List Command → Position
 due_in w due cs = record { world = w; due = due; commands = cs }
 
 -- 2. One turn, and one command
 
+-- which of these keys a turn takes, if any: the one that follows the last, or the one at a place
 abbrev pub chosen_by : Choice → World → List Key → Option Key
 chosen_by Following w = following w.last
 chosen_by (Item i) w = item i
@@ -81,6 +83,7 @@ pub record Took {M : Type 0} (stands : Stands M) (did : Did M) (others : ℕ) (o
   pub last : (next w None e).last ≡ new.last
   pub again : IsTrue new.again → Repeats (next w None e)
 
+-- wherever the old run stands, the new one came of a turn that chose its key so; went tells whether there was one
 abbrev pub TakesTurn : {M : Type 0} → Stands M → Did M → Run M → Run M → Choice → Bool → Type 0
 TakesTurn stands did old new choice went = (o : Origin _) (others : ℕ) (p : Position) → IsOn stands did o others old p
     → (e : Entry) × Took stands did others old new p.world (chosen_by choice p.world) went e
@@ -96,6 +99,7 @@ pub record TookCommand {M : Type 0} (stands : Stands M) (did : Did M) (others : 
   pub last : (next w (Some c) e).last ≡ new.last
   pub again : new.again ≡ false
 
+-- wherever the old run stands with room for one entry more, and this command is fit, the new one came of carrying it out
 abbrev pub TakesCommand : {M : Type 0} → Stands M → Did M → Run M → Run M → Command → Type 0
 TakesCommand stands did old new c = (o : Origin _) (others : ℕ) (p : Position) → IsFitCommand o.types o.nodes c
     → IsOn stands did o (suc others) old p → (e : Entry) × TookCommand stands did others old new p.world c e
@@ -104,17 +108,19 @@ TakesCommand stands did old new c = (o : Origin _) (others : ℕ) (p : Position)
 abbrev pub Failed : {M : Type 0} → Starved M → M → M → World → Type 0
 Failed starved old new w = starved old w new ⊎ (new ≡ old)
 
+-- memory was wanting in a turn: wherever the old run stands, nothing became of its machine but what was begun
 abbrev pub TurnFails : {M : Type 0} → Stands M → Did M → Starved M → Run M → Run M → Type 0
 TurnFails stands did starved old new = (o : Origin _) (others : ℕ) (p : Position) → IsOn stands did o others old p
     → Failed starved old.machine new.machine p.world
 
+-- the same of this command where it is fit, and the old run stands with room for one entry more
 abbrev pub CommandFails : {M : Type 0} → Stands M → Did M → Starved M → Run M → Run M → Command → Type 0
 CommandFails stands did starved old new c = (o : Origin _) (others : ℕ) (p : Position) → IsFitCommand o.types o.nodes c
     → IsOn stands did o (suc others) old p → Failed starved old.machine new.machine p.world
 
 -- 3. What is due
 
--- after one of so many turns and one more
+-- what is due behind a turn of a `go`: the turns that are left, where it took a key and there are any, else the next command
 abbrev pub gone_on : Bool → ℕ → World → List Command → Position
 gone_on true zero w cs = at_commands w cs
 gone_on true (suc n) w cs = due_in w (turns (suc n)) cs
@@ -131,27 +137,32 @@ DoesDue stands did old new due = (o : Origin _) (others : ℕ) (w : World) (cs :
     → IsOn stands did o others old (due_in w due cs)
     → (later : World) × IsOn stands did o others new (at_commands later cs)
 
+-- what is due here was carried out up to where memory was wanting
 abbrev pub PartOfDue : {M : Type 0} → Stands M → Did M → Starved M → Run M → Run M → Due → Type 0
 PartOfDue stands did starved old new due = (o : Origin _) (others : ℕ) (w : World) (cs : List Command)
     → IsOn stands did o others old (due_in w due cs) → EndsShort did starved o new
 
 -- 4. Commands
 
+-- the next command, where it is fit, was carried out with its turns, and the one behind it is to be begun
 abbrev pub CarriesCommand : {M : Type 0} → Stands M → Did M → Run M → Run M → Command → Type 0
 CarriesCommand stands did old new c = (o : Origin _) (others : ℕ) (w : World) (cs : List Command) → IsFitCommand o.types o.nodes c
     → IsOn stands did o (entries_of c + others) old (at_commands w (c ∷ cs))
     → (later : World) × IsOn stands did o others new (at_commands later cs)
 
+-- the next command, where it is fit, was carried out up to where memory was wanting
 abbrev pub PartOfCommand : {M : Type 0} → Stands M → Did M → Starved M → Run M → Run M → Command → Type 0
 PartOfCommand stands did starved old new c = (o : Origin _) (others : ℕ) (w : World) (cs : List Command) → IsFitCommand o.types o.nodes c
     → IsOn stands did o (entries_of c + others) old (at_commands w (c ∷ cs)) → EndsShort did starved o new
 
 -- 5. What entries show, whatever world the machine stands for
 
+-- where the old history shows how the old machine came of a first one, the new history shows so of the new machine
 abbrev pub KeepsShown : {M : Type 0} → Shows M → Run M → Run M → Type 0
 KeepsShown shows old new = (first : _) → ShowsAll shows first old.history.items old.machine
     → ShowsAll shows first new.history.items new.machine
 
+-- the same, but of the new machine up to where no memory was found
 abbrev pub KeepsShownSoFar : {M : Type 0} → Shows M → Whole M → Leaves M → Run M → Run M → Type 0
 KeepsShownSoFar shows whole leaves old new = (first : _) → ShowsAll shows first old.history.items old.machine
     → ShowsPart shows whole leaves first new.history.items new.machine
@@ -184,10 +195,12 @@ pub record IsCutShort {M : Type 0} (did : Did M) (starved : Starved M) (first : 
   pub came : DidPart did starved first (steps (beginning opening nodes cs) run.history.items)
       (world_after opening nodes cs run.history.items) run.machine
 
+-- over whatever opening world the old run may begin with these commands, the new one is done with them
 abbrev pub CarriesAll : {M : Type 0} → Stands M → Did M → Run M → Run M → ℕ → List Command → Type 0
 CarriesAll stands did old new nodes cs = (opening : World) (types : List (List ℕ)) → MayBegin stands old opening types nodes cs
     → IsDone stands did old.machine new opening nodes cs
 
+-- over whatever opening world the old run may begin with these commands, the new one was cut short for want of memory
 abbrev pub CarriesPart : {M : Type 0} → Stands M → Did M → Starved M → Run M → Run M → ℕ → List Command → Type 0
 CarriesPart stands did starved old new nodes cs = (opening : World) (types : List (List ℕ)) → MayBegin stands old opening types nodes cs
     → IsCutShort did starved old.machine new opening nodes cs

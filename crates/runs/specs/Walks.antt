@@ -24,16 +24,18 @@ abbrev pub sent : Event → Option ℕ
 sent (event.Asked call said None) = Some call
 sent _ = None
 
--- it waits for its call, or it is over
+-- a walk that waits for this call, or is over where there is none to wait for
 abbrev pub asking : Option ℕ → World → List ℕ → List (List ℕ) → List Command → Position
 asking None w name more cs = at_commands w cs
 asking (Some call) w name more cs = due_in w (waits_for name call more) cs
 
+-- where the old run is to look this component up, the new one did; it waits for this call, and without one the walk is over
 abbrev pub Asks : {M : Type 0} → Stands M → Did M → Run M → Run M → List ℕ → Option Cap → List ℕ → Option ℕ → Type 0
 Asks stands did old new name directory c call = (o : Origin _) (others : ℕ) (w : World) (more : List (List ℕ)) (cs : List Command)
     → IfSome directory (IsNamed w) → IsText c → IsOn stands did o (suc others) old (due_in w (looks_up name directory (c ∷ more)) cs)
     → (later : World) × IsOn stands did o others new (asking call later name more cs)
 
+-- memory was wanting as the component was looked up: nothing became of the machine but what was begun
 abbrev pub AskFails : {M : Type 0} → Stands M → Did M → Starved M → Run M → Run M → List ℕ → Option Cap → List ℕ → Type 0
 AskFails stands did starved old new name directory c = (o : Origin _) (others : ℕ) (w : World) (more : List (List ℕ)) (cs : List Command)
     → IfSome directory (IsNamed w) → IsText c → IsOn stands did o (suc others) old (due_in w (looks_up name directory (c ∷ more)) cs)
@@ -46,11 +48,13 @@ abbrev pub answered : Bool → World → List ℕ → List (List ℕ) → List C
 answered true w name more cs = walked w name more cs
 answered false w name more cs = at_commands w cs
 
+-- where the old run waits for this call of a walk, the new one has the wait behind it; came tells whether the answer came
 abbrev pub Waits : {M : Type 0} → Stands M → Did M → Run M → Run M → List ℕ → ℕ → Bool → Type 0
 Waits stands did old new name call came = (o : Origin _) (others : ℕ) (w : World) (more : List (List ℕ)) (cs : List Command)
     → IsOn stands did o others old (due_in w (waits_for name call more) cs)
     → (later : World) × IsOn stands did o others new (answered came later name more cs)
 
+-- where the old run waits for this call, the new one took turns up to where memory was wanting
 abbrev pub PartOfWait : {M : Type 0} → Stands M → Did M → Starved M → Run M → Run M → List ℕ → ℕ → Type 0
 PartOfWait stands did starved old new name call = (o : Origin _) (others : ℕ) (w : World) (more : List (List ℕ)) (cs : List Command)
     → IsOn stands did o others old (due_in w (waits_for name call more) cs) → EndsShort did starved o new

@@ -20,6 +20,7 @@ use Rattle.agenda.specs.Indexed.{is_it}
 abbrev pub part_of : Active → Edentype × Crew
 part_of it = (it.kind, it.crew)
 
+-- of an Eject: that of its active part, if it has one, and its queue; neither where there is no such Eject
 abbrev pub deciding : Option Eject → Option (Edentype × Crew) × List ℕ
 deciding None = (None, [])
 deciding (Some e) = (option_map part_of e.active, e.queued)
@@ -53,6 +54,7 @@ abbrev pub uid_shown : Shown → Option Uid
 uid_shown (shown.Created u) = Some u
 uid_shown _ = None
 
+-- the Eject that was created in an event, where that is the turn of a process; none in any other
 abbrev pub created_in : Event → Option Uid
 created_in (event.Process u p said) = uid_shown said
 created_in _ = None

@@ -27,6 +27,7 @@ pub record Writing : Type 0 where
   pub faults : ℕ
   pub faults_after : ℕ
 
+-- what is seen of a sink of any type, in its old state and in its new one
 abbrev pub writing : {K : Type 0} → (K → Option (List ℕ)) → (K → ℕ) → K → K → Writing
 writing written faults old new = record {
   written = written old;
@@ -41,6 +42,7 @@ pub record Disks : Type 0 where
   pub tells : Bool
   pub runs : List DiskRun
 
+-- one call of the program: the words of its command line, with the source, the sink and the disks that it touches
 pub record Call : Type 0 where
   pub words : List (List ℕ)
   pub source : Reading
@@ -54,6 +56,7 @@ pub record IsUntouched (d : DiskRun) : Type 0 where
   pub told : d.after ≡ d.before
   pub counts : d.last ≡ d.first
 
+-- the count of device calls that found no memory is as it was
 abbrev pub WantedNoMemory : DiskRun → Type 0
 WantedNoMemory d = d.last.wants ≡ d.first.wants
 

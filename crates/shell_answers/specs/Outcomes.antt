@@ -6,6 +6,7 @@ use Rattle.eden_script.specs.declared.cause.ScriptCause.TheVariants as cause
 use Rattle.shell_answers.specs.declared.outcome.Outcome.{Outcome}
 use Rattle.shell_answers.specs.declared.outcome.Outcome.TheVariants.{Ran, BadWords, BadScript, ReadFault, WriteFault, OutOfMemory, TooLong}
 
+-- the exit status of the program for an outcome, 0 for a run that came to its end
 abbrev pub status_of : Outcome → ℕ
 status_of Ran = 0
 status_of BadWords = 2
@@ -15,6 +16,7 @@ status_of WriteFault = 5
 status_of OutOfMemory = 6
 status_of TooLong = 7
 
+-- the words for the cause for which a line of a script is refused
 abbrev pub cause_text : ScriptCause → List ℕ
 cause_text cause.BadByte = codes "bad byte"
 cause_text cause.LongLine = codes "long line"
@@ -29,9 +31,11 @@ cause_text cause.DoubledName = codes "doubled name"
 cause_text cause.BadEdentype = codes "bad edentype"
 cause_text cause.NoEnd = codes "no end"
 
+-- what is written of a refused script: the number of its bad line, and the cause
 abbrev pub bad_script_line : ℕ → ScriptCause → List ℕ
 bad_script_line line why = codes "bad script line " ++ decimal line ++ codes ": " ++ cause_text why ++ codes "\n"
 
+-- the line that is written where an outcome comes before a run, with its line feed
 abbrev pub line_of : Outcome → List ℕ
 line_of BadWords = codes "usage: eden run [--trace] | host DIR [--trace] | gen N\n"
 line_of (BadScript line why) = bad_script_line line why

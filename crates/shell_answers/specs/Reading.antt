@@ -22,6 +22,7 @@ pub record Reading : Type 0 where
   pub faults : ℕ
   pub faults_after : ℕ
 
+-- what is seen of a source of any type, in its old state and in its new one
 abbrev pub reading : {S : Type 0} → (S → Option (List ℕ)) → (S → Bool) → (S → ℕ) → S → S → Reading
 reading left ended faults old new = record {
   left = left old;

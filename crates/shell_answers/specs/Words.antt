@@ -11,9 +11,11 @@ abbrev pub IsDirectory : List ℕ → Type 0
 IsDirectory [] = ⊥
 IsDirectory (first ∷ more) = first ≢ 45
 
+-- a byte is a decimal digit, `0` to `9`
 abbrev pub IsDigit : ℕ → Type 0
 IsDigit byte = (48 ≤ byte) × (byte ≤ 57)
 
+-- the number that these decimal digits make behind the digits of a value
 abbrev pub number_from : ℕ → List ℕ → ℕ
 number_from value [] = value
 number_from value (digit ∷ digits) = number_from (value * 10 + (digit - 48)) digits

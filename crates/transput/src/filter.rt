@@ -14,12 +14,10 @@ use crate::effects::{
     returns_item, returns_none,
 };
 use crate::rule::Rule;
-use crate::values::{
-    cap_at, is_called, no_items, no_text, number_at, take_value, truth_at, without_first,
-};
+use crate::values::{cap_at, no_items, no_text, number_at, take_value, truth_at, without_first};
 use capability::Cap;
 use eden_value::{Items, Txt, Value, copy, copy_items};
-use epl_syntax::{Answer, Effect};
+use epl_syntax::{Answer, Effect, is_called};
 use std::alloc::{AllocError, Global};
 use std::mem;
 

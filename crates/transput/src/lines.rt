@@ -11,9 +11,9 @@ use crate::effects::{
     END, NOT_OPENED, OPENED, OUT_OF_REACH, TROUBLE, is_fine, returns_code, returns_item,
     returns_none,
 };
-use crate::values::{copied_items, is_called, items_at, no_items, number_at, take_items, truth_at};
+use crate::values::{copied_items, items_at, no_items, number_at, take_items, truth_at};
 use eden_value::{Items, Txt, Value, copy};
-use epl_syntax::{Answer, Effect};
+use epl_syntax::{Answer, Effect, is_called};
 use std::alloc::{AllocError, Global};
 
 /// What is left to do of an operation of Lines.

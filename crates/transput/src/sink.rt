@@ -13,10 +13,10 @@ use crate::effects::{
     END, Heard, ITEM, NOT_OPENED, OPENED, OUT_OF_REACH, TROUBLE, asks_for, came, is_fine,
     returns_code,
 };
-use crate::values::{cap_at, is_called, no_items, number_at, take_items, truth_at};
+use crate::values::{cap_at, no_items, number_at, take_items, truth_at};
 use capability::Cap;
 use eden_value::{Items, LIST_LIMIT, Txt, Value, copy};
-use epl_syntax::{Answer, Effect};
+use epl_syntax::{Answer, Effect, is_called};
 use std::alloc::{AllocError, Global};
 
 /// What is left to do of an operation of a Sink.

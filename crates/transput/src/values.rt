@@ -2,20 +2,12 @@
 ghost use Rattle.std.specs.Prelude.{◌≡◌, [], drop, take, codes, IfOk};
 ghost use Rattle.eden_value.specs.View.{datum, datums};
 ghost use Rattle.eden_value.specs.Datum.{text};
-ghost use Rattle.eden_model.specs.Map.{same_text};
 ghost use Rattle.epl_syntax.specs.Simple.{argument, number_in, truth_in, text_in, cap_in, items_in};
 
 use capability::Cap;
 use eden_value::{Items, Txt, Value, copy_items};
 use std::alloc::{AllocError, Global};
 use std::mem;
-
-/// Whether an operation has this name.
-pub fn is_called(operation: &Txt, name: &[u8]) -> bool
-    ensures { result ≡ same_text operation.now name.now }
-{
-    operation.bytes.as_slice() == name
-}
 
 /// No values.
 pub fn no_items(alloc: Global) -> Items

@@ -52,6 +52,7 @@ pub record IsComplete (n : ℕ) (s : Step) : Type 0 where
 
 -- 3. The laws
 
+-- every step of a run is complete at each node whose disk is undisturbed
 abbrev pub StepsAreComplete : Layout → Script → List DiskRun → List Entry → Type 0
 StepsAreComplete layout script disks history = EachDisk disks (λ n d. IsUndisturbed d
     → EachStep (λ past s. IsComplete n s) [] (run_over layout script disks history))

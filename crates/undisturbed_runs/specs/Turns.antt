@@ -63,6 +63,7 @@ start_end_of types u (Some bytes) = cond (is_some (start_of types bytes u)) star
 abbrev pub IsStarted : World → Uid → Edentype × List Datum → Type 0
 IsStarted w u start = active_at w u ≡ Some (fresh start.0 (values_from start.0 start.1))
 
+-- An activation of Eject u, with its pick, if it made one: it ends by what is kept once a doubt is settled, and starts from that.
 pub record FindsWhatIsKept (before later : World) (u : Uid) (how : StartEnd) (p : Option Pick) : Type 0 where
   -- what was in doubt was settled, where something was
   pub picked : with_item (site_at before u.node) to_settle false ≡ is_some p
@@ -94,6 +95,7 @@ pub record IsReady (s : Site) (p : Option Pick) : Type 0 where
   pub not_spent : stored_epoch (settled p s).node < last_epoch
   pub has_room : epoch_has_room (settled p s) (stored_epoch (settled p s).node + 1) ≡ true
 
+-- A boot, with its pick, if it made one: it ends by what is on the disk, and a node that comes up is in the epoch behind the stored one.
 pub record BootsByItsDisk (s : Site) (later : World) (how : BootEnd) (p : Option Pick) : Type 0 where
   -- what was in doubt was settled, where the disk could be opened and something was
   pub picked : s.node.damaged ≡ None → s.node.overfull ≡ false → is_some p ≡ in_doubt s.number s.node

@@ -46,10 +46,12 @@ abbrev pub misjoined : Option Shape → Option Shape → ℕ → List Broken
 misjoined None found place = failing has_size found place
 misjoined (Some wanted) found place = misfit wanted found place
 
--- the operands of an operator, with the kinds and the places of both
+-- two operands, both of which have to be of the wanted kind
 abbrev pub two_of : Shape → Option Shape → ℕ → Option Shape → ℕ → List Broken
 two_of wanted left place right other_place = misfit wanted left place ++ misfit wanted right other_place
 
+-- the operands that an operator does not take, by the kinds and the places of both, each told at its place;
+-- `=` and `<>` take any two of one kind
 abbrev pub misfit_operands : Operator → Option Shape → ℕ → Option Shape → ℕ → List Broken
 misfit_operands Or left p right q = two_of truths left p right q
 misfit_operands And left p right q = two_of truths left p right q
@@ -67,6 +69,7 @@ misfit_operands Divide left p right q = two_of ints left p right q
 misfit_operands Modulo left p right q = two_of ints left p right q
 
 -- ---- limits: a kind that is written is at most 4 lists deep
+-- how many lists deep a kind is
 abbrev pub lists_in : Shape → ℕ
 lists_in (lists s) = suc (lists_in s)
 lists_in _ = 0
@@ -81,28 +84,35 @@ broken_constant (empty_list k) = broken_kind k
 broken_constant _ = []
 
 -- ---- variables: a use is of a declared name, and one in a monitor stands in a `with` of it
--- `held` is the number of the monitor in whose `with` an expression stands, or 0 where none has that name.
+-- `held` is None outside of every `with`, and else has the number of the monitor in whose `with` an expression stands,
+-- or 0 where no monitor has that name.
 
+-- whether this monitor is the held one
 abbrev pub stands_in : Option ℕ → ℕ → Bool
 stands_in None monitor = false
 stands_in (Some held) monitor = held == monitor
 
+-- whether a variable of this monitor may be used here: the number is 0, for none, or that of the held one
 abbrev pub is_guarded : Option ℕ → ℕ → Bool
 is_guarded held monitor = (monitor == 0) || stands_in held monitor
 
+-- what the use of a variable breaks, by what the look-up of its name gave
 abbrev pub broken_use_of : Option ℕ → Option Seen → ℕ → List Broken
 broken_use_of held None place = broken_at UnknownName place ∷ []
 broken_use_of held (Some v) place = broken_if (not (is_guarded held v.monitor)) Unguarded place
 
+-- what a name breaks that is used as a variable
 abbrev pub broken_use : Scope → Option ℕ → Name → List Broken
 broken_use scope held name = broken_use_of held (variable_named scope name.text) name.place
 
 -- ---- expressions
+-- how many expressions stand in a row
 abbrev pub count : Expressions → ℕ
 count no_expressions = 0
 count (expression_and e es) = suc (count es)
 
 abbrev mutual
+  -- what an expression breaks, with all that stands in it
   pub broken_expression : Scope → Option ℕ → Expression → List Broken
   broken_expression scope held (Const_ value place) = broken_constant value
   broken_expression scope held (Name_ name) = broken_use scope held name

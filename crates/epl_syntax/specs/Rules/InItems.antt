@@ -54,35 +54,35 @@ broken_local v = broken_kind v.kind ++ broken_start v.kind v.start
 abbrev pub broken_param : Parameter → List Broken
 broken_param p = broken_kind p.kind
 
--- the names that a type and the bodies in it declare
+-- the names of variables of a type
 abbrev pub names_of_vars : List Variable → List Name
 names_of_vars vs = map (λ v. v.name) vs
 
--- of classes
+-- the names of classes
 abbrev pub names_of_classes : List ClassDecl → List Name
 names_of_classes cs = map (λ c. c.name) cs
 
--- of conditions
+-- the names of conditions
 abbrev pub names_of_conditions : List CondDecl → List Name
 names_of_conditions cs = map (λ c. c.name) cs
 
--- of operations
+-- the names of operations
 abbrev pub names_of_operations : List Operation → List Name
 names_of_operations os = map (λ o. o.name) os
 
--- of processes
+-- the names of processes
 abbrev pub names_of_processes : List Process → List Name
 names_of_processes ps = map (λ p. p.name) ps
 
--- of parameters
+-- the names of parameters
 abbrev pub names_of_params : List Parameter → List Name
 names_of_params ps = map (λ p. p.name) ps
 
--- of variables of a body
+-- the names of variables of a body
 abbrev pub names_of_locals : List Local → List Name
 names_of_locals vs = map (λ v. v.name) vs
 
--- of assignments
+-- the names of assignments
 abbrev pub names_of_changes : List UpgradeAssignment → List Name
 names_of_changes cs = map (λ c. c.name) cs
 
@@ -183,11 +183,11 @@ broken_counts t =
     ++ too_many 8 (places_of t.monitors) ++ too_many 32 (places_of (names_of_conditions t.conditions))
     ++ too_many 32 (places_of (names_of_operations t.operations)) ++ too_many 8 (places_of (names_of_processes t.processes))
 
--- names that are declared twice: those that begin with a small letter, and those that begin with a great one
+-- names with a small first letter that are declared twice: of variables, conditions and classes
 abbrev pub broken_small_names : TypeTree → List Broken
 broken_small_names t = doubled (names_of_vars t.vars ++ names_of_conditions t.conditions ++ names_of_classes t.classes)
 
--- names of operations, processes and monitors that are declared twice
+-- names with a great first letter that are declared twice: of operations, processes and monitors
 abbrev pub broken_great_names : TypeTree → List Broken
 broken_great_names t = doubled (names_of_operations t.operations ++ names_of_processes t.processes ++ t.monitors)
 

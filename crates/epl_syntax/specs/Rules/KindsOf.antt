@@ -39,7 +39,7 @@ abbrev pub seen_kind : Option Seen → Option Shape
 seen_kind None = None
 seen_kind (Some v) = Some v.kind
 
--- the kind of a variable
+-- the kind of the variable of this name
 abbrev pub kind_named : Scope → List ℕ → Option Shape
 kind_named scope bytes = seen_kind (variable_named scope bytes)
 
@@ -106,6 +106,7 @@ kind_of_application Part first = Some texts
 kind_of_application Restrict first = Some caps
 
 abbrev mutual
+  -- the kind of an expression, or None where it is not known
   pub kind_of : Scope → Expression → Option Shape
   kind_of scope (Const_ value place) = Some (kind_of_constant value)
   kind_of scope (Name_ name) = kind_named scope name.text
@@ -124,10 +125,12 @@ abbrev mutual
 -- ---- what the arguments of a built-in function have to be, in order; the first is of the kind `first`
 --   size of a text or list; str of an int; put in a list, at an int, an item; cut from a list at an int;
 --   part of a text from an int on, of so many bytes; restrict a capability by a mask
+-- whether a kind is that of the items of a list; where the other is unknown or no kind of lists, each is
 abbrev pub is_item_of : Option Shape → Shape → Bool
 is_item_of (Some (lists s)) t = same_shape s t
 is_item_of _ t = true
 
+-- the tests that the kinds of a function's arguments have to pass, one for each
 abbrev pub argument_tests : Builtin → Option Shape → List (Shape → Bool)
 argument_tests Size first = has_size ∷ []
 argument_tests Str first = same_shape ints ∷ []

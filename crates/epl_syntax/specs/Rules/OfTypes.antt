@@ -18,11 +18,11 @@ pub record TypeList : Type 0 where
 abbrev pub native_only : TypeList
 native_only = record { native = native_types; declared = [] }
 
--- one more at the end
+-- the types with one more declared, behind the others
 abbrev pub with_type : TypeList → Program → TypeList
 with_type ts t = record { native = ts.native; declared = ts.declared ++ t ∷ [] }
 
--- the names of all of them
+-- the names of all of them, the native ones first
 abbrev pub names_of : TypeList → List (List ℕ)
 names_of ts = map native_name ts.native ++ map (λ t. t.name.text) ts.declared
 
@@ -55,5 +55,6 @@ KeepRules ts = broken_types (map native_name ts.native) ts.declared ≡ []
 abbrev pub HasMonitors : Program → Type 0
 HasMonitors t = AllByRecursion (λ c. (1 ≤ c.monitor) × (c.monitor ≤ length t.monitors.items)) t.conditions.items
 
+-- so it is with each type that the script declares
 abbrev pub HaveMonitors : TypeList → Type 0
 HaveMonitors ts = AllByRecursion HasMonitors ts.declared

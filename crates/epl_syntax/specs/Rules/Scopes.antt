@@ -31,7 +31,7 @@ pub record Seen : Type 0 where
   pub kind : Shape
   pub monitor : ℕ
 
--- the first that is there
+-- of two variables the first that is there
 abbrev pub or_else : Option Seen → Option Seen → Option Seen
 or_else None other = other
 or_else (Some v) other = Some v
@@ -56,11 +56,12 @@ var_named (v ∷ vs) text =
 unfoldable pub variable_named : Scope → List ℕ → Option Seen
 variable_named scope text = or_else (param_named scope.params text) (or_else (local_named scope.locals text) (var_named scope.vars text))
 
--- the number of the monitor of this name, counted from 1, or 0
+-- the number of the first of these monitors that has this name, counted on from so many before them; None where none has it
 abbrev pub number_in : List Name → List ℕ → ℕ → Option ℕ
 number_in [] text before = None
 number_in (m ∷ ms) text before = if same_text m.text text then Some (before + 1) else number_in ms text (before + 1)
 
+-- the number of the monitor of this name, if the scope has one
 unfoldable pub monitor_named : Scope → List ℕ → Option ℕ
 monitor_named scope text = number_in scope.monitors text 0
 
@@ -69,6 +70,7 @@ abbrev pub monitor_of_condition : List CondDecl → List ℕ → Option ℕ
 monitor_of_condition [] text = None
 monitor_of_condition (c ∷ cs) text = if same_text c.name.text text then Some c.monitor else monitor_of_condition cs text
 
+-- the number of the monitor of the condition of this name, if the scope has one
 unfoldable pub condition_named : Scope → List ℕ → Option ℕ
 condition_named scope text = monitor_of_condition scope.conditions text
 
@@ -81,10 +83,11 @@ abbrev pub is_among : List Name → List ℕ → Bool
 is_among names text = list_any (λ n. same_text n.text text) names
 
 -- ---- names that are declared twice in one scope: the later one breaks the rule
+-- what two names break that are the same, at the later of both places
 abbrev pub clash : Name → Name → List Broken
 clash n m = broken_if (same_text n.text m.text) Doubled (max n.place m.place)
 
--- a name that others have too
+-- what a name breaks that is among others, too
 abbrev pub clashes : Name → List Name → List Broken
 clashes n ns = flat_map (clash n) ns
 
@@ -93,10 +96,11 @@ abbrev pub doubled : List Name → List Broken
 doubled [] = []
 doubled (n ∷ ns) = clashes n ns ++ doubled ns
 
--- names of an operation, a process or an upgrade that a variable of the type has, too
+-- a name of an operation, a process or an upgrade that a variable of the type has, too
 abbrev pub as_variable : List Name → Name → List Broken
 as_variable vars n = broken_if (is_among vars n.text) Doubled n.place
 
+-- each of several names that a variable of the type has, too
 abbrev pub as_variables : List Name → List Name → List Broken
 as_variables vars ns = flat_map (as_variable vars) ns
 

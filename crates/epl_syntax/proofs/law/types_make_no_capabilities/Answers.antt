@@ -7,6 +7,9 @@ returns-clause-turn c = authority.turn_keeps_caps
 pub returns-clause-begin : goal.returns-clause-begin
 returns-clause-begin c = authority.begin_keeps_caps
 
+pub returns-clause-declared : goal.returns-clause-declared
+returns-clause-declared c = authority.declared_have_none
+
 pub returns-clause-first : goal.returns-clause-first
 returns-clause-first c = authority.first_have_none
 

@@ -1,5 +1,6 @@
 use Rattle.std.proofs.Common.{sym, ◌∙◌, take, length}
-use Rattle.transput.proofs.SameText.{same_as_pointwise, pointwise_swapped}
+use Rattle.epl_syntax.proofs.SameText.{same_as_pointwise}
+use Rattle.transput.proofs.SameText.{pointwise_swapped}
 use Rattle.transput.proofs.rule.begins_with.Goals as goal
 
 pub returns : goal.returns

@@ -6,7 +6,7 @@ use Rattle.block_tables.proofs.head_table.HeadTable.count_head.Goals as goal
 pub joined_entry-joined-requires : goal.joined_entry-joined-requires
 joined_entry-joined-requires c =
     subst (λ (e : IndexEntry). e.others ≤ 65536) (sym c.find_entry-entry.ensures)
-      (few_others c.args.self.now c.args.head.uid c.requires.heads)
+    (few_others c.args.self.now c.args.head.uid c.requires.heads)
 
 pub returns-then-late-clause-heads : goal.returns-then-late-clause-heads
 returns-then-late-clause-heads c =

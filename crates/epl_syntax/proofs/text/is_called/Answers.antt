@@ -1,10 +1,9 @@
 use Rattle.std.proofs.Common.{nat_eq, sym, ap, ◌∙◌}
 use Rattle.std.specs.Cmp.Lexicographic.{pointwise}
 use Rattle.epl_syntax.proofs.SameText.{same_as_pointwise}
-use Rattle.directory_eject.proofs.stage.is_called.Goals as goal
+use Rattle.epl_syntax.proofs.text.is_called.Goals as goal
 
 pub returns : goal.returns
 returns c =
     let n = c.args.name.now in
-    c.eq.ensures ∙ ap (λ l. pointwise nat_eq l n) (c.as_slice.ensures.value ∙ c.operation.view_is)
-    ∙ sym (same_as_pointwise c.args.operation.now n)
+    c.eq.ensures ∙ ap (λ l. pointwise nat_eq l n) (c.as_slice.ensures.value ∙ c.text.view_is) ∙ sym (same_as_pointwise c.args.text.now n)
