@@ -1,5 +1,5 @@
 -- The tasks of declared processes, which stand under the numbers 1 upward.
-use Rattle.std.proofs.Common.{◌≡◌, ◌<◌, ℕ, ◌+◌, List, [], ◌∷◌, ◌++◌, map, length, length-append, refl, sym, ◌∙◌, ap, arith}
+use Rattle.std.proofs.Common.{◌≡◌, ◌≤◌, ◌<◌, ℕ, ◌+◌, List, [], ◌∷◌, ◌++◌, map, length, length-append, refl, sym, ◌∙◌, ap, arith}
 use Rattle.std.specs.declared.cmp.Ordering.TheVariants.{Less}
 use Rattle.std.specs.Ordering.{nat_cmp}
 use Rattle.std.specs.Cmp.{nat_cmp_is}
@@ -67,6 +67,14 @@ filling-on all left now r es new k h popped number put = record {
   where
     many : length left ≡ length now + 1
     many = ap length popped ∙ length-append now (r ∷ [])
+
+-- what is left is no more than all
+pub few-left : (all left now : List Rest) (r : Rest) (es : List (ℕ × Doing)) → IsFilling all left es → left ≡ now ++ r ∷ []
+    → length all ≤ 8 → length now ≤ 8
+few-left all left now r es h popped few =
+    let whole : length all ≡ length left + length h.done = ap length h.split ∙ length-append left h.done in
+    let one : length left ≡ length now + 1 = ap length popped ∙ length-append now (r ∷ []) in
+    omega (arith, whole, one, few)
 
 pub filling-end : (all : List Rest) (es : List (ℕ × Doing)) (t : Edentype) → IsFilling all [] es
     → each_value (task_of t) es ≡ tasks_from 1 (map (rest_of t) all)

@@ -1,7 +1,7 @@
 -- What the calls of an active part change of it.
 use Rattle.std.proofs.Common.{◌≡◌, ◌≤◌, ℕ, ◌==◌, Bool, true, false, cond, List, [], ◌∷◌, map, Option, None, Some}
 use Rattle.std.proofs.Common.{get_or, refl, sym, ◌∙◌, ap, subst, arith}
-use Rattle.std.specs.Prelude.{IfSome, OnOk, Result, Ok, Err, is_some, is_ok, slice_set}
+use Rattle.std.specs.Prelude.{IfSome, OnOk, Result, Ok, Err, is_some, slice_set}
 use Rattle.std.proofs.lemmas.Bool.{eqb-true}
 use Rattle.std.proofs.lemmas.Bool.Decides.{nat_tests}
 use Rattle.std.specs.Ordering.{nat_cmp, eq_by_cmp, is_eq}
@@ -148,16 +148,12 @@ module _ (ts : TypeList) (a : Part) (x : Call) (it : Option Started) (st : Start
       tasked = put (kind_in ts a.kind)
           ∙ (λ j. put_at nat_cmp (free j) (begun j) (each_value (task_of (kind_in ts a.kind)) a.tasks.entries.items))
 
--- an invocation may start, of which the call did
-pub may-begin : {X Y : Type 0} (f : X → ℕ) (g : Y → ℕ) (st : X) (it : Option X) (o : Option Y) → it ≡ Some st
-    → option_map f it ≡ option_map g o → is_some o ≡ true
-may-begin f g st it (Some y) is call = refl
-may-begin f g st it None is call = absurd (let bad : Some (f st) ≡ None = sym (ap (option_map f) is) ∙ call in cc bad)
+-- where none is started, none may start
+pub none-starts : {X Y : Type 0} (f : X → ℕ) (g : Y → ℕ) (it : Option X) (o : Option Y) → it ≡ None
+    → option_map f it ≡ option_map g o → is_some o ≡ true → ⊥
+none-starts f g it None is call some = absurd cc
+none-starts f g it (Some y) is call some = let bad : None ≡ Some (g y) = sym (ap (option_map f) is) ∙ call in cc bad
 
 pub on-ok : {X Y A B : Type 0} (r : Result X Y) → (A → B) → OnOk r A → OnOk r B
 on-ok (Ok x) f h = f h
 on-ok (Err y) f h = tt
-
-pub then-ok : {X Y A : Type 0} (r : Result X Y) → (is_ok r ≡ true → A) → OnOk r A
-then-ok (Ok x) h = h refl
-then-ok (Err y) h = tt

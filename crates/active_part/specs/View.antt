@@ -2,7 +2,7 @@
 use Rattle.std.specs.Prelude.{◌≡◌, ◌≤◌, ◌<◌, ℕ, List, length, slice_get, Option, None, Some, IfSome}
 use Rattle.capability.specs.declared.TheConstants.{BODY_LIMIT}
 use Rattle.coordinator.specs.declared.parts.Started.{Started}
-use Rattle.eden_model.specs.Crew.{Crew, Invocation, Holds, startable, least_free, locked, left, waited, signalled}
+use Rattle.eden_model.specs.Crew.{Crew, Coordination, Invocation, Holds, startable, least_free, locked, left, waited, signalled}
 use Rattle.eden_model.specs.Map.{each_value}
 use Rattle.epl_syntax.specs.Edentype.{Edentype}
 use Rattle.epl_syntax.specs.Meaning.{begin}
@@ -29,6 +29,10 @@ body_of ts a = record {
   tasks = each_value (task_of (kind_in ts a.kind)) a.tasks.entries.items;
   crew = a.crew;
 }
+
+-- its processes and its queue, whatever the types of the script
+abbrev pub coordination_of : Part → Coordination
+coordination_of a = a.crew
 
 -- what a step at the monitors changes of the processes
 abbrev pub stepped : Step → ℕ → Crew → Crew

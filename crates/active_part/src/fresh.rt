@@ -1,5 +1,5 @@
 //! A new active part.
-ghost use Rattle.std.specs.Prelude.{◌≡◌, IfOk, map, []};
+ghost use Rattle.std.specs.Prelude.{◌≡◌, ◌≤◌, IfOk, length, map, []};
 ghost use Rattle.epl_syntax.specs.Edentype.{Edentype};
 ghost use Rattle.eden_model.specs.Map.{each_value};
 ghost use Rattle.edentypes.specs.View.{kind_in, rest_of};
@@ -16,15 +16,14 @@ use std::alloc::{AllocError, Global};
 
 // The tasks of the declared processes, which run under the numbers 1 upward.
 fn first_tasks(alloc: Global, rests: Vec<Rest>) -> Result<TaskList, AllocError>
+    requires { length rests.items ≤ 8 }
     ensures { IfOk result (λ tasks. (t : Edentype)
         → each_value (task_of t) tasks.entries.items ≡ tasks_from 1 (map (rest_of t) rests.items)) }
 {
     let mut left = rests;
     let mut tasks = TaskList::with_capacity(alloc, left.len())?;
     while let Some(rest) = left.pop() {
-        let Ok(number) = u8::try_from(left.len() + 1) else {
-            return Err(AllocError);
-        };
+        let number = left.len() as u8 + 1;
         let doing = Doing {
             rest,
             answer: Answer::Go,

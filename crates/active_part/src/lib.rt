@@ -4,7 +4,7 @@
 mod fresh;
 mod task_list;
 
-ghost use Rattle.std.specs.Prelude.{◌≡◌, ◌≤◌, ◌<◌, ◌↔◌, true, IsTrue, IsOk, IfOk, OnOk, OnErr, IsSome, IfSome, length, Some, []};
+ghost use Rattle.std.specs.Prelude.{◌≡◌, ◌≤◌, ◌<◌, ◌↔◌, true, IsTrue, IfOk, OnOk, OnErr, IsSome, IfSome, length, Some, []};
 ghost use Rattle.std.specs.Option.{option_map};
 ghost use Rattle.capability.specs.declared.TheConstants.{BODY_LIMIT};
 ghost use Rattle.coordinator.specs.Ready.{AscendPast, next_ready};
@@ -19,7 +19,7 @@ ghost use Rattle.journal.specs.Processes.{turn_of};
 ghost use Rattle.active_part.specs.Body.{active_of, calls_of};
 ghost use Rattle.active_part.specs.Bodies.{joined_body, turned_body, ended_body, told_body, asking_body, crewed_body, serves_of};
 ghost use Rattle.active_part.specs.View.{IsEncoded};
-ghost use Rattle.active_part.specs.View.{body_of, stepped, HoldsFor, MayTake, IsStarted};
+ghost use Rattle.active_part.specs.View.{body_of, coordination_of, stepped, HoldsFor, MayTake, IsStarted};
 
 use capability::{Body, Uid};
 use coordinator::{Coordinator, Parts, Started};
@@ -131,9 +131,8 @@ impl Part {
         types: &Types,
         asked: &Call,
     ) -> Result<Started, AllocError>
+        requires may { IsSome (startable (coordination_of self.old).crew (coordination_of self.old).queued) }
         ensures started { IfOk result (IsStarted (body_of types.now self.old) (body_of types.now self.new) asked.now) }
-        ensures may { OnOk result ((ts : TypeList)
-            → IsSome (startable (body_of ts self.old).crew.crew (body_of ts self.old).crew.queued)) }
         ensures unchanged { OnErr result ((ts : TypeList) → body_of ts self.new ≡ body_of ts self.old) }
     {
         let rest = begin(alloc, types, self.kind, &asked.operation, &asked.args)?;
@@ -145,10 +144,7 @@ impl Part {
         self.tasks.add(process, doing)?;
         match self.crew.start() {
             Ok(Some(started)) => Ok(started),
-            Ok(None) => {
-                self.tasks.remove(process);
-                Err(AllocError)
-            }
+            Ok(None) => unreachable!(),
             Err(_) => {
                 self.tasks.remove(process);
                 Err(AllocError)
@@ -156,7 +152,7 @@ impl Part {
         }
     }
 
-    /// A process takes its turn, up to its effect.
+    /// A process takes its turn, up to its effect. It waits for what it waited for.
     pub fn turn(
         &mut self,
         alloc: Global,
@@ -164,8 +160,9 @@ impl Part {
         process: u8,
         me: Uid,
     ) -> Result<Effect, AllocError>
-        ensures { IfOk result (λ e. (t : Turned) → turn_of me (active_of (body_of types.now self.old)) process ≡ Some t
+        ensures turned { IfOk result (λ e. (t : Turned) → turn_of me (active_of (body_of types.now self.old)) process ≡ Some t
             → (e ≡ t.effect) × (body_of types.now self.new ≡ turned_body process t (body_of types.now self.old))) }
+        ensures crew { coordination_of self.new ≡ coordination_of self.old }
     {
         match self.tasks.find(process) {
             Some(place) => {
@@ -190,21 +187,16 @@ impl Part {
         }
     }
 
-    /// A process ends; the call that it served. A refusal changes nothing.
-    pub fn end(&mut self, process: u8) -> Result<Option<u32>, AllocError>
-        ensures after { IfOk result (λ call. (ts : TypeList)
-            → (call ≡ option_map (λ i. i.call) (serves_of (body_of ts self.old) process))
-            × (body_of ts self.new ≡ ended_body process (body_of ts self.old))) }
-        ensures runs { (ts : TypeList) → IsOk result ↔ Runs (body_of ts self.old).crew.crew process }
-        ensures unchanged { OnErr result ((ts : TypeList) → body_of ts self.new ≡ body_of ts self.old) }
+    /// A process that runs ends; the call that it served.
+    pub fn end(&mut self, process: u8) -> Option<u32>
+        requires { Runs (coordination_of self.old).crew process }
+        ensures call { (ts : TypeList) → result ≡ option_map (λ i. i.call) (serves_of (body_of ts self.old) process) }
+        ensures after { (ts : TypeList) → body_of ts self.new ≡ ended_body process (body_of ts self.old) }
     {
-        if !self.crew.runnable(process) {
-            return Err(AllocError);
-        }
         let call = self.crew.serves(process);
         self.tasks.remove(process);
         self.crew.end(process);
-        Ok(call)
+        call
     }
 
     /// A process is told what it waited for. A refusal changes nothing.
@@ -234,33 +226,30 @@ impl Part {
         self.tasks.answer(process, answer)
     }
 
-    /// A process that runs waits for a reply or for the store. A refusal changes nothing.
-    pub fn block(&mut self, process: u8) -> Result<(), AllocError>
-        ensures after { OnOk result ((ts : TypeList) → body_of ts self.new
-            ≡ crewed_body (set_waits process outside) (body_of ts self.old)) }
-        ensures runs { (ts : TypeList) → IsOk result ↔ Runs (body_of ts self.old).crew.crew process }
-        ensures unchanged { OnErr result ((ts : TypeList) → body_of ts self.new ≡ body_of ts self.old) }
+    /// A process that runs waits for a reply or for the store.
+    pub fn block(&mut self, process: u8)
+        requires { Runs (coordination_of self.old).crew process }
+        ensures { (ts : TypeList) → body_of ts self.new ≡ crewed_body (set_waits process outside) (body_of ts self.old) }
     {
-        if !self.crew.runnable(process) {
-            return Err(AllocError);
-        }
         self.crew.block(process);
-        Ok(())
     }
 
-    /// A process waits for a call that it made, or is told at once. A refusal changes nothing.
+    /// A process that runs waits for a call that it made, or is told at once. A refusal changes nothing.
     pub fn ask(
         &mut self,
         alloc: Global,
         process: u8,
         at_once: Option<Status>,
     ) -> Result<(), AllocError>
+        requires { Runs (coordination_of self.old).crew process }
         ensures after { OnOk result ((ts : TypeList) → body_of ts self.new ≡ asking_body process at_once (body_of ts self.old)) }
-        ensures runs { OnOk result ((ts : TypeList) → Runs (body_of ts self.old).crew.crew process) }
         ensures unchanged { OnErr result ((ts : TypeList) → body_of ts self.new ≡ body_of ts self.old) }
     {
         match at_once {
-            None => self.block(process),
+            None => {
+                self.block(process);
+                Ok(())
+            }
             Some(status) => {
                 let answer = Answer::Reply {
                     status,
@@ -311,17 +300,14 @@ fn take_step(crew: &mut Coordinator, process: u8, step: Step)
 }
 
 impl Part {
-    /// A process does something at its monitors. A checked program does nothing else there than what it may.
+    /// A process that runs does something at its monitors. A checked program does nothing else there than what it may.
     /// A refusal changes nothing.
     pub fn coordinate(&mut self, process: u8, step: Step) -> Result<(), AllocError>
+        requires { Runs (coordination_of self.old).crew process }
         ensures after { OnOk result ((ts : TypeList) → body_of ts self.new ≡ crewed_body (stepped step process) (body_of ts self.old)) }
-        ensures runs { OnOk result ((ts : TypeList) → Runs (body_of ts self.old).crew.crew process) }
         ensures may { OnOk result ((ts : TypeList) → MayTake (body_of ts self.old).crew.crew process step) }
         ensures unchanged { OnErr result ((ts : TypeList) → body_of ts self.new ≡ body_of ts self.old) }
     {
-        if !self.crew.runnable(process) {
-            return Err(AllocError);
-        }
         if !may_take(&self.crew, process, step) {
             return Err(AllocError);
         }

@@ -21,7 +21,7 @@ use crate::line::Seen;
 use crate::reader::{is_upper, name_length};
 use eden_value::Txt;
 use epl_check::{CheckRefusal, check, resolve};
-use epl_parser::parse_edentype;
+use epl_parser::{conditions_are_in_monitors, parse_edentype};
 use epl_syntax::{Checked, ParseRefusal, Types};
 use std::alloc::{AllocError, Global};
 
@@ -167,6 +167,7 @@ pub fn declared(alloc: Global, types: &Types, text: &[u8]) -> Result<Checked, Re
     if let Err(refusal) = check(alloc, &program, types) {
         return Err(refused_by_rule(refusal));
     }
+    conditions_are_in_monitors();
     match resolve(alloc, &mut program, text.len()) {
         Ok(()) => Ok(Checked::of(program, types)),
         Err(_) => Err(Refused::Memory),

@@ -41,7 +41,8 @@ use Rattle.eden_world.specs.Steps.{disk_of, Goes, TouchesNone}
 use Rattle.eden_world.specs.InHand.{in_hand, place_at, seen_at, IsWholeAt}
 use Rattle.eden_world.specs.Seated.{FitsTogether, KeepsDisks, TakesPlace, instead, station_in}
 use Rattle.eden_world.specs.Carried.{CarriesBy, CreatesIn, EndsStill}
-use Rattle.eden_world.specs.Creating.{MadeAt, status_of, uid_made}
+use Rattle.eden_world.specs.Creating.{MadeAt, status_of}
+use Rattle.scheduled_node.specs.Scheduled.{uid_made}
 use Rattle.eden_world.specs.Told.{SameDisks}
 use Rattle.eden_world.specs.declared.seats.Seat.{Seat as Place}
 use Rattle.eden_world.specs.declared.seats.Seat.TheVariants as place

@@ -38,7 +38,8 @@ use Rattle.ejects.specs.Creations.{HasNewUid, born_as}
 use Rattle.ejects.proofs.Keeping.{keeps-same}
 use Rattle.eden_kernel.specs.Stands.{Held, IsWhole, NodeStands}
 use Rattle.eden_world.specs.Worlds.{Seat, up, InHand, SeatStands, IsNumber, WorldStands}
-use Rattle.eden_world.specs.Creating.{status_of, uid_made}
+use Rattle.eden_world.specs.Creating.{status_of}
+use Rattle.scheduled_node.specs.Scheduled.{uid_made}
 use Rattle.eden_world.specs.Steps.{TakesNames, Names, TouchesNone, Goes, step_by}
 use Rattle.eden_world.proofs.Messages.{carrying}
 use Rattle.eden_world.proofs.Numbers.{not-zero}

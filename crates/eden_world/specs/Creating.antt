@@ -1,5 +1,5 @@
 -- A creation by command, by whether its node is reached, and what its entry says of it.
-use Rattle.std.specs.Prelude.{◌≡◌, ℕ, Bool, true, false, List, Option, None, Some, Result, Ok, Err}
+use Rattle.std.specs.Prelude.{◌≡◌, ℕ, Bool, true, false, List, Result, Ok, Err}
 use Rattle.capability.specs.declared.Uid.{Uid}
 use Rattle.eden_value.specs.declared.status.Status.{Status}
 use Rattle.eden_value.specs.declared.status.Status.TheVariants as status
@@ -12,11 +12,6 @@ use Rattle.eden_world.specs.declared.World.{World as Program}
 abbrev pub status_of : Result Uid Status → Status
 status_of (Ok u) = status.Ok
 status_of (Err why) = why
-
--- the uid of the Eject that was made; none where the creation was refused
-abbrev pub uid_made : Result Uid Status → Option Uid
-uid_made (Ok u) = Some u
-uid_made (Err why) = None
 
 -- The node created it, where it is reached; else nothing changed.
 abbrev pub MadeAt : {T D : Type 0} → Bool → Bool → Layout → (T → Seen) → ℕ → List ℕ → Program T D → Program T D → Result Uid Status

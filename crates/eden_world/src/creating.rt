@@ -4,7 +4,8 @@ ghost use Rattle.locator.specs.Reach.{reaches};
 ghost use Rattle.passive_store.specs.Seen.{disk_seen};
 ghost use Rattle.journal.specs.declared.command.Command.TheVariants as commands;
 ghost use Rattle.eden_world.specs.Carried.{CarriesBy, CreatesIn, EndsStill};
-ghost use Rattle.eden_world.specs.Creating.{MadeAt, status_of, uid_made};
+ghost use Rattle.eden_world.specs.Creating.{MadeAt, status_of};
+ghost use Rattle.scheduled_node.specs.Scheduled.{uid_made};
 ghost use Rattle.eden_world.specs.Seated.{EachShows, FitsTogether, KeepsDisks, heeds};
 
 use crate::entries::entry_of_none;

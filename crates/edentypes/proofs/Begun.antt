@@ -1,8 +1,11 @@
 -- What is left to do of processes of declared types, among those of all types.
-use Rattle.std.proofs.Common.{◌≡◌, List, [], ◌∷◌, ◌++◌, map, length, refl, ap, ◌∙◌, arith}
+use Rattle.std.proofs.Common.{◌≡◌, ◌≤◌, List, [], ◌∷◌, ◌++◌, map, length, refl, ap, sym, ◌∙◌, subst, arith}
+use Rattle.std.proofs.lemmas.List.{length-map}
 use Rattle.epl_syntax.specs.Meaning.{Rest as Meant, of_declared, declared}
 use Rattle.epl_syntax.specs.Edentype.{declared as declared_type}
-use Rattle.epl_syntax.specs.Tree.{TypeTree}
+use Rattle.epl_syntax.specs.Tree.{TypeTree, type_tree, process}
+use Rattle.epl_syntax.specs.declared.tree.Program.{Program}
+use Rattle.epl_syntax.specs.Rules.Limits.{IsWithinLimits}
 use Rattle.epl_syntax.specs.Turns.{Left, process_left}
 use Rattle.epl_run.specs.Blocks.{left_of}
 use Rattle.epl_run.specs.declared.rest.Rest.{Rest as LeftToDo}
@@ -38,3 +41,13 @@ begun_are t rs begun = each (left_of t) rs ∙ ap (map of_declared) begun ∙ ba
     back : {X : Type 0} (f : X → Left) (xs : List X) → map of_declared (map f xs) ≡ map (λ x. of_declared (f x)) xs
     back f [] = refl
     back f (x ∷ xs) = ap (λ l. of_declared (f x) ∷ l) (back f xs)
+
+-- a type that is within the limits has at most 8
+pub few_begin : {X : Type 0} (p : Program) (f : X → Meant) (found : List X) → IsWithinLimits p
+    → map f found ≡ declared (declared_type (type_tree p)) → length found ≤ 8
+few_begin p f found h same =
+    let tree = type_tree p in
+    let as_many : length found ≡ length p.processes.items =
+    sym (length-map found f) ∙ ap length same
+    ∙ length-map tree.processes (λ q. of_declared (process_left q)) ∙ length-map p.processes.items process in
+    subst (λ n. n ≤ 8) (sym as_many) h.processes

@@ -12,6 +12,7 @@ use Rattle.epl_syntax.specs.Memory.{value_of_constant}
 use Rattle.epl_syntax.specs.Natives.{rule_of}
 use Rattle.epl_syntax.specs.Outline.{Slot, Operation}
 use Rattle.epl_syntax.specs.Bindings.{is_resolved}
+use Rattle.epl_syntax.specs.Rules.Limits.{IsWithinLimits}
 use Rattle.epl_syntax.specs.Tree.{type_tree, constant}
 use Rattle.transput.specs.View.{is_stream}
 use Rattle.edentypes.specs.declared.form.Form.{Form}
@@ -32,6 +33,11 @@ form_of (form.Declared p) = declared (type_tree p.now)
 abbrev pub IsResolved : Form → Type 0
 IsResolved (form.Native n) = Unit {0}
 IsResolved (form.Declared p) = is_resolved p.now ≡ true
+
+-- a declared type is within the limits
+abbrev pub IsLimited : Form → Type 0
+IsLimited (form.Native n) = Unit {0}
+IsLimited (form.Declared p) = IsWithinLimits p.now
 
 -- the kind that one of the tables stands for
 abbrev pub shape_of : Plain → Shape

@@ -1,8 +1,9 @@
 //! How processes begin.
-ghost use Rattle.std.specs.Prelude.{◌≡◌, IfOk, map};
+ghost use Rattle.std.specs.Prelude.{◌≡◌, ◌≤◌, IfOk, length, map};
 ghost use Rattle.epl_syntax.specs.declared.types.Native.TheVariants as natives;
 ghost use Rattle.epl_syntax.specs.Edentype.{native as native_type, declared as declared_type};
 ghost use Rattle.epl_syntax.specs.Meaning as meaning;
+ghost use Rattle.epl_syntax.specs.Rules.Limits.{IsWithinLimits};
 ghost use Rattle.epl_syntax.specs.Tree.{type_tree};
 ghost use Rattle.edentypes.specs.View.{kind_in, rest_of};
 
@@ -16,8 +17,10 @@ use std::alloc::{AllocError, Global};
 
 /// What the declared processes of a declared type do.
 fn declared_processes(alloc: Global, program: &Program) -> Result<Vec<Rest>, AllocError>
-    ensures { IfOk result (λ found. map (rest_of (declared_type (type_tree program.now))) found.items
+    requires { IsWithinLimits program.now }
+    ensures begin { IfOk result (λ found. map (rest_of (declared_type (type_tree program.now))) found.items
         ≡ meaning.declared (declared_type (type_tree program.now))) }
+    ensures few { IfOk result (λ found. length found.items ≤ 8) }
 {
     let mut left = epl_run::processes(alloc, program)?;
     let mut found = Vec::with_capacity(alloc, left.len())?;
@@ -28,9 +31,11 @@ fn declared_processes(alloc: Global, program: &Program) -> Result<Vec<Rest>, All
     Ok(found)
 }
 
-/// What the declared processes do, in order.
+/// What the declared processes do, in order. A type has at most 8.
 pub fn processes(alloc: Global, types: &Types, kind: Kind) -> Result<Vec<Rest>, AllocError>
-    ensures { IfOk result (λ found. map (rest_of (kind_in types.now kind)) found.items ≡ meaning.declared (kind_in types.now kind)) }
+    ensures begin { IfOk result (λ found. map (rest_of (kind_in types.now kind)) found.items
+        ≡ meaning.declared (kind_in types.now kind)) }
+    ensures few { IfOk result (λ found. length found.items ≤ 8) }
 {
     match form_at(types, kind) {
         Form::Native { .. } => Ok(Vec::new(alloc)),

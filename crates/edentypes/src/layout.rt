@@ -4,6 +4,7 @@ ghost use Rattle.std.specs.List.{All};
 ghost use Rattle.coordinator.specs.View as coordinator_view;
 ghost use Rattle.epl_syntax.specs.Edentype.{native as native_type, declared as declared_type};
 ghost use Rattle.epl_syntax.specs.Meaning as meaning;
+ghost use Rattle.epl_syntax.specs.Rules.Limits.{IsWithinLimits};
 ghost use Rattle.epl_syntax.specs.Tree.{type_tree};
 ghost use Rattle.edentypes.specs.Forms.{native_setup, IsBounded};
 ghost use Rattle.edentypes.specs.View.{kind_in};
@@ -15,18 +16,13 @@ use coordinator::Setup;
 use epl_syntax::{ClassDecl, CondDecl, Program, Types};
 use std::alloc::{AllocError, Global};
 
-/// The greatest number of declared processes, and of monitors.
-const LAYOUT_LIMIT: usize = 8;
-
 /// The limits of the classes, in order.
 fn limits_of(alloc: Global, classes: &[ClassDecl]) -> Result<Seq<u8>, AllocError>
+    requires { All (λ c. c.limit.n ≤ 16) classes.now }
     ensures { IfOk result (λ made. made ≡ map (λ c. c.limit.n) classes.now) }
 {
     let mut items = Vec::with_capacity(alloc, classes.len())?;
     for class in classes {
-        if class.limit.n > u8::MAX as u64 {
-            return Err(AllocError);
-        }
         items.push(class.limit.n as u8)?;
     }
     Ok(Seq { items })
@@ -34,14 +30,12 @@ fn limits_of(alloc: Global, classes: &[ClassDecl]) -> Result<Seq<u8>, AllocError
 
 /// The monitors of the conditions, in order. There are so many monitors.
 fn monitors_of(alloc: Global, conditions: &[CondDecl], monitors: u8) -> Result<Seq<u8>, AllocError>
+    requires { All (λ c. (1 ≤ c.monitor) × (c.monitor ≤ monitors)) conditions.now }
     ensures same { IfOk result (λ made. made ≡ map (λ c. c.monitor) conditions.now) }
     ensures within { IfOk result (λ made. All (λ m. (1 ≤ m) × (m ≤ monitors)) made) }
 {
     let mut items = Vec::with_capacity(alloc, conditions.len())?;
     for condition in conditions {
-        if condition.monitor < 1 || condition.monitor > u32::from(monitors) {
-            return Err(AllocError);
-        }
         items.push(condition.monitor as u8)?;
     }
     Ok(Seq { items })
@@ -63,12 +57,10 @@ fn native_layout(alloc: Global) -> Result<Setup, AllocError>
 }
 
 fn declared_layout(alloc: Global, program: &Program) -> Result<Setup, AllocError>
+    requires { IsWithinLimits program.now }
     ensures same { IfOk result (λ made. coordinator_view.setup_of made ≡ meaning.setup_of (declared_type (type_tree program.now))) }
     ensures bounds { IfOk result IsBounded }
 {
-    if program.processes.len() > LAYOUT_LIMIT || program.monitors.len() > LAYOUT_LIMIT {
-        return Err(AllocError);
-    }
     let declared = program.processes.len() as u8;
     let monitors = program.monitors.len() as u8;
     let limits = limits_of(alloc, &program.classes)?;

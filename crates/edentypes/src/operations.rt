@@ -1,5 +1,5 @@
 //! The operations of a type, and whether a call fits.
-ghost use Rattle.std.specs.Prelude.{◌≡◌, Err, IfOk, map, option_copied, true};
+ghost use Rattle.std.specs.Prelude.{◌≡◌, ◌≤◌, Err, length, map, option_copied, true};
 ghost use Rattle.std.specs.List.{find, position_from};
 ghost use Rattle.std.specs.Option.{option_map};
 ghost use Rattle.capability.specs.Rights.{is_within};
@@ -8,6 +8,7 @@ ghost use Rattle.epl_syntax.specs.Edentype.{native as native_type, declared as d
 ghost use Rattle.epl_syntax.specs.Edentype as edentype;
 ghost use Rattle.epl_syntax.specs.Kinds.{have_shapes};
 ghost use Rattle.epl_syntax.specs.Meaning as meaning;
+ghost use Rattle.epl_syntax.specs.Rules.Limits.{IsWithinLimits};
 ghost use Rattle.epl_syntax.specs.Tree.{type_tree, operation};
 ghost use Rattle.edentypes.specs.Forms.{operation_of};
 ghost use Rattle.edentypes.specs.View.{kind_in, fit_in, fit_of, result_of};
@@ -19,7 +20,6 @@ use crate::native::{Operation, operations_of};
 use capability::{Cap, Rights};
 use eden_value::{Items, Status, Txt};
 use epl_syntax::{ClassDecl, Native, OpDecl, Program, Types, same_text};
-use std::alloc::{AllocError, Global};
 
 /// The class of the operation that a call asks for, or what is wrong with the call.
 #[derive(Clone, Copy, Debug)]
@@ -67,7 +67,8 @@ fn declared_operation<'a>(operations: &'a [OpDecl], name: &Txt) -> Option<&'a Op
 
 /// The place of a class among those of a type. It is 0 where there is none, which no type that keeps the rules has.
 fn class_of(classes: &[ClassDecl], name: &Txt) -> usize
-    ensures { result ≡ with_item (position_from (λ c. same_text c.name.text name.now) 0 classes.now) (λ i. i) 0 }
+    ensures place { result ≡ with_item (position_from (λ c. same_text c.name.text name.now) 0 classes.now) (λ i. i) 0 }
+    ensures within { result ≤ length classes.now }
 {
     for (i, class) in classes.iter().enumerate() {
         if same_text(&class.name.text, name) {
@@ -99,37 +100,26 @@ fn native_fit(native: Native, rights: Rights, name: &Txt, args: &Items) -> Fit
 }
 
 /// Whether a call of an operation of a declared type fits.
-fn operation_fit(
-    classes: &[ClassDecl],
-    asked: &OpDecl,
-    rights: Rights,
-    args: &Items,
-) -> Result<Fit, AllocError>
-    ensures { IfOk result (λ fit. result_of fit ≡ fit_of rights args.now (edentype.declared_operation classes.now (operation asked.now))) }
+fn operation_fit(classes: &[ClassDecl], asked: &OpDecl, rights: Rights, args: &Items) -> Fit
+    requires { length classes.now ≤ 16 }
+    ensures { result_of result ≡ fit_of rights args.now (edentype.declared_operation classes.now (operation asked.now)) }
 {
     if !is_within(asked.needs.n, rights) {
-        return Ok(misfit(Status::NoRight));
+        return misfit(Status::NoRight);
     }
     if !have_kinds(&args.values, &asked.params) {
-        return Ok(misfit(Status::BadArguments));
+        return misfit(Status::BadArguments);
     }
     let class = class_of(classes, &asked.class.text);
-    if class > u8::MAX as usize {
-        return Err(AllocError);
-    }
-    Ok(Fit::Fits { class: class as u8 })
+    Fit::Fits { class: class as u8 }
 }
 
-fn declared_fit(
-    program: &Program,
-    rights: Rights,
-    name: &Txt,
-    args: &Items,
-) -> Result<Fit, AllocError>
-    ensures { IfOk result (λ fit. result_of fit ≡ fit_in (declared_type (type_tree program.now)) rights name.now args.now) }
+fn declared_fit(program: &Program, rights: Rights, name: &Txt, args: &Items) -> Fit
+    requires { IsWithinLimits program.now }
+    ensures { result_of result ≡ fit_in (declared_type (type_tree program.now)) rights name.now args.now }
 {
     match declared_operation(&program.operations, name) {
-        None => Ok(misfit(Status::NoOperation)),
+        None => misfit(Status::NoOperation),
         Some(asked) => operation_fit(&program.classes, asked, rights, args),
     }
 }
@@ -141,18 +131,11 @@ fn misfit(status: Status) -> Fit
 }
 
 /// Whether a call of an operation fits.
-pub fn fit_call(
-    _alloc: Global,
-    types: &Types,
-    kind: Kind,
-    target: Cap,
-    operation: &Txt,
-    args: &Items,
-) -> Result<Fit, AllocError>
-    ensures { IfOk result (λ fit. result_of fit ≡ fit_in (kind_in types.now kind) target.rights operation.now args.now) }
+pub fn fit_call(types: &Types, kind: Kind, target: Cap, operation: &Txt, args: &Items) -> Fit
+    ensures { result_of result ≡ fit_in (kind_in types.now kind) target.rights operation.now args.now }
 {
     match form_at(types, kind) {
-        Form::Native { native } => Ok(native_fit(native, target.rights, operation, args)),
+        Form::Native { native } => native_fit(native, target.rights, operation, args),
         Form::Declared { program } => declared_fit(program, target.rights, operation, args),
     }
 }

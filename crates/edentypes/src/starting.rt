@@ -5,6 +5,7 @@ ghost use Rattle.epl_syntax.specs.Meaning as meaning;
 ghost use Rattle.epl_syntax.specs.Natives as natives;
 ghost use Rattle.epl_syntax.specs.Edentype.{declared as declared_type, declared_outline};
 ghost use Rattle.epl_syntax.specs.Bindings.{is_resolved};
+ghost use Rattle.epl_syntax.specs.Rules.Limits.{IsWithinLimits};
 ghost use Rattle.epl_syntax.specs.Tree.{type_tree};
 ghost use Rattle.eden_value.specs.View.{datums};
 ghost use Rattle.edentypes.specs.Forms.{slot_of_variable};
@@ -66,21 +67,22 @@ fn durable_of(alloc: Global, types: &Types, kind: Kind, vars: &[Value]) -> Resul
 }
 
 /// The version of a declared type.
-fn declared_version(program: &Program) -> u64
+fn declared_version(program: &Program) -> u16
+    requires { IsWithinLimits program.now }
     ensures { result ≡ meaning.version_of (declared_type (type_tree program.now)) }
 {
     match program.version {
-        Some(version) => version.n,
+        Some(version) => version.n as u16,
         None => 1,
     }
 }
 
 /// The version of a type.
-fn version_of(types: &Types, kind: Kind) -> u64
+fn version_of(types: &Types, kind: Kind) -> u16
     ensures { result ≡ meaning.version_of (kind_in types.now kind) }
 {
     match form_at(types, kind) {
-        Form::Native { .. } => NATIVE_VERSION as u64,
+        Form::Native { .. } => NATIVE_VERSION,
         Form::Declared { program } => declared_version(program),
     }
 }
@@ -100,16 +102,12 @@ fn name_in(alloc: Global, types: &Types, kind: Kind) -> Result<Txt, AllocError>
 pub fn rep(alloc: Global, types: &Types, kind: Kind, vars: &Values) -> Result<Rep, AllocError>
     ensures { IfOk result (λ rep. rep ≡ meaning.rep_of (kind_in types.now kind) vars.now) }
 {
-    let version = version_of(types, kind);
-    if version > u16::MAX as u64 {
-        return Err(AllocError);
-    }
     let type_name = name_in(alloc, types, kind)?;
     let all = vars.items(alloc)?;
     let values = durable_of(alloc, types, kind, &all.values)?;
     Ok(Rep {
         type_name,
-        version: version as u16,
+        version: version_of(types, kind),
         values,
     })
 }
@@ -129,7 +127,7 @@ fn meets_condition(native: Native, durable: &Items) -> bool
 fn is_current(types: &Types, kind: Kind, rep: &Rep) -> bool
     ensures { result ≡ meaning.is_current (kind_in types.now kind) rep.now }
 {
-    if u64::from(rep.version) != version_of(types, kind) {
+    if rep.version != version_of(types, kind) {
         return false;
     }
     match form_at(types, kind) {

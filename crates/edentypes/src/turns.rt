@@ -5,6 +5,7 @@ ghost use Rattle.epl_syntax.specs.Cell as cells;
 ghost use Rattle.epl_syntax.specs.Meaning as meaning;
 ghost use Rattle.epl_syntax.specs.Natives as natives;
 ghost use Rattle.epl_syntax.specs.Bindings.{is_resolved};
+ghost use Rattle.epl_syntax.specs.Rules.Limits.{IsWithinLimits};
 ghost use Rattle.epl_syntax.specs.Tree.{type_tree};
 ghost use Rattle.epl_syntax.specs.declared.types.Native.TheVariants.{Directory};
 ghost use Rattle.directory_eject.specs.Stages as directories;
@@ -100,16 +101,14 @@ fn declared_turn(
     answer: Answer,
     me: Uid,
 ) -> Result<Effect, AllocError>
-    requires { is_resolved program.now ≡ true }
+    requires limits { IsWithinLimits program.now }
+    requires resolved { is_resolved program.now ≡ true }
     ensures { IfOk result (λ effect. turned_of vars.new (rest_of (declared_type (type_tree program.now)) rest.new) effect
         ≡ meaning.turn (declared_type (type_tree program.now)) vars.old (rest_of (declared_type (type_tree program.now)) rest.old)
         answer me) }
 {
     match rest {
         Rest::Declared { rest } => {
-            if !epl_run::is_counted(program) {
-                return Err(AllocError);
-            }
             let mut shared = replace(vars, Values::none(alloc)).into_items(alloc)?;
             let effect = epl_run::turn(alloc, program, &mut shared, rest, answer, me)?;
             *vars = Values::plain(shared);

@@ -1,12 +1,12 @@
 -- Ejects that are active: by the code's table, and by their bodies.
-use Rattle.std.proofs.Common.{◌≡◌, ℕ, Bool, true, false, cond, Option, None, Some, refl, sym, ◌∙◌, ap, subst}
+use Rattle.std.proofs.Common.{◌≡◌, ℕ, Bool, true, false, cond, List, Option, None, Some, refl, sym, ◌∙◌, ap, subst}
 use Rattle.std.specs.Prelude.{◌↔◌, is_some, IsSome, IsSomeAnd, IsTrue}
 use Rattle.std.specs.Option.{option_map}
 use Rattle.std.specs.FinMap.{get, get-insert}
 use Rattle.std.proofs.lemmas.Cmp.{tied_itself}
 use Rattle.capability.specs.declared.Uid.{Uid}
 use Rattle.capability.proofs.Uids.{uid_cmp_total}
-use Rattle.eden_model.specs.Crew.{Invocation, startable}
+use Rattle.eden_model.specs.Crew.{Crew, Invocation, Runs, startable}
 use Rattle.eden_model.specs.Map.{same_uid}
 use Rattle.eject_table.specs.Creates.{Creates}
 use Rattle.eject_table.specs.Table.{Table, active_at, active_in, with_active}
@@ -14,6 +14,7 @@ use Rattle.epl_syntax.specs.Rules.OfTypes.{TypeList}
 use Rattle.invocation.specs.Mail.{Mail}
 use Rattle.invocation.specs.Numbers.{item_in}
 use Rattle.active_part.specs.Body.{Body}
+use Rattle.active_part.specs.View.{body_of, coordination_of}
 use Rattle.active_part.specs.declared.Part.{Part}
 use Rattle.ejects.specs.Marks.{IsReady, MayBegin, may_start}
 use Rattle.ejects.specs.Replies.{StartsAt}
@@ -21,16 +22,27 @@ use Rattle.ejects.proofs.Leaving.{body_in}
 
 -- 1. In the table
 
-pub active-some : (ts : TypeList) (o : Option (Option Part)) → IsSome (active_in (body_in ts o)) → IsSome (active_in o)
-active-some ts None some = some
-active-some ts (Some None) some = some
-active-some ts (Some (Some a)) some = refl
+-- of an active Eject this is so: its process runs, or an invocation may start
+abbrev pub MayIn : (Crew → List Invocation → Type 0) → Option Part → Type 0
+MayIn P o = IsSomeAnd o (λ a. P (coordination_of a).crew (coordination_of a).queued)
 
-pub written-active : (t : Table Part) (u : Uid) (a : Part) → IsSome (active_at (with_active t u a) u)
-written-active t u a =
+pub may-active : (P : Crew → List Invocation → Type 0) (o : Option Part) → MayIn P o → IsSome o
+may-active P None may = absurd may
+may-active P (Some a) may = refl
+
+pub may-part : (P : Crew → List Invocation → Type 0) (o : Option Part) (a : Part) → Some a ≡ o → MayIn P o
+    → P (coordination_of a).crew (coordination_of a).queued
+may-part P o a is may = subst (MayIn P) (sym is) may
+
+pub may-none : (P : Crew → List Invocation → Type 0) (o : Option Part) → o ≡ None → MayIn P o → ⊥
+may-none P o is may = subst (MayIn P) is may
+
+pub written-may : (P : Crew → List Invocation → Type 0) (t : Table Part) (u : Uid) (a : Part)
+    → P (coordination_of a).crew (coordination_of a).queued → MayIn P (active_at (with_active t u a) u)
+written-may P t u a may =
     let here : get (with_active t u a).standings u ≡ Some (Some a) =
     get-insert uid_cmp_total t.standings u (Some a) u ∙ rw (tied_itself uid_cmp_total u) refl in
-    ap (λ o. is_some (active_in o)) here
+    subst (λ o. MayIn P (active_in o)) (sym here) may
 
 -- a creation leaves those active that are
 pub created-stay : (old new : Table Part) (a : Part) (u : Uid) → Creates old new a u → (v : Uid) → IsSome (active_at old v)
@@ -44,13 +56,12 @@ created-stay old new a u made v some = subst (λ t. IsSome (active_at t v)) (sym
 
 -- 2. By its body
 
-pub ready-some : (o : Option Body) (p : ℕ) → IsReady o p → IsSome o
-ready-some None p ready = absurd ready
-ready-some (Some b) p ready = refl
-
-pub begin-some : (m : Mail) (o : Option Body) → MayBegin m o → IsSome o
-begin-some m None may = absurd may
-begin-some m (Some b) may = refl
+-- so the code's process runs
+pub ready-runs : (ts : TypeList) (o : Option (Option Part)) (p : ℕ) → IsReady (active_in (body_in ts o)) p
+    → MayIn (λ crew queued. Runs crew p) (active_in o)
+ready-runs ts None p ready = absurd ready
+ready-runs ts (Some None) p ready = absurd ready
+ready-runs ts (Some (Some a)) p ready = ready
 
 -- an invocation that may begin may start
 pub begin-start : (m : Mail) (o : Option Body) → MayBegin m o → may_start o ≡ true
@@ -82,3 +93,10 @@ begin-found m b call so is iff =
         → IsTrue so ↔ IsSomeAnd o (λ i. IsSome (item_in i.call m.calls))
     go None iff = iff
     go (Some i) iff = iff
+
+-- so the code's invocation may start
+pub begin-may : (ts : TypeList) (m : Mail) (o : Option (Option Part)) → MayBegin m (active_in (body_in ts o))
+    → MayIn (λ crew queued. IsSome (startable crew queued)) (active_in o)
+begin-may ts m None may = absurd may
+begin-may ts m (Some None) may = absurd may
+begin-may ts m (Some (Some a)) may = begin-start m (Some (body_of ts a)) may

@@ -16,7 +16,8 @@ use Rattle.eject_table.specs.Table.{active_at}
 use Rattle.active_part.specs.Body.{Body}
 use Rattle.active_part.specs.declared.Part.{Part}
 use Rattle.ejects.specs.Parts.{Parts, SameNode, body_at, queue_in, held_of}
-use Rattle.active_part.specs.View.{body_of}
+use Rattle.active_part.specs.View.{body_of, coordination_of}
+use Rattle.eden_model.specs.Crew.{Runs}
 use Rattle.ejects.specs.Refusals.{refusal_of}
 use Rattle.ejects.specs.declared.Ejects.{Ejects}
 use Rattle.ejects.specs.declared.requests.Admission.{Admission}
@@ -36,6 +37,10 @@ parts_of ts n = record {
 -- the active part of an Eject, whatever the types of the script
 abbrev pub part_at : Ejects → Uid → Option Part
 part_at n u = active_at n.table u
+
+-- it has an active part, and this process of that waits for nothing, whatever the types of the script
+abbrev pub RunsIn : Ejects → Uid → ℕ → Type 0
+RunsIn n u p = IsSomeAnd (part_at n u) (λ a. Runs (coordination_of a).crew p)
 
 -- a call whose arguments are there, as the model has it
 abbrev pub call_at_place : Place → Call → traffic.Call

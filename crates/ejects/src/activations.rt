@@ -42,14 +42,14 @@ fn join_or_answer(
     let Some(asked) = calls.call(number) else {
         return Err(AllocError);
     };
-    match fit_call(
-        alloc,
+    let fit = fit_call(
         types,
         part.kind(),
         asked.target,
         &asked.operation,
         &asked.args,
-    )? {
+    );
+    match fit {
         Fit::Fits { class } => part.offer(number, class)?,
         Fit::Misfits { status } => reply(alloc, calls, number, status, no_items(alloc))?,
     }

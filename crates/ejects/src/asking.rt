@@ -14,7 +14,7 @@ ghost use Rattle.checkpoint.specs.Queues.{removal_of};
 ghost use Rattle.active_part.specs.View.{IsEncoded};
 ghost use Rattle.ejects.specs.Asking.{checkpointed_body, with_put};
 ghost use Rattle.active_part.specs.Bodies.{told_body, crewed_body};
-ghost use Rattle.ejects.specs.View.{part_at, parts_of, with_body};
+ghost use Rattle.ejects.specs.View.{RunsIn, part_at, parts_of, with_body};
 
 use crate::Ejects;
 use capability::Uid;
@@ -46,16 +46,13 @@ impl Ejects {
     }
 
     // A process waits for the store.
-    fn block_at(&mut self, uid: Uid, process: u8) -> Result<(), AllocError>
-        requires { IsSome (part_at self.old uid) }
-        ensures { OnOk result ((ts : TypeList) (b : Body) → body_at (parts_of ts self.old) uid ≡ Some b
-            → parts_of ts self.new ≡ with_body uid (crewed_body (set_waits process outside) b) (parts_of ts self.old)) }
+    fn block_at(&mut self, uid: Uid, process: u8)
+        requires { RunsIn self.old uid process }
+        ensures { (ts : TypeList) (b : Body) → body_at (parts_of ts self.old) uid ≡ Some b
+            → parts_of ts self.new ≡ with_body uid (crewed_body (set_waits process outside) b) (parts_of ts self.old) }
     {
         match self.table.active_mut(uid) {
-            Some(part) => {
-                part.block(process)?;
-                Ok(())
-            }
+            Some(part) => part.block(process),
             None => unreachable!(),
         }
     }
@@ -89,7 +86,7 @@ impl Ejects {
         uid: Uid,
         process: u8,
     ) -> Result<(), AllocError>
-        requires { IsSome (part_at self.old uid) }
+        requires { RunsIn self.old uid process }
         ensures parts { OnOk result ((b : Body) → body_at (parts_of types.now self.old) uid ≡ Some b
             → parts_of types.now self.new
             ≡ with_body uid (checkpointed_body process (spelling (rep_of b.kind b.vars)) b) (parts_of types.now self.old)) }
@@ -101,7 +98,7 @@ impl Ejects {
         match self.encoded_at(alloc, types, uid)? {
             Some(body) => {
                 worker.ask_put(uid, process, body)?;
-                self.block_at(uid, process)?;
+                self.block_at(uid, process);
                 Ok(())
             }
             None => {
@@ -121,7 +118,7 @@ impl Ejects {
         uid: Uid,
         process: u8,
     ) -> Result<(), AllocError>
-        requires { IsSome (part_at self.old uid) }
+        requires { RunsIn self.old uid process }
         ensures parts { OnOk result ((ts : TypeList) (b : Body) → body_at (parts_of ts self.old) uid ≡ Some b
             → parts_of ts self.new ≡ with_body uid (crewed_body (set_waits process outside) b) (parts_of ts self.old)) }
         ensures requests { OnOk result (worker.new.requests.items ≡ worker.old.requests.items ++ removal_of uid process ∷ []) }
@@ -129,7 +126,7 @@ impl Ejects {
         ensures of_node { (k : ℕ) → IsEject k uid → AllOfNode k worker.old.requests.items → AllOfNode k worker.new.requests.items }
     {
         worker.ask_delete(uid, process)?;
-        self.block_at(uid, process)?;
+        self.block_at(uid, process);
         Ok(())
     }
 }

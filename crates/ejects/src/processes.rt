@@ -22,7 +22,7 @@ ghost use Rattle.ejects.specs.Turned.{HasTurned, shown_step};
 ghost use Rattle.journal.specs.declared.event.Event.TheVariants as event;
 ghost use Rattle.ejects.specs.Passive.{IsKeptIn};
 ghost use Rattle.active_part.specs.Bodies.{turned_body, ended_body, asking_body, crewed_body, serves_of};
-ghost use Rattle.ejects.specs.View.{part_at, parts_of, with_body};
+ghost use Rattle.ejects.specs.View.{RunsIn, part_at, parts_of, with_body};
 
 use crate::Ejects;
 use crate::replies::send_results;
@@ -55,11 +55,11 @@ impl Ejects {
         uid: Uid,
         process: u8,
     ) -> Result<Effect, AllocError>
-        requires { IsSome (part_at self.old uid) }
+        requires { RunsIn self.old uid process }
         ensures turned { IfOk result (λ e. (b : Body) (t : Turned) → body_at (parts_of types.now self.old) uid ≡ Some b
             → turn_of uid (active_of b) process ≡ Some t
             → (e ≡ t.effect) × (parts_of types.now self.new ≡ with_body uid (turned_body process t b) (parts_of types.now self.old))) }
-        ensures stays { OnOk result (IsSome (part_at self.new uid)) }
+        ensures runs { OnOk result (RunsIn self.new uid process) }
     {
         match self.table.active_mut(uid) {
             Some(part) => {
@@ -71,17 +71,14 @@ impl Ejects {
     }
 
     // A process ends; the call that it served.
-    pub(crate) fn end_at(&mut self, uid: Uid, process: u8) -> Result<Option<u32>, AllocError>
-        requires { IsSome (part_at self.old uid) }
-        ensures { IfOk result (λ call. (ts : TypeList) (b : Body) → body_at (parts_of ts self.old) uid ≡ Some b
-            → (call ≡ option_map (λ i. i.call) (serves_of b process))
-            × (parts_of ts self.new ≡ with_body uid (ended_body process b) (parts_of ts self.old))) }
+    pub(crate) fn end_at(&mut self, uid: Uid, process: u8) -> Option<u32>
+        requires { RunsIn self.old uid process }
+        ensures { (ts : TypeList) (b : Body) → body_at (parts_of ts self.old) uid ≡ Some b
+            → (result ≡ option_map (λ i. i.call) (serves_of b process))
+            × (parts_of ts self.new ≡ with_body uid (ended_body process b) (parts_of ts self.old)) }
     {
         match self.table.active_mut(uid) {
-            Some(part) => {
-                let call = part.end(process)?;
-                Ok(call)
-            }
+            Some(part) => part.end(process),
             None => unreachable!(),
         }
     }
@@ -95,11 +92,11 @@ impl Ejects {
         process: u8,
         results: Items,
     ) -> Result<Shown, AllocError>
-        requires { IsSome (part_at self.old uid) }
+        requires { RunsIn self.old uid process }
         ensures { IfOk result (λ said. (ts : TypeList) (b : Body) → body_at (parts_of ts self.old) uid ≡ Some b
             → Returned uid process results b (parts_of ts self.old) (parts_of ts self.new) calls.old calls.new said) }
     {
-        match self.end_at(uid, process)? {
+        match self.end_at(uid, process) {
             Some(call) => {
                 send_results(alloc, calls, call, results)?;
                 Ok(Shown::Return { call })
@@ -115,7 +112,7 @@ impl Ejects {
         process: u8,
         step: Step,
     ) -> Result<(), AllocError>
-        requires { IsSome (part_at self.old uid) }
+        requires { RunsIn self.old uid process }
         ensures { OnOk result ((ts : TypeList) (b : Body) → body_at (parts_of ts self.old) uid ≡ Some b
             → parts_of ts self.new ≡ with_body uid (crewed_body (stepped step process) b) (parts_of ts self.old)) }
     {
@@ -130,7 +127,7 @@ impl Ejects {
 
     // The same, and what is shown of it.
     fn coordinates(&mut self, uid: Uid, process: u8, step: Step) -> Result<Shown, AllocError>
-        requires { IsSome (part_at self.old uid) }
+        requires { RunsIn self.old uid process }
         ensures { IfOk result (λ said. (said ≡ shown_step step) × ((ts : TypeList) (b : Body)
             → body_at (parts_of ts self.old) uid ≡ Some b
             → parts_of ts self.new ≡ with_body uid (crewed_body (stepped step process) b) (parts_of ts self.old))) }
@@ -153,7 +150,7 @@ impl Ejects {
         process: u8,
         at_once: Option<Status>,
     ) -> Result<(), AllocError>
-        requires { IsSome (part_at self.old uid) }
+        requires { RunsIn self.old uid process }
         ensures { OnOk result ((ts : TypeList) (b : Body) → body_at (parts_of ts self.old) uid ≡ Some b
             → parts_of ts self.new ≡ with_body uid (asking_body process at_once b) (parts_of ts self.old)) }
     {
@@ -180,7 +177,7 @@ impl Ejects {
     ) -> Result<Shown, AllocError>
         requires calls { length calls.old.calls < 4294967295 }
         requires node { uid.node ≤ 8 }
-        requires active { IsSome (part_at self.old uid) }
+        requires runs { RunsIn self.old uid process }
         ensures { IfOk result (λ said. (ts : TypeList) (b : Body) → body_at (parts_of ts self.old) uid ≡ Some b
             → Invoked places.now uid process target operation args b (parts_of ts self.old) (parts_of ts self.new)
             calls.old calls.new said) }
@@ -206,7 +203,7 @@ impl Ejects {
     ) -> Result<Shown, AllocError>
         requires calls { length calls.old.calls < 4294967295 }
         requires node { uid.node ≤ 8 }
-        requires active { IsSome (part_at self.old uid) }
+        requires runs { RunsIn self.old uid process }
         ensures parts { IfOk result (λ said. (reach : ℕ → Bool) (n : Parts) (s : Site) → IsSoundSite s → IsAt n calls.old s
             → HasTurned uid process effect n (parts_of types.now self.old)
             → IsKeptIn s uid stays → Reaches reach places.now uid.node → HasNewUid s
@@ -245,7 +242,7 @@ impl Ejects {
                 Ok(Shown::Deactivate)
             }
             Effect::End => {
-                let _served = self.end_at(uid, process)?;
+                let _served = self.end_at(uid, process);
                 Ok(Shown::End)
             }
             Effect::Lock { monitor } => self.coordinates(uid, process, Step::Lock { monitor }),

@@ -37,29 +37,24 @@ pub enum Admission {
 }
 
 // What comes of a request at an active part.
-fn admission_at(
-    alloc: Global,
-    types: &Types,
-    part: &Part,
-    asked: &Call,
-) -> Result<Admission, AllocError>
-    ensures { IfOk result (IsAdmissionAt (body_of types.now part.now) asked.now) }
+fn admission_at(types: &Types, part: &Part, asked: &Call) -> Admission
+    ensures { IsAdmissionAt (body_of types.now part.now) asked.now result }
 {
     if part.is_full() {
-        return Ok(Admission::Refused {
+        return Admission::Refused {
             status: Status::Busy,
-        });
+        };
     }
-    match fit_call(
-        alloc,
+    let fit = fit_call(
         types,
         part.kind(),
         asked.target,
         &asked.operation,
         &asked.args,
-    )? {
-        Fit::Fits { class } => Ok(Admission::Active { class }),
-        Fit::Misfits { status } => Ok(Admission::Refused { status }),
+    );
+    match fit {
+        Fit::Fits { class } => Admission::Active { class },
+        Fit::Misfits { status } => Admission::Refused { status },
     }
 }
 
@@ -75,25 +70,25 @@ impl Ejects {
     }
 
     // What comes of a request for an Eject of the node.
-    fn admission(&self, alloc: Global, types: &Types, asked: &Call) -> Result<Admission, AllocError>
-        ensures { IfOk result (IsAdmission (parts_of types.now self.now) asked.now) }
+    fn admission(&self, types: &Types, asked: &Call) -> Admission
+        ensures { IsAdmission (parts_of types.now self.now) asked.now result }
     {
         let uid = asked.target.uid;
         match self.table.find(uid) {
-            EjectStanding::Absent => Ok(Admission::Refused {
+            EjectStanding::Absent => Admission::Refused {
                 status: Status::Gone,
-            }),
+            },
             EjectStanding::Passive => {
                 if self.count_waiting(uid) >= 64 {
-                    Ok(Admission::Refused {
+                    Admission::Refused {
                         status: Status::Busy,
-                    })
+                    }
                 } else {
-                    Ok(Admission::Passive)
+                    Admission::Passive
                 }
             }
             EjectStanding::Active => match self.table.active(uid) {
-                Some(part) => admission_at(alloc, types, part, asked),
+                Some(part) => admission_at(types, part, asked),
                 None => unreachable!(),
             },
         }
@@ -142,7 +137,7 @@ impl Ejects {
             return Err(AllocError);
         };
         let uid = asked.target.uid;
-        match self.admission(alloc, types, asked)? {
+        match self.admission(types, asked) {
             Admission::Active { class } => {
                 self.join_active(uid, call, class)?;
                 Ok(Event::Request {

@@ -7,7 +7,8 @@ ghost use Rattle.ejects.specs.Events.{IsStartOf};
 ghost use Rattle.ejects.specs.Marks.{MayBegin, may_start};
 ghost use Rattle.ejects.specs.Parts.{body_at, Steps};
 ghost use Rattle.invocation.specs.Numbers.{item_in};
-ghost use Rattle.active_part.specs.View.{IsStarted};
+ghost use Rattle.active_part.specs.View.{coordination_of, IsStarted};
+ghost use Rattle.eden_model.specs.Crew.{startable};
 ghost use Rattle.ejects.specs.Replies.{StartsAt};
 ghost use Rattle.ejects.specs.View.{part_at, parts_of, with_body};
 
@@ -49,7 +50,8 @@ impl Ejects {
         uid: Uid,
         asked: &Call,
     ) -> Result<Started, AllocError>
-        requires { IsSome (part_at self.old uid) }
+        requires { IsSomeAnd (part_at self.old uid)
+            (λ a. IsSome (startable (coordination_of a).crew (coordination_of a).queued)) }
         ensures { IfOk result (λ st. (b : Body) → body_at (parts_of types.now self.old) uid ≡ Some b
             → (now : Body) × IsStarted b now asked.now st
             × (parts_of types.now self.new ≡ with_body uid now (parts_of types.now self.old))) }

@@ -3,6 +3,7 @@ pub mod OneList
 pub mod TreeRows
 pub mod Leading
 pub mod KeptTypes
+pub mod Limits
 pub mod Owned
 pub mod Operands
 pub mod Evaluated

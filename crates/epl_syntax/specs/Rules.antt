@@ -6,3 +6,4 @@ pub mod InExpressions
 pub mod InStatements
 pub mod InItems
 pub mod OfTypes
+pub mod Limits

@@ -3,6 +3,7 @@ ghost use Rattle.std.specs.Prelude.{◌≡◌, ℕ, List, [], true};
 ghost use Rattle.epl_syntax.specs.Tree.{type_tree};
 ghost use Rattle.epl_syntax.specs.Rules.InItems.{broken_program};
 ghost use Rattle.epl_syntax.specs.Bindings.{is_resolved};
+ghost use Rattle.epl_syntax.specs.Rules.Limits.{IsWithinLimits};
 
 use crate::tree::Program;
 use crate::types::Types;
@@ -12,15 +13,17 @@ use crate::types::Types;
 pub struct Checked {
     pub program: Program,
     pub ghost keeps_rules: { ∥ ((earlier : List (List ℕ)) × (broken_program earlier (type_tree program) ≡ [])) ∥₁ },
+    pub ghost limits: { IsWithinLimits program },
     pub ghost resolved: { is_resolved program ≡ true },
 }
 
 impl Checked {
-    ghost use Rattle.epl_syntax.specs.Rules.OfTypes.{names_of};
+    ghost use Rattle.epl_syntax.specs.Rules.OfTypes.{names_of, HasMonitors};
 
-    /// A type that keeps the rules with the types before it, and whose names are resolved.
+    /// A type that keeps the rules with the types before it, whose conditions are of its monitors, and whose names are resolved.
     pub fn of(program: Program, earlier: &Types) -> Checked
         requires rules { broken_program (names_of earlier.now) (type_tree program) ≡ [] }
+        requires monitors { HasMonitors program }
         requires resolved { is_resolved program ≡ true }
         ensures { result.program ≡ program }
     {

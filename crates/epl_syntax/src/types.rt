@@ -6,6 +6,7 @@ ghost use Rattle.epl_syntax.specs.Natives as natives;
 ghost use Rattle.epl_syntax.specs.Tree.{type_tree};
 ghost use Rattle.epl_syntax.specs.Bindings.{is_resolved};
 ghost use Rattle.epl_syntax.specs.Rules.InItems.{broken_program};
+ghost use Rattle.epl_syntax.specs.Rules.Limits.{IsWithinLimits};
 ghost use Rattle.epl_syntax.specs.Rules.OfTypes as rules;
 ghost use Rattle.epl_syntax.specs.Rules.OfTypes.{native_only, with_type, names_of, NamesDiffer, place_named};
 
@@ -183,9 +184,10 @@ impl Types {
         self.native.get(place).copied()
     }
 
-    /// The declared type at a place, with its names resolved.
+    /// The declared type at a place, which is within the limits, with its names resolved.
     pub fn declared_at(&self, place: usize) -> Option<&Program>
         ensures type_at { option_copied result ≡ rules.declared_at self.now place }
+        ensures limits { IfSome result (λ p. IsWithinLimits p.now) }
         ensures resolved { IfSome result (λ p. is_resolved p.now ≡ true) }
     {
         if place < self.native.len() {

@@ -7,7 +7,8 @@ use Rattle.eden_model.specs.Map.{uid_cmp, value_at}
 use Rattle.eden_disk.specs.Told.{contents}
 use Rattle.passive_store.specs.Kept.{Layout, Kept}
 use Rattle.passive_store.specs.Layout.{IsLayout}
-use Rattle.journal.specs.Opening.{entries_of, found_in, epoch_in, epoch_or_zero}
+use Rattle.journal.specs.Ejects.{epoch_or_zero}
+use Rattle.journal.specs.Opening.{entries_of, found_in, epoch_in}
 use Rattle.journal.specs.Standing.{DiskRun}
 use Rattle.journal.specs.LegalRun.{IsHandedIn}
 

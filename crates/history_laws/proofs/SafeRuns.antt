@@ -24,7 +24,8 @@ use Rattle.journal.specs.Crashes.{tells_each}
 use Rattle.journal.specs.Step.{AllowsInTurn, AllowsEvent, Allows, next, after_turn, after_command, happened, at_site, stopped_at}
 use Rattle.journal.specs.Step.{site_turn, counted, clocked, key_of}
 use Rattle.journal.specs.Kept.{crashes}
-use Rattle.journal.specs.LegalRun.{is_active_at, NoneRolledBack}
+use Rattle.journal.specs.LegalRun.{NoneRolledBack}
+use Rattle.journal.specs.World.{is_active_at}
 use Rattle.journal.specs.World.{reaches}
 use Rattle.journal.specs.Run.{beginning, looked_up, Leads, EachStep, steps}
 use Rattle.history_laws.proofs.Frame.{node-at_node, node-at_other, eject-on_eject, after_at}

@@ -44,7 +44,8 @@ use Rattle.journal.specs.Starts.{AllowsActivate, start_settled, activation_turn}
 use Rattle.journal.specs.Stores.{AllowsStore, EndsSo, Work, syncs, reads, unkept, without_room, calls, work_of, doubted, worked, store_turn}
 use Rattle.journal.specs.Commands.{AllowsCommand, AllowsAsked, asked, asked_by, ready_call, born_as, made, type_name_of, held_by}
 use Rattle.journal.specs.Commands.{restricted_by}
-use Rattle.journal.specs.Opening.{epoch_or_zero, node_of, found_in}
+use Rattle.journal.specs.Ejects.{epoch_or_zero}
+use Rattle.journal.specs.Opening.{node_of, found_in}
 use Rattle.journal.specs.Step.{AllowsAt, AllowsInTurn, AllowsEvent, Allows, next, after_turn, after_command, happened, at_site}
 use Rattle.journal.specs.Step.{stopped_at, site_turn, heard_by_shell, clocked, counted, key_of}
 use Rattle.journal.specs.Run.{AllowsLookUp, looked_up, beginning}

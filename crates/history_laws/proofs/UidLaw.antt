@@ -44,7 +44,7 @@ use Rattle.journal.specs.Crashes.{fallen, down, crashed}
 use Rattle.journal.specs.Stores.{Work, syncs, reads, unkept, without_room, calls, work_of, more_made, doubted, tells_code, request_ended}
 use Rattle.journal.specs.Stores.{removed, stored, done, worked, store_turn}
 use Rattle.journal.specs.Starts.{start_of, misfits_answered, awake_as, activated, start_settled, activation_turn}
-use Rattle.journal.specs.Opening.{epoch_or_zero}
+use Rattle.journal.specs.Ejects.{epoch_or_zero}
 use Rattle.journal.specs.Sites.{InOrder}
 use Rattle.history_laws.proofs.Uids.{IsBehind, UidsFit, Fit}
 use Rattle.history_laws.proofs.EveryNode.{following_uid, next-following}

@@ -18,7 +18,7 @@ use Rattle.journal.specs.declared.event.Event.TheVariants as event
 use Rattle.journal.specs.declared.event.Entry.{Entry}
 use Rattle.journal.specs.World.{World, Node, Eject, node_at, eject_at, site_of, reaches}
 use Rattle.journal.specs.Ejects.{next_uid}
-use Rattle.journal.specs.Opening.{epoch_or_zero}
+use Rattle.journal.specs.Ejects.{epoch_or_zero}
 use Rattle.journal.specs.Commands.{AllowsCommand}
 use Rattle.journal.specs.Step.{AllowsAt, AllowsInTurn, AllowsEvent, next, after_turn, after_command, happened, counted, clocked, key_of}
 use Rattle.journal.specs.LegalRun.{created_by, IsNew, NotCreatedIn}

@@ -12,7 +12,7 @@ use Rattle.journal.specs.Ejects.{fresh}
 use Rattle.journal.specs.Settling.{settled, in_doubt}
 use Rattle.journal.specs.Boots.{Failed, BootsSo, booted_node, boot_turn}
 use Rattle.journal.specs.Step.{AllowsAt, site_turn}
-use Rattle.journal.specs.Opening.{epoch_or_zero}
+use Rattle.journal.specs.Ejects.{epoch_or_zero}
 use Rattle.history_laws.proofs.Uids.{UidsFit, Fit, OfNode}
 use Rattle.history_laws.proofs.EveryNode.{IsKeptAt, next-following}
 use Rattle.history_laws.proofs.UidLaw.{raised, fit-on_node, fit-tells, fit-born, fit-process_turn, fit-requested, fit-heard, fit-start}

@@ -3,7 +3,7 @@ use Rattle.std.specs.Prelude.{◌≡◌, ◌⊎◌, ℕ, ◌≤◌, ◌<◌, tru
 use Rattle.capability.specs.declared.Uid.{Uid}
 use Rattle.eden_model.specs.Map.{value_at, uid_cmp}
 use Rattle.journal.specs.World.{World, Node, Eject, node_at}
-use Rattle.journal.specs.Opening.{epoch_or_zero}
+use Rattle.journal.specs.Ejects.{epoch_or_zero}
 use Rattle.journal.specs.Run.{Step}
 use Rattle.journal.specs.LegalRun.{created_by}
 use Rattle.journal.specs.Sites.{InOrder}

@@ -93,9 +93,13 @@ fresh t vars = record { kind = t; vars = vars; tasks = tasks_from 1 (declared t)
 abbrev pub count : Node → ℕ
 count it = length (filter (λ e. is_there e.1) it.ejects)
 
+-- a stored epoch, or 0 where none is stored
+abbrev pub epoch_or_zero : Option ℕ → ℕ
+epoch_or_zero epoch = with_item epoch (λ e. e) 0
+
 -- the stored epoch of the node, 0 where none is stored
 abbrev pub stored_epoch : Node → ℕ
-stored_epoch it = with_item it.epoch (λ e. e) 0
+stored_epoch it = epoch_or_zero it.epoch
 
 -- the uid of the next Eject, or why there is none
 abbrev pub next_uid : Site → Result Uid Status

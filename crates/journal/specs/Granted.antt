@@ -1,5 +1,5 @@
 -- Which capabilities were granted to whom, by the entries that hand some over, and which ones an entry uses.
-use Rattle.std.specs.Prelude.{ℕ, Bool, true, false, cond, ◌&&◌, List, [], ◌∷◌, ◌++◌, Option, None, Some, is_some}
+use Rattle.std.specs.Prelude.{ℕ, Bool, true, false, cond, ◌&&◌, List, [], ◌∷◌, ◌++◌, Option, None, Some}
 use Rattle.capability.specs.declared.Uid.{Uid}
 use Rattle.capability.specs.declared.Cap.{Cap}
 use Rattle.capability.specs.Capability.{full}
@@ -23,7 +23,7 @@ use Rattle.journal.specs.declared.event.Event.{Event}
 use Rattle.journal.specs.declared.event.Event.TheVariants as event
 use Rattle.journal.specs.declared.event.Shown.TheVariants as shown
 use Rattle.journal.specs.declared.event.StartEnd.TheVariants as start_end
-use Rattle.journal.specs.World.{World, Active, Site, Meaning, capability, eject_at, site_at, eject_in}
+use Rattle.journal.specs.World.{World, Active, Site, Meaning, capability, eject_at, is_active_at, site_at, eject_in}
 use Rattle.journal.specs.Settling.{settled}
 use Rattle.journal.specs.Processes.{turn_of}
 use Rattle.journal.specs.References.{meaning_of}
@@ -52,7 +52,7 @@ same_holder _ _ = false
 -- in this world the holder can have what it was granted: the shell can, an Eject where it has an active part
 abbrev pub is_active : World → Holder → Bool
 is_active w the_shell = true
-is_active w (eject u) = with_item (eject_at w u) (λ e. is_some e.active) false
+is_active w (eject u) = is_active_at w u
 
 -- 2. What an entry grants: to whom, and what
 

@@ -1,6 +1,6 @@
 -- The statement about a whole run: its history follows the script, every start is whole, no other Eject is rolled back, only
 -- granted capabilities are used, no uid is given twice, and each disk stands for the history at every moment.
-use Rattle.std.specs.Prelude.{◌≡◌, ◌≢◌, ◌⊎◌, ℕ, ◌+◌, ◌==◌, Bool, true, false, List, [], ◌∷◌, map, Option, None, Some, is_some, IsTrue, ◌<◌}
+use Rattle.std.specs.Prelude.{◌≡◌, ◌≢◌, ◌⊎◌, ℕ, ◌+◌, ◌==◌, true, false, List, [], ◌∷◌, map, Option, None, Some, is_some, IsTrue, ◌<◌}
 use Rattle.std.specs.List.{All}
 use Rattle.std.specs.Ordering.{nat_cmp}
 use Rattle.capability.specs.declared.Uid.{Uid}
@@ -16,7 +16,7 @@ use Rattle.journal.specs.declared.event.Shown.TheVariants as shown
 use Rattle.journal.specs.declared.event.StartEnd.TheVariants as start_end
 use Rattle.journal.specs.declared.event.RequestEnd.TheVariants as request_end
 use Rattle.epl_syntax.specs.Meaning.{types_in}
-use Rattle.journal.specs.World.{World, eject_at}
+use Rattle.journal.specs.World.{World, eject_at, is_active_at}
 use Rattle.journal.specs.Step.{clock_before}
 use Rattle.journal.specs.Run.{Follows, FollowsSoFar, Step, EachStep, beginning, steps, world_after}
 use Rattle.journal.specs.Opening.{opening, IsFitImage}
@@ -43,10 +43,6 @@ StartIsWhole opening past s _ = Unit {0}
 abbrev pub ChangesKept : World → Uid → Event → Type 0
 ChangesKept w u (event.Store v clock request_end.Done p) = v ≡ u
 ChangesKept w u e = (picked u.node e ≡ Some pick.New) × IsTrue (with_item (eject_at w u) (λ e. is_some e.doubt) false)
-
--- whether the Eject has an active part
-abbrev pub is_active_at : World → Uid → Bool
-is_active_at w u = with_item (eject_at w u) (λ e. is_some e.active) false
 
 -- the step changes what is kept only where it ends or settles a change of that Eject, and a crash ends active parts of its node only
 pub record NoneRolledBack (s : Step) : Type 0 where

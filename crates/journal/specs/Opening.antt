@@ -8,6 +8,7 @@ use Rattle.epl_syntax.specs.Edentype.{Edentype}
 use Rattle.std.specs.FinMap as finite
 use Rattle.passive_store.specs.Kept.{Layout, Kept}
 use Rattle.journal.specs.World.{World, Eject, Node}
+use Rattle.journal.specs.Ejects.{epoch_or_zero}
 use Rattle.journal.specs.Settling.{epoch_uid}
 use Rattle.journal.specs.Run.{most_turns}
 
@@ -76,10 +77,6 @@ ledger_of (Err place) = []
 -- what an image of node n keeps, or its first damaged place
 abbrev pub found_in : Layout → ℕ → List ℕ → Result (List (Uid × List ℕ)) ℕ
 found_in layout n image = entries_of (layout.map_of n image)
-
--- a stored epoch, or 0 where none is stored
-abbrev pub epoch_or_zero : Option ℕ → ℕ
-epoch_or_zero epoch = with_item epoch (λ e. e) 0
 
 -- A run makes fewer changes on a disk than this: each entry makes at most one; a script of at most 1,048,576 bytes has fewer commands
 -- than that, with the boots of its nodes, and all else are turns.

@@ -237,10 +237,6 @@ FollowsSoFar opening nodes cs history = Leads (beginning opening nodes cs) histo
 abbrev pub world_after : World → ℕ → List Command → List Entry → World
 world_after opening nodes cs history = (end_of (beginning opening nodes cs) history).world
 
--- a history leads from the opening world, through the boots of so many nodes and these commands, to the world w
-abbrev pub EndsIn : World → ℕ → List Command → List Entry → World → Type 0
-EndsIn opening nodes cs history w = world_after opening nodes cs history ≡ w
-
 -- an entry with the worlds before and after it
 pub record Step : Type 0 where
   -- the world in which the entry came

@@ -1,7 +1,7 @@
 -- The modelled world: the nodes with their Ejects, the calls with their messages, the links, and what the script's names stand for.
-use Rattle.std.specs.Prelude.{ℕ, ◌==◌, Bool, false, not, ◌&&◌, ◌||◌, List, Option, None, Some}
+use Rattle.std.specs.Prelude.{ℕ, ◌==◌, Bool, false, not, ◌&&◌, ◌||◌, List, Option, None, Some, is_some}
 use Rattle.std.specs.Ordering.{nat_cmp}
-use Rattle.std.specs.List.{list_any, flat_map}
+use Rattle.std.specs.List.{list_any}
 use Rattle.capability.specs.declared.Uid.{Uid}
 use Rattle.capability.specs.declared.Cap.{Cap}
 use Rattle.eden_value.specs.Datum.{Datum}
@@ -124,9 +124,9 @@ node_at w n = value_at nat_cmp n w.nodes
 abbrev pub eject_at : World → Uid → Option Eject
 eject_at w u = with_item (node_at w u.node) (λ it. value_at uid_cmp u it.ejects) None
 
--- all Ejects that ever were
-abbrev pub all_ejects : World → List (Uid × Eject)
-all_ejects w = flat_map (λ n. n.1.ejects) w.nodes
+-- whether the Eject has an active part
+abbrev pub is_active_at : World → Uid → Bool
+is_active_at w u = with_item (eject_at w u) (λ e. is_some e.active) false
 
 -- 4. A site: a node and the calls, which is all that an event at the node changes
 

@@ -1,9 +1,11 @@
 //! Texts of types: the examples of the manual, texts of many parts, and how a text is read.
 ghost use Rattle.std.specs.Prelude.{◌≡◌, true};
+ghost use Rattle.epl_parser.specs.Program.{TypeIs};
 ghost use Rattle.epl_syntax.specs.Bindings.{is_resolved};
+ghost use Rattle.epl_syntax.specs.Rules.OfTypes.{HasMonitors};
 
 use epl_check::resolve;
-use epl_parser::parse_edentype;
+use epl_parser::{conditions_are_in_monitors, parse_edentype};
 use epl_syntax::{ParseRefusal, Program};
 use std::alloc::Global;
 use std::process::Abort;
@@ -58,7 +60,9 @@ pub(crate) const TALLY_2: &[u8] =
         upgrade from 1 (old : int) n := old twice := old * 2 end endtype";
 
 /// The type of a text that is not too long for a test, or why it is refused.
-pub(crate) fn parsed(alloc: Global, text: &[u8]) -> Result<Program, ParseRefusal> {
+pub(crate) fn parsed(alloc: Global, text: &[u8]) -> Result<Program, ParseRefusal>
+    ensures { TypeIs text.now result }
+{
     if text.len() > 2_000_000 {
         return Err(ParseRefusal::OutOfMemory);
     }
@@ -66,14 +70,18 @@ pub(crate) fn parsed(alloc: Global, text: &[u8]) -> Result<Program, ParseRefusal
 }
 
 /// The type of a text that is one.
-pub(crate) fn type_of(rt: &impl Abort, alloc: Global, text: &[u8]) -> Box<Program> {
+pub(crate) fn type_of(rt: &impl Abort, alloc: Global, text: &[u8]) -> Box<Program>
+    ensures { HasMonitors result.value }
+{
+    conditions_are_in_monitors();
     let program = parsed(alloc, text).expect(rt, "a type");
     Box::new(alloc, program).expect(rt, "memory")
 }
 
 /// The type of a text that is one, with its names resolved.
 pub(crate) fn resolved(rt: &impl Abort, alloc: Global, text: &[u8]) -> Box<Program>
-    ensures { is_resolved result.value ≡ true }
+    ensures monitors { HasMonitors result.value }
+    ensures resolved { is_resolved result.value ≡ true }
 {
     let mut program = type_of(rt, alloc, text);
     resolve(alloc, &mut program, text.len()).expect(rt, "memory");

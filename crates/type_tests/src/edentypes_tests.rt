@@ -201,8 +201,10 @@ fn is_judged(
     };
     let operation = text(rt, alloc, operation);
     let args = items_of(rt, alloc, args);
-    let fit = fit_call(alloc, types, Kind { place }, target, &operation, &args);
-    is_fit(fit.expect(rt, "memory"), wrong)
+    is_fit(
+        fit_call(types, Kind { place }, target, &operation, &args),
+        wrong,
+    )
 }
 
 #[test]

@@ -4,7 +4,7 @@ use Rattle.journal.specs.declared.event.Entry.{Entry}
 use Rattle.journal.specs.Run.{Position, Step, EachStep, lead, steps}
 use Rattle.journal.specs.Standing.{DiskRun}
 use Rattle.journal.specs.Faults.{shows_fault, shows_stop, number_of, RoseBy, RoseByAtLeast, ShowsEach, ShowsNoMore}
-use Rattle.undisturbed_runs.specs.Runs.{IsUndisturbed}
+use Rattle.undisturbed_runs.specs.Runs.{IsUndisturbedRun}
 
 -- no entry of a history shows one of node n
 pub record NoneShown (n : ℕ) (history : List Entry) : Type 0 where
@@ -17,13 +17,13 @@ none-risen shown before after rose same below = let by : after ≡ before + show
 none-less : (shown before after : ℕ) → RoseByAtLeast shown before after → after ≡ before → after < 2 ^ 64 - 1 → shown ≡ 0
 none-less shown before after rose same below = let by : before + shown ≤ after = rose below in omega (arith, by, same)
 
-pub none-in-whole : (n : ℕ) (d : DiskRun) (history : List Entry) → ShowsEach history n d → IsUndisturbed d → NoneShown n history
+pub none-in-whole : (n : ℕ) (d : DiskRun) (history : List Entry) → ShowsEach history n d → IsUndisturbedRun d → NoneShown n history
 none-in-whole n d history each still = record {
   faults = none-risen _ d.first.faults d.last.faults each.faults still.no_fault still.faults_told;
   stops = none-risen _ d.first.stops d.last.stops each.stops still.no_stop still.stops_told;
 }
 
-pub none-in-part : (n : ℕ) (d : DiskRun) (history : List Entry) → ShowsNoMore history n d → IsUndisturbed d → NoneShown n history
+pub none-in-part : (n : ℕ) (d : DiskRun) (history : List Entry) → ShowsNoMore history n d → IsUndisturbedRun d → NoneShown n history
 none-in-part n d history each still = record {
   faults = none-less _ d.first.faults d.last.faults each.faults still.no_fault still.faults_told;
   stops = none-less _ d.first.stops d.last.stops each.stops still.no_stop still.stops_told;

@@ -25,7 +25,7 @@ use Rattle.undisturbed_runs.specs.Puts.{AtTheStore, CheckpointEnds, EachWithRest
 
 -- No device call of it failed or stopped, from as it was handed in to as it was given back. Of a count that stands at the greatest
 -- number of 64 bits it is not told whether it rose.
-pub record IsUndisturbed (d : DiskRun) : Type 0 where
+pub record IsUndisturbedRun (d : DiskRun) : Type 0 where
   pub no_fault : d.last.faults ≡ d.first.faults
   pub no_stop : d.last.stops ≡ d.first.stops
   pub faults_told : d.last.faults < 2 ^ 64 - 1
@@ -54,7 +54,7 @@ pub record IsComplete (n : ℕ) (s : Step) : Type 0 where
 
 -- every step of a run is complete at each node whose disk is undisturbed
 abbrev pub StepsAreComplete : Layout → Script → List DiskRun → List Entry → Type 0
-StepsAreComplete layout script disks history = EachDisk disks (λ n d. IsUndisturbed d
+StepsAreComplete layout script disks history = EachDisk disks (λ n d. IsUndisturbedRun d
     → EachStep (λ past s. IsComplete n s) [] (run_over layout script disks history))
 
 -- over each disk that neither failed nor stopped in a legal run
@@ -72,10 +72,10 @@ UndisturbedPartsAreComplete = (layout : Layout) (script : Script) (disks : List 
 abbrev pub CheckpointsAreAnswered : Type 0
 CheckpointsAreAnswered = (layout : Layout) (script : Script) (disks : List DiskRun) (history : List Entry) → IsLayout layout
     → AreHandedIn layout disks → KeepRules script.types → HaveMonitors script.types → IsLegalRun layout script disks history
-    → EachDisk disks (λ n d. IsUndisturbed d → EachWithRest (CheckpointEnds n) (run_over layout script disks history))
+    → EachDisk disks (λ n d. IsUndisturbedRun d → EachWithRest (CheckpointEnds n) (run_over layout script disks history))
 
 -- and in a run that want of memory ended
 abbrev pub CheckpointsAreAnsweredSoFar : Type 0
 CheckpointsAreAnsweredSoFar = (layout : Layout) (script : Script) (disks : List DiskRun) (history : List Entry) → IsLayout layout
     → AreHandedIn layout disks → KeepRules script.types → HaveMonitors script.types → IsLegalSoFar layout script disks history
-    → EachDisk disks (λ n d. IsUndisturbed d → EachWithRest (CheckpointEnds n) (run_over layout script disks history))
+    → EachDisk disks (λ n d. IsUndisturbedRun d → EachWithRest (CheckpointEnds n) (run_over layout script disks history))

@@ -9,7 +9,7 @@ returns-clause-active c =
       tasks = c.in_ok-tasks.tasks;
       crew = c.in_ok-crew.crew;
     }) c.in_ok-setup.setup c.in_ok-rests.rests.items c.in_ok-crew.ensures c.in_ok-setup.ensures.same
-    c.in_ok-tasks.ensures c.in_ok-rests.ensures
+    c.in_ok-tasks.ensures c.in_ok-rests.ensures.begin
 
 pub returns-clause-queued : goal.returns-clause-queued
 returns-clause-queued c =

@@ -2,7 +2,7 @@ use Rattle.std.proofs.Common.{ap}
 use Rattle.eden_model.specs.Crew.{Invocation, startable}
 use Rattle.coordinator.specs.declared.parts.Started.{Started}
 use Rattle.epl_syntax.specs.declared.effect.Answer.TheVariants.{Go}
-use Rattle.active_part.proofs.Tasks.{begun-body, may-begin}
+use Rattle.active_part.proofs.Tasks.{begun-body, none-starts}
 use Rattle.active_part.proofs.Part.start.Goals as goal
 
 pub returns-in-Ok-Some-clause-started : goal.returns-in-Ok-Some-clause-started
@@ -13,7 +13,7 @@ returns-in-Ok-Some-clause-started c =
     made.after c.next_number-process.ensures c.in_ok-add.ensures.after
     (ap (λ r. record { rest = r; answer = Go }) c.in_ok-rest.ensures)
 
-pub returns-in-Ok-Some-clause-may : goal.returns-in-Ok-Some-clause-may
-returns-in-Ok-Some-clause-may c = λ ts.
-    may-begin (λ (s : Started). s.call) (λ (i : Invocation). i.call) c.in-Ok-Some.started c.in-Ok-Some.field-0
-    (startable c.args.self.now.crew.crew c.args.self.now.crew.queued) c.in-Ok-Some.field-0-is c.in-Ok-Some.ensures.call
+pub unreachable-requires : goal.unreachable-requires
+unreachable-requires c =
+    none-starts (λ (s : Started). s.call) (λ (i : Invocation). i.call) c.in-Ok-None.field-0
+    (startable c.args.self.now.crew.crew c.args.self.now.crew.queued) c.in-Ok-None.field-0-is c.in-Ok-None.ensures.call c.requires.may

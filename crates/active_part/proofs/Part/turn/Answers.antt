@@ -3,8 +3,8 @@ use Rattle.std.specs.Vec.{with_item}
 use Rattle.active_part.proofs.Tasks.{taken-body}
 use Rattle.active_part.proofs.Part.turn.Goals as goal
 
-pub returns-in_ok-effect-in-Some : goal.returns-in_ok-effect-in-Some
-returns-in_ok-effect-in-Some c t turns =
+pub returns-in_ok-effect-in-Some-clause-turned : goal.returns-in_ok-effect-in-Some-clause-turned
+returns-in_ok-effect-in-Some-clause-turned c t turns =
     let a = c.args.self.now in
     let e = c.index_mut.result.now in
     let w = c.take_turn.new.doing in

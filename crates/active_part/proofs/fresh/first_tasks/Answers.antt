@@ -1,10 +1,11 @@
-use Rattle.std.proofs.Common.{◌≡◌, ◌+◌, length, arith}
-use Rattle.active_part.proofs.Filling.{filling-on}
+use Rattle.std.proofs.Common.{◌≤◌, length, arith}
+use Rattle.active_part.proofs.Filling.{filling-on, few-left}
 use Rattle.active_part.proofs.fresh.first_tasks.Goals as goal
 
 pub loop-rest-preserved : goal.loop-rest-preserved
 loop-rest-preserved c =
     let now = c.pop.new.self.items in
-    let number : c.in-Ok.number ≡ length now + 1 = grind (arith, c.in-Ok.ensures, c.len.ensures) in
+    let few : length now ≤ 8 = few-left c.args.rests.items c.loop-rest.left.items now c.in-Some.rest c.loop-rest.tasks.entries.items
+    c.loop-rest.invariant c.in-Some.ensures.items c.requires in
     filling-on c.args.rests.items c.loop-rest.left.items now c.in-Some.rest c.loop-rest.tasks.entries.items c.add.new.self.entries.items
-    c.in-Ok.number c.loop-rest.invariant c.in-Some.ensures.items number c.in_ok-add.ensures.after
+    _ c.loop-rest.invariant c.in-Some.ensures.items (grind (arith, few, c.len-in-Some.ensures)) c.in_ok-add.ensures.after

@@ -1,11 +1,11 @@
 use Rattle.std.proofs.Common.{◌≡◌, ◌∷◌, ◌++◌, List, length, map, sym, ap, ◌∙◌, arith}
 use Rattle.epl_syntax.specs.Edentype.{declared as declared_type}
-use Rattle.epl_syntax.specs.Meaning.{Rest as Meant, of_declared}
+use Rattle.epl_syntax.specs.Meaning.{Rest as Meant, of_declared, declared}
 use Rattle.epl_syntax.specs.Tree.{TypeTree, type_tree}
 use Rattle.epl_run.specs.Blocks.{left_of}
 use Rattle.epl_run.specs.declared.rest.Rest.{Rest as LeftToDo}
 use Rattle.edentypes.specs.View.{rest_of}
-use Rattle.edentypes.proofs.Begun.{begun_are, meant_of, rest_found, one_found}
+use Rattle.edentypes.proofs.Begun.{begun_are, few_begin, meant_of, rest_found, one_found}
 use Rattle.edentypes.proofs.beginning.declared_processes.Goals as goal
 
 pub loop-rest-preserved : goal.loop-rest-preserved
@@ -20,8 +20,13 @@ loop-rest-preserved c =
 
 pub returns : goal.returns
 returns c =
+    let t : TypeTree = type_tree c.args.program.now in
     let none : length c.loop-rest.left.items ≡ 0 = grind (arith, c.in_default.ensures.cases.0, c.loop-rest.left.ok) in
-    rest_found (type_tree c.args.program.now) c.loop-rest.left.items
-    (map (rest_of (declared_type (type_tree c.args.program.now))) c.loop-rest.found.items) c.in_ok-left.left.items none
+    let begin : map (rest_of (declared_type t)) c.loop-rest.found.items ≡ declared (declared_type t) =
+    rest_found t c.loop-rest.left.items (map (rest_of (declared_type t)) c.loop-rest.found.items) c.in_ok-left.left.items none
     c.loop-rest.invariant
-    ∙ begun_are (type_tree c.args.program.now) c.in_ok-left.left.items c.in_ok-left.ensures
+    ∙ begun_are t c.in_ok-left.left.items c.in_ok-left.ensures in
+    record {
+      begin = begin;
+      few = few_begin c.args.program.now (rest_of (declared_type t)) c.loop-rest.found.items c.requires begin;
+    }

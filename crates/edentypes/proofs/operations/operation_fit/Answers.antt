@@ -22,4 +22,4 @@ returns c =
     ∙ ap (λ vs. have_shapes (datums vs) (map (λ p. shape p.kind.kind) c.deref-2.result.now)) c.deref.ensures.value
     ∙ ap (λ ds. have_shapes ds (map (λ p. shape p.kind.kind) c.deref-2.result.now)) c.args-2.view_is
     ∙ ap (λ ps. have_shapes c.args.args.now (map (λ p. shape p.kind.kind) ps)) c.deref-2.ensures.value)
-    c.if-not-is_within.false c.if-not-have_kinds.false c.class_of-class.result c.class_of-class.ensures
+    c.if-not-is_within.false c.if-not-have_kinds.false c.class_of-class.result c.class_of-class.ensures.place

@@ -1,10 +1,20 @@
-use Rattle.eden_model.specs.Crew.{outside, set_waits}
+use Rattle.std.proofs.Common.{sym}
 use Rattle.active_part.specs.Bodies.{crewed_body}
 use Rattle.ejects.proofs.Leaving.{part-changed}
+use Rattle.eden_model.specs.Crew.{Runs, outside, set_waits}
+use Rattle.ejects.specs.View.{part_at}
+use Rattle.ejects.proofs.Active.{may-none, may-part}
 use Rattle.ejects.proofs.Ejects.block_at.Goals as goal
 
 pub returns : goal.returns
 returns c ts b is =
     part-changed ts c.args.self.now.table c.args.self.now.waiting.entries c.args.uid c.in-Some.part.now
     c.block.new.self b
-    (crewed_body (set_waits c.args.process outside)) c.in-Some.ensures.value is (c.in_ok-block-in-Some.ensures.after ts)
+    (crewed_body (set_waits c.args.process outside)) c.in-Some.ensures.value is (c.block.ensures ts)
+
+pub block-requires : goal.block-requires
+block-requires c =
+    may-part (λ crew queued. Runs crew c.args.process) (part_at c.args.self.now c.args.uid) c.in-Some.part.now c.in-Some.ensures.value c.requires
+
+pub unreachable-requires : goal.unreachable-requires
+unreachable-requires c = may-none (λ crew queued. Runs crew c.args.process) (part_at c.args.self.now c.args.uid) (sym c.in-None.ensures.value) c.requires

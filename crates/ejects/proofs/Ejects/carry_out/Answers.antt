@@ -1,13 +1,15 @@
 use Rattle.std.proofs.Common.{refl}
 use Rattle.std.proofs.lemmas.Result.{IfOk-weaker}
 use Rattle.journal.specs.declared.event.Shown.TheVariants as shown
-use Rattle.ejects.specs.View.{parts_of}
 use Rattle.active_part.specs.declared.Step.TheVariants as step
 use Rattle.epl_syntax.specs.declared.effect.Effect.TheVariants as effect
 use Rattle.ejects.proofs.Askings.{asks-nothing, asks-by-fault, asks-by-sleep, asks-removal, asks-put}
 use Rattle.ejects.proofs.Acting.{process-checkpoints, process-destroys, process-returns, process-invokes, process-faults, process-sleeps}
 use Rattle.ejects.proofs.Acting.{process-ends, process-steps, process-yields}
 use Rattle.ejects.proofs.CreatingTurns.{process-creates}
+use Rattle.eden_model.specs.Crew.{Runs}
+use Rattle.ejects.specs.View.{part_at, parts_of}
+use Rattle.ejects.proofs.Active.{may-active}
 use Rattle.ejects.proofs.Ejects.carry_out.Goals as goal
 
 pub returns-in-Return-clause-parts : goal.returns-in-Return-clause-parts
@@ -45,13 +47,13 @@ returns-in_ok-sleeps-in-Deactivate-clause-parts c reach n s sound at took kept r
     took.runs took.turned c.in-Deactivate.is
     (c.in_ok-sleeps-in-Deactivate.ensures c.args.types.now)
 
-pub returns-in_ok-_served-in-End-clause-parts : goal.returns-in_ok-_served-in-End-clause-parts
-returns-in_ok-_served-in-End-clause-parts c reach n s sound at took kept reached ready =
+pub returns-in-End-clause-parts : goal.returns-in-End-clause-parts
+returns-in-End-clause-parts c reach n s sound at took kept reached ready =
     process-ends reach n (parts_of c.args.types.now c.args.self.now)
-    (parts_of c.args.types.now c.end_at.new.self)
+    (parts_of c.args.types.now c.end_at-served.new.self)
     c.args.calls.now c.args.calls.now s c.args.uid c.args.process shown.End sound at c.args.effect refl
     took.runs took.turned c.in-End.is
-    (λ b is. (c.in_ok-_served-in-End.ensures c.args.types.now b is).1) at.calls
+    (λ b is. (c.end_at-served.ensures c.args.types.now b is).1) at.calls
 
 pub returns-in-Lock-clause-parts : goal.returns-in-Lock-clause-parts
 returns-in-Lock-clause-parts c = IfOk-weaker c.coordinates.result _ _ (λ said told reach n s sound at took kept reached ready.
@@ -134,8 +136,8 @@ returns-in-Invoke-clause-requests c = IfOk-weaker c.invokes.result _ _ (λ said 
     (effect.Invoke c.in-Invoke.target c.in-Invoke.operation c.in-Invoke.args) tt c.in-Invoke.is refl)
     c.invokes.ensures
 
-pub returns-in_ok-_served-in-End-clause-requests : goal.returns-in_ok-_served-in-End-clause-requests
-returns-in_ok-_served-in-End-clause-requests c reach n s work size sound at took kept q =
+pub returns-in-End-clause-requests : goal.returns-in-End-clause-requests
+returns-in-End-clause-requests c reach n s work size sound at took kept q =
     asks-nothing reach n (parts_of c.args.types.now c.args.self.now) c.args.calls.now s
     c.args.uid
     c.args.process sound at c.args.effect took.runs took.turned
@@ -242,3 +244,12 @@ returns-in-Create-clause-requests c = IfOk-weaker c.creates.result _ _ (λ said 
     work size c.args.worker.now q c.args.worker.now.requests.items
     (effect.Create c.in-Create.type_name) tt c.in-Create.is refl)
     c.creates.ensures
+
+pub creates-requires : goal.creates-requires
+creates-requires c = may-active (λ crew queued. Runs crew c.args.process) (part_at c.args.self.now c.args.uid) c.requires.runs
+
+pub faults-requires : goal.faults-requires
+faults-requires c = may-active (λ crew queued. Runs crew c.args.process) (part_at c.args.self.now c.args.uid) c.requires.runs
+
+pub sleeps-requires : goal.sleeps-requires
+sleeps-requires c = may-active (λ crew queued. Runs crew c.args.process) (part_at c.args.self.now c.args.uid) c.requires.runs

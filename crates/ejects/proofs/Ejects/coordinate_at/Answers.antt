@@ -1,6 +1,10 @@
+use Rattle.std.proofs.Common.{sym}
 use Rattle.active_part.specs.Bodies.{crewed_body}
 use Rattle.active_part.specs.View.{stepped}
 use Rattle.ejects.proofs.Leaving.{part-changed}
+use Rattle.eden_model.specs.Crew.{Runs}
+use Rattle.ejects.specs.View.{part_at}
+use Rattle.ejects.proofs.Active.{may-none, may-part}
 use Rattle.ejects.proofs.Ejects.coordinate_at.Goals as goal
 
 pub returns : goal.returns
@@ -8,3 +12,10 @@ returns c ts b is =
     part-changed ts c.args.self.now.table c.args.self.now.waiting.entries c.args.uid c.in-Some.part.now
     c.coordinate.new.self b
     (crewed_body (stepped c.args.step c.args.process)) c.in-Some.ensures.value is (c.in_ok-coordinate-in-Some.ensures.after ts)
+
+pub coordinate-requires : goal.coordinate-requires
+coordinate-requires c =
+    may-part (λ crew queued. Runs crew c.args.process) (part_at c.args.self.now c.args.uid) c.in-Some.part.now c.in-Some.ensures.value c.requires
+
+pub unreachable-requires : goal.unreachable-requires
+unreachable-requires c = may-none (λ crew queued. Runs crew c.args.process) (part_at c.args.self.now c.args.uid) (sym c.in-None.ensures.value) c.requires

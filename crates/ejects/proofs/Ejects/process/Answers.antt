@@ -1,12 +1,11 @@
 use Rattle.ejects.specs.View.{parts_of}
-use Rattle.ejects.specs.Parts.{body_at}
 use Rattle.std.specs.FinMap.{get}
-use Rattle.ejects.proofs.Active.{active-some, ready-some}
+use Rattle.ejects.proofs.Active.{ready-runs}
 use Rattle.ejects.proofs.Ejects.process.Goals as goal
 
 pub turn_at-requires : goal.turn_at-requires
-turn_at-requires c = active-some c.args.types.now (get c.args.self.now.table.standings c.args.uid)
-    (ready-some (body_at (parts_of c.args.types.now c.args.self.now) c.args.uid) c.args.process c.requires.ready)
+turn_at-requires c =
+    ready-runs c.args.types.now (get c.args.self.now.table.standings c.args.uid) c.args.process c.requires.ready
 
 pub returns-clause-parts : goal.returns-clause-parts
 returns-clause-parts c reach s sound at kept reached ready =

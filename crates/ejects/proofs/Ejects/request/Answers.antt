@@ -10,7 +10,7 @@ use Rattle.ejects.proofs.Ejects.request.Goals as goal
 pub returns-in_ok-join_active-in-Active-clause-steps : goal.returns-in_ok-join_active-in-Active-clause-steps
 returns-in_ok-join_active-in-Active-clause-steps c reach s stands came =
     let x = c.in-Some.asked.now in
-    let a = subst (IsAdmission (parts_of c.args.types.now c.args.self.now) x) c.in-Active.is c.in_ok-class.ensures in
+    let a = subst (IsAdmission (parts_of c.args.types.now c.args.self.now) x) c.in-Active.is c.admission.ensures in
     subst (λ to. IsStep reach (parts_of c.args.types.now c.join_active.new.self) c.args.calls.now s
     (event.Request c.args.call c.args.from to None)) (sym c.node-to.ensures)
     (request-joined reach (parts_of c.args.types.now c.args.self.now) c.args.calls.now s c.args.from c.args.call x stands came (sym
@@ -20,7 +20,7 @@ returns-in_ok-join_active-in-Active-clause-steps c reach s stands came =
 pub returns-in_ok-join_passive-in-Passive-clause-steps : goal.returns-in_ok-join_passive-in-Passive-clause-steps
 returns-in_ok-join_passive-in-Passive-clause-steps c reach s stands came =
     let x = c.in-Some.asked.now in
-    let a = subst (IsAdmission (parts_of c.args.types.now c.args.self.now) x) c.in-Passive.is c.in_ok-class.ensures in
+    let a = subst (IsAdmission (parts_of c.args.types.now c.args.self.now) x) c.in-Passive.is c.admission.ensures in
     subst (λ to. IsStep reach (parts_of c.args.types.now c.join_passive.new.self) c.args.calls.now s
     (event.Request c.args.call c.args.from to None)) (sym c.node-to.ensures)
     (request-passive reach (parts_of c.args.types.now c.args.self.now) c.args.calls.now s c.args.from c.args.call x stands came (sym
@@ -30,7 +30,7 @@ returns-in_ok-join_passive-in-Passive-clause-steps c reach s stands came =
 pub returns-in_ok-reply-in-Refused-clause-steps : goal.returns-in_ok-reply-in-Refused-clause-steps
 returns-in_ok-reply-in-Refused-clause-steps c reach s stands came =
     let x = c.in-Some.asked.now in
-    let a = subst (IsAdmission (parts_of c.args.types.now c.args.self.now) x) c.in-Refused.is c.in_ok-class.ensures in
+    let a = subst (IsAdmission (parts_of c.args.types.now c.args.self.now) x) c.in-Refused.is c.admission.ensures in
     subst (λ to. IsStep reach (parts_of c.args.types.now c.args.self.now) c.reply.new.calls s
     (event.Request c.args.call c.args.from to (Some c.in-Refused.status))) (sym c.node-to.ensures)
     (request-refused reach (parts_of c.args.types.now c.args.self.now) c.args.calls.now s c.args.from c.args.call x stands came (sym

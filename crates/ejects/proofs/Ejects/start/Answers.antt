@@ -3,8 +3,9 @@ use Rattle.std.specs.Prelude.{is_some, option_copied}
 use Rattle.invocation.specs.Numbers.{item_in}
 use Rattle.ejects.specs.Parts.{body_at}
 use Rattle.ejects.specs.View.{parts_of}
-use Rattle.ejects.proofs.Active.{begin-asked, begin-start}
+use Rattle.ejects.proofs.Active.{begin-asked, begin-may, begin-start}
 use Rattle.ejects.proofs.Starting.{start-step}
+use Rattle.std.specs.FinMap.{get}
 use Rattle.ejects.proofs.Ejects.start.Goals as goal
 
 pub returns-clause-steps : goal.returns-clause-steps
@@ -27,3 +28,6 @@ unreachable-requires-in_default-call c =
     let none : item_in c.in-Some.call c.args.calls.now.calls ≡ None = sym c.call.ensures ∙ ap (λ o. option_copied o) c.in_default-call.is in
     let bad : true ≡ false = sym asked ∙ ap (λ o. is_some o) none in
     cc bad
+
+pub begin_at-requires : goal.begin_at-requires
+begin_at-requires c = begin-may c.args.types.now c.args.calls.now (get c.args.self.now.table.standings c.args.uid) c.requires

@@ -10,7 +10,7 @@ pub returns-in_ok-offer-in-Fits : goal.returns-in_ok-offer-in-Fits
 returns-in_ok-offer-in-Fits c =
     let ts = c.args.types.now in
     let x = c.in-Some.asked.now in
-    let fits = ap result_of (sym c.in-Fits.is) ∙ c.in_ok-class.ensures ∙ ap (λ k. fit_in k x.target.rights x.operation x.args)
+    let fits = ap result_of (sym c.in-Fits.is) ∙ c.fit_call-fit.ensures ∙ ap (λ k. fit_in k x.target.rights x.operation x.args)
     (c.kind.ensures ts) in
     joins-fit (body_of ts c.args.part.now) c.args.number x c.args.calls.now (sym c.in-Some.ensures) (body_of ts c.offer.new.self)
     c.in-Fits.class fits (c.in_ok-offer-in-Fits.ensures.after ts)
@@ -19,7 +19,7 @@ pub returns-in_ok-reply-in-Misfits : goal.returns-in_ok-reply-in-Misfits
 returns-in_ok-reply-in-Misfits c =
     let ts = c.args.types.now in
     let x = c.in-Some.asked.now in
-    let misfits = ap result_of (sym c.in-Misfits.is) ∙ c.in_ok-class.ensures ∙ ap (λ k. fit_in k x.target.rights x.operation x.args)
+    let misfits = ap result_of (sym c.in-Misfits.is) ∙ c.fit_call-fit.ensures ∙ ap (λ k. fit_in k x.target.rights x.operation x.args)
     (c.kind.ensures ts) in
     joins-misfit (body_of ts c.args.part.now) c.args.number x c.args.calls.now (sym c.in-Some.ensures) c.reply.new.calls c.in-Misfits.status
     misfits (λ t carries out. subst (λ rs. Carries c.reply.new.calls (replied c.in-Misfits.status rs c.args.number t)) c.no_items.ensures

@@ -19,7 +19,7 @@ returns-in-Fits c =
     let x = c.args.asked.now in
     let few = few-full c.is_full.result (length (body_of c.args.types.now c.args.part.now).crew.queued)
     (c.is_full.ensures c.args.types.now).1 c.if-is_full.false in
-    let is = ap result_of (sym c.in-Fits.is) ∙ c.in_ok-class.ensures ∙ ap (λ k. fit_in k x.target.rights x.operation x.args)
+    let is = ap result_of (sym c.in-Fits.is) ∙ c.fit_call-fit.ensures ∙ ap (λ k. fit_in k x.target.rights x.operation x.args)
     (c.kind.ensures c.args.types.now) in
     let fits = fits-class (body_of c.args.types.now c.args.part.now).kind (call_at_place asked x) c.in-Fits.class is in
     (few, fits.0, fits.1)
@@ -30,6 +30,6 @@ returns-in-Misfits c =
     let few = few-full c.is_full.result (length (body_of c.args.types.now c.args.part.now).crew.queued)
     (c.is_full.ensures c.args.types.now).1 c.if-is_full.false in
     let lt : nat_lt (length (body_of c.args.types.now c.args.part.now).crew.queued) 64 ≡ true = grind (arith, nat_tests, few) in
-    let is = ap result_of (sym c.in-Misfits.is) ∙ c.in_ok-class.ensures ∙ ap (λ k. fit_in k x.target.rights x.operation x.args)
+    let is = ap result_of (sym c.in-Misfits.is) ∙ c.fit_call-fit.ensures ∙ ap (λ k. fit_in k x.target.rights x.operation x.args)
     (c.kind.ensures c.args.types.now) in
     rw lt (misfits-why (body_of c.args.types.now c.args.part.now).kind (call_at_place asked x) c.in-Misfits.status is)
