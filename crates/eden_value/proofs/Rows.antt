@@ -1,5 +1,5 @@
 -- The definitions at a value of the code that is a list.
-use Rattle.std.proofs.Common.{◌≡◌, ◌↔◌, Bool as Truth, true, false, ℕ, suc, ◌-◌, ◌<◌, ◌++◌, nat_lt, List, [], ◌∷◌, refl, ap, sym, ◌∙◌}
+use Rattle.std.proofs.Common.{◌≡◌, ◌↔◌, Bool as Truth, true, false, ℕ, suc, ◌-◌, ◌<◌, ◌++◌, nat_le, List, [], ◌∷◌, refl, ap, sym, ◌∙◌}
 use Rattle.std.proofs.Common.{arith}
 use Rattle.std.proofs.lemmas.Bool.Decides.{nat_tests}
 use Rattle.eden_value.specs.Datum.{Datum, list, data_of}
@@ -14,10 +14,10 @@ use Rattle.eden_value.specs.declared.value.Value.TheVariants.{List as Listed}
 
 -- the list is within the limit where its items are within one less
 list_within : (ds : List Datum) (most : ℕ) → 0 < most
-    → nat_lt (depth_of ds) (suc (most - 1)) ≡ nat_lt (depth (list (data_of ds))) (suc most)
+    → nat_le (depth_of ds) (most - 1) ≡ nat_le (depth (list (data_of ds))) most
 list_within ds most h = within (depth_of ds) (depths (data_of ds)) most (depths-data_of ds) h
   where
-    within : (a b m : ℕ) → b ≡ a → 0 < m → nat_lt a (suc (m - 1)) ≡ nat_lt (suc b) (suc m)
+    within : (a b m : ℕ) → b ≡ a → 0 < m → nat_le a (m - 1) ≡ nat_le (suc b) m
     within a b m e h = grind (arith, nat_tests)
 
 -- a value v that is a list of the code's values ws
@@ -28,9 +28,9 @@ module _ (v : Value) (items : List Datum) (vs ws : List Value) (is : v ≡ Liste
   datum_is : datum v ≡ list (data_of (datums ws))
   datum_is = ap datum is ∙ ap (λ ds. list (data_of ds)) (sym items_are)
 
-  pub value_within : (most : ℕ) → 0 < most → (r : Truth) → r ≡ nat_lt (depth_of (datums ws)) (suc (most - 1))
-      → r ≡ nat_lt (depth (datum v)) (suc most)
-  value_within most h r e = e ∙ list_within (datums ws) most h ∙ ap (λ d. nat_lt (depth d) (suc most)) (sym datum_is)
+  pub value_within : (most : ℕ) → 0 < most → (r : Truth) → r ≡ nat_le (depth_of (datums ws)) (most - 1)
+      → r ≡ nat_le (depth (datum v)) most
+  value_within most h r e = e ∙ list_within (datums ws) most h ∙ ap (λ d. nat_le (depth d) most) (sym datum_is)
 
   pub value_caps : caps (datum v) ≡ caps_of (datums ws)
   value_caps = ap caps datum_is ∙ caps-data_of (datums ws)

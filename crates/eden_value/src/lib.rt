@@ -11,7 +11,7 @@ mod walk;
 
 pub use bytes::{is_name_byte, is_printable};
 pub use kind::{Kind, has_kind};
-pub use limits::{list_of, text_of};
+pub use limits::{are_shallow, is_shallow, list_of, text_of};
 pub use printing::print;
 pub use status::Status;
 pub use value::{DEPTH_LIMIT, Items, LIST_LIMIT, TEXT_LIMIT, Txt, Value, ValueRefusal};

@@ -1,5 +1,5 @@
 //! Texts and lists within their limits.
-ghost use Rattle.std.specs.Prelude.{◌≡◌, ◌≢◌, ◌↔◌, ◌≤◌, ◌<◌, suc, length, nat_lt, IfOk, IsTrue, IsFalse};
+ghost use Rattle.std.specs.Prelude.{◌≡◌, ◌≢◌, ◌↔◌, ◌≤◌, ◌<◌, length, nat_le, IfOk, IsTrue, IsFalse};
 ghost use Rattle.std.specs.List.{list_all};
 ghost use Rattle.eden_value.specs.View.{datum, datums, list_value};
 ghost use Rattle.eden_value.specs.Bytes.{is_printable};
@@ -45,21 +45,22 @@ pub fn text_of(alloc: Global, bytes: &[u8]) -> Result<Txt, ValueRefusal>
 
 /// Whether lists nest at most `most` deep in a value.
 #[cycle(depth)]
-fn is_within(value: &Value, most: u8) -> bool
-    ensures { result ≡ nat_lt (depth (datum value.now)) (suc most) }
+pub fn is_shallow(value: &Value, most: u8) -> bool
+    ensures { result ≡ nat_le (depth (datum value.now)) most }
 {
     match value {
-        Value::List { items } => most > 0 && are_within(&items.values, most - 1),
+        Value::List { items } => most > 0 && are_shallow(&items.values, most - 1),
         _ => true,
     }
 }
 
+/// Whether lists nest at most `most` deep in each of these values.
 #[cycle(depth)]
-fn are_within(values: &[Value], most: u8) -> bool
-    ensures { result ≡ nat_lt (depth_of (datums values.now)) (suc most) }
+pub fn are_shallow(values: &[Value], most: u8) -> bool
+    ensures { result ≡ nat_le (depth_of (datums values.now)) most }
 {
     for value in values {
-        if !is_within(value, most) {
+        if !is_shallow(value, most) {
             return false;
         }
     }
@@ -81,7 +82,7 @@ pub fn list_of(values: Vec<Value>) -> Result<Value, ValueRefusal>
     if values.len() > LIST_LIMIT {
         return Err(ValueRefusal::TooLong);
     }
-    if !are_within(&values, DEPTH_LIMIT - 1) {
+    if !are_shallow(&values, DEPTH_LIMIT - 1) {
         return Err(ValueRefusal::TooDeep);
     }
     Ok(Value::List {

@@ -1,5 +1,5 @@
 -- A text or a list that grows behind its own value.
-use Rattle.std.proofs.Common.{◌≡◌, ℕ, ◌+◌, ◌<◌, ◌≤◌, Bool, true, false, ◌++◌, refl, ap, sym, ◌∙◌, arith}
+use Rattle.std.proofs.Common.{◌≡◌, ℕ, ◌+◌, ◌-◌, ◌<◌, ◌≤◌, Bool, true, false, ◌++◌, refl, ap, sym, ◌∙◌, arith}
 use Rattle.std.proofs.Common.{List, [], ◌∷◌, length, Option, None, Some, Ok, Err, nat_lt, nat_le, length-append, cond}
 use Rattle.std.specs.Prelude.{max, ◌||◌}
 use Rattle.std.specs.List.{list_any}
@@ -32,6 +32,10 @@ depth_append : (a b : List Datum) → depth_of (a ++ b) ≡ max (depth_of a) (de
 depth_append [] b = omega arith
 depth_append (d ∷ a) b = ap (max (depth d)) (depth_append a b) ∙ omega arith
 
+-- one level less than the limit is below it
+below : (n : ℕ) → nat_le n (DEPTH_LIMIT - 1) ≡ nat_lt n DEPTH_LIMIT
+below n = grind (arith, nat_tests)
+
 max_left : (x y n : ℕ) → nat_lt x n ≡ false → nat_lt (max x y) n ≡ false
 max_left x y n h = grind (arith, nat_tests)
 
@@ -60,32 +64,35 @@ module _ (vs ws : List Value) (a b : List Datum) (n k : ℕ) (left : datums vs �
       joined_is a b
       ∙ by_tests (a ++ b) false (nat_lt (depth_of (a ++ b)) DEPTH_LIMIT) (ap (λ x. nat_le x LIST_LIMIT) sizes ∙ long_false (n + k) h) refl
 
-  pub left_too_deep : n + k ≤ LIST_LIMIT → false ≡ nat_lt (depth_of (datums vs)) DEPTH_LIMIT
+  pub left_too_deep : n + k ≤ LIST_LIMIT → false ≡ nat_le (depth_of (datums vs)) (DEPTH_LIMIT - 1)
       → joined (list (data_of a)) (list (data_of b)) ≡ Err fault.TooDeep
   left_too_deep h d =
       joined_is a b
       ∙ by_tests (a ++ b) true false (ap (λ x. nat_le x LIST_LIMIT) sizes ∙ short_true (n + k) h)
       (ap (λ x. nat_lt x DEPTH_LIMIT) (depth_append a b)
-      ∙ max_left (depth_of a) (depth_of b) DEPTH_LIMIT (ap (λ x. nat_lt (depth_of x) DEPTH_LIMIT) (sym left) ∙ sym d))
+      ∙ max_left (depth_of a) (depth_of b) DEPTH_LIMIT (ap (λ x. nat_lt (depth_of x) DEPTH_LIMIT) (sym left)
+      ∙ sym (below (depth_of (datums vs))) ∙ sym d))
 
-  pub right_too_deep : n + k ≤ LIST_LIMIT → false ≡ nat_lt (depth_of (datums ws)) DEPTH_LIMIT
+  pub right_too_deep : n + k ≤ LIST_LIMIT → false ≡ nat_le (depth_of (datums ws)) (DEPTH_LIMIT - 1)
       → joined (list (data_of a)) (list (data_of b)) ≡ Err fault.TooDeep
   right_too_deep h d =
       joined_is a b
       ∙ by_tests (a ++ b) true false (ap (λ x. nat_le x LIST_LIMIT) sizes ∙ short_true (n + k) h)
       (ap (λ x. nat_lt x DEPTH_LIMIT) (depth_append a b)
-      ∙ max_right (depth_of a) (depth_of b) DEPTH_LIMIT (ap (λ x. nat_lt (depth_of x) DEPTH_LIMIT) (sym right) ∙ sym d))
+      ∙ max_right (depth_of a) (depth_of b) DEPTH_LIMIT (ap (λ x. nat_lt (depth_of x) DEPTH_LIMIT) (sym right)
+      ∙ sym (below (depth_of (datums ws))) ∙ sym d))
 
-  pub within_limits : n + k ≤ LIST_LIMIT → true ≡ nat_lt (depth_of (datums vs)) DEPTH_LIMIT → true ≡ nat_lt (depth_of (datums ws))
-      DEPTH_LIMIT
+  pub within_limits : n + k ≤ LIST_LIMIT → true ≡ nat_le (depth_of (datums vs)) (DEPTH_LIMIT - 1)
+      → true ≡ nat_le (depth_of (datums ws)) (DEPTH_LIMIT - 1)
       → (d : Datum) × (joined (list (data_of a)) (list (data_of b)) ≡ Ok d)
   within_limits h d e = (
     list (data_of (a ++ b)),
     joined_is a b
         ∙ by_tests (a ++ b) true true (ap (λ x. nat_le x LIST_LIMIT) sizes ∙ short_true (n + k) h)
         (ap (λ x. nat_lt x DEPTH_LIMIT) (depth_append a b)
-        ∙ max_both (depth_of a) (depth_of b) DEPTH_LIMIT (ap (λ x. nat_lt (depth_of x) DEPTH_LIMIT) (sym left) ∙ sym d)
-        (ap (λ x. nat_lt (depth_of x) DEPTH_LIMIT) (sym right) ∙ sym e)),
+        ∙ max_both (depth_of a) (depth_of b) DEPTH_LIMIT (ap (λ x. nat_lt (depth_of x) DEPTH_LIMIT) (sym left)
+        ∙ sym (below (depth_of (datums vs))) ∙ sym d)
+        (ap (λ x. nat_lt (depth_of x) DEPTH_LIMIT) (sym right) ∙ sym (below (depth_of (datums ws))) ∙ sym e)),
   )
 
 -- ---- texts

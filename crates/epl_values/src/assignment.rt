@@ -1,7 +1,6 @@
 //! Assignments. A text or a list that grows behind its own value stays where it is.
-ghost use Rattle.std.specs.Prelude.{◌≡◌, true, suc, nat_lt, is_some, Ok, IsTrue};
+ghost use Rattle.std.specs.Prelude.{◌≡◌, true, is_some, Ok, IsTrue};
 ghost use Rattle.eden_value.specs.Datum.{text, list, data_of};
-ghost use Rattle.eden_value.specs.Limits.{depth, depth_of};
 ghost use Rattle.eden_value.specs.View.{datum, datums};
 ghost use Rattle.epl_syntax.specs.Tree as tree;
 ghost use Rattle.epl_syntax.specs.Bindings.{variable, each_of_expression};
@@ -16,32 +15,9 @@ use crate::expression::value_of;
 use crate::operator::joined;
 use crate::stop::Stop;
 use crate::variables::{Variables, replace, set, value_named};
-use eden_value::{DEPTH_LIMIT, Items, LIST_LIMIT, TEXT_LIMIT, Txt, Value};
+use eden_value::{DEPTH_LIMIT, Items, LIST_LIMIT, TEXT_LIMIT, Txt, Value, are_shallow};
 use epl_syntax::{Expr, FaultCause, Name, Operator, Program, same_text};
 use std::alloc::Global;
-
-/// Whether lists nest at most `most` deep in a value.
-#[cycle(depth)]
-fn is_within(value: &Value, most: u8) -> bool
-    ensures { result ≡ nat_lt (depth (datum value.now)) (suc most) }
-{
-    match value {
-        Value::List { items } => most > 0 && are_within(&items.values, most - 1),
-        _ => true,
-    }
-}
-
-#[cycle(depth)]
-fn are_within(values: &[Value], most: u8) -> bool
-    ensures { result ≡ nat_lt (depth_of (datums values.now)) (suc most) }
-{
-    for value in values {
-        if !is_within(value, most) {
-            return false;
-        }
-    }
-    true
-}
 
 /// Whether one list may stand behind another.
 fn lists_may_join(a: &Items, b: &Items) -> Result<(), FaultCause>
@@ -50,10 +26,10 @@ fn lists_may_join(a: &Items, b: &Items) -> Result<(), FaultCause>
     if a.values.len() + b.values.len() > LIST_LIMIT {
         return Err(FaultCause::TooLong);
     }
-    if !are_within(&a.values, DEPTH_LIMIT - 1) {
+    if !are_shallow(&a.values, DEPTH_LIMIT - 1) {
         return Err(FaultCause::TooDeep);
     }
-    if !are_within(&b.values, DEPTH_LIMIT - 1) {
+    if !are_shallow(&b.values, DEPTH_LIMIT - 1) {
         return Err(FaultCause::TooDeep);
     }
     Ok(())

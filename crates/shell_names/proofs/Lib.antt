@@ -1,6 +1,5 @@
 mod Tables
 mod Depths
-mod Within
 mod Results
 pub mod Worlds
 pub mod Others

@@ -1,7 +1,6 @@
 //! The arguments of a call, with values in the place of names.
-ghost use Rattle.std.specs.Prelude.{◌≡◌, IfOk, nat_le};
+ghost use Rattle.std.specs.Prelude.{◌≡◌, IfOk};
 ghost use Rattle.std.specs.Option.{option_map};
-ghost use Rattle.eden_value.specs.Limits.{depth, depth_of};
 ghost use Rattle.eden_value.specs.View.{datum, datums};
 ghost use Rattle.journal.specs.Argument.{arguments_of};
 ghost use Rattle.journal.specs.ArgumentView.{given, givens};
@@ -11,39 +10,16 @@ ghost use Rattle.shell_names.specs.Names.{NamesStand};
 ghost use Rattle.shell_names.specs.Shallow.{shallow, shallow_all};
 
 use crate::names::ShellNames;
-use eden_value::{DEPTH_LIMIT, Items, Value, copy};
+use eden_value::{DEPTH_LIMIT, Items, Value, copy, is_shallow};
 use journal::{Arg, Args};
 use std::alloc::{AllocError, Global};
-
-/// Whether lists nest at most `most` deep in a value.
-#[cycle(depth)]
-fn is_within(value: &Value, most: u8) -> bool
-    ensures { result ≡ nat_le (depth (datum value.now)) most }
-{
-    match value {
-        Value::List { items } => most > 0 && are_within(&items.values, most - 1),
-        _ => true,
-    }
-}
-
-#[cycle(depth)]
-fn are_within(values: &[Value], most: u8) -> bool
-    ensures { result ≡ nat_le (depth_of (datums values.now)) most }
-{
-    for value in values {
-        if !is_within(value, most) {
-            return false;
-        }
-    }
-    true
-}
 
 /// The value, if lists nest at most `most` deep in it.
 fn kept(found: Option<Value>, most: u8) -> Option<Value>
     ensures { option_map datum result ≡ shallow most (option_map datum found) }
 {
     let value = found?;
-    if is_within(&value, most) {
+    if is_shallow(&value, most) {
         return Some(value);
     }
     None
@@ -57,7 +33,7 @@ fn read(alloc: Global, names: &ShellNames, arg: &Arg, most: u8) -> Result<Option
 {
     match arg {
         Arg::Plain { value } => {
-            if !is_within(value, most) {
+            if !is_shallow(value, most) {
                 return Ok(None);
             }
             Ok(Some(copy(alloc, value)?))

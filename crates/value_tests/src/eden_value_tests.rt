@@ -119,6 +119,23 @@ fn lists_have_a_greatest_depth(rt: HostRuntime) {
     }
 }
 
+/// Whether lists nest at most so deep in the first of these values, if there is one.
+fn first_is_shallow(values: &[Value], most: u8) -> bool {
+    match values.first() {
+        Some(value) => is_shallow(value, most),
+        None => true,
+    }
+}
+
+#[test]
+fn lists_nest_so_deep(rt: HostRuntime) {
+    for &(depth, most, want) in &[(0, 0, true), (1, 0, false), (1, 1, true), (3, 2, false)] {
+        let values = nested(&rt, rt.alloc(), depth);
+        assert!(rt; are_shallow(&values, most) == want, "at {depth}");
+        assert!(rt; first_is_shallow(&values, most) == want, "at {depth}");
+    }
+}
+
 /// Whether a value is the one of these bytes.
 fn equals(rt: &impl Abort, alloc: Global, found: &Value, spelled: &[u8]) -> bool {
     let wanted = value(rt, alloc, spelled);
