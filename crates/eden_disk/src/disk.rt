@@ -27,7 +27,9 @@ pub enum ImageMode {
 /// A request for one failure, or one stop, of a device call to come: the next one is 1 call later.
 #[derive(Clone, Copy, Debug, PartialEq, Eq)]
 pub enum Arm {
+    /// That call is answered `Failed`.
     Fail { after: u32 },
+    /// That call is answered `Stopped`, and what it leaves of unsynced bytes is told by the mode.
     Stop { after: u32, mode: ImageMode },
 }
 

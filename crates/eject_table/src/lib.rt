@@ -34,13 +34,16 @@ pub enum CreateRefusal {
     TooMany,
     /// The last serial is the greatest there is.
     SerialsSpent,
+    /// There is no memory for another Eject.
     OutOfMemory,
 }
 
 /// How an Eject stands at its node.
 #[derive(Clone, Copy, Debug, PartialEq, Eq)]
 pub enum EjectStanding {
+    /// It has an active part.
     Active,
+    /// It is in the table without an active part: a representation of it is kept.
     Passive,
     /// It is not in the table.
     Absent,

@@ -49,9 +49,9 @@ plain-cell vars cell.killed answer = tt
 
 plain-directory : (vars : List Datum) (stage : directory.Stage) (answer : Answer) → IsPlain (directory.directory_turn vars stage answer).2
 plain-directory vars (directory.adds name held) answer = let d = directory.entries vars in
-    plain-item (directory.place_of name d) _ _ (λ i. tt) (plain-cond (length d.names == LIST_LIMIT) _ _ tt tt)
+    plain-item (directory.place_of (text name) d) _ _ (λ i. tt) (plain-cond (length d.names == LIST_LIMIT) _ _ tt tt)
 plain-directory vars (directory.looks name) answer = tt
-plain-directory vars (directory.deletes name) answer = plain-item (directory.place_of name (directory.entries vars)) _ _ (λ i. tt) tt
+plain-directory vars (directory.deletes name) answer = plain-item (directory.place_of (text name) (directory.entries vars)) _ _ (λ i. tt) tt
 plain-directory vars directory.tells answer = tt
 plain-directory vars directory.changed answer = tt
 

@@ -1,6 +1,6 @@
 //! What holds of every history of every script, apart from any code.
 ghost use Rattle.journal.specs.RefusedRuns.{UnwrittenDiskIsRefused, ExchangedDisksAreRefused, InventedFaultsAreRefused};
-ghost use Rattle.journal.specs.RefusedRuns.{UnaskedStopIsRefused, OtherClockIsRefused, BlankDisksMayBeHandedIn};
+ghost use Rattle.journal.specs.RefusedRuns.{UnaskedStopIsRefused, OtherClockIsRefused, BlankLogsMayBeHandedIn};
 ghost use Rattle.journal.specs.Laws.{NoEjectIsRolledBack, EveryStartIsWhole, NoUidIsGivenTwice, RunsAreLegal, RunsAreLegalSoFar};
 ghost use Rattle.journal.specs.Laws.{FirstPartsFollow, FirstPartsFollowSoFar, EnabledKeysHaveTurns, OnlyGrantedAreUsed, DownNodesRest};
 ghost use Rattle.journal.specs.Laws.{DisksStandAtTheOpening, DisksStandAtTheEnd};
@@ -101,5 +101,5 @@ pub fn another_clock_is_refused()
 /// Blank disks of 17 bytes or more, with a log as their layout, are handed in as they have to be, so none
 /// of these is refused for that.
 pub fn blank_disks_may_be_handed_in()
-    ensures { BlankDisksMayBeHandedIn }
+    ensures { BlankLogsMayBeHandedIn }
 {}

@@ -23,7 +23,7 @@ use Rattle.journal.specs.Opening.{IsFitImage, node_of, found_in, entries_of, ope
 use Rattle.journal.specs.Run.{Follows}
 use Rattle.journal.specs.Standing.{DiskRun}
 use Rattle.journal.specs.LegalRun.{IsHandedIn, images, numbered_from, opening_world}
-use Rattle.journal.specs.RefusedRuns.{BlankDisksMayBeHandedIn, script_with, script_of, zeros, blank_told}
+use Rattle.journal.specs.RefusedRuns.{BlankLogsMayBeHandedIn, script_with, script_of, zeros, blank_told}
 use Rattle.journal.proofs.Scenes.{blank_node, blank_node_of, blank_nodes, blank_world_of, blank_world}
 use Rattle.journal.proofs.Following.{follows, follows-sound}
 
@@ -65,7 +65,7 @@ fit-blank n size fits = record {
     nothing-there : (kept : List (Uid × List ℕ)) (u : Uid) → [] ≡ kept → IsTrue (is_some (value_at uid_cmp u kept)) → ⊥
     nothing-there kept u none there = absurd (cc (ap (λ es. is_some (value_at uid_cmp u es)) none ∙ there))
 
-pub blank-disks-may-be-handed-in : BlankDisksMayBeHandedIn
+pub blank-disks-may-be-handed-in : BlankLogsMayBeHandedIn
 blank-disks-may-be-handed-in n size d fits before = subst (λ (told : Told). IsHandedIn log_layout n (record d { before = told }))
     (sym before)
     (record { nothing_unsynced = refl; same = refl; bytes = small-bytes size; fit = fit-blank n size fits })

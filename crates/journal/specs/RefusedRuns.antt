@@ -176,5 +176,5 @@ OtherClockIsRefused =
 -- as it has to be, wherever the layout of a log allows its size.
 
 -- a blank disk of 17 bytes or more is handed in as it has to be, for any node, with a log as its layout
-abbrev pub BlankDisksMayBeHandedIn : Type 0
-BlankDisksMayBeHandedIn = (n size : ℕ) (d : DiskRun) → 17 ≤ size → d.before ≡ blank_told size → IsHandedIn log_layout n d
+abbrev pub BlankLogsMayBeHandedIn : Type 0
+BlankLogsMayBeHandedIn = (n size : ℕ) (d : DiskRun) → 17 ≤ size → d.before ≡ blank_told size → IsHandedIn log_layout n d

@@ -24,7 +24,7 @@ use Rattle.passive_blocks.specs.Conversion.{blocks_moved}
 use Rattle.passive_blocks.specs.BlockLayout.{Staged, OldLog, Foreign, Blocks, Blank, format_of, block_map, block_layout}
 use Rattle.passive_blocks.specs.BlockLayout.{overfull_by}
 use Rattle.passive_blocks.specs.BlockLayout.{opening_by, map_by, walk_reads, conversion_calls, reads_of_blocks}
-use Rattle.passive_blocks.specs.Converting.{SaysSame, IsOldLog, IsStaged}
+use Rattle.passive_blocks.specs.Converting.{SaysSame, IsOldLog, IsStagedLog}
 use Rattle.passive_blocks.specs.Making.{Makes, Runs}
 use Rattle.passive_blocks.specs.Preparing.{IsPrepared, AreReady, IsLogDisk, KeepsThrough, AreStagedFor, making_by, moving_calls, log_found}
 use Rattle.passive_blocks.specs.Preparing.{staging_of, log_calls, BringingMade, BringingTold}
@@ -59,7 +59,7 @@ keeps_same node old new p = record {
 
 -- 2. What stands on the disk
 
-pub staged_there : (c : Contents) → IsLogDisk true c → length c.now ≡ 4194304 → IsStaged c.now
+pub staged_there : (c : Contents) → IsLogDisk true c → length c.now ≡ 4194304 → IsStagedLog c.now
 staged_there c log long = record {
   long = long;
   log = eqb-true (slice_index c.now 0) 237 log.log;
@@ -190,14 +190,14 @@ brought_foreign tells obeys node staged s power other =
 
 -- 5. The staged heads are moved
 
-finished_says : (node : ℕ) (start : List ℕ) (old new : Told) → contents old ≡ at_rest start → IsStaged start
+finished_says : (node : ℕ) (start : List ℕ) (old new : Told) → contents old ≡ at_rest start → IsStagedLog start
     → AllTold (finishing_calls (slice_range start 4063232 4194304)) old new → SaysSame node (finished start) start
 finished_says node start old new rest is told =
     subst (λ (c : Contents). SaysSame node c.now start) (finished_told start old new rest is told)
     (finishing_keeps node start old new Fine rest is told).after.now
 
 -- what is found of the image of an opening, and of that which its staged heads are on
-ready_from : (node : ℕ) (image start : List ℕ) (c : Contents) → c ≡ at_rest (finished start) → length image ≡ 4194304 → IsStaged start
+ready_from : (node : ℕ) (image start : List ℕ) (c : Contents) → c ≡ at_rest (finished start) → length image ≡ 4194304 → IsStagedLog start
     → SaysSame node (finished start) image → overfull_by (format_of image) node image ≡ false
     → opening_by (format_of image) node image
     ≡ making_by (format_of image) node image ++ replicate (reads_of_blocks (finished start) (heads_of node (finished start))) Read
@@ -223,7 +223,7 @@ pub brought_staged : (tells obeys : Bool) (node : ℕ) (old new : DiskSeen) → 
 brought_staged tells obeys node old new long m =
     let image : List ℕ = (contents old.told).now in
     let calls : List DiskCall = finishing_calls (slice_range image 4063232 4194304) in
-    let is : IsTrue tells → IsLogDisk true (contents old.told) → IsStaged image =
+    let is : IsTrue tells → IsLogDisk true (contents old.told) → IsStagedLog image =
     λ so log. staged_there (contents old.told) log (long so) in
     let format : IsTrue tells → IsLogDisk true (contents old.told) → format_of image ≡ Staged =
     λ so log. staged_format image (is so log) in
@@ -245,7 +245,7 @@ pub staged_refused : (T : Type 0) (tells obeys : Bool) (node : ℕ) (old new : D
 staged_refused T tells obeys node old new e long m =
     let image : List ℕ = (contents old.told).now in
     let calls : List DiskCall = finishing_calls (slice_range image 4063232 4194304) in
-    let is : IsTrue tells → IsLogDisk true (contents old.told) → IsStaged image =
+    let is : IsTrue tells → IsLogDisk true (contents old.told) → IsStagedLog image =
     λ so log. staged_there (contents old.told) log (long so) in
     let rest : List DiskCall = replicate (reads_of_blocks (finished image) (heads_of node (finished image))) Read in
     brought_refused tells obeys node true calls old new (refused e) (runs_up_to T (Unit {0}) tells obeys calls old new e m)
@@ -363,7 +363,7 @@ moved_are_staged kept c spelled = ap (λ bytes. finishing_calls bytes) spelled
 
 -- at each moment of the moving an opening finds what it found of the log
 moving_passes : (node : ℕ) (image : List ℕ) (mid new : Told) (end : End) → contents mid ≡ at_rest (contents mid).now
-    → IsStaged (contents mid).now
+    → IsStagedLog (contents mid).now
     → CallsTold (finishing_calls (slice_range (contents mid).now 4063232 4194304)) mid new end → SaysSame node (contents mid).now image
     → Passes (λ now. SaysSame node now image) mid new
 moving_passes node image mid new end rest is told same =

@@ -13,7 +13,7 @@ use Rattle.passive_store.specs.Acts.{DiskCall, Write, Sync, Read, CallTold, Call
 use Rattle.block_tables.specs.Blocks.{numbers}
 use Rattle.passive_blocks.specs.Conversion.{part_of, finishing_calls}
 use Rattle.passive_blocks.specs.Fits.{Fits}
-use Rattle.passive_blocks.specs.Converting.{SaysSame, IsOldLog, IsStaged}
+use Rattle.passive_blocks.specs.Converting.{SaysSame, IsOldLog, IsStagedLog}
 use Rattle.passive_blocks.proofs.ConvertStages.{may_copy, may_write, may_move}
 use Rattle.passive_blocks.proofs.Fitting.{fits_write}
 use Rattle.passive_blocks.proofs.Moving.{moving_calls, moved_join, numbers_at}
@@ -224,11 +224,11 @@ staged_long now long = length-take-le 131072 (drop 4063232 now) (omega (arith, l
 
 -- the image behind all these moves
 pub record IsMovedFrom (start now : List ℕ) : Type 0 where
-  pub staged : IsStaged now
+  pub staged : IsStagedLog now
   pub moved : slice_range now 1024 132096 ≡ slice_range now 4063232 4194304
   pub says : (node : ℕ) → SaysSame node now start
 
-pub moved_from_is : (start now : List ℕ) → IsStaged start → Fits (may_move start) 4194304 now
+pub moved_from_is : (start now : List ℕ) → IsStagedLog start → Fits (may_move start) 4194304 now
     → AreMoved (slice_range start 4063232 4194304) 128 now → IsMovedFrom start now
 moved_from_is start now is fits m = record {
   staged = record {
@@ -262,19 +262,19 @@ ending_keeps node start now old new end rest m told =
     (rest_fits (may_write 1 now) 4194304 now old rest (record { long = m.staged.long; bytes = λ k other. refl })) told)
 
 moving_part : (node : ℕ) (start : List ℕ) (calls : List DiskCall) (old new : Told) (end : End) → contents old ≡ at_rest start
-    → IsStaged start
+    → IsStagedLog start
     → EachMay (may_move start) 4194304 calls → CallsTold calls old new end → Passes (Fits (may_move start) 4194304) old new
 moving_part node start calls old new end rest is each told =
     calls_pass (may_move start) 4194304 calls old new end each
     (rest_fits (may_move start) 4194304 start old rest (record { long = is.long; bytes = λ k outside. refl })) told
 
-says_so : (node : ℕ) (start : List ℕ) (old new : Told) → IsStaged start → Passes (Fits (may_move start) 4194304) old new
+says_so : (node : ℕ) (start : List ℕ) (old new : Told) → IsStagedLog start → Passes (Fits (may_move start) 4194304) old new
     → Passes (λ image. SaysSame node image start) old new
 says_so node start old new is passes =
     passes_weaker (Fits (may_move start) 4194304) (λ image. SaysSame node image start) old new
     (λ image fits. moving_says node start image is fits) passes
 
-pub finishing_keeps : (node : ℕ) (start : List ℕ) (old new : Told) (end : End) → contents old ≡ at_rest start → IsStaged start
+pub finishing_keeps : (node : ℕ) (start : List ℕ) (old new : Told) (end : End) → contents old ≡ at_rest start → IsStagedLog start
     → CallsTold (finishing_calls (slice_range start 4063232 4194304)) old new end → Passes (λ image. SaysSame node image start) old new
 finishing_keeps node start old new end rest is told =
     by_parts (parted (moves ++ Sync ∷ []) (Write 1 (235 ∷ []) ∷ Sync ∷ []) old new end

@@ -13,7 +13,7 @@ use Rattle.passive_blocks.specs.BlockLayout.{Format, Blocks, Staged, OldLog, For
 use Rattle.passive_blocks.specs.BlockLayout.{heads_moved}
 use Rattle.passive_blocks.specs.BlockLayout.{block_layout, block_map, block_changes, changes_left}
 use Rattle.passive_blocks.specs.Fits.{Fits}
-use Rattle.passive_blocks.specs.Converting.{SaysSame, IsOldLog, IsStaged}
+use Rattle.passive_blocks.specs.Converting.{SaysSame, IsOldLog, IsStagedLog}
 use Rattle.passive_blocks.proofs.ConvertStages.{IsConverted, may_copy, may_write, may_move}
 use Rattle.passive_blocks.proofs.SameParts.{same_all, same_take, same_drop, same_part, same_behind, drop_more}
 
@@ -44,7 +44,7 @@ old_format image is =
     ∙ ap (λ n. format_by false true (n == 4194304) (slice_index image 2 == 234)) is.long
     ∙ ap (λ b. format_by false true true b) is.unstaged
 
-pub staged_format : (image : List ℕ) → IsStaged image → format_of image ≡ Staged
+pub staged_format : (image : List ℕ) → IsStagedLog image → format_of image ≡ Staged
 unfolding format_by
 staged_format image is =
     ap (λ b. format_by b (slice_index image 0 == 237) (length image == 4194304) (slice_index image 2 == 234)) is.none
@@ -101,7 +101,7 @@ log_says node image is = record {
   told = changes_of_format node image OldLog is.long (old_format image is);
 }
 
-pub staged_says : (node : ℕ) (image : List ℕ) → IsStaged image → SaysBlocks node image (finished image)
+pub staged_says : (node : ℕ) (image : List ℕ) → IsStagedLog image → SaysBlocks node image (finished image)
 staged_says node image is = record {
   found = map_of_format node image Staged is.long (staged_format image is);
   overfull = overfull_of_format node image Staged is.long (staged_format image is);
@@ -192,9 +192,9 @@ low_moved : (k : ℕ) → (k < 1) ⊎ ((2 ≤ k) × (k < 1024)) → k < 1024
 low_moved k (inl below) = omega (arith, below)
 low_moved k (inr within) = within.1
 
-pub moving_says : (node : ℕ) (start image : List ℕ) → IsStaged start → Fits (may_move start) 4194304 image → SaysSame node image start
+pub moving_says : (node : ℕ) (start image : List ℕ) → IsStagedLog start → Fits (may_move start) 4194304 image → SaysSame node image start
 moving_says node start image is fits =
-    let there : IsStaged image = record {
+    let there : IsStagedLog image = record {
       long = fits.long;
       log = fits.bytes 0 (inl (omega arith)) ∙ is.log;
       none = ap (λ b. b == 235) (fits.bytes 1 (inl (omega arith))) ∙ is.none;
@@ -239,7 +239,7 @@ same_moved start image long moved same =
     ∙ moved
     ∙ sym (same_part 4063232 131072 image start long (λ k from below. same k (λ is. omega (arith, from, is))))
 
-pub ending_says : (node : ℕ) (start image : List ℕ) → IsStaged start → slice_range start 1024 132096 ≡ slice_range start 4063232 4194304
+pub ending_says : (node : ℕ) (start image : List ℕ) → IsStagedLog start → slice_range start 1024 132096 ≡ slice_range start 4063232 4194304
     → Fits (may_write 1 start) 4194304 image → SaysSame node image start
 ending_says node start image is moved fits = by_byte (slice_index image 1 == 235) refl where
   long : length image ≡ length start
@@ -272,7 +272,7 @@ ending_says node start image is moved fits = by_byte (slice_index image 1 == 235
 
 -- 7. While the byte is written that says that heads are staged, the log says what it said, once the staged ones say the same
 
-pub staging_says : (node : ℕ) (start staged image : List ℕ) → IsOldLog start → IsStaged staged → Fits (may_write 2 start) 4194304 staged
+pub staging_says : (node : ℕ) (start staged image : List ℕ) → IsOldLog start → IsStagedLog staged → Fits (may_write 2 start) 4194304 staged
     → SaysSame node staged start → Fits (may_write 2 start) 4194304 image → SaysSame node image start
 staging_says node start staged image is set there says fits = by_byte (slice_index image 2 == 234) refl where
   long : length image ≡ length start

@@ -8,7 +8,7 @@ use Rattle.passive_store.specs.Acts.{DiskCall, AllTold}
 use Rattle.block_tables.specs.Blocks.{numbers}
 use Rattle.passive_blocks.specs.Conversion.{finished, finishing_calls}
 use Rattle.passive_blocks.specs.Fits.{Fits}
-use Rattle.passive_blocks.specs.Converting.{IsStaged}
+use Rattle.passive_blocks.specs.Converting.{IsStagedLog}
 use Rattle.passive_blocks.proofs.ConvertStages.{may_move}
 use Rattle.passive_blocks.proofs.Moving.{moving_calls, moving_end}
 use Rattle.passive_blocks.proofs.Converting.{same_finished, finished_is, same_moved}
@@ -28,7 +28,7 @@ low_other : (k : ℕ) → (k < 1) ⊎ ((2 ≤ k) × (k < 1024)) → (k < 1) ⊎ 
 low_other k (inl below) = inl below
 low_other k (inr within) = inr within.0
 
-end_is : (start now : List ℕ) → IsStaged start → Fits (may_move start) 4194304 now → IsMovedFrom start now
+end_is : (start now : List ℕ) → IsStagedLog start → Fits (may_move start) 4194304 now → IsMovedFrom start now
     → overlay 1 (235 ∷ []) now ≡ finished start
 end_is start now is fits m =
     let image : List ℕ = overlay 1 (235 ∷ []) now in
@@ -42,7 +42,7 @@ end_is start now is fits m =
     (λ k high. overlay_outside 1 k (235 ∷ []) now room (inr (omega (arith, high))))
     ∙ same_finished now start (fits.long ∙ sym is.long) (λ k low. fits.bytes k (inl (low_place k low))) (λ k high. fits.bytes k (inr high))
 
-pub finished_told : (start : List ℕ) (old new : Told) → contents old ≡ at_rest start → IsStaged start
+pub finished_told : (start : List ℕ) (old new : Told) → contents old ≡ at_rest start → IsStagedLog start
     → AllTold (finishing_calls (slice_range start 4063232 4194304)) old new → contents new ≡ at_rest (finished start)
 finished_told start old new rest is told =
     let bytes : List ℕ = slice_range start 4063232 4194304 in

@@ -18,8 +18,8 @@ use Rattle.passive_blocks.proofs.HeldSums.{uid_is}
 use Rattle.passive_blocks.proofs.HeldFacts.{kept_by_places}
 
 -- what the next change closes may be closed
-pub may_close : (t : Table) (k : ℕ) → closes_next t k ≡ true → MayClose t k
-may_close t k closes =
+pub next-may_close : (t : Table) (k : ℕ) → closes_next t k ≡ true → MayClose t k
+next-may_close t k closes =
     let slot : HeadFields = slot_at t.heads.slots.items k in
     let parts = and_parts (is_open slot) (not (is_it k (entry_at t.heads.index slot.uid).latest)
     || (slot.removal && (entry_at t.heads.index slot.uid).others == 0)) closes in
@@ -86,7 +86,7 @@ held_when_opened size counts t is sized same apart needed places ends closing lo
       ends = λ uid. ends_by t uid (entry_at t.heads.index uid).latest (is.heads.entries uid).0 refl ends;
       needed = needed;
       places = places_more;
-      closing = λ k there. may_close t k (sym (closes k) ∙ there);
+      closing = λ k there. next-may_close t k (sym (closes k) ∙ there);
       lone = λ k there. absurd (both_ways (is_member t.heads.lone k) (lone k) there);
       all = λ k. ap (λ b. b || is_member t.heads.closing k) (lone k) ∙ closes k;
       planned = tt;

@@ -11,7 +11,8 @@ use Rattle.block_tables.specs.Blocks.{Head, chains_of, taken_by, heads_of, chang
 use Rattle.passive_blocks.specs.BlockLayout.{reads_of_blocks}
 use Rattle.block_tables.specs.HeadState.{heads_in}
 use Rattle.passive_blocks.specs.StoreState.{IsTableOf}
-use Rattle.passive_blocks.specs.OpeningState.{heads_read, whole_chain}
+use Rattle.passive_blocks.specs.OpeningState.{heads_read}
+use Rattle.passive_blocks.specs.StoreState.{chain_in}
 
 pub made_heads : (S T : Type 0) (image : List ℕ) (found : Result (List Head) ℕ) (count made : ℕ) (e : StoreRefusal)
     → OpeningMade {S = S} (heads_read count found) (Err e) made → ((place : ℕ) → e ≡ Damaged place → found ≡ Err place) → (e ≡ Full → ⊥)
@@ -45,7 +46,7 @@ made_both S T image found heads count first second OutOfMemory is whole one full
 -- A telling disk has the table.
 pub table_opened : (node : ℕ) (image : List ℕ) (t0 t1 : Table) (heads : HeadTable) → t1.heads ≡ t0.heads → heads.slots ≡ t1.heads.slots
     → slice_index image 1 ≡ 235 → length image ≡ t1.blocks.size → heads_of node image ≡ Ok (heads_in t0.heads.slots.items)
-    → chains_of image (heads_in t0.heads.slots.items) ≡ map (whole_chain t1.blocks.next.items) (keeping (heads_in t0.heads.slots.items))
+    → chains_of image (heads_in t0.heads.slots.items) ≡ map (chain_in t1.blocks.next.items) (keeping (heads_in t0.heads.slots.items))
     → IsTableOf node image (record { heads = heads; blocks = t1.blocks })
 table_opened node image t0 t1 heads same slots format long found chains =
     let is : heads.slots.items ≡ t0.heads.slots.items = ap (λ s. s.items) slots ∙ ap (λ (h : HeadTable). h.slots.items) same in
@@ -54,7 +55,7 @@ table_opened node image t0 t1 heads same slots format long found chains =
       long = long;
       heads = found ∙ sym (ap (λ s. Ok (heads_in s)) is);
       chains = ap (λ s. chains_of image (heads_in s)) is ∙ chains
-          ∙ sym (ap (λ s. map (whole_chain t1.blocks.next.items) (keeping (heads_in s))) is);
+          ∙ sym (ap (λ s. map (chain_in t1.blocks.next.items) (keeping (heads_in s))) is);
     }
 
 pub chains_damaged : (node place : ℕ) (start mid : Told) (heads : List Head) → mid ≡ start

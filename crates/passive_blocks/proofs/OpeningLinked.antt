@@ -24,7 +24,8 @@ use Rattle.block_tables.specs.HeadState.{slot_at, heads_in}
 use Rattle.block_tables.specs.BlockState.{AreBlocks, walk, free_in}
 use Rattle.block_tables.specs.BlockState.{AreAllFree}
 use Rattle.passive_blocks.specs.HeldState.{times, one_if, behind_walk, chain_by}
-use Rattle.passive_blocks.specs.OpeningState.{AreTaken, IsChainRead, ChainRead, AreCounted, keeps_value, whole_chain, kept_to}
+use Rattle.passive_blocks.specs.OpeningState.{AreTaken, IsChainRead, ChainRead, AreCounted, keeps_value, kept_to}
+use Rattle.passive_blocks.specs.StoreState.{chain_in}
 use Rattle.passive_blocks.specs.OpeningState.{kept_behind, IsLinkedTo}
 use Rattle.passive_blocks.proofs.HeldCounts.{some_times, behind_stays, walk_long, count_data, chains_stay}
 use Rattle.passive_blocks.proofs.OpeningLinks.{chains_map_stay, one_of_kept, to_skip, to_more, to_all, keeping_is, data_free, chains_more}
@@ -80,8 +81,8 @@ pub linked_more : (t new : Table) (i made : ℕ) (v : HeadFields) → IsLinkedTo
     → keeps_value t.heads (slot_at t.heads.slots.items i) ≡ true → slot_at t.heads.slots.items i ≡ v → new.heads ≡ t.heads
     → IsChainRead t.blocks new.blocks v made
     → IsLinkedTo new (i + 1)
-    × (map (whole_chain new.blocks.next.items) (kept_to new (i + 1))
-    ≡ map (whole_chain t.blocks.next.items) (kept_to t i) ++ whole_chain new.blocks.next.items (head_of v) ∷ [])
+    × (map (chain_in new.blocks.next.items) (kept_to new (i + 1))
+    ≡ map (chain_in t.blocks.next.items) (kept_to t i) ++ chain_in new.blocks.next.items (head_of v) ∷ [])
 linked_more t new i made v l within is v_is heads r =
     let b0 : BlockTable = t.blocks in
     let b : BlockTable = new.blocks in
@@ -130,8 +131,8 @@ linked_more t new i made v l within is v_is heads r =
               ∙ l.ends k low was
         ];
       },
-      ap (map (whole_chain next)) list ∙ map-append (whole_chain next) before (h ∷ [])
-          ∙ ap (λ cs. cs ++ whole_chain next h ∷ []) (chains_map_stay old next before same),
+      ap (map (chain_in next)) list ∙ map-append (chain_in next) before (h ∷ [])
+          ∙ ap (λ cs. cs ++ chain_in next h ∷ []) (chains_map_stay old next before same),
     )
   where
     one_more : (w : Head → ℕ) (hs : List Head) (g : Head) → sum_by w (hs ++ g ∷ []) ≡ sum_by w hs + w g
@@ -146,8 +147,8 @@ pub record Linking (tells obeys : Bool) (start here : Told) (before after : Coun
   pub same : IsTrue tells → here ≡ start
   pub linked : IsLinkedTo t i
   pub chains : IsTrue tells → chains_of (contents start).now heads
-      ≡ map (whole_chain t.blocks.next.items) (kept_to t i) ++ chains_among (contents start).now (free_in t.blocks) (kept_behind t i)
-  pub number : IsTrue tells → made ≡ length (taken_by (map (whole_chain t.blocks.next.items) (kept_to t i)))
+      ≡ map (chain_in t.blocks.next.items) (kept_to t i) ++ chains_among (contents start).now (free_in t.blocks) (kept_behind t i)
+  pub number : IsTrue tells → made ≡ length (taken_by (map (chain_in t.blocks.next.items) (kept_to t i)))
 
 pub linking_none : (tells obeys : Bool) (start : Told) (before : Counts) (due : Due) (t : Table) (size : ℕ) → AreCounted t
     → AreAllFree t.blocks → t.blocks.size ≡ size → 32768 ≤ size → (IsTrue tells → length (contents start).now ≡ size)
@@ -180,11 +181,11 @@ linking_skip tells obeys start here before after due_then due_now heads t i l wi
       same = l.same;
       linked = linked_skip t i l.linked within none;
       chains = λ so. l.chains so
-          ∙ ap (λ hs. map (whole_chain t.blocks.next.items) (kept_to t i) ++ chains_among (contents start).now (free_in t.blocks) hs) both.1
-          ∙ sym (ap (λ hs. map (whole_chain t.blocks.next.items) hs ++ chains_among (contents start).now (free_in t.blocks)
+          ∙ ap (λ hs. map (chain_in t.blocks.next.items) (kept_to t i) ++ chains_among (contents start).now (free_in t.blocks) hs) both.1
+          ∙ sym (ap (λ hs. map (chain_in t.blocks.next.items) hs ++ chains_among (contents start).now (free_in t.blocks)
           (kept_behind t (i + 1)))
           both.0);
-      number = λ so. l.number so ∙ sym (ap (λ hs. length (taken_by (map (whole_chain t.blocks.next.items) hs))) both.0);
+      number = λ so. l.number so ∙ sym (ap (λ hs. length (taken_by (map (chain_in t.blocks.next.items) hs))) both.0);
     }
 
 pub linking_more : (tells obeys : Bool) (start here there : Told) (before between after : Counts) (due_then due_now due_next : Due)
@@ -199,7 +200,7 @@ linking_more tells obeys start here there before between after due_then due_now 
     obeyed told chain =
     let h : Head = head_of v in
     let next : List ℕ = new.blocks.next.items in
-    let done : List Chain = map (whole_chain t.blocks.next.items) (kept_to t i) in
+    let done : List Chain = map (chain_in t.blocks.next.items) (kept_to t i) in
     let more = linked_more t new i made v l.linked within is v_is same r in
     let behind : kept_behind t i ≡ h ∷ kept_behind t (i + 1) = (to_more t i v within is v_is).1 in
     let behind_new : kept_behind t (i + 1) ≡ kept_behind new (i + 1) =
@@ -214,7 +215,7 @@ linking_more tells obeys start here there before between after due_then due_now 
       linked = more.0;
       chains = λ so.
           let image : List ℕ = (contents start).now in
-          let c : chain_of image (free_in t.blocks) h ≡ whole_chain next h =
+          let c : chain_of image (free_in t.blocks) h ≡ chain_in next h =
           sym (ap (λ x. chain_of (contents x).now (free_in t.blocks) h) (l.same so)) ∙ chain so
           ∙ ap (λ m. record { head = h; blocks = walk next v.first m; whole = true }) count in
           let left : free_in new.blocks ≡ without (walk next v.first (blocks_of v.size)) (free_in t.blocks) =
@@ -223,14 +224,14 @@ linking_more tells obeys start here there before between after due_then due_now 
           ∙ ap (λ hs. done ++ chains_among image (free_in t.blocks) hs) behind
           ∙ ap (λ cs. done ++ cs) (chains_more image (free_in t.blocks) (free_in new.blocks) h (kept_behind t (i + 1))
           (walk next v.first (blocks_of v.size)) c left)
-          ∙ sym (append_assoc done (whole_chain next h ∷ []) (chains_among image (free_in new.blocks) (kept_behind t (i + 1))))
-          ∙ ap (λ hs. (done ++ whole_chain next h ∷ []) ++ chains_among image (free_in new.blocks) hs) behind_new
+          ∙ sym (append_assoc done (chain_in next h ∷ []) (chains_among image (free_in new.blocks) (kept_behind t (i + 1))))
+          ∙ ap (λ hs. (done ++ chain_in next h ∷ []) ++ chains_among image (free_in new.blocks) hs) behind_new
           ∙ sym (ap (λ cs. cs ++ chains_among image (free_in new.blocks) (kept_behind new (i + 1))) more.1);
       number = λ so.
-          let sum : length (taken_by (done ++ whole_chain next h ∷ [])) ≡ l.made + made = omega (
+          let sum : length (taken_by (done ++ chain_in next h ∷ [])) ≡ l.made + made = omega (
             arith,
-            ap length (flat_map-append (λ (c : Chain). c.blocks) done (whole_chain next h ∷ [])),
-            length-append (taken_by done) (taken_by (whole_chain next h ∷ [])),
+            ap length (flat_map-append (λ (c : Chain). c.blocks) done (chain_in next h ∷ [])),
+            length-append (taken_by done) (taken_by (chain_in next h ∷ [])),
             one_chain next h,
             l.number so,
             count,
@@ -238,7 +239,7 @@ linking_more tells obeys start here there before between after due_then due_now 
           sym sum ∙ sym (ap (λ cs. length (taken_by cs)) more.1);
     }
   where
-    one_chain : (next : List ℕ) (h : Head) → length (taken_by (whole_chain next h ∷ [])) ≡ blocks_of h.size
+    one_chain : (next : List ℕ) (h : Head) → length (taken_by (chain_in next h ∷ [])) ≡ blocks_of h.size
     one_chain next h = ap length (append-nil (walk next h.first (blocks_of h.size))) ∙ walk_long next h.first (blocks_of h.size)
 
 -- the next chain is damaged: where, and how many reads were made in all
@@ -253,7 +254,7 @@ link_damaged tells obeys start here before after due_then due_now heads t i made
     let image : List ℕ = (contents start).now in
     let h : Head = head_of v in
     let c : Chain = chain_of image (free_in t.blocks) h in
-    let done : List Chain = map (whole_chain t.blocks.next.items) (kept_to t i) in
+    let done : List Chain = map (chain_in t.blocks.next.items) (kept_to t i) in
     let broken : c.whole ≡ false = sym (ap (λ x. (chain_of (contents x).now (free_in t.blocks) h).whole) (l.same so)) ∙ bad in
     let long : made ≡ length c.blocks = count ∙ ap (λ x. length (chain_of (contents x).now (free_in t.blocks) h).blocks) (l.same so) in
     let all : chains_of image heads ≡ done ++ c ∷ [] =
@@ -281,11 +282,11 @@ no_chains image free cs = append-nil cs
 pub linked_all : (tells obeys : Bool) (start here : Told) (before after : Counts) (due_then due_now : Due) (heads : List Head)
     (t : Table) (i : ℕ) (l : Linking tells obeys start here before after due_then due_now heads t i)
     → length t.heads.slots.items ≤ i → IsTrue tells
-    → (chains_of (contents start).now heads ≡ map (whole_chain t.blocks.next.items) (kept_to t i))
+    → (chains_of (contents start).now heads ≡ map (chain_in t.blocks.next.items) (kept_to t i))
     × (l.made ≡ length (taken_by (chains_of (contents start).now heads)))
 linked_all tells obeys start here before after due_then due_now heads t i l all so =
     let image : List ℕ = (contents start).now in
-    let done : List Chain = map (whole_chain t.blocks.next.items) (kept_to t i) in
+    let done : List Chain = map (chain_in t.blocks.next.items) (kept_to t i) in
     let none : kept_behind t i ≡ [] = ap (λ s. map head_of (filter (keeps_value t.heads) s)) (drop_all i t.heads.slots.items all) in
     let is : chains_of image heads ≡ done =
     l.chains so ∙ ap (λ hs. done ++ chains_among image (free_in t.blocks) hs) none ∙ no_chains image (free_in t.blocks) done in

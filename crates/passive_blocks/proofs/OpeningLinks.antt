@@ -23,7 +23,8 @@ use Rattle.block_tables.specs.HeadState.{AreHeads, slot_at, closed_slot, entry_a
 use Rattle.block_tables.specs.BlockState.{AreBlocks, free_in}
 use Rattle.block_tables.specs.BlockState.{AreAllFree}
 use Rattle.passive_blocks.specs.HeldState.{AreApart, times, one_if, chain_by}
-use Rattle.passive_blocks.specs.OpeningState.{AreTaken, AreCounted, keeps_value, whole_chain, kept_to}
+use Rattle.passive_blocks.specs.OpeningState.{AreTaken, AreCounted, keeps_value, kept_to}
+use Rattle.passive_blocks.specs.StoreState.{chain_in}
 use Rattle.passive_blocks.specs.OpeningState.{kept_behind}
 use Rattle.passive_blocks.proofs.HeldCounts.{some_times, walk_stays, sum_same, sum_two}
 use Rattle.passive_blocks.proofs.HeldCounts.{sum_ones, sum_times}
@@ -56,14 +57,14 @@ all_counted b0 b first taken are t =
 -- A walk over earlier chains stays where the blocks behind theirs stay.
 pub chains_map_stay : (next new : List ℕ) (hs : List Head)
     → ((k : ℕ) → 1 ≤ sum_by (λ (h : Head). times k (chain_by next h)) hs → slice_index new k ≡ slice_index next k)
-    → map (whole_chain new) hs ≡ map (whole_chain next) hs
+    → map (chain_in new) hs ≡ map (chain_in next) hs
 chains_map_stay next new [] same = refl
 chains_map_stay next new (h ∷ hs) same =
     let chain : chain_by new h ≡ chain_by next h =
     walk_stays next new h.first (blocks_of h.size) (λ j there.
     same j (omega (arith, sum_by-cons (λ (g : Head). times j (chain_by next g)) h hs, some_times j (chain_by next h) there))) in
-    ap (λ bs. record { head = h; blocks = bs; whole = true } ∷ map (whole_chain new) hs) chain
-    ∙ ap (λ cs. whole_chain next h ∷ cs) (chains_map_stay next new hs (λ j some.
+    ap (λ bs. record { head = h; blocks = bs; whole = true } ∷ map (chain_in new) hs) chain
+    ∙ ap (λ cs. chain_in next h ∷ cs) (chains_map_stay next new hs (λ j some.
     same j (omega (arith, sum_by-cons (λ (g : Head). times j (chain_by next g)) h hs, some))))
 
 -- no more is summed of one of the first heads that keep values than of all of them
@@ -120,9 +121,9 @@ chains_end image free h hs is =
     ap (λ b. chain_of image free h ∷ (if b then chains_among image (without (chain_of image free h).blocks free) hs else [])) is
 
 pub changes_end : (image next : List ℕ) (hs : List Head) (c : Chain) → c.whole ≡ false
-    → changes_on image (map (whole_chain next) hs ++ c ∷ []) ≡ Err (head_place c.head.number)
+    → changes_on image (map (chain_in next) hs ++ c ∷ []) ≡ Err (head_place c.head.number)
 changes_end image next [] c is = ap (λ b. if b then with_record (change_on image c) (Ok []) else Err (head_place c.head.number)) is
-changes_end image next (h ∷ hs) c is = ap (with_record (change_on image (whole_chain next h))) (changes_end image next hs c is)
+changes_end image next (h ∷ hs) c is = ap (with_record (change_on image (chain_in next h))) (changes_end image next hs c is)
 
 -- the numbers between two
 all_between : (a b from n : ℕ) → a < from → from + n ≡ b → filter (λ k. nat_lt a k && nat_lt k b) (numbers from n) ≡ numbers from n

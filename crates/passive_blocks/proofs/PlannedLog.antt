@@ -25,7 +25,7 @@ use Rattle.passive_store.proofs.Walk.{log_stands_there}
 use Rattle.passive_store.proofs.Walking.{walk_closed}
 use Rattle.passive_blocks.specs.declared.convert.Moved.{Moved}
 use Rattle.passive_blocks.specs.Conversion.{old_log, moved, is_too_much}
-use Rattle.passive_blocks.specs.Converting.{IsMovable, all_moved_in, planned, slots_in, blocks_planned}
+use Rattle.passive_blocks.specs.Converting.{IsMovable, all_moved_in, planned, slots_in, blocks_together}
 use Rattle.passive_blocks.specs.BlockLayout.{walk_reads}
 use Rattle.passive_blocks.specs.Making.{Runs}
 use Rattle.passive_blocks.specs.Preparing.{log_found}
@@ -66,7 +66,7 @@ values_are node tail image index i =
     (slots_within 1048576 tail index i.bounded)
 
 pub planned_for : (node tail : ℕ) (image : List ℕ) (index : BTreeMap Uid (Option Slot)) (values : List Moved) → IsLayout log_layout
-    → IsIndexed node image tail index → values ≡ planned index → All IsMovable values → blocks_planned (slots_in index.entries) ≤ 2944
+    → IsIndexed node image tail index → values ≡ planned index → All IsMovable values → blocks_together (slots_in index.entries) ≤ 2944
     → ArePlannedFor node image values
 planned_for node tail image index values layout i is movable few =
     let log : List ℕ = old_log image in
@@ -83,7 +83,7 @@ planned_for node tail image index values layout i is movable few =
     }
 
 pub too_much_for : (node tail : ℕ) (image : List ℕ) (index : BTreeMap Uid (Option Slot)) → IsIndexed node image tail index
-    → 2944 < blocks_planned (slots_in index.entries) → is_too_much (log_found node image) ≡ true
+    → 2944 < blocks_together (slots_in index.entries) → is_too_much (log_found node image) ≡ true
 too_much_for node tail image index i more =
     ap (λ l. is_too_much l) (found_is node tail image index i)
     ∙ too_much index (log_kept node tail (old_log image)) image (values_are node tail image index i) more
@@ -114,7 +114,7 @@ walked tells obeys node made f old mid counts reads obeyed timed told size b wal
     (subst (λ n. IsWalk node n f.tail (old_log (contents old.told).now) f.index) size (walk so)) (shut so))
 
 pub plan_refused : (tells obeys : Bool) (node : ℕ) (f : Found) (old mid : DiskSeen) (e : StoreRefusal)
-    → (e ≡ OutOfMemory) ⊎ ((e ≡ Full) × (2944 < blocks_planned (slots_in f.index.entries)))
+    → (e ≡ OutOfMemory) ⊎ ((e ≡ Full) × (2944 < blocks_together (slots_in f.index.entries)))
     → Runs tells obeys (walk_reads node (old_log (contents old.told).now)) old mid (Ok f)
     → (IsTrue tells → ReadTold mid.counts.clock old.told mid.told Fine)
     → (IsTrue tells → IsIndexed node (contents old.told).now f.tail f.index) → StagesLog tells obeys node old mid (Err e)

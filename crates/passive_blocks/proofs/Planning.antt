@@ -34,7 +34,7 @@ use Rattle.block_tables.specs.Blocks.{blocks_of}
 use Rattle.passive_blocks.specs.Conversion.{Moved as Value, moved_from, moved, moved_heads, blocks_moved, is_too_much}
 use Rattle.block_tables.specs.HeadSeen.{head_of}
 use Rattle.passive_blocks.specs.Converting.{heads_planned, moved_in, IsMovable, IsGoodEntry, with_slot, slots_in, planned_at, planned_from}
-use Rattle.passive_blocks.specs.Converting.{planned, blocks_planned}
+use Rattle.passive_blocks.specs.Converting.{planned, blocks_together}
 use Rattle.passive_blocks.proofs.Keeping.{each_entry, tied}
 
 -- the value of a slot, in the bytes of its log
@@ -236,7 +236,7 @@ pub heads_moved : (kept : Kept) (bytes : List ℕ) (ms : List Moved) → moved k
 heads_moved kept bytes ms is = ap (map (λ (m : Value). m.head)) is ∙ heads_in bytes ms
 
 blocks_in : (bytes : List ℕ) (number first : ℕ) (ss : List (Uid × Slot))
-    → sum_by (λ (m : Value). blocks_of m.head.size) (map (moved_in bytes) (planned_from number first ss)) ≡ blocks_planned ss
+    → sum_by (λ (m : Value). blocks_of m.head.size) (map (moved_in bytes) (planned_from number first ss)) ≡ blocks_together ss
 unfolding planned_from
 blocks_in bytes number first [] = refl
 blocks_in bytes number first (s ∷ ss) =
@@ -247,7 +247,7 @@ blocks_in bytes number first (s ∷ ss) =
 
 -- and so are its blocks
 pub blocks_are : (index : BTreeMap Uid (Option Slot)) (kept : Kept) (bytes : List ℕ) → moved kept ≡ map (moved_in bytes) (planned index)
-    → blocks_moved kept ≡ blocks_planned (slots_in index.entries)
+    → blocks_moved kept ≡ blocks_together (slots_in index.entries)
 blocks_are index kept bytes is =
     ap (sum_by (λ (m : Value). blocks_of m.head.size)) is ∙ blocks_in bytes 0 1024 (slots_in index.entries)
 
@@ -259,11 +259,11 @@ at_most n few = grind (arith, nat_tests)
 
 -- a log that keeps too much, and one that does not
 pub too_much : (index : BTreeMap Uid (Option Slot)) (kept : Kept) (bytes : List ℕ) → moved kept ≡ map (moved_in bytes) (planned index)
-    → 2944 < blocks_planned (slots_in index.entries) → is_too_much (Ok kept) ≡ true
+    → 2944 < blocks_together (slots_in index.entries) → is_too_much (Ok kept) ≡ true
 too_much index kept bytes is more = more_than (blocks_moved kept) (subst (λ n. 2944 < n) (sym (blocks_are index kept bytes is)) more)
 
 pub not_too_much : (index : BTreeMap Uid (Option Slot)) (kept : Kept) (bytes : List ℕ) → moved kept ≡ map (moved_in bytes) (planned index)
-    → blocks_planned (slots_in index.entries) ≤ 2944 → is_too_much (Ok kept) ≡ false
+    → blocks_together (slots_in index.entries) ≤ 2944 → is_too_much (Ok kept) ≡ false
 not_too_much index kept bytes is few = at_most (blocks_moved kept) (subst (λ n. n ≤ 2944) (sym (blocks_are index kept bytes is)) few)
 
 -- of a uid of the node, within the limit

@@ -17,13 +17,13 @@ use Rattle.passive_store.specs.declared.index.Slot.{Slot}
 use Rattle.passive_store.specs.LogState.{slot_at}
 use Rattle.passive_blocks.specs.declared.convert.Moved.{Moved}
 use Rattle.block_tables.specs.Blocks.{blocks_of}
-use Rattle.passive_blocks.specs.Converting.{ArePlanned, IsMovable, slots_in, planned_at, planned_from, planned, blocks_planned}
+use Rattle.passive_blocks.specs.Converting.{ArePlanned, IsMovable, slots_in, planned_at, planned_from, planned, blocks_together}
 
 -- the values so far, and those of the entries that are left, are all values
 pub record Planning (index : BTreeMap Uid (Option Slot)) (left : List (Uid × Option Slot)) (moved : List Moved) (number first : ℕ) : Type 0
   where
     pub all : moved ++ planned_from number first (slots_in left) ≡ planned index
-    pub blocks : first + blocks_planned (slots_in left) ≡ 1024 + blocks_planned (slots_in index.entries)
+    pub blocks : first + blocks_together (slots_in left) ≡ 1024 + blocks_together (slots_in index.entries)
     pub room : first ≤ 3968
     pub numbers : number + 1024 ≤ first
     pub movable : All IsMovable moved
@@ -46,7 +46,7 @@ pub planning_begun : (index : BTreeMap Uid (Option Slot)) (left : List (Uid × O
     → Planning index left [] 0 1024
 planning_begun index left start = record {
   all = ap (λ es. planned_from 0 1024 (slots_in es)) start;
-  blocks = ap (λ es. 1024 + blocks_planned (slots_in es)) start;
+  blocks = ap (λ es. 1024 + blocks_together (slots_in es)) start;
   room = omega arith;
   numbers = omega arith;
   movable = All-nil IsMovable;
@@ -70,7 +70,7 @@ more_values number first uid slot rest moved =
     (planned_from (number + 1) (first + blocks_of slot.length) (slots_in rest))
 
 more_blocks : (uid : Uid) (slot : Slot) (rest : List (Uid × Option Slot))
-    → blocks_planned ((uid, slot) ∷ slots_in rest) ≡ blocks_of slot.length + blocks_planned (slots_in rest)
+    → blocks_together ((uid, slot) ∷ slots_in rest) ≡ blocks_of slot.length + blocks_together (slots_in rest)
 more_blocks uid slot rest = sum_by-cons (λ (s : Uid × Slot). blocks_of s.1.length) (uid, slot) (slots_in rest)
 
 joined : (first b n all : ℕ) → first + (b + n) ≡ all → (first + b) + n ≡ all
@@ -86,8 +86,8 @@ planning_with index left rest moved more number first uid slot is p added good r
       ∙ more_values number first uid slot rest moved
       ∙ sym (ap (λ es. moved ++ planned_from number first (slots_in es)) is)
       ∙ p.all;
-  blocks = joined first (blocks_of slot.length) (blocks_planned (slots_in rest)) (1024 + blocks_planned (slots_in index.entries))
-      (ap (λ n. first + n) (sym (more_blocks uid slot rest) ∙ sym (ap (λ es. blocks_planned (slots_in es)) is)) ∙ p.blocks);
+  blocks = joined first (blocks_of slot.length) (blocks_together (slots_in rest)) (1024 + blocks_together (slots_in index.entries))
+      (ap (λ n. first + n) (sym (more_blocks uid slot rest) ∙ sym (ap (λ es. blocks_together (slots_in es)) is)) ∙ p.blocks);
   room = room;
   numbers = omega (arith, p.numbers);
   movable = All-same IsMovable more (moved ++ planned_at number first uid slot ∷ []) added
@@ -97,11 +97,11 @@ planning_with index left rest moved more number first uid slot is p added good r
 -- a value that finds no room: all values are too much
 pub planning_full : (index : BTreeMap Uid (Option Slot)) (left rest : List (Uid × Option Slot)) (moved : List Moved) (number first : ℕ)
     (uid : Uid) (slot : Slot) → left ≡ (uid, Some slot) ∷ rest → Planning index left moved number first
-    → 3968 < first + blocks_of slot.length → 2944 < blocks_planned (slots_in index.entries)
+    → 3968 < first + blocks_of slot.length → 2944 < blocks_together (slots_in index.entries)
 planning_full index left rest moved number first uid slot is p over =
-    let sum : first + (blocks_of slot.length + blocks_planned (slots_in rest)) ≡ 1024 + blocks_planned (slots_in index.entries) =
-    ap (λ n. first + n) (sym (more_blocks uid slot rest) ∙ sym (ap (λ es. blocks_planned (slots_in es)) is)) ∙ p.blocks in
-    passes first (blocks_of slot.length) (blocks_planned (slots_in rest)) (blocks_planned (slots_in index.entries)) sum over
+    let sum : first + (blocks_of slot.length + blocks_together (slots_in rest)) ≡ 1024 + blocks_together (slots_in index.entries) =
+    ap (λ n. first + n) (sym (more_blocks uid slot rest) ∙ sym (ap (λ es. blocks_together (slots_in es)) is)) ∙ p.blocks in
+    passes first (blocks_of slot.length) (blocks_together (slots_in rest)) (blocks_together (slots_in index.entries)) sum over
   where
     passes : (a b n all : ℕ) → a + (b + n) ≡ 1024 + all → 3968 < a + b → 2944 < all
     passes a b n all sum over = omega arith
@@ -120,9 +120,9 @@ planning_done index left moved number first none p =
     sym (append-nil moved) ∙ sym (ap (λ es. moved ++ planned_from number first (slots_in es)) none) ∙ p.all
 
 pub planning_fits : (index : BTreeMap Uid (Option Slot)) (left : List (Uid × Option Slot)) (moved : List Moved) (number first : ℕ)
-    → left ≡ [] → Planning index left moved number first → blocks_planned (slots_in index.entries) ≤ 2944
+    → left ≡ [] → Planning index left moved number first → blocks_together (slots_in index.entries) ≤ 2944
 planning_fits index left moved number first none p =
-    fits first (blocks_planned (slots_in index.entries)) (sym (ap (λ es. first + blocks_planned (slots_in es)) none) ∙ p.blocks) p.room
+    fits first (blocks_together (slots_in index.entries)) (sym (ap (λ es. first + blocks_together (slots_in es)) none) ∙ p.blocks) p.room
   where
     fits : (a all : ℕ) → a + 0 ≡ 1024 + all → a ≤ 3968 → all ≤ 2944
     fits a all sum room = omega arith

@@ -15,7 +15,7 @@ use Rattle.block_tables.specs.Blocks.{blocks_of, heads_of, heads_or_none, blocks
 use Rattle.passive_blocks.specs.Conversion.{Moved, moved, moved_from, moved_heads, moved_map, blocks_moved, is_too_much, old_log}
 use Rattle.passive_blocks.specs.Conversion.{finished, staged_bytes}
 use Rattle.passive_blocks.specs.BlockLayout.{changes_left, heads_moved, reads_of_blocks}
-use Rattle.passive_blocks.specs.Converting.{SaysSame, IsOldLog, IsStaged, IsGoodEntry}
+use Rattle.passive_blocks.specs.Converting.{SaysSame, IsOldLog, IsStagedLog, IsGoodEntry}
 use Rattle.passive_blocks.proofs.ConvertStages.{IsWritten, AreWritten, AreGoodHeads, blocks_for_all}
 use Rattle.passive_blocks.proofs.SameParts.{same_part, drop_front, take_front}
 use Rattle.passive_blocks.proofs.Converting.{log_says, staged_says}
@@ -123,7 +123,7 @@ all_written xs ys number first (e ∷ es) long from same w = (
 -- 3. What the staged heads say
 
 pub staged_for_log : (node : ℕ) (start staged : List ℕ) (kept : Kept) → IsOldLog start → log_map node (old_log start) ≡ Ok kept
-    → is_too_much (Ok kept) ≡ false → IsStaged staged → heads_of node (finished staged) ≡ Ok (moved_heads kept)
+    → is_too_much (Ok kept) ≡ false → IsStagedLog staged → heads_of node (finished staged) ≡ Ok (moved_heads kept)
     → blocks_map node (finished staged) ≡ moved_map (Ok kept) → SaysSame node staged start
 staged_for_log node start staged kept old log fits is heads values =
     let x = staged_says node staged is in
@@ -172,7 +172,7 @@ few_blocks : (kept : Kept) → is_too_much (Ok kept) ≡ false → blocks_for_al
 few_blocks kept fits = omega (arith, moved_sum 0 1024 (finite.entries kept.bodies), not_more 2944 (blocks_moved kept) fits)
 
 -- the heads that an opening finds once the staged ones stand in their places
-pub heads_staged : (node : ℕ) (staged : List ℕ) (kept : Kept) → is_too_much (Ok kept) ≡ false → IsStaged staged
+pub heads_staged : (node : ℕ) (staged : List ℕ) (kept : Kept) → is_too_much (Ok kept) ≡ false → IsStagedLog staged
     → AllByRecursion (λ (e : Uid × List ℕ). IsGoodEntry node e.0 (length e.1)) (finite.entries kept.bodies)
     → slice_range staged 4063232 4194304 ≡ staged_bytes kept → heads_of node (finished staged) ≡ Ok (moved_heads kept)
 heads_staged node staged kept fits is good spelled =
@@ -184,7 +184,7 @@ heads_staged node staged kept fits is good spelled =
     (omega (arith, some)))) (finished_heads staged is.long ∙ spelled)
 
 -- and how many reads that takes
-pub reads_staged : (node : ℕ) (staged : List ℕ) (kept : Kept) → is_too_much (Ok kept) ≡ false → IsStaged staged
+pub reads_staged : (node : ℕ) (staged : List ℕ) (kept : Kept) → is_too_much (Ok kept) ≡ false → IsStagedLog staged
     → AllByRecursion (λ (e : Uid × List ℕ). IsGoodEntry node e.0 (length e.1)) (finite.entries kept.bodies)
     → slice_range staged 4063232 4194304 ≡ staged_bytes kept → AreWritten staged (moved kept)
     → reads_of_blocks (finished staged) (heads_of node (finished staged)) ≡ 4096 + blocks_moved kept
@@ -198,7 +198,7 @@ reads_staged node staged kept fits is good spelled written =
     ∙ ap (λ n. 4096 + n) (sym (moved_sum 0 1024 es))
 
 pub staged_says_log : (node : ℕ) (start staged : List ℕ) (kept : Kept) → IsOldLog start → log_map node (old_log start) ≡ Ok kept
-    → is_too_much (Ok kept) ≡ false → IsStaged staged
+    → is_too_much (Ok kept) ≡ false → IsStagedLog staged
     → AllByRecursion (λ (e : Uid × List ℕ). IsGoodEntry node e.0 (length e.1)) (finite.entries kept.bodies)
     → slice_range staged 4063232 4194304 ≡ staged_bytes kept → AreWritten staged (moved kept) → SaysSame node staged start
 staged_says_log node start staged kept old log fits is good spelled written =

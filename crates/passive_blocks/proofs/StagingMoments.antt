@@ -20,7 +20,7 @@ use Rattle.block_tables.specs.Changes.{chain_writes, first_or_zero}
 use Rattle.passive_blocks.specs.Conversion.{moved, moved_from, moved_heads, move_calls, part_of, heads_spelled, staged_bytes}
 use Rattle.passive_blocks.specs.Conversion.{staging_calls, is_too_much, old_log, blocks_moved}
 use Rattle.passive_blocks.specs.Fits.{Fits}
-use Rattle.passive_blocks.specs.Converting.{SaysSame, IsOldLog, IsStaged, IsGoodEntry}
+use Rattle.passive_blocks.specs.Converting.{SaysSame, IsOldLog, IsStagedLog, IsGoodEntry}
 use Rattle.passive_blocks.proofs.ConvertStages.{AreWritten, blocks_for_all, may_copy, may_write}
 use Rattle.passive_blocks.proofs.SameParts.{same_take}
 use Rattle.passive_blocks.proofs.StagedBytes.{spelled_long}
@@ -102,7 +102,7 @@ ready start one now kept whole room fits c s = record {
 staged_image : List ℕ → List ℕ
 staged_image now = overlay 2 (234 ∷ []) now
 
-staged_image_is : (now : List ℕ) → IsOldLog now → IsStaged (staged_image now)
+staged_image_is : (now : List ℕ) → IsOldLog now → IsStagedLog (staged_image now)
 unfolding staged_image
 staged_image_is now is = record {
   long = length-overlay 2 (234 ∷ []) now (omega (arith, is.long)) ∙ is.long;
@@ -181,7 +181,7 @@ ready_told start kept old mid rest is room all =
 -- and behind it
 pub record AreStagedOn (kept : Kept) (c : Contents) : Type 0 where
   pub rest : c ≡ at_rest c.now
-  pub staged : IsStaged c.now
+  pub staged : IsStagedLog c.now
   pub spelled : slice_range c.now 4063232 4194304 ≡ staged_bytes kept
   pub written : AreWritten c.now (moved kept)
 

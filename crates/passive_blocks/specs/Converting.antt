@@ -24,7 +24,7 @@ pub record IsOldLog (image : List ℕ) : Type 0 where
   pub unstaged : (slice_index image 2 == 234) ≡ false
 
 -- a log stands on the image, and its heads are staged
-pub record IsStaged (image : List ℕ) : Type 0 where
+pub record IsStagedLog (image : List ℕ) : Type 0 where
   pub long : length image ≡ 4194304
   pub log : slice_index image 0 ≡ 237
   pub none : (slice_index image 1 == 235) ≡ false
@@ -90,5 +90,5 @@ abbrev pub planned : BTreeMap Uid (Option Slot) → List Moved
 planned index = planned_from 0 1024 (slots_in index.entries)
 
 -- how many blocks these values take together
-abbrev pub blocks_planned : List (Uid × Slot) → ℕ
-blocks_planned slots = sum_by (λ (s : Uid × Slot). blocks_of s.1.length) slots
+abbrev pub blocks_together : List (Uid × Slot) → ℕ
+blocks_together slots = sum_by (λ (s : Uid × Slot). blocks_of s.1.length) slots

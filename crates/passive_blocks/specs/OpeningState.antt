@@ -98,10 +98,6 @@ kept_to t i = map head_of (filter (keeps_value t.heads) (take i t.heads.slots.it
 abbrev pub kept_behind : Table → ℕ → List Head
 kept_behind t i = map head_of (filter (keeps_value t.heads) (drop i t.heads.slots.items))
 
--- the whole chain of a head, on the blocks that memory has for it
-abbrev pub whole_chain : List ℕ → Head → Chain
-whole_chain next h = record { head = h; blocks = walk next h.first (blocks_of h.size); whole = true }
-
 -- The chains of the first heads, so many, are known, and no block is on two of them.
 pub record IsLinkedTo (t : Table) (i : ℕ) : Type 0 where
   pub blocks : AreBlocks t.blocks

@@ -9,7 +9,7 @@ use Rattle.passive_store.specs.Kept.{StoreChange, Kept, Stands, IsOverfull, IsDa
 use Rattle.passive_store.specs.Log.{log_map, records_of}
 use Rattle.block_tables.specs.Blocks.{heads_of}
 use Rattle.passive_blocks.specs.Conversion.{old_log, staged_bytes, staging_calls, finishing_calls, finished, is_too_much, blocks_moved}
-use Rattle.passive_blocks.specs.Converting.{IsStaged}
+use Rattle.passive_blocks.specs.Converting.{IsStagedLog}
 use Rattle.passive_blocks.specs.BlockLayout.{Format, Blocks, Staged, OldLog, Foreign, Blank, format_of, block_map, block_changes}
 use Rattle.passive_blocks.specs.BlockLayout.{overfull_by}
 use Rattle.passive_blocks.specs.BlockLayout.{reads_of_blocks, format_calls, walk_reads, opening_by, block_layout}
@@ -96,7 +96,7 @@ pub record AreStagedFor (node : ℕ) (image : List ℕ) (c : Contents) : Type 0 
   pub log : log_found node image ≡ Ok kept
   pub fits : is_too_much (Ok kept) ≡ false
   pub rest : c ≡ at_rest c.now
-  pub staged : IsStaged c.now
+  pub staged : IsStagedLog c.now
   pub spelled : slice_range c.now 4063232 4194304 ≡ staged_bytes kept
   pub reads : reads_of_blocks (finished c.now) (heads_of node (finished c.now)) ≡ 4096 + blocks_moved kept
 

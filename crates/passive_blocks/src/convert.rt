@@ -22,7 +22,7 @@ ghost use Rattle.passive_blocks.specs.Conversion.{head_or_blank, heads_spelled, 
 ghost use Rattle.passive_blocks.specs.Conversion.{staged_calls, finishing_calls};
 ghost use Rattle.block_tables.specs.HeadSeen.{head_of};
 ghost use Rattle.passive_blocks.specs.Converting.{heads_planned, moved_in, all_moved_in, ArePlanned, IsMovable};
-ghost use Rattle.passive_blocks.specs.Converting.{SaysSame, planned, planned_at, slots_in, blocks_planned};
+ghost use Rattle.passive_blocks.specs.Converting.{SaysSame, planned, planned_at, slots_in, blocks_together};
 ghost use Rattle.passive_blocks.specs.Making.{Makes, Runs};
 ghost use Rattle.passive_blocks.specs.Preparing.{AreReady, AreStagedFor, BringingMade, BringingTold, IsLogDisk, KeepsThrough};
 ghost use Rattle.passive_blocks.specs.Preparing.{log_calls, log_found};
@@ -97,8 +97,8 @@ fn plan_heads(
     ensures planned { IfOk result (λ moved. moved.items ≡ planned index.now) }
     ensures few { IfOk result (λ moved. ArePlanned moved.items) }
     ensures movable { IfOk result (λ moved. All IsMovable moved.items) }
-    ensures fits { IfOk result (λ moved. blocks_planned (slots_in index.now.entries) ≤ 2944) }
-    ensures only { IfErr result (λ e. (e ≡ OutOfMemory) ⊎ ((e ≡ Full) × (2944 < blocks_planned (slots_in index.now.entries)))) }
+    ensures fits { IfOk result (λ moved. blocks_together (slots_in index.now.entries) ≤ 2944) }
+    ensures only { IfErr result (λ e. (e ≡ OutOfMemory) ⊎ ((e ≡ Full) × (2944 < blocks_together (slots_in index.now.entries)))) }
 {
     let mut moved = Vec::new(alloc);
     let mut number = 0;

@@ -27,7 +27,8 @@ ghost use Rattle.std.specs.Prelude.{◌&&◌, ◌^◌, is_some, nat_le, if◌the
 ghost use Rattle.passive_blocks.specs.StoreState.{IsTableOf, changes_known};
 ghost use Rattle.passive_blocks.specs.Looks.{looked};
 ghost use Rattle.passive_blocks.specs.OpeningState.{AreReadTo, AreCounted, heads_read, IsFollowed, IsChainOn};
-ghost use Rattle.passive_blocks.specs.OpeningState.{IsChainRead, ChainRead, IsLinkedTo, whole_chain};
+ghost use Rattle.passive_blocks.specs.OpeningState.{IsChainRead, ChainRead, IsLinkedTo};
+ghost use Rattle.passive_blocks.specs.StoreState.{chain_in};
 
 use crate::convert::{BLOCKS, STAGED, bring_over};
 use block_tables::{
@@ -318,7 +319,7 @@ fn read_chains<D: Disk>(disk: &mut D, table: &mut Table) -> Result<(), StoreRefu
     ensures linked { OnOk result (IsLinkedTo table.new (length table.old.heads.slots.items)) }
     ensures chains { IsTrue D.tells
         → OnOk result (chains_of (contents (D.told disk.old)).now (heads_in table.old.heads.slots.items)
-        ≡ map (whole_chain table.new.blocks.next.items) (keeping (heads_in table.old.heads.slots.items))) }
+        ≡ map (chain_in table.new.blocks.next.items) (keeping (heads_in table.old.heads.slots.items))) }
     ensures damaged { IsTrue D.tells
         → IfErr result (λ e. (place : ℕ) → e ≡ Damaged place
         → changes_on (contents (D.told disk.old)).now (chains_of (contents (D.told disk.old)).now (heads_in table.old.heads.slots.items))

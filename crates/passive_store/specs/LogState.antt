@@ -62,11 +62,6 @@ pending_body p = cond p.removal None (Some (slice_range p.bytes.items 14 (14 + p
 abbrev pub change_of : ℕ → Pending → StoreChange
 change_of tail p = record { uid = p.uid; body = pending_body p; mark = tail; wrote = log_grows (pending_body p) }
 
--- the change of the pending record, or None where no record is pending
-abbrev pub pending_change : ℕ → Option Pending → Option StoreChange
-pending_change tail None = None
-pending_change tail (Some p) = Some (change_of tail p)
-
 -- the next device call of a job, by its stage; of one that was refused the sync of its settling
 abbrev pub stage_call : ℕ → List ℕ → Stage → DiskCall
 stage_call tail bytes Begun = Write (tail + 1) bytes

@@ -6,7 +6,8 @@ use Rattle.std.proofs.lemmas.Result.{err_from_is_err_and}
 use Rattle.eden_disk.specs.Calls.{ReadTold}
 use Rattle.eden_disk.proofs.Held.{calls_none, calls_more, obeyed_none, obeyed_more}
 use Rattle.passive_store.proofs.Joining.{timed_still}
-use Rattle.passive_blocks.specs.OpeningState.{ChainRead, IsLinkedTo, whole_chain}
+use Rattle.passive_blocks.specs.OpeningState.{ChainRead, IsLinkedTo}
+use Rattle.passive_blocks.specs.StoreState.{chain_in}
 use Rattle.passive_blocks.proofs.OpeningReads.{timed_behind, not_full, place_is}
 use Rattle.passive_blocks.proofs.OpeningLinks.{found_value, found_none, value_few}
 use Rattle.std.proofs.Common.{true}
@@ -224,7 +225,7 @@ returns-clause-chains g c = λ tells.
       ap
           (λ h. length h.slots.items) c.loop-number.invariant.heads,
     )) tells).0
-    ∙ ap (map (whole_chain c.loop-number.table.blocks.next.items)) (kept_all c.args.table.now c.loop-number.table c.loop-number.number
+    ∙ ap (map (chain_in c.loop-number.table.blocks.next.items)) (kept_all c.args.table.now c.loop-number.table c.loop-number.number
     c.requires.counted inv.heads (omega (
       arith,
       c.requires.counted.table.count,
