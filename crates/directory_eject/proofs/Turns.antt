@@ -99,7 +99,7 @@ place n es =
 
 module _ (n : List ℕ) (es : List DirectoryEntry) (a : Answer) where
   pub add_there : (c : Option Cap) → is_some (position (named n) (keys_of es)) ≡ true
-      → directory_turn (vars_of es) (adds (text n) (cap c)) a ≡ (vars_of es, changed, returns_code 1)
+      → directory_turn (vars_of es) (adds n c) a ≡ (vars_of es, changed, returns_code 1)
   add_there c h = is_there (place_of (text n) (entries (vars_of es))) _ _ (ap is_some (place n es) ∙ h)
 
   abbrev full : Bool
@@ -109,12 +109,12 @@ module _ (n : List ℕ) (es : List DirectoryEntry) (a : Answer) where
   full_is = ap (λ (d : Entries). length d.names == LIST_LIMIT) (entries_again es) ∙ ap (λ m. m == LIST_LIMIT) (as_many_entries es)
 
   pub add_full : (c : Option Cap) → position (named n) (keys_of es) ≡ None → (length es == LIST_LIMIT) ≡ true
-      → directory_turn (vars_of es) (adds (text n) (cap c)) a ≡ (vars_of es, changed, returns_code 2)
+      → directory_turn (vars_of es) (adds n c) a ≡ (vars_of es, changed, returns_code 2)
   add_full c h k =
       no_item (place_of (text n) (entries (vars_of es))) _ _ (place n es ∙ h) ∙ chosen full _ _ (full_is ∙ k)
 
   pub look_there : (i : ℕ) (k : Vec ℕ Global) (c : Option Cap) → position (named n) (keys_of es) ≡ Some i → slice_get es i ≡ Some (k, c)
-      → directory_turn (vars_of es) (looks (text n)) a ≡ (vars_of es, changed, Return (number (pos 0) ∷ cap c ∷ []))
+      → directory_turn (vars_of es) (looks n) a ≡ (vars_of es, changed, Return (number (pos 0) ∷ cap c ∷ []))
   look_there i k c h at =
       let found : argument i (entries (vars_of es)).held ≡ cap c =
       ap (λ (d : Entries). argument i d.held) (entries_again es)
@@ -124,12 +124,12 @@ module _ (n : List ℕ) (es : List DirectoryEntry) (a : Answer) where
       ∙ ap (λ d. number (pos 0) ∷ d ∷ []) found)
 
   pub look_absent : position (named n) (keys_of es) ≡ None
-      → directory_turn (vars_of es) (looks (text n)) a ≡ (vars_of es, changed, Return (number (pos 1) ∷ cap None ∷ []))
+      → directory_turn (vars_of es) (looks n) a ≡ (vars_of es, changed, Return (number (pos 1) ∷ cap None ∷ []))
   look_absent h =
       ap (λ ds. (vars_of es, changed, Return ds)) (no_item (place_of (text n) (entries (vars_of es))) _ _ (place n es ∙ h))
 
   pub delete_there : (i : ℕ) → position (named n) (keys_of es) ≡ Some i
-      → directory_turn (vars_of es) (deletes (text n)) a ≡ (vars_of (remove es i), changed, Checkpoint)
+      → directory_turn (vars_of es) (deletes n) a ≡ (vars_of (remove es i), changed, Checkpoint)
   delete_there i h =
       some_item (place_of (text n) (entries (vars_of es))) i _ _ (place n es ∙ h)
       ∙ ap (λ vs. (vs, changed, Checkpoint)) (ap (λ d. values_of (without_entry i d)) (entries_again es)
@@ -139,13 +139,13 @@ module _ (n : List ℕ) (es : List DirectoryEntry) (a : Answer) where
       }))
 
   pub delete_absent : position (named n) (keys_of es) ≡ None
-      → directory_turn (vars_of es) (deletes (text n)) a ≡ (vars_of es, changed, returns_code 1)
+      → directory_turn (vars_of es) (deletes n) a ≡ (vars_of es, changed, returns_code 1)
   delete_absent h = no_item (place_of (text n) (entries (vars_of es))) _ _ (place n es ∙ h)
 
 -- one more entry
 pub add_new : (es : List DirectoryEntry) (a : Answer) (k : Vec ℕ Global) (c : Option Cap) → position (named k.items) (keys_of es) ≡ None
     → (length es == LIST_LIMIT) ≡ false
-    → directory_turn (vars_of es) (adds (text k.items) (cap c)) a ≡ (vars_of (es ++ (k, c) ∷ []), changed, Checkpoint)
+    → directory_turn (vars_of es) (adds k.items c) a ≡ (vars_of (es ++ (k, c) ∷ []), changed, Checkpoint)
 add_new es a k c h few =
     let n = k.items in
     no_item (place_of (text n) (entries (vars_of es))) _ _ (place n es ∙ h) ∙ passed (full n es a) _ _ (full_is n es a ∙ few)

@@ -1,6 +1,5 @@
 //! A directory's entries, and its operations.
 ghost use Rattle.std.specs.Prelude.{◌≡◌, IfOk, true};
-ghost use Rattle.eden_value.specs.Datum.{text, cap};
 ghost use Rattle.eden_value.specs.View.{datums};
 ghost use Rattle.epl_syntax.specs.declared.effect.Answer.TheVariants as answers;
 ghost use Rattle.epl_syntax.specs.declared.types.Native.TheVariants as types;
@@ -120,7 +119,7 @@ impl Directory {
         name: Txt,
         held: Option<Cap>,
     ) -> Result<Effect, AllocError>
-        ensures { IfOk result (λ effect. spec.directory_turn self.old (spec.adds (text name) (cap held)) answers.Go
+        ensures { IfOk result (λ effect. spec.directory_turn self.old (spec.adds name held) answers.Go
             ≡ (self.new, spec.changed, effect)) }
     {
         if self.entries.get_index_of(name.bytes.as_slice()).is_some() {
@@ -135,7 +134,7 @@ impl Directory {
 
     /// Looks up a name: what is held under it.
     pub(crate) fn look_up(&self, alloc: Global, name: &Txt) -> Result<Effect, AllocError>
-        ensures { IfOk result (λ effect. spec.directory_turn self.now (spec.looks (text name.now)) answers.Go
+        ensures { IfOk result (λ effect. spec.directory_turn self.now (spec.looks name.now) answers.Go
             ≡ (self.now, spec.changed, effect)) }
     {
         match self.entries.get_full(name.bytes.as_slice()) {
@@ -146,7 +145,7 @@ impl Directory {
 
     /// Takes a name away. The others keep their order.
     pub(crate) fn delete(&mut self, alloc: Global, name: &Txt) -> Result<Effect, AllocError>
-        ensures { IfOk result (λ effect. spec.directory_turn self.old (spec.deletes (text name.now)) answers.Go
+        ensures { IfOk result (λ effect. spec.directory_turn self.old (spec.deletes name.now) answers.Go
             ≡ (self.new, spec.changed, effect)) }
     {
         match self.entries.get_index_of(name.bytes.as_slice()) {

@@ -1,10 +1,10 @@
 //! What is left to do of an operation, and how one begins.
-ghost use Rattle.std.specs.Prelude.{◌≡◌, IfOk, true};
+ghost use Rattle.std.specs.Prelude.{◌≡◌, IfOk};
 ghost use Rattle.eden_value.specs.View.{datums};
 ghost use Rattle.epl_syntax.specs.declared.types.Native.TheVariants as types;
 ghost use Rattle.epl_syntax.specs.Natives.{first_stage};
 ghost use Rattle.epl_syntax.specs.Simple.{argument, text_in, cap_in};
-ghost use Rattle.directory_eject.specs.Stages.{stage_of, are_taken};
+ghost use Rattle.directory_eject.specs.Stages.{stage_of};
 
 use capability::Cap;
 use eden_value::{Items, Txt, Value};
@@ -51,9 +51,8 @@ pub(crate) fn cap_at(values: &[Value], place: usize) -> Option<Cap>
     }
 }
 
-/// An operation begins, with arguments of the kinds that it takes.
+/// An operation begins. An argument that is no text, or no capability, where it takes one, is as an empty or the absent one.
 pub fn native_begin(alloc: Global, operation: &Txt, args: &Items) -> Result<Stage, AllocError>
-    requires { are_taken operation.now args.now ≡ true }
     ensures { IfOk result (λ stage. stage_of stage ≡ first_stage types.Directory operation.now args.now) }
 {
     if is_called(operation, b"AddEntry") {

@@ -9,7 +9,6 @@ ghost use Rattle.edentypes.specs.View.{kind_in, rest_of};
 
 use crate::form::{Form, form_at};
 use crate::native::stream_of;
-use crate::operations::takes;
 use crate::{Kind, Rest, cell};
 use eden_value::{Items, Txt};
 use epl_syntax::{Native, Program, Types};
@@ -43,15 +42,11 @@ pub fn processes(alloc: Global, types: &Types, kind: Kind) -> Result<Vec<Rest>, 
     }
 }
 
-/// An operation of a Directory begins. The call was tested to fit when it came, so that its arguments are of the kinds that the
-/// operation takes.
+/// An operation of a Directory begins.
 fn directory_begin(alloc: Global, operation: &Txt, args: &Items) -> Result<Rest, AllocError>
     ensures { IfOk result (λ rest. rest_of (native_type natives.Directory) rest
         ≡ meaning.begin (native_type natives.Directory) operation.now args.now) }
 {
-    if !takes(Native::Directory, operation, args) {
-        return Err(AllocError);
-    }
     let stage = directory_eject::native_begin(alloc, operation, args)?;
     Ok(Rest::Directory { stage })
 }

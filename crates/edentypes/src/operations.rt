@@ -1,13 +1,11 @@
 //! The operations of a type, and whether a call fits.
-ghost use Rattle.std.specs.Prelude.{◌≡◌, ◌≤◌, Err, length, map, option_copied, true};
+ghost use Rattle.std.specs.Prelude.{◌≡◌, ◌≤◌, Err, length, map, option_copied};
 ghost use Rattle.std.specs.List.{find, position_from};
 ghost use Rattle.std.specs.Option.{option_map};
 ghost use Rattle.capability.specs.Rights.{is_within};
 ghost use Rattle.eden_model.specs.Map.{same_text, with_item};
 ghost use Rattle.epl_syntax.specs.Edentype.{native as native_type, declared as declared_type};
 ghost use Rattle.epl_syntax.specs.Edentype as edentype;
-ghost use Rattle.epl_syntax.specs.Kinds.{have_shapes};
-ghost use Rattle.epl_syntax.specs.Meaning as meaning;
 ghost use Rattle.epl_syntax.specs.Rules.Limits.{IsWithinLimits};
 ghost use Rattle.epl_syntax.specs.Tree.{type_tree, operation};
 ghost use Rattle.edentypes.specs.Forms.{operation_of};
@@ -76,16 +74,6 @@ fn class_of(classes: &[ClassDecl], name: &Txt) -> usize
         }
     }
     0
-}
-
-/// Whether arguments are of the kinds that the operation of this name takes, if the native type has one.
-pub(crate) fn takes(native: Native, name: &Txt, args: &Items) -> bool
-    ensures { result ≡ with_item (meaning.operation_of (native_type native) name.now) (λ o. have_shapes args.now o.params) true }
-{
-    match native_operation(operations_of(native), name) {
-        None => true,
-        Some(found) => have_kinds(&args.values, found.params),
-    }
 }
 
 fn native_fit(native: Native, rights: Rights, name: &Txt, args: &Items) -> Fit

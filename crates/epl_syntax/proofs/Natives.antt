@@ -5,14 +5,14 @@ use Rattle.std.specs.Prelude.{IfSome, int_le, ◌+ℤ◌, ◌-ℤ◌}
 use Rattle.std.specs.Ordering.{int_eq}
 use Rattle.capability.specs.declared.Cap.{Cap}
 use Rattle.eden_value.specs.Datum.{Datum, number, truth, text, cap, list}
-use Rattle.eden_value.specs.Caps.{caps, caps_of}
+use Rattle.eden_value.specs.Caps.{caps_of}
 use Rattle.eden_value.specs.declared.value.TheConstants.{LIST_LIMIT}
 use Rattle.eden_model.specs.Map.{with_item, is_none, same_text}
 use Rattle.epl_syntax.specs.declared.effect.Answer.{Answer}
 use Rattle.epl_syntax.specs.declared.effect.Answer.TheVariants.{Code}
 use Rattle.epl_syntax.specs.declared.effect.Effect.{Effect}
 use Rattle.epl_syntax.specs.Operators.{greatest}
-use Rattle.epl_syntax.specs.Simple.{argument, number_in, cap_in, items_in, returns_code, is_fine}
+use Rattle.epl_syntax.specs.Simple.{argument, number_in, text_in, cap_in, items_in, returns_code, is_fine}
 use Rattle.epl_syntax.specs.Streams.{item_code, end_code, out_of_reach, trouble, returns_item, returns_none, asks_for, an_item, the_end}
 use Rattle.epl_syntax.specs.Streams.{nothing, came}
 use Rattle.epl_syntax.specs.Streams as streams
@@ -27,7 +27,7 @@ use Rattle.epl_syntax.specs.declared.types.Native.TheVariants as code
 use Rattle.epl_syntax.specs.Meaning.{of_native, turned_as}
 use Rattle.epl_syntax.specs.Authority.{AllBelow, effect_caps, stage_caps, directory_caps, lines_caps, filter_caps, sink_caps, AreLeft}
 use Rattle.epl_syntax.proofs.Owned.{Owned, AllOwned, owned_caps, caps_owned, list_owned, items_owned, append_owned, take_owned}
-use Rattle.epl_syntax.proofs.Owned.{drop_owned, item_owned, either, both_below, first_below, second_below}
+use Rattle.epl_syntax.proofs.Owned.{drop_owned, item_owned, either}
 
 -- what a turn came to, where a stage has these capabilities
 abbrev pub MovedOwned : {S : Type 0} → List Cap → (S → List Cap) → List Datum × S × Effect → Type 0
@@ -86,30 +86,30 @@ directory_owned held vars (directory.adds name it) a h k =
     let d : directory.Entries = directory.entries vars in
     let names : AllOwned held d.names = items_in_owned held (argument 0 vars) (argument_owned held 0 vars h) in
     let its : AllOwned held d.held = items_in_owned held (argument 1 vars) (argument_owned held 1 vars h) in
-    with_owned (λ i. Unit {0}) (InDirectory held) (directory.place_of name d) (λ i. (vars, directory.changed, returns_code 1))
-    (cond (length d.names == LIST_LIMIT) (vars, directory.changed, returns_code 2) (directory.changes (directory.with_entry name it d)))
-    (any (directory.place_of name d))
+    let added : directory.Entries = directory.with_entry (text name) (cap it) d in
+    with_owned (λ i. Unit {0}) (InDirectory held) (directory.place_of (text name) d) (λ i. (vars, directory.changed, returns_code 1))
+    (cond (length d.names == LIST_LIMIT) (vars, directory.changed, returns_code 2) (directory.changes added))
+    (any (directory.place_of (text name) d))
     (λ i x. (h, tt, tt))
     (either (InDirectory held) (length d.names == LIST_LIMIT) (vars, directory.changed, returns_code 2)
-    (directory.changes (directory.with_entry name it d)) (h, tt, tt)
-    (changes_owned held (d.names ++ name ∷ []) (d.held ++ it ∷ [])
-    (append_owned held d.names (name ∷ []) names (first_below (caps name) (caps it) held k, tt))
-    (append_owned held d.held (it ∷ []) its (second_below (caps name) (caps it) held k, tt))))
+    (directory.changes added) (h, tt, tt)
+    (changes_owned held (d.names ++ text name ∷ []) (d.held ++ cap it ∷ [])
+    (append_owned held d.names (text name ∷ []) names (tt, tt)) (append_owned held d.held (cap it ∷ []) its (k, tt))))
 directory_owned held vars (directory.looks name) a h k =
     let d : directory.Entries = directory.entries vars in
     let its : AllOwned held d.held = items_in_owned held (argument 1 vars) (argument_owned held 1 vars h) in (
       h,
       tt,
-      with_owned (λ i. Unit {0}) (λ ds. AllBelow (caps_of ds) held) (directory.place_of name d)
-          (λ i. number (pos 0) ∷ argument i d.held ∷ []) (number (pos 1) ∷ cap None ∷ []) (any (directory.place_of name d))
+      with_owned (λ i. Unit {0}) (λ ds. AllBelow (caps_of ds) held) (directory.place_of (text name) d)
+          (λ i. number (pos 0) ∷ argument i d.held ∷ []) (number (pos 1) ∷ cap None ∷ []) (any (directory.place_of (text name) d))
           (λ i x. owned_caps held (number (pos 0) ∷ argument i d.held ∷ []) (tt, (argument_owned held i d.held its, tt))) tt,
     )
 directory_owned held vars (directory.deletes name) a h k =
     let d : directory.Entries = directory.entries vars in
     let names : AllOwned held d.names = items_in_owned held (argument 0 vars) (argument_owned held 0 vars h) in
     let its : AllOwned held d.held = items_in_owned held (argument 1 vars) (argument_owned held 1 vars h) in
-    with_owned (λ i. Unit {0}) (InDirectory held) (directory.place_of name d) (λ i. directory.changes (directory.without_entry i d))
-    (vars, directory.changed, returns_code 1) (any (directory.place_of name d))
+    with_owned (λ i. Unit {0}) (InDirectory held) (directory.place_of (text name) d) (λ i. directory.changes (directory.without_entry i d))
+    (vars, directory.changed, returns_code 1) (any (directory.place_of (text name) d))
     (λ i x. changes_owned held (directory.without i d.names) (directory.without i d.held)
     (append_owned held (take i d.names) (drop (i + 1) d.names) (take_owned held i d.names names) (drop_owned held (i + 1) d.names names))
     (append_owned held (take i d.held) (drop (i + 1) d.held) (take_owned held i d.held its) (drop_owned held (i + 1) d.held its)))
@@ -373,20 +373,22 @@ native_owned held n vars (in_sink stage) a h k =
 directory_first : (held : List Cap) (name : List ℕ) (args : List Datum) → AllOwned held args
     → AllBelow (directory_caps (directory.first_stage name args)) held
 directory_first held name args h =
-    either P (same_text name (codes "AddEntry")) (directory.adds (argument 0 args) (argument 1 args)) after_first
-    (both_below (caps (argument 0 args)) (caps (argument 1 args)) held (argument_owned held 0 args h) (argument_owned held 1 args h))
-    (either P (same_text name (codes "LookUp")) (directory.looks (argument 0 args)) after_second (argument_owned held 0 args h)
-    (either P (same_text name (codes "DeleteEntry")) (directory.deletes (argument 0 args)) directory.tells
-    (argument_owned held 0 args h) tt))
+    either P (same_text name (codes "AddEntry")) (directory.adds entry (cap_in (argument 1 args))) after_first
+    (cap_in_owned held (argument 1 args) (argument_owned held 1 args h))
+    (either P (same_text name (codes "LookUp")) (directory.looks entry) after_second tt
+    (either P (same_text name (codes "DeleteEntry")) (directory.deletes entry) directory.tells tt tt))
   where
     P : directory.Stage → Type 0
     P stage = AllBelow (directory_caps stage) held
 
+    entry : List ℕ
+    entry = text_in (argument 0 args)
+
     after_second : directory.Stage
-    after_second = cond (same_text name (codes "DeleteEntry")) (directory.deletes (argument 0 args)) directory.tells
+    after_second = cond (same_text name (codes "DeleteEntry")) (directory.deletes entry) directory.tells
 
     after_first : directory.Stage
-    after_first = cond (same_text name (codes "LookUp")) (directory.looks (argument 0 args)) after_second
+    after_first = cond (same_text name (codes "LookUp")) (directory.looks entry) after_second
 
 lines_first : (held : List Cap) (name : List ℕ) (args : List Datum) → AllOwned held args
     → AllBelow (lines_caps (lines.first_stage name args)) held

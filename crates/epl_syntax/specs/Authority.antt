@@ -35,9 +35,7 @@ AllBelow (c ∷ cs) ds = IsBelowOne c ds × AllBelow cs ds
 -- ---- the capabilities in what is left to do
 -- of a Directory
 abbrev pub directory_caps : directory.Stage → List Cap
-directory_caps (directory.adds name held) = caps name ++ caps held
-directory_caps (directory.looks name) = caps name
-directory_caps (directory.deletes name) = caps name
+directory_caps (directory.adds name held) = caps (cap held)
 directory_caps _ = []
 
 -- of a Lines

@@ -10,7 +10,8 @@
 -- part and is not known to be kept.
 use Rattle.std.specs.Prelude.{ℕ, ◌+◌, ◌==◌, pos, Bool, true, not, cond, ◌&&◌, List, [], ◌∷◌, ◌++◌, length, take, drop, Option, None, codes}
 use Rattle.std.specs.List.{list_any, position}
-use Rattle.eden_value.specs.Datum.{Datum, number, cap, list, no_data, data_of}
+use Rattle.capability.specs.declared.Cap.{Cap}
+use Rattle.eden_value.specs.Datum.{Datum, number, text, cap, list, no_data, data_of}
 use Rattle.eden_value.specs.Shape.{texts, caps, lists}
 use Rattle.eden_value.specs.declared.value.TheConstants.{LIST_LIMIT}
 use Rattle.eden_model.specs.Map.{with_item, same_text}
@@ -19,7 +20,7 @@ use Rattle.epl_syntax.specs.declared.effect.Effect.{Effect}
 use Rattle.epl_syntax.specs.declared.effect.Effect.TheVariants.{Return, Checkpoint}
 use Rattle.epl_syntax.specs.Same.{same}
 use Rattle.epl_syntax.specs.Outline.{Outline, kept}
-use Rattle.epl_syntax.specs.Simple.{of_one_class, outline, argument, items_in, returns_code, is_fine}
+use Rattle.epl_syntax.specs.Simple.{of_one_class, outline, argument, text_in, cap_in, items_in, returns_code, is_fine}
 
 -- its variables and operations
 abbrev pub directory : Outline
@@ -43,11 +44,11 @@ values_of d = list (data_of d.names) ∷ list (data_of d.held) ∷ []
 -- what is left to do of an operation
 pub data Stage : Type 0 where
   -- it adds a name and a capability
-  adds : (name held : Datum) → Stage
+  adds : (name : List ℕ) (held : Option Cap) → Stage
   -- it looks up a name
-  looks : (name : Datum) → Stage
+  looks : (name : List ℕ) → Stage
   -- it takes a name away
-  deletes : (name : Datum) → Stage
+  deletes : (name : List ℕ) → Stage
   -- it returns the names
   tells : Stage
   -- the checkpoint of a change was asked for
@@ -55,10 +56,9 @@ pub data Stage : Type 0 where
 
 -- how an operation begins
 abbrev pub first_stage : List ℕ → List Datum → Stage
-first_stage name args =
-    cond (same_text name (codes "AddEntry")) (adds (argument 0 args) (argument 1 args))
-    (cond (same_text name (codes "LookUp")) (looks (argument 0 args))
-    (cond (same_text name (codes "DeleteEntry")) (deletes (argument 0 args)) tells))
+first_stage name args = let entry = text_in (argument 0 args) in
+    cond (same_text name (codes "AddEntry")) (adds entry (cap_in (argument 1 args)))
+    (cond (same_text name (codes "LookUp")) (looks entry) (cond (same_text name (codes "DeleteEntry")) (deletes entry) tells))
 
 -- where a name stands, if it is there
 abbrev pub place_of : Datum → Entries → Option ℕ
@@ -83,12 +83,12 @@ changes d = (values_of d, changed, Checkpoint)
 -- a turn: the values after it, what is left to do, and the effect
 abbrev pub directory_turn : List Datum → Stage → Answer → List Datum × Stage × Effect
 directory_turn vars (adds name held) answer = let d = entries vars in
-    with_item (place_of name d) (λ i. (vars, changed, returns_code 1))
-    (cond (length d.names == LIST_LIMIT) (vars, changed, returns_code 2) (changes (with_entry name held d)))
+    with_item (place_of (text name) d) (λ i. (vars, changed, returns_code 1))
+    (cond (length d.names == LIST_LIMIT) (vars, changed, returns_code 2) (changes (with_entry (text name) (cap held) d)))
 directory_turn vars (looks name) answer = let d = entries vars in
-    (vars, changed, Return (with_item (place_of name d) (λ i. number (pos 0) ∷ argument i d.held ∷ []) (number (pos 1) ∷ cap None ∷ [])))
+    (vars, changed, Return (with_item (place_of (text name) d) (λ i. number (pos 0) ∷ argument i d.held ∷ []) (number (pos 1) ∷ cap None ∷ [])))
 directory_turn vars (deletes name) answer = let d = entries vars in
-    with_item (place_of name d) (λ i. changes (without_entry i d)) (vars, changed, returns_code 1)
+    with_item (place_of (text name) d) (λ i. changes (without_entry i d)) (vars, changed, returns_code 1)
 directory_turn vars tells answer = (vars, changed, Return (argument 0 vars ∷ []))
 directory_turn vars changed answer = (vars, changed, returns_code (cond (is_fine answer) 0 3))
 

@@ -1,10 +1,9 @@
 ghost use Rattle.std.specs.Prelude.{◌≡◌, ◌∷◌, [], true};
-ghost use Rattle.directory_eject.specs.Stages.{are_taken};
 ghost use Rattle.epl_syntax.specs.declared.types.Native.TheVariants as types;
 ghost use Rattle.epl_syntax.specs.Edentype.{native};
 ghost use Rattle.epl_syntax.specs.Meaning.{durable_kinds};
 ghost use Rattle.epl_syntax.specs.Kinds.{have_shapes};
-ghost use Rattle.eden_value.specs.Datum.{text as text_datum, cap as cap_datum};
+ghost use Rattle.eden_value.specs.Datum.{text as text_datum};
 
 use crate::common::{Given, cap_of, items_of, printed, returned, text};
 use capability::Cap;
@@ -27,9 +26,7 @@ fn turned(
 }
 
 /// The stage in which an operation of this name begins.
-fn begun(rt: &impl Abort, alloc: Global, name: &[u8], args: &Items) -> Box<Stage>
-    requires { are_taken name.now args.now ≡ true }
-{
+fn begun(rt: &impl Abort, alloc: Global, name: &[u8], args: &Items) -> Box<Stage> {
     let operation = text(rt, alloc, name);
     let stage = native_begin(alloc, &operation, args).expect(rt, "memory");
     Box::new(alloc, stage).expect(rt, "memory")
@@ -59,9 +56,7 @@ fn carried_out(
     name: &[u8],
     args: &Items,
     status: Status,
-) -> Vec<u8>
-    requires { are_taken name.now args.now ≡ true }
-{
+) -> Vec<u8> {
     let mut stage = begun(rt, alloc, name, args);
     let effect = last_effect(rt, alloc, directory, &mut stage, status);
     returned(rt, alloc, &effect)
@@ -79,9 +74,7 @@ fn named(rt: &impl Abort, alloc: Global, name: &[u8]) -> Items
 }
 
 /// The values of an operation that takes a name and a capability.
-fn entry(rt: &impl Abort, alloc: Global, name: &[u8], cap: Option<Cap>) -> Items
-    ensures { result ≡ text_datum name.now ∷ cap_datum cap ∷ [] }
-{
+fn entry(rt: &impl Abort, alloc: Global, name: &[u8], cap: Option<Cap>) -> Items {
     let mut items = named(rt, alloc, name);
     items.values.push(Value::Cap { cap }).expect(rt, "memory");
     items

@@ -1,4 +1,4 @@
--- What of a declared type is few enough to be numbered by a byte.
+-- What of a declared type is few enough to be numbered by a byte; its version fits two.
 use Rattle.std.specs.Prelude.{◌≤◌, length}
 use Rattle.std.specs.List.{All}
 use Rattle.epl_syntax.specs.declared.tree.Program.{Program}

@@ -5,7 +5,6 @@ use Rattle.std.specs.Cmp.Lexicographic.{pointwise}
 use Rattle.std.specs.Map.{keys_of}
 use Rattle.indexmap.specs.IndexMap.{get, get_by}
 use Rattle.indexmap.proofs.CallerLemmas.{insert_entry-new}
-use Rattle.eden_value.specs.Datum.{text, cap}
 use Rattle.eden_value.specs.declared.value.TheConstants.{LIST_LIMIT}
 use Rattle.epl_syntax.specs.declared.effect.Answer.TheVariants.{Go}
 use Rattle.epl_syntax.specs.declared.effect.Effect.TheVariants.{Checkpoint}
@@ -27,7 +26,7 @@ returns-then-is_some c =
     let es = c.self.inside.entries.entries in
     let n = c.args.name in
     let at = c.get_index_of.ensures.index ∙ ap (λ m. position (named m) (keys_of es)) (c.as_slice.ensures.value ∙ c.name.view_is) in
-    stays es c.args.self.now c.self.view_is (adds (text n) (cap c.args.held)) _
+    stays es c.args.self.now c.self.view_is (adds n c.args.held) _
     (add_there n es Go c.args.held (sym (ap is_some at) ∙ sym c.is_some.ensures ∙ c.if-is_some.true)) c.code.result c.code.ensures
 
 pub returns-then-len-eq-LIST_LIMIT : goal.returns-then-len-eq-LIST_LIMIT
@@ -36,7 +35,7 @@ returns-then-len-eq-LIST_LIMIT c =
     let n = c.args.name in
     let at = c.get_index_of.ensures.index ∙ ap (λ m. position (named m) (keys_of es)) (c.as_slice.ensures.value ∙ c.name.view_is) in
     let none = is_absent (position (named n) (keys_of es)) (sym (ap is_some at) ∙ sym c.is_some.ensures ∙ c.if-is_some.false) in
-    stays es c.args.self.now c.self.view_is (adds (text n) (cap c.args.held)) _
+    stays es c.args.self.now c.self.view_is (adds n c.args.held) _
     (add_full n es Go c.args.held none (ap (λ m. m == LIST_LIMIT) (sym c.len.ensures.len ∙ c.if-len-eq-LIST_LIMIT.true)))
     c.code-then-len-eq-LIST_LIMIT.result c.code-then-len-eq-LIST_LIMIT.ensures
 
@@ -54,6 +53,6 @@ returns c =
     ∙ sym c.get_index_of.ensures.found ∙ gone in
     let absent = is_absent (get same_name m k) found in
     let few = not_equal (length es) LIST_LIMIT (λ e. c.if-len-eq-LIST_LIMIT.false (c.len.ensures.len ∙ e)) in
-    let turn = sym (ap (λ l. directory_turn (vars_of es) (adds (text l) (cap h)) Go) c.name.view_is) ∙ add_new es Go k h none few in
-    becomes es c.args.self.now c.self.view_is (adds (text c.args.name) (cap h)) _ Checkpoint turn
+    let turn = sym (ap (λ l. directory_turn (vars_of es) (adds l h) Go) c.name.view_is) ∙ add_new es Go k h none few in
+    becomes es c.args.self.now c.self.view_is (adds c.args.name h) _ Checkpoint turn
     ∙ ap (λ fs. (vars_of fs, changed, Checkpoint)) (sym (c.in_ok-insert.ensures.entries ∙ insert_entry-new same_name m k h absent))

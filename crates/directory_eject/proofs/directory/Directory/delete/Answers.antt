@@ -1,6 +1,5 @@
 use Rattle.std.proofs.Common.{position, sym, ap, ◌∙◌}
 use Rattle.std.specs.Map.{keys_of}
-use Rattle.eden_value.specs.Datum.{text}
 use Rattle.epl_syntax.specs.declared.effect.Answer.TheVariants.{Go}
 use Rattle.epl_syntax.specs.declared.effect.Effect.TheVariants.{Checkpoint}
 use Rattle.epl_syntax.specs.Directory.{deletes, changed}
@@ -14,7 +13,7 @@ returns-in-Some c =
     let n = c.args.name.now in
     let at = sym (ap (λ m. position (named m) (keys_of es)) (c.as_slice.ensures.value ∙ c.name.view_is))
     ∙ sym c.get_index_of.ensures.index ∙ c.in-Some.is in
-    becomes es c.args.self.now c.self.view_is (deletes (text n)) _ Checkpoint (delete_there n es Go c.in-Some.place at)
+    becomes es c.args.self.now c.self.view_is (deletes n) _ Checkpoint (delete_there n es Go c.in-Some.place at)
     ∙ ap (λ fs. (vars_of fs, changed, Checkpoint)) (sym c.shift_remove_index.ensures.entries)
 
 pub returns-in-None : goal.returns-in-None
@@ -23,4 +22,4 @@ returns-in-None c =
     let n = c.args.name.now in
     let at = sym (ap (λ m. position (named m) (keys_of es)) (c.as_slice.ensures.value ∙ c.name.view_is))
     ∙ sym c.get_index_of.ensures.index ∙ c.in-None.is in
-    stays es c.args.self.now c.self.view_is (deletes (text n)) _ (delete_absent n es Go at) c.code.result c.code.ensures
+    stays es c.args.self.now c.self.view_is (deletes n) _ (delete_absent n es Go at) c.code.result c.code.ensures
