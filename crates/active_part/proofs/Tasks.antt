@@ -24,12 +24,13 @@ use Rattle.epl_syntax.specs.Rules.OfTypes.{TypeList}
 use Rattle.edentypes.specs.View.{kind_in, rest_of, turned_of}
 use Rattle.journal.specs.World.{Task, Active}
 use Rattle.journal.specs.Processes.{turn_of}
-use Rattle.active_part.specs.Body.{active_of}
+use Rattle.active_part.specs.Body.{Body, active_of}
 use Rattle.active_part.specs.Bodies.{told_body, turned_body}
 use Rattle.active_part.specs.Places.{StandsAt}
-use Rattle.active_part.specs.View.{body_of, task_of, IsStarted}
+use Rattle.active_part.specs.View.{body_of, task_of, IsStarted, StartsNext}
+use Rattle.edentypes.specs.declared.Kind.{Kind}
 use Rattle.active_part.specs.declared.Doing.{Doing}
-use Rattle.active_part.specs.declared.Part.{Part}
+use Rattle.active_part.specs.declared.part.Part.{Part}
 use Rattle.active_part.specs.declared.task_list.TaskList.{TaskList}
 use Rattle.active_part.proofs.Entries.{found-at, written-at}
 
@@ -71,13 +72,22 @@ waits-already p k (e ∷ es) h waits = go (is_eq (nat_cmp p e.0)) refl (e.0 == p
 pub runs-already : (p : ℕ) (crew : Crew) → AscendPast 0 crew.processes → Runs crew p → set_waits p nothing crew ≡ crew
 runs-already p crew h runs = ap (λ ps. record crew { processes = ps }) (waits-already p 0 crew.processes h runs)
 
+-- a part as a body, by what it is made of
+abbrev pub body_with : TypeList → Kind → List Datum → TaskList → Coordination → Body
+body_with ts kind vars tasks crew = record {
+  kind = kind_in ts kind;
+  vars = vars;
+  tasks = each_value (task_of (kind_in ts kind)) tasks.entries.items;
+  crew = crew;
+}
+
 -- A process is told
 
 pub answered-body : (ts : TypeList) (a : Part) (p : ℕ) (answer : Answer) (tasks : TaskList) (crew : Coordination)
     → ((t : Edentype) → each_value (task_of t) tasks.entries.items
     ≡ changed_at nat_cmp p (λ x. record x { answer = answer }) (each_value (task_of t) a.tasks.entries.items))
     → crew ≡ record a.crew { crew = set_waits p nothing a.crew.crew }
-    → body_of ts (record a { tasks = tasks; crew = crew }) ≡ told_body p answer (body_of ts a)
+    → body_with ts a.kind a.vars tasks crew ≡ told_body p answer (body_of ts a)
 answered-body ts a p answer tasks crew put waits = λ i. record (body_of ts a) { tasks = put (kind_in ts a.kind) i; crew = waits i }
 
 -- A turn
@@ -96,7 +106,7 @@ module _ (ts : TypeList) (a : Part) (p place : ℕ) (me : Uid) (e : ℕ × Doing
       → turned_of vars (rest_of (kind_in ts a.kind) w.rest) effect
       ≡ turn (kind_in ts a.kind) a.vars (rest_of (kind_in ts a.kind) e.1.rest) e.1.answer me → w.answer ≡ Go
       → (t : Turned) → turn_of me (active_of (body_of ts a)) p ≡ Some t
-      → (effect ≡ t.effect) × (body_of ts (record a { vars = vars; tasks = tasks }) ≡ turned_body p t (body_of ts a))
+      → (effect ≡ t.effect) × (body_with ts a.kind vars tasks a.crew ≡ turned_body p t (body_of ts a))
   taken-body stands found set took go_on t turns = (
     ap (λ (x : Turned). x.effect) is,
     λ i. record (body_of ts a) { vars = (is i).vars; tasks = written i },
@@ -117,30 +127,30 @@ module _ (ts : TypeList) (a : Part) (p place : ℕ) (me : Uid) (e : ℕ × Doing
 
 -- A start
 
-module _ (ts : TypeList) (a : Part) (x : Call) (it : Option Started) (st : Started) (p : ℕ) (crew : Coordination) (tasks : TaskList)
-    (doing : Doing) where
-  pub begun-body : it ≡ Some st
-      → option_map (λ (s : Started). s.call) it ≡ option_map (λ (i : Invocation). i.call) (startable a.crew.crew a.crew.queued)
-      → IfSome it (λ s. s.process ≡ least_free a.crew.crew)
-      → crew ≡ with_item (startable a.crew.crew a.crew.queued) (λ i. started_in i a.crew) a.crew
-      → p ≡ least_free a.crew.crew
+-- the invocation that was found to have started
+pub started-next : (old new : Coordination) (it : Option Started) (st : Started) → it ≡ Some st
+    → option_map (λ (s : Started). s.call) it ≡ option_map (λ (i : Invocation). i.call) (startable old.crew old.queued)
+    → IfSome it (λ s. s.process ≡ least_free old.crew)
+    → new ≡ with_item (startable old.crew old.queued) (λ i. started_in i old) old → StartsNext old new st
+started-next old new it st is call process after = record {
+  call = sym (ap (option_map (λ (s : Started). s.call)) is) ∙ call;
+  process = subst (λ o. IfSome o (λ s. s.process ≡ least_free old.crew)) is process;
+  after = after;
+}
+
+module _ (ts : TypeList) (a : Part) (x : Call) (st : Started) (p : ℕ) (crew : Coordination) (tasks : TaskList) (doing : Doing) where
+  pub begun-body : StartsNext a.crew crew st → p ≡ least_free a.crew.crew
       → ((t : Edentype) → each_value (task_of t) tasks.entries.items ≡ put_at nat_cmp p (task_of t doing)
       (each_value (task_of t) a.tasks.entries.items))
       → task_of (kind_in ts a.kind) doing ≡ record { rest = begin (kind_in ts a.kind) x.operation x.args; answer = Go }
-      → IsStarted (body_of ts a) (body_of ts (record a { tasks = tasks; crew = crew })) x st
-  begun-body is call process after free put begun i may = (called, number, λ j. record (body_of ts a) { tasks = tasked j; crew = crewed j })
+      → IsStarted (body_of ts a) (body_with ts a.kind a.vars tasks crew) x st
+  begun-body next free put begun i may = (called, next.process, λ j. record (body_of ts a) { tasks = tasked j; crew = crewed j })
     where
       called : st.call ≡ i.call
-      called =
-          let both : Some st.call ≡ Some i.call = sym (ap (option_map (λ (s : Started). s.call)) is) ∙ call
-          ∙ ap (option_map (λ (j : Invocation). j.call)) may in
-          cc both
-
-      number : st.process ≡ least_free a.crew.crew
-      number = subst (λ o. IfSome o (λ s. s.process ≡ least_free a.crew.crew)) is process
+      called = let both : Some st.call ≡ Some i.call = next.call ∙ ap (option_map (λ (j : Invocation). j.call)) may in cc both
 
       crewed : crew ≡ started_in i a.crew
-      crewed = after ∙ ap (λ o. with_item o (λ j. started_in j a.crew) a.crew) may
+      crewed = next.after ∙ ap (λ o. with_item o (λ j. started_in j a.crew) a.crew) may
 
       tasked : each_value (task_of (kind_in ts a.kind)) tasks.entries.items ≡ put_at nat_cmp (least_free a.crew.crew)
           (record { rest = begin (kind_in ts a.kind) x.operation x.args; answer = Go })

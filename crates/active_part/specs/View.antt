@@ -1,9 +1,10 @@
 -- The code's active part as a body.
 use Rattle.std.specs.Prelude.{◌≡◌, ◌≤◌, ◌<◌, ℕ, List, length, slice_get, Option, None, Some, IfSome}
+use Rattle.std.specs.Option.{option_map}
 use Rattle.capability.specs.declared.TheConstants.{BODY_LIMIT}
 use Rattle.coordinator.specs.declared.parts.Started.{Started}
-use Rattle.eden_model.specs.Crew.{Crew, Coordination, Invocation, Holds, startable, least_free, locked, left, waited, signalled}
-use Rattle.eden_model.specs.Map.{each_value}
+use Rattle.eden_model.specs.Crew.{Crew, Coordination, Invocation, Holds, startable, least_free, started_in, locked, left, waited, signalled}
+use Rattle.eden_model.specs.Map.{each_value, with_item}
 use Rattle.epl_syntax.specs.Edentype.{Edentype}
 use Rattle.epl_syntax.specs.Meaning.{begin}
 use Rattle.epl_syntax.specs.Rules.OfTypes.{TypeList}
@@ -13,7 +14,7 @@ use Rattle.journal.specs.World.{Task}
 use Rattle.active_part.specs.Bodies.{started_body}
 use Rattle.active_part.specs.Body.{Body}
 use Rattle.active_part.specs.declared.Doing.{Doing}
-use Rattle.active_part.specs.declared.Part.{Part}
+use Rattle.active_part.specs.declared.part.Part.{Part}
 use Rattle.active_part.specs.declared.Step.{Step}
 use Rattle.active_part.specs.declared.Step.TheVariants.{Lock, Leave, Wait, Signal}
 
@@ -51,6 +52,12 @@ MayTake crew p (Lock m) = (1 ≤ m) × (m ≤ length crew.monitors)
 MayTake crew p (Leave m) = Holds crew p m
 MayTake crew p (Wait c) = HoldsFor crew p c
 MayTake crew p (Signal c) = HoldsFor crew p c
+
+-- the invocation that may start left the queue, and runs in a process of the least free number
+pub record StartsNext (old new : Coordination) (st : Started) : Type 0 where
+  pub call : Some st.call ≡ option_map (λ i. i.call) (startable old.crew old.queued)
+  pub process : st.process ≡ least_free old.crew
+  pub after : new ≡ with_item (startable old.crew old.queued) (λ i. started_in i old) old
 
 -- the invocation that may start has begun, of which the call is this
 abbrev pub IsStarted : Body → Body → Call → Started → Type 0

@@ -7,8 +7,9 @@ ghost use Rattle.journal.specs.Ejects.{fresh, tasks_from};
 ghost use Rattle.active_part.specs.Body.{active_of};
 ghost use Rattle.active_part.specs.View.{body_of, task_of};
 
+use crate::Doing;
+use crate::part::Part;
 use crate::task_list::TaskList;
-use crate::{Doing, Part};
 use coordinator::Coordinator;
 use edentypes::{Kind, Rest, Values};
 use epl_syntax::{Answer, Types};

@@ -2,6 +2,7 @@
 #![tactic(auto)]
 
 mod fresh;
+mod part;
 mod task_list;
 
 ghost use Rattle.std.specs.Prelude.{◌≡◌, ◌≤◌, ◌<◌, ◌↔◌, true, IsTrue, IfOk, OnOk, OnErr, IsSome, IfSome, length, Some, []};
@@ -19,7 +20,7 @@ ghost use Rattle.journal.specs.Processes.{turn_of};
 ghost use Rattle.active_part.specs.Body.{active_of, calls_of};
 ghost use Rattle.active_part.specs.Bodies.{joined_body, turned_body, ended_body, told_body, asking_body, crewed_body, serves_of};
 ghost use Rattle.active_part.specs.View.{IsEncoded};
-ghost use Rattle.active_part.specs.View.{body_of, coordination_of, stepped, HoldsFor, MayTake, IsStarted};
+ghost use Rattle.active_part.specs.View.{body_of, coordination_of, stepped, HoldsFor, MayTake, IsStarted, StartsNext};
 
 use capability::{Body, Uid};
 use coordinator::{Coordinator, Parts, Started};
@@ -28,9 +29,9 @@ use eden_value::{Items, Status};
 use edentypes::{Kind, Rest, Values, begin, rep};
 use epl_syntax::{Answer, Effect, Types};
 use invocation::Call;
+pub use part::Part;
 use std::alloc::{AllocError, Global};
 use std::mem::replace;
-use task_list::TaskList;
 
 /// What a process is to do, and what its next turn is told.
 #[derive(Drop)]
@@ -46,17 +47,6 @@ pub enum Step {
     Leave { monitor: u8 },
     Wait { condition: u8 },
     Signal { condition: u8 },
-}
-
-/// The type of an active Eject, the values of its variables, and its processes.
-///
-/// Contracts see it as a body, by the types of the script (`body_of`).
-#[derive(Drop)]
-pub struct Part {
-    kind: Kind,
-    vars: Values,
-    tasks: TaskList,
-    crew: Coordinator,
 }
 
 /// No values.
@@ -123,6 +113,19 @@ fn take_turn(
     Ok(effect)
 }
 
+// The invocation that may start leaves the queue and runs. A refusal changes nothing.
+fn start_next(crew: &mut Coordinator) -> Result<Started, AllocError>
+    requires may { IsSome (startable crew.old.crew crew.old.queued) }
+    ensures started { IfOk result (StartsNext crew.old crew.new) }
+    ensures unchanged { OnErr result (crew.new ≡ crew.old) }
+{
+    match crew.start() {
+        Ok(Some(started)) => Ok(started),
+        Ok(None) => unreachable!(),
+        Err(_) => Err(AllocError),
+    }
+}
+
 impl Part {
     /// The invocation that may start leaves the queue and runs. A refusal changes nothing.
     pub fn start(
@@ -142,12 +145,11 @@ impl Part {
             answer: Answer::Go,
         };
         self.tasks.add(process, doing)?;
-        match self.crew.start() {
-            Ok(Some(started)) => Ok(started),
-            Ok(None) => unreachable!(),
-            Err(_) => {
+        match start_next(&mut self.crew) {
+            Ok(started) => Ok(started),
+            Err(refused) => {
                 self.tasks.remove(process);
-                Err(AllocError)
+                Err(refused)
             }
         }
     }
@@ -160,18 +162,16 @@ impl Part {
         process: u8,
         me: Uid,
     ) -> Result<Effect, AllocError>
+        requires { Runs (coordination_of self.old).crew process }
         ensures turned { IfOk result (λ e. (t : Turned) → turn_of me (active_of (body_of types.now self.old)) process ≡ Some t
             → (e ≡ t.effect) × (body_of types.now self.new ≡ turned_body process t (body_of types.now self.old))) }
         ensures crew { coordination_of self.new ≡ coordination_of self.old }
     {
-        match self.tasks.find(process) {
-            Some(place) => {
-                let (_, doing) = &mut self.tasks.entries[place];
-                let effect = take_turn(alloc, types, self.kind, &mut self.vars, doing, me)?;
-                Ok(effect)
-            }
-            None => Err(AllocError),
-        }
+        self.crew.processes_ascend();
+        let place = self.tasks.find(process);
+        let (_, doing) = &mut self.tasks.entries[place];
+        let effect = take_turn(alloc, types, self.kind, &mut self.vars, doing, me)?;
+        Ok(effect)
     }
 
     /// The bytes that are to be kept of the Eject as it is now. None where they are too many.
@@ -208,22 +208,19 @@ impl Part {
         if !self.crew.awaits(process) {
             return Err(AllocError);
         }
-        self.tasks.answer(process, answer)?;
+        self.crew.processes_ascend();
+        self.tasks.answer(process, answer);
         self.crew.resume(process);
         Ok(())
     }
 
-    /// A process that runs is told at once. A refusal changes nothing.
-    pub fn tell_at_once(&mut self, process: u8, answer: Answer) -> Result<(), AllocError>
-        ensures after { OnOk result ((ts : TypeList) → body_of ts self.new ≡ told_body process answer (body_of ts self.old)) }
-        ensures runs { OnOk result ((ts : TypeList) → Runs (body_of ts self.old).crew.crew process) }
-        ensures unchanged { OnErr result ((ts : TypeList) → body_of ts self.new ≡ body_of ts self.old) }
+    /// A process that runs is told at once.
+    pub fn tell_at_once(&mut self, process: u8, answer: Answer)
+        requires { Runs (coordination_of self.old).crew process }
+        ensures { (ts : TypeList) → body_of ts self.new ≡ told_body process answer (body_of ts self.old) }
     {
-        if !self.crew.runnable(process) {
-            return Err(AllocError);
-        }
         self.crew.processes_ascend();
-        self.tasks.answer(process, answer)
+        self.tasks.answer(process, answer);
     }
 
     /// A process that runs waits for a reply or for the store.
@@ -234,28 +231,19 @@ impl Part {
         self.crew.block(process);
     }
 
-    /// A process that runs waits for a call that it made, or is told at once. A refusal changes nothing.
-    pub fn ask(
-        &mut self,
-        alloc: Global,
-        process: u8,
-        at_once: Option<Status>,
-    ) -> Result<(), AllocError>
+    /// A process that runs waits for a call that it made, or is told at once.
+    pub fn ask(&mut self, alloc: Global, process: u8, at_once: Option<Status>)
         requires { Runs (coordination_of self.old).crew process }
-        ensures after { OnOk result ((ts : TypeList) → body_of ts self.new ≡ asking_body process at_once (body_of ts self.old)) }
-        ensures unchanged { OnErr result ((ts : TypeList) → body_of ts self.new ≡ body_of ts self.old) }
+        ensures { (ts : TypeList) → body_of ts self.new ≡ asking_body process at_once (body_of ts self.old) }
     {
         match at_once {
-            None => {
-                self.block(process);
-                Ok(())
-            }
+            None => self.block(process),
             Some(status) => {
                 let answer = Answer::Reply {
                     status,
                     results: no_items(alloc),
                 };
-                self.tell_at_once(process, answer)
+                self.tell_at_once(process, answer);
             }
         }
     }

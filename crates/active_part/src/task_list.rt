@@ -1,10 +1,10 @@
 //! What the processes of an Eject are to do.
-ghost use Rattle.std.specs.Prelude.{◌≡◌, ◌≤◌, ◌<◌, ◌==◌, ℕ, not, IfOk, IfSome, OnOk, OnErr, length, slice_index_or, []};
+ghost use Rattle.std.specs.Prelude.{◌≡◌, ◌≤◌, ◌<◌, ◌==◌, ℕ, not, true, false, IfOk, OnOk, OnErr, length, slice_index_or, []};
 ghost use Rattle.std.specs.List.{list_any};
 ghost use Rattle.std.specs.Ordering.{nat_cmp};
 ghost use Rattle.eden_model.specs.Map.{changed_at, put_at, each_value, where_key};
 ghost use Rattle.epl_syntax.specs.Edentype.{Edentype};
-ghost use Rattle.active_part.specs.Places.{StandsAt};
+ghost use Rattle.active_part.specs.Places.{Ascend, StandsAt, is_number_in, keys};
 ghost use Rattle.active_part.specs.View.{task_of};
 
 use crate::Doing;
@@ -31,13 +31,6 @@ fn place_of(entries: &[(u8, Doing)], process: u8) -> usize
     entries.len()
 }
 
-/// Whether the process has something to do.
-fn has_task(entries: &[(u8, Doing)], process: u8) -> bool
-    ensures { result ≡ list_any (λ e. e.0 == process) entries.now }
-{
-    entries.iter().any(|entry| entry.0 == process)
-}
-
 impl TaskList {
     /// No tasks, with room for this many.
     pub fn with_capacity(alloc: Global, count: usize) -> Result<TaskList, AllocError>
@@ -48,34 +41,29 @@ impl TaskList {
     }
 
     /// The place of the process's task.
-    pub fn find(&self, process: u8) -> Option<usize>
-        ensures { IfSome result (λ place. StandsAt process place self.now.entries.items) }
+    pub fn find(&self, process: u8) -> usize
+        requires ascend { Ascend 0 (keys self.now.entries.items) }
+        requires there { is_number_in process (keys self.now.entries.items) ≡ true }
+        ensures { StandsAt process result self.now.entries.items }
     {
-        let place = place_of(&self.entries, process);
-        if place < self.entries.len() && self.entries[place].0 == process {
-            Some(place)
-        } else {
-            None
-        }
+        place_of(&self.entries, process)
     }
 
     /// The next turn of the process is told this.
-    pub fn answer(&mut self, process: u8, answer: Answer) -> Result<(), AllocError>
-        ensures after { OnOk result ((t : Edentype) → each_value (task_of t) self.new.entries.items
-            ≡ changed_at nat_cmp process (λ x. record x { answer = answer }) (each_value (task_of t) self.old.entries.items)) }
-        ensures unchanged { OnErr result (self.new.entries.items ≡ self.old.entries.items) }
+    pub fn answer(&mut self, process: u8, answer: Answer)
+        requires ascend { Ascend 0 (keys self.old.entries.items) }
+        requires there { is_number_in process (keys self.old.entries.items) ≡ true }
+        ensures after { (t : Edentype) → each_value (task_of t) self.new.entries.items
+            ≡ changed_at nat_cmp process (λ x. record x { answer = answer }) (each_value (task_of t) self.old.entries.items) }
+        ensures numbers { keys self.new.entries.items ≡ keys self.old.entries.items }
     {
-        match self.find(process) {
-            Some(place) => {
-                self.entries[place].1.answer = answer;
-                Ok(())
-            }
-            None => Err(AllocError),
-        }
+        let place = self.find(process);
+        self.entries[place].1.answer = answer;
     }
 
     /// A process that had nothing to do has this to do. Without it the others have what they had.
     pub fn add(&mut self, process: u8, doing: Doing) -> Result<(), AllocError>
+        requires { is_number_in process (keys self.old.entries.items) ≡ false }
         ensures after { OnOk result ((t : Edentype) → each_value (task_of t) self.new.entries.items
             ≡ put_at nat_cmp process (task_of t doing) (each_value (task_of t) self.old.entries.items)) }
         ensures others { OnOk result ((t : Edentype)
@@ -83,9 +71,6 @@ impl TaskList {
             ≡ each_value (task_of t) self.old.entries.items) }
         ensures unchanged { OnErr result (self.new.entries.items ≡ self.old.entries.items) }
     {
-        if has_task(&self.entries, process) {
-            return Err(AllocError);
-        }
         self.entries.reserve_exact(1)?;
         let place = place_of(&self.entries, process);
         self.entries.insert(place, (process, doing))?;

@@ -21,6 +21,7 @@ use Rattle.passive_store.specs.Kept.{IsEject}
 use Rattle.passive_store.specs.Seen.{Seen}
 use Rattle.ejects.specs.View.{parts_of}
 use Rattle.ejects.specs.declared.Ejects.{Ejects}
+use Rattle.ejects.proofs.Noting.{AllAsleep, blank-asleep, notes-asleep}
 use Rattle.eden_kernel.specs.Boots.{HasNoted, IsLater, standing_as, is_before, rank_of}
 
 -- 1. The order of uids
@@ -158,6 +159,7 @@ module _ (k e : ℕ) (kept : Kept) where
 pub record IsListing (tells : Bool) (k e : ℕ) (x : Seen) (ejects : Ejects) (next : Option Uid) : Type 0 where
   pub own : IfSome next (IsEject x.node)
   pub fits : IfSome next (λ v. rank_of v < 18446744073709551616)
+  pub asleep : (ts : TypeList) → AllAsleep (parts_of ts ejects)
   pub noted : IsTrue tells → (ts : TypeList) → NotedTo k e x.kept (parts_of ts ejects) next
 
 pub fits-later : (from next : Option Uid) → IfSome next (IsLater from) → IfSome next (λ v. rank_of v < 18446744073709551616)
@@ -177,6 +179,7 @@ pub listing-first : (tells : Bool) (k e : ℕ) (x : Seen) (ejects : Ejects) (nex
 listing-first tells k e x ejects next node blank own later h = record {
   own = own;
   fits = fits-later None next later;
+  asleep = λ ts. blank-asleep k e (parts_of ts ejects) (blank ts);
   noted = λ so ts. noted-first k e x.kept (parts_of ts ejects) next (blank ts) (subst (λ j. IsNextKept j x.kept None next) node (h so));
 }
 
@@ -187,6 +190,7 @@ pub listing-more : (tells : Bool) (k e : ℕ) (x : Seen) (ejects new : Ejects) (
 listing-more tells k e x ejects new old next v node is l notes own later h = record {
   own = own;
   fits = fits-later (Some v) next later;
+  asleep = λ ts. notes-asleep v (parts_of ts ejects) (parts_of ts new) (notes ts) (l.asleep ts);
   noted = λ so ts. noted-more k e x.kept (parts_of ts ejects) (parts_of ts new) v next
       (subst (NotedTo k e x.kept (parts_of ts ejects)) is (l.noted so ts)) (notes ts)
       (subst (λ j. IsNextKept j x.kept (Some v) next) node (h so));

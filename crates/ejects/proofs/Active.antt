@@ -1,5 +1,5 @@
 -- Ejects that are active: by the code's table, and by their bodies.
-use Rattle.std.proofs.Common.{◌≡◌, ℕ, Bool, true, false, cond, List, Option, None, Some, refl, sym, ◌∙◌, ap, subst}
+use Rattle.std.proofs.Common.{◌≡◌, ℕ, Bool, true, List, Option, None, Some, refl, sym, ◌∙◌, subst}
 use Rattle.std.specs.Prelude.{◌↔◌, is_some, IsSome, IsSomeAnd, IsTrue}
 use Rattle.std.specs.Option.{option_map}
 use Rattle.std.specs.FinMap.{get, get-insert}
@@ -7,15 +7,13 @@ use Rattle.std.proofs.lemmas.Cmp.{tied_itself}
 use Rattle.capability.specs.declared.Uid.{Uid}
 use Rattle.capability.proofs.Uids.{uid_cmp_total}
 use Rattle.eden_model.specs.Crew.{Crew, Invocation, Runs, startable}
-use Rattle.eden_model.specs.Map.{same_uid}
-use Rattle.eject_table.specs.Creates.{Creates}
 use Rattle.eject_table.specs.Table.{Table, active_at, active_in, with_active}
 use Rattle.epl_syntax.specs.Rules.OfTypes.{TypeList}
 use Rattle.invocation.specs.Mail.{Mail}
 use Rattle.invocation.specs.Numbers.{item_in}
 use Rattle.active_part.specs.Body.{Body}
 use Rattle.active_part.specs.View.{body_of, coordination_of}
-use Rattle.active_part.specs.declared.Part.{Part}
+use Rattle.active_part.specs.declared.part.Part.{Part}
 use Rattle.ejects.specs.Marks.{IsReady, MayBegin, may_start}
 use Rattle.ejects.specs.Replies.{StartsAt}
 use Rattle.ejects.proofs.Leaving.{body_in}
@@ -43,16 +41,6 @@ written-may P t u a may =
     let here : get (with_active t u a).standings u ≡ Some (Some a) =
     get-insert uid_cmp_total t.standings u (Some a) u ∙ rw (tied_itself uid_cmp_total u) refl in
     subst (λ o. MayIn P (active_in o)) (sym here) may
-
--- a creation leaves those active that are
-pub created-stay : (old new : Table Part) (a : Part) (u : Uid) → Creates old new a u → (v : Uid) → IsSome (active_at old v)
-    → IsSome (active_at new v)
-created-stay old new a u made v some = subst (λ t. IsSome (active_at t v)) (sym made.after)
-    (subst (λ o. IsSome (active_in o)) (sym (get-insert uid_cmp_total old.standings u (Some a) v)) (go (same_uid v u)))
-  where
-    go : (b : Bool) → IsSome (active_in (cond b (Some (Some a)) (get old.standings v)))
-    go true = refl
-    go false = some
 
 -- 2. By its body
 

@@ -1,11 +1,10 @@
 -- An Eject that is created in the node is created at the site.
-use Rattle.std.proofs.Common.{◌≡◌, ◌≤◌, ◌<◌, ℕ, nat_le, ◌+◌, Bool, true, false, cond, List, [], Option, None, Some}
+use Rattle.std.proofs.Common.{◌≡◌, ◌≤◌, ◌<◌, ℕ, nat_le, ◌+◌, Bool, true, false, cond, List, Option, None, Some}
 use Rattle.std.proofs.Common.{refl, sym, ◌∙◌, ap, subst, arith}
-use Rattle.std.specs.Prelude.{is_some, IsTrue, IsSomeAnd, Result, Ok, Err}
-use Rattle.std.specs.List.{filter}
+use Rattle.std.specs.Prelude.{is_some, IsTrue, Result, Ok, Err}
 use Rattle.std.specs.Option.{option_map}
 use Rattle.std.specs.Ordering.{eq_by_cmp}
-use Rattle.std.specs.FinMap.{FinMap, get, insert, len, get-insert}
+use Rattle.std.specs.FinMap.{get, insert, len, get-insert}
 use Rattle.std.specs.FinMap.Entries.{find-put}
 use Rattle.std.proofs.lemmas.Bool.Decides.{nat_tests}
 use Rattle.capability.specs.declared.Uid.{Uid}
@@ -13,16 +12,15 @@ use Rattle.capability.specs.Capability.{full}
 use Rattle.capability.proofs.Uids.{uid_cmp_total, uid_cmp-IsAntisymmetric}
 use Rattle.eden_value.specs.declared.status.Status.{Status}
 use Rattle.eden_value.specs.declared.status.Status.TheVariants as status
-use Rattle.eden_model.specs.Map.{value_at, put_at, uid_cmp, with_item, same_uid}
+use Rattle.eden_model.specs.Map.{put_at, uid_cmp, with_item, same_uid}
 use Rattle.eden_model.proofs.Laws.{eq-same}
-use Rattle.eject_table.specs.Table.{Table, active_in}
-use Rattle.eject_table.specs.Creates.{Creates, Refuses}
+use Rattle.eject_table.specs.Table.{Table}
+use Rattle.eject_table.specs.Creates.{Creates}
 use Rattle.epl_syntax.specs.Edentype.{Edentype}
 use Rattle.epl_syntax.specs.Meaning.{type_of, first_values, types_in}
 use Rattle.epl_syntax.specs.Rules.OfTypes.{TypeList}
 use Rattle.epl_syntax.specs.declared.effect.Answer.{Answer}
 use Rattle.epl_syntax.specs.declared.effect.Answer.TheVariants.{Created as Made}
-use Rattle.journal.specs.declared.event.Shown.{Shown}
 use Rattle.journal.specs.declared.event.Shown.TheVariants as shown
 use Rattle.journal.specs.World.{Active, Eject, Site, eject_in, on_node}
 use Rattle.journal.specs.Ejects.{count, is_there, fresh, next_uid, newborn, with_active, born, told, tells}
@@ -31,8 +29,8 @@ use Rattle.journal.specs.Sites.{InOrder}
 use Rattle.active_part.specs.Body.{Body, active_of, calls_of}
 use Rattle.active_part.specs.Bodies.{told_body}
 use Rattle.active_part.specs.View.{body_of}
-use Rattle.active_part.specs.declared.Part.{Part}
-use Rattle.ejects.specs.Parts.{Parts, Known, known, body_at, queue_of, held_of, HasClasses, Stands}
+use Rattle.active_part.specs.declared.part.Part.{Part}
+use Rattle.ejects.specs.Parts.{Parts, Known, known, body_at, held_of, HasClasses, Stands}
 use Rattle.ejects.specs.Creations.{next_in, with_born, born_as, IsFresh, HasNewUid, IsCreated, CreatedFor}
 use Rattle.ejects.specs.View.{parts_of, with_body}
 use Rattle.ejects.specs.declared.Ejects.{Ejects}

@@ -1,20 +1,18 @@
 -- An Eject that is not active leaves the table; and what follows from how an Eject stands there.
 use Rattle.std.proofs.Common.{◌≡◌, ℕ, Bool, true, false, cond, ◌||◌, ◌&&◌, List, [], Option, None, Some, refl, sym, ◌∙◌, ap, subst}
 use Rattle.std.specs.Prelude.{is_some, IsSomeAnd}
-use Rattle.std.specs.Option.{option_map}
 use Rattle.std.specs.Ordering.{eq_by_cmp}
-use Rattle.std.specs.FinMap.{FinMap, get, remove, get-remove}
+use Rattle.std.specs.FinMap.{get, get-remove}
 use Rattle.std.proofs.lemmas.Cmp.{tied_itself}
 use Rattle.capability.specs.declared.Uid.{Uid}
 use Rattle.capability.proofs.Uids.{uid_cmp_total}
 use Rattle.eden_model.specs.Map.{value_at, uid_cmp, same_uid}
 use Rattle.eject_table.specs.Table.{Table, active_at, active_in, with_active, without_entry, standing_of, standing_at}
-use Rattle.eject_table.specs.declared.EjectStanding.{EjectStanding}
 use Rattle.eject_table.specs.declared.EjectStanding.TheVariants.{Active, Passive, Absent}
 use Rattle.epl_syntax.specs.Rules.OfTypes.{TypeList}
 use Rattle.active_part.specs.Body.{Body}
 use Rattle.active_part.specs.View.{body_of}
-use Rattle.active_part.specs.declared.Part.{Part}
+use Rattle.active_part.specs.declared.part.Part.{Part}
 use Rattle.ejects.specs.Parts.{Parts, body_at, queue_of, queue_in}
 use Rattle.ejects.specs.Passive.{HoldsPassive}
 use Rattle.ejects.specs.View.{with_body}
@@ -44,6 +42,12 @@ pub none-passive : (ts : TypeList) (o : Option (Option Part)) → standing_of o 
 none-passive ts None is = refl
 none-passive ts (Some None) is = refl
 none-passive ts (Some (Some a)) is = absurd (let bad : Active ≡ Passive = is in cc bad)
+
+-- none that is absent is there
+pub there-none : (ts : TypeList) (o : Option (Option Part)) → standing_of o ≡ Absent → is_some (body_in ts o) ≡ true → ⊥
+there-none ts None is there = let bad : false ≡ true = there in cc bad
+there-none ts (Some None) is there = let bad : Passive ≡ Absent = is in cc bad
+there-none ts (Some (Some a)) is there = let bad : Active ≡ Absent = is in cc bad
 
 -- it stays there where it is active, or noted
 pub there-active : (ts : TypeList) (o : Option (Option Part)) (stays : Bool) → standing_of o ≡ Active

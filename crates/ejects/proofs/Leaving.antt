@@ -24,7 +24,7 @@ use Rattle.ejects.specs.Parts.{Parts, queue_in, queue_of}
 use Rattle.ejects.specs.Passive.{HoldsPassive}
 use Rattle.active_part.specs.View.{body_of}
 use Rattle.ejects.specs.View.{with_body}
-use Rattle.active_part.specs.declared.Part.{Part}
+use Rattle.active_part.specs.declared.part.Part.{Part}
 use Rattle.ejects.specs.Replies.{AreOut, seconds, slept}
 use Rattle.ejects.proofs.Replying.{out-after, distinct-first, distinct-second}
 

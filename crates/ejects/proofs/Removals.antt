@@ -19,7 +19,7 @@ use Rattle.epl_syntax.specs.declared.effect.Answer.TheVariants.{Code}
 use Rattle.invocation.specs.Mail.{Mail}
 use Rattle.invocation.specs.Carries.{Carries}
 use Rattle.journal.specs.EjectChange.{kept_of}
-use Rattle.journal.specs.World.{Active, Eject, StoreRequest, Node, Site, eject_in, on_eject, on_node, on_traffic}
+use Rattle.journal.specs.World.{Active, Eject, StoreRequest, Site, eject_in, on_eject, on_node, on_traffic}
 use Rattle.journal.specs.Ejects.{with_active, with_queued, on_active, told, tells, is_kept, is_there, without_active, deactivated}
 use Rattle.journal.specs.Ejects.{turned_away}
 use Rattle.journal.specs.Settling.{written_with}
@@ -299,6 +299,16 @@ module _ (u : Uid) (n new : Parts) (m later : Mail) (y : Site) (e : Eject) (is :
         (holds-none u n new (queue_at n u) false went.parts)));
     calls = subst (Carries later) (sym (ap (λ (x : Site). x.traffic) away-is ∙ quiet)) (went.calls y.traffic carries out once);
   }
+
+-- an Eject of which a process is told stays
+pub told-there : (u : Uid) (process : Option ℕ) (why : Status) (n mid : Parts) → Told u process why n mid → is_some (n.standing u) ≡ true
+    → is_some (mid.standing u) ≡ true
+told-there u None why n mid now there = ap (λ (n : Parts). is_some (n.standing u)) now ∙ there
+told-there u (Some p) why n mid now there = go (body_at n u) now
+  where
+    go : (o : Option Body) → IsSomeAnd o (λ b. mid ≡ with_body u (told_body p (Code why) b) n) → is_some (mid.standing u) ≡ true
+    go None h = absurd h
+    go (Some b) h = ap (λ (n : Parts). is_some (n.standing u)) h ∙ rw (tied_itself uid_cmp_total u) refl
 
 -- no process was told at a passive Eject
 told-none : (n mid : Parts) (u : Uid) (process : Option ℕ) (why : Status) → Told u process why n mid → body_at mid u ≡ None → process ≡ None

@@ -1,7 +1,7 @@
 -- A passive Eject that is activated in the node is activated at the site.
 use Rattle.std.proofs.Common.{◌≡◌, ℕ, Bool, true, false, cond, List, [], ◌++◌, Option, None, Some, refl, sym, ◌∙◌, ap, subst}
 use Rattle.std.specs.Prelude.{is_some, IsSomeAnd}
-use Rattle.std.specs.List.{AllByRecursion, filter}
+use Rattle.std.specs.List.{filter}
 use Rattle.std.specs.FinMap.{get}
 use Rattle.std.specs.Option.{option_map}
 use Rattle.std.specs.Ordering.{eq_by_cmp}
@@ -12,7 +12,7 @@ use Rattle.eden_value.specs.Datum.{Datum}
 use Rattle.eden_value.specs.declared.status.Status.{Status}
 use Rattle.eden_value.specs.declared.status.Status.TheVariants as status
 use Rattle.eden_model.specs.Lines.{Distinct}
-use Rattle.eden_model.specs.Map.{value_at, uid_cmp, with_item, same_uid}
+use Rattle.eden_model.specs.Map.{value_at, uid_cmp, with_item}
 use Rattle.eden_model.specs.Traffic.{Traffic, all_replied}
 use Rattle.epl_syntax.specs.Edentype.{Edentype}
 use Rattle.epl_syntax.specs.Meaning.{values_from}
@@ -36,12 +36,11 @@ use Rattle.checkpoint.specs.Changes.{facts_of}
 use Rattle.checkpoint.specs.Starting.{StartsWith}
 use Rattle.active_part.specs.Body.{Body, active_of, calls_of}
 use Rattle.active_part.specs.View.{body_of}
-use Rattle.active_part.specs.declared.Part.{Part}
+use Rattle.active_part.specs.declared.part.Part.{Part}
 use Rattle.ejects.specs.Activations.{fitting, queued_body, AreQueued, Joins, JoinsAll, IsWoken, answer_of}
 use Rattle.ejects.specs.Parts.{Parts, Known, known, body_at, queue_in, queue_of, held_of, HasClasses, Stands, IsAt}
 use Rattle.ejects.specs.Passive.{OnlyAt}
 use Rattle.ejects.specs.Replies.{AreOut}
-use Rattle.ejects.specs.View.{with_body}
 use Rattle.ejects.proofs.Acting.{held-all-out}
 use Rattle.ejects.proofs.Delivered.{same-known, table-at, table-other}
 use Rattle.ejects.proofs.Joining.{keeps-misfits, fitting-calls, fitting-classes}

@@ -5,7 +5,7 @@ use Rattle.std.specs.Option.{option_map}
 use Rattle.epl_syntax.specs.Rules.OfTypes.{TypeList}
 use Rattle.epl_syntax.specs.Meaning.{types_in}
 use Rattle.eden_model.specs.Traffic as traffic
-use Rattle.eden_model.specs.Traffic.{Place, asked, held}
+use Rattle.eden_model.specs.Traffic.{Place, asked}
 use Rattle.invocation.specs.declared.call.Call.{Call}
 use Rattle.journal.specs.Processes.{class_of}
 use Rattle.capability.specs.declared.Uid.{Uid}
@@ -14,7 +14,7 @@ use Rattle.eden_model.specs.Map.{value_at, uid_cmp, same_uid}
 use Rattle.journal.specs.Deliveries.{misfit}
 use Rattle.eject_table.specs.Table.{active_at}
 use Rattle.active_part.specs.Body.{Body}
-use Rattle.active_part.specs.declared.Part.{Part}
+use Rattle.active_part.specs.declared.part.Part.{Part}
 use Rattle.ejects.specs.Parts.{Parts, SameNode, body_at, queue_in, held_of}
 use Rattle.active_part.specs.View.{body_of, coordination_of}
 use Rattle.eden_model.specs.Crew.{Runs}

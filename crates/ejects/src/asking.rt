@@ -58,21 +58,13 @@ impl Ejects {
     }
 
     // A process is told at once.
-    pub(crate) fn answer_at(
-        &mut self,
-        uid: Uid,
-        process: u8,
-        answer: Answer,
-    ) -> Result<(), AllocError>
-        requires { IsSome (part_at self.old uid) }
-        ensures { OnOk result ((ts : TypeList) (b : Body) → body_at (parts_of ts self.old) uid ≡ Some b
-            → parts_of ts self.new ≡ with_body uid (told_body process answer b) (parts_of ts self.old)) }
+    pub(crate) fn answer_at(&mut self, uid: Uid, process: u8, answer: Answer)
+        requires { RunsIn self.old uid process }
+        ensures { (ts : TypeList) (b : Body) → body_at (parts_of ts self.old) uid ≡ Some b
+            → parts_of ts self.new ≡ with_body uid (told_body process answer b) (parts_of ts self.old) }
     {
         match self.table.active_mut(uid) {
-            Some(part) => {
-                part.tell_at_once(process, answer)?;
-                Ok(())
-            }
+            Some(part) => part.tell_at_once(process, answer),
             None => unreachable!(),
         }
     }
@@ -105,7 +97,7 @@ impl Ejects {
                 let answer = Answer::Code {
                     status: Status::TooLarge,
                 };
-                self.answer_at(uid, process, answer)?;
+                self.answer_at(uid, process, answer);
                 Ok(())
             }
         }

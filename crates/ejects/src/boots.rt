@@ -1,12 +1,13 @@
 //! The Ejects of a node that comes up.
-ghost use Rattle.std.specs.Prelude.{IfOk, OnOk};
+ghost use Rattle.std.specs.Prelude.{◌≡◌, IfOk, None, OnOk};
 ghost use Rattle.epl_syntax.specs.Rules.OfTypes.{TypeList};
 ghost use Rattle.ejects.specs.Boots.{IsBlank, Notes};
+ghost use Rattle.ejects.specs.Parts.{body_at};
 ghost use Rattle.ejects.specs.View.{parts_of};
 
 use crate::Ejects;
 use capability::Uid;
-use eject_table::{EjectStanding, EjectTable};
+use eject_table::EjectTable;
 use std::alloc::{AllocError, Global};
 use std::collections::BTreeMap;
 
@@ -22,13 +23,11 @@ impl Ejects {
         })
     }
 
-    /// An Eject of which something is kept is passive.
+    /// An Eject that is not active, and of which something is kept, is passive.
     pub fn note(&mut self, alloc: Global, uid: Uid) -> Result<(), AllocError>
+        requires { (ts : TypeList) → body_at (parts_of ts self.old) uid ≡ None }
         ensures { OnOk result ((ts : TypeList) → Notes uid (parts_of ts self.old) (parts_of ts self.new)) }
     {
-        if let EjectStanding::Active = self.table.find(uid) {
-            return Err(AllocError);
-        }
         self.table.note_passive(alloc, uid)?;
         Ok(())
     }

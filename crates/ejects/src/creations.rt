@@ -1,17 +1,16 @@
 //! Ejects are created.
-ghost use Rattle.std.specs.Prelude.{◌≡◌, IsSome};
-ghost use Rattle.std.specs.Prelude.{IfOk, OnOk, Some};
+ghost use Rattle.std.specs.Prelude.{◌≡◌, IfOk, OnOk, Some};
 ghost use Rattle.std.specs.FinMap.{len};
-ghost use Rattle.capability.specs.declared.Uid.{Uid as Name};
 ghost use Rattle.epl_syntax.specs.Meaning.{type_of, types_in};
 ghost use Rattle.epl_syntax.specs.Rules.OfTypes.{TypeList};
 ghost use Rattle.edentypes.specs.View.{kind_in};
 ghost use Rattle.journal.specs.World.{Site};
 ghost use Rattle.active_part.specs.Body.{Body};
+ghost use Rattle.active_part.specs.Bodies.{told_body};
 ghost use Rattle.active_part.specs.View.{body_of};
 ghost use Rattle.ejects.specs.Creations.{next_in, with_born, HasNewUid, IsCreated, CreatedFor, IsFresh};
 ghost use Rattle.ejects.specs.Parts.{body_at, Stands};
-ghost use Rattle.ejects.specs.View.{part_at, parts_of};
+ghost use Rattle.ejects.specs.View.{parts_of, with_body};
 
 use crate::Ejects;
 use active_part::Part;
@@ -48,7 +47,6 @@ impl Ejects {
         ensures made { IfOk result (λ made. (ts : TypeList) → made ≡ next_in (parts_of ts self.old) (len self.old.table.standings)) }
         ensures parts { IfOk result (λ made. (ts : TypeList)
             → parts_of ts self.new ≡ with_born made (body_of ts part) (parts_of ts self.old)) }
-        ensures stay { OnOk result ((u : Name) → IsSome (part_at self.old u) → IsSome (part_at self.new u)) }
     {
         match self.table.create(alloc, part) {
             Ok(uid) => Ok(Ok(uid)),
@@ -67,14 +65,24 @@ impl Ejects {
         types: &Types,
         kind: Kind,
     ) -> Result<Result<Uid, Status>, AllocError>
-        ensures created { IfOk result (λ made. (s : Site) → HasNewUid s → Stands (parts_of types.now self.old) s
+        ensures { IfOk result (λ made. (s : Site) → HasNewUid s → Stands (parts_of types.now self.old) s
             → IsCreated (kind_in types.now kind) made (parts_of types.now self.new) s) }
-        // what is active stays so
-        ensures stay { OnOk result ((u : Name) → IsSome (part_at self.old u) → IsSome (part_at self.new u)) }
     {
         let part = new_part(alloc, types, kind)?;
         let made = self.enter_new(alloc, part)?;
         Ok(made)
+    }
+
+    // A process is told what came of its creation. It runs as before, where the new Eject stands under a uid that is new.
+    fn tell_created(&mut self, uid: Uid, process: u8, answer: Answer) -> Result<(), AllocError>
+        ensures { OnOk result ((ts : TypeList) (b : Body) → body_at (parts_of ts self.old) uid ≡ Some b
+            → parts_of ts self.new ≡ with_body uid (told_body process answer b) (parts_of ts self.old)) }
+    {
+        if !self.is_ready(uid, process) {
+            return Err(AllocError);
+        }
+        self.answer_at(uid, process, answer);
+        Ok(())
     }
 
     // A process creates an Eject of the type of this name, and is told.
@@ -86,7 +94,6 @@ impl Ejects {
         process: u8,
         type_name: &Txt,
     ) -> Result<Shown, AllocError>
-        requires { IsSome (part_at self.old uid) }
         ensures { IfOk result (λ said. (b : Body) (s : Site) → body_at (parts_of types.now self.old) uid ≡ Some b → HasNewUid s
             → Stands (parts_of types.now self.old) s
             → CreatedFor uid process type_name.now (parts_of types.now self.new) said s) }
@@ -98,11 +105,11 @@ impl Ejects {
                     status: Status::Ok,
                     cap: Some(mint(created)),
                 };
-                self.answer_at(uid, process, answer)?;
+                self.tell_created(uid, process, answer)?;
                 Ok(Shown::Created { uid: created })
             }
             Err(status) => {
-                self.answer_at(uid, process, Answer::Created { status, cap: None })?;
+                self.tell_created(uid, process, Answer::Created { status, cap: None })?;
                 Ok(Shown::Refused { status })
             }
         }

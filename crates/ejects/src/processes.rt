@@ -143,22 +143,13 @@ impl Ejects {
     }
 
     // A process waits for the call that it made, or is told at once.
-    fn ask_at(
-        &mut self,
-        alloc: Global,
-        uid: Uid,
-        process: u8,
-        at_once: Option<Status>,
-    ) -> Result<(), AllocError>
+    fn ask_at(&mut self, alloc: Global, uid: Uid, process: u8, at_once: Option<Status>)
         requires { RunsIn self.old uid process }
-        ensures { OnOk result ((ts : TypeList) (b : Body) → body_at (parts_of ts self.old) uid ≡ Some b
-            → parts_of ts self.new ≡ with_body uid (asking_body process at_once b) (parts_of ts self.old)) }
+        ensures { (ts : TypeList) (b : Body) → body_at (parts_of ts self.old) uid ≡ Some b
+            → parts_of ts self.new ≡ with_body uid (asking_body process at_once b) (parts_of ts self.old) }
     {
         match self.table.active_mut(uid) {
-            Some(part) => {
-                part.ask(alloc, process, at_once)?;
-                Ok(())
-            }
+            Some(part) => part.ask(alloc, process, at_once),
             None => unreachable!(),
         }
     }
@@ -184,7 +175,7 @@ impl Ejects {
     {
         let asker = Asker::Eject { uid, process };
         let asked = calls.ask(alloc, asker, target, operation, args, places)?;
-        self.ask_at(alloc, uid, process, asked.at_once)?;
+        self.ask_at(alloc, uid, process, asked.at_once);
         Ok(Shown::Invoke { call: asked.call })
     }
 

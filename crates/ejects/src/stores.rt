@@ -1,6 +1,6 @@
 //! What turns of the store change: processes are told how their requests ended, and Ejects of which nothing is kept go.
 ghost use Rattle.std.specs.Prelude.{◌≡◌, ◌<◌, ℕ, Bool, IsSomeAnd};
-ghost use Rattle.std.specs.Prelude.{OnOk, Option, Some, None, is_some};
+ghost use Rattle.std.specs.Prelude.{OnOk, Option, Some, None, is_some, true};
 ghost use Rattle.passive_store.specs.declared.store.Pick.{Pick};
 ghost use Rattle.epl_syntax.specs.Rules.OfTypes.{TypeList};
 ghost use Rattle.epl_syntax.specs.declared.effect.Answer.TheVariants.{Code};
@@ -92,6 +92,7 @@ impl Ejects {
 
     // Nothing is kept of an Eject any more: it goes, what ran there is answered, and then what was queued.
     fn removes(&mut self, alloc: Global, calls: &mut Calls, uid: Uid) -> Result<(), AllocError>
+        requires { (ts : TypeList) → is_some ((parts_of ts self.old).standing uid) ≡ true }
         ensures { OnOk result ((ts : TypeList) → Went uid (parts_of ts self.old) (parts_of ts self.new) calls.old calls.new) }
     {
         match self.table.find(uid) {
@@ -105,7 +106,7 @@ impl Ejects {
                 reply_all(alloc, calls, &queued, Status::Gone)?;
                 Ok(())
             }
-            EjectStanding::Absent => Err(AllocError),
+            EjectStanding::Absent => unreachable!(),
         }
     }
 

@@ -255,15 +255,19 @@ impl Bench {
         }
     }
 
+    fn note(&mut self, rt: &impl Abort, serial: u32) -> Seen {
+        let uid = uid_of(serial);
+        if self.ejects.is_active(uid) {
+            return Seen::Refused;
+        }
+        self.ejects.note(self.alloc, uid).expect(rt, "memory");
+        Seen::Done
+    }
+
     /// What comes from outside of the Ejects.
     fn hear(&mut self, rt: &impl Abort, act: Act) -> Seen {
         match act {
-            Act::Note(serial) => {
-                self.ejects
-                    .note(self.alloc, uid_of(serial))
-                    .expect(rt, "memory");
-                Seen::Done
-            }
+            Act::Note(serial) => self.note(rt, serial),
             Act::StoreEnds(serial, removal, end) => self.store_ends(rt, serial, removal, end),
             Act::Settles(serial, stays) => {
                 self.ejects.settles(uid_of(serial), stays);

@@ -9,4 +9,4 @@ returns-clause-made g c = λ so.
     let x : Seen = g.St.Store.seen c.args.self.now.store in
     IfOk-weaker c.create.result _ _ (λ made is m s fresh h.
     node-creates g.St.Store.layout c.args.types.now c.args.self.now.number x c.args.self.now.ejects c.create.new.self
-    c.args.self.now.worker m (kind_in c.args.types.now c.args.kind) made s h (is s fresh h.calls.parts)) c.create.ensures.created
+    c.args.self.now.worker m (kind_in c.args.types.now c.args.kind) made s h (is s fresh h.calls.parts)) c.create.ensures

@@ -15,6 +15,9 @@ loop-next-preserved g c =
     c.next_kept-next-in-Some.result c.in-Some.uid c.requires.number c.in-Some.is c.loop-next.invariant c.in_ok-note.ensures
     c.next_kept-next-in-Some.ensures.own c.next_kept-next-in-Some.ensures.later c.next_kept-next-in-Some.ensures.next
 
+pub note-requires : goal.note-requires
+note-requires g c = λ ts. c.loop-next.invariant.asleep ts c.in-Some.uid
+
 pub returns : goal.returns
 returns g c = λ so ts.
     let x : Seen = g.St.Store.seen c.args.store.now in

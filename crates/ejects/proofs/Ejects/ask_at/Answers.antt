@@ -10,7 +10,7 @@ pub returns : goal.returns
 returns c ts b is =
     part-changed ts c.args.self.now.table c.args.self.now.waiting.entries c.args.uid c.in-Some.part.now
     c.ask.new.self b
-    (asking_body c.args.process c.args.at_once) c.in-Some.ensures.value is (c.in_ok-ask-in-Some.ensures.after ts)
+    (asking_body c.args.process c.args.at_once) c.in-Some.ensures.value is (c.ask.ensures ts)
 
 pub ask-requires : goal.ask-requires
 ask-requires c =

@@ -245,9 +245,6 @@ returns-in-Create-clause-requests c = IfOk-weaker c.creates.result _ _ (λ said 
     (effect.Create c.in-Create.type_name) tt c.in-Create.is refl)
     c.creates.ensures
 
-pub creates-requires : goal.creates-requires
-creates-requires c = may-active (λ crew queued. Runs crew c.args.process) (part_at c.args.self.now c.args.uid) c.requires.runs
-
 pub faults-requires : goal.faults-requires
 faults-requires c = may-active (λ crew queued. Runs crew c.args.process) (part_at c.args.self.now c.args.uid) c.requires.runs
 

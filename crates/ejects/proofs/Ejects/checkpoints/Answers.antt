@@ -21,17 +21,14 @@ returns-in_ok-ask_put-in-Some-clause-parts c b is =
     ∙ ap (λ y. with_body c.args.uid y (parts_of c.args.types.now c.args.self.now))
     (sym (within-limit bytes Body (crewed_body (set_waits p outside) b) (told_body p (Code status.TooLarge) b) encoded.1))
 
-pub returns-in_ok-answer_at-in-None-clause-parts : goal.returns-in_ok-answer_at-in-None-clause-parts
-returns-in_ok-answer_at-in-None-clause-parts c b is =
+pub returns-in-None-clause-parts : goal.returns-in-None-clause-parts
+returns-in-None-clause-parts c b is =
     let p = c.args.process in
     let bytes = spelling (rep_of b.kind b.vars) in
     let encoded = subst (IsEncoded bytes) c.in-None.is (c.in_ok-body.ensures.bytes b is) in
-    c.in_ok-answer_at-in-None.ensures c.args.types.now b is
+    c.answer_at.ensures c.args.types.now b is
     ∙ ap (λ y. with_body c.args.uid y (parts_of c.args.types.now c.args.self.now))
     (sym (past-limit bytes Body (crewed_body (set_waits p outside) b) (told_body p (Code status.TooLarge) b) encoded))
 
 pub encoded_at-requires : goal.encoded_at-requires
 encoded_at-requires c = may-active (λ crew queued. Runs crew c.args.process) (part_at c.args.self.now c.args.uid) c.requires
-
-pub answer_at-requires : goal.answer_at-requires
-answer_at-requires c = may-active (λ crew queued. Runs crew c.args.process) (part_at c.args.self.now c.args.uid) c.requires

@@ -17,7 +17,7 @@ returns c ts b is =
     let number : it.call ≡ length c.args.calls.now.calls + 1 = asks.number in
     let at_once : it.at_once ≡ refused = asks.at_once in
     record {
-      parts = c.in_ok-ask_at.ensures ts b is ∙ ap
+      parts = c.ask_at.ensures ts b is ∙ ap
           (λ o. with_body c.args.uid (asking_body c.args.process o b) (parts_of ts c.args.self.now)) at_once;
       shown = ap (λ k. shown.Invoke k) number;
       calls = λ t carries. subst

@@ -1,5 +1,5 @@
 use Rattle.std.proofs.Common.{ap}
-use Rattle.active_part.specs.declared.Part.{Part}
+use Rattle.active_part.specs.declared.part.Part.{Part}
 use Rattle.eject_table.specs.Table.{Table}
 use Rattle.ejects.proofs.Noting.{standing-empty}
 use Rattle.ejects.proofs.Ejects.new.Goals as goal

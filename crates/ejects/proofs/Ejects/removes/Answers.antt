@@ -1,4 +1,4 @@
-use Rattle.std.proofs.Common.{None, sym, ◌∙◌, ap, subst}
+use Rattle.std.proofs.Common.{sym, ◌∙◌, ap, subst}
 use Rattle.std.specs.FinMap.{get}
 use Rattle.eden_model.specs.Lines.{Distinct}
 use Rattle.eden_model.specs.Map.{value_at, uid_cmp}
@@ -9,7 +9,8 @@ use Rattle.ejects.specs.Parts.{queue_of}
 use Rattle.ejects.specs.Replies.{AreOut}
 use Rattle.ejects.specs.StoreEnds.{WentAs}
 use Rattle.ejects.specs.View.{parts_of}
-use Rattle.ejects.proofs.Forgetting.{by-active, none-passive, forgotten-passive}
+use Rattle.epl_syntax.specs.Rules.OfTypes.{native_only}
+use Rattle.ejects.proofs.Forgetting.{by-active, none-passive, forgotten-passive, there-none}
 use Rattle.ejects.proofs.Leaving.{parts_with}
 use Rattle.ejects.proofs.Ejects.removes.Goals as goal
 
@@ -35,3 +36,7 @@ returns-in_ok-reply_all-in-Passive c ts =
       calls = λ t carries out once. subst (λ ks. Carries c.reply_all.new.calls (all_replied status.Gone ks t)) queue
           (c.in_ok-reply_all-in-Passive.ensures t carries (subst (AreOut t) (sym queue) out) (subst Distinct (sym queue) once));
     })
+
+pub unreachable-requires : goal.unreachable-requires
+unreachable-requires c =
+    there-none native_only (get c.args.self.now.table.standings c.args.uid) (sym c.find.ensures ∙ c.in-Absent.is) (c.requires native_only)
