@@ -170,18 +170,16 @@ where
         Ok(entry(alloc, Event::Armed { node, what }, node, clock))
     }
 
-    // The names of the shell's calls that are still open, by number. There is no memory where no further call may be asked.
+    // The names of the shell's calls that are still open, by number.
     fn open_names(&self, alloc: Global) -> Result<Names, AllocError>
         ensures { IfOk result (λ names. (t : Traffic) → Carries self.now.calls t → names ≡ names_of is_open t) }
     {
         let mut names = Vec::new(alloc);
-        for number in 1..u32::MAX {
-            let Some(call) = self.calls.call(number) else {
-                return Ok(Names { items: names });
-            };
-            list_if_open(alloc, call, &mut names)?;
+        let calls = self.calls.all();
+        for asked in calls {
+            list_if_open(alloc, asked, &mut names)?;
         }
-        Err(AllocError)
+        Ok(Names { items: names })
     }
 
     // The script ends: the calls that are still open are left.

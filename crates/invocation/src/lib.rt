@@ -127,6 +127,13 @@ impl Calls {
         call_at(&self.calls, number)
     }
 
+    /// All calls that were asked, open or closed, in the order of their numbers, which are counted from 1.
+    pub fn all(&self) -> &[Call]
+        ensures { result.now ≡ self.now.calls }
+    {
+        self.calls.as_slice()
+    }
+
     /// A new call, under the next number. It is answered at once TooLarge exactly where the
     /// arguments' spelling is longer than 65,536 bytes, else Unreachable exactly where the target's
     /// node is not reached, as where there is no such node. Otherwise its request is sent.
