@@ -12,9 +12,10 @@ use Rattle.std.specs.declared.cmp.Ordering.{Ordering}
 use Rattle.std.specs.declared.cmp.Ordering.TheVariants.{Less, Equal, Greater}
 use Rattle.std.specs.FinMap.Entries.{by_order}
 use Rattle.coordinator.specs.Ready.{AscendPast}
-use Rattle.eden_model.specs.Crew.{Process, Waiting, Monitor, Condition, Crew, entry, condition, nothing, with_waits, set_waits, set_waits_of}
-use Rattle.eden_model.specs.Crew.{set_monitor, set_condition, match_holder, locked_by, locked, left_free, left, waited, queued_at, signalled}
-use Rattle.eden_model.specs.Crew.{is_held_by, leave_held, ended, waits_at, Coordination, Invocation, startable, may_start, least_free, started_in}
+use Rattle.eden_model.specs.Crew.{Process, Waiting, Monitor, Condition, Crew, Coordination, Invocation, entry, condition, nothing}
+use Rattle.eden_model.specs.Crew.{with_waits, set_waits, set_waits_of, set_monitor, set_condition, match_holder, locked_by, locked}
+use Rattle.eden_model.specs.Crew.{left_free, left, waited, queued_at, signalled, is_held_by, leave_held, ended, waits_at}
+use Rattle.eden_model.specs.Crew.{startable, may_start, least_free, started_in}
 use Rattle.eden_model.specs.Map.{each_value, with_item, first, rest, put_at, value_at, where_key}
 use Rattle.active_part.specs.Places.{keys, is_number_in, Ascend}
 use Rattle.active_part.specs.View.{stepped}

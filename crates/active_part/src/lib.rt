@@ -199,19 +199,26 @@ impl Part {
         call
     }
 
-    /// A process is told what it waited for. A refusal changes nothing.
-    pub fn tell(&mut self, process: u8, answer: Answer) -> Result<(), AllocError>
-        ensures after { OnOk result ((ts : TypeList) → body_of ts self.new ≡ told_body process answer (body_of ts self.old)) }
-        ensures awaits { OnOk result ((ts : TypeList) → Waits (body_of ts self.old).crew.crew process outside) }
-        ensures unchanged { OnErr result ((ts : TypeList) → body_of ts self.new ≡ body_of ts self.old) }
+    /// Whether the process is there and waits for what is outside: for a reply or for the store.
+    pub fn awaits(&self, process: u8) -> bool
+        ensures { (ts : TypeList) → IsTrue result ↔ Waits (body_of ts self.now).crew.crew process outside }
+    {
+        self.crew.awaits(process)
+    }
+
+    /// A process that waits for what is outside is told what it waited for. For any other nothing changes.
+    pub fn tell(&mut self, process: u8, answer: Answer)
+        ensures told { (ts : TypeList) → Waits (body_of ts self.old).crew.crew process outside
+            → body_of ts self.new ≡ told_body process answer (body_of ts self.old) }
+        ensures other { (ts : TypeList) → (Waits (body_of ts self.old).crew.crew process outside → ⊥)
+            → body_of ts self.new ≡ body_of ts self.old }
     {
         if !self.crew.awaits(process) {
-            return Err(AllocError);
+            return;
         }
         self.crew.processes_ascend();
         self.tasks.answer(process, answer);
         self.crew.resume(process);
-        Ok(())
     }
 
     /// A process that runs is told at once.

@@ -2,6 +2,7 @@ pub mod StoreCalls
 pub mod Throughout
 pub mod Queues
 pub mod OfNode
+pub mod Answering
 pub mod Picks
 pub mod Found
 pub mod Stretches

@@ -15,7 +15,7 @@ use Rattle.passive_store.specs.declared.store.StoreRefusal.{StoreRefusal}
 use Rattle.passive_store.specs.declared.store.StoreRefusal.TheVariants as refusal
 use Rattle.passive_store.specs.Kept.{Layout, Kept, Work, Idle, Busy, Unsettled, LeavesKept, StandsThrough, doubt_in, change_in}
 use Rattle.passive_store.specs.Kept.{changes_in, is_unsettled, is_synced, IsDiskRefusal, body_at, settled as settled_kept, work_settled}
-use Rattle.passive_store.specs.Kept.{settling_of, settling_calls, Ran, IsFresh}
+use Rattle.passive_store.specs.Kept.{settling_of, settling_calls, Ran, IsFresh, unsure_in}
 use Rattle.passive_store.specs.Kept.{StoreChange}
 use Rattle.capability.specs.declared.Uid.{Uid}
 use Rattle.journal.specs.World.{Site, StoreRequest, on_node, on_traffic}
@@ -362,6 +362,12 @@ settles-none layout n s requests x y p done h settled_is f = (
     clock = omega (arith, none-made x.work settled_is, f.ran.number, f.ran.counts.clock)
 
 -- 5. All ends of a settling
+
+-- where nothing is in doubt no state is found
+pub unpicked : (w : Work) (o : Option Pick) → unsure_in w ≡ None → is_some o ≡ is_unsettled w → o ≡ None
+unpicked Idle o none is = no-pick o is
+unpicked (Busy c made left) o none is = no-pick o is
+unpicked (Unsettled c b) o none is = absurd (cc none)
 
 pub settles-to : {T : Type 0} (layout : Layout) (n : ℕ) (s : Site) (requests : List StoreRequest) (x y : Seen) (p : Option Pick) (done : T)
     → StandsNow layout n s requests x → SettlesWhole layout n x y (Ok done) p → SettlesTo layout n s requests x (Ok p) y

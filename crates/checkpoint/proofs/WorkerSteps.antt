@@ -28,13 +28,14 @@ use Rattle.eden_model.specs.Map.{first}
 use Rattle.checkpoint.specs.declared.worker.Request.{Request}
 use Rattle.checkpoint.specs.declared.worker.StoreEnd.{StoreEnd}
 use Rattle.checkpoint.specs.declared.worker.StoreEnd.TheVariants as store_end
+use Rattle.checkpoint.specs.declared.worker.Settled.{Settled}
 use Rattle.checkpoint.specs.declared.worker.StepEnd.{StepEnd}
 use Rattle.checkpoint.specs.declared.worker.StepEnd.TheVariants.{Going, Ended}
 use Rattle.checkpoint.specs.StoreStands.{StoreStands, Wrote, IsUnderWay, bytes_of_epoch}
 use Rattle.checkpoint.specs.Turns.{TurnsStore, TurnsDown, IsNextCall}
 use Rattle.passive_store.specs.Seen.{Seen, DiskSeen, Asked, Begins, TellsBehind}
 use Rattle.checkpoint.specs.Asked.{StandsNow, StepsTo, IsNextOf, IsUnderJob, EndsFirst, body_asked, request_of, made_in, requests_of}
-use Rattle.checkpoint.specs.Asked.{noted_in}
+use Rattle.checkpoint.specs.Asked.{noted_in, pick_of}
 use Rattle.checkpoint.specs.StoreCalls.{end_of_refusal}
 use Rattle.checkpoint.proofs.StoreCalls.{SettlesOnce, AdvancesOnce}
 use Rattle.checkpoint.proofs.StoreTurns.{turn-synced, turn-settled, turn-unsettled, turn-settling-stopped, turn-advanced, turn-done}
@@ -125,7 +126,8 @@ settle-going layout n s q qs x y p h f = go x.work refl
 
 pub settle-done : (layout : Layout) (n : ℕ) (s : Site) (q : Request) (qs : List Request) (x y : Seen) (p : Option Pick)
     → StandsNow layout n s (requests_of x.work (q ∷ qs)) x → SettlesOnce layout n x y (Ok progress.Done) p
-    → StepsTo layout n s (q ∷ qs) x (q ∷ qs) y (Going p)
+    → TurnsStore layout n s (request_of (made_in x.work) q) end.Part p x.disk.told x.disk.counts.clock
+    (requests_of y.work (q ∷ qs)) y.work y.kept y.more y.disk.counts.size y.disk.told y.disk.counts.clock
 settle-done layout n s q qs x y p h f = go x.work refl p refl
   where
     go : (w : Work) → x.work ≡ w → (o : Option Pick) → p ≡ o
@@ -210,11 +212,13 @@ settle-goes-on layout n s [] x y p r some at h f = absurd (omega (arith, some))
 settle-goes-on layout n s (q ∷ qs) x y p r some at h f = settle-going layout n s q qs x y p h
     (subst (λ k. SettlesOnce layout n x y (Ok k) p) at f)
 
-pub settle-picks : (layout : Layout) (n : ℕ) (s : Site) (asked : List Request) (x y : Seen) (p o : Option Pick) (r : Progress)
-    → 1 ≤ length asked → r ≡ progress.Done → o ≡ p → StandsNow layout n s (requests_of x.work asked) x → SettlesOnce layout n x y (Ok r) p
-    → StepsTo layout n s asked x asked y (Going o)
+pub settle-picks : (layout : Layout) (n : ℕ) (s : Site) (asked : List Request) (x y : Seen) (p : Option Pick) (o : Option Settled)
+    (r : Progress) → 1 ≤ length asked → r ≡ progress.Done → pick_of o ≡ p → StandsNow layout n s (requests_of x.work asked) x
+    → SettlesOnce layout n x y (Ok r) p → StepsTo layout n s asked x asked y (Going o)
 settle-picks layout n s [] x y p o r some at same h f = absurd (omega (arith, some))
-settle-picks layout n s (q ∷ qs) x y p o r some at same h f = subst (λ k. StepsTo layout n s (q ∷ qs) x (q ∷ qs) y (Going k)) (sym same)
+settle-picks layout n s (q ∷ qs) x y p o r some at same h f =
+    subst (λ k. TurnsStore layout n s (request_of (made_in x.work) q) end.Part k x.disk.told x.disk.counts.clock
+    (requests_of y.work (q ∷ qs)) y.work y.kept y.more y.disk.counts.size y.disk.told y.disk.counts.clock) (sym same)
     (settle-done layout n s q qs x y p h (subst (λ k. SettlesOnce layout n x y (Ok k) p) at f))
 
 -- 3. A job's call
@@ -672,7 +676,7 @@ pub steps-from : (layout : Layout) (n : ℕ) (s : Site) (asked left : List Reque
     → made_in y.work ≡ made_in x.work → y.disk.told ≡ x.disk.told → y.disk.counts ≡ x.disk.counts
     → StepsTo layout n s asked y left z result → StepsTo layout n s asked x left z result
 steps-from layout n s asked left x y z (Going p) made told counts t = if-some _ _ (first asked)
-    (λ q. turn-from layout n s q end.Part p x y z left made told counts) t
+    (λ q. turn-from layout n s q end.Part (pick_of p) x y z left made told counts) t
 steps-from layout n s asked left x y z
     (Ended q store_end.Done) made told counts t = turn-from layout n s q end.Done None x y z left made told counts t
 steps-from layout n s asked left x y z

@@ -1,9 +1,12 @@
 -- The requests of a worker as those of a node, and what a step of it leaves.
 use Rattle.std.specs.Prelude.{◌≡◌, ℕ, ◌+◌, ◌≤◌, Bool, false, IsTrue, List, [], ◌∷◌, map, length, Option, None, Some, IfSome}
+use Rattle.std.specs.Option.{option_map}
 use Rattle.std.specs.FinMap as finite
 use Rattle.eden_model.specs.Map.{first}
 use Rattle.eden_disk.specs.Calls.{Counts, DeviceCalls, End, Fine, AtFault, AtStop}
+use Rattle.capability.specs.declared.Uid.{Uid}
 use Rattle.passive_store.specs.declared.store.Doubt.{Doubt}
+use Rattle.passive_store.specs.declared.store.Pick.{Pick}
 use Rattle.passive_store.specs.Kept.{Layout, Kept, Work, Idle, Busy, Unsettled, doubt_in, IsEject}
 use Rattle.passive_store.specs.Kept.{StoreChange}
 use Rattle.passive_store.specs.Seen.{Seen, Asked}
@@ -17,6 +20,7 @@ use Rattle.checkpoint.specs.declared.worker.Wish.TheVariants.{Put, Delete}
 use Rattle.checkpoint.specs.declared.worker.Request.{Request}
 use Rattle.checkpoint.specs.declared.worker.StoreEnd.{StoreEnd}
 use Rattle.checkpoint.specs.declared.worker.StoreEnd.TheVariants as store_end
+use Rattle.checkpoint.specs.declared.worker.Settled.{Settled}
 use Rattle.checkpoint.specs.declared.worker.StepEnd.{StepEnd}
 use Rattle.checkpoint.specs.declared.worker.StepEnd.TheVariants.{Going, Ended}
 
@@ -71,12 +75,28 @@ abbrev pub noted_in : Option StoreChange → Kept → Option Doubt
 noted_in None kept = None
 noted_in (Some c) kept = Some (record { uid = c.uid; mark = finite.get kept.marks c.uid })
 
--- 3. A step
+-- 3. What a settling found
+
+-- which of the two states
+abbrev pub pick_of : Option Settled → Option Pick
+pick_of found = option_map (λ x. x.pick) found
+
+-- it is told of the Eject that was in doubt
+abbrev pub IsOfDoubted : Option Uid → Option Settled → Type 0
+IsOfDoubted doubted found = IfSome found (λ x. doubted ≡ Some x.uid)
+
+-- and in a step
+abbrev pub TellsWhose : Option Uid → StepEnd → Type 0
+TellsWhose doubted (Going found) = IsOfDoubted doubted found
+TellsWhose doubted (Ended q e) = Unit {0}
+
+-- 4. A step
 
 -- the first request ended so, or goes on, and may have picked: the node's turn
 abbrev pub StepsTo : Layout → ℕ → Site → List Request → Seen → List Request → Seen → StepEnd → Type 0
-StepsTo layout n s asked x left y (Going p) = IfSome (first asked) (λ q. TurnsStore layout n s (request_of (made_in x.work) q) end.Part p
-    x.disk.told x.disk.counts.clock (requests_of y.work left) y.work y.kept y.more y.disk.counts.size y.disk.told y.disk.counts.clock)
+StepsTo layout n s asked x left y (Going found) = IfSome (first asked) (λ q. TurnsStore layout n s (request_of (made_in x.work) q) end.Part
+    (pick_of found) x.disk.told x.disk.counts.clock (requests_of y.work left) y.work y.kept y.more y.disk.counts.size y.disk.told
+    y.disk.counts.clock)
 StepsTo layout n s asked x left y (Ended q store_end.Done) = TurnsStore layout n s (request_of (made_in x.work) q) end.Done None
     x.disk.told x.disk.counts.clock (requests_of y.work left) y.work y.kept y.more y.disk.counts.size y.disk.told y.disk.counts.clock
 StepsTo layout n s asked x left y (Ended q store_end.Full) = TurnsStore layout n s (request_of (made_in x.work) q) end.Full None
@@ -109,7 +129,7 @@ abbrev pub MakesCall : Layout → List Request → Seen → List Request → See
 MakesCall layout asked x left y result = (s : Site) (w : Work) (more : ℕ) → IsUnderJob layout x.node s asked x w more
     → StepsTo layout x.node s asked x left y result
 
--- 4. How the queue of a worker goes on
+-- 5. How the queue of a worker goes on
 
 -- the first request ended so
 abbrev pub EndsFirst : List Request → List Request → StoreEnd → StepEnd → Type 0
@@ -133,12 +153,17 @@ abbrev pub KeepsPower : Counts → StepEnd → Type 0
 KeepsPower counts (Going p) = IsTrue counts.power
 KeepsPower counts (Ended q e) = PowerBehind e counts
 
+-- a job that has begun goes on until its request ends
+abbrev pub StaysBegun : Bool → StepEnd → Type 0
+StaysBegun begun (Going p) = IsTrue begun
+StaysBegun begun (Ended q e) = Unit {0}
+
 -- behind the end of the first request no job goes on
 abbrev pub EndsJob : Bool → StepEnd → Type 0
 EndsJob busy (Going p) = Unit {0}
 EndsJob busy (Ended q e) = busy ≡ false
 
--- 5. Its device call
+-- 6. Its device call
 
 -- how the last device call ended of a request that ended so
 abbrev pub call_end : StoreEnd → End

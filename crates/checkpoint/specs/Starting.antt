@@ -22,7 +22,8 @@ use Rattle.checkpoint.specs.Changes.{facts_in}
 use Rattle.checkpoint.specs.Stretch.{Stretch}
 use Rattle.checkpoint.specs.StoreStands.{state_of, NodeOnDisk}
 use Rattle.checkpoint.specs.Turns.{with_clock, RestStands}
-use Rattle.checkpoint.specs.Asked.{StandsNow, noted_in}
+use Rattle.checkpoint.specs.Asked.{StandsNow, noted_in, pick_of}
+use Rattle.checkpoint.specs.declared.worker.Settled.{Settled}
 use Rattle.checkpoint.specs.declared.start.Find.{Find}
 use Rattle.checkpoint.specs.declared.start.Find.TheVariants as find
 use Rattle.checkpoint.specs.declared.start.Start.{Start}
@@ -45,6 +46,11 @@ pub record StartsDown (layout : Layout) (n : ℕ) (s : Site) (old : Told) (befor
   pub rests : RestStands layout n y.more (with_clock y.disk.counts.clock (crashed (start_settled p s))) (noted_in (doubt_in y.work) y.kept)
       y.disk.counts.size y.disk.counts.clock y.disk.told
   pub disk : NodeOnDisk layout n s.node [] (crashed (start_settled p s)).node old before y.disk.told y.disk.counts.clock
+
+-- which state a settling found, whatever Eject it was of
+abbrev pub picks_in : {E : Type 0} → Result (Option Settled) E → Result (Option Pick) E
+picks_in (Ok found) = Ok (pick_of found)
+picks_in (Err e) = Err e
 
 -- a settling, where there is a doubt to settle; a pick comes exactly where it succeeds
 abbrev pub SettlesTo : Layout → ℕ → Site → List StoreRequest → Seen → Result (Option Pick) StoreRefusal → Seen → Type 0
@@ -101,7 +107,7 @@ call_of_find find.Fault = AtFault
 call_of_find find.Stopped = AtStop
 
 -- of one for which there was no memory none was refused
-abbrev pub call_of_finding : {E : Type 0} → Result (Find × Option Pick) E → End
+abbrev pub call_of_finding : {E : Type 0} → Result (Find × Option Settled) E → End
 call_of_finding (Ok r) = call_of_find r.0
 call_of_finding (Err e) = Fine
 
@@ -146,7 +152,7 @@ call_of_start end.Damaged = Fine
 call_of_start end.Stop = AtStop
 
 -- of one for which there was no memory none was refused
-abbrev pub call_of_starting : {S E : Type 0} → Result (Start S × Option Pick) E → End
+abbrev pub call_of_starting : {S E : Type 0} → Result (Start S × Option Settled) E → End
 call_of_starting (Ok r) = call_of_start (end_of_start r.0)
 call_of_starting (Err e) = Fine
 

@@ -11,4 +11,4 @@ pub use down::{arm, crash, noted};
 pub use law::{log_reads_by_calls, runs_stand};
 pub use start::{Start, Starter, start_from};
 pub use up::{BootFall, BootNote, boot};
-pub use worker::{Request, StepEnd, StoreEnd, Wish, Worker};
+pub use worker::{Request, Settled, StepEnd, StoreEnd, Wish, Worker};

@@ -6,21 +6,23 @@ ghost use Rattle.eden_codec.specs.Form.{IsRep};
 ghost use Rattle.epl_syntax.specs.Edentype.{Edentype};
 ghost use Rattle.epl_syntax.specs.Meaning.{started_from};
 ghost use Rattle.passive_store.specs.declared.store.StoreRefusal.TheVariants.{OutOfMemory};
-ghost use Rattle.passive_store.specs.Kept.{is_unsettled, is_busy, worked_on, end_of_store, IsDiskRefusal, body_at};
+ghost use Rattle.passive_store.specs.Kept.{is_unsettled, is_busy, unsure_in, worked_on, end_of_store, IsDiskRefusal, body_at};
 ghost use Rattle.passive_store.specs.Layout.{IsLayout};
 ghost use Rattle.journal.specs.World.{Site, StoreRequest};
 ghost use Rattle.journal.specs.Settling.{epoch_uid};
 ghost use Rattle.journal.specs.Starts.{start_of};
-ghost use Rattle.checkpoint.specs.Asked.{StandsNow};
+ghost use Rattle.checkpoint.specs.Asked.{StandsNow, pick_of, IsOfDoubted};
 ghost use Rattle.checkpoint.specs.Calls.{MakesCalls};
 ghost use Rattle.checkpoint.specs.Touches.{Touches, ReadsByCalls, calls_to_start, StartTouches, ObeyedIn, RaisesClock};
 ghost use Rattle.checkpoint.specs.Starting.{SettlesTo, ReadsTo, FindsTo, IsShort, FindsShort, call_of_finding, StartsTo, StartsNot};
 ghost use Rattle.checkpoint.specs.Starting.{call_of_find, call_of_start};
-ghost use Rattle.checkpoint.specs.Starting.{end_of_start, values_of, call_of_starting};
+ghost use Rattle.checkpoint.specs.Starting.{end_of_start, values_of, call_of_starting, picks_in};
 
+use crate::Settled;
+use crate::worker::found_of;
 use capability::{Body, Uid};
 use eden_codec::{DecodeRefusal, Rep, decode_rep};
-use passive_store::{Pick, Store, StoreRefusal};
+use passive_store::{Store, StoreRefusal};
 use std::alloc::{AllocError, Global};
 
 /// The types of which there may be Ejects, as what starts one from a representation.
@@ -66,7 +68,7 @@ enum Find {
 }
 
 // Settles the doubt, if there is one to settle.
-fn settle_first<St: Store>(store: &mut St) -> Result<Option<Pick>, StoreRefusal>
+fn settle_first<St: Store>(store: &mut St) -> Result<Option<Settled>, StoreRefusal>
     requires power { IsTrue (St.seen store.old).disk.counts.power }
     ensures node { (St.seen store.new).node ≡ (St.seen store.old).node }
     ensures more { (St.seen store.new).more ≡ (St.seen store.old).more }
@@ -83,10 +85,12 @@ fn settle_first<St: Store>(store: &mut St) -> Result<Option<Pick>, StoreRefusal>
         → (St.seen store.new).kept ≡ (St.seen store.old).kept }
     ensures settles { IsTrue St.Device.tells → (s : Site) (requests : List StoreRequest)
         → StandsNow St.layout (St.seen store.old).node s requests (St.seen store.old)
-        → SettlesTo St.layout (St.seen store.old).node s requests (St.seen store.old) result (St.seen store.new) }
+        → SettlesTo St.layout (St.seen store.old).node s requests (St.seen store.old) (picks_in result) (St.seen store.new) }
+    ensures whose { IfOk result (λ r. IsOfDoubted (unsure_in (St.seen store.old).work) r) }
 {
+    let doubted = store.unsure();
     match store.settle() {
-        Ok(()) => Ok(store.picked()),
+        Ok(()) => Ok(found_of(doubted, store.picked())),
         Err(refusal) => Err(refusal),
     }
 }
@@ -130,7 +134,7 @@ fn find_kept<St: Store>(
     alloc: Global,
     store: &mut St,
     uid: Uid,
-) -> Result<(Find, Option<Pick>), AllocError>
+) -> Result<(Find, Option<Settled>), AllocError>
     requires power { IsTrue (St.seen store.old).disk.counts.power }
     requires other { worked_on (St.seen store.old).work ≢ Option.Some uid }
     ensures node { (St.seen store.new).node ≡ (St.seen store.old).node }
@@ -148,7 +152,8 @@ fn find_kept<St: Store>(
     ensures finds { IsTrue St.Device.tells → uid ≢ epoch_uid (St.seen store.old).node
         → IfOk result (λ r. (s : Site) (requests : List StoreRequest)
         → StandsNow St.layout (St.seen store.old).node s requests (St.seen store.old)
-        → FindsTo St.layout (St.seen store.old).node s requests uid (St.seen store.old) r.0 r.1 (St.seen store.new)) }
+        → FindsTo St.layout (St.seen store.old).node s requests uid (St.seen store.old) r.0 (pick_of r.1) (St.seen store.new)) }
+    ensures whose { IfOk result (λ r. IsOfDoubted (unsure_in (St.seen store.old).work) r.1) }
     ensures none { IsTrue St.Device.tells → uid ≢ epoch_uid (St.seen store.old).node
         → IfErr result (λ r. (s : Site) (requests : List StoreRequest)
         → StandsNow St.layout (St.seen store.old).node s requests (St.seen store.old)
@@ -158,11 +163,11 @@ fn find_kept<St: Store>(
         Err(StoreRefusal::Stopped) => Ok((Find::Stopped, None)),
         Err(StoreRefusal::Failed) => Ok((Find::Fault, None)),
         Err(_) => unreachable!(),
-        Ok(pick) => match read_kept(alloc, store, uid) {
-            Ok(Some(body)) => Ok((Find::Bytes { body }, pick)),
-            Ok(None) => Ok((Find::Nothing, pick)),
-            Err(StoreRefusal::Stopped) => Ok((Find::Stopped, pick)),
-            Err(StoreRefusal::Failed) => Ok((Find::Fault, pick)),
+        Ok(settled) => match read_kept(alloc, store, uid) {
+            Ok(Some(body)) => Ok((Find::Bytes { body }, settled)),
+            Ok(None) => Ok((Find::Nothing, settled)),
+            Err(StoreRefusal::Stopped) => Ok((Find::Stopped, settled)),
+            Err(StoreRefusal::Failed) => Ok((Find::Fault, settled)),
             Err(StoreRefusal::OutOfMemory) => Err(AllocError),
             Err(_) => unreachable!(),
         },
@@ -187,7 +192,7 @@ fn start_kept<T: Starter>(
 }
 
 /// Activates an Eject on which the store does not work: settles a doubt whose request has ended, reads what is kept,
-/// and starts from it. The pick is what the settling found.
+/// and starts from it. The second part of the answer is what the settling found, and of which Eject.
 ///
 /// The want of memory comes behind the settling.
 pub fn start_from<St: Store, T: Starter>(
@@ -195,7 +200,7 @@ pub fn start_from<St: Store, T: Starter>(
     store: &mut St,
     types: &T,
     uid: Uid,
-) -> Result<(Start<T::Started>, Option<Pick>), AllocError>
+) -> Result<(Start<T::Started>, Option<Settled>), AllocError>
     requires power { IsTrue (St.seen store.old).disk.counts.power }
     requires other { worked_on (St.seen store.old).work ≢ Option.Some uid }
     ensures node { (St.seen store.new).node ≡ (St.seen store.old).node }
@@ -219,20 +224,23 @@ pub fn start_from<St: Store, T: Starter>(
         → IfOk result (λ r. (s : Site) (requests : List StoreRequest) → s.types ≡ T.types types.now
         → StandsNow St.layout (St.seen store.old).node s requests (St.seen store.old)
         → StartsTo St.layout (St.seen store.old).node s requests uid (St.seen store.old) (end_of_start r.0)
-        (values_of (T.started types.now) r.0) r.1 (St.seen store.new)) }
+        (values_of (T.started types.now) r.0) (pick_of r.1) (St.seen store.new)) }
+
+    // What the settling found is told of the Eject that was in doubt.
+    ensures whose { IfOk result (λ r. IsOfDoubted (unsure_in (St.seen store.old).work) r.1) }
     ensures none { IsTrue St.Device.tells → uid ≢ epoch_uid (St.seen store.old).node
         → IfErr result (λ r. (s : Site) (requests : List StoreRequest)
         → StandsNow St.layout (St.seen store.old).node s requests (St.seen store.old)
         → StartsNot St.layout (St.seen store.old).node s requests (St.seen store.old) (St.seen store.new)) }
 {
-    let (found, pick) = find_kept(alloc, store, uid)?;
+    let (found, settled) = find_kept(alloc, store, uid)?;
     match found {
         Find::Bytes { body } => match start_kept(alloc, types, body, uid)? {
-            Some(start) => Ok((Start::Values { start }, pick)),
-            None => Ok((Start::Damaged, pick)),
+            Some(start) => Ok((Start::Values { start }, settled)),
+            None => Ok((Start::Damaged, settled)),
         },
-        Find::Nothing => Ok((Start::Gone, pick)),
-        Find::Fault => Ok((Start::Fault, pick)),
-        Find::Stopped => Ok((Start::Stopped, pick)),
+        Find::Nothing => Ok((Start::Gone, settled)),
+        Find::Fault => Ok((Start::Fault, settled)),
+        Find::Stopped => Ok((Start::Stopped, settled)),
     }
 }

@@ -1,12 +1,13 @@
 //! The requests of a node that wait for its store, and the steps by which they are carried out.
 ghost use Rattle.std.specs.Prelude.{◌≡◌, ◌≤◌, ◌↔◌, ◌++◌, ◌∷◌, [], ℕ, Bool, IsTrue, IfOk, IfErr, OnErr, MatchResult, length, is_some, ◌||◌};
+ghost use Rattle.std.specs.Prelude.{Option, Some, None};
 ghost use Rattle.eden_disk.specs.Calls.{DeviceCalls};
-ghost use Rattle.passive_store.specs.Kept.{is_busy, is_unsettled, body_at, Idle, IsDiskRefusal};
+ghost use Rattle.passive_store.specs.Kept.{is_busy, is_unsettled, unsure_in, body_at, Idle, IsDiskRefusal};
 ghost use Rattle.passive_store.specs.Seen.{Begins};
-ghost use Rattle.checkpoint.specs.Queues.{put_of, removal_of, left_in};
+ghost use Rattle.checkpoint.specs.Queues.{put_of, removal_of, left_in, AllAnswerBut};
 ghost use Rattle.checkpoint.specs.StoreCalls.{end_of_refusal, Stays};
 ghost use Rattle.checkpoint.specs.Asked.{ask_of, body_asked, IsOfNode, AllOfNode, TakesStep, MakesCall, EndsFirst, EndsJob, QueueGoes};
-ghost use Rattle.checkpoint.specs.Asked.{KeepsPower, OneCall, end_of_step};
+ghost use Rattle.checkpoint.specs.Asked.{KeepsPower, OneCall, end_of_step, pick_of, IsOfDoubted, StaysBegun, TellsWhose};
 ghost use Rattle.checkpoint.specs.Touches.{StepTouches, ObeyedIn, RaisesClock};
 
 use capability::{Body, Uid};
@@ -48,11 +49,20 @@ pub enum StoreEnd {
     Stopped,
 }
 
+/// What a settling found.
+#[derive(Clone, Copy, Debug, PartialEq, Eq)]
+pub struct Settled {
+    /// The Eject whose change was in doubt.
+    pub uid: Uid,
+    /// The state that is there: the one before the change, or the one behind it.
+    pub pick: Pick,
+}
+
 /// What one step did.
 #[derive(Drop)]
 pub enum StepEnd {
     /// The first request goes on, and a settling before it may have found its state.
-    Going { pick: Option<Pick> },
+    Going { settled: Option<Settled> },
     /// The first request ended.
     Ended { request: Request, end: StoreEnd },
 }
@@ -92,6 +102,7 @@ impl Worker {
         ensures begun { self.new.begun ≡ self.old.begun }
         ensures of_node { (n : ℕ) → IsOfNode n (put_of uid process body) → AllOfNode n self.old.requests.items
             → AllOfNode n self.new.requests.items }
+        ensures answers { AllAnswerBut self.old.begun self.old.requests.items → AllAnswerBut self.new.begun self.new.requests.items }
     {
         self.ask(Request {
             uid,
@@ -107,6 +118,7 @@ impl Worker {
         ensures begun { self.new.begun ≡ self.old.begun }
         ensures of_node { (n : ℕ) → IsOfNode n (removal_of uid process) → AllOfNode n self.old.requests.items
             → AllOfNode n self.new.requests.items }
+        ensures answers { AllAnswerBut self.old.begun self.old.requests.items → AllAnswerBut self.new.begun self.new.requests.items }
     {
         self.ask(Request {
             uid,
@@ -120,6 +132,7 @@ impl Worker {
         ensures requests { self.new.requests.items ≡ left_in self.old.begun uid self.old.requests.items }
         ensures begun { self.new.begun ≡ self.old.begun }
         ensures of_node { (n : ℕ) → AllOfNode n self.old.requests.items → AllOfNode n self.new.requests.items }
+        ensures answers { AllAnswerBut self.old.begun self.old.requests.items → AllAnswerBut self.new.begun self.new.requests.items }
     {
         if !self.begun {
             self.requests.retain(|request| request.uid != uid);
@@ -153,6 +166,7 @@ impl Worker {
     fn end(&mut self, end: StoreEnd) -> StepEnd
         requires { 1 ≤ length self.old.requests.items }
         ensures ended { EndsFirst self.old.requests.items self.new.requests.items end result }
+        ensures whose { (doubted : Option Uid) → TellsWhose doubted result }
         ensures begun { self.new.begun ≡ Bool.false }
     {
         self.begun = false;
@@ -162,16 +176,18 @@ impl Worker {
         }
     }
 
-    // Makes the next device call of a settling.
-    fn settle<St: Store>(&mut self, store: &mut St) -> StepEnd
+    // Makes the next device call of a settling of what is in doubt of this Eject.
+    fn settle<St: Store>(&mut self, store: &mut St, uid: Uid) -> StepEnd
         requires power { IsTrue (St.seen store.old).disk.counts.power }
         requires unsettled { IsTrue (is_unsettled (St.seen store.old).work) }
+        requires whose { unsure_in (St.seen store.old).work ≡ Some uid }
         requires some { 1 ≤ length self.old.requests.items }
         requires begun { self.old.begun ≡ is_busy (St.seen store.old).work }
         ensures node { (St.seen store.new).node ≡ (St.seen store.old).node }
         ensures begun { self.new.begun ≡ is_busy (St.seen store.new).work }
         ensures steps { IsTrue St.Device.tells
             → TakesStep St.layout self.old.requests.items (St.seen store.old) self.new.requests.items (St.seen store.new) result }
+        ensures whose { TellsWhose (unsure_in (St.seen store.old).work) result }
         ensures queue { QueueGoes self.old.requests.items self.new.requests.items result }
         ensures ended { EndsJob (is_busy (St.seen store.new).work) result }
         ensures power { KeepsPower (St.seen store.new).disk.counts result }
@@ -180,9 +196,9 @@ impl Worker {
         ensures obeyed { ObeyedIn St.Device.obeys (St.seen store.old).disk (St.seen store.new).disk (end_of_step result) }
     {
         match store.settle_step() {
-            Ok(Progress::Going) => StepEnd::Going { pick: None },
+            Ok(Progress::Going) => StepEnd::Going { settled: None },
             Ok(Progress::Done) => StepEnd::Going {
-                pick: store.picked(),
+                settled: found_of(Some(uid), store.picked()),
             },
             Err(refusal) => self.end(end_of(refusal)),
         }
@@ -198,8 +214,10 @@ impl Worker {
         ensures more { (St.seen store.new).more ≡ (St.seen store.old).more }
         ensures steps { IsTrue St.Device.tells
             → MakesCall St.layout self.old.requests.items (St.seen store.old) self.new.requests.items (St.seen store.new) result }
+        ensures whose { (doubted : Option Uid) → TellsWhose doubted result }
         ensures queue { QueueGoes self.old.requests.items self.new.requests.items result }
         ensures ended { EndsJob (is_busy (St.seen store.new).work) result }
+        ensures stays { StaysBegun self.new.begun result }
         ensures power { KeepsPower (St.seen store.new).disk.counts result }
         ensures calls { OneCall (St.seen store.old).disk.counts (St.seen store.new).disk.counts result }
         ensures one { DeviceCalls 1 (St.seen store.old).disk.counts (St.seen store.new).disk.counts (end_of_step result) }
@@ -208,7 +226,7 @@ impl Worker {
         match store.advance() {
             Ok(Progress::Going) => {
                 self.begun = true;
-                StepEnd::Going { pick: None }
+                StepEnd::Going { settled: None }
             }
             Ok(Progress::Done) => self.end(StoreEnd::Done),
             Err(refusal) => self.end(end_of(refusal)),
@@ -226,6 +244,7 @@ impl Worker {
         ensures begun { self.new.begun ≡ is_busy (St.seen store.new).work }
         ensures steps { IsTrue St.Device.tells → IfOk result (λ e.
             TakesStep St.layout self.old.requests.items (St.seen store.old) self.new.requests.items (St.seen store.new) e) }
+        ensures whose { IfOk result (λ e. (doubted : Option Uid) → TellsWhose doubted e) }
         ensures queue { IfOk result (λ e. QueueGoes self.old.requests.items self.new.requests.items e) }
         ensures ended { IfOk result (λ e. EndsJob (is_busy (St.seen store.new).work) e) }
         ensures power { IfOk result (λ e. KeepsPower (St.seen store.new).disk.counts e) }
@@ -269,8 +288,12 @@ impl Worker {
         // It is the turn of the node's store.
         ensures steps { IsTrue St.Device.tells → IfOk result (λ e.
             TakesStep St.layout self.old.requests.items (St.seen store.old) self.new.requests.items (St.seen store.new) e) }
+
+        // What it tells of a settling is told of the Eject that was in doubt.
+        ensures whose { IfOk result (λ e. TellsWhose (unsure_in (St.seen store.old).work) e) }
         ensures queue { IfOk result (λ e. QueueGoes self.old.requests.items self.new.requests.items e) }
         ensures ended { IfOk result (λ e. EndsJob (is_busy (St.seen store.new).work) e) }
+        ensures stays { IsTrue self.old.begun → IfOk result (λ e. StaysBegun self.new.begun e) }
         ensures power { IfOk result (λ e. KeepsPower (St.seen store.new).disk.counts e) }
         ensures calls { IfOk result (λ e. OneCall (St.seen store.old).disk.counts (St.seen store.new).disk.counts e) }
 
@@ -288,10 +311,24 @@ impl Worker {
         if self.begun {
             return Ok(self.advance(store));
         }
-        if store.unsure().is_some() {
-            return Ok(self.settle(store));
+        if let Some(uid) = store.unsure() {
+            return Ok(self.settle(store, uid));
         }
         self.begin(alloc, store)
+    }
+}
+
+// What a settling found of the Eject that was in doubt. Where none was, nothing was found.
+pub(crate) fn found_of(doubted: Option<Uid>, pick: Option<Pick>) -> Option<Settled>
+    ensures pick { (doubted ≡ None → pick ≡ None) → pick_of result ≡ pick }
+    ensures whose { IsOfDoubted doubted result }
+{
+    match doubted {
+        None => None,
+        Some(uid) => match pick {
+            None => None,
+            Some(pick) => Some(Settled { uid, pick }),
+        },
     }
 }
 

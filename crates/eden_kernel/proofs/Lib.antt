@@ -7,6 +7,7 @@ pub mod Outcomes
 pub mod StoreLeaves
 pub mod StoreTurn
 pub mod Activating
+pub mod Asleep
 pub mod Starving
 pub mod Showing
 pub mod Created

@@ -13,7 +13,7 @@ use Rattle.journal.specs.declared.event.StartEnd.TheVariants as start_end
 use Rattle.journal.specs.declared.event.RequestEnd.TheVariants as end
 use Rattle.journal.specs.World.{Site, StoreRequest}
 use Rattle.journal.specs.Standing.{Stands, with_changes}
-use Rattle.checkpoint.specs.Asked.{StandsNow, StepsTo, requests_of, request_of, made_in}
+use Rattle.checkpoint.specs.Asked.{StandsNow, StepsTo, requests_of, request_of, made_in, pick_of}
 use Rattle.checkpoint.specs.Starting.{StartsTo, StartsNot, LeavesNode}
 use Rattle.checkpoint.specs.StoreStands.{state_of}
 use Rattle.checkpoint.specs.Stretch.{Stretch}
@@ -44,7 +44,7 @@ pub starves-stepped : (layout : Layout) (s : Site) (asked left : List Request) (
 starves-stepped layout s asked left x y u (Going p) some t = go (first asked) some t
   where
     go : (o : Option Request) → IsSomeAnd o (λ q. q.uid ≡ u)
-        → IfSome o (λ q. TurnsStore layout x.node s (request_of (made_in x.work) q) end.Part p x.disk.told x.disk.counts.clock
+        → IfSome o (λ q. TurnsStore layout x.node s (request_of (made_in x.work) q) end.Part (pick_of p) x.disk.told x.disk.counts.clock
         (requests_of y.work left) y.work y.kept y.more y.disk.counts.size y.disk.told y.disk.counts.clock)
         → Starves layout s x y
     go None some t = absurd some

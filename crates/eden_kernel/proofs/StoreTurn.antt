@@ -1,20 +1,24 @@
 -- A turn of the store: what its step leaves of the node at the site after it.
-use Rattle.std.proofs.Common.{◌≡◌, ◌≢◌, ℕ, Bool, true, false, cond, ◌&&◌, List, [], ◌∷◌, Option, None, Some, refl, sym, ap, subst, ◌∙◌}
+use Rattle.std.proofs.Common.{◌≡◌, ◌≢◌, ◌≤◌, ℕ, zero, suc, Bool, true, false, cond, ◌&&◌, ◌||◌, List, [], ◌∷◌, Option, None, Some}
+use Rattle.std.proofs.Common.{refl, sym, ap, subst, ◌∙◌, arith}
 use Rattle.std.specs.Prelude.{is_some, IsSomeAnd, IfSome, IsTrue}
 use Rattle.std.specs.Option.{option_map}
+use Rattle.std.proofs.lemmas.Cmp.{tied_itself}
 use Rattle.capability.specs.declared.Uid.{Uid}
+use Rattle.capability.proofs.Uids.{uid_cmp_total}
 use Rattle.eden_disk.specs.Calls.{Counts, DeviceCalls}
 use Rattle.eden_model.specs.Map.{with_item, first, rest, same_uid}
 use Rattle.epl_syntax.specs.Rules.OfTypes.{TypeList}
 use Rattle.invocation.specs.Mail.{Mail}
 use Rattle.passive_store.specs.declared.store.Pick.{Pick}
-use Rattle.passive_store.specs.Kept.{Layout, Work, doubt_in, is_busy, unsure_in, uid_of_change, body_at as kept_at}
+use Rattle.passive_store.specs.Kept.{Layout, Work, Idle, Busy, Unsettled, doubt_in, is_busy, unsure_in, uid_of_change, body_at as kept_at}
 use Rattle.passive_store.specs.Kept.{StoreChange}
 use Rattle.passive_store.specs.Seen.{Seen}
 use Rattle.journal.specs.declared.event.Event.TheVariants as event
 use Rattle.journal.specs.declared.event.RequestEnd.{RequestEnd}
 use Rattle.journal.specs.declared.event.RequestEnd.TheVariants as end
 use Rattle.journal.specs.World.{Eject, Site, StoreRequest, eject_in, on_node}
+use Rattle.journal.specs.Ejects.{is_kept}
 use Rattle.journal.specs.Settling.{epoch_uid, first_request, settled, settled_eject}
 use Rattle.journal.specs.Stores.{syncs, reads, unkept, without_room, calls, work_of, EndsSo, AllowsStore, doubted, removed}
 use Rattle.journal.specs.Stores.{store_turn, worked}
@@ -22,23 +26,26 @@ use Rattle.journal.specs.Stores.{Work as Works}
 use Rattle.journal.specs.Step.{AllowsAt, site_turn}
 use Rattle.history_laws.proofs.KeptTurns.{value-each}
 use Rattle.checkpoint.specs.Asked.{StandsNow, StepsTo, requests_of, request_of, made_in, body_asked, noted_in, PowerBehind, OneCall}
-use Rattle.checkpoint.specs.Asked.{call_end}
+use Rattle.checkpoint.specs.Asked.{call_end, pick_of, IsOfDoubted}
 use Rattle.checkpoint.specs.Changes.{Facts, facts_of, facts_in}
 use Rattle.checkpoint.specs.Found.{change_of}
-use Rattle.checkpoint.specs.Queues.{left_in}
-use Rattle.checkpoint.specs.StoreStands.{doubt_of}
+use Rattle.checkpoint.specs.Queues.{left_in, AllAnswerBut}
+use Rattle.checkpoint.specs.StoreStands.{doubt_of, RequestsStand}
 use Rattle.checkpoint.specs.Turns.{with_clock, with_removal, TurnsStore, TurnsDown}
 use Rattle.checkpoint.specs.declared.worker.Request.{Request}
 use Rattle.checkpoint.specs.declared.worker.Wish.{Wish}
 use Rattle.checkpoint.specs.declared.worker.Wish.TheVariants.{Put, Delete}
 use Rattle.checkpoint.specs.declared.worker.StoreEnd.{StoreEnd}
 use Rattle.checkpoint.specs.declared.worker.StoreEnd.TheVariants as store_end
+use Rattle.checkpoint.specs.declared.worker.Settled.{Settled}
 use Rattle.checkpoint.specs.declared.worker.StepEnd.TheVariants.{Going, Ended}
 use Rattle.checkpoint.specs.declared.worker.Worker.{Worker}
+use Rattle.checkpoint.proofs.Answering.{unasked-begun}
 use Rattle.checkpoint.proofs.Shifts.{dropped_if, is_active_in}
 use Rattle.active_part.specs.Body.{Body, active_of}
 use Rattle.ejects.specs.Parts.{Parts, Known, known, body_at, held_of, IsAt}
-use Rattle.ejects.specs.StoreEnds.{IsShownAs, IsFirstOf, IsFirst, SettlesAt, takes_eject, is_removal}
+use Rattle.ejects.specs.Passive.{IsKeptIn}
+use Rattle.ejects.specs.StoreEnds.{IsShownAs, KeepsUnasked, IsFirstOf, IsFirst, SettlesAt, takes_eject, is_removal}
 use Rattle.ejects.specs.View.{parts_of}
 use Rattle.ejects.specs.declared.Ejects.{Ejects}
 use Rattle.eden_kernel.specs.Boots.{IsAsleep}
@@ -60,6 +67,52 @@ first-asked w (p ∷ ps) q is = let same : p ≡ q = let e : Some p ≡ Some q =
 first-is : (layout : Layout) (n : ℕ) (s : Site) (qs : List Request) (q : Request) (x : Seen)
     → StandsNow layout n s (requests_of x.work qs) x → first qs ≡ Some q → first_request s.node ≡ Some (request_of (made_in x.work) q)
 first-is layout n s qs q x h is = ap first h.queue ∙ first-asked x.work qs q is
+
+-- what a job that has begun is to change is in doubt at its Eject
+begun-kept : (layout : Layout) (n : ℕ) (s : Site) (rs : List StoreRequest) (x : Seen) (r : StoreRequest) → StandsNow layout n s rs x
+    → first rs ≡ Some r → is_busy x.work ≡ true → IsKeptIn s r.uid true
+begun-kept layout n s rs x r h is busy = record { at = λ e found. kept e found (doubted-of e found) }
+  where
+    of-job : (w : Work) → is_busy w ≡ true → RequestsStand w x.disk.counts.size rs → is_some (doubt_of (doubt_in w) r.uid) ≡ true
+    of-job Idle busy stand = absurd (cc busy)
+    of-job (Unsettled c synced) busy stand = absurd (cc busy)
+    of-job (Busy c zero left) busy stand = absurd (let some : 1 ≤ 0 = stand.some_made in omega (arith, some))
+    of-job (Busy c (suc made) left) busy stand =
+        let both : Some stand.request ≡ Some r = sym stand.is_first ∙ is in
+        let same : stand.request ≡ r = cc both in
+        let own : r.uid ≡ c.uid = ap (λ (q : StoreRequest). q.uid) (sym same) ∙ stand.uid in
+        let itself : same_uid c.uid c.uid ≡ true = rw (tied_itself uid_cmp_total c.uid) refl in
+        ap (λ b. is_some (cond b (Some (change_of c.body)) None)) (ap (λ v. same_uid v c.uid) own ∙ itself)
+
+    doubted-of : (e : Eject) → eject_in s r.uid ≡ Some e → is_some e.doubt ≡ true
+    doubted-of e found = ap (λ (f : Facts). is_some f.1)
+        (ap facts_of (sym found) ∙ h.keeps.facts r.uid (h.keeps.ordered.not_reserved r.uid (ap is_some found)))
+        ∙ of-job x.work busy h.stand
+
+    or-doubted : (a b : Bool) → b ≡ true → (a || b) ≡ true
+    or-doubted true b is = refl
+    or-doubted false b is = is
+
+    kept : (e : Eject) → eject_in s r.uid ≡ Some e → is_some e.doubt ≡ true → is_kept e ≡ true
+    kept e found doubts = or-doubted (is_some e.kept) (is_some e.doubt) doubts
+
+-- so of the Eject of a request that answers no process something is kept, or may be
+unasked-kept : (layout : Layout) (n : ℕ) (s : Site) (asked : List Request) (q : Request) (x : Seen) (begun : Bool)
+    → StandsNow layout n s (requests_of x.work asked) x → first asked ≡ Some q → begun ≡ is_busy x.work → AllAnswerBut begun asked
+    → KeepsUnasked q.process q.uid s
+unasked-kept layout n s asked q x begun h is same all = go q.process refl
+  where
+    job : (qs : List Request) → first qs ≡ Some q → AllAnswerBut begun qs → q.process ≡ None → begun ≡ true
+    job [] at all none = absurd (let bad : None ≡ Some q = at in cc bad)
+    job (p ∷ ps) at all none =
+        let both : Some p ≡ Some q = at in
+        let one : p ≡ q = cc both in
+        unasked-begun begun p ps all (ap (λ (r : Request). r.process) one ∙ none)
+
+    go : (o : Option ℕ) → q.process ≡ o → KeepsUnasked o q.uid s
+    go None none = begun-kept layout n s (requests_of x.work asked) x (request_of (made_in x.work) q) h
+        (first-asked x.work asked q is) (sym same ∙ job asked is all none)
+    go (Some p) answers = tt
 
 pub allows-store : (s : Site) (u : Uid) (clock : ℕ) (how : RequestEnd) (p : Option Pick) (r : StoreRequest)
     → first_request s.node ≡ Some r → r.uid ≡ u → AllowsStore s r.uid how p r → AllowsAt s (event.Store u clock how p)
@@ -128,20 +181,30 @@ settles-at layout n s r asked rs x y p v h is doubts t =
     (sym (turn-is s end.Part (Some p) r is ∙ picked-turn s p r (work_of s r) t.allowed.ends) ∙ t.leads)
     (t.stands.keeps.facts v)
 
+-- what is so of the Eject that was in doubt is so of the one that a settling tells
+pub told-of : (doubted : Option Uid) (found : Option Settled) (F : Uid → Pick → Type 0) → IsOfDoubted doubted found
+    → ((v : Uid) (p : Pick) → doubted ≡ Some v → pick_of found ≡ Some p → F v p) → IfSome found (λ x. F x.uid x.pick)
+told-of doubted None F whose each = tt
+told-of doubted (Some x) F whose each = each x.uid x.pick whose refl
+
 -- 3. The first request goes on
 
 module _ (layout : Layout) (ts : TypeList) (k : ℕ) (x y : Seen) (old new : Ejects) (w later : Worker) (m mail : Mail) (reach : ℕ → Bool)
     (s : Site) (node : y.node ≡ x.node)
     (h : NodeStands layout ts (record { number = k; ejects = old; worker = w; seen = x }) m s) where
-  pub turn-goes : (u : Uid) (p : Option Pick) → IsFirstAsked w.requests.items u
-      → StepsTo layout x.node s w.requests.items x later.requests.items y (Going p)
-      → (IsFirstOf u s → ((v : Uid) (q : Pick) → unsure_in x.work ≡ Some v → p ≡ Some q → SettlesAt v (is_some (kept_at y.kept v)) q s)
-      → AllowsAt s (event.Store u y.disk.counts.clock end.Part p)
-      → IsAt (parts_of ts new) mail (site_turn reach (event.Store u y.disk.counts.clock end.Part p) s))
+  pub turn-goes : w.begun ≡ is_busy x.work → AllAnswerBut w.begun w.requests.items → (u : Uid) (found : Option Settled)
+      → IsFirstAsked w.requests.items u
+      → StepsTo layout x.node s w.requests.items x later.requests.items y (Going found) → IsOfDoubted (unsure_in x.work) found
+      → (IsFirstOf u s → IfSome found (λ z. SettlesAt z.uid (is_some (kept_at y.kept z.uid)) z.pick s)
+      → AllowsAt s (event.Store u y.disk.counts.clock end.Part (pick_of found))
+      → IsAt (parts_of ts new) mail (site_turn reach (event.Store u y.disk.counts.clock end.Part (pick_of found)) s))
       → Turns layout ts (record { number = k; ejects = new; worker = later; seen = y }) mail reach
-      (record { number = k; ejects = old; worker = w; seen = x }) s (event.Store u y.disk.counts.clock end.Part p)
-  turn-goes u p asked steps goes = go (first w.requests.items) refl asked steps
+      (record { number = k; ejects = old; worker = w; seen = x }) s (event.Store u y.disk.counts.clock end.Part (pick_of found))
+  turn-goes begun all u found asked steps whose goes = go (first w.requests.items) refl asked steps
     where
+      p : Option Pick
+      p = pick_of found
+
       go : (o : Option Request) → first w.requests.items ≡ o → IsSomeAnd o (λ q. q.uid ≡ u)
           → IfSome o (λ q. TurnsStore layout x.node s (request_of (made_in x.work) q) end.Part p x.disk.told x.disk.counts.clock
           (requests_of y.work later.requests.items) y.work y.kept y.more y.disk.counts.size y.disk.told y.disk.counts.clock)
@@ -154,11 +217,14 @@ module _ (layout : Layout) (ts : TypeList) (k : ℕ) (x y : Seen) (old new : Eje
           let is : first_request s.node ≡ Some r = first-is layout x.node s w.requests.items q x h.disk at in
           let allowed : AllowsAt s (event.Store u y.disk.counts.clock end.Part p) =
           allows-store s u y.disk.counts.clock end.Part p r is own t.allowed in
+          let kept : KeepsUnasked q.process u s =
+          subst (λ v. KeepsUnasked q.process v s) own (unasked-kept layout x.node s w.requests.items q x w.begun h.disk at begun all) in
           turns-store layout ts k x y old new w later mail reach s u y.disk.counts.clock end.Part p node allowed
-          (goes (record { request = r; is_first = is; uid = own })
+          (goes (record { request = r; is_first = is; uid = own; kept = kept })
+          (told-of (unsure_in x.work) found (λ v c. SettlesAt v (is_some (kept_at y.kept v)) c s) whose
           (λ v c doubts picked. settles-at layout x.node s r (requests_of x.work w.requests.items) rs x y c v h.disk is doubts
           (subst (λ o. TurnsStore layout x.node s r end.Part o x.disk.told x.disk.counts.clock rs y.work y.kept y.more y.disk.counts.size
-          y.disk.told y.disk.counts.clock) picked t)) allowed)
+          y.disk.told y.disk.counts.clock) picked t))) allowed)
           (leaves-store layout x.node s r end.Part p rs x y t)
           (requests-go layout x.node s r end.Part p rs x y t refl)
 
@@ -279,7 +345,8 @@ module _ (layout : Layout) (ts : TypeList) (k : ℕ) (x y : Seen) (old new : Eje
   is-first : first_request s.node ≡ Some (request_of (made_in x.work) q)
   is-first = first-is layout x.node s w.requests.items q x h.disk (ap first queue)
 
-  pub turn-ends : (e : StoreEnd) → goes_on e ≡ true → is_busy y.work ≡ false
+  pub turn-ends : w.begun ≡ is_busy x.work → AllAnswerBut w.begun w.requests.items
+      → (e : StoreEnd) → goes_on e ≡ true → is_busy y.work ≡ false
       → StepsTo layout x.node s w.requests.items x left y (Ended q e)
       → later.requests.items
       ≡ left_behind (takes_eject (asks_removal q.wish) e && is_some (body_at (parts_of ts old) q.uid)) false q.uid left
@@ -288,13 +355,16 @@ module _ (layout : Layout) (ts : TypeList) (k : ℕ) (x y : Seen) (old new : Eje
       → IsAt (parts_of ts new) mail (site_turn reach (event.Store q.uid y.disk.counts.clock (shown_as e) None) s))
       → Turns layout ts (record { number = k; ejects = new; worker = later; seen = y }) mail reach
       (record { number = k; ejects = old; worker = w; seen = x }) s (event.Store q.uid y.disk.counts.clock (shown_as e) None)
-  turn-ends e up still steps same ends =
+  turn-ends begun all e up still steps same ends =
       let r : StoreRequest = request_of (made_in x.work) q in
       let t = steps-up layout x.node s w.requests.items left x y q e up steps in
       let allowed : AllowsAt s (event.Store q.uid y.disk.counts.clock (shown_as e) None) =
       allows-store s q.uid y.disk.counts.clock (shown_as e) None r is-first refl t.allowed in
+      let kept : KeepsUnasked q.process q.uid s =
+      unasked-kept layout x.node s w.requests.items q x w.begun h.disk (ap first queue) begun all in
       turns-store layout ts k x y old new w later mail reach s q.uid y.disk.counts.clock (shown_as e) None node allowed
-      (ends (record { request = r; is_first = is-first; uid = refl; answers = refl; asks = asks-is q.wish }) (shown-up e up) allowed)
+      (ends (record { request = r; is_first = is-first; uid = refl; answers = refl; asks = asks-is q.wish; kept = kept })
+      (shown-up e up) allowed)
       (leaves-store layout x.node s r (shown_as e) None (requests_of y.work left) x y t)
       (ended-left layout x.node s w.requests.items left later.requests.items x y q (is_some (body_at (parts_of ts old) q.uid)) is-first
       (h.disk.queue ∙ ap (requests_of x.work) queue) still (active-is (parts_of ts old) s q.uid (h.calls.parts.ejects q.uid)) e up same t)

@@ -6,6 +6,7 @@ use Rattle.passive_store.specs.Kept.{Layout, is_busy}
 use Rattle.passive_store.specs.Seen.{Seen}
 use Rattle.journal.specs.World.{Site, StoreRequest}
 use Rattle.checkpoint.specs.Asked.{StandsNow, AllOfNode, requests_of}
+use Rattle.checkpoint.specs.Queues.{AllAnswerBut}
 use Rattle.checkpoint.specs.declared.worker.Worker.{Worker}
 use Rattle.ejects.specs.Parts.{IsAt}
 use Rattle.ejects.specs.View.{parts_of}
@@ -35,6 +36,7 @@ pub record IsWhole (h : Held) : Type 0 where
   pub power : IsTrue h.seen.disk.counts.power
   pub begun : h.worker.begun ≡ is_busy h.seen.work
   pub of_node : AllOfNode h.seen.node h.worker.requests.items
+  pub answers : AllAnswerBut h.worker.begun h.worker.requests.items
 
 -- The node and the calls stand for the site: its Ejects, and its store with what the disk tells.
 pub record NodeStands (layout : Layout) (ts : TypeList) (h : Held) (m : Mail) (s : Site) : Type 0 where

@@ -1,18 +1,21 @@
 //! Passive Ejects are activated.
-ghost use Rattle.std.specs.Prelude.{◌≡◌, ℕ, Bool, Option, Some, IfOk, IfErr, IfSome, IsTrue, OnOk, OnErr, is_some};
+ghost use Rattle.std.specs.Prelude.{◌≡◌, ℕ, Bool, Option, None, IfOk, IfErr, IfSome, IsTrue, OnErr, is_some};
+ghost use Rattle.capability.specs.declared.Uid.{Uid as Name};
 ghost use Rattle.epl_syntax.specs.Meaning.{types_in};
 ghost use Rattle.epl_syntax.specs.Rules.OfTypes.{TypeList};
+ghost use Rattle.passive_store.specs.declared.store.Pick.{Pick};
 ghost use Rattle.passive_store.specs.Kept.{body_at};
 ghost use Rattle.passive_store.specs.Layout.{IsLayout};
-ghost use Rattle.journal.specs.Settling.{settled};
+ghost use Rattle.journal.specs.Settling.{settled as settled_by};
 ghost use Rattle.journal.specs.Sites.{IsSoundSite};
 ghost use Rattle.journal.specs.Starts.{start_settled};
 ghost use Rattle.journal.specs.Step.{AllowsAt, site_turn, touches_start};
 ghost use Rattle.journal.specs.World.{Site};
 ghost use Rattle.journal.specs.declared.event.Event.TheVariants as event;
+ghost use Rattle.checkpoint.specs.Asked.{pick_of};
 ghost use Rattle.checkpoint.specs.Starting.{StartsWith, end_of_start, values_of};
 ghost use Rattle.checkpoint.specs.Touches.{Touches, ReadsByCalls};
-ghost use Rattle.ejects.specs.Parts.{IsAt, Stands};
+ghost use Rattle.ejects.specs.Parts.{IsAt, Stands, body_at as part_at};
 ghost use Rattle.ejects.specs.StoreEnds.{SettlesAt};
 ghost use Rattle.ejects.specs.View.{parts_of};
 ghost use Rattle.eden_kernel.specs.DiskTurns.{EndsTurn, IsWholeBehind, IsActivation, Starves, behind_start, begun_as};
@@ -24,9 +27,10 @@ ghost use Rattle.eden_kernel.specs.Stands.{held, IsWhole, NodeStands};
 ghost use Rattle.eden_kernel.specs.declared.stores.TurnEnd.TheVariants.{Up, Down};
 
 use crate::processes::is_eject;
+use crate::stores::pick_in;
 use crate::{Node, TurnEnd};
 use capability::Uid;
-use checkpoint::{Start, Starter, start_from};
+use checkpoint::{Settled, Start, Starter, start_from};
 use eden_codec::Rep;
 use eden_value::{Items, Status};
 use edentypes::Kind;
@@ -34,7 +38,7 @@ use ejects::Ejects;
 use epl_syntax::Types;
 use invocation::Calls;
 use journal::{Event, StartEnd};
-use passive_store::{Pick, Store};
+use passive_store::Store;
 use std::alloc::{AllocError, Global};
 
 /// The types of a script, as what starts an Eject from a representation.
@@ -79,25 +83,15 @@ fn end_behind(end: StartEnd) -> TurnEnd
 }
 
 // The Ejects behind a settling, by what is kept then of the one that was in doubt.
-fn settle_ejects<St: Store>(
-    ejects: &mut Ejects,
-    store: &St,
-    doubted: Option<Uid>,
-    pick: Option<Pick>,
-) -> Result<(), AllocError>
-    ensures { IsTrue St.Device.tells → OnOk result ((ts : TypeList) (s : Site) → Stands (parts_of ts ejects.old) s
-        → ((v : Uid) (p : Pick) → doubted ≡ Some v → pick ≡ Some p → SettlesAt v (is_some (body_at (St.seen store.now).kept v)) p s)
-        → Stands (parts_of ts ejects.new) (settled pick s)) }
+fn settle_ejects<St: Store>(ejects: &mut Ejects, store: &St, settled: Option<Settled>)
+    ensures stands { IsTrue St.Device.tells → (ts : TypeList) (s : Site) → Stands (parts_of ts ejects.old) s
+        → IfSome settled (λ x. SettlesAt x.uid (is_some (body_at (St.seen store.now).kept x.uid)) x.pick s)
+        → Stands (parts_of ts ejects.new) (settled_by (pick_of settled) s) }
+    ensures bodies { (ts : TypeList) (v : Name) → part_at (parts_of ts ejects.new) v ≡ part_at (parts_of ts ejects.old) v }
 {
-    match pick {
-        None => Ok(()),
-        Some(_) => {
-            let Some(uncertain) = doubted else {
-                return Err(AllocError);
-            };
-            ejects.settles(uncertain, store.holds(uncertain));
-            Ok(())
-        }
+    match settled {
+        None => {}
+        Some(found) => ejects.settles(found.uid, store.holds(found.uid)),
     }
 }
 
@@ -110,6 +104,7 @@ fn activation_ends(
     uid: Uid,
     start: Start<Begun>,
 ) -> Result<StartEnd, AllocError>
+    requires { (ts : TypeList) → part_at (parts_of ts ejects.old) uid ≡ None }
     ensures how { IfOk result (λ how. how ≡ end_of_start start) }
     ensures calls { IfOk result (λ how. behind_start how ≡ Down → calls.new ≡ calls.old) }
     ensures turn { IfOk result (λ how. (reach : ℕ → Bool) (s : Site) (p : Option Pick) → IsSoundSite s → behind_start how ≡ Up
@@ -185,11 +180,15 @@ impl<St: Store> Node<St> {
         if !is_eject(self.number, uid) {
             return Err(AllocError);
         }
-        let doubted = self.store.unsure();
         let kinds = Kinds { types };
-        let (start, pick) = start_from(alloc, &mut self.store, &kinds, uid)?;
-        settle_ejects(&mut self.ejects, &self.store, doubted, pick)?;
+        let (start, settled) = start_from(alloc, &mut self.store, &kinds, uid)?;
+        settle_ejects(&mut self.ejects, &self.store, settled);
         let end = activation_ends(alloc, types, calls, &mut self.ejects, uid, start)?;
-        Ok((Event::Activate { uid, end, pick }, end_behind(end)))
+        let event = Event::Activate {
+            uid,
+            end,
+            pick: pick_in(settled),
+        };
+        Ok((event, end_behind(end)))
     }
 }

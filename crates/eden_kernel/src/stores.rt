@@ -1,5 +1,5 @@
 //! The store takes its turns.
-ghost use Rattle.std.specs.Prelude.{◌≡◌, ◌≤◌, ◌+◌, ◌&&◌, ℕ, Bool, Some, None, IfOk, IfErr, IfSome, IsSome, IsTrue, OnOk, OnErr};
+ghost use Rattle.std.specs.Prelude.{◌≡◌, ◌≤◌, ◌+◌, ◌&&◌, ℕ, Bool, None, IfOk, IfErr, IfSome, IsSome, IsTrue, OnOk, OnErr};
 ghost use Rattle.std.specs.Prelude.{is_some, length};
 ghost use Rattle.epl_syntax.specs.Rules.OfTypes.{TypeList};
 ghost use Rattle.invocation.specs.Mail.{Mail};
@@ -9,7 +9,8 @@ ghost use Rattle.journal.specs.Step.{AllowsAt, site_turn, touches_store};
 ghost use Rattle.journal.specs.World.{Site};
 ghost use Rattle.journal.specs.declared.event.Event.TheVariants as event;
 ghost use Rattle.journal.specs.declared.event.RequestEnd.TheVariants as how_ended;
-ghost use Rattle.checkpoint.specs.Asked.{AllOfNode};
+ghost use Rattle.checkpoint.specs.Asked.{AllOfNode, pick_of};
+ghost use Rattle.checkpoint.specs.Queues.{AllAnswerBut};
 ghost use Rattle.checkpoint.specs.Touches.{TouchesOnce};
 ghost use Rattle.ejects.specs.Parts.{IsAt};
 ghost use Rattle.ejects.specs.Parts.{body_at as part_at};
@@ -26,7 +27,7 @@ ghost use Rattle.eden_kernel.specs.Stands.{held, IsWhole, NodeStands};
 
 use crate::Node;
 use capability::Uid;
-use checkpoint::{Request, StepEnd, StoreEnd, Wish, Worker};
+use checkpoint::{Request, Settled, StepEnd, StoreEnd, Wish, Worker};
 use eden_disk::Disk;
 use ejects::Ejects;
 use invocation::Calls;
@@ -100,6 +101,16 @@ fn is_removed(wish: &Wish, end: StoreEnd) -> bool
     }
 }
 
+// Which state a settling found.
+pub(crate) fn pick_in(settled: Option<Settled>) -> Option<Pick>
+    ensures { result ≡ pick_of settled }
+{
+    match settled {
+        None => None,
+        Some(found) => Some(found.pick),
+    }
+}
+
 // The event of a turn.
 fn turn_of<St: Store>(store: &St, uid: Uid, end: RequestEnd, pick: Option<Pick>) -> Event
     ensures { result ≡ event.Store uid (St.seen store.now).disk.counts.clock end pick }
@@ -113,30 +124,17 @@ fn turn_of<St: Store>(store: &St, uid: Uid, end: RequestEnd, pick: Option<Pick>)
 }
 
 // The first request goes on. A settling before it may have found what is kept of the Eject that was in doubt.
-fn request_goes<St: Store>(
-    ejects: &mut Ejects,
-    store: &St,
-    uid: Uid,
-    doubted: Option<Uid>,
-    pick: Option<Pick>,
-) -> Result<(), AllocError>
-    ensures { IsTrue St.Device.tells → OnOk result ((ts : TypeList) (m : Mail) (reach : ℕ → Bool) (clock : ℕ) (s : Site)
-        → IsAt (parts_of ts ejects.old) m s → IsFirstOf uid s
-        → ((v : Uid) (p : Pick) → doubted ≡ Some v → pick ≡ Some p → SettlesAt v (is_some (body_at (St.seen store.now).kept v)) p s)
-        → AllowsAt s (event.Store uid clock how_ended.Part pick)
-        → IsAt (parts_of ts ejects.new) m (site_turn reach (event.Store uid clock how_ended.Part pick) s)) }
+fn request_goes<St: Store>(ejects: &mut Ejects, store: &St, uid: Uid, settled: Option<Settled>)
+    ensures { IsTrue St.Device.tells → (ts : TypeList) (m : Mail) (reach : ℕ → Bool) (clock : ℕ) (s : Site)
+        → IsSoundSite s → IsAt (parts_of ts ejects.old) m s → IsFirstOf uid s
+        → IfSome settled (λ x. SettlesAt x.uid (is_some (body_at (St.seen store.now).kept x.uid)) x.pick s)
+        → AllowsAt s (event.Store uid clock how_ended.Part (pick_of settled))
+        → IsAt (parts_of ts ejects.new) m (site_turn reach (event.Store uid clock how_ended.Part (pick_of settled)) s) }
 {
-    match pick {
-        None => {
-            ejects.store_goes(uid)?;
-            Ok(())
-        }
-        Some(_) => {
-            let Some(uncertain) = doubted else {
-                return Err(AllocError);
-            };
-            ejects.settles(uncertain, store.holds(uncertain));
-            Ok(())
+    match settled {
+        None => {}
+        Some(found) => {
+            ejects.settles(found.uid, store.holds(found.uid));
         }
     }
 }
@@ -159,6 +157,7 @@ fn request_ends(
         worker.old.begun request.now.uid worker.old.requests.items) }
     ensures begun { worker.new.begun ≡ worker.old.begun }
     ensures of_node { (n : ℕ) → AllOfNode n worker.old.requests.items → AllOfNode n worker.new.requests.items }
+    ensures answers { AllAnswerBut worker.old.begun worker.old.requests.items → AllAnswerBut worker.new.begun worker.new.requests.items }
 {
     let removed = is_removed(&request.wish, end);
     let active = ejects.is_active(request.uid);
@@ -219,11 +218,10 @@ impl<St: Store> Node<St> {
         let Some(uid) = first_uid(&self.worker) else {
             unreachable!()
         };
-        let doubted = self.store.unsure();
         match self.worker.step(alloc, &mut self.store)? {
-            StepEnd::Going { pick } => {
-                request_goes(&mut self.ejects, &self.store, uid, doubted, pick)?;
-                let event = turn_of(&self.store, uid, RequestEnd::Part, pick);
+            StepEnd::Going { settled } => {
+                request_goes(&mut self.ejects, &self.store, uid, settled);
+                let event = turn_of(&self.store, uid, RequestEnd::Part, pick_in(settled));
                 Ok((event, TurnEnd::Up))
             }
             StepEnd::Ended { request, end } => {

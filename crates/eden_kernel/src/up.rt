@@ -60,6 +60,7 @@ fn passive_ejects<St: Store>(
     epoch: u32,
 ) -> Result<Ejects, AllocError>
     requires number { (St.seen store.now).node ≡ number }
+    requires within { number ≤ 8 }
     ensures { IsTrue St.Device.tells
         → IfOk result (λ n. (ts : TypeList) → HasNoted (parts_of ts n) number epoch (St.seen store.now).kept None) }
 {

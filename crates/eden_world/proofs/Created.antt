@@ -1,5 +1,5 @@
 -- An Eject is created by command: what its node and the names tell of it comes to a step of the world.
-use Rattle.std.proofs.Common.{◌≡◌, ℕ, suc, Bool, true, false, cond, List, [], ◌∷◌, Option, None, Some, Result, Ok, Err, is_some}
+use Rattle.std.proofs.Common.{◌≡◌, ℕ, suc, Bool, true, false, cond, List, [], ◌∷◌, Option, None, Some, Result, Ok, Err, is_some, ◌&&◌}
 use Rattle.std.proofs.Common.{refl, sym, ◌∙◌, ap, subst, arith, unwrap_or}
 use Rattle.std.specs.Prelude.{IfOk, IsTrue, OnErr}
 use Rattle.std.specs.Option.{option_map}
@@ -39,7 +39,7 @@ use Rattle.shell_names.specs.Events.{StandsAfter}
 use Rattle.eden_world.specs.Worlds.{IsNumber}
 use Rattle.eden_world.specs.Steps.{disk_of, Goes, TouchesNone}
 use Rattle.eden_world.specs.InHand.{in_hand, place_at, seen_at, IsWholeAt}
-use Rattle.eden_world.specs.Seated.{FitsTogether, KeepsDisks, TakesPlace, instead, station_in}
+use Rattle.eden_world.specs.Seated.{FitsTogether, KeepsDisks, TakesPlace, instead, station_at, station_in}
 use Rattle.eden_world.specs.Carried.{CarriesBy, CreatesIn, EndsStill}
 use Rattle.eden_world.specs.Creating.{MadeAt, status_of}
 use Rattle.scheduled_node.specs.Scheduled.{uid_made}
@@ -53,7 +53,7 @@ use Rattle.eden_world.proofs.Seating.{agendas-behind, eight-behind}
 use Rattle.eden_world.proofs.Setting.{set-again, set-fits, set-level, set-seated}
 use Rattle.eden_world.proofs.Shell.{creation-goes, meaning_made, unreachable-goes}
 use Rattle.eden_world.proofs.Shown.{keeps-level}
-use Rattle.eden_world.proofs.Stationed.{station-up}
+use Rattle.eden_world.proofs.Stationed.{reached-up, station-up}
 use Rattle.eden_world.proofs.TurnEntries.{IsUp, is-up}
 
 -- 1. At its node
@@ -231,17 +231,20 @@ create-unreached tells layout seen look old names name type_name n e cut after i
 
 pub made-carried : {T D : Type 0} (tells : Bool) (layout : Layout) (seen : T → Seen) (look : D → DiskSeen) (old mid : Program T D)
     (names : NameList) (name type_name : List ℕ) (n : ℕ) (made : Result Uid Status) (e : Entry) → FitsTogether seen mid
-    → MadeAt (reaches old.places 0 n) tells layout seen n type_name old mid made
+    → MadeAt (reaches old.places 0 n && is_some (station_at old n)) tells layout seen n type_name old mid made
     → StandsAfter mid.names names (command.Create name n type_name) (event.Made name (status_of made) (uid_made made))
     → e.event ≡ event.Made name (status_of made) (uid_made made) → TouchesNone e
     → CarriesBy tells layout seen look old (record mid { names = names }) (command.Create name n type_name) e
 made-carried {T = T} {D = D} tells layout seen look old mid names name type_name n made e fits creation after is none =
-    go (reaches old.places 0 n) refl creation
+    go (reaches old.places 0 n) (is_some (station_at old n)) refl refl creation
   where
-    go : (b : Bool) → reaches old.places 0 n ≡ b → MadeAt b tells layout seen n type_name old mid made
+    go : (a b : Bool) → reaches old.places 0 n ≡ a → is_some (station_at old n) ≡ b
+        → MadeAt (a && b) tells layout seen n type_name old mid made
         → CarriesBy tells layout seen look old (record mid { names = names }) (command.Create name n type_name) e
-    go true there c = create-carried tells layout seen look old mid names name type_name n made e fits c there after is none
-    go false cut (why, same) = subst (λ (p : Program T D).
+    go true true there up c = create-carried tells layout seen look old mid names name type_name n made e fits c there after is none
+    go true false there off c = λ more w reached stands fit. absurd
+        (let bad : false ≡ true = sym off ∙ reached-up tells layout seen look old (suc more) w n stands there in cc bad)
+    go false b cut at (why, same) = subst (λ (p : Program T D).
         CarriesBy tells layout seen look old (record p { names = names }) (command.Create name n type_name) e) (sym same)
         (create-unreached tells layout seen look old names name type_name n e cut
         (subst (λ r. StandsAfter old.names names (command.Create name n type_name) (event.Made name (status_of r) (uid_made r))) why
@@ -261,8 +264,9 @@ made-level tells layout seen look old mid n type_name false made (why, same) m =
 -- by the parts of which its event is made
 pub made-told : {T D : Type 0} (tells : Bool) (layout : Layout) (seen : T → Seen) (look : D → DiskSeen) (old mid : Program T D)
     (names : NameList) (name type_name : List ℕ) (n : ℕ) (made : Result Uid Status) (s : Status) (u : Option Uid) (v : Event) (e : Entry)
-    → FitsTogether seen mid → MadeAt (reaches old.places 0 n) tells layout seen n type_name old mid made → s ≡ status_of made
-    → u ≡ uid_made made → v ≡ event.Made name s u → StandsAfter mid.names names (command.Create name n type_name) v → e.event ≡ v
+    → FitsTogether seen mid → MadeAt (reaches old.places 0 n && is_some (station_at old n)) tells layout seen n type_name old mid made
+    → s ≡ status_of made → u ≡ uid_made made → v ≡ event.Made name s u → StandsAfter mid.names names (command.Create name n type_name) v
+    → e.event ≡ v
     → TouchesNone e → CarriesBy tells layout seen look old (record mid { names = names }) (command.Create name n type_name) e
 made-told tells layout seen look old mid names name type_name n made s u v e fits creation status_so uid_so its_event after is none =
     made-carried tells layout seen look old mid names name type_name n made e fits creation

@@ -1,5 +1,5 @@
 -- An enabled key is one of the node of its station.
-use Rattle.std.proofs.Common.{◌≡◌, ◌≢◌, inl, inr, ℕ, zero, suc, ◌≤◌, Bool, true, false, cond, List, [], ◌∷◌, ◌++◌, map}
+use Rattle.std.proofs.Common.{◌≡◌, ◌≢◌, inl, inr, ℕ, ◌≤◌, Bool, true, false, cond, List, [], ◌∷◌, ◌++◌, map}
 use Rattle.std.proofs.Common.{Option, None, Some, is_some, refl, sym, ◌∙◌, ap, subst, arith}
 use Rattle.std.specs.List.{AllByRecursion, Contains, filter, flat_map}
 use Rattle.std.specs.Ordering.{nat_cmp}
@@ -17,30 +17,11 @@ use Rattle.journal.specs.Sites.{IsSoundSite}
 use Rattle.history_laws.proofs.EntryLists.{all-found}
 use Rattle.runs.specs.Reached.{IsReached}
 use Rattle.scheduled_node.specs.Keys.{IsKeyOf}
+use Rattle.scheduled_node.proofs.AllOf.{append-all, flat-all, from-all, image-all}
 use Rattle.eden_world.specs.Worlds.{eight}
 use Rattle.eden_world.proofs.EightKeys.{number-of}
 
--- 1. Of each in a list
-
-pub append-all : {X : Type 0} (P : X → Type 0) (xs ys : List X) → AllByRecursion P xs → AllByRecursion P ys → AllByRecursion P (xs ++ ys)
-append-all P [] ys a b = b
-append-all P (x ∷ xs) ys a b = (a.0, append-all P xs ys a.1 b)
-
-pub flat-all : {X A : Type 0} (P : A → Type 0) (Q : X → Type 0) (f : X → List A) (xs : List X) → ((x : X) → Q x → AllByRecursion P (f x))
-    → AllByRecursion Q xs → AllByRecursion P (flat_map f xs)
-flat-all P Q f [] each all = tt
-flat-all P Q f (x ∷ xs) each all = append-all P (f x) (flat_map f xs) (each x all.0) (flat-all P Q f xs each all.1)
-
-map-all : {X A : Type 0} (P : A → Type 0) (f : X → A) (xs : List X) → ((x : X) → P (f x)) → AllByRecursion P (map f xs)
-map-all P f [] each = tt
-map-all P f (x ∷ xs) each = (each x, map-all P f xs each)
-
-pub from-all : {X : Type 0} (P : X → Type 0) (xs : List X) (x : X) → Contains xs x → AllByRecursion P xs → P x
-from-all P [] x (k, within, is) all = absurd (omega (arith, within))
-from-all P (y ∷ ys) x (zero, within, is) all = subst P is all.0
-from-all P (y ∷ ys) x (suc k, within, is) all = from-all P ys x (k, omega (arith, within), is) all.1
-
--- 2. The keys of a node
+-- 1. The keys of a node
 
 pub record IsAt (n : ℕ) (k : Key) : Type 0 where
   pub station : k.station ≡ n
@@ -85,7 +66,7 @@ module _ (s : Site) (sound : IsSoundSite s) where
 
       go : (o : Option Active) → AllByRecursion (IsAt s.number) (with_item o (ready e.0) [])
       go None = tt
-      go (Some it) = map-all (IsAt s.number) (λ q. activity e.0.node 4 e.0 q.0)
+      go (Some it) = image-all (IsAt s.number) (λ q. activity e.0.node 4 e.0 q.0)
           (filter (λ q. is_ready q.1.waits) it.crew.processes) (λ q. at q.0)
 
   storing : AllByRecursion (IsAt s.number) (store_of s)
@@ -102,7 +83,7 @@ module _ (s : Site) (sound : IsSoundSite s) where
       each-found))
       (flat-all (IsAt s.number) Found (λ (e : Uid × Eject). with_item e.1.active (ready e.0) []) s.node.ejects running each-found)) storing
 
--- 3. Of a world
+-- 2. Of a world
 
 module _ (w : World) (reached : IsReached w) (n : ℕ) where
   abbrev Fits : Key → Type 0
@@ -113,7 +94,7 @@ module _ (w : World) (reached : IsReached w) (n : ℕ) where
   fits-at m (k ∷ ks) all = ((λ at. subst (λ j. IsKeyOf j k) (sym all.0.station ∙ at) all.0.key), fits-at m ks all.1)
 
   pub deliveries-at : (m : ℕ) → AllByRecursion (IsAt m) (deliveries w m)
-  deliveries-at m = map-all (IsAt m) (delivery m) (filter (λ from. is_some (next_message w.traffic from m)) (stations w))
+  deliveries-at m = image-all (IsAt m) (delivery m) (filter (λ from. is_some (next_message w.traffic from m)) (stations w))
       (λ from. record { station = refl; key = inl refl })
 
   abbrev There : ℕ × Node → Type 0
@@ -129,7 +110,7 @@ module _ (w : World) (reached : IsReached w) (n : ℕ) where
       (flat-all Fits There (λ e. deliveries w e.0 ++ node_keys (site_of w e.0 e.1)) w.nodes at-node
       (recursion_from_All There w.nodes (all-found nat_cmp nat_cmp_total w.nodes reached.sound.place.ordered))))
 
--- 4. Of the shell
+-- 3. Of the shell
 
 -- a key of the shell is that of a delivery there
 module _ (w : World) (reached : IsReached w) (numbers : map (λ e. e.0) w.nodes ≡ eight) where
@@ -151,7 +132,7 @@ module _ (w : World) (reached : IsReached w) (numbers : map (λ e. e.0) w.nodes 
   pub shell-key : (key : Key) → Contains (enabled w) key → key.station ≡ 0 → key ≡ delivery 0 key.sender
   shell-key key there = from-all OfShell (enabled w) key there (append-all OfShell (deliveries w 0)
       (flat_map (λ e. deliveries w e.0 ++ node_keys (site_of w e.0 e.1)) w.nodes)
-      (map-all OfShell (delivery 0) (filter (λ from. is_some (next_message w.traffic from 0)) (stations w)) (λ from at. refl))
+      (image-all OfShell (delivery 0) (filter (λ from. is_some (next_message w.traffic from 0)) (stations w)) (λ from at. refl))
       (flat-all OfShell (λ (e : ℕ × Node). node_at w e.0 ≡ Some e.1) (λ e. deliveries w e.0 ++ node_keys (site_of w e.0 e.1)) w.nodes
       shell-apart
       (recursion_from_All (λ (e : ℕ × Node). node_at w e.0 ≡ Some e.1) w.nodes

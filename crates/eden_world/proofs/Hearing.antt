@@ -1,5 +1,6 @@
 -- A reply is delivered to the shell: who asked its call, what its name stands for then, and what is in hand.
-use Rattle.std.proofs.Common.{◌≡◌, ℕ, Bool, true, false, cond, List, [], ◌∷◌, Option, None, Some, refl, sym, ◌∙◌, ap, subst}
+use Rattle.std.proofs.Common.{◌≡◌, ℕ, Bool, true, false, cond, List, [], ◌∷◌, Option, None, Some, is_some, refl, sym, ◌∙◌, ap, subst}
+use Rattle.std.specs.Prelude.{IsSomeAnd}
 use Rattle.std.specs.List.{Contains}
 use Rattle.std.specs.Option.{option_map}
 use Rattle.eden_value.specs.Datum.{Datum}
@@ -9,9 +10,10 @@ use Rattle.eden_model.specs.Traffic.{Traffic, Call as Made, call_at}
 use Rattle.eden_model.specs.declared.Asker.{Asker}
 use Rattle.eden_model.specs.declared.Asker.TheVariants.{Shell, Eject as Process}
 use Rattle.invocation.specs.Carries.{Carries, CarriesDelivery}
-use Rattle.invocation.specs.Mail.{Mail, Delivers, DeliversFirst, next_number, number_of, queue_at}
+use Rattle.invocation.specs.Mail.{Mail, Delivers, DeliversFirst, number_of, queue_at}
 use Rattle.invocation.specs.Numbers.{item_in}
 use Rattle.invocation.specs.declared.call.Call.{Call}
+use Rattle.invocation.specs.declared.call.Delivery.{Delivery}
 use Rattle.invocation.specs.declared.call.Delivery.TheVariants as delivery
 use Rattle.invocation.specs.declared.call.Message.{Message}
 use Rattle.invocation.specs.declared.call.Message.TheVariants as message
@@ -30,6 +32,7 @@ use Rattle.shell_names.specs.Events.{StandsHeard}
 use Rattle.shell_names.specs.Names.{Names, NamesStand, meanings}
 use Rattle.eden_world.specs.Breaking.{waiter_at, name_by, waiter_by}
 use Rattle.eden_world.specs.InHand.{seen_at, in_hand, HaveAgendas}
+use Rattle.eden_world.specs.Listed.{is_for_shell, shell_hears}
 use Rattle.eden_world.specs.Steps.{TouchesNone}
 use Rattle.eden_world.specs.Taken.{Takes, TakesAtEach, StarvesAtEach}
 use Rattle.eden_world.specs.declared.World.{World as Program}
@@ -41,20 +44,21 @@ use Rattle.eden_world.proofs.Placing.{same-places}
 
 -- 1. The call
 
--- the message that was delivered is of the call that was next
-pub delivered-number : (a b : ℕ) (old new : Mail) (j k : ℕ) (why : Status) (values : List Datum) (was_open : Bool) (process : _)
-    → Some j ≡ next_number a b old → Delivers a b old (Some (delivery.Reply k why values was_open process)) new → k ≡ j
-delivered-number a b old new j k why values was_open process next delivers = go (queue_at a b old) next delivers
+-- the message that was delivered is the one that was first
+pub delivered-number : (a b : ℕ) (old new : Mail) (x : Message) (k : ℕ) (why : Status) (values : List Datum) (was_open : Bool)
+    (process : _) → Some x ≡ first (queue_at a b old) → Delivers a b old (Some (delivery.Reply k why values was_open process)) new
+    → k ≡ number_of x
+delivered-number a b old new x k why values was_open process next delivers = go (queue_at a b old) next delivers
   where
-    go : (ms : List Message) → Some j ≡ option_map number_of (first ms)
-        → DeliversFirst a b ms old (Some (delivery.Reply k why values was_open process)) new → k ≡ j
+    go : (ms : List Message) → Some x ≡ first ms → DeliversFirst a b ms old (Some (delivery.Reply k why values was_open process)) new
+        → k ≡ number_of x
     go [] is h = absurd (cc is)
     go (message.Request i ∷ ms) is h = absurd (let bad : Some (delivery.Reply k why values was_open process)
         ≡ Some (delivery.Request i) = h.0 in cc bad)
     go (message.Reply i s results ∷ ms) is h =
         let same : k ≡ i = replied h.0 in
-        let number : j ≡ i = cc is in
-        same ∙ sym number
+        let here : x ≡ message.Reply i s results = cc is in
+        same ∙ sym (ap number_of here)
       where
         replied : {o : Bool} {p : _} → Some (delivery.Reply k why values was_open process) ≡ Some (delivery.Reply i s results o p) → k ≡ i
         replied e = cc e
@@ -80,6 +84,48 @@ by-shell m k name is = go (item_in k m.calls) refl is
         → ByShell m k name
     go None at same = absurd (cc same)
     go (Some c) at same = named c c.asker refl at same
+
+-- where the shell hears a message, it is first on its way, it is of a call that has a name, and it arrives as a reply
+pub record IsHeard (a : ℕ) (m : Mail) : Type 0 where
+  pub number : ℕ
+  pub status : Status
+  pub results : List Datum
+  pub is_first : first (queue_at a 0 m) ≡ Some (message.Reply number status results)
+  pub named : is_some (name_by (waiter_at m number)) ≡ true
+
+pub heard-by : (a : ℕ) (m : Mail) → shell_hears a m ≡ true → IsHeard a m
+heard-by a m is = go (first (queue_at a 0 m)) refl is
+  where
+    go : (o : Option Message) → first (queue_at a 0 m) ≡ o → with_item o (is_for_shell m) false ≡ true → IsHeard a m
+    go None at is = absurd (cc is)
+    go (Some (message.Request k)) at is = absurd (cc is)
+    go (Some (message.Reply k s results)) at is = record { number = k; status = s; results = results; is_first = at; named = is }
+
+pub comes-first : (a : ℕ) (m : Mail) → shell_hears a m ≡ true → None ≡ first (queue_at a 0 m) → ⊥
+comes-first a m is none = let h = heard-by a m is in let bad : None ≡ Some (message.Reply h.number h.status h.results) =
+    none ∙ h.is_first in cc bad
+
+pub has-name : (a : ℕ) (m : Mail) (y : Message) → shell_hears a m ≡ true → Some y ≡ first (queue_at a 0 m)
+    → None ≡ name_by (waiter_at m (number_of y)) → ⊥
+has-name a m y is next none =
+    let h = heard-by a m is in
+    let here : y ≡ message.Reply h.number h.status h.results = (let e : Some y ≡ Some (message.Reply h.number h.status h.results) =
+    next ∙ h.is_first in cc e) in
+    let bad : false ≡ true = ap is_some none ∙ ap (λ z. is_some (name_by (waiter_at m (number_of z)))) here ∙ h.named in cc bad
+
+abbrev pub IsReply : Delivery → Type 0
+IsReply (delivery.Request k) = ⊥
+IsReply (delivery.Reply k s results was_open process) = Unit {0}
+
+pub arrives-as : (a : ℕ) (m new : Mail) (r : Option Delivery) → shell_hears a m ≡ true → Delivers a 0 m r new → IsSomeAnd r IsReply
+arrives-as a m new r is delivers = let h = heard-by a m is in go (queue_at a 0 m) delivers h h.is_first
+  where
+    go : (ms : List Message) → DeliversFirst a 0 ms m r new → (h : IsHeard a m)
+        → first ms ≡ Some (message.Reply h.number h.status h.results) → IsSomeAnd r IsReply
+    go [] came h is = absurd (cc is)
+    go (message.Request i ∷ ms) came h is = absurd (let bad : Some (message.Request i)
+        ≡ Some (message.Reply h.number h.status h.results) = is in cc bad)
+    go (message.Reply i s results ∷ ms) came h is = rw came.0 tt
 
 -- 2. What names stand for behind it
 
@@ -122,18 +168,18 @@ hears-agendas old new x have n s at = rw x.types (have n s (sym (same-places new
 
 pub hears-takes : {T D : Type 0} (tells : Bool) (layout : Layout) (seen : T → Seen) (look : D → DiskSeen) (old new : Program T D) (e :
     Entry)
-    (j k a : ℕ) (name : List ℕ) (why : Status) (values : List Datum) (was_open : Bool) (process : _) → Hears old new
-    → Some j ≡ next_number a 0 old.calls → Some name ≡ name_by (waiter_at old.calls j)
+    (y : Message) (k a : ℕ) (name : List ℕ) (why : Status) (values : List Datum) (was_open : Bool) (process : _) → Hears old new
+    → Some y ≡ first (queue_at a 0 old.calls) → Some name ≡ name_by (waiter_at old.calls (number_of y))
     → Delivers a 0 old.calls (Some (delivery.Reply k why values was_open process)) new.calls
     → ((t : Traffic) → Carries old.calls t → CarriesDelivery a 0 (Some (delivery.Reply k why values was_open process)) new.calls t)
     → StandsHeard old.names new.names name why values was_open
     → e.event ≡ event.Reply k a 0 (Some name) why values → TouchesNone e
     → TakesAtEach tells layout seen look old new (key_of_delivery 0 a) e
-hears-takes tells layout seen look old new e j k a name why values was_open process x next named delivers model heard is entry more w
+hears-takes tells layout seen look old new e y k a name why values was_open process x next named delivers model heard is entry more w
     reached
     stood there =
     let asked : ByShell old.calls k name = by-shell old.calls k name (named ∙ ap (λ i. name_by (waiter_at old.calls i))
-    (sym (delivered-number a 0 old.calls new.calls j k why values was_open process next delivers))) in
+    (sym (delivered-number a 0 old.calls new.calls y k why values was_open process next delivers))) in
     let carried = model w.traffic stood.world.calls in record {
       takes = ap key_of is;
       goes = heard-goes layout more (in_hand seen look old) (in_hand seen look new) w e k a name why values was_open process asked.call

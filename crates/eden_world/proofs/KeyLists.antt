@@ -93,6 +93,13 @@ pub down-no-keys : (layout : Layout) (more : ℕ) (s : Site) (noted : _) (d : _)
     → node_keys s ≡ []
 down-no-keys layout more s noted d down sound = asleep-no-keys s down.asleep sound (no-request layout more s noted d down.disk)
 
+pub is-off : (layout : Layout) (more : ℕ) (s : Site) (noted : _) (d : _) → DownStands layout more s noted d → s.node.up ≡ false
+is-off layout more s noted d down = go down.disk
+  where
+    go : DiskStands layout more s noted d → s.node.up ≡ false
+    go (inl (told, least, rests)) = rests.is_down
+    go (inr (bar, none, barred)) = barred.is_down
+
 -- 3. Deliveries
 
 filter-alike : (p q : ℕ → Bool) (P : ℕ → Type 0) → ((n : ℕ) → P n → p n ≡ q n) → (ns : List ℕ) → AllByRecursion P ns

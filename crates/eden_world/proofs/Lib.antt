@@ -68,5 +68,6 @@ pub mod Untouched
 pub mod OpenCalls
 pub mod Crashing
 pub mod Arming
+pub mod Arriving
 pub mod Due
 pub mod Places

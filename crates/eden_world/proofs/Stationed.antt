@@ -1,7 +1,10 @@
 -- The keys of a station of a world for which a program stands.
-use Rattle.std.proofs.Common.{◌≡◌, ℕ, zero, suc, ◌≤◌, Bool, [], ◌++◌, Option, None, Some, refl, sym, ◌∙◌, ap, subst, arith}
+use Rattle.std.proofs.Common.{◌≡◌, ◌==◌, ◌&&◌, ◌||◌, ℕ, zero, suc, ◌≤◌, Bool, true, false, [], ◌++◌, Option, None, Some, is_some}
+use Rattle.std.proofs.Common.{refl, sym, ◌∙◌, ap, subst, arith}
+use Rattle.std.specs.Prelude.{IsSomeAnd}
 use Rattle.std.specs.List.{flat_map}
 use Rattle.eden_model.specs.Map.{with_item}
+use Rattle.locator.specs.Reach.{joined_at, node_up_at, reaches}
 use Rattle.passive_store.specs.Kept.{Layout}
 use Rattle.passive_store.specs.Seen.{Seen, DiskSeen}
 use Rattle.journal.specs.World.{World, Node, Site, node_at, site_of}
@@ -20,7 +23,7 @@ use Rattle.eden_world.specs.declared.seats.Seat.TheVariants as place
 use Rattle.eden_world.specs.declared.World.{World as Program}
 use Rattle.eden_world.proofs.EightKeys.{number-of}
 use Rattle.eden_world.proofs.InWorld.{IsThere, is-there}
-use Rattle.eden_world.proofs.KeyLists.{deliveries-are, enabled-are, down-no-keys}
+use Rattle.eden_world.proofs.KeyLists.{deliveries-are, enabled-are, down-no-keys, is-off}
 
 -- 1. Places
 
@@ -62,6 +65,28 @@ is-stationed {T = T} {D = D} tells layout seen look p more w (suc n) s reached s
           sound = reached.sites (suc n) t.it t.at;
           stands = record { node = node.stands; agenda = stands.agendas (suc n) s there };
         }
+
+-- a node that is reached is up at its place
+pub reached-up : {T D : Type 0} (tells : Bool) (layout : Layout) (seen : T → Seen) (look : D → DiskSeen) (p : Program T D) (more : ℕ)
+    (w : World) (n : ℕ) → Stands tells layout seen look p more w → reaches p.places 0 n ≡ true → is_some (station_at p n) ≡ true
+reached-up {T = T} {D = D} tells layout seen look p more w n stands there = on (node_at w n) refl
+    (sym (stands.world.ups n) ∙ first-true (node_up_at p.places n) ((0 == n) || joined_at p.places 0 n) there)
+  where
+    first-true : (a b : Bool) → (a && b) ≡ true → a ≡ true
+    first-true true b is = refl
+    first-true false b is = is
+
+    at-place : (it : Node) → it.up ≡ true → (o : Option (Place T D)) → place_at p n ≡ o
+        → IsSomeAnd (seen_at seen look o) (SeatStands layout p.types p.calls more (site_of w n it)) → is_some (station_in o) ≡ true
+    at-place it powered None at none = absurd none
+    at-place it powered (Some (place.Up s)) at sits = refl
+    at-place it powered (Some (place.Down d doubt)) at sits =
+        absurd (let bad : false ≡ true = sym (is-off layout more (site_of w n it) doubt (look d) sits) ∙ powered in cc bad)
+    at-place it powered (Some place.Moving) at none = absurd none
+
+    on : (o : Option Node) → node_at w n ≡ o → with_item o (λ it. it.up) false ≡ true → is_some (station_at p n) ≡ true
+    on None at powered = absurd (cc powered)
+    on (Some it) at powered = at-place it powered (place_at p n) refl (stands.world.nodes n it at)
 
 -- 3. A place with no such node
 

@@ -13,7 +13,7 @@ abbrev pub status_of : Result Uid Status → Status
 status_of (Ok u) = status.Ok
 status_of (Err why) = why
 
--- The node created it, where it is reached; else nothing changed.
+-- The node created it, where it is reached and up; else nothing changed.
 abbrev pub MadeAt : {T D : Type 0} → Bool → Bool → Layout → (T → Seen) → ℕ → List ℕ → Program T D → Program T D → Result Uid Status
     → Type 0
 MadeAt true tells layout seen n type_name old new made = CreatesIn tells layout seen n type_name old new made

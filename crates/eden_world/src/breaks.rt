@@ -1,5 +1,5 @@
 //! Calls break as a node goes down or a link is cut: the processes that waited for them are told.
-ghost use Rattle.std.specs.Prelude.{◌≡◌, ◌≤◌, IfOk, IsTrue, OnOk, Some};
+ghost use Rattle.std.specs.Prelude.{◌≡◌, ◌≤◌, IfOk, IsTrue, OnOk, Some, is_some};
 ghost use Rattle.passive_store.specs.Seen.{disk_seen};
 ghost use Rattle.scheduled_node.specs.declared.ScheduledNode.{ScheduledNode as Manned};
 ghost use Rattle.eden_world.specs.Breaking.{waiter_at, name_by, TellsAt, KeepsAgendas, TellsBy, TellsAll, Loses, Leaves};
@@ -63,6 +63,19 @@ pub(crate) fn name_of_call(
     match who_waits(alloc, calls, number)? {
         Waiter::Shell { name } => Ok(Some(name)),
         Waiter::Process { .. } | Waiter::Nobody => Ok(None),
+    }
+}
+
+// Whether the shell asked the call of this number.
+pub(crate) fn is_named(calls: &Calls, number: u32) -> bool
+    ensures { result ≡ is_some (name_by (waiter_at calls.now number)) }
+{
+    match calls.call(number) {
+        Some(call) => match &call.asker {
+            Asker::Shell { .. } => true,
+            Asker::Eject { .. } => false,
+        },
+        None => false,
     }
 }
 

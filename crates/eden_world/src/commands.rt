@@ -69,13 +69,6 @@ impl<St: Store + Drop> World<St>
 where
     St::Device: Drop,
 {
-    // Whether the node at a place is up.
-    fn is_up(&self, number: u8) -> bool
-        ensures { result ≡ is_some (station_at self.now number) }
-    {
-        self.station(number).is_some()
-    }
-
     // A node crashes, unless it is down.
     fn crash(&mut self, alloc: Global, node: u8, mode: ImageMode) -> Result<Entry, AllocError>
         requires { FitsTogether St.seen self.old }

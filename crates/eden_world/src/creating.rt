@@ -1,12 +1,12 @@
 //! Ejects are created by command.
-ghost use Rattle.std.specs.Prelude.{◌≡◌, IfOk, IfErr, OnOk, OnErr};
+ghost use Rattle.std.specs.Prelude.{◌≡◌, ◌&&◌, IfOk, IfErr, OnOk, OnErr, is_some, true};
 ghost use Rattle.locator.specs.Reach.{reaches};
 ghost use Rattle.passive_store.specs.Seen.{disk_seen};
 ghost use Rattle.journal.specs.declared.command.Command.TheVariants as commands;
 ghost use Rattle.eden_world.specs.Carried.{CarriesBy, CreatesIn, EndsStill};
 ghost use Rattle.eden_world.specs.Creating.{MadeAt, status_of};
 ghost use Rattle.scheduled_node.specs.Scheduled.{uid_made};
-ghost use Rattle.eden_world.specs.Seated.{EachShows, FitsTogether, KeepsDisks, heeds};
+ghost use Rattle.eden_world.specs.Seated.{EachShows, FitsTogether, KeepsDisks, heeds, station_at};
 
 use crate::entries::entry_of_none;
 use crate::{Seat, World};
@@ -31,14 +31,15 @@ impl<St: Store + Drop> World<St>
 where
     St::Device: Drop,
 {
-    // A node that is up creates an Eject of this type, or says why not.
+    // The node that is up there creates an Eject of this type, or says why not.
     fn create_at(
         &mut self,
         alloc: Global,
         node: u8,
         type_name: &Txt,
     ) -> Result<Result<Uid, Status>, AllocError>
-        requires { FitsTogether St.seen self.old }
+        requires whole { FitsTogether St.seen self.old }
+        requires up { is_some (station_at self.old node) ≡ true }
         ensures whole { OnOk result (FitsTogether St.seen self.new) }
         ensures made { IfOk result (CreatesIn St.Device.tells St.layout St.seen node type_name.now self.old self.new) }
         ensures starved { let look = disk_seen St.Device.counts St.Device.told St.Device.due in
@@ -55,14 +56,12 @@ where
                 self.set_seat(node, Seat::Up { station });
                 made
             }
-            other => {
-                self.set_seat(node, other);
-                Err(AllocError)
-            }
+            Seat::Down { .. } => unreachable!(),
+            Seat::Moving => unreachable!(),
         }
     }
 
-    // The same of a node that is reached; any other creates none.
+    // The same of a node that is reached and up; any other creates none.
     fn create_reached(
         &mut self,
         alloc: Global,
@@ -71,17 +70,17 @@ where
     ) -> Result<Result<Uid, Status>, AllocError>
         requires { FitsTogether St.seen self.old }
         ensures whole { OnOk result (FitsTogether St.seen self.new) }
-        ensures made { IfOk result (MadeAt (reaches self.old.places 0 node) St.Device.tells St.layout St.seen node type_name.now
-            self.old self.new) }
+        ensures made { IfOk result (MadeAt (reaches self.old.places 0 node && is_some (station_at self.old node)) St.Device.tells
+            St.layout St.seen node type_name.now self.old self.new) }
         ensures starved { let look = disk_seen St.Device.counts St.Device.told St.Device.due in
             IfErr result (λ _. EndsStill St.Device.tells St.layout St.seen look self.old self.new) }
         ensures leaves { let look = disk_seen St.Device.counts St.Device.told St.Device.due in
             OnErr result (KeepsDisks St.seen look self.old self.new) }
     {
-        if !self.places.reach(0, node) {
-            return Ok(Err(Status::Unreachable));
+        if self.places.reach(0, node) && self.is_up(node) {
+            return self.create_at(alloc, node, type_name);
         }
-        self.create_at(alloc, node, type_name)
+        Ok(Err(Status::Unreachable))
     }
 
     // An Eject of this type is created on a node, if that is reached. The name stands for its capability, or for nothing.

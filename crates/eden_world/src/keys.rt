@@ -7,10 +7,12 @@ ghost use Rattle.journal.specs.Enabled as journal;
 ghost use Rattle.journal.specs.declared.event.Key.{Key as AnyKey};
 ghost use Rattle.runs.specs.Reached.{IsReached};
 ghost use Rattle.eden_world.specs.InHand.{Stands};
-ghost use Rattle.eden_world.specs.Listed.{HasTurn, mail_keys, keys_at, keys_from};
+ghost use Rattle.eden_world.specs.Listed.{HasTurn, mail_keys, keys_at, keys_from, shell_hears};
 
 use crate::World;
+use crate::breaks::is_named;
 use capability::Uid;
+use invocation::{Calls, Message};
 use journal::Key;
 use passive_store::Store;
 use std::alloc::{AllocError, Global};
@@ -64,6 +66,18 @@ fn is_behind_mail(last: Option<Key>, to: u8) -> bool
 {
     match last {
         Some(last) => last.station == to && 1 < last.kind,
+        None => false,
+    }
+}
+
+// Whether a message from a station is on its way to the shell, and the first answers a call of the shell.
+fn shell_hears(calls: &Calls, from: u8) -> bool
+    requires { from ≤ 8 }
+    ensures { result ≡ shell_hears from calls.now }
+{
+    match calls.first(from, 0) {
+        Some(Message::Reply { call, .. }) => is_named(calls, *call),
+        Some(Message::Request { .. }) => false,
         None => false,
     }
 }
@@ -134,21 +148,21 @@ where
 
     /// Whether it has the turn of this key.
     pub fn has_turn(&self, key: Key) -> bool
-        ensures { IsTrue result ↔ HasTurn self.now key }
+        ensures { IsTrue result ↔ HasTurn St.seen self.now key }
     {
-        if key.station > 0 {
-            return true;
+        if key.station == 0 {
+            return key.sender <= 8 && shell_hears(&self.calls, key.sender);
         }
-        if key.sender > 8 {
-            return false;
+        match self.station(key.station) {
+            Some(station) => station.has_turn(&self.calls, key),
+            None => false,
         }
-        self.calls.waiting(key.sender, 0)
     }
 
     // The key, if it has its turn.
     fn if_turn(&self, key: Key) -> Option<Key>
-        ensures enabled { IfSome result (λ k. HasTurn self.now k) }
-        ensures same { HasTurn self.now key → result ≡ Some key }
+        ensures enabled { IfSome result (λ k. HasTurn St.seen self.now k) }
+        ensures same { HasTurn St.seen self.now key → result ≡ Some key }
     {
         if self.has_turn(key) {
             return Some(key);
@@ -158,7 +172,7 @@ where
 
     // The same, if there is a key. Each enabled key has its turn.
     fn with_turn(&self, key: Option<Key>) -> Option<Key>
-        ensures enabled { IfSome result (λ k. HasTurn self.now k) }
+        ensures enabled { IfSome result (λ k. HasTurn St.seen self.now k) }
         ensures same { (more : ℕ) (w : Model) → IsReached w
             → Stands St.Device.tells St.layout St.seen (disk_seen St.Device.counts St.Device.told St.Device.due) self.now more w
             → IfSome key (λ k. Contains (journal.enabled w) k) → result ≡ key }
@@ -186,7 +200,7 @@ where
         ensures follows { (more : ℕ) (w : Model) → IsReached w
             → Stands St.Device.tells St.layout St.seen (disk_seen St.Device.counts St.Device.told St.Device.due) self.now more w
             → result ≡ journal.following last (journal.enabled w) }
-        ensures enabled { IfSome result (λ k. HasTurn self.now k) }
+        ensures enabled { IfSome result (λ k. HasTurn St.seen self.now k) }
     {
         self.with_turn(self.next_of_all(last))
     }
@@ -247,7 +261,7 @@ where
         ensures chosen { IfOk result (λ key. (more : ℕ) (w : Model) → IsReached w
             → Stands St.Device.tells St.layout St.seen (disk_seen St.Device.counts St.Device.told St.Device.due) self.now more w
             → key ≡ journal.item i (journal.enabled w)) }
-        ensures enabled { IfOk result (λ it. IfSome it (λ k. HasTurn self.now k)) }
+        ensures enabled { IfOk result (λ it. IfSome it (λ k. HasTurn St.seen self.now k)) }
     {
         let keys = self.list(alloc)?;
         Ok(self.with_turn(counted_round(&keys, i)))

@@ -27,7 +27,7 @@ where
 
     ghost shows = { EachShows (heeds St.Device.tells St.Device.obeys) St.seen (disk_seen St.Device.counts St.Device.told St.Device.due) };
 
-    ghost enables = { HasTurn };
+    ghost enables = { HasTurn St.seen };
 
     ghost leaves = { KeepsDisks St.seen (disk_seen St.Device.counts St.Device.told St.Device.due) };
 

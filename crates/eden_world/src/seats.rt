@@ -1,5 +1,5 @@
 //! The places of the world.
-ghost use Rattle.std.specs.Prelude.{◌≡◌, ◌==◌, ℕ, false, None, Some, unwrap_or, option_copied, map, IfOk, IfErr};
+ghost use Rattle.std.specs.Prelude.{◌≡◌, ◌==◌, ℕ, false, None, Some, unwrap_or, option_copied, map, is_some, IfOk, IfErr};
 ghost use Rattle.std.specs.Option.{option_map};
 ghost use Rattle.passive_store.specs.Seen.{disk_seen};
 ghost use Rattle.scheduled_node.specs.declared.ScheduledNode.{ScheduledNode};
@@ -123,6 +123,13 @@ where
             Some(Seat::Up { station }) => Some(station),
             _ => None,
         }
+    }
+
+    // Whether a node is up at a place.
+    pub(crate) fn is_up(&self, number: u8) -> bool
+        ensures { result ≡ is_some (station_at self.now number) }
+    {
+        self.station(number).is_some()
     }
 
     // This stands at a place from now on, if there is such a place. What stood there.

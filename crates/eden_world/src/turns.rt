@@ -1,13 +1,13 @@
 //! Turns: of the shell, and of the nodes.
-ghost use Rattle.std.specs.Prelude.{◌≡◌, ◌<◌, ◌≤◌, IfErr, IfOk, IsTrue, OnOk, length, OnErr};
+ghost use Rattle.std.specs.Prelude.{◌≡◌, ◌<◌, ◌≤◌, IfErr, IfOk, IsSomeAnd, IsTrue, OnOk, Some, length, OnErr, true};
 ghost use Rattle.passive_store.specs.Seen.{disk_seen};
-ghost use Rattle.invocation.specs.Mail.{is_waiting};
 ghost use Rattle.journal.specs.Enabled as enabled;
 ghost use Rattle.eden_kernel.specs.Stands.{held, IsWhole};
 ghost use Rattle.eden_kernel.specs.Turns.{clock_of};
 ghost use Rattle.scheduled_node.specs.declared.ScheduledNode.{ScheduledNode as Manned};
-ghost use Rattle.eden_world.specs.Listed.{HasTurn};
-ghost use Rattle.eden_world.specs.Seated.{EachShows, FitsTogether, KeepsDisks, heeds};
+ghost use Rattle.scheduled_node.specs.Keys.{HasTurn as NodeHasTurn};
+ghost use Rattle.eden_world.specs.Listed.{HasTurn, shell_hears};
+ghost use Rattle.eden_world.specs.Seated.{EachShows, FitsTogether, KeepsDisks, heeds, station_at, station_in};
 ghost use Rattle.eden_world.specs.Taken.{TakesAtEach, StarvesAtEach};
 ghost use Rattle.eden_world.specs.Turning.{StarvesThere, TurnsHere, TurnsThere};
 ghost use Rattle.eden_world.specs.declared.seats.Seat.TheVariants as place;
@@ -43,7 +43,7 @@ where
     station.disk().clock()
 }
 
-// The node that stands there takes the turn of a key, in its place.
+// The node that is up there takes the turn of a key, in its place.
 fn turn_in<St: Store + Drop>(
     seat: &mut Seat<St>,
     alloc: Global,
@@ -56,6 +56,7 @@ where
     St::Device: Drop,
     requires calls { length calls.old.calls < 4294967295 }
     requires whole { (s : Manned _ _) → seat.old ≡ place.Up s → IsWhole (held St.seen s.node) }
+    requires has { IsSomeAnd (station_in (Some seat.old)) (λ s. NodeHasTurn types.now (held St.seen s.node) calls.old key) }
     ensures turns { IfOk result (λ t. TurnsThere St.Device.tells St.Device.obeys St.layout St.seen types.now places.now key
         t seat.old calls.old seat.new calls.new) }
     ensures starves { IfErr result (λ e. StarvesThere St.Device.tells St.layout St.seen types.now calls.old seat.old seat.new) }
@@ -72,7 +73,8 @@ where
                 after,
             })
         }
-        _ => Err(AllocError),
+        Seat::Down { .. } => unreachable!(),
+        Seat::Moving => unreachable!(),
     }
 }
 
@@ -87,11 +89,11 @@ where
         self.calls.call(u32::MAX).is_none()
     }
 
-    // The shell hears the first message from a station.
+    // The shell hears the first message from a station, which answers a call of its own.
     fn hear(&mut self, alloc: Global, from: u8) -> Result<Entry, AllocError>
         requires whole { FitsTogether St.seen self.old }
         requires from { from ≤ 8 }
-        requires waits { IsTrue (is_waiting from 0 self.old.calls) }
+        requires hears { shell_hears from self.old.calls ≡ true }
         ensures whole { OnOk result (FitsTogether St.seen self.new) }
         ensures taken { IfOk result (λ e. TakesAtEach St.Device.tells St.layout St.seen
             (disk_seen St.Device.counts St.Device.told St.Device.due) self.old self.new (enabled.delivery 0 from) e) }
@@ -102,11 +104,11 @@ where
         ensures leaves { let look = disk_seen St.Device.counts St.Device.told St.Device.due in
             OnErr result (KeepsDisks St.seen look self.old self.new) }
     {
-        let Some(number) = self.calls.next(from, 0) else {
+        let Some(message) = self.calls.first(from, 0) else {
             unreachable!()
         };
-        let Some(name) = name_of_call(alloc, &self.calls, number)? else {
-            return Err(AllocError);
+        let Some(name) = name_of_call(alloc, &self.calls, message.number())? else {
+            unreachable!()
         };
         match self.calls.deliver(from, 0) {
             Some(
@@ -129,7 +131,7 @@ where
                 };
                 Ok(plain(alloc, event))
             }
-            _ => Err(AllocError),
+            _ => unreachable!(),
         }
     }
 
@@ -138,6 +140,8 @@ where
         requires calls { length self.old.calls.calls < 4294967295 }
         requires whole { FitsTogether St.seen self.old }
         requires node { 1 ≤ key.station }
+        requires has { IsSomeAnd (station_at self.old key.station)
+            (λ s. NodeHasTurn self.old.types (held St.seen s.node) self.old.calls key) }
         ensures turns { IfOk result (λ t. TurnsHere St.Device.tells St.Device.obeys St.layout St.seen key t self.old self.new) }
         ensures starved { IfErr result (λ e. StarvesAtEach St.Device.tells St.layout St.seen
             (disk_seen St.Device.counts St.Device.told St.Device.due) self.old self.new key) }
@@ -146,7 +150,7 @@ where
     {
         match self.seats.get_mut(usize::from(key.station) - 1) {
             Some(seat) => turn_in(seat, alloc, &self.types, &mut self.calls, &self.places, key),
-            None => Err(AllocError),
+            None => unreachable!(),
         }
     }
 
@@ -154,6 +158,8 @@ where
     fn turn_at(&mut self, alloc: Global, key: Key) -> Result<Entry, AllocError>
         requires whole { FitsTogether St.seen self.old }
         requires node { 1 ≤ key.station }
+        requires has { IsSomeAnd (station_at self.old key.station)
+            (λ s. NodeHasTurn self.old.types (held St.seen s.node) self.old.calls key) }
         ensures whole { OnOk result (FitsTogether St.seen self.new) }
         ensures taken { IfOk result (λ e. TakesAtEach St.Device.tells St.layout St.seen
             (disk_seen St.Device.counts St.Device.told St.Device.due) self.old self.new key e) }
@@ -189,7 +195,7 @@ where
     /// The turn of an enabled key.
     pub fn take_key(&mut self, alloc: Global, key: Key) -> Result<Entry, AllocError>
         requires whole { FitsTogether St.seen self.old }
-        requires enabled { HasTurn self.old key }
+        requires enabled { HasTurn St.seen self.old key }
         ensures whole { OnOk result (FitsTogether St.seen self.new) }
         ensures taken { IfOk result (λ e. TakesAtEach St.Device.tells St.layout St.seen
             (disk_seen St.Device.counts St.Device.told St.Device.due) self.old self.new key e) }

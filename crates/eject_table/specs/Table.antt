@@ -44,6 +44,11 @@ pub record IsWhole {A : Type 0} (slab : Slab A) (places : List (Uid × Option �
   pub occupied : (u : Uid) (k : ℕ) → value_at uid_cmp u places ≡ Some (Some k) → IsSome (get_slab slab k)
   pub apart : (u v : Uid) (k : ℕ) → value_at uid_cmp u places ≡ Some (Some k) → value_at uid_cmp v places ≡ Some (Some k) → u ≡ v
 
+-- what always holds of a table: its slab and its places fit together, and its node is at most 8
+pub record IsKept {A : Type 0} (node : ℕ) (slab : Slab A) (places : List (Uid × Option ℕ)) : Type 0 where
+  pub whole : IsWhole slab places
+  pub last : node ≤ 8
+
 -- a table with no Eject
 abbrev pub empty_table : {A : Type 0} → ℕ → ℕ → ℕ → Table A
 empty_table node epoch last = record { node = node; epoch = epoch; last_serial = last; standings = empty }

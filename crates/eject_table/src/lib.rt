@@ -60,7 +60,7 @@ pub struct EjectTable<A> {
 }
 
 impl<A> Model for EjectTable<A> {
-    ghost use Rattle.eject_table.specs.Table.{Table, map_of, IsWhole, table_code};
+    ghost use Rattle.eject_table.specs.Table.{Table, map_of, IsKept, table_code};
 
     ghost Value = { Table A };
 
@@ -73,7 +73,7 @@ impl<A> Model for EjectTable<A> {
       standings = map_of t.active t.places.entries;
     } };
 
-    ghost invariant = { λ t. IsWhole t.active t.places.entries };
+    ghost invariant = { λ t. IsKept t.node t.active t.places.entries };
 }
 
 impl<A> EjectTable<A> {
@@ -84,6 +84,7 @@ impl<A> EjectTable<A> {
         epoch: u32,
         last_serial: u32,
     ) -> Result<EjectTable<A>, AllocError>
+        requires { node ≤ 8 }
         ensures { IfOk result (λ t. t ≡ empty_table node epoch last_serial) }
     {
         Ok(EjectTable {
@@ -134,9 +135,9 @@ impl<A> EjectTable<A> {
         put_passive(&self.active, &mut self.places, uid)
     }
 
-    /// The passive Eject is active from now on. A refusal hands the value back.
+    /// The Eject, which is not active, is active from now on. A refusal hands the value back.
     pub fn wake(&mut self, _alloc: Global, uid: Uid, active: A) -> Result<(), (A, AllocError)>
-        requires { standing_at self.old uid ≡ EjectStanding.Passive }
+        requires { standing_at self.old uid ≢ EjectStanding.Active }
         ensures { MatchResult result (λ _. self.new ≡ with_entry self.old uid (Some active))
             (λ e. (e.0 ≡ active) × (self.new ≡ self.old)) }
     {
@@ -148,7 +149,8 @@ impl<A> EjectTable<A> {
 
     /// The number of the node.
     pub fn node(&self) -> u8
-        ensures { result ≡ self.now.node }
+        ensures value { result ≡ self.now.node }
+        ensures within { result ≤ 8 }
     {
         self.node
     }

@@ -1,7 +1,7 @@
 -- An Eject that is created in the node is created at the site.
 use Rattle.std.proofs.Common.{◌≡◌, ◌≤◌, ◌<◌, ℕ, nat_le, ◌+◌, Bool, true, false, cond, List, Option, None, Some}
 use Rattle.std.proofs.Common.{refl, sym, ◌∙◌, ap, subst, arith}
-use Rattle.std.specs.Prelude.{is_some, IsTrue, Result, Ok, Err}
+use Rattle.std.specs.Prelude.{is_some, IsSomeAnd, IsTrue, Result, Ok, Err}
 use Rattle.std.specs.Option.{option_map}
 use Rattle.std.specs.Ordering.{eq_by_cmp}
 use Rattle.std.specs.FinMap.{get, insert, len, get-insert}
@@ -12,6 +12,7 @@ use Rattle.capability.specs.Capability.{full}
 use Rattle.capability.proofs.Uids.{uid_cmp_total, uid_cmp-IsAntisymmetric}
 use Rattle.eden_value.specs.declared.status.Status.{Status}
 use Rattle.eden_value.specs.declared.status.Status.TheVariants as status
+use Rattle.eden_model.specs.Crew.{Runs}
 use Rattle.eden_model.specs.Map.{put_at, uid_cmp, with_item, same_uid}
 use Rattle.eden_model.proofs.Laws.{eq-same}
 use Rattle.eject_table.specs.Table.{Table}
@@ -36,7 +37,6 @@ use Rattle.ejects.specs.View.{parts_of, with_body}
 use Rattle.ejects.specs.declared.Ejects.{Ejects}
 use Rattle.ejects.proofs.Counted.{as-many-in}
 use Rattle.ejects.proofs.Delivered.{table-at, table-other}
-use Rattle.ejects.proofs.Hearing.{FoundBody}
 use Rattle.ejects.proofs.Leaving.{body_in, parts_with}
 use Rattle.ejects.proofs.Turns.{stays-active}
 
@@ -163,49 +163,48 @@ created ts old new s t b made ready h is next parts = record {
 abbrev pub active_known : Option Eject → Option Active
 active_known o = (known o).active
 
-pub body-there : (n : Parts) (s : Site) (u : Uid) → Stands n s → is_some (active_known (eject_in s u)) ≡ true → FoundBody n u
-body-there n s u h some = go (body_at n u) refl (sym (ap (λ (k : Known). is_some k.active) (h.ejects u)) ∙ some)
-  where
-    go : (o : Option Body) → body_at n u ≡ o → is_some (option_map active_of o) ≡ true → FoundBody n u
-    go None at is = absurd (let bad : false ≡ true = is in cc bad)
-    go (Some b) at is = record { body = b; is = at }
+-- a process of it waits for nothing
+abbrev RunsAt : ℕ → Option Eject → Type 0
+RunsAt p o = IsSomeAnd (active_known o) (λ it. Runs it.crew p)
 
-active-there : (n : Parts) (s : Site) (u : Uid) (b : Body) → Stands n s → body_at n u ≡ Some b
-    → is_some (active_known (eject_in s u)) ≡ true
-active-there n s u b h at = ap (λ (k : Known). is_some k.active) (h.ejects u) ∙ ap (λ o. is_some (option_map active_of o)) at
+runs-there : (n : Parts) (s : Site) (u : Uid) (p : ℕ) (b : Body) → Stands n s → body_at n u ≡ Some b → Runs b.crew.crew p
+    → RunsAt p (eject_in s u)
+runs-there n s u p b h at runs = subst (λ o. IsSomeAnd o (λ it. Runs it.crew p))
+    (sym (ap (λ (k : Known). k.active) (h.ejects u) ∙ ap (option_map active_of) at)) runs
 
--- one that was active is so as another is born
-still-active : (s : Site) (u v : Uid) (it : Active) → is_some (active_known (eject_in s u)) ≡ true
-    → is_some (active_known (eject_in (born v it s) u)) ≡ true
+-- it does so still as another is born
+still-runs : (s : Site) (u v : Uid) (p : ℕ) (it : Active) → eject_in s v ≡ None → RunsAt p (eject_in s u)
+    → RunsAt p (eject_in (born v it s) u)
 unfolding on_node
-still-active s u v it some = ap (λ o. is_some (active_known o)) (find-put uid_cmp uid_cmp_total u v grown s.node.ejects)
-    ∙ go (eq_by_cmp uid_cmp u v)
+still-runs s u v p it new runs = subst (RunsAt p)
+    (sym (find-put uid_cmp uid_cmp_total u v grown s.node.ejects ∙ apart (eq_by_cmp uid_cmp u v) refl)) runs
   where
     grown : Eject
     grown = with_item (eject_in s v) (with_active (Some it)) (newborn it)
 
-    active : (o : Option Eject) → is_some (with_item o (with_active (Some it)) (newborn it)).active ≡ true
-    active None = refl
-    active (Some e) = refl
+    apart : (x : Bool) → eq_by_cmp uid_cmp u v ≡ x → cond x (Some grown) (eject_in s u) ≡ eject_in s u
+    apart true is = let none : eject_in s u ≡ None = ap (eject_in s) (eq-same uid_cmp uid_cmp-IsAntisymmetric u v is) ∙ new in
+        absurd (subst (RunsAt p) none runs)
+    apart false is = refl
 
-    go : (x : Bool) → is_some (active_known (cond x (Some grown) (eject_in s u))) ≡ true
-    go true = active (eject_in s v)
-    go false = some
-
-told-stands : (n new : Parts) (s : Site) (u : Uid) (p : ℕ) (a : Answer) → Stands n s → is_some (active_known (eject_in s u)) ≡ true
-    → ((b : Body) → body_at n u ≡ Some b → new ≡ with_body u (told_body p a b) n) → Stands new (tells u p a s)
-told-stands n new s u p a h some wrote =
-    let f = body-there n s u h some in
-    subst (λ x. Stands x (tells u p a s)) (sym (wrote f.body f.is))
-    (stays-active n s u f.body (told_body p a f.body) (told p a) h f.is refl refl refl)
+told-stands : (n new : Parts) (s : Site) (u : Uid) (p : ℕ) (a : Answer) → Stands n s → RunsAt p (eject_in s u)
+    → ((b : Body) → body_at n u ≡ Some b → Runs b.crew.crew p → new ≡ with_body u (told_body p a b) n) → Stands new (tells u p a s)
+told-stands n new s u p a h runs wrote = go (body_at n u) refl
+    (subst (λ o. IsSomeAnd o (λ it. Runs it.crew p)) (ap (λ (k : Known). k.active) (h.ejects u)) runs)
+  where
+    go : (o : Option Body) → body_at n u ≡ o → IsSomeAnd (option_map active_of o) (λ it. Runs it.crew p) → Stands new (tells u p a s)
+    go None at none = absurd none
+    go (Some b) at is = subst (λ x. Stands x (tells u p a s)) (sym (wrote b at is))
+        (stays-active n s u b (told_body p a b) (told p a) h at refl refl refl)
 
 module _ (n mid new : Parts) (s : Site) (u : Uid) (p : ℕ) (name : List ℕ) (t : Edentype) (b : Body) (h : Stands n s)
-    (at : body_at n u ≡ Some b) (named : type_of n.types name ≡ Some t) where
+    (at : body_at n u ≡ Some b) (runs : Runs b.crew.crew p) (ready : HasNewUid s) (named : type_of n.types name ≡ Some t) where
   known-type : type_of s.types name ≡ Some t
   known-type = ap (λ ts. type_of ts name) h.types ∙ named
 
   pub created-for : (v : Uid) → IsCreated t (Ok v) mid s
-      → ((x : Body) → body_at mid u ≡ Some x → new ≡ with_body u (told_body p (Made status.Ok (Some (full v))) x) mid)
+      → ((x : Body) → body_at mid u ≡ Some x → Runs x.crew.crew p
+      → new ≡ with_body u (told_body p (Made status.Ok (Some (full v))) x) mid)
       → CreatedFor u p name new (shown.Created v) s
   created-for v made wrote = record {
     known = subst IsTrue (sym (ap is_some known-type)) refl;
@@ -213,16 +212,16 @@ module _ (n mid new : Parts) (s : Site) (u : Uid) (p : ℕ) (name : List ℕ) (t
     stands = subst (λ o. Stands new (creates u p o (next_uid s) s)) (sym known-type)
         (subst (λ r. Stands new (creates u p (Some t) r s)) (sym made.next)
         (told-stands mid new (born v (fresh t (first_values t)) s) u p (Made status.Ok (Some (full v))) made.stands
-        (still-active s u v (fresh t (first_values t)) (active-there n s u b h at)) wrote));
+        (still-runs s u v p (fresh t (first_values t)) (ready.is_new v made.next) (runs-there n s u p b h at runs)) wrote));
   }
 
   pub refused-for : (why : Status) → IsCreated t (Err why) mid s
-      → ((x : Body) → body_at mid u ≡ Some x → new ≡ with_body u (told_body p (Made why None) x) mid)
+      → ((x : Body) → body_at mid u ≡ Some x → Runs x.crew.crew p → new ≡ with_body u (told_body p (Made why None) x) mid)
       → CreatedFor u p name new (shown.Refused why) s
   refused-for why made wrote = record {
     known = subst IsTrue (sym (ap is_some known-type)) refl;
     shown = ap shown_creation (sym made.next);
     stands = subst (λ o. Stands new (creates u p o (next_uid s) s)) (sym known-type)
         (subst (λ r. Stands new (creates u p (Some t) r s)) (sym made.next)
-        (told-stands mid new s u p (Made why None) made.stands (active-there n s u b h at) wrote));
+        (told-stands mid new s u p (Made why None) made.stands (runs-there n s u p b h at runs) wrote));
   }

@@ -90,14 +90,15 @@ module _ (reach : ℕ → Bool) (n mid new : Parts) (m later : Mail) (s : Site) 
       → ((b : Body) (t : Turned) → body_at n u ≡ Some b → turn_of u (active_of b) p ≡ Some t
       → (e ≡ t.effect) × (mid ≡ with_body u (turned_body p t b) n))
       → e ≡ effect.Create name
-      → ((b : Body) (x : Site) → body_at mid u ≡ Some b → HasNewUid x → Stands mid x → CreatedFor u p name new said x)
+      → ((b : Body) (x : Site) → body_at mid u ≡ Some b → Runs b.crew.crew p → HasNewUid x → Stands mid x
+      → CreatedFor u p name new said x)
       → Carries later s.traffic → IsStep reach new later s (event.Process u p said)
   process-creates e name ready runs turns is_create created carries =
       by-body reach n mid new m later s u p said sound at e runs turns (λ b is t mid_is same.
       create-step b is t name (sym is_create ∙ same) ready
       (created (turned_body p t.turn b) (on_eject u (on_active (turned p t.turn)) s)
       (mid-body reach n mid new m later s u p said sound at b is t mid_is)
-      (ready-later u (turned p t.turn) s ready)
+      (subst (λ o. IsSomeAnd o (λ x. Runs x.crew.crew p)) is runs) (ready-later u (turned p t.turn) s ready)
       (subst (λ y. Stands y (on_eject u (on_active (turned p t.turn)) s)) (sym mid_is)
       (stays-active n s u b (turned_body p t.turn b) (turned p t.turn) at.parts is refl refl refl)))
       carries)

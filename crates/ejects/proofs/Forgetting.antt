@@ -1,36 +1,26 @@
 -- An Eject that is not active leaves the table; and what follows from how an Eject stands there.
-use Rattle.std.proofs.Common.{◌≡◌, ℕ, Bool, true, false, cond, ◌||◌, ◌&&◌, List, [], Option, None, Some, refl, sym, ◌∙◌, ap, subst}
-use Rattle.std.specs.Prelude.{is_some, IsSomeAnd}
+use Rattle.std.proofs.Common.{◌≡◌, ℕ, Bool, true, false, cond, ◌||◌, ◌&&◌, List, [], Option, None, Some, refl, sym, ◌∙◌, ap}
+use Rattle.std.specs.Prelude.{is_some}
 use Rattle.std.specs.Ordering.{eq_by_cmp}
 use Rattle.std.specs.FinMap.{get, get-remove}
 use Rattle.std.proofs.lemmas.Cmp.{tied_itself}
 use Rattle.capability.specs.declared.Uid.{Uid}
-use Rattle.capability.proofs.Uids.{uid_cmp_total}
+use Rattle.capability.proofs.Uids.{uid_cmp_total, uid_cmp-IsAntisymmetric}
+use Rattle.eden_model.proofs.Laws.{eq-same}
 use Rattle.eden_model.specs.Map.{value_at, uid_cmp, same_uid}
-use Rattle.eject_table.specs.Table.{Table, active_at, active_in, with_active, without_entry, standing_of, standing_at}
+use Rattle.eject_table.specs.Table.{Table, active_in, without_entry, standing_of, standing_at}
 use Rattle.eject_table.specs.declared.EjectStanding.TheVariants.{Active, Passive, Absent}
 use Rattle.epl_syntax.specs.Rules.OfTypes.{TypeList}
 use Rattle.active_part.specs.Body.{Body}
 use Rattle.active_part.specs.View.{body_of}
 use Rattle.active_part.specs.declared.part.Part.{Part}
-use Rattle.ejects.specs.Parts.{Parts, body_at, queue_of, queue_in}
+use Rattle.ejects.specs.Parts.{Parts, queue_of, queue_in}
 use Rattle.ejects.specs.Passive.{HoldsPassive}
-use Rattle.ejects.specs.View.{with_body}
-use Rattle.ejects.proofs.Leaving.{body_in, parts_with, active-body, part-changed, flipped}
+use Rattle.ejects.proofs.Leaving.{body_in, parts_with, flipped}
 use Rattle.ejects.proofs.Removals.{AlikeAt}
 use Rattle.ejects.proofs.Settles.{stays_there}
 
 -- 1. By how it stands
-
--- a part that was changed was that of an active Eject
-pub some-changed : (ts : TypeList) (t : Table Part) (waiting : List (Uid × List ℕ)) (u : Uid) (a new : Part) (f : Body → Body)
-    → Some a ≡ active_at t u → body_of ts new ≡ f (body_of ts a)
-    → IsSomeAnd (body_at (parts_with ts t waiting) u)
-    (λ b. parts_with ts (with_active t u new) waiting ≡ with_body u (f b) (parts_with ts t waiting))
-some-changed ts t waiting u a new f at changed =
-    let found = active-body ts (get t.standings u) a (sym at) in
-    subst (λ o. IsSomeAnd o (λ b. parts_with ts (with_active t u new) waiting ≡ with_body u (f b) (parts_with ts t waiting)))
-    (sym found) (part-changed ts t waiting u a new (body_of ts a) f at found changed)
 
 pub by-active : (ts : TypeList) (W : Option Body → Type 0) (o : Option (Option Part)) → standing_of o ≡ Active
     → ((b : Body) → active_in (body_in ts o) ≡ Some b → W (Some b)) → W (active_in (body_in ts o))
@@ -42,6 +32,18 @@ pub none-passive : (ts : TypeList) (o : Option (Option Part)) → standing_of o 
 none-passive ts None is = refl
 none-passive ts (Some None) is = refl
 none-passive ts (Some (Some a)) is = absurd (let bad : Active ≡ Passive = is in cc bad)
+
+-- what is not active and leaves the table takes no active part with it
+pub forgotten-bodies : (ts : TypeList) (t later : Table Part) (u : Uid) → standing_at t u ≡ Passive → later ≡ without_entry t u
+    → (v : Uid) → active_in (body_in ts (get later.standings v)) ≡ active_in (body_in ts (get t.standings v))
+forgotten-bodies ts t later u passive after v = ap (λ (x : Table Part). active_in (body_in ts (get x.standings v))) after
+    ∙ ap (λ o. active_in (body_in ts o)) (get-remove uid_cmp_total t.standings u v) ∙ go (eq_by_cmp uid_cmp v u) refl
+  where
+    go : (b : Bool) → eq_by_cmp uid_cmp v u ≡ b
+        → active_in (body_in ts (cond b None (get t.standings v))) ≡ active_in (body_in ts (get t.standings v))
+    go true e = sym (none-passive ts (get t.standings v)
+        (ap (λ w. standing_at t w) (eq-same uid_cmp uid_cmp-IsAntisymmetric v u e) ∙ passive))
+    go false e = refl
 
 -- none that is absent is there
 pub there-none : (ts : TypeList) (o : Option (Option Part)) → standing_of o ≡ Absent → is_some (body_in ts o) ≡ true → ⊥

@@ -92,19 +92,25 @@ pub record FoundBody (n : Parts) (u : Uid) : Type 0 where
   pub body : Body
   pub is : body_at n u ≡ Some body
 
+-- and it waits
+pub record FoundWaiting (n : Parts) (u : Uid) (p : ℕ) : Type 0 where
+  pub body : Body
+  pub is : body_at n u ≡ Some body
+  pub waits : Waits body.crew.crew p outside
+
 known-active : (o : Option Eject) → (known o).active ≡ active_in o
 known-active None = refl
 known-active (Some e) = refl
 
-pub waiting-body : (n : Parts) (s : Site) (u : Uid) (p : ℕ) → Stands n s → WaitsIn (eject_in s u) p → FoundBody n u
+pub waiting-body : (n : Parts) (s : Site) (u : Uid) (p : ℕ) → Stands n s → WaitsIn (eject_in s u) p → FoundWaiting n u p
 waiting-body n s u p h waits = go (body_at n u) refl (subst (λ o. IsSomeAnd o (λ it. Waits it.crew p outside)) at waits)
   where
     at : active_in (eject_in s u) ≡ option_map active_of (body_at n u)
     at = sym (known-active (eject_in s u)) ∙ ap (λ (k : Known). k.active) (h.ejects u)
 
-    go : (o : Option Body) → body_at n u ≡ o → IsSomeAnd (option_map active_of o) (λ it. Waits it.crew p outside) → FoundBody n u
+    go : (o : Option Body) → body_at n u ≡ o → IsSomeAnd (option_map active_of o) (λ it. Waits it.crew p outside) → FoundWaiting n u p
     go None is waits = absurd waits
-    go (Some b) is waits = record { body = b; is = is }
+    go (Some b) is waits = record { body = b; is = is; waits = waits }
 
 -- 4. The step
 
@@ -125,7 +131,8 @@ module _ (reach : ℕ → Bool) (n new : Parts) (later : Mail) (s : Site) (from 
         };
       }
 
-  pub reply-open : IsSoundSite s → Came true → ((b : Body) → body_at n u ≡ Some b → new ≡ with_body u (told_body p (Told why values) b) n)
+  pub reply-open : IsSoundSite s → Came true → ((b : Body) → body_at n u ≡ Some b → Waits b.crew.crew p outside
+      → new ≡ with_body u (told_body p (Told why values) b) n)
       → IsStep reach new later s (event.Reply k from n.number None why values)
   reply-open sound came told =
       let f = found-reply s.traffic k (answered why values) true (Some (u, p)) came.1 came.2 in
@@ -137,7 +144,7 @@ module _ (reach : ℕ → Bool) (n new : Parts) (later : Mail) (s : Site) (from 
       record {
         allowed = reply-allowed n s k f.call why values h f.is from n.number u p came.0 f.at asker;
         is_at = record {
-          parts = subst (λ y. Stands y (heard k why values s)) (sym (told found.body found.is))
+          parts = subst (λ y. Stands y (heard k why values s)) (sym (told found.body found.is found.waits))
               (heard-open n s k f.call why values h f.is u p found.body f.open_ asker found.is);
           calls = subst (Carries later) (sym (heard-traffic n s k f.call why values h f.is)) came.3;
         };

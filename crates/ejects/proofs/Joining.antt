@@ -25,6 +25,7 @@ use Rattle.invocation.specs.declared.call.Call.{Call}
 use Rattle.invocation.specs.Mail.{Mail}
 use Rattle.invocation.specs.Numbers.{item_in}
 use Rattle.invocation.specs.Carries.{Carries}
+use Rattle.invocation.proofs.CarriesLaws.{asked-call}
 use Rattle.journal.specs.Deliveries.{misfit}
 use Rattle.journal.specs.Processes.{class_of, invocation}
 use Rattle.journal.specs.Sites.{IsHeldAt}
@@ -179,6 +180,14 @@ queued-twice b is js = ap (λ l. record b { crew = record b.crew { queued = l } 
     go (k ∷ ks) = ap (λ l. k ∷ l) (go ks)
 
 -- 4. One call
+
+-- one that was never asked is in no such queue
+pub joins-unasked : (b : Body) (k : ℕ) (m : Mail) → None ≡ item_in k m.calls → JoinsAll b b (k ∷ []) m m
+joins-unasked b k m none t u carries queued = absurd (go (call_at t k) refl queued.held.0)
+  where
+    go : (o : Option traffic.Call) → call_at t k ≡ o → IsSomeAnd o (λ c. (c.place ≡ held) × (c.target.uid ≡ u)) → ⊥
+    go None at is = is
+    go (Some c) at is = let found = asked-call m t carries k c at in let bad : None ≡ Some found.call = none ∙ found.is in cc bad
 
 module _ (b : Body) (k : ℕ) (x : Call) (m : Mail) (item : item_in k m.calls ≡ Some x) where
   found : (t : Traffic) (u : Uid) → Carries m t → IsHeldAt t u k → call_at t k ≡ Some (call_at_place held x)

@@ -1,13 +1,14 @@
 -- A turn of the store leaves of the Ejects and calls of a node what it leaves at the site.
 use Rattle.std.proofs.Common.{◌≡◌, ℕ, ◌==◌, Bool, true, false, cond, ◌||◌, List, [], ◌∷◌, ◌++◌, Option, None, Some}
-use Rattle.std.proofs.Common.{refl, sym, ◌∙◌, ap, subst}
-use Rattle.std.specs.Prelude.{is_some, IsSomeAnd}
-use Rattle.std.specs.List.{filter_map, cons_option}
+use Rattle.std.proofs.Common.{refl, sym, ◌∙◌, ap, subst, arith}
+use Rattle.std.specs.Prelude.{is_some, IsSomeAnd, IfSome}
+use Rattle.std.specs.List.{filter_map}
 use Rattle.std.specs.Ordering.{eq_by_cmp}
 use Rattle.capability.specs.declared.Uid.{Uid}
 use Rattle.eden_value.specs.declared.status.Status.{Status}
 use Rattle.eden_value.specs.declared.status.Status.TheVariants as status
-use Rattle.eden_model.specs.Map.{value_at, uid_cmp, with_item, first}
+use Rattle.eden_model.specs.Map.{value_at, uid_cmp, with_item, first, rest}
+use Rattle.eject_table.specs.Table.{active_in}
 use Rattle.passive_store.specs.declared.store.Pick.{Pick}
 use Rattle.invocation.specs.Mail.{Mail}
 use Rattle.invocation.specs.Carries.{Carries}
@@ -17,21 +18,82 @@ use Rattle.journal.specs.EjectChange.{EjectChange, body, removal, kept_of}
 use Rattle.journal.specs.declared.event.Event.TheVariants as event
 use Rattle.journal.specs.declared.event.RequestEnd.{RequestEnd}
 use Rattle.journal.specs.declared.event.RequestEnd.TheVariants as end
-use Rattle.journal.specs.World.{Eject, StoreRequest, Node, Site, eject_in, on_eject, on_node}
-use Rattle.journal.specs.Ejects.{is_kept}
-use Rattle.journal.specs.Settling.{epoch_doubts, doubt_entry, doubts, in_doubt, unsynced, finds_room}
-use Rattle.journal.specs.Sites.{IsSoundSite}
+use Rattle.journal.specs.World.{Eject, StoreRequest, Site, eject_in, on_eject, on_node}
+use Rattle.journal.specs.Ejects.{is_kept, is_there}
+use Rattle.journal.specs.Settling.{epoch_doubts, doubt_entry, in_doubt, unsynced, finds_room}
+use Rattle.journal.specs.Sites.{IsSoundSite, at_store}
 use Rattle.journal.specs.Step.{AllowsAt, site_turn}
 use Rattle.journal.specs.Stores.{Work, syncs, reads, unkept, without_room, calls, is_kept_in, needs_calls, first_work, work_of, EndsSo}
-use Rattle.journal.specs.Stores.{AllowsStore, more_made, doubted, stored, request_ended, removed, done, worked, store_turn}
-use Rattle.ejects.specs.Parts.{Parts, Stands, IsAt}
+use Rattle.journal.specs.Stores.{AllowsStore, more_made, doubted, stored, request_ended, removed, worked}
+use Rattle.history_laws.proofs.SiteStores.{first-is, at-own}
+use Rattle.history_laws.proofs.StoreLaw.{first-there}
+use Rattle.active_part.specs.Body.{Body}
+use Rattle.ejects.specs.Marks.{AwaitsIn}
+use Rattle.ejects.specs.Parts.{Parts, Known, known, body_at, Stands, IsAt}
 use Rattle.ejects.specs.Passive.{IsKeptIn}
-use Rattle.ejects.specs.StoreEnds.{code_of_end, IsShownAs, takes_eject, is_removal, IsFirstOf, IsFirst, Told, Went, WentIf}
+use Rattle.ejects.specs.StoreEnds.{code_of_end, IsShownAs, takes_eject, is_removal, KeepsUnasked, IsFirstOf, IsFirst, Told, WentIf}
 use Rattle.ejects.proofs.Drops.{stays-on_node}
+use Rattle.ejects.proofs.Hearing.{FoundWaiting, waiting-body}
 use Rattle.ejects.proofs.Removals.{doubted-stands, stored-stands, alike-same, ended-stands, ended-traffic, stored-traffic}
 use Rattle.ejects.proofs.Removals.{went-unkept, went-stored}
 
--- 1. A removal of what is not kept
+-- 1. The Eject of the first request
+
+active-stands : (o : Option (Option Body)) (b : Body) → active_in o ≡ Some b → is_some o ≡ true
+active-stands None b is = absurd (let bad : None ≡ Some b = is in cc bad)
+active-stands (Some x) b is = refl
+
+known-there : (n : Parts) (s : Site) (u : Uid) (e : Eject) → Stands n s → eject_in s u ≡ Some e → is_some (n.standing u) ≡ is_there e
+known-there n s u e h found = ap (λ (k : Known). k.there) (sym (h.ejects u) ∙ ap known found)
+
+or-kept : (b : Bool) → (b || true) ≡ true
+or-kept true = refl
+or-kept false = refl
+
+module _ (n : Parts) (s : Site) (r : StoreRequest) (sound : IsSoundSite s) (h : Stands n s) (is : first s.node.requests ≡ Some r) where
+  in-site : is_some (eject_in s r.uid) ≡ true
+  in-site = first-there s.node.requests s.node.ejects r is sound.node.there
+
+  first-waits : (p : ℕ) → r.process ≡ Some p → FoundWaiting n r.uid p
+  first-waits p answers =
+      let asked = ap (at_store r.uid p) (first-is s.node.requests r is) ∙ at-own r p (rest s.node.requests) answers in
+      waiting-body n s r.uid p h ((sound.processes r.uid p (sound.node.of_node r.uid in-site)).stores (omega (arith, asked)))
+
+  -- the process that it answers waits
+  request-awaits : IfSome r.process (λ p. AwaitsIn (body_at n r.uid) p)
+  request-awaits = go r.process refl
+    where
+      go : (o : Option ℕ) → r.process ≡ o → IfSome o (λ p. AwaitsIn (body_at n r.uid) p)
+      go None answers = tt
+      go (Some p) answers = let found = first-waits p answers in subst (λ o. AwaitsIn o p) (sym found.is) found.waits
+
+  -- and its Eject is there
+  request-there : KeepsUnasked r.process r.uid s → is_some (n.standing r.uid) ≡ true
+  request-there kept = go r.process refl kept
+    where
+      here : (o : Option Eject) → eject_in s r.uid ≡ o → is_some o ≡ true → IsKeptIn s r.uid true → is_some (n.standing r.uid) ≡ true
+      here None at some kept = absurd (let bad : false ≡ true = some in cc bad)
+      here (Some e) at some kept =
+          known-there n s r.uid e h at ∙ ap (λ b. is_some e.active || b) (kept.at e at) ∙ or-kept (is_some e.active)
+
+      go : (o : Option ℕ) → r.process ≡ o → KeepsUnasked o r.uid s → is_some (n.standing r.uid) ≡ true
+      go None answers kept = here (eject_in s r.uid) refl in-site kept
+      go (Some p) answers kept = let found = first-waits p answers in active-stands (n.standing r.uid) found.body found.is
+
+-- in the words of the contract
+module _ (n : Parts) (m : Mail) (s : Site) (u : Uid) (process : Option ℕ) (removes : Bool) (sound : IsSoundSite s)
+    (at : IsAt n m s) (is : IsFirst u process removes s) where
+  pub first-awaits : IfSome process (λ p. AwaitsIn (body_at n u) p)
+  first-awaits = subst (λ v. IfSome process (λ p. AwaitsIn (body_at n v) p)) is.uid
+      (subst (λ o. IfSome o (λ p. AwaitsIn (body_at n is.request.uid) p)) is.answers
+      (request-awaits n s is.request sound at.parts is.is_first))
+
+  pub first-stands : is_some (n.standing u) ≡ true
+  first-stands = subst (λ v. is_some (n.standing v) ≡ true) is.uid
+      (request-there n s is.request sound at.parts is.is_first
+      (subst (λ v. KeepsUnasked is.request.process v s) (sym is.uid) (subst (λ o. KeepsUnasked o u s) (sym is.answers) is.kept)))
+
+-- 2. A removal of what is not kept
 
 -- no Eject is in doubt, where none is
 entry-undoubted : (u : Uid) (e : Eject) (es : List (Uid × Eject)) → is_some (first (filter_map doubt_entry es)) ≡ false
@@ -98,7 +160,7 @@ unkept-now s r removes is = record { at = λ e found. none e found }
         (second-none (epoch_doubts s.number s.node.epoch_doubt) (filter_map doubt_entry s.node.ejects) un.settled_) found in
         (λ i. kept i || is_some (doubt i))
 
--- 2. A request ends
+-- 3. A request ends
 
 unsynced-traffic : (s : Site) → (unsynced s).traffic ≡ s.traffic
 unfolding on_node
@@ -185,10 +247,10 @@ module _ (n mid new : Parts) (m later : Mail) (s : Site) (r : StoreRequest) (sou
 module _ (n mid new : Parts) (m later : Mail) (s : Site) (u : Uid) (process : Option ℕ) (removes : Bool) (sound : IsSoundSite s)
     (at : IsAt n m s) (is : IsFirst u process removes s) where
   pub store-ends : (e : StoreEnd) (why : Status) (how : RequestEnd) (p : Option Pick) (clock : ℕ) (reach : ℕ → Bool)
-      → is_some (n.standing u) ≡ true → code_of_end e ≡ Some why → IsShownAs e how → Told u process why n mid
+      → code_of_end e ≡ Some why → IsShownAs e how → Told u process why n mid
       → WentIf (takes_eject removes e) u mid new m later → AllowsAt s (event.Store u clock how p)
       → IsAt new later (site_turn reach (event.Store u clock how p) s)
-  store-ends e why how p clock reach there code shown told went allows =
+  store-ends e why how p clock reach code shown told went allows =
       let r = is.request in
       let allowed = subst (λ o. IsSomeAnd o (λ q. AllowsStore s u how p q)) is.is_first allows in
       let told_first : Told r.uid r.process why n mid = subst (λ v. Told v r.process why n mid) (sym is.uid)
@@ -196,13 +258,14 @@ module _ (n mid new : Parts) (m later : Mail) (s : Site) (u : Uid) (process : Op
       let went_first : WentIf (takes_eject (is_removal r.change) e) r.uid mid new m later =
       subst (λ v. WentIf (takes_eject (is_removal r.change) e) v mid new m later) (sym is.uid)
       (subst (λ b. WentIf (takes_eject b e) u mid new m later) (sym is.asks) went) in
-      let there_first : is_some (n.standing r.uid) ≡ true = ap (λ v. is_some (n.standing v)) is.uid ∙ there in
+      let there_first : is_some (n.standing r.uid) ≡ true =
+      ap (λ v. is_some (n.standing v)) is.uid ∙ first-stands n m s u process removes sound at is in
       subst (IsAt new later) (sym (ap (λ o. with_item o (λ q. worked (work_of s q) q how p s) s) is.is_first))
       (by-end n mid new m later s r sound at there_first e how p why code shown told_first went_first allowed.ends)
 
--- 3. It goes on
+-- 4. It goes on
 
-module _ (n : Parts) (m : Mail) (s : Site) (u : Uid) (at : IsAt n m s) (is : IsFirstOf u s) where
+module _ (n : Parts) (m : Mail) (s : Site) (u : Uid) (sound : IsSoundSite s) (at : IsAt n m s) (is : IsFirstOf u s) where
   goes-by : (r : StoreRequest) → is_some (n.standing r.uid) ≡ true → (w : Work) → EndsSo w end.Part None
       → IsAt n m (worked w r end.Part None s)
   unfolding on_node on_eject
@@ -217,10 +280,12 @@ module _ (n : Parts) (m : Mail) (s : Site) (u : Uid) (at : IsAt n m s) (is : IsF
     calls = at.calls;
   }
 
-  pub store-goes : (clock : ℕ) (reach : ℕ → Bool) → is_some (n.standing u) ≡ true → AllowsAt s (event.Store u clock end.Part None)
+  -- nothing changes of the parts and the calls
+  pub store-goes-on : (clock : ℕ) (reach : ℕ → Bool) → AllowsAt s (event.Store u clock end.Part None)
       → IsAt n m (site_turn reach (event.Store u clock end.Part None) s)
-  store-goes clock reach there allows =
+  store-goes-on clock reach allows =
       let r = is.request in
       let allowed = subst (λ o. IsSomeAnd o (λ q. AllowsStore s u end.Part None q)) is.is_first allows in
+      let kept = subst (λ v. KeepsUnasked r.process v s) (sym is.uid) is.kept in
       subst (IsAt n m) (sym (ap (λ o. with_item o (λ q. worked (work_of s q) q end.Part None s) s) is.is_first))
-      (goes-by r (ap (λ v. is_some (n.standing v)) is.uid ∙ there) (work_of s r) allowed.ends)
+      (goes-by r (request-there n s r sound at.parts is.is_first kept) (work_of s r) allowed.ends)

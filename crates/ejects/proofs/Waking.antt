@@ -17,8 +17,7 @@ use Rattle.eden_model.specs.Traffic.{Traffic, all_replied}
 use Rattle.epl_syntax.specs.Edentype.{Edentype}
 use Rattle.epl_syntax.specs.Meaning.{values_from}
 use Rattle.epl_syntax.specs.Rules.OfTypes.{TypeList}
-use Rattle.eject_table.specs.Table.{Table, standing_of, standing_at, with_entry}
-use Rattle.eject_table.specs.declared.EjectStanding.TheVariants as standing
+use Rattle.eject_table.specs.Table.{Table, with_entry}
 use Rattle.invocation.specs.Mail.{Mail}
 use Rattle.invocation.specs.Carries.{Carries}
 use Rattle.passive_store.specs.declared.store.Pick.{Pick}
@@ -37,7 +36,8 @@ use Rattle.checkpoint.specs.Starting.{StartsWith}
 use Rattle.active_part.specs.Body.{Body, active_of, calls_of}
 use Rattle.active_part.specs.View.{body_of}
 use Rattle.active_part.specs.declared.part.Part.{Part}
-use Rattle.ejects.specs.Activations.{fitting, queued_body, AreQueued, Joins, JoinsAll, IsWoken, answer_of}
+use Rattle.ejects.specs.Activations.{fitting, queued_body, AreQueued, Joins, JoinsAll, answer_of}
+use Rattle.ejects.specs.View.{with_body}
 use Rattle.ejects.specs.Parts.{Parts, Known, known, body_at, queue_in, queue_of, held_of, HasClasses, Stands, IsAt}
 use Rattle.ejects.specs.Passive.{OnlyAt}
 use Rattle.ejects.specs.Replies.{AreOut}
@@ -167,18 +167,9 @@ with_waiting ws n = record n { waiting = ws }
 
 -- 4. The node with an active part
 
-passive-there : (o : Option (Option Part)) → standing_of o ≡ standing.Passive → o ≡ Some None
-passive-there None is = absurd (cc is)
-passive-there (Some None) is = refl
-passive-there (Some (Some a)) is = absurd (cc is)
-
 pub woken-in : (ts : TypeList) (t later : Table Part) (waiting : List (Uid × List ℕ)) (u : Uid) (part : Part)
-    → standing_at t u ≡ standing.Passive
-    → later ≡ with_entry t u (Some part) → IsWoken u (body_of ts part) (parts_with ts t waiting) (parts_with ts later waiting)
-woken-in ts t later waiting u part passive after = record {
-  passive = ap (body_in ts) (passive-there (get t.standings u) passive);
-  parts = ap (λ x. parts_with ts x waiting) after ∙ part-written ts t waiting u part;
-}
+    → later ≡ with_entry t u (Some part) → parts_with ts later waiting ≡ with_body u (body_of ts part) (parts_with ts t waiting)
+woken-in ts t later waiting u part after = ap (λ x. parts_with ts x waiting) after ∙ part-written ts t waiting u part
 
 -- 5. It starts
 
@@ -186,7 +177,7 @@ module _ (reach : ℕ → Bool) (n new : Parts) (ws : List (Uid × List ℕ)) (m
     (kind : Edentype) (durable : List Datum) (first b : Body) (sound : IsSoundSite s) (allowed : AllowsAt s (event.Activate u end.Ok p))
     (starts : StartsWith s u p (kind, durable)) (at : IsAt n m (start_settled p s)) (left : LeavesQueue u n.waiting ws)
     (anew : active_of first ≡ fresh kind (values_from kind durable)) (empty : first.crew.queued ≡ [])
-    (joins : JoinsAll first b (queue_in (value_at uid_cmp u n.waiting)) m later) (woken : IsWoken u b (with_waiting ws n) new) where
+    (joins : JoinsAll first b (queue_in (value_at uid_cmp u n.waiting)) m later) (woken : new ≡ with_body u b (with_waiting ws n)) where
   abbrev t : Site
   t = start_settled p s
 
@@ -221,7 +212,7 @@ module _ (reach : ℕ → Bool) (n new : Parts) (ws : List (Uid × List ℕ)) (m
   queue-is = ap (λ (x : Body). x.crew.queued) body-is ∙ ap (λ l. l ++ fitting kind t.traffic q.eject.queued) empty
 
   only : OnlyAt u n new
-  only = subst (OnlyAt u n) (sym woken.parts) (record {
+  only = subst (OnlyAt u n) (sym woken) (record {
     node = record { number = refl; types = refl; epoch = refl; last_serial = refl };
     others = λ v other. record {
       standing = table-other (with_waiting ws n) u v (Some b) other;
@@ -230,10 +221,10 @@ module _ (reach : ℕ → Bool) (n new : Parts) (ws : List (Uid × List ℕ)) (m
   })
 
   body-new : body_at new u ≡ Some b
-  body-new = ap (λ (x : Parts). body_at x u) woken.parts ∙ rw (table-at (with_waiting ws n) u (Some b)) refl
+  body-new = ap (λ (x : Parts). body_at x u) woken ∙ rw (table-at (with_waiting ws n) u (Some b)) refl
 
   there-new : is_some (new.standing u) ≡ true
-  there-new = ap (λ (x : Parts). is_some (x.standing u)) woken.parts ∙ rw (table-at (with_waiting ws n) u (Some b)) refl
+  there-new = ap (λ (x : Parts). is_some (x.standing u)) woken ∙ rw (table-at (with_waiting ws n) u (Some b)) refl
 
   here : known (Some (started q.eject)) ≡ held_of new u
   here = same-known (ap (λ it. Some it) (sym anew ∙ sym (ap active_of body-is)) ∙ sym (ap (option_map active_of) body-new))

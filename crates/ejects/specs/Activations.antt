@@ -41,11 +41,6 @@ pub record Joins (old new : Body) (ks : List ℕ) (m later : Mail) (t : Traffic)
 abbrev pub JoinsAll : Body → Body → List ℕ → Mail → Mail → Type 0
 JoinsAll old new ks m later = (t : Traffic) (u : Uid) → Carries m t → AreQueued t u ks → Joins old new ks m later t
 
--- the passive Eject has this active part
-pub record IsWoken (u : Uid) (b : Body) (old new : Parts) : Type 0 where
-  pub passive : old.standing u ≡ Some None
-  pub parts : new ≡ with_body u b old
-
 -- what answers the queue of an Eject that does not start
 abbrev pub answer_of : StartEnd → Option Status
 answer_of end.Gone = Some status.Gone

@@ -3,7 +3,7 @@ use Rattle.std.specs.Prelude.{◌≡◌, ℕ, Bool, false, not, ◌&&◌, Option
 use Rattle.std.specs.List.{list_any}
 use Rattle.capability.specs.declared.Uid.{Uid}
 use Rattle.eden_model.specs.Map.{first, same_uid}
-use Rattle.eden_model.specs.Crew.{Runs, startable}
+use Rattle.eden_model.specs.Crew.{Runs, Waits, outside, startable}
 use Rattle.invocation.specs.Mail.{Mail}
 use Rattle.invocation.specs.Numbers.{item_in}
 use Rattle.journal.specs.Enabled.{is_ready}
@@ -27,6 +27,10 @@ may_run (Some b) = list_any (λ q. is_ready q.1.waits) b.crew.crew.processes
 -- it is active, and this process of it waits for nothing
 abbrev pub IsReady : Option Body → ℕ → Type 0
 IsReady o p = IsSomeAnd o (λ b. Runs b.crew.crew p)
+
+-- it is active, and this process of it waits for what is outside: for a reply or for the store
+abbrev pub AwaitsIn : Option Body → ℕ → Type 0
+AwaitsIn o p = IsSomeAnd o (λ b. Waits b.crew.crew p outside)
 
 -- it is active, and an invocation may start of which the call was asked
 abbrev pub MayBegin : Mail → Option Body → Type 0

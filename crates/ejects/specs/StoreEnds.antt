@@ -20,7 +20,7 @@ use Rattle.journal.specs.Settling.{first_request, settled_eject}
 use Rattle.active_part.specs.Body.{Body}
 use Rattle.active_part.specs.Bodies.{told_body}
 use Rattle.ejects.specs.Parts.{Parts, body_at, queue_at}
-use Rattle.ejects.specs.Passive.{HoldsPassive}
+use Rattle.ejects.specs.Passive.{HoldsPassive, IsKeptIn}
 use Rattle.ejects.specs.Replies.{AreOut, Slept}
 use Rattle.ejects.specs.View.{with_body}
 
@@ -54,19 +54,27 @@ abbrev pub is_removal : EjectChange → Bool
 is_removal (body bytes) = false
 is_removal removal = true
 
--- the node's first request is of this Eject
+-- where a request of this Eject answers no process, something is kept of the Eject, or may be: a request that outlives its process has
+-- begun, and so its change is in doubt
+abbrev pub KeepsUnasked : Option ℕ → Uid → Site → Type 0
+KeepsUnasked None u s = IsKeptIn s u true
+KeepsUnasked (Some p) u s = Unit {0}
+
+-- the node's first request is of this Eject, of which something is kept, or may be, where the request answers no process
 pub record IsFirstOf (u : Uid) (s : Site) : Type 0 where
   pub request : StoreRequest
   pub is_first : first_request s.node ≡ Some request
   pub uid : request.uid ≡ u
+  pub kept : KeepsUnasked request.process u s
 
--- and answers this process, if any, and is a removal or none
+-- and answers this process, if any, and is a removal or none; where it answers none, something is kept of the Eject, or may be
 pub record IsFirst (u : Uid) (process : Option ℕ) (removes : Bool) (s : Site) : Type 0 where
   pub request : StoreRequest
   pub is_first : first_request s.node ≡ Some request
   pub uid : request.uid ≡ u
   pub answers : request.process ≡ process
   pub asks : is_removal request.change ≡ removes
+  pub kept : KeepsUnasked process u s
 
 -- 3. What it leaves
 

@@ -1,6 +1,6 @@
 //! Passive Ejects are activated.
 ghost use Rattle.std.specs.Prelude.{◌≡◌, ◌∷◌, [], ℕ, Bool};
-ghost use Rattle.std.specs.Prelude.{OnOk, Some};
+ghost use Rattle.std.specs.Prelude.{OnOk, None, Some};
 ghost use Rattle.epl_syntax.specs.Rules.OfTypes.{TypeList};
 ghost use Rattle.passive_store.specs.declared.store.Pick.{Pick};
 ghost use Rattle.std.specs.Prelude.{Option};
@@ -14,9 +14,9 @@ ghost use Rattle.journal.specs.Starts.{start_settled};
 ghost use Rattle.journal.specs.Step.{AllowsAt, site_turn};
 ghost use Rattle.checkpoint.specs.Starting.{StartsWith};
 ghost use Rattle.active_part.specs.View.{body_of};
-ghost use Rattle.ejects.specs.Activations.{JoinsAll, IsWoken, answer_of};
-ghost use Rattle.ejects.specs.Parts.{IsAt};
-ghost use Rattle.ejects.specs.View.{parts_of};
+ghost use Rattle.ejects.specs.Activations.{JoinsAll, answer_of};
+ghost use Rattle.ejects.specs.Parts.{IsAt, body_at};
+ghost use Rattle.ejects.specs.View.{parts_of, with_body};
 
 use crate::replies::{reply, reply_all};
 use crate::{Ejects, take_waiting};
@@ -24,12 +24,11 @@ use active_part::{Part, no_items};
 use capability::{CallNumbers, Uid};
 use eden_value::{Items, Status};
 use edentypes::{Fit, Kind, fit_call};
-use eject_table::EjectStanding;
 use epl_syntax::Types;
 use invocation::Calls;
 use std::alloc::{AllocError, Global};
 
-// A call that was queued joins the active part, or is answered where it does not fit.
+// A call that was queued joins the active part, or is answered where it does not fit. One that was never asked is passed over.
 fn join_or_answer(
     alloc: Global,
     types: &Types,
@@ -40,7 +39,7 @@ fn join_or_answer(
     ensures { OnOk result (JoinsAll (body_of types.now part.old) (body_of types.now part.new) (number ∷ []) calls.old calls.new) }
 {
     let Some(asked) = calls.call(number) else {
-        return Err(AllocError);
+        return Ok(());
     };
     let fit = fit_call(
         types,
@@ -73,21 +72,18 @@ fn join_all(
 }
 
 impl Ejects {
-    // A passive Eject has this active part.
+    // An Eject that is not active has this active part.
     fn enter(&mut self, alloc: Global, uid: Uid, part: Part) -> Result<(), AllocError>
-        ensures { OnOk result ((ts : TypeList) → IsWoken uid (body_of ts part) (parts_of ts self.old) (parts_of ts self.new)) }
+        requires { (ts : TypeList) → body_at (parts_of ts self.old) uid ≡ None }
+        ensures { OnOk result ((ts : TypeList) → parts_of ts self.new ≡ with_body uid (body_of ts part) (parts_of ts self.old)) }
     {
-        match self.table.find(uid) {
-            EjectStanding::Passive => match self.table.wake(alloc, uid, part) {
-                Ok(()) => Ok(()),
-                Err(_) => Err(AllocError),
-            },
-            EjectStanding::Active => Err(AllocError),
-            EjectStanding::Absent => Err(AllocError),
+        match self.table.wake(alloc, uid, part) {
+            Ok(()) => Ok(()),
+            Err(_) => Err(AllocError),
         }
     }
 
-    /// A passive Eject starts with these values of its durable variables, behind the settling of its activation. The
+    /// An Eject that is not active starts with these values of its durable variables, behind the settling of its activation. The
     /// calls of its queue that fit its type join the active part, and the others are answered, both in order.
     ///
     /// For want of memory the queue may have left the node.
@@ -100,6 +96,7 @@ impl Ejects {
         kind: Kind,
         durable: &Items,
     ) -> Result<(), AllocError>
+        requires { (ts : TypeList) → body_at (parts_of ts self.old) uid ≡ None }
         ensures { OnOk result ((reach : ℕ → Bool) (s : Site) (p : Option Pick) → IsSoundSite s
             → AllowsAt s (Activate uid end.Ok p) → StartsWith s uid p (kind_in types.now kind, durable.now)
             → IsAt (parts_of types.now self.old) calls.old (start_settled p s)

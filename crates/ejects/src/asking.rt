@@ -10,7 +10,7 @@ ghost use Rattle.epl_syntax.specs.Meaning.{rep_of};
 ghost use Rattle.eden_model.specs.Crew.{outside, set_waits};
 ghost use Rattle.passive_store.specs.Kept.{IsEject};
 ghost use Rattle.checkpoint.specs.Asked.{AllOfNode};
-ghost use Rattle.checkpoint.specs.Queues.{removal_of};
+ghost use Rattle.checkpoint.specs.Queues.{removal_of, AllAnswerBut};
 ghost use Rattle.active_part.specs.View.{IsEncoded};
 ghost use Rattle.ejects.specs.Asking.{checkpointed_body, with_put};
 ghost use Rattle.active_part.specs.Bodies.{told_body, crewed_body};
@@ -86,6 +86,8 @@ impl Ejects {
             → worker.new.requests.items ≡ with_put uid process (spelling (rep_of b.kind b.vars)) worker.old.requests.items) }
         ensures begun { worker.new.begun ≡ worker.old.begun }
         ensures of_node { (k : ℕ) → IsEject k uid → AllOfNode k worker.old.requests.items → AllOfNode k worker.new.requests.items }
+        ensures answers { AllAnswerBut worker.old.begun worker.old.requests.items
+            → AllAnswerBut worker.new.begun worker.new.requests.items }
     {
         match self.encoded_at(alloc, types, uid)? {
             Some(body) => {
@@ -116,6 +118,8 @@ impl Ejects {
         ensures requests { OnOk result (worker.new.requests.items ≡ worker.old.requests.items ++ removal_of uid process ∷ []) }
         ensures begun { worker.new.begun ≡ worker.old.begun }
         ensures of_node { (k : ℕ) → IsEject k uid → AllOfNode k worker.old.requests.items → AllOfNode k worker.new.requests.items }
+        ensures answers { AllAnswerBut worker.old.begun worker.old.requests.items
+            → AllAnswerBut worker.new.begun worker.new.requests.items }
     {
         worker.ask_delete(uid, process)?;
         self.block_at(uid, process);

@@ -1,5 +1,5 @@
 //! The Ejects of a node that comes up.
-ghost use Rattle.std.specs.Prelude.{◌≡◌, IfOk, None, OnOk};
+ghost use Rattle.std.specs.Prelude.{◌≡◌, ◌≤◌, IfOk, None, OnOk};
 ghost use Rattle.epl_syntax.specs.Rules.OfTypes.{TypeList};
 ghost use Rattle.ejects.specs.Boots.{IsBlank, Notes};
 ghost use Rattle.ejects.specs.Parts.{body_at};
@@ -14,6 +14,7 @@ use std::collections::BTreeMap;
 impl Ejects {
     /// The Ejects of a node that comes up in an epoch: none as yet.
     pub fn new(alloc: Global, number: u8, epoch: u32) -> Result<Ejects, AllocError>
+        requires { number ≤ 8 }
         ensures { IfOk result (λ n. (ts : TypeList) → IsBlank number epoch (parts_of ts n)) }
     {
         let table = EjectTable::new(alloc, number, epoch, 0)?;

@@ -1,6 +1,7 @@
 //! Ejects are created.
-ghost use Rattle.std.specs.Prelude.{◌≡◌, IfOk, OnOk, Some};
+ghost use Rattle.std.specs.Prelude.{◌≡◌, IfOk, Some};
 ghost use Rattle.std.specs.FinMap.{len};
+ghost use Rattle.eden_model.specs.Crew.{Runs};
 ghost use Rattle.epl_syntax.specs.Meaning.{type_of, types_in};
 ghost use Rattle.epl_syntax.specs.Rules.OfTypes.{TypeList};
 ghost use Rattle.edentypes.specs.View.{kind_in};
@@ -73,16 +74,14 @@ impl Ejects {
         Ok(made)
     }
 
-    // A process is told what came of its creation. It runs as before, where the new Eject stands under a uid that is new.
-    fn tell_created(&mut self, uid: Uid, process: u8, answer: Answer) -> Result<(), AllocError>
-        ensures { OnOk result ((ts : TypeList) (b : Body) → body_at (parts_of ts self.old) uid ≡ Some b
-            → parts_of ts self.new ≡ with_body uid (told_body process answer b) (parts_of ts self.old)) }
+    // A process that waits for nothing is told what came of its creation.
+    fn tell_created(&mut self, uid: Uid, process: u8, answer: Answer)
+        ensures { (ts : TypeList) (b : Body) → body_at (parts_of ts self.old) uid ≡ Some b → Runs b.crew.crew process
+            → parts_of ts self.new ≡ with_body uid (told_body process answer b) (parts_of ts self.old) }
     {
-        if !self.is_ready(uid, process) {
-            return Err(AllocError);
+        if self.is_ready(uid, process) {
+            self.answer_at(uid, process, answer);
         }
-        self.answer_at(uid, process, answer);
-        Ok(())
     }
 
     // A process creates an Eject of the type of this name, and is told.
@@ -94,8 +93,8 @@ impl Ejects {
         process: u8,
         type_name: &Txt,
     ) -> Result<Shown, AllocError>
-        ensures { IfOk result (λ said. (b : Body) (s : Site) → body_at (parts_of types.now self.old) uid ≡ Some b → HasNewUid s
-            → Stands (parts_of types.now self.old) s
+        ensures { IfOk result (λ said. (b : Body) (s : Site) → body_at (parts_of types.now self.old) uid ≡ Some b
+            → Runs b.crew.crew process → HasNewUid s → Stands (parts_of types.now self.old) s
             → CreatedFor uid process type_name.now (parts_of types.now self.new) said s) }
     {
         let kind = type_named(types, type_name)?;
@@ -105,11 +104,11 @@ impl Ejects {
                     status: Status::Ok,
                     cap: Some(mint(created)),
                 };
-                self.tell_created(uid, process, answer)?;
+                self.tell_created(uid, process, answer);
                 Ok(Shown::Created { uid: created })
             }
             Err(status) => {
-                self.tell_created(uid, process, Answer::Created { status, cap: None })?;
+                self.tell_created(uid, process, Answer::Created { status, cap: None });
                 Ok(Shown::Refused { status })
             }
         }

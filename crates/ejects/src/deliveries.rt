@@ -1,8 +1,8 @@
 //! Messages are delivered.
-ghost use Rattle.std.specs.Prelude.{◌≡◌, IfNone, IfSome, is_some, ◌≤◌, ◌<◌, ℕ, Bool};
-ghost use Rattle.std.specs.Prelude.{IfOk, Some, None};
-ghost use Rattle.epl_syntax.specs.Rules.OfTypes.{TypeList};
-ghost use Rattle.invocation.specs.declared.call.Delivery.TheVariants.{Request, Reply};
+ghost use Rattle.std.specs.Prelude.{◌≡◌, ◌≤◌, ℕ, Bool, IfOk, IsTrue, None, is_some};
+ghost use Rattle.eden_model.specs.Map.{with_item};
+ghost use Rattle.eden_model.specs.Traffic.{waiting_process};
+ghost use Rattle.invocation.specs.Numbers.{item_in};
 ghost use Rattle.ejects.specs.Events.{IsDelivery};
 ghost use Rattle.ejects.specs.Hears.{hears};
 ghost use Rattle.ejects.specs.Parts.{Steps};
@@ -10,52 +10,62 @@ ghost use Rattle.ejects.specs.View.{parts_of, number_of};
 
 use crate::Ejects;
 use epl_syntax::Types;
-use invocation::{Calls, Delivery};
+use invocation::{Calls, Delivery, Message};
 use journal::Event;
 use std::alloc::{AllocError, Global};
 
+// Whether a process asked the call of this number.
+fn is_by_process(calls: &Calls, call: u32) -> bool
+    ensures { result ≡ is_some (with_item (item_in call calls.now.calls) (λ c. waiting_process c.asker) None) }
+{
+    match calls.call(call) {
+        Some(asked) => asked.process().is_some(),
+        None => false,
+    }
+}
+
 impl Ejects {
-    /// The first message from a station is delivered. None exactly where that is neither a request nor a reply to a process, or
-    /// where there is none, and then no Eject has changed.
+    /// Whether a message from a station is on its way here, and the first is a request, or the reply to a call of a process.
+    pub fn hears(&self, calls: &Calls, from: u8) -> bool
+        requires { from ≤ 8 }
+        ensures { result ≡ hears from (number_of self.now) calls.now }
+    {
+        match calls.first(from, self.number()) {
+            Some(Message::Request { .. }) => true,
+            Some(Message::Reply { call, .. }) => is_by_process(calls, *call),
+            None => false,
+        }
+    }
+
+    /// The first message from a station is delivered: a request, or the reply to a call of a process.
     pub fn deliver(
         &mut self,
         alloc: Global,
         types: &Types,
         calls: &mut Calls,
         from: u8,
-    ) -> Result<Option<Event>, AllocError>
+    ) -> Result<Event, AllocError>
         requires from { from ≤ 8 }
-        ensures hears { IfOk result (λ it. is_some it ≡ hears from (number_of self.old) calls.old) }
-        ensures event { IfOk result (λ it. IfSome it (IsDelivery from (number_of self.old))) }
-        ensures none { IfOk result (λ it. IfNone it ((ts : TypeList) → parts_of ts self.new ≡ parts_of ts self.old)) }
-        ensures steps { IfOk result (λ it. IfSome it (λ e. (reach : ℕ → Bool)
-            → Steps reach (parts_of types.now self.old) calls.old (parts_of types.now self.new) calls.new e)) }
+        requires hears { IsTrue (hears from (number_of self.old) calls.old) }
+        ensures event { IfOk result (IsDelivery from (number_of self.old)) }
+        ensures steps { IfOk result (λ e. (reach : ℕ → Bool)
+            → Steps reach (parts_of types.now self.old) calls.old (parts_of types.now self.new) calls.new e) }
     {
-        let to = self.table.node();
-        if to > 8 {
-            return Err(AllocError);
-        }
-        let Some(delivery) = calls.deliver(from, to) else {
-            return Ok(None);
-        };
-        match delivery {
-            Delivery::Request { call } => {
-                let event = self.request(alloc, types, calls, from, call)?;
-                Ok(Some(event))
-            }
-            Delivery::Reply {
-                call,
-                status,
-                results,
-                was_open,
-                process,
-            } => match process {
-                Some(asker) => {
-                    let event = self.hear(alloc, from, call, status, results, was_open, asker)?;
-                    Ok(Some(event))
-                }
-                None => Ok(None),
+        match calls.deliver(from, self.number()) {
+            Some(Delivery::Request { call }) => self.request(alloc, types, calls, from, call),
+            Some(
+                Delivery::Reply {
+                    call,
+                    status,
+                    results,
+                    was_open,
+                    process,
+                },
+            ) => match process {
+                Some(asker) => self.hear(alloc, from, call, status, results, was_open, asker),
+                None => unreachable!(),
             },
+            None => unreachable!(),
         }
     }
 }

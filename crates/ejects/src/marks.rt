@@ -1,5 +1,5 @@
 //! Which turns of its own an Eject may take.
-ghost use Rattle.std.specs.Prelude.{◌≡◌, IfSome, None, is_some};
+ghost use Rattle.std.specs.Prelude.{◌≡◌, ◌≤◌, IfSome, None, is_some};
 ghost use Rattle.coordinator.specs.Ready.{AscendPast, next_ready};
 ghost use Rattle.eden_model.specs.Map.{with_item};
 ghost use Rattle.epl_syntax.specs.Rules.OfTypes.{TypeList};
@@ -25,7 +25,8 @@ pub struct May {
 impl Ejects {
     /// The number of the node.
     pub fn number(&self) -> u8
-        ensures { result ≡ number_of self.now }
+        ensures value { result ≡ number_of self.now }
+        ensures within { result ≤ 8 }
     {
         self.table.node()
     }

@@ -14,6 +14,7 @@ ghost use Rattle.ejects.specs.Replies.{Returned, Invoked, Reaches};
 ghost use Rattle.passive_store.specs.Kept.{Work, IsEject};
 ghost use Rattle.journal.specs.Step.{site_turn};
 ghost use Rattle.checkpoint.specs.Asked.{requests_of, AllOfNode};
+ghost use Rattle.checkpoint.specs.Queues.{AllAnswerBut};
 ghost use Rattle.ejects.specs.Asking.{RequestsAre};
 ghost use Rattle.ejects.specs.Creations.{HasNewUid};
 ghost use Rattle.ejects.specs.Events.{IsTurnOf};
@@ -205,6 +206,8 @@ impl Ejects {
             → (site_turn reach (event.Process uid process said) s).node.requests ≡ requests_of work worker.new.requests.items) }
         ensures begun { worker.new.begun ≡ worker.old.begun }
         ensures of_node { (k : ℕ) → IsEject k uid → AllOfNode k worker.old.requests.items → AllOfNode k worker.new.requests.items }
+        ensures answers { AllAnswerBut worker.old.begun worker.old.requests.items
+            → AllAnswerBut worker.new.begun worker.new.requests.items }
     {
         match effect {
             Effect::Return { results } => self.returns(alloc, calls, uid, process, results),
@@ -274,6 +277,8 @@ impl Ejects {
             → (site_turn reach e s).node.requests ≡ requests_of work worker.new.requests.items) }
         ensures begun { worker.new.begun ≡ worker.old.begun }
         ensures of_node { (k : ℕ) → IsEject k uid → AllOfNode k worker.old.requests.items → AllOfNode k worker.new.requests.items }
+        ensures answers { AllAnswerBut worker.old.begun worker.old.requests.items
+            → AllAnswerBut worker.new.begun worker.new.requests.items }
     {
         let effect = self.turn_at(alloc, types, uid, process)?;
         let shown = self.carry_out(

@@ -1,7 +1,8 @@
 //! Answers to calls, and processes that are told theirs.
 ghost use Rattle.std.specs.Prelude.{◌≡◌, IsSome, false, ◌<◌, [], ℕ, Bool};
-ghost use Rattle.std.specs.Prelude.{IfOk, OnOk, Some, None};
+ghost use Rattle.std.specs.Prelude.{◌↔◌, IsTrue, IfOk, OnOk, Some, None};
 ghost use Rattle.invocation.specs.Carries.{Carries, CarriesDelivery};
+ghost use Rattle.eden_model.specs.Crew.{Waits, outside};
 ghost use Rattle.eden_model.specs.Lines.{has, Distinct};
 ghost use Rattle.journal.specs.Ejects.{tells};
 ghost use Rattle.epl_syntax.specs.declared.effect.Answer.TheVariants.{Reply as Told};
@@ -13,6 +14,7 @@ ghost use Rattle.journal.specs.Sites.{IsSoundSite};
 ghost use Rattle.epl_syntax.specs.Rules.OfTypes.{TypeList};
 ghost use Rattle.active_part.specs.Body.{Body};
 ghost use Rattle.ejects.specs.Events.{IsDelivery};
+ghost use Rattle.ejects.specs.Marks.{AwaitsIn};
 ghost use Rattle.ejects.specs.Parts.{body_at, Stands, IsStep};
 ghost use Rattle.ejects.specs.Replies.{AreOut, seconds, sized};
 ghost use Rattle.active_part.specs.Bodies.{told_body};
@@ -107,17 +109,24 @@ pub(crate) fn reply_pairs(
 }
 
 impl Ejects {
-    // A process is told what it waited for.
-    fn tell_at(&mut self, uid: Uid, process: u8, answer: Answer) -> Result<(), AllocError>
-        ensures { OnOk result ((ts : TypeList) (b : Body) → body_at (parts_of ts self.old) uid ≡ Some b
-            → parts_of ts self.new ≡ with_body uid (told_body process answer b) (parts_of ts self.old)) }
+    // Whether the Eject is active and this process of it waits for what is outside.
+    fn awaits(&self, uid: Uid, process: u8) -> bool
+        ensures { (ts : TypeList) → IsTrue result ↔ AwaitsIn (body_at (parts_of ts self.now) uid) process }
+    {
+        match self.table.active(uid) {
+            Some(part) => part.awaits(process),
+            None => false,
+        }
+    }
+
+    // A process that waits for what is outside is told what it waited for. For any other nothing changes.
+    pub(crate) fn tell_at(&mut self, uid: Uid, process: u8, answer: Answer)
+        ensures { (ts : TypeList) (b : Body) → body_at (parts_of ts self.old) uid ≡ Some b → Waits b.crew.crew process outside
+            → parts_of ts self.new ≡ with_body uid (told_body process answer b) (parts_of ts self.old) }
     {
         match self.table.active_mut(uid) {
-            Some(part) => {
-                part.tell(process, answer)?;
-                Ok(())
-            }
-            None => Err(AllocError),
+            Some(part) => part.tell(process, answer),
+            None => {}
         }
     }
 
@@ -154,7 +163,7 @@ impl Ejects {
             status,
             results: told,
         };
-        self.tell_at(asker.0, asker.1, answer)?;
+        self.tell_at(asker.0, asker.1, answer);
         Ok(Event::Reply {
             call,
             from,
@@ -170,11 +179,14 @@ impl Ejects {
         ensures { OnOk result ((ts : TypeList) (s : Site) → Stands (parts_of ts self.old) s → IsSome (body_at (parts_of ts self.old) uid)
             → Stands (parts_of ts self.new) (tells uid process (Told Status.Broken []) s)) }
     {
+        if !self.awaits(uid, process) {
+            return Err(AllocError);
+        }
         let answer = Answer::Reply {
             status: Status::Broken,
             results: no_items(alloc),
         };
-        self.tell_at(uid, process, answer)?;
+        self.tell_at(uid, process, answer);
         Ok(())
     }
 }

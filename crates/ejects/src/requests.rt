@@ -2,6 +2,7 @@
 ghost use Rattle.std.specs.Prelude.{◌≡◌, ◌<◌, ℕ, Bool, IsSome};
 ghost use Rattle.std.specs.Prelude.{IfOk, OnOk, Some, None, length};
 ghost use Rattle.invocation.specs.Carries.{CarriesDelivery};
+ghost use Rattle.invocation.specs.Mail.{IsGiven};
 ghost use Rattle.eden_model.specs.Map.{value_at, uid_cmp};
 ghost use Rattle.eden_model.specs.Lines.{has};
 ghost use Rattle.invocation.specs.declared.call.Delivery.TheVariants.{Request};
@@ -118,7 +119,7 @@ impl Ejects {
         put_waiting(&mut self.waiting, uid, calls)
     }
 
-    // A request that has come from a station.
+    // A request that has come from a station, of a call that was asked.
     pub(crate) fn request(
         &mut self,
         alloc: Global,
@@ -127,6 +128,7 @@ impl Ejects {
         from: u8,
         call: u32,
     ) -> Result<Event, AllocError>
+        requires { IsGiven calls.old.calls call }
         ensures event { IfOk result (IsDelivery from (number_of self.old)) }
         ensures steps { IfOk result (λ e. (reach : ℕ → Bool) (s : Site) → Stands (parts_of types.now self.old) s
             → CarriesDelivery from (number_of self.old) (Some (Request call)) calls.old s.traffic
@@ -134,7 +136,7 @@ impl Ejects {
     {
         let to = self.table.node();
         let Some(asked) = calls.call(call) else {
-            return Err(AllocError);
+            unreachable!()
         };
         let uid = asked.target.uid;
         match self.admission(types, asked) {

@@ -1,6 +1,6 @@
 //! What turns of the store change: processes are told how their requests ended, and Ejects of which nothing is kept go.
 ghost use Rattle.std.specs.Prelude.{◌≡◌, ◌<◌, ℕ, Bool, IsSomeAnd};
-ghost use Rattle.std.specs.Prelude.{OnOk, Option, Some, None, is_some, true};
+ghost use Rattle.std.specs.Prelude.{OnOk, IfSome, Option, Some, is_some, true};
 ghost use Rattle.passive_store.specs.declared.store.Pick.{Pick};
 ghost use Rattle.epl_syntax.specs.Rules.OfTypes.{TypeList};
 ghost use Rattle.epl_syntax.specs.declared.effect.Answer.TheVariants.{Code};
@@ -13,8 +13,9 @@ ghost use Rattle.journal.specs.Settling.{settled};
 ghost use Rattle.journal.specs.Sites.{IsSoundSite};
 ghost use Rattle.journal.specs.Step.{AllowsAt, site_turn};
 ghost use Rattle.active_part.specs.Bodies.{told_body};
+ghost use Rattle.ejects.specs.Marks.{AwaitsIn};
 ghost use Rattle.ejects.specs.Parts.{body_at, Stands, IsAt};
-ghost use Rattle.ejects.specs.StoreEnds.{code_of_end, IsShownAs, takes_eject, IsFirstOf, IsFirst, Told, Went, SettlesAt};
+ghost use Rattle.ejects.specs.StoreEnds.{code_of_end, IsShownAs, takes_eject, IsFirst, Told, Went, SettlesAt};
 ghost use Rattle.ejects.specs.View.{parts_of, with_body};
 
 use crate::replies::reply_all;
@@ -52,48 +53,31 @@ fn takes_away(removal: bool, end: StoreEnd) -> bool
 }
 
 impl Ejects {
-    // Whether the Eject is active or passive.
-    fn is_there(&self, uid: Uid) -> bool
-        ensures { (ts : TypeList) → result ≡ is_some ((parts_of ts self.now).standing uid) }
+    // A process that waits for a request is told how that ended. For any other nothing changes.
+    fn tell_code(&mut self, uid: Uid, process: u8, status: Status)
+        ensures { (ts : TypeList) → AwaitsIn (body_at (parts_of ts self.old) uid) process
+            → IsSomeAnd (body_at (parts_of ts self.old) uid)
+            (λ b. parts_of ts self.new ≡ with_body uid (told_body process (Code status) b) (parts_of ts self.old)) }
     {
-        match self.table.find(uid) {
-            EjectStanding::Active => true,
-            EjectStanding::Passive => true,
-            EjectStanding::Absent => false,
-        }
-    }
-
-    // A process is told how its request ended.
-    fn tell_code(&mut self, uid: Uid, process: u8, status: Status) -> Result<(), AllocError>
-        ensures { OnOk result ((ts : TypeList) → IsSomeAnd (body_at (parts_of ts self.old) uid)
-            (λ b. parts_of ts self.new ≡ with_body uid (told_body process (Code status) b) (parts_of ts self.old))) }
-    {
-        match self.table.active_mut(uid) {
-            Some(part) => {
-                part.tell(process, Answer::Code { status })?;
-                Ok(())
-            }
-            None => Err(AllocError),
-        }
+        self.tell_at(uid, process, Answer::Code { status });
     }
 
     // The process that waits for a request, if there is one still, is told how it ended.
-    fn tell_end(&mut self, uid: Uid, process: Option<u8>, status: Status) -> Result<(), AllocError>
-        ensures { OnOk result ((ts : TypeList) → Told uid process status (parts_of ts self.old) (parts_of ts self.new)) }
+    fn tell_end(&mut self, uid: Uid, process: Option<u8>, status: Status)
+        ensures { (ts : TypeList) → IfSome process (λ p. AwaitsIn (body_at (parts_of ts self.old) uid) p)
+            → Told uid process status (parts_of ts self.old) (parts_of ts self.new) }
     {
         match process {
-            Some(process) => {
-                self.tell_code(uid, process, status)?;
-                Ok(())
-            }
-            None => Ok(()),
+            Some(process) => self.tell_code(uid, process, status),
+            None => {}
         }
     }
 
-    // Nothing is kept of an Eject any more: it goes, what ran there is answered, and then what was queued.
+    // Nothing is kept of an Eject any more: it goes, what ran there is answered, and then what was queued. One that is not there
+    // need not go.
     fn removes(&mut self, alloc: Global, calls: &mut Calls, uid: Uid) -> Result<(), AllocError>
-        requires { (ts : TypeList) → is_some ((parts_of ts self.old).standing uid) ≡ true }
-        ensures { OnOk result ((ts : TypeList) → Went uid (parts_of ts self.old) (parts_of ts self.new) calls.old calls.new) }
+        ensures { OnOk result ((ts : TypeList) → is_some ((parts_of ts self.old).standing uid) ≡ true
+            → Went uid (parts_of ts self.old) (parts_of ts self.new) calls.old calls.new) }
     {
         match self.table.find(uid) {
             EjectStanding::Active => {
@@ -106,7 +90,7 @@ impl Ejects {
                 reply_all(alloc, calls, &queued, Status::Gone)?;
                 Ok(())
             }
-            EjectStanding::Absent => unreachable!(),
+            EjectStanding::Absent => Ok(()),
         }
     }
 
@@ -126,27 +110,12 @@ impl Ejects {
             → AllowsAt s (event.Store uid clock how p)
             → IsAt (parts_of ts self.new) calls.new (site_turn reach (event.Store uid clock how p) s)) }
     {
-        if !self.is_there(uid) {
-            return Err(AllocError);
-        }
         let Some(status) = code_of(end) else {
             return Ok(());
         };
-        self.tell_end(uid, process, status)?;
+        self.tell_end(uid, process, status);
         if takes_away(removal, end) {
             self.removes(alloc, calls, uid)?;
-        }
-        Ok(())
-    }
-
-    /// The first request of the store, which is of this Eject, goes on without a pick: nothing changes here.
-    pub fn store_goes(&self, uid: Uid) -> Result<(), AllocError>
-        ensures { OnOk result ((ts : TypeList) (m : Mail) (reach : ℕ → Bool) (clock : ℕ) (s : Site)
-            → IsAt (parts_of ts self.now) m s → IsFirstOf uid s → AllowsAt s (event.Store uid clock how_ended.Part None)
-            → IsAt (parts_of ts self.now) m (site_turn reach (event.Store uid clock how_ended.Part None) s)) }
-    {
-        if !self.is_there(uid) {
-            return Err(AllocError);
         }
         Ok(())
     }
@@ -160,6 +129,7 @@ impl Ejects {
         ensures turn { (ts : TypeList) (m : Mail) (reach : ℕ → Bool) (clock : ℕ) (first : Uid) (p : Pick) (s : Site)
             → IsAt (parts_of ts self.old) m s → SettlesAt uid stays p s → AllowsAt s (event.Store first clock how_ended.Part (Some p))
             → IsAt (parts_of ts self.new) m (site_turn reach (event.Store first clock how_ended.Part (Some p)) s) }
+        ensures bodies { (ts : TypeList) (v : Uid) → body_at (parts_of ts self.new) v ≡ body_at (parts_of ts self.old) v }
     {
         if stays {
             return;

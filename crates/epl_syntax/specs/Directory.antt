@@ -85,8 +85,11 @@ abbrev pub directory_turn : List Datum → Stage → Answer → List Datum × St
 directory_turn vars (adds name held) answer = let d = entries vars in
     with_item (place_of (text name) d) (λ i. (vars, changed, returns_code 1))
     (cond (length d.names == LIST_LIMIT) (vars, changed, returns_code 2) (changes (with_entry (text name) (cap held) d)))
-directory_turn vars (looks name) answer = let d = entries vars in
-    (vars, changed, Return (with_item (place_of (text name) d) (λ i. number (pos 0) ∷ argument i d.held ∷ []) (number (pos 1) ∷ cap None ∷ [])))
+directory_turn vars (looks name) answer = let d = entries vars in (
+  vars,
+  changed,
+  Return (with_item (place_of (text name) d) (λ i. number (pos 0) ∷ argument i d.held ∷ []) (number (pos 1) ∷ cap None ∷ [])),
+)
 directory_turn vars (deletes name) answer = let d = entries vars in
     with_item (place_of (text name) d) (λ i. changes (without_entry i d)) (vars, changed, returns_code 1)
 directory_turn vars tells answer = (vars, changed, Return (argument 0 vars ∷ []))

@@ -308,7 +308,7 @@ goes-turn m w _ sound rest allowed = absurd allowed
 
 -- 4. Commands
 
-goes-shell : (m : ℕ) (w : World) (name : List ℕ) (target : Cap) (operation : List ℕ) (args : List Datum) (k : ℕ) (at_once : Option Status)
+pub goes-shell : (m : ℕ) (w : World) (name : List ℕ) (target : Cap) (operation : List ℕ) (args : List Datum) (k : ℕ) (at_once : Option Status)
     → AreNumbered 1 w.traffic.calls → k ≡ next_call w.traffic
     → Goes m w (asks name target operation args k at_once w)
 goes-shell m w name target operation args k at_once ordered number =
@@ -393,7 +393,7 @@ goes-command m w c event.Quiet ordered allowed = goes-same m w w refl
 goes-command m w c event.Spent ordered allowed = goes-same m w w refl
 goes-command m w c (event.Left names) ordered allowed = goes-same m w w refl
 
-goes-happened : (m : ℕ) (w : World) (c : Option Command) (e : Event) → IsKnown w
+pub goes-happened : (m : ℕ) (w : World) (c : Option Command) (e : Event) → IsKnown w
     → ((it : Node) → node_at w m ≡ Some it → Rests it) → AllowsEvent w c e → Goes m w (happened w c e)
 goes-happened m w None e sound rest allowed = goes-turn m w e sound rest allowed
 goes-happened m w (Some c) e sound rest allowed = goes-command m w c e sound.numbered allowed
@@ -405,7 +405,7 @@ pub record CutWorld (H : ℕ → Bool) (w : World) : Type 0 where
   pub down : DownWorld H w
   pub cut : (m : ℕ) (it : Node) → node_at w m ≡ Some it → it.up ≡ false → AllCutOff m w.traffic
 
-traffic-counted : (k : Option Key) (n c : ℕ) (w : World) → (counted k (clocked n c w)).traffic ≡ w.traffic
+pub traffic-counted : (k : Option Key) (n c : ℕ) (w : World) → (counted k (clocked n c w)).traffic ≡ w.traffic
 traffic-counted None n c w = refl
 traffic-counted (Some k) n c w = refl
 
@@ -483,7 +483,7 @@ cut-looked_up H w name target path e allowed h = record {
 
 -- 6. The law
 
-none-below : (layout : Layout) (m n : ℕ) (disks : List DiskRun) → m < n
+pub none-below : (layout : Layout) (m n : ℕ) (disks : List DiskRun) → m < n
     → value_at nat_cmp m (map (λ d. (d.0, node_of layout d)) (images (numbered_from n disks))) ≡ None
 none-below layout m n [] less = refl
 none-below layout m n (d ∷ disks) less = go (eq_by_cmp nat_cmp m n) refl (none-below layout m (n + 1) disks (omega (arith, less)))

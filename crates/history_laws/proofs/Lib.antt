@@ -64,6 +64,7 @@ pub mod Goings
 pub mod SiteFrames
 pub mod EventCalls
 pub mod CutOff
+pub mod ShellAsks
 pub mod AtTheOpening
 pub mod Elsewhere
 pub mod EpochBounds

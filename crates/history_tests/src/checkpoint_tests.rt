@@ -118,9 +118,9 @@ fn step_on<St: Store>(
             };
         }
         match worker.step(alloc, store).expect(rt, "memory") {
-            StepEnd::Going { pick: found } => {
-                if found.is_some() {
-                    pick = found;
+            StepEnd::Going { settled } => {
+                if let Some(found) = settled {
+                    pick = Some(found.pick);
                 }
             }
             StepEnd::Ended { request, end } => {
@@ -453,7 +453,11 @@ fn activate<St: Store>(
     ensures power { result.0 ≢ Stopped → IsTrue (St.seen store.new).disk.counts.power }
     ensures idle { worked_on (St.seen store.new).work ≡ Option.None }
 {
-    let (start, pick) = start_from(alloc, store, &Cells, uid).expect(rt, "memory");
+    let (start, settled) = start_from(alloc, store, &Cells, uid).expect(rt, "memory");
+    let pick = match settled {
+        Some(found) => Some(found.pick),
+        None => None,
+    };
     match &start {
         Start::Values { start } => {
             let n = the_number(rt, start);

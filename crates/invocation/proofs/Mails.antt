@@ -24,7 +24,8 @@ use Rattle.invocation.specs.Numbers.{item_in, passes_at}
 use Rattle.invocation.specs.Made.{Made, is_own}
 use Rattle.invocation.specs.declared.closing.Cause.{Cause}
 use Rattle.invocation.specs.Causes.{hits, ends, closed_by}
-use Rattle.invocation.specs.Mail.{IsGiven, is_open, target_of, number_of, spent, over, received, closed_if, let_go, refused_at_once}
+use Rattle.invocation.specs.Mail.{IsGiven, call_of, delivery_of, is_open, target_of, number_of, spent, over, received, closed_if, let_go}
+use Rattle.invocation.specs.Mail.{refused_at_once}
 use Rattle.invocation.specs.Whole.{IsWhole, IsIndex, IsBetween, IsMailNoted, AllGiven, is_live}
 use Rattle.invocation.proofs.Numbers.{length-change}
 use Rattle.invocation.proofs.Index.{index-change, index-live, index-dead, over-falls, spent-falls}
@@ -74,6 +75,11 @@ between-received (Reply k s results) cs all = all-change IsBetween over between-
 pub length-received : (m : Message) (cs : List Call) → length (received m cs) ≡ length cs
 length-received (Request k) cs = refl
 length-received (Reply k s results) cs = length-change over cs (k - 1)
+
+-- what is told of a message is of its call
+pub called-told : (m : Message) (cs : List Call) → call_of (delivery_of m cs) ≡ number_of m
+called-told (Request k) cs = refl
+called-told (Reply k s results) cs = refl
 
 -- the index after a delivery
 pub index-received : (m : Message) (cs : List Call) (ks : List ℕ) → IsIndex cs ks → IsIndex (received m cs) ks

@@ -1,7 +1,6 @@
 -- All calls ever asked, and one queue of messages for each ordered pair of stations.
 use Rattle.std.specs.Prelude.{◌≡◌, ℕ, ◌+◌, ◌-◌, ◌≤◌, ◌==◌, ◌&&◌, ◌||◌, Bool, true, false, cond, not, nat_le, List, [], ◌∷◌, ◌++◌, Option}
 use Rattle.std.specs.Prelude.{None, Some, is_some, replicate, length, map}
-use Rattle.std.specs.Option.{option_map}
 use Rattle.capability.specs.declared.Uid.{Uid}
 use Rattle.capability.specs.declared.Cap.{Cap}
 use Rattle.eden_value.specs.Datum.{Datum}
@@ -44,10 +43,6 @@ abbrev pub number_of : Message → ℕ
 number_of (Request k) = k
 number_of (Reply k s results) = k
 
--- the number of the call whose message is delivered next from a to b
-abbrev pub next_number : ℕ → ℕ → Mail → Option ℕ
-next_number a b m = option_map number_of (first (queue_at a b m))
-
 -- a number that was given
 abbrev pub IsGiven : List Call → ℕ → Type 0
 IsGiven calls k = (1 ≤ k) × (k ≤ length calls)
@@ -80,6 +75,11 @@ abbrev pub delivery_of : Message → List Call → Delivery
 delivery_of (Request k) calls = delivery.Request k
 delivery_of (Reply k s results) calls =
     delivery.Reply k s results (passes_at is_open calls k) (with_item (item_in k calls) (λ c. waiting_process c.asker) None)
+
+-- the call of what has arrived
+abbrev pub call_of : Delivery → ℕ
+call_of (delivery.Request k) = k
+call_of (delivery.Reply k s results was_open process) = k
 
 -- the first message from a to b leaves its queue and is received
 abbrev pub DeliversFirst : ℕ → ℕ → List Message → Mail → Option Delivery → Mail → Type 0

@@ -11,12 +11,13 @@ mod call;
 mod closing;
 mod queues;
 
-ghost use Rattle.std.specs.Prelude.{◌≡◌, ◌≤◌, ◌<◌, ◌+◌, ◌-◌, ◌∷◌, [], ℕ, false, not, List, IfOk, MatchResult, length, option_copied};
+ghost use Rattle.std.specs.Prelude.{◌≡◌, ◌≤◌, ◌<◌, ◌+◌, ◌-◌, ◌∷◌, [], ℕ, false, not, List, IfOk, IfSome, MatchResult, length, option_copied};
+ghost use Rattle.eden_model.specs.Map.{first};
 ghost use Rattle.eden_model.specs.Lines.{has, Distinct};
 ghost use Rattle.eden_model.specs.Traffic.{Traffic, asking_station, with_call, replied, without_link, without_node};
 ghost use Rattle.eden_model.specs.Traffic.{broken_by_link, broken_by_node, numbers_of};
 ghost use Rattle.eden_model.specs.Traffic as traffic;
-ghost use Rattle.invocation.specs.Mail.{Mail, no_mail, Delivers, is_waiting, next_number, is_open, Asks, with_reply};
+ghost use Rattle.invocation.specs.Mail.{Mail, no_mail, Delivers, IsGiven, call_of, is_waiting, is_open, Asks, queue_at, with_reply};
 ghost use Rattle.invocation.specs.Mail.{refused_at_once, received, broken_where, orphaned, crosses, cut_link, enters, cut_node};
 ghost use Rattle.invocation.specs.Numbers.{item_in, passes_at};
 ghost use Rattle.invocation.specs.Answered.{MailChange, all_answered};
@@ -108,16 +109,13 @@ impl Calls {
         self.mail[to as usize]
     }
 
-    /// The number of the call whose message is delivered next from one station to the other.
-    pub fn next(&self, from: u8, to: u8) -> Option<u32>
+    /// The message that is delivered next from one station to the other.
+    pub fn first(&self, from: u8, to: u8) -> Option<&Message>
         requires from { from ≤ 8 }
         requires to { to ≤ 8 }
-        ensures { result ≡ next_number from to self.now }
+        ensures { option_copied result ≡ first (queue_at from to self.now) }
     {
-        match self.queues[pair(from, to)].head() {
-            Some(message) => Some(message.number()),
-            None => None,
-        }
+        self.queues[pair(from, to)].head()
     }
 
     /// The call of this number, open or closed. None exactly where the number was never given.
@@ -264,6 +262,7 @@ impl Calls {
         requires from { from ≤ 8 }
         requires to { to ≤ 8 }
         ensures first { Delivers from to self.old result self.new }
+        ensures given { IfSome result (λ d. IsGiven self.new.calls (call_of d)) }
         ensures model { (t : Traffic) → Carries self.old t → CarriesDelivery from to result self.new t }
     {
         let queue = &mut self.queues[pair(from, to)];

@@ -1,3 +1,5 @@
+ghost use Rattle.std.specs.Prelude.{◌≤◌};
+
 use crate::common::assert_same;
 use agenda::Agenda;
 use capability::Uid;
@@ -7,7 +9,9 @@ use std::alloc::Global;
 use std::process::Abort;
 
 /// A node of this number, without Ejects.
-fn no_ejects(rt: &impl Abort, alloc: Global, number: u8) -> Box<Ejects> {
+fn no_ejects(rt: &impl Abort, alloc: Global, number: u8) -> Box<Ejects>
+    requires { number ≤ 8 }
+{
     let ejects = Ejects::new(alloc, number, 1).expect(rt, "memory");
     Box::new(alloc, ejects).expect(rt, "memory")
 }

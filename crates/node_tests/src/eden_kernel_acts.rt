@@ -90,7 +90,7 @@ where
     (node, note.epoch, note.pick)
 }
 
-/// What comes next from the node itself or from the shell is delivered.
+/// What comes next from the shell is delivered, where the node hears it.
 fn deliver<St: Store>(
     rt: &impl Abort,
     alloc: Global,
@@ -101,9 +101,12 @@ fn deliver<St: Store>(
     requires { IsWhole (held St.seen node.old) }
     ensures { IsWhole (held St.seen node.new) }
 {
+    if !node.ejects().hears(calls, 0) {
+        return Seen::Nothing;
+    }
     let event = node.deliver(alloc, types, calls, 0).expect(rt, "memory");
     let seen = match &event {
-        Some(Event::Request { refused, .. }) => Seen::Request(*refused),
+        Event::Request { refused, .. } => Seen::Request(*refused),
         _ => Seen::Nothing,
     };
     drop(event);

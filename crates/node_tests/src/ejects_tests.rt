@@ -42,7 +42,6 @@ enum Act {
     Number,
     /// Whether the store has a request.
     Pending,
-    StoreGoes(u32),
     /// The request of the store ends, which is a removal, or not.
     StoreEnds(u32, bool, StoreEnd),
     /// A settling has found that something is kept, or nothing.
@@ -136,12 +135,13 @@ impl Bench {
         number: Option<i64>,
     ) -> Seen {
         let mut calls = asked(rt, self.alloc, serial, operation, number);
+        assert!(rt; self.ejects.hears(&calls, 0), "no request is heard");
         let event = self
             .ejects
             .deliver(self.alloc, &self.types, &mut calls, 0)
             .expect(rt, "memory");
         let seen = match &event {
-            Some(Event::Request { refused, .. }) => Seen::Request(*refused),
+            Event::Request { refused, .. } => Seen::Request(*refused),
             _ => panic!(rt; "a delivery shows another event"),
         };
         drop(event);
@@ -212,6 +212,10 @@ impl Bench {
     }
 
     fn wake(&mut self, rt: &impl Abort, serial: u32, number: i64) -> Seen {
+        let uid = uid_of(serial);
+        if self.ejects.is_active(uid) {
+            return Seen::Refused;
+        }
         let mut calls = asked(rt, self.alloc, serial, b"Get", None);
         let durable = integers(rt, self.alloc, Some(number));
         self.ejects
@@ -219,7 +223,7 @@ impl Bench {
                 self.alloc,
                 &self.types,
                 &mut calls,
-                uid_of(serial),
+                uid,
                 self.cell,
                 &durable,
             )
@@ -245,12 +249,6 @@ impl Bench {
             Act::NextReady(serial) => Seen::Number(self.ejects.next_ready(uid_of(serial), 0)),
             Act::Number => Seen::Number(Some(self.ejects.number())),
             Act::Pending => Seen::Is(self.worker.pending()),
-            Act::StoreGoes(serial) => {
-                self.ejects
-                    .store_goes(uid_of(serial))
-                    .expect(rt, "it is there");
-                Seen::Done
-            }
             _ => panic!(rt; "no act of these"),
         }
     }
@@ -342,7 +340,6 @@ const RUNS: &[(&str, &[(Act, Seen)])] = &[
             SAVED,
             (Act::Pending, Seen::Is(true)),
             (Act::May(1), Seen::May(false, false, false)),
-            (Act::StoreGoes(1), Seen::Done),
             (Act::StoreEnds(1, false, StoreEnd::Done), Seen::Done),
             (Act::May(1), Seen::May(false, false, true)),
             (
@@ -358,7 +355,6 @@ const RUNS: &[(&str, &[(Act, Seen)])] = &[
             SAVED,
             (Act::Pending, Seen::Is(true)),
             (Act::May(1), Seen::May(false, false, false)),
-            (Act::StoreGoes(1), Seen::Done),
             (Act::StoreEnds(1, false, StoreEnd::Full), Seen::Done),
             (Act::May(1), Seen::May(false, false, true)),
             (
@@ -374,7 +370,6 @@ const RUNS: &[(&str, &[(Act, Seen)])] = &[
             SAVED,
             (Act::Pending, Seen::Is(true)),
             (Act::May(1), Seen::May(false, false, false)),
-            (Act::StoreGoes(1), Seen::Done),
             (Act::StoreEnds(1, false, StoreEnd::Fault), Seen::Done),
             (Act::May(1), Seen::May(false, false, true)),
             (

@@ -75,6 +75,7 @@ fn turn<St: Store>(
 {
     let key = node.next(None).expect(rt, "a key");
     assert!(rt; are_few(calls), "too many calls");
+    assert!(rt; node.has_turn(calls, key), "the node has no such turn");
     let (event, behind) = node
         .turn(alloc, types, calls, &places(), key)
         .expect(rt, "memory");
@@ -114,6 +115,7 @@ fn take<St: Store>(
             Seen::Done
         }
         Act::Deliver => {
+            assert!(rt; node.ejects().hears(calls, 0), "no request is heard");
             drop(node.deliver(alloc, types, calls, 0).expect(rt, "memory"));
             Seen::Done
         }

@@ -9,7 +9,7 @@ use Rattle.block_tables.specs.declared.table.Table.{Table}
 use Rattle.block_tables.specs.declared.head_table.HeadTable.{HeadTable}
 use Rattle.block_tables.specs.declared.block_table.BlockTable.{BlockTable}
 use Rattle.block_tables.specs.Members.{is_member}
-use Rattle.block_tables.specs.Blocks.{Head, Chain, has, without, blocks_of, is_data, data_count, chain_of}
+use Rattle.block_tables.specs.Blocks.{Head, has, without, blocks_of, is_data, data_count, chain_of}
 use Rattle.block_tables.specs.HeadSeen.{head_of}
 use Rattle.block_tables.specs.HeadState.{slot_at, entry_at, is_open, is_it}
 use Rattle.block_tables.specs.BlockState.{AreBlocks, walk, free_in}

@@ -30,7 +30,9 @@ use Rattle.journal.specs.LegalRun.{AreHandedIn, numbered_from, images, opening_w
 use Rattle.journal.specs.Sites.{SoundWorld}
 use Rattle.history_laws.proofs.Runs.{Any, of-any, end-keeps, world-booting}
 use Rattle.history_laws.proofs.SiteRuns.{KnownWorld, known-opening, known-next, known-looked_up, new-by, sites-are-sound}
+use Rattle.history_laws.proofs.CutOff.{down-nodes-rest}
 use Rattle.history_laws.proofs.EpochBounds.{epochs-are-bounded}
+use Rattle.history_laws.proofs.ShellAsks.{none-asks-at-the-shell}
 use Rattle.runs.specs.Reached.{is_node}
 use Rattle.journal.specs.Fit.{IsFit}
 use Rattle.runs.specs.Machines.{Stands, StandsWith}
@@ -144,6 +146,8 @@ runs-may-begin layout script disks lays fits fit enough = record {
     new_uids = λ n it at. new-by (site_of (last_world w script h) n it) (known.fit n it at);
     epochs = epochs-are-bounded layout script disks h lays fits leads;
     doubts = next-is-in-doubt layout script disks h lays fits leads;
+    rest = down-nodes-rest layout script disks h lays fits leads;
+    askers = none-asks-at-the-shell layout script disks h lays fits leads;
   };
   offers = λ h leads. let known = reached-world layout script disks h lays fits leads in record {
     known = λ name has. subst (λ ts. is_some (type_of ts name) ≡ true) (sym (types-stay layout script disks h leads))

@@ -1,15 +1,17 @@
 -- What a machine may rely on of each world that a history reaches, and of each command that is carried out there.
-use Rattle.std.specs.Prelude.{◌≡◌, ◌≤◌, ◌+◌, ℕ, Bool, List, None, Some, Ok, is_some, IsTrue, IfSome}
+use Rattle.std.specs.Prelude.{◌≡◌, ◌≤◌, ◌+◌, ℕ, Bool, false, List, None, Some, Ok, is_some, IsTrue, IfSome}
 use Rattle.std.specs.List.{Contains}
 use Rattle.capability.specs.declared.Uid.{Uid}
 use Rattle.capability.specs.declared.Cap.{Cap}
 use Rattle.eden_model.specs.Map.{with_item}
+use Rattle.eden_model.specs.Traffic.{Call, call_at}
 use Rattle.epl_syntax.specs.Meaning.{type_of}
 use Rattle.journal.specs.declared.command.Command.{Command}
 use Rattle.journal.specs.World.{World, Site, Node, node_at, site_of, eject_in}
 use Rattle.journal.specs.Ejects.{next_uid, stored_epoch}
 use Rattle.journal.specs.References.{value_at_name, present_cap}
-use Rattle.journal.specs.Sites.{Everywhere, HasEpochs, SoundWorld, AllSound}
+use Rattle.journal.specs.Laws.{IsAtRest}
+use Rattle.journal.specs.Sites.{Everywhere, HasEpochs, IsAskedAt, SoundWorld, AllSound}
 use Rattle.journal.specs.Fit.{IsFitCommand}
 
 -- 1. Worlds
@@ -38,6 +40,10 @@ pub record IsReached (w : World) : Type 0 where
   pub epochs : Everywhere (λ n it. HasEpochs it) w
   -- and one that is in doubt is the next
   pub doubts : Everywhere (λ n it. NextInDoubt it) w
+  -- a node that is down is at rest, and no message is on its way to it or from it
+  pub rest : Everywhere (λ n it. it.up ≡ false → IsAtRest w n it) w
+  -- no process asked a call at the station of the shell
+  pub askers : (k : ℕ) (c : Call) → call_at w.traffic k ≡ Some c → IsAskedAt 0 c.asker → ⊥
 
 -- 2. Commands
 

@@ -3,6 +3,8 @@ pub mod Deciding
 pub mod Turning
 pub mod Standing
 pub mod KeysOf
+pub mod AllOf
+pub mod HasTurns
 pub mod Touched
 pub mod Clocks
 pub mod NodeEvents

@@ -1,19 +1,18 @@
 //! The turn of a key.
-ghost use Rattle.std.specs.Prelude.{◌≡◌, ◌≤◌, ◌<◌, ◌+◌, ℕ, Bool, IfErr, IfOk, IsTrue, OnErr, length};
+ghost use Rattle.std.specs.Prelude.{◌≡◌, ◌↔◌, ◌≤◌, ◌<◌, ◌+◌, ℕ, Bool, IfErr, IfOk, IsTrue, OnErr, length};
+ghost use Rattle.epl_syntax.specs.Rules.OfTypes.{TypeList};
 ghost use Rattle.passive_store.specs.Layout.{IsLayout};
 ghost use Rattle.journal.specs.Sites.{IsSoundSite};
 ghost use Rattle.journal.specs.World.{Site};
 ghost use Rattle.checkpoint.specs.Touches.{ReadsByCalls};
 ghost use Rattle.disk_faults.specs.Shows.{NoneFalls, ShowsCounts};
 ghost use Rattle.ejects.specs.Creations.{HasNewUid};
-ghost use Rattle.ejects.specs.Events.{IsDelivery};
 ghost use Rattle.ejects.specs.Replies.{Reaches};
-ghost use Rattle.ejects.specs.View.{number_of};
 ghost use Rattle.eden_kernel.specs.DiskTurns.{IsWholeBehind, Starves};
 ghost use Rattle.eden_kernel.specs.Stands.{held, IsWhole, NodeStands};
-ghost use Rattle.eden_kernel.specs.declared.stores.TurnEnd.TheVariants.{Up, Down};
-ghost use Rattle.scheduled_node.specs.Keys.{IsKeyOf};
-ghost use Rattle.scheduled_node.specs.Scheduled.{manned, ScheduledStands, EndsScheduledTurn, KeyTurns};
+ghost use Rattle.eden_kernel.specs.declared.stores.TurnEnd.TheVariants.{Down};
+ghost use Rattle.scheduled_node.specs.Keys.{HasTurn, IsKeyOf};
+ghost use Rattle.scheduled_node.specs.Scheduled.{manned, ScheduledStands, KeyTurns};
 ghost use Rattle.scheduled_node.specs.Touched.{IsNodeTurn, ShowsClock, TurnTouches};
 
 use crate::ScheduledNode;
@@ -26,8 +25,22 @@ use passive_store::Store;
 use std::alloc::{AllocError, Global};
 
 impl<St: Store> ScheduledNode<St> {
+    /// Whether the node has the turn of a key.
+    pub fn has_turn(&self, calls: &Calls, key: Key) -> bool
+        ensures { (ts : TypeList) → IsTrue result ↔ HasTurn ts (held St.seen self.now.node) calls.now key }
+    {
+        match key.kind {
+            1 => key.sender <= 8 && self.node.ejects().hears(calls, key.sender),
+            2 => self.node.may_activate(key.uid),
+            3 => self.node.may_start(calls, key.uid),
+            4 => self.node.may_process(key.uid, key.process),
+            5 => self.node.pending(),
+            _ => false,
+        }
+    }
+
     /// The turn of a key of the node: a delivery, an activation, a start, or a turn of a process or of the store. Where the disk stops
-    /// the node is down, and is to be closed. It gives up where the key is not enabled.
+    /// the node is down, and is to be closed.
     ///
     /// For want of memory a device call may have been made, and the node is not to go on.
     pub fn turn(
@@ -40,6 +53,7 @@ impl<St: Store> ScheduledNode<St> {
     ) -> Result<(Event, TurnEnd), AllocError>
         requires calls { length calls.old.calls < 4294967295 }
         requires whole { IsWhole (held St.seen self.old.node) }
+        requires has { HasTurn types.now (held St.seen self.old.node) calls.old key }
         ensures whole { IfOk result (λ r. IsWholeBehind r.1 (held St.seen self.new.node)) }
         ensures number { self.new.node.number ≡ self.old.node.number }
 
@@ -76,7 +90,10 @@ impl<St: Store> ScheduledNode<St> {
             → Starves St.layout s (St.seen self.old.node.store) (St.seen self.new.node.store)) }
     {
         match key.kind {
-            1 => self.delivery(alloc, types, calls, key),
+            1 => {
+                let event = self.deliver(alloc, types, calls, key.sender)?;
+                Ok((event, TurnEnd::Up))
+            }
             2 => self.activate(alloc, types, calls, key.uid),
             3 => {
                 let event = self.start(alloc, types, calls, key.uid)?;
@@ -87,34 +104,7 @@ impl<St: Store> ScheduledNode<St> {
                 Ok((event, TurnEnd::Up))
             }
             5 => self.store_turn(alloc, calls),
-            _ => Err(AllocError),
-        }
-    }
-
-    // A message is delivered, which is there.
-    fn delivery(
-        &mut self,
-        alloc: Global,
-        types: &Types,
-        calls: &mut Calls,
-        key: Key,
-    ) -> Result<(Event, TurnEnd), AllocError>
-        requires whole { IsWhole (held St.seen self.old.node) }
-        ensures whole { IfOk result (λ r. IsWholeBehind r.1 (held St.seen self.new.node)) }
-        ensures number { self.new.node.number ≡ self.old.node.number }
-        ensures up { IfOk result (λ r. r.1 ≡ Up) }
-        ensures store { St.seen self.new.node.store ≡ St.seen self.old.node.store }
-        ensures event { IfOk result (λ r. IsDelivery key.sender (number_of self.old.node.ejects) r.0) }
-        ensures turn { IsTrue St.Device.tells → IfOk result (λ r. (reach : ℕ → Bool) (s : Site) → IsSoundSite s
-            → ScheduledStands St.layout types.now (manned St.seen self.old) calls.old s
-            → EndsScheduledTurn r.1 St.layout types.now (manned St.seen self.new) calls.new reach (manned St.seen self.old) s r.0) }
-    {
-        if key.sender > 8 {
-            return Err(AllocError);
-        }
-        match self.deliver(alloc, types, calls, key.sender)? {
-            Some(event) => Ok((event, TurnEnd::Up)),
-            None => Err(AllocError),
+            _ => unreachable!(),
         }
     }
 }

@@ -12,6 +12,7 @@ ghost use Rattle.ejects.specs.Creations.{HasNewUid};
 ghost use Rattle.ejects.specs.Events.{IsStartOf, IsTurnOf};
 ghost use Rattle.ejects.specs.Replies.{Reaches};
 ghost use Rattle.eden_kernel.specs.DiskTurns.{IsActivation, IsStoreTurn, IsWholeBehind, Starves};
+ghost use Rattle.eden_kernel.specs.Enabled.{HasRequest, MayActivate, MayProcess, MayStart};
 ghost use Rattle.eden_kernel.specs.Shows.{call_of_event};
 ghost use Rattle.eden_kernel.specs.Stands.{held, IsWhole, NodeStands};
 ghost use Rattle.eden_kernel.specs.declared.stores.TurnEnd.TheVariants.{Down};
@@ -38,6 +39,7 @@ impl<St: Store> ScheduledNode<St> {
         uid: Uid,
     ) -> Result<Event, AllocError>
         requires whole { IsWhole (held St.seen self.old.node) }
+        requires may { MayStart types.now (held St.seen self.old.node) calls.now uid }
         ensures whole { OnOk result (IsWhole (held St.seen self.new.node)) }
         ensures number { self.new.node.number ≡ self.old.node.number }
         ensures event { IfOk result (IsStartOf uid) }
@@ -45,9 +47,6 @@ impl<St: Store> ScheduledNode<St> {
         ensures turn { IsTrue St.Device.tells → IfOk result (λ e.
             ScheduledTurnsAt St.layout types.now (manned St.seen self.old) calls.now (manned St.seen self.new) calls.now e) }
     {
-        if !self.node.may_start(calls, uid) {
-            return Err(AllocError);
-        }
         let event = self.node.start(alloc, types, calls, uid)?;
         note(&mut self.agenda, self.node.ejects(), calls, &event)?;
         Ok(event)
@@ -65,6 +64,7 @@ impl<St: Store> ScheduledNode<St> {
     ) -> Result<Event, AllocError>
         requires calls { length calls.old.calls < 4294967295 }
         requires whole { IsWhole (held St.seen self.old.node) }
+        requires may { MayProcess types.now (held St.seen self.old.node) uid process }
         ensures whole { OnOk result (IsWhole (held St.seen self.new.node)) }
         ensures number { self.new.node.number ≡ self.old.node.number }
         ensures event { IfOk result (IsTurnOf uid process) }
@@ -73,9 +73,6 @@ impl<St: Store> ScheduledNode<St> {
             → IsSoundSite s → HasNewUid s → ScheduledStands St.layout types.now (manned St.seen self.old) calls.old s
             → ScheduledTurns St.layout types.now (manned St.seen self.new) calls.new reach (manned St.seen self.old) s e) }
     {
-        if !self.node.may_process(uid, process) {
-            return Err(AllocError);
-        }
         let event = self
             .node
             .process(alloc, types, calls, places, uid, process)?;
@@ -95,6 +92,7 @@ impl<St: Store> ScheduledNode<St> {
         uid: Uid,
     ) -> Result<(Event, TurnEnd), AllocError>
         requires whole { IsWhole (held St.seen self.old.node) }
+        requires may { MayActivate types.now (held St.seen self.old.node) uid }
         ensures whole { IfOk result (λ r. IsWholeBehind r.1 (held St.seen self.new.node)) }
         ensures number { self.new.node.number ≡ self.old.node.number }
 
@@ -124,9 +122,6 @@ impl<St: Store> ScheduledNode<St> {
             → NodeStands St.layout types.now (held St.seen self.old.node) calls.old s
             → Starves St.layout s (St.seen self.old.node.store) (St.seen self.new.node.store)) }
     {
-        if !self.node.may_activate(uid) {
-            return Err(AllocError);
-        }
         let (event, end) = self.node.activate(alloc, types, calls, uid)?;
         note_behind(&mut self.agenda, self.node.ejects(), calls, &event, end)?;
         Ok((event, end))
@@ -142,6 +137,7 @@ impl<St: Store> ScheduledNode<St> {
         calls: &mut Calls,
     ) -> Result<(Event, TurnEnd), AllocError>
         requires whole { IsWhole (held St.seen self.old.node) }
+        requires pending { HasRequest (held St.seen self.old.node) }
         ensures whole { IfOk result (λ r. IsWholeBehind r.1 (held St.seen self.new.node)) }
         ensures number { self.new.node.number ≡ self.old.node.number }
 
@@ -172,9 +168,6 @@ impl<St: Store> ScheduledNode<St> {
             → 1 ≤ (St.seen self.old.node.store).more → NodeStands St.layout ts (held St.seen self.old.node) calls.old s
             → Starves St.layout s (St.seen self.old.node.store) (St.seen self.new.node.store)) }
     {
-        if !self.node.pending() {
-            return Err(AllocError);
-        }
         let (event, end) = self.node.store_turn(alloc, calls)?;
         note_behind(&mut self.agenda, self.node.ejects(), calls, &event, end)?;
         Ok((event, end))

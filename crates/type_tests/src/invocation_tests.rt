@@ -174,8 +174,10 @@ fn next(calls: &Calls, from: u8, to: u8) -> Seen
     requires from { from ≤ 8 }
     requires to { to ≤ 8 }
 {
-    match calls.next(from, to) {
-        Some(call) => Seen::Call { call },
+    match calls.first(from, to) {
+        Some(message) => Seen::Call {
+            call: message.number(),
+        },
         None => Seen::Nothing,
     }
 }

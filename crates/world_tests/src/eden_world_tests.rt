@@ -193,7 +193,7 @@ fn only_key<St: Store + Drop>(rt: &impl Abort, alloc: Global, world: &World<St>)
 where
     St::Device: Drop,
     requires { FitsTogether St.seen world.now }
-    ensures { IfSome result (λ key. HasTurn world.now key) }
+    ensures { IfSome result (λ key. HasTurn St.seen world.now key) }
 {
     let next = world.following(None);
     let there = world.item(alloc, 7).expect(rt, "memory");

@@ -1,7 +1,8 @@
 use Rattle.std.proofs.Common.{sym, subst, Ok}
+use Rattle.checkpoint.specs.Asked.{IsOfDoubted}
 use Rattle.checkpoint.specs.Starting.{SettlesTo}
 use Rattle.checkpoint.proofs.StoreCalls.{settles-whole}
-use Rattle.checkpoint.proofs.Starting.{settles-to, settles-not}
+use Rattle.checkpoint.proofs.Starting.{settles-to, settles-not, unpicked}
 use Rattle.std.proofs.Common.{◌∙◌}
 use Rattle.checkpoint.proofs.Starting.{same-sight}
 use Rattle.checkpoint.proofs.Touching.{settle-touches, raises-ran}
@@ -10,10 +11,15 @@ use Rattle.checkpoint.proofs.start.settle_first.Goals as goal
 pub returns-in-Ok-clause-settles : goal.returns-in-Ok-clause-settles
 returns-in-Ok-clause-settles g c = λ so s requests h.
     subst (λ p. SettlesTo g.St.Store.layout (g.St.Store.seen c.args.store.now).node s requests (g.St.Store.seen c.args.store.now) (Ok p)
-    (g.St.Store.seen c.settle.new.self)) (sym c.picked.ensures)
+    (g.St.Store.seen c.settle.new.self))
+    (sym (c.found_of.ensures.pick (λ none. c.picked.ensures ∙ unpicked (g.St.Store.seen c.args.store.now).work _
+    (sym c.unsure-doubted.ensures ∙ none) c.in-Ok.ensures.picked) ∙ c.picked.ensures))
     (settles-to g.St.Store.layout (g.St.Store.seen c.args.store.now).node s requests (g.St.Store.seen c.args.store.now)
     (g.St.Store.seen c.settle.new.self) (g.St.Store.seen c.settle.new.self).picked c.in-Ok.field-0 h
     (settles-whole _ _ g.St.Store.layout _ (g.St.Store.seen c.args.store.now) (g.St.Store.seen c.settle.new.self) so c.in-Ok.ensures))
+
+pub returns-in-Ok-clause-whose : goal.returns-in-Ok-clause-whose
+returns-in-Ok-clause-whose g c = subst (λ doubted. IsOfDoubted doubted c.found_of.result) c.unsure-doubted.ensures c.found_of.ensures.whose
 
 pub returns-in-Err-clause-settles : goal.returns-in-Err-clause-settles
 returns-in-Err-clause-settles g c = λ so s requests h.

@@ -1,14 +1,19 @@
 use Rattle.std.proofs.Common.{List, Option, refl, sym, subst, ◌∙◌}
+use Rattle.std.specs.Prelude.{is_some}
 use Rattle.eden_value.specs.Datum.{Datum}
 use Rattle.epl_syntax.specs.Edentype.{Edentype}
+use Rattle.passive_store.specs.Kept.{unsure_in, body_at as kept_at}
 use Rattle.passive_store.specs.Seen.{Seen}
 use Rattle.journal.specs.World.{StoreRequest}
 use Rattle.journal.specs.declared.event.Event.TheVariants as event
-use Rattle.checkpoint.specs.Asked.{requests_of}
+use Rattle.checkpoint.specs.Asked.{requests_of, pick_of}
 use Rattle.checkpoint.specs.Starting.{StartsTo, end_of_start, values_of}
 use Rattle.checkpoint.proofs.Activations.{any-err}
+use Rattle.ejects.specs.StoreEnds.{SettlesAt}
 use Rattle.eden_kernel.specs.DiskTurns.{EndsTurn, begun_as}
-use Rattle.eden_kernel.proofs.Activating.{turn-activates, apart-of}
+use Rattle.eden_kernel.proofs.Activating.{apart-of, turn-activates}
+use Rattle.eden_kernel.proofs.Asleep.{asleep-for}
+use Rattle.eden_kernel.proofs.StoreTurn.{told-of}
 use Rattle.eden_kernel.proofs.Starving.{starves-still, starves-started}
 use Rattle.journal.specs.Step.{touches_start}
 use Rattle.checkpoint.specs.Calls.{MakesCalls}
@@ -22,13 +27,17 @@ returns-clause-turn g c = λ so law reach s sound h.
     let n = c.args.self.now in
     let ts = c.args.types.now in
     let new = c.activation_ends.new.ejects in
-    let p = c.in_ok-start.pick in
+    let p = pick_of c.in_ok-start.settled in
     let how = c.in_ok-end.end in
     let x : Seen = g.St.Store.seen n.store in
     let y : Seen = g.St.Store.seen c.start_from.new.store in
     let rs : List StoreRequest = requests_of x.work n.worker.requests.items in
     let start : Option (Edentype × List Datum) = values_of (begun_as ts) c.in_ok-start.start in
-    subst (λ b. EndsTurn b g.St.Store.layout ts (record { number = n.number; ejects = new; worker = n.worker; seen = y })
+    subst (λ q. EndsTurn c.end_behind.result g.St.Store.layout ts
+    (record { number = n.number; ejects = new; worker = n.worker; seen = y }) c.activation_ends.new.calls reach
+    (record { number = n.number; ejects = n.ejects; worker = n.worker; seen = x }) s (event.Activate c.args.uid how q))
+    (sym c.pick_in.ensures)
+    (subst (λ b. EndsTurn b g.St.Store.layout ts (record { number = n.number; ejects = new; worker = n.worker; seen = y })
     c.activation_ends.new.calls reach (record { number = n.number; ejects = n.ejects; worker = n.worker; seen = x }) s
     (event.Activate c.args.uid how p)) (sym c.end_behind.ensures)
     (turn-activates g.St.Store.layout ts n.number x y n.ejects c.settle_ejects.new.ejects new n.worker c.args.calls.now
@@ -37,9 +46,10 @@ returns-clause-turn g c = λ so law reach s sound h.
     (subst (λ e. StartsTo g.St.Store.layout x.node s rs c.args.uid x e start p y) (sym c.in_ok-end.ensures.how)
     (c.in_ok-start.ensures.starts so law (apart-of n.number x.node c.args.uid (c.is_eject.ensures c.if-not-is_eject.false)) s rs
     h.calls.parts.types h.disk))
-    (λ z stands settles. c.in_ok-settle_ejects.ensures so ts z stands
-    (λ v q doubts picked. settles v q (sym c.unsure-doubted.ensures ∙ doubts) picked))
-    (λ up allowed values at. c.in_ok-end.ensures.turn reach s p sound up allowed values at))
+    (λ z stands settles. c.settle_ejects.ensures.stands so ts z stands
+    (told-of (unsure_in x.work) c.in_ok-start.settled (λ v q. SettlesAt v (is_some (kept_at y.kept v)) q z) c.in_ok-start.ensures.whose
+    settles))
+    (λ up allowed values at. c.in_ok-end.ensures.turn reach s p sound up allowed values at)))
 
 pub returns-then-not-is_eject-clause-starves : goal.returns-then-not-is_eject-clause-starves
 returns-then-not-is_eject-clause-starves g c = λ so law s h.
@@ -47,26 +57,13 @@ returns-then-not-is_eject-clause-starves g c = λ so law s h.
     let x : Seen = g.St.Store.seen n.store in
     starves-still g.St.Store.layout s (requests_of x.work n.worker.requests.items) x x h.disk refl
 
-pub returns-in_err-settle_ejects-clause-starves : goal.returns-in_err-settle_ejects-clause-starves
-returns-in_err-settle_ejects-clause-starves g c = λ so law.
-    let n = c.args.self.now in
-    let ts = c.args.types.now in
-    let p = c.in_ok-start.pick in
-    let x : Seen = g.St.Store.seen n.store in
-    let y : Seen = g.St.Store.seen c.start_from.new.store in
-    let rs : List StoreRequest = requests_of x.work n.worker.requests.items in
-    any-err c.from_residual-in_err-settle_ejects.result _ (λ s h.
-    starves-started g.St.Store.layout s rs c.args.uid x y (end_of_start c.in_ok-start.start) (values_of (begun_as ts) c.in_ok-start.start) p
-    (c.in_ok-start.ensures.starts so law (apart-of n.number x.node c.args.uid (c.is_eject.ensures c.if-not-is_eject.false)) s rs
-    h.calls.parts.types h.disk))
-
 -- what it shows of the disk
 pub returns-clause-shows : goal.returns-clause-shows
 returns-clause-shows g c =
     let n = c.args.self.now in
     let x : Seen = g.St.Store.seen n.store in
     let y : Seen = g.St.Store.seen c.start_from.new.store in
-    shows-start g.St.Device.Disk.obeys n.number c.args.uid c.in_ok-end.end c.in_ok-start.pick x.disk y.disk
+    shows-start g.St.Device.Disk.obeys n.number c.args.uid c.in_ok-end.end c.pick_in.result x.disk y.disk
     ((c.is_eject.ensures c.if-not-is_eject.false).0)
     (subst (λ e. MakesCalls x.disk.counts y.disk.counts (call_of_start e)) (sym c.in_ok-end.ensures.how) c.in_ok-start.ensures.calls)
     (subst (λ e. ObeyedIn g.St.Device.Disk.obeys x.disk y.disk (call_of_start e))
@@ -96,11 +93,6 @@ returns-in_err-start-clause-counts g c = any-err c.from_residual.result _
     (let m = c.start_from.ensures.calls in none-falls m.made (g.St.Store.seen c.args.self.now.store).disk.counts
     (g.St.Store.seen c.start_from.new.store).disk.counts _ m.counts)
 
-pub returns-in_err-settle_ejects-clause-counts : goal.returns-in_err-settle_ejects-clause-counts
-returns-in_err-settle_ejects-clause-counts g c = any-err c.from_residual-in_err-settle_ejects.result _
-    (let m = c.start_from.ensures.calls in none-falls m.made (g.St.Store.seen c.args.self.now.store).disk.counts
-    (g.St.Store.seen c.start_from.new.store).disk.counts _ m.counts)
-
 pub returns-in_err-end-clause-counts : goal.returns-in_err-end-clause-counts
 returns-in_err-end-clause-counts g c = any-err c.from_residual-in_err-end.result _
     (let m = c.start_from.ensures.calls in none-falls m.made (g.St.Store.seen c.args.self.now.store).disk.counts
@@ -110,7 +102,7 @@ pub returns-in_err-end-clause-starves : goal.returns-in_err-end-clause-starves
 returns-in_err-end-clause-starves g c = λ so law.
     let n = c.args.self.now in
     let ts = c.args.types.now in
-    let p = c.in_ok-start.pick in
+    let p = pick_of c.in_ok-start.settled in
     let x : Seen = g.St.Store.seen n.store in
     let y : Seen = g.St.Store.seen c.start_from.new.store in
     let rs : List StoreRequest = requests_of x.work n.worker.requests.items in
@@ -118,3 +110,8 @@ returns-in_err-end-clause-starves g c = λ so law.
     starves-started g.St.Store.layout s rs c.args.uid x y (end_of_start c.in_ok-start.start) (values_of (begun_as ts) c.in_ok-start.start) p
     (c.in_ok-start.ensures.starts so law (apart-of n.number x.node c.args.uid (c.is_eject.ensures c.if-not-is_eject.false)) s rs
     h.calls.parts.types h.disk))
+
+-- it is not active
+pub activation_ends-requires : goal.activation_ends-requires
+activation_ends-requires g c = λ other. c.settle_ejects.ensures.bodies other c.args.uid
+    ∙ asleep-for c.args.types.now c.args.self.now.ejects c.args.uid c.requires.may.wakes other

@@ -6,32 +6,30 @@ use Rattle.passive_store.specs.Seen.{disk_seen}
 use Rattle.checkpoint.proofs.Activations.{any-err}
 use Rattle.eden_world.specs.InHand.{place_at}
 use Rattle.eden_world.proofs.Created.{any-on-err, creates-in-ok, level-ends, node-fits, node-keeps, node-level, taken-up}
-use Rattle.eden_world.proofs.Restarted.{idle-leaves}
-use Rattle.eden_world.proofs.Setting.{places-level, set-back}
 use Rattle.eden_world.proofs.World.create_at.Goals as goal
 
 pub create-made-requires : goal.create-made-requires
 create-made-requires g c = record {
-  whole = (c.requires.nodes c.args.node c.in-Up.station
+  whole = (c.requires.whole.nodes c.args.node c.in-Up.station
       (taken-up (place_at c.args.self.now c.args.node) c.unseat.result c.in-Up.station c.unseat.ensures.old c.in-Up.is)).whole;
 }
 
-pub returns-in-Up-clause-whole : goal.returns-in-Up-clause-whole
-returns-in-Up-clause-whole g c = on_ok_weaker c.create-made.result (node-fits g.St.Store.seen c.args.self.now c.unseat.new.self
+pub returns-clause-whole : goal.returns-clause-whole
+returns-clause-whole g c = on_ok_weaker c.create-made.result (node-fits g.St.Store.seen c.args.self.now c.unseat.new.self
     c.set_seat.new.self c.args.node c.in-Up.station c.create-made.new.self
     (taken-up (place_at c.args.self.now c.args.node) c.unseat.result c.in-Up.station c.unseat.ensures.old c.in-Up.is)
     c.unseat.ensures.takes c.set_seat.ensures.takes
-    c.create-made.ensures.number c.requires) c.create-made.ensures.whole
+    c.create-made.ensures.number c.requires.whole) c.create-made.ensures.whole
 
-pub returns-in-Up-clause-made : goal.returns-in-Up-clause-made
-returns-in-Up-clause-made g c = creates-in-ok g.St.Device.Disk.tells g.St.Store.layout g.St.Store.seen c.args.node c.args.type_name.now
+pub returns-clause-made : goal.returns-clause-made
+returns-clause-made g c = creates-in-ok g.St.Device.Disk.tells g.St.Store.layout g.St.Store.seen c.args.node c.args.type_name.now
     c.args.self.now c.unseat.new.self c.set_seat.new.self c.in-Up.station c.create-made.new.self c.in-Some.kind c.create-made.result
     (taken-up (place_at c.args.self.now c.args.node) c.unseat.result c.in-Up.station c.unseat.ensures.old c.in-Up.is)
     c.unseat.ensures.takes c.set_seat.ensures.takes c.create-made.ensures.store
     (sym c.find.ensures ∙ ap (option_map (kind_in c.args.self.now.types)) c.in-Some.is) (λ so. c.create-made.ensures.made so)
 
-pub returns-in-Up-clause-starved : goal.returns-in-Up-clause-starved
-returns-in-Up-clause-starved g c = any-err c.create-made.result _ (level-ends g.St.Device.Disk.tells g.St.Store.layout g.St.Store.seen
+pub returns-clause-starved : goal.returns-clause-starved
+returns-clause-starved g c = any-err c.create-made.result _ (level-ends g.St.Device.Disk.tells g.St.Store.layout g.St.Store.seen
     (disk_seen g.St.Device.Disk.counts g.St.Device.Disk.told g.St.Device.Disk.due) c.args.self.now c.set_seat.new.self
     (node-level g.St.Store.seen (disk_seen g.St.Device.Disk.counts g.St.Device.Disk.told g.St.Device.Disk.due) c.args.self.now
     c.unseat.new.self c.set_seat.new.self c.args.node c.in-Up.station c.create-made.new.self
@@ -39,24 +37,10 @@ returns-in-Up-clause-starved g c = any-err c.create-made.result _ (level-ends g.
     c.unseat.ensures.takes c.set_seat.ensures.takes
     c.create-made.ensures.store))
 
-pub returns-in-Up-clause-leaves : goal.returns-in-Up-clause-leaves
-returns-in-Up-clause-leaves g c = any-on-err c.create-made.result _ (node-keeps g.St.Store.seen
+pub returns-clause-leaves : goal.returns-clause-leaves
+returns-clause-leaves g c = any-on-err c.create-made.result _ (node-keeps g.St.Store.seen
     (disk_seen g.St.Device.Disk.counts g.St.Device.Disk.told g.St.Device.Disk.due) c.args.self.now c.unseat.new.self
     c.set_seat.new.self c.args.node c.in-Up.station c.create-made.new.self
     (taken-up (place_at c.args.self.now c.args.node) c.unseat.result c.in-Up.station c.unseat.ensures.old c.in-Up.is)
     c.unseat.ensures.takes c.set_seat.ensures.takes
-    c.create-made.ensures.store c.requires)
-
-pub returns-in_default-unseat : goal.returns-in_default-unseat
-returns-in_default-unseat g c = record {
-  whole = tt;
-  made = tt;
-  starved = level-ends g.St.Device.Disk.tells g.St.Store.layout g.St.Store.seen
-      (disk_seen g.St.Device.Disk.counts g.St.Device.Disk.told g.St.Device.Disk.due) c.args.self.now c.set_seat-in_default-unseat.new.self
-      (places-level g.St.Store.seen (disk_seen g.St.Device.Disk.counts g.St.Device.Disk.told g.St.Device.Disk.due) c.args.self.now
-      c.set_seat-in_default-unseat.new.self (set-back c.args.self.now c.unseat.new.self c.set_seat-in_default-unseat.new.self c.args.node
-      c.unseat.result c.unseat.ensures.old c.unseat.ensures.takes c.set_seat-in_default-unseat.ensures.takes));
-  leaves = idle-leaves g.St.Store.seen (disk_seen g.St.Device.Disk.counts g.St.Device.Disk.told g.St.Device.Disk.due) c.args.self.now
-      c.unseat.new.self c.set_seat-in_default-unseat.new.self c.args.node c.unseat.result c.unseat.ensures.old
-      c.unseat.ensures.takes c.set_seat-in_default-unseat.ensures.takes c.requires;
-}
+    c.create-made.ensures.store c.requires.whole)

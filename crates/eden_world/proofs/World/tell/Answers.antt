@@ -34,3 +34,9 @@ returns-clause-agendas g c = λ so.
     c.unseat.ensures.takes c.set_seat.ensures.takes in
     on_ok_weaker c.broken-told.result (told-agendas g.St.Store.layout g.St.Store.seen look c.args.uid c.args.process c.in-Up.station
     c.broken-told.new.self c.args.self.now c.set_seat.new.self swapped c.broken-told.ensures.store) (c.broken-told.ensures.told so)
+
+-- the parts of the node that is up there fit together
+pub broken-told-requires : goal.broken-told-requires
+broken-told-requires g c = record {
+  whole = (c.requires.whole.nodes c.args.uid.node c.in-Up.station (was-up _ _ (sym c.in-Up.is ∙ c.unseat.ensures.old))).whole;
+}

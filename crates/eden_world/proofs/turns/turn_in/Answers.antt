@@ -11,8 +11,8 @@ returns-in_err-event-in-Up-clause-starves g c = any-err c.from_residual.result _
     (place.Up c.turn.new.self)) (sym c.in-Up.is) (starves-up g.St.Device.Disk.tells g.St.Store.layout g.St.Store.seen c.args.types.now
     c.args.calls.now c.in-Up.station c.turn.new.self c.in_err-event-in-Up.ensures.counts c.in_err-event-in-Up.ensures.starves))
 
-pub returns-in_ok-event-in-Up-clause-turns : goal.returns-in_ok-event-in-Up-clause-turns
-returns-in_ok-event-in-Up-clause-turns g c =
+pub returns-clause-turns : goal.returns-clause-turns
+returns-clause-turns g c =
     let ends = c.in_ok-event-in-Up.ensures in
     record {
       was = c.in-Up.station;

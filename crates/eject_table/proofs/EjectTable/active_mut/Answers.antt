@@ -11,12 +11,12 @@ returns-in-Some g c =
     let t : Table g.row.A.Denot = record { node = a.node; epoch = a.epoch; last_serial = a.last_serial; standings = m } in t)
     ≡ with_active c.args.self.now c.args.uid x = λ x. rw (← c.self.view_is)
     (ap (λ m. record { node = a.node; epoch = a.epoch; last_serial = a.last_serial; standings = m })
-    (written a.active a.places.entries c.self.invariant c.args.uid c.in-Some.key x c.in-Some.ensures).1) in (
+    (written a.active a.places.entries c.self.invariant.whole c.args.uid c.in-Some.key x c.in-Some.ensures).1) in (
       λ i. inl (c.index_mut.result.ghost_name, λ x. after x i),
       record {
         writes_back = tt;
         value = rw (← c.self.view_is)
-            (sym c.index_mut.ensures.value ∙ (place-active a.active a.places.entries c.self.invariant c.args.uid c.in-Some.key
+            (sym c.index_mut.ensures.value ∙ (place-active a.active a.places.entries c.self.invariant.whole c.args.uid c.in-Some.key
             c.in-Some.ensures).0);
       },
     )
@@ -27,6 +27,6 @@ returns-in-None g c = (
   record {
     writes_back = tt;
     value = rw (← c.self.view_is)
-        (place-none c.self.inside.active c.self.inside.places.entries c.self.invariant c.args.uid c.in-None.ensures);
+        (place-none c.self.inside.active c.self.inside.places.entries c.self.invariant.whole c.args.uid c.in-None.ensures);
   },
 )

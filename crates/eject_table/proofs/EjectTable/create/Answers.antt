@@ -7,7 +7,7 @@ returns-then-len-ge4096-clause-cases g c = (
   refl,
   refl,
   rw (← c.self.view_is) (omega
-      (arith, map-len c.self.inside.active c.self.inside.places.entries c.self.invariant, c.len.ensures.len, c.if-len-ge4096.true)),
+      (arith, map-len c.self.inside.active c.self.inside.places.entries c.self.invariant.whole, c.len.ensures.len, c.if-len-ge4096.true)),
 )
 
 pub returns-in_default-clause-cases : goal.returns-in_default-clause-cases
@@ -16,7 +16,7 @@ returns-in_default-clause-cases g c = (
   refl,
   rw (← c.self.view_is) (
     omega
-        (arith, map-len c.self.inside.active c.self.inside.places.entries c.self.invariant, c.len.ensures.len, c.if-len-ge4096.false),
+        (arith, map-len c.self.inside.active c.self.inside.places.entries c.self.invariant.whole, c.len.ensures.len, c.if-len-ge4096.false),
     omega (arith, c.in_default.ensures),
   ),
 )
@@ -27,7 +27,7 @@ returns-in-Ok-clause-cases g c =
     rw (← c.self.view_is) (record {
       few = omega (
         arith,
-        map-len c.self.inside.active c.self.inside.places.entries c.self.invariant,
+        map-len c.self.inside.active c.self.inside.places.entries c.self.invariant.whole,
         c.len.ensures.len,
         c.if-len-ge4096.false,
       );
@@ -44,7 +44,7 @@ returns-in-Err-clause-cases g c =
       rw (← c.self.view_is) (
         omega (
           arith,
-          map-len c.self.inside.active c.self.inside.places.entries c.self.invariant,
+          map-len c.self.inside.active c.self.inside.places.entries c.self.invariant.whole,
           c.len.ensures.len,
           c.if-len-ge4096.false,
         ),

@@ -20,8 +20,10 @@ returns c b is =
 
 pub start-requires : goal.start-requires
 start-requires c = record {
-  may = may-part (λ crew queued. IsSome (startable crew queued)) (part_at c.args.self.now c.args.uid) c.in-Some.part.now c.in-Some.ensures.value c.requires;
+  may = may-part (λ crew queued. IsSome (startable crew queued)) (part_at c.args.self.now c.args.uid) c.in-Some.part.now
+      c.in-Some.ensures.value c.requires;
 }
 
 pub unreachable-requires : goal.unreachable-requires
-unreachable-requires c = may-none (λ crew queued. IsSome (startable crew queued)) (part_at c.args.self.now c.args.uid) (sym c.in-None.ensures.value) c.requires
+unreachable-requires c =
+    may-none (λ crew queued. IsSome (startable crew queued)) (part_at c.args.self.now c.args.uid) (sym c.in-None.ensures.value) c.requires

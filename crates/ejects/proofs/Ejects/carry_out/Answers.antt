@@ -227,6 +227,12 @@ pub returns-in_ok-sleeps-in-Deactivate-clause-of_node : goal.returns-in_ok-sleep
 returns-in_ok-sleeps-in-Deactivate-clause-of_node c k eject all =
     c.drop_requests-in-Deactivate.ensures.of_node k all
 
+pub returns-in_ok-faults-in-Fault-clause-answers : goal.returns-in_ok-faults-in-Fault-clause-answers
+returns-in_ok-faults-in-Fault-clause-answers c all = c.drop_requests.ensures.answers all
+
+pub returns-in_ok-sleeps-in-Deactivate-clause-answers : goal.returns-in_ok-sleeps-in-Deactivate-clause-answers
+returns-in_ok-sleeps-in-Deactivate-clause-answers c all = c.drop_requests-in-Deactivate.ensures.answers all
+
 pub returns-in-Create-clause-parts : goal.returns-in-Create-clause-parts
 returns-in-Create-clause-parts c = IfOk-weaker c.creates.result _ _ (λ said told reach n s sound at took kept reached ready.
     process-creates reach n (parts_of c.args.types.now c.args.self.now)

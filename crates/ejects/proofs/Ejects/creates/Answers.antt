@@ -8,23 +8,23 @@ use Rattle.ejects.specs.View.{parts_of, with_body}
 use Rattle.ejects.proofs.Creating.{created-for, refused-for}
 use Rattle.ejects.proofs.Ejects.creates.Goals as goal
 
-pub returns-in_ok-tell_created-in-Ok : goal.returns-in_ok-tell_created-in-Ok
-returns-in_ok-tell_created-in-Ok c b s at ready stands =
+pub returns-in-Ok : goal.returns-in-Ok
+returns-in-Ok c b s at runs ready stands =
     let ts = c.args.types.now in
     let t = kind_in ts c.in_ok-kind.kind in
     let mid = parts_of ts c.create.new.self in
     let new = parts_of ts c.tell_created.new.self in
-    created-for (parts_of ts c.args.self.now) mid new s c.args.uid c.args.process c.args.type_name.now t b stands at c.in_ok-kind.ensures
+    created-for (parts_of ts c.args.self.now) mid new s c.args.uid c.args.process c.args.type_name.now t b stands at runs ready c.in_ok-kind.ensures
     c.in-Ok.created (subst (λ r. IsCreated t r mid s) c.in-Ok.is (c.in_ok-created.ensures s ready stands))
-    (λ x is. subst (λ cap. new ≡ with_body c.args.uid (told_body c.args.process (Made status.Ok (Some cap)) x) mid) c.mint.ensures.exact
-    (c.in_ok-tell_created-in-Ok.ensures ts x is))
+    (λ x is run. subst (λ cap. new ≡ with_body c.args.uid (told_body c.args.process (Made status.Ok (Some cap)) x) mid) c.mint.ensures.exact
+    (c.tell_created.ensures ts x is run))
 
-pub returns-in_ok-tell_created-in-Err : goal.returns-in_ok-tell_created-in-Err
-returns-in_ok-tell_created-in-Err c b s at ready stands =
+pub returns-in-Err : goal.returns-in-Err
+returns-in-Err c b s at runs ready stands =
     let ts = c.args.types.now in
     let t = kind_in ts c.in_ok-kind.kind in
     let mid = parts_of ts c.create.new.self in
     refused-for (parts_of ts c.args.self.now) mid (parts_of ts c.tell_created-in-Err.new.self) s c.args.uid c.args.process
-    c.args.type_name.now t b stands at c.in_ok-kind.ensures c.in-Err.status
+    c.args.type_name.now t b stands at runs ready c.in_ok-kind.ensures c.in-Err.status
     (subst (λ r. IsCreated t r mid s) c.in-Err.is (c.in_ok-created.ensures s ready stands))
-    (λ x is. c.in_ok-tell_created-in-Err.ensures ts x is)
+    (λ x is run. c.tell_created-in-Err.ensures ts x is run)

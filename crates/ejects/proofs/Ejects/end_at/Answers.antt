@@ -20,7 +20,9 @@ returns c ts b is =
 
 pub end-requires : goal.end-requires
 end-requires c =
-    may-part (λ crew queued. Runs crew c.args.process) (part_at c.args.self.now c.args.uid) c.in-Some.part.now c.in-Some.ensures.value c.requires
+    may-part (λ crew queued. Runs crew c.args.process) (part_at c.args.self.now c.args.uid) c.in-Some.part.now
+    c.in-Some.ensures.value c.requires
 
 pub unreachable-requires : goal.unreachable-requires
-unreachable-requires c = may-none (λ crew queued. Runs crew c.args.process) (part_at c.args.self.now c.args.uid) (sym c.in-None.ensures.value) c.requires
+unreachable-requires c =
+    may-none (λ crew queued. Runs crew c.args.process) (part_at c.args.self.now c.args.uid) (sym c.in-None.ensures.value) c.requires

@@ -9,20 +9,19 @@ use Rattle.ejects.specs.Parts.{queue_of}
 use Rattle.ejects.specs.Replies.{AreOut}
 use Rattle.ejects.specs.StoreEnds.{WentAs}
 use Rattle.ejects.specs.View.{parts_of}
-use Rattle.epl_syntax.specs.Rules.OfTypes.{native_only}
 use Rattle.ejects.proofs.Forgetting.{by-active, none-passive, forgotten-passive, there-none}
 use Rattle.ejects.proofs.Leaving.{parts_with}
 use Rattle.ejects.proofs.Ejects.removes.Goals as goal
 
 pub returns-in_ok-sleeps-in-Active : goal.returns-in_ok-sleeps-in-Active
-returns-in_ok-sleeps-in-Active c ts =
+returns-in_ok-sleeps-in-Active c ts there =
     by-active ts
     (λ o. WentAs o c.args.uid (parts_of ts c.args.self.now) (parts_of ts c.sleeps.new.self) c.args.calls.now c.sleeps.new.calls)
     (get c.args.self.now.table.standings c.args.uid) (sym c.find.ensures ∙ c.in-Active.is)
     (λ b at. c.in_ok-sleeps-in-Active.ensures ts b at)
 
 pub returns-in_ok-reply_all-in-Passive : goal.returns-in_ok-reply_all-in-Passive
-returns-in_ok-reply_all-in-Passive c ts =
+returns-in_ok-reply_all-in-Passive c ts there =
     let table = c.args.self.now.table in
     let waits = c.args.self.now.waiting.entries in
     let passive = sym c.find.ensures ∙ c.in-Passive.is in
@@ -37,6 +36,6 @@ returns-in_ok-reply_all-in-Passive c ts =
           (c.in_ok-reply_all-in-Passive.ensures t carries (subst (AreOut t) (sym queue) out) (subst Distinct (sym queue) once));
     })
 
-pub unreachable-requires : goal.unreachable-requires
-unreachable-requires c =
-    there-none native_only (get c.args.self.now.table.standings c.args.uid) (sym c.find.ensures ∙ c.in-Absent.is) (c.requires native_only)
+pub returns-in-Absent : goal.returns-in-Absent
+returns-in-Absent c ts there =
+    absurd (there-none ts (get c.args.self.now.table.standings c.args.uid) (sym c.find.ensures ∙ c.in-Absent.is) there)

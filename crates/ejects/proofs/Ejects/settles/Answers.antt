@@ -1,7 +1,7 @@
 use Rattle.std.proofs.Common.{sym, ◌∙◌}
 use Rattle.std.specs.FinMap.{get}
 use Rattle.ejects.specs.View.{parts_of}
-use Rattle.ejects.proofs.Forgetting.{there-kept, there-active, there-absent, forgotten-alike, forgotten-there}
+use Rattle.ejects.proofs.Forgetting.{there-kept, there-active, there-absent, forgotten-alike, forgotten-bodies, forgotten-there}
 use Rattle.ejects.proofs.Leaving.{parts_with}
 use Rattle.ejects.proofs.Removals.{alike-same}
 use Rattle.ejects.proofs.Settles.{settled-stands, settled-turn}
@@ -67,3 +67,7 @@ returns-in-Passive-clause-turn c ts m reach clock first p s at settles allows =
     (forgotten-there ts table c.forget.new.self waits c.args.uid passive c.forget.ensures c.args.stays
     c.if-stays.false)
     m reach clock first at.calls allows
+
+pub returns-in-Passive-clause-bodies : goal.returns-in-Passive-clause-bodies
+returns-in-Passive-clause-bodies c ts v =
+    forgotten-bodies ts c.args.self.now.table c.forget.new.self c.args.uid (sym c.find.ensures ∙ c.in-Passive.is) c.forget.ensures v

@@ -9,13 +9,15 @@ use Rattle.ejects.proofs.Leaving.{same-body, part-changed}
 use Rattle.ejects.proofs.Ejects.turn_at.Goals as goal
 
 pub unreachable-requires : goal.unreachable-requires
-unreachable-requires c = may-none (λ crew queued. Runs crew c.args.process) (part_at c.args.self.now c.args.uid) (sym c.in-None.ensures.value) c.requires
+unreachable-requires c =
+    may-none (λ crew queued. Runs crew c.args.process) (part_at c.args.self.now c.args.uid) (sym c.in-None.ensures.value) c.requires
 
 pub returns-clause-runs : goal.returns-clause-runs
 returns-clause-runs c =
     written-may (λ crew queued. Runs crew c.args.process) c.args.self.now.table c.args.uid c.turn.new.self
     (subst (λ (it : Coordination). Runs it.crew c.args.process) (sym c.turn.ensures.crew)
-    (may-part (λ crew queued. Runs crew c.args.process) (part_at c.args.self.now c.args.uid) c.in-Some.part.now c.in-Some.ensures.value c.requires))
+    (may-part (λ crew queued. Runs crew c.args.process) (part_at c.args.self.now c.args.uid) c.in-Some.part.now
+    c.in-Some.ensures.value c.requires))
 
 pub returns-clause-turned : goal.returns-clause-turned
 returns-clause-turned c b t is turns =

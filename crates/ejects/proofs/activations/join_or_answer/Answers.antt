@@ -3,7 +3,7 @@ use Rattle.edentypes.specs.View.{fit_in, result_of}
 use Rattle.eden_model.specs.Traffic.{replied}
 use Rattle.invocation.specs.Carries.{Carries}
 use Rattle.active_part.specs.View.{body_of}
-use Rattle.ejects.proofs.Joining.{joins-fit, joins-misfit}
+use Rattle.ejects.proofs.Joining.{joins-fit, joins-misfit, joins-unasked}
 use Rattle.ejects.proofs.activations.join_or_answer.Goals as goal
 
 pub returns-in_ok-offer-in-Fits : goal.returns-in_ok-offer-in-Fits
@@ -24,3 +24,6 @@ returns-in_ok-reply-in-Misfits c =
     joins-misfit (body_of ts c.args.part.now) c.args.number x c.args.calls.now (sym c.in-Some.ensures) c.reply.new.calls c.in-Misfits.status
     misfits (λ t carries out. subst (λ rs. Carries c.reply.new.calls (replied c.in-Misfits.status rs c.args.number t)) c.no_items.ensures
     (c.in_ok-reply-in-Misfits.ensures t carries out))
+
+pub returns-in_default : goal.returns-in_default
+returns-in_default c = joins-unasked (body_of c.args.types.now c.args.part.now) c.args.number c.args.calls.now c.in_default.ensures

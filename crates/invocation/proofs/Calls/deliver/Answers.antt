@@ -7,7 +7,7 @@ use Rattle.invocation.specs.Mail.{Mail, IsGiven, number_of, received}
 use Rattle.invocation.specs.Queues.{row, with_row}
 use Rattle.invocation.specs.Whole.{AllGiven}
 use Rattle.invocation.proofs.Mails.{between-received, index-received, length-received, given-more, given-with, first-rest, row-read}
-use Rattle.invocation.proofs.Mails.{mail-taken}
+use Rattle.invocation.proofs.Mails.{called-told, mail-taken}
 use Rattle.invocation.proofs.Own.{made-received}
 use Rattle.invocation.proofs.Carried.{delivery-carried}
 use Rattle.invocation.proofs.Calls.deliver.Goals as goal
@@ -50,6 +50,17 @@ invariant_of-self c =
           (mail-taken a.mail a.queues.items c.self.invariant.mail c.args.from c.args.to c.requires.to c.take.new.self
           c.is_any_to.result (λ empty n n8. sym (ap (row n c.args.to) now) ∙ c.is_any_to.ensures.none empty n n8));
     }
+
+pub returns-in-Some-clause-given : goal.returns-in-Some-clause-given
+returns-in-Some-clause-given c =
+    let a = c.self.inside in
+    let q = c.index_mut-queue.result.now in
+    let m = c.in-Some.message in
+    let at : get_or a.queues.items c.pair.result [] ≡ q = row-read a.queues.items c.pair.result q c.index_mut-queue.ensures.value
+    (omega (arith, c.pair.ensures.within, c.self.invariant.pairs)) in
+    let all : AllGiven a.calls.items q = rw (← at) (c.self.invariant.given c.pair.result) in
+    rw (c.receive.ensures.told, c.receive.ensures.calls) (rw (called-told m a.calls.items, length-received m a.calls.items)
+    (All-head (λ x. IsGiven a.calls.items (number_of x)) m (rest q) (rw (first-rest q m c.in-Some.ensures.first) at all)))
 
 pub returns-in-Some-clause-model : goal.returns-in-Some-clause-model
 returns-in-Some-clause-model c t carries =

@@ -1,10 +1,8 @@
-use Rattle.std.proofs.Common.{true, refl}
+use Rattle.std.proofs.Common.{true}
 use Rattle.checkpoint.proofs.Activations.{any-err}
 use Rattle.eden_kernel.specs.Stands.{held}
 use Rattle.agenda.specs.Indexed.{indices_of}
-use Rattle.eden_kernel.proofs.Showing.{none-fell}
 use Rattle.scheduled_node.proofs.Standing.{scheduled-ends, starves-behind}
-use Rattle.scheduled_node.proofs.Touched.{starves-same}
 use Rattle.scheduled_node.proofs.ScheduledNode.store_turn.Goals as goal
 
 pub returns-clause-turn : goal.returns-clause-turn
@@ -23,12 +21,3 @@ returns-in_err-note_behind-clause-starves g c = λ so. any-err c.from_residual-i
     starves-behind c.in_ok-event.end g.St.Store.layout ts (held g.St.Store.seen c.store_turn.new.self) c.store_turn.new.calls
     (λ n. true) (held g.St.Store.seen c.args.self.now.node) s c.in_ok-event.event
     (c.in_ok-event.ensures.turn so ts (λ n. true) s sound some h))
-
--- no request waits
-pub returns-then-not-pending-clause-starves : goal.returns-then-not-pending-clause-starves
-returns-then-not-pending-clause-starves g c = λ so ts s sound some h.
-    starves-same g.St.Store.layout ts c.args.calls.now s (held g.St.Store.seen c.args.self.now.node)
-    (g.St.Store.seen c.args.self.now.node.store) h refl
-
-pub returns-then-not-pending-clause-counts : goal.returns-then-not-pending-clause-counts
-returns-then-not-pending-clause-counts g c = none-fell _ _ refl

@@ -13,15 +13,13 @@ use Rattle.scheduled_node.proofs.Standing.{allowed-by}
 use Rattle.scheduled_node.proofs.Touched.{starves-same, touches-stored}
 use Rattle.scheduled_node.proofs.ScheduledNode.turn.Goals as goal
 
-pub returns-in-1-clause-turn : goal.returns-in-1-clause-turn
-returns-in-1-clause-turn g c = λ so law.
-    both-ok _ _ _ c.delivery.result c.delivery.ensures.event (c.delivery.ensures.turn so)
-    (λ r is turn reach s fits reached sound fresh some h.
-    record {
-      turn = turn reach s sound h;
-      key = key-delivered s.number c.args.key r.0 c.in-1.is (subst (λ n. IsDelivery c.args.key.sender n r.0)
-          (sym h.node.calls.parts.number) is) fits;
-    })
+pub returns-in_ok-event-in-1-clause-turn : goal.returns-in_ok-event-in-1-clause-turn
+returns-in_ok-event-in-1-clause-turn g c = λ so law reach s fits reached sound fresh some h. record {
+  turn = c.in_ok-event-in-1.ensures.turn so reach s sound h;
+  key = key-delivered s.number c.args.key c.in_ok-event-in-1.event c.in-1.is (subst (λ n. IsDelivery c.args.key.sender n
+      c.in_ok-event-in-1.event)
+      (sym h.node.calls.parts.number) c.in_ok-event-in-1.ensures.event) fits;
+}
 
 pub returns-in-2-clause-turn : goal.returns-in-2-clause-turn
 returns-in-2-clause-turn g c = λ so law.
@@ -56,13 +54,13 @@ returns-in-5-clause-turn g c = λ so law.
           (manned g.St.Store.seen c.args.self.now) s r.0 ends) c.in-5.is is fits;
     })
 
-pub returns-in-1-clause-starves : goal.returns-in-1-clause-starves
-returns-in-1-clause-starves g c = λ so law. any-err c.delivery.result _ (λ s sound some h.
+pub returns-in_err-event-in-1-clause-starves : goal.returns-in_err-event-in-1-clause-starves
+returns-in_err-event-in-1-clause-starves g c = λ so law. any-err c.from_residual.result _ (λ s sound some h.
     starves-same g.St.Store.layout c.args.types.now c.args.calls.now s (held g.St.Store.seen c.args.self.now.node)
-    (g.St.Store.seen c.delivery.new.self.node.store) h c.delivery.ensures.store)
+    (g.St.Store.seen c.deliver.new.self.node.store) h c.deliver.ensures.store)
 
 pub returns-in_err-event-in-3-clause-starves : goal.returns-in_err-event-in-3-clause-starves
-returns-in_err-event-in-3-clause-starves g c = λ so law. any-err c.from_residual.result _ (λ s sound some h.
+returns-in_err-event-in-3-clause-starves g c = λ so law. any-err c.from_residual-in_err-event-in-3.result _ (λ s sound some h.
     starves-same g.St.Store.layout c.args.types.now c.args.calls.now s (held g.St.Store.seen c.args.self.now.node)
     (g.St.Store.seen c.start.new.self.node.store) h c.start.ensures.store)
 
@@ -70,11 +68,6 @@ pub returns-in_err-event-in-4-clause-starves : goal.returns-in_err-event-in-4-cl
 returns-in_err-event-in-4-clause-starves g c = λ so law. any-err c.from_residual-in_err-event-in-4.result _ (λ s sound some h.
     starves-same g.St.Store.layout c.args.types.now c.args.calls.now s (held g.St.Store.seen c.args.self.now.node)
     (g.St.Store.seen c.process.new.self.node.store) h c.process.ensures.store)
-
-pub returns-in_default-clause-starves : goal.returns-in_default-clause-starves
-returns-in_default-clause-starves g c = λ so law s sound some h.
-    starves-same g.St.Store.layout c.args.types.now c.args.calls.now s (held g.St.Store.seen c.args.self.now.node)
-    (g.St.Store.seen c.args.self.now.node.store) h refl
 
 pub returns-in-5-clause-starves : goal.returns-in-5-clause-starves
 returns-in-5-clause-starves g c = λ so law.
@@ -86,8 +79,8 @@ returns-in-5-clause-touches g c = λ so reads.
     touches-stored s r.0 (g.St.Store.seen c.args.self.now.node.store).disk (g.St.Store.seen c.store_turn.new.self.node.store).disk is
     (touches c.args.types.now s some h))
 
-pub returns-in-1-clause-clock : goal.returns-in-1-clause-clock
-returns-in-1-clause-clock g c = any-ok c.delivery.result _ _ (λ r is. clock-delivered _ _ _ r.0 is) c.delivery.ensures.event
+pub returns-in_ok-event-in-1-clause-clock : goal.returns-in_ok-event-in-1-clause-clock
+returns-in_ok-event-in-1-clause-clock g c = clock-delivered _ _ _ c.in_ok-event-in-1.event c.in_ok-event-in-1.ensures.event
 
 pub returns-in-2-clause-clock : goal.returns-in-2-clause-clock
 returns-in-2-clause-clock g c = any-ok c.activate.result _ _ (λ r is. clock-activated _ _ _ _ r.0 is) c.activate.ensures.event
@@ -101,8 +94,8 @@ returns-in_ok-event-in-4-clause-clock g c = clock-turned _ _ _ c.in_ok-event-in-
 pub returns-in-5-clause-clock : goal.returns-in-5-clause-clock
 returns-in-5-clause-clock g c = any-ok c.store_turn.result _ _ (λ r is. clock-stored _ _ r.0 is) c.store_turn.ensures.event
 
-pub returns-in-1-clause-event : goal.returns-in-1-clause-event
-returns-in-1-clause-event g c = any-ok c.delivery.result _ _ (λ r is. turn-delivered _ _ _ r.0 is) c.delivery.ensures.event
+pub returns-in_ok-event-in-1-clause-event : goal.returns-in_ok-event-in-1-clause-event
+returns-in_ok-event-in-1-clause-event g c = turn-delivered _ _ _ c.in_ok-event-in-1.event c.in_ok-event-in-1.ensures.event
 
 pub returns-in-2-clause-event : goal.returns-in-2-clause-event
 returns-in-2-clause-event g c = both-ok _ _ _ c.activate.result c.activate.ensures.event c.activate.ensures.of_node
@@ -117,3 +110,22 @@ returns-in_ok-event-in-4-clause-event g c = turn-of-process _ _ _ c.in_ok-event-
 pub returns-in-5-clause-event : goal.returns-in-5-clause-event
 returns-in-5-clause-event g c = both-ok _ _ _ c.store_turn.result c.store_turn.ensures.event c.store_turn.ensures.of_node
     (λ r is own. turn-stored _ _ _ r.0 is own)
+
+-- the node has the turn of the key
+pub deliver-requires-clause-from : goal.deliver-requires-clause-from
+deliver-requires-clause-from g c = (c.requires.has.delivery c.in-1.is).0
+
+pub deliver-requires-clause-hears : goal.deliver-requires-clause-hears
+deliver-requires-clause-hears g c = (c.requires.has.delivery c.in-1.is).1
+
+pub activate-requires-clause-may : goal.activate-requires-clause-may
+activate-requires-clause-may g c = c.requires.has.activation c.in-2.is
+
+pub start-requires-clause-may : goal.start-requires-clause-may
+start-requires-clause-may g c = c.requires.has.start c.in-3.is
+
+pub process-requires-clause-may : goal.process-requires-clause-may
+process-requires-clause-may g c = c.requires.has.process c.in-4.is
+
+pub store_turn-requires-clause-pending : goal.store_turn-requires-clause-pending
+store_turn-requires-clause-pending g c = c.requires.has.store c.in-5.is

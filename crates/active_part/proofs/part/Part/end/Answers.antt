@@ -13,7 +13,8 @@ invariant_of-self c =
     let a = c.args.self.now in
     let others = λ (k : ℕ). not (k == c.args.process) in
     record {
-      tasks_are = removed-keys (task_of (native Cell)) others c.remove.new.self.entries.items a.tasks.entries.items (c.remove.ensures (native Cell))
+      tasks_are = removed-keys (task_of (native Cell)) others c.remove.new.self.entries.items a.tasks.entries.items
+          (c.remove.ensures (native Cell))
           ∙ ap (filter others) a.tasks_are
           ∙ sym (ap (λ (it : Coordination). keys it.crew.processes) c.end.ensures ∙ ended-keys c.args.process a.crew.crew);
     }

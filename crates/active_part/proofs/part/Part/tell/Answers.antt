@@ -10,7 +10,9 @@ answer-requires-clause-ascend c =
 
 pub answer-requires-clause-there : goal.answer-requires-clause-there
 answer-requires-clause-there c =
-    let a = c.args.self.now in ap (is_number_in c.args.process) a.tasks_are ∙ process-among c.args.process outside a.crew.crew.processes (c.awaits.ensures.0 c.if-not-awaits.false)
+    let a = c.args.self.now in
+    ap (is_number_in c.args.process) a.tasks_are
+    ∙ process-among c.args.process outside a.crew.crew.processes (c.awaits.ensures.0 c.if-not-awaits.false)
 
 pub invariant_of-self : goal.invariant_of-self
 invariant_of-self c = record {

@@ -11,7 +11,8 @@ answer-requires-clause-ascend c =
 
 pub answer-requires-clause-there : goal.answer-requires-clause-there
 answer-requires-clause-there c =
-    let a = c.args.self.now in ap (is_number_in c.args.process) a.tasks_are ∙ process-among c.args.process nothing a.crew.crew.processes c.requires
+    let a = c.args.self.now in
+    ap (is_number_in c.args.process) a.tasks_are ∙ process-among c.args.process nothing a.crew.crew.processes c.requires
 
 pub returns : goal.returns
 returns c ts =

@@ -13,7 +13,8 @@ find-place-requires-clause-ascend c =
 
 pub find-place-requires-clause-there : goal.find-place-requires-clause-there
 find-place-requires-clause-there c =
-    let a = c.args.self.now in ap (is_number_in c.args.process) a.tasks_are ∙ process-among c.args.process nothing a.crew.crew.processes c.requires
+    let a = c.args.self.now in
+    ap (is_number_in c.args.process) a.tasks_are ∙ process-among c.args.process nothing a.crew.crew.processes c.requires
 
 pub returns-clause-turned : goal.returns-clause-turned
 returns-clause-turned c t turns =

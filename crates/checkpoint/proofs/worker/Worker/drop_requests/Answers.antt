@@ -1,9 +1,10 @@
-use Rattle.std.proofs.Common.{rules, not, true, false, sym, ap, subst, ◌∙◌}
+use Rattle.std.proofs.Common.{rules, not, true, false, refl, sym, ap, subst, ◌∙◌}
 use Rattle.std.proofs.lemmas.Fn.{filter_same}
 use Rattle.capability.specs.Uids.{uid_eq}
 use Rattle.checkpoint.specs.declared.worker.Request.{Request}
 use Rattle.checkpoint.specs.Queues.{left_in}
 use Rattle.checkpoint.specs.Asked.{AllOfNode}
+use Rattle.checkpoint.proofs.Answering.{dropped-answer}
 use Rattle.checkpoint.proofs.OfNode.{left-of_node}
 use Rattle.checkpoint.proofs.Queues.{left-waiting-all, now-left, begun-left}
 use Rattle.checkpoint.proofs.worker.Worker.drop_requests.Goals.{then-eq, else-eq}
@@ -35,3 +36,13 @@ pub returns-after-eq-clause-of_node : goal.returns-after-eq-clause-of_node
 returns-after-eq-clause-of_node c = λ n all.
     subst (AllOfNode n) (sym (returns-after-eq-clause-requests c))
     (left-of_node n c.args.self.now.begun c.args.uid c.args.self.now.requests.items all)
+
+pub returns-then-not-self-clause-answers : goal.returns-then-not-self-clause-answers
+returns-then-not-self-clause-answers c = λ all.
+    dropped-answer c.args.self.now.begun c.args.self.now.begun c.args.uid c.args.self.now.requests.items _
+    (returns-then-not-self-clause-requests c) refl all
+
+pub returns-after-eq-clause-answers : goal.returns-after-eq-clause-answers
+returns-after-eq-clause-answers c = λ all.
+    dropped-answer c.args.self.now.begun c.args.self.now.begun c.args.uid c.args.self.now.requests.items _
+    (returns-after-eq-clause-requests c) refl all

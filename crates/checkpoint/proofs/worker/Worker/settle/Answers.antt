@@ -1,4 +1,4 @@
-use Rattle.std.proofs.Common.{refl, subst, arith}
+use Rattle.std.proofs.Common.{refl, subst, ◌∙◌, arith}
 use Rattle.checkpoint.proofs.OneCalls.{one-going, one-refused}
 use Rattle.checkpoint.proofs.StoreCalls.{settles-once}
 use Rattle.checkpoint.proofs.WorkerSteps.{settle-goes-on, settle-picks, settle-refused}
@@ -15,7 +15,8 @@ returns-in-Ok-Going-clause-steps g c = λ so s told h. (
 
 pub returns-in-Ok-Done-clause-steps : goal.returns-in-Ok-Done-clause-steps
 returns-in-Ok-Done-clause-steps g c = λ so s told h. (
-  settle-picks _ _ s _ _ _ _ _ c.in-Ok-Done.field-0 c.requires.some c.in-Ok-Done.field-0-is c.picked.ensures h
+  settle-picks _ _ s _ _ _ _ _ c.in-Ok-Done.field-0 c.requires.some c.in-Ok-Done.field-0-is
+      (c.found_of.ensures.pick (λ none. absurd (cc none)) ∙ c.picked.ensures) h
       (settles-once _ _ _ _ _ _ so c.requires.unsettled c.in-Ok-Done.ensures),
   omega (arith, c.in-Ok-Done.ensures.more),
 )
