@@ -1,16 +1,19 @@
 -- The code's active part as a body.
-use Rattle.std.specs.Prelude.{◌≡◌, ◌≤◌, ◌<◌, ℕ, List, length, slice_get, Option, None, Some, IfSome}
+use Rattle.std.specs.Prelude.{◌≡◌, ◌≤◌, ◌<◌, ℕ, List, length, Option, None, Some}
 use Rattle.std.specs.Option.{option_map}
 use Rattle.capability.specs.declared.TheConstants.{BODY_LIMIT}
 use Rattle.coordinator.specs.declared.parts.Started.{Started}
-use Rattle.eden_model.specs.Crew.{Crew, Coordination, Invocation, Holds, startable, least_free, started_in, locked, left, waited, signalled}
+use Rattle.eden_model.specs.Crew.{Crew, Coordination, Invocation, startable, least_free, started_in, locked, left, waited, signalled}
 use Rattle.eden_model.specs.Map.{each_value, with_item}
+use Rattle.epl_syntax.specs.declared.effect.Effect.{Effect}
+use Rattle.epl_syntax.specs.declared.effect.Effect.TheVariants as effect
 use Rattle.epl_syntax.specs.Edentype.{Edentype}
 use Rattle.epl_syntax.specs.Meaning.{begin}
 use Rattle.epl_syntax.specs.Rules.OfTypes.{TypeList}
 use Rattle.edentypes.specs.View.{kind_in, rest_of}
 use Rattle.invocation.specs.declared.call.Call.{Call}
 use Rattle.journal.specs.World.{Task}
+use Rattle.journal.specs.FitTurns.{MayStep}
 use Rattle.active_part.specs.Bodies.{started_body}
 use Rattle.active_part.specs.Body.{Body}
 use Rattle.active_part.specs.declared.Doing.{Doing}
@@ -42,16 +45,16 @@ stepped (Leave m) p = left m
 stepped (Wait c) p = waited p c
 stepped (Signal c) p = signalled c
 
--- the process holds the monitor of the condition
-abbrev pub HoldsFor : Crew → ℕ → ℕ → Type 0
-HoldsFor crew p c = (c < length crew.conditions) × IfSome (slice_get crew.conditions c) (λ it. Holds crew p it.monitor)
+-- the effect of a turn that is such a step
+abbrev pub effect_of : Step → Effect
+effect_of (Lock m) = effect.Lock m
+effect_of (Leave m) = effect.Leave m
+effect_of (Wait c) = effect.Wait c
+effect_of (Signal c) = effect.Signal c
 
--- what a step asks of a process that runs
+-- a process that runs may take the step
 abbrev pub MayTake : Crew → ℕ → Step → Type 0
-MayTake crew p (Lock m) = (1 ≤ m) × (m ≤ length crew.monitors)
-MayTake crew p (Leave m) = Holds crew p m
-MayTake crew p (Wait c) = HoldsFor crew p c
-MayTake crew p (Signal c) = HoldsFor crew p c
+MayTake crew p step = MayStep crew p (effect_of step)
 
 -- the invocation that may start left the queue, and runs in a process of the least free number
 pub record StartsNext (old new : Coordination) (st : Started) : Type 0 where

@@ -16,11 +16,12 @@ ghost use Rattle.epl_syntax.specs.Meaning as meaning;
 ghost use Rattle.epl_syntax.specs.Meaning.{Turned, rep_of};
 ghost use Rattle.epl_syntax.specs.Rules.OfTypes.{TypeList};
 ghost use Rattle.edentypes.specs.View.{kind_in, rest_of, turned_of};
+ghost use Rattle.journal.specs.FitTurns.{HoldsFor};
 ghost use Rattle.journal.specs.Processes.{turn_of};
 ghost use Rattle.active_part.specs.Body.{active_of, calls_of};
 ghost use Rattle.active_part.specs.Bodies.{joined_body, turned_body, ended_body, told_body, asking_body, crewed_body, serves_of};
 ghost use Rattle.active_part.specs.View.{IsEncoded};
-ghost use Rattle.active_part.specs.View.{body_of, coordination_of, stepped, HoldsFor, MayTake, IsStarted, StartsNext};
+ghost use Rattle.active_part.specs.View.{body_of, coordination_of, stepped, MayTake, IsStarted, StartsNext};
 
 use capability::{Body, Uid};
 use coordinator::{Coordinator, Parts, Started};
@@ -258,17 +259,17 @@ impl Part {
 
 // Whether the process holds the monitor of a condition.
 fn holds_for(crew: &Coordinator, process: u8, condition: u8) -> bool
-    ensures { result ≡ true → HoldsFor crew.now.crew process condition }
+    ensures { IsTrue result ↔ HoldsFor crew.now.crew process condition }
 {
     match crew.monitor_of(condition) {
-        Some(monitor) => (condition as usize) < crew.conditions() && crew.holds(process, monitor),
+        Some(monitor) => crew.holds(process, monitor),
         None => false,
     }
 }
 
 // Whether a process that runs may take this step.
 fn may_take(crew: &Coordinator, process: u8, step: Step) -> bool
-    ensures { result ≡ true → MayTake crew.now.crew process step }
+    ensures { IsTrue result ↔ MayTake crew.now.crew process step }
 {
     match step {
         Step::Lock { monitor } => 1 <= monitor && (monitor as usize) <= crew.monitors(),
@@ -295,19 +296,17 @@ fn take_step(crew: &mut Coordinator, process: u8, step: Step)
 }
 
 impl Part {
-    /// A process that runs does something at its monitors. A checked program does nothing else there than what it may.
-    /// A refusal changes nothing.
-    pub fn coordinate(&mut self, process: u8, step: Step) -> Result<(), AllocError>
+    /// A process that runs does something at its monitors, which a checked program does only where it may. Elsewhere nothing changes.
+    pub fn coordinate(&mut self, process: u8, step: Step)
         requires { Runs (coordination_of self.old).crew process }
-        ensures after { OnOk result ((ts : TypeList) → body_of ts self.new ≡ crewed_body (stepped step process) (body_of ts self.old)) }
-        ensures may { OnOk result ((ts : TypeList) → MayTake (body_of ts self.old).crew.crew process step) }
-        ensures unchanged { OnErr result ((ts : TypeList) → body_of ts self.new ≡ body_of ts self.old) }
+        ensures after { MayTake (coordination_of self.old).crew process step
+            → (ts : TypeList) → body_of ts self.new ≡ crewed_body (stepped step process) (body_of ts self.old) }
+        ensures unchanged { (MayTake (coordination_of self.old).crew process step → ⊥)
+            → (ts : TypeList) → body_of ts self.new ≡ body_of ts self.old }
     {
-        if !may_take(&self.crew, process, step) {
-            return Err(AllocError);
+        if may_take(&self.crew, process, step) {
+            take_step(&mut self.crew, process, step);
         }
-        take_step(&mut self.crew, process, step);
-        Ok(())
     }
 }
 

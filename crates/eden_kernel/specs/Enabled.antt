@@ -3,14 +3,15 @@ use Rattle.std.specs.Prelude.{◌≡◌, ◌≢◌, ◌≤◌, ℕ, true, length
 use Rattle.capability.specs.declared.Uid.{Uid}
 use Rattle.epl_syntax.specs.Rules.OfTypes.{TypeList}
 use Rattle.invocation.specs.Mail.{Mail}
-use Rattle.passive_store.specs.Kept.{worked_on}
+use Rattle.passive_store.specs.Kept.{IsEject, worked_on}
 use Rattle.ejects.specs.Marks.{IsReady, MayBegin, may_wake}
 use Rattle.ejects.specs.Parts.{body_at}
 use Rattle.ejects.specs.View.{parts_of}
 use Rattle.eden_kernel.specs.Stands.{Held}
 
--- An Eject may be activated: it is passive, has a queued call, and is not worked on by the store.
+-- An Eject may be activated: its uid is of the node, it is passive, has a queued call, and is not worked on by the store.
 pub record MayActivate (ts : TypeList) (h : Held) (u : Uid) : Type 0 where
+  pub own : IsEject h.number u
   pub wakes : may_wake (parts_of ts h.ejects) u ≡ true
   pub free : worked_on h.seen.work ≢ Some u
 
@@ -18,9 +19,10 @@ pub record MayActivate (ts : TypeList) (h : Held) (u : Uid) : Type 0 where
 abbrev pub MayStart : TypeList → Held → Mail → Uid → Type 0
 MayStart ts h m u = MayBegin m (body_at (parts_of ts h.ejects) u)
 
--- A process of an Eject waits for nothing.
-abbrev pub MayProcess : TypeList → Held → Uid → ℕ → Type 0
-MayProcess ts h u p = IsReady (body_at (parts_of ts h.ejects) u) p
+-- A process of an Eject waits for nothing, and the uid is of the node.
+pub record MayProcess (ts : TypeList) (h : Held) (u : Uid) (p : ℕ) : Type 0 where
+  pub own : IsEject h.number u
+  pub ready : IsReady (body_at (parts_of ts h.ejects) u) p
 
 -- A request waits for the store.
 abbrev pub HasRequest : Held → Type 0

@@ -26,7 +26,6 @@ ghost use Rattle.eden_kernel.specs.Shows.{call_of_event};
 ghost use Rattle.eden_kernel.specs.Stands.{held, IsWhole, NodeStands};
 ghost use Rattle.eden_kernel.specs.declared.stores.TurnEnd.TheVariants.{Up, Down};
 
-use crate::processes::is_eject;
 use crate::stores::pick_in;
 use crate::{Node, TurnEnd};
 use capability::Uid;
@@ -177,9 +176,6 @@ impl<St: Store> Node<St> {
             → NodeStands St.layout types.now (held St.seen self.old) calls.old s
             → Starves St.layout s (St.seen self.old.store) (St.seen self.new.store)) }
     {
-        if !is_eject(self.number, uid) {
-            return Err(AllocError);
-        }
         let kinds = Kinds { types };
         let (start, settled) = start_from(alloc, &mut self.store, &kinds, uid)?;
         settle_ejects(&mut self.ejects, &self.store, settled);

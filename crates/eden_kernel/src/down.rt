@@ -1,5 +1,5 @@
 //! A node goes down, its disk is armed, and its processes are told of calls that broke elsewhere.
-ghost use Rattle.std.specs.Prelude.{◌≡◌, ◌≤◌, ℕ, Bool, IsSome, IsTrue, OnOk};
+ghost use Rattle.std.specs.Prelude.{◌≡◌, ◌≤◌, ℕ, Bool, IsTrue};
 ghost use Rattle.epl_syntax.specs.Rules.OfTypes.{TypeList};
 ghost use Rattle.invocation.specs.Mail.{Mail};
 ghost use Rattle.eden_disk.specs.Calls.{armed, calls_until};
@@ -9,6 +9,7 @@ ghost use Rattle.journal.specs.World.{Site};
 ghost use Rattle.journal.specs.Crashes.{crashed};
 ghost use Rattle.checkpoint.specs.Asked.{noted_in};
 ghost use Rattle.checkpoint.specs.Turns.{with_clock};
+ghost use Rattle.ejects.specs.Marks.{IsLooseIn};
 ghost use Rattle.ejects.specs.Parts.{body_at};
 ghost use Rattle.ejects.specs.View.{parts_of};
 ghost use Rattle.journal.specs.declared.event.Event.TheVariants.{Armed, Crash};
@@ -22,7 +23,7 @@ use capability::Uid;
 use checkpoint::noted;
 use eden_disk::{Arm, Disk, ImageMode};
 use passive_store::{Doubt, Store};
-use std::alloc::{AllocError, Global};
+use std::alloc::Global;
 
 impl<St: Store> Node<St> {
     /// The node crashes. Its disk is left, without power, and what was in doubt there.
@@ -88,15 +89,15 @@ impl<St: Store> Node<St> {
     }
 
     /// A process that waits for a call elsewhere is told that the call is broken.
-    pub fn broken(&mut self, alloc: Global, uid: Uid, process: u8) -> Result<(), AllocError>
+    pub fn broken(&mut self, alloc: Global, uid: Uid, process: u8)
         requires whole { IsWhole (held St.seen self.old) }
-        ensures whole { OnOk result (IsWhole (held St.seen self.new)) }
+        ensures whole { IsWhole (held St.seen self.new) }
         ensures number { self.new.number ≡ self.old.number }
         ensures store { St.seen self.new.store ≡ St.seen self.old.store }
-        ensures told { IsTrue St.Device.tells → OnOk result ((ts : TypeList) (m : Mail) (s : Site)
-            → IsSome (body_at (parts_of ts self.old.ejects) uid) → NodeStands St.layout ts (held St.seen self.old) m s
-            → NodeStands St.layout ts (held St.seen self.new) m (told_broken uid process s)) }
+        ensures told { IsTrue St.Device.tells → (ts : TypeList) (m : Mail) (s : Site)
+            → IsLooseIn (body_at (parts_of ts self.old.ejects) uid) process → NodeStands St.layout ts (held St.seen self.old) m s
+            → NodeStands St.layout ts (held St.seen self.new) m (told_broken uid process s) }
     {
-        self.ejects.broken(alloc, uid, process)
+        self.ejects.broken(alloc, uid, process);
     }
 }

@@ -11,6 +11,7 @@ ghost use Rattle.eden_kernel.specs.Enabled.{HasRequest, MayActivate, MayProcess,
 ghost use Rattle.eden_kernel.specs.Stands.{held, NodeStands};
 
 use crate::Node;
+use crate::processes::is_eject;
 use capability::Uid;
 use ejects::Ejects;
 use invocation::Calls;
@@ -52,10 +53,13 @@ impl<St: Store> Node<St> {
         self.worker.pending()
     }
 
-    /// Whether an Eject may be activated: it is passive, has a queued call, and is not worked on by the store.
+    /// Whether an Eject may be activated: its uid is of the node, it is passive, has a queued call, and is not worked on by the store.
     pub fn may_activate(&self, uid: Uid) -> bool
         ensures { (ts : TypeList) → IsTrue result ↔ MayActivate ts (held St.seen self.now) uid }
     {
+        if !is_eject(self.number, uid) {
+            return false;
+        }
         if !self.ejects.may(uid).wake {
             return false;
         }
@@ -72,10 +76,10 @@ impl<St: Store> Node<St> {
         self.ejects.may_begin(calls, uid)
     }
 
-    /// Whether a process of an Eject waits for nothing.
+    /// Whether a process of an Eject waits for nothing, and the uid is of the node.
     pub fn may_process(&self, uid: Uid, process: u8) -> bool
         ensures { (ts : TypeList) → IsTrue result ↔ MayProcess ts (held St.seen self.now) uid process }
     {
-        self.ejects.is_ready(uid, process)
+        is_eject(self.number, uid) && self.ejects.is_ready(uid, process)
     }
 }

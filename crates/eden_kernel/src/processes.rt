@@ -1,11 +1,11 @@
 //! Turns of processes.
-ghost use Rattle.std.specs.Prelude.{◌≡◌, ◌<◌, ◌||◌, ℕ, Bool, IfOk, IsTrue, OnOk, is_some, length};
+ghost use Rattle.std.specs.Prelude.{◌≡◌, ◌↔◌, ◌<◌, ◌||◌, ℕ, Bool, IfOk, IsTrue, OnOk, is_some, length};
 ghost use Rattle.passive_store.specs.Kept.{IsEject, body_at, doubt_in};
 ghost use Rattle.journal.specs.Sites.{IsSoundSite};
 ghost use Rattle.journal.specs.World.{Site};
 ghost use Rattle.checkpoint.specs.StoreStands.{doubt_of};
 ghost use Rattle.ejects.specs.Events.{IsTurnOf};
-ghost use Rattle.ejects.specs.Creations.{HasNewUid};
+ghost use Rattle.ejects.specs.Creations.{MayTurn};
 ghost use Rattle.ejects.specs.Replies.{Reaches};
 ghost use Rattle.eden_kernel.specs.Enabled.{MayProcess};
 ghost use Rattle.eden_kernel.specs.Stands.{held, IsWhole, NodeStands};
@@ -36,7 +36,7 @@ fn is_kept<St: Store>(store: &St, uid: Uid) -> bool
 
 // Whether the uid is that of an Eject of this node.
 pub(crate) fn is_eject(number: u8, uid: Uid) -> bool
-    ensures { IsTrue result → IsEject number uid }
+    ensures { IsTrue result ↔ IsEject number uid }
 {
     uid.node == number && uid.epoch >= 1 && uid.serial >= 1
 }
@@ -60,12 +60,9 @@ impl<St: Store> Node<St> {
         ensures event { IfOk result (IsTurnOf uid process) }
         ensures store { St.seen self.new.store ≡ St.seen self.old.store }
         ensures turn { IsTrue St.Device.tells → IfOk result (λ e. (reach : ℕ → Bool) (s : Site) → Reaches reach places.now uid.node
-            → IsSoundSite s → HasNewUid s → NodeStands St.layout types.now (held St.seen self.old) calls.old s
+            → IsSoundSite s → MayTurn s → NodeStands St.layout types.now (held St.seen self.old) calls.old s
             → Turns St.layout types.now (held St.seen self.new) calls.new reach (held St.seen self.old) s e) }
     {
-        if !is_eject(self.number, uid) {
-            return Err(AllocError);
-        }
         let stays = is_kept(&self.store, uid);
         let worker = &mut self.worker;
         self.ejects

@@ -1,12 +1,13 @@
 -- Which calls an event broke, and who asked them, by the numbers that `break_node` and `break_link` hand back.
 use Rattle.std.proofs.Common.{◌≡◌, ◌==◌, ◌≤◌, ℕ, ◌+◌, Bool, true, false, cond, not, ◌&&◌, ◌||◌, List, [], ◌∷◌, Option, None, Some}
-use Rattle.std.proofs.Common.{refl, sym, ◌∙◌, ap, subst, arith}
-use Rattle.std.specs.Prelude.{IsSomeAnd, IsSome}
+use Rattle.std.proofs.Common.{refl, sym, ◌∙◌, ap, subst, arith, inl}
+use Rattle.std.specs.Prelude.{IsSomeAnd}
 use Rattle.std.specs.List.{filter_map, cons_option, AllByRecursion}
 use Rattle.std.specs.Option.{option_map}
 use Rattle.std.specs.Ordering.{nat_cmp, eq_by_cmp}
 use Rattle.capability.specs.declared.Uid.{Uid}
 use Rattle.eden_model.specs.Map.{with_item, value_at}
+use Rattle.eden_model.specs.Crew.{Waits, outside}
 use Rattle.eden_model.proofs.Numbers.{same-true, same-self}
 use Rattle.eden_model.specs.declared.Asker.{Asker}
 use Rattle.eden_model.specs.declared.Asker.TheVariants.{Shell, Eject as Process}
@@ -19,10 +20,11 @@ use Rattle.invocation.specs.Mail.{Mail}
 use Rattle.invocation.specs.Numbers.{item_in}
 use Rattle.invocation.specs.Carries.{Carries}
 use Rattle.invocation.proofs.CarriesLaws.{found-call, asked-call, names-by-number, processes-by-number}
-use Rattle.journal.specs.World.{World, Node, node_at, site_of, eject_in}
+use Rattle.journal.specs.World.{World, Node, Active, node_at, site_of, eject_in}
 use Rattle.journal.specs.Sites.{AreNumbered, AllSound, active_in}
+use Rattle.ejects.specs.Marks.{IsLoose}
 use Rattle.ejects.proofs.Keeping.{value-each}
-use Rattle.eden_world.specs.Told.{waiting_at, name_at, CanBeTold}
+use Rattle.eden_world.specs.Told.{waiting_at, name_at, CanBeTold, IsLooseAt}
 
 -- 1. Askers
 
@@ -137,16 +139,16 @@ not-true : (b : Bool) → not b ≡ true → b ≡ false
 not-true true e = absurd (cc e)
 not-true false e = refl
 
--- who asked an open call has an active Eject
-is-active : (w : World) (u : Uid) (p k : ℕ) (c : Call) (it : Node) → AllSound w → node_at w u.node ≡ Some it → call_at w.traffic k ≡ Some c
-    → c.open_ ≡ true → c.asker ≡ Process u p → IsSome (active_in (eject_in (site_of w u.node it) u))
-is-active w u p k c it sound at is opened asker =
-    waits _ (active_in (eject_in (site_of w u.node it) u)) (((sound u.node it at).processes u p refl).asks k
+-- who asked an open call waits, and so stands in no queue
+is-loose : (w : World) (u : Uid) (p k : ℕ) (c : Call) (it : Node) → AllSound w → node_at w u.node ≡ Some it → call_at w.traffic k ≡ Some c
+    → c.open_ ≡ true → c.asker ≡ Process u p → IsLooseAt (eject_in (site_of w u.node it) u) p
+is-loose w u p k c it sound at is opened asker =
+    waits (active_in (eject_in (site_of w u.node it) u)) (((sound u.node it at).processes u p refl).asks k
     (subst (λ o. IsSomeAnd o (λ (d : Call). (d.open_ ≡ true) × (d.asker ≡ Process u p))) (sym is) (opened, asker))).0
   where
-    waits : {X : Type 0} (P : X → Type 0) (o : Option X) → IsSomeAnd o P → IsSome o
-    waits P None h = absurd h
-    waits P (Some x) h = refl
+    waits : (o : Option Active) → IsSomeAnd o (λ a. Waits a.crew p outside) → IsSomeAnd o (λ a. IsLoose a.crew p)
+    waits None h = absurd h
+    waits (Some a) h = inl h
 
 -- behind a fall of node n
 pub can-fall : (w later : World) (n : ℕ) → AllSound w → AreNumbered 1 w.traffic.calls
@@ -163,7 +165,7 @@ can-fall w later n sound numbered others = each-process (CanBeTold n later) (bro
         let y = both-true (target_station c == n) (not (asking_station c.asker == n)) x.1 in
         let apart : (u.node == n) ≡ false =
         ap (λ a. asking_station a == n) (sym asker) ∙ not-true (asking_station c.asker == n) y.1 in
-        (apart, is-active w u p k c it sound (sym (others u.node apart) ∙ at) is x.0 asker)
+        (apart, is-loose w u p k c it sound (sym (others u.node apart) ∙ at) is x.0 asker)
 
 -- behind a cut: no node fell
 pub can-cut : (w later : World) (a b : ℕ) → AllSound w → AreNumbered 1 w.traffic.calls → ((m : ℕ) → node_at later m ≡ node_at w m)
@@ -176,4 +178,4 @@ can-cut w later a b sound numbered same some = each-process (CanBeTold 0 later) 
         → CanBeTold 0 later (u, p)
     can k c u p is hit asker it at =
         let here : node_at w u.node ≡ Some it = sym (same u.node) ∙ at in
-        (some u.node it here, is-active w u p k c it sound here is (both-true c.open_ (on_link a b c) hit).0 asker)
+        (some u.node it here, is-loose w u p k c it sound here is (both-true c.open_ (on_link a b c) hit).0 asker)

@@ -41,7 +41,7 @@ use Rattle.eden_world.specs.Steps.{disk_of, Goes, TouchesNone}
 use Rattle.eden_world.specs.InHand.{in_hand, place_at, seen_at, IsWholeAt}
 use Rattle.eden_world.specs.Seated.{FitsTogether, KeepsDisks, TakesPlace, instead, station_at, station_in}
 use Rattle.eden_world.specs.Carried.{CarriesBy, CreatesIn, EndsStill}
-use Rattle.eden_world.specs.Creating.{MadeAt, status_of}
+use Rattle.eden_world.specs.Creating.{MadeAt, creates_at, status_of}
 use Rattle.scheduled_node.specs.Scheduled.{uid_made}
 use Rattle.eden_world.specs.Told.{SameDisks}
 use Rattle.eden_world.specs.declared.seats.Seat.{Seat as Place}
@@ -231,20 +231,25 @@ create-unreached tells layout seen look old names name type_name n e cut after i
 
 pub made-carried : {T D : Type 0} (tells : Bool) (layout : Layout) (seen : T → Seen) (look : D → DiskSeen) (old mid : Program T D)
     (names : NameList) (name type_name : List ℕ) (n : ℕ) (made : Result Uid Status) (e : Entry) → FitsTogether seen mid
-    → MadeAt (reaches old.places 0 n && is_some (station_at old n)) tells layout seen n type_name old mid made
+    → MadeAt (creates_at old n type_name) tells layout seen n type_name old mid made
     → StandsAfter mid.names names (command.Create name n type_name) (event.Made name (status_of made) (uid_made made))
     → e.event ≡ event.Made name (status_of made) (uid_made made) → TouchesNone e
     → CarriesBy tells layout seen look old (record mid { names = names }) (command.Create name n type_name) e
 made-carried {T = T} {D = D} tells layout seen look old mid names name type_name n made e fits creation after is none =
-    go (reaches old.places 0 n) (is_some (station_at old n)) refl refl creation
+    go (reaches old.places 0 n) (is_some (station_at old n)) (is_some (type_of (types_in old.types) type_name)) refl refl refl creation
   where
-    go : (a b : Bool) → reaches old.places 0 n ≡ a → is_some (station_at old n) ≡ b
-        → MadeAt (a && b) tells layout seen n type_name old mid made
+    go : (a b known : Bool) → reaches old.places 0 n ≡ a → is_some (station_at old n) ≡ b
+        → is_some (type_of (types_in old.types) type_name) ≡ known
+        → MadeAt ((a && b) && known) tells layout seen n type_name old mid made
         → CarriesBy tells layout seen look old (record mid { names = names }) (command.Create name n type_name) e
-    go true true there up c = create-carried tells layout seen look old mid names name type_name n made e fits c there after is none
-    go true false there off c = λ more w reached stands fit. absurd
+    go true true true there up typed c =
+        create-carried tells layout seen look old mid names name type_name n made e fits c there after is none
+    go true true false there up typed c = λ more w reached stands fit. absurd (let bad : false ≡ true =
+        sym (ap (λ ts. is_some (type_of ts type_name)) stands.world.its_types ∙ typed)
+        ∙ fit.offers.known type_name (fit.fit.type_is_known 0 [] (omega arith)) in cc bad)
+    go true false known there off typed c = λ more w reached stands fit. absurd
         (let bad : false ≡ true = sym off ∙ reached-up tells layout seen look old (suc more) w n stands there in cc bad)
-    go false b cut at (why, same) = subst (λ (p : Program T D).
+    go false b known cut at typed (why, same) = subst (λ (p : Program T D).
         CarriesBy tells layout seen look old (record p { names = names }) (command.Create name n type_name) e) (sym same)
         (create-unreached tells layout seen look old names name type_name n e cut
         (subst (λ r. StandsAfter old.names names (command.Create name n type_name) (event.Made name (status_of r) (uid_made r))) why
@@ -264,7 +269,7 @@ made-level tells layout seen look old mid n type_name false made (why, same) m =
 -- by the parts of which its event is made
 pub made-told : {T D : Type 0} (tells : Bool) (layout : Layout) (seen : T → Seen) (look : D → DiskSeen) (old mid : Program T D)
     (names : NameList) (name type_name : List ℕ) (n : ℕ) (made : Result Uid Status) (s : Status) (u : Option Uid) (v : Event) (e : Entry)
-    → FitsTogether seen mid → MadeAt (reaches old.places 0 n && is_some (station_at old n)) tells layout seen n type_name old mid made
+    → FitsTogether seen mid → MadeAt (creates_at old n type_name) tells layout seen n type_name old mid made
     → s ≡ status_of made → u ≡ uid_made made → v ≡ event.Made name s u → StandsAfter mid.names names (command.Create name n type_name) v
     → e.event ≡ v
     → TouchesNone e → CarriesBy tells layout seen look old (record mid { names = names }) (command.Create name n type_name) e

@@ -184,7 +184,7 @@ module _ {T D : Type 0} (tells : Bool) (layout : Layout) (seen : T → Seen) (lo
           (λ k both. of-node k both.0.station both.1)
           (both-all (IsAt n) (NodeHasTurn p.types (held seen s.node) p.calls) (node_keys site)
           (node-keys site (reached.sites n it at))
-          (keys-have-turns layout p.types (manned seen s) p.calls site (reached.sites n it at)
+          (keys-have-turns layout p.types (manned seen s) p.calls site (reached.sites n it at) (reached.own_uids n it at) up.number
           (record { node = up.stands; agenda = stands.agendas n s there }))))
 
     -- 5. A node that is down

@@ -115,7 +115,10 @@ module _ {T D : Type 0} (tells : Bool) (layout : Layout) (seen : T → Seen) (lo
           at = λ m. reach-of layout (suc more) (hand old) w stood.world n m
               number.last;
         })
-        sound (record { in_order = sound.node.in_order; is_new = reached.new_uids n it there }) some
+        sound (record {
+          new_uid = record { in_order = sound.node.in_order; is_new = reached.new_uids n it there };
+          turns = reached.turns n it there;
+        }) some
         (record { node = stands; agenda = stood.agendas n s x.was })
 
     stops : StopsSo layout old.types old.calls w n a b ev

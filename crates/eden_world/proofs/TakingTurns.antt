@@ -65,7 +65,10 @@ module _ {T D : Type 0} (tells : Bool) (layout : Layout) (seen : T → Seen) (lo
           at = λ b. reach-of layout (suc more) (hand old) w stood.world n b
               number.last;
         })
-        sound (record { in_order = sound.node.in_order; is_new = reached.new_uids n it there }) some
+        sound (record {
+          new_uid = record { in_order = sound.node.in_order; is_new = reached.new_uids n it there };
+          turns = reached.turns n it there;
+        }) some
         (record { node = stands; agenda = stood.agendas n s x.was })
 
     here : KeyTurns turn_end.Up layout old.types (manned seen t) later (reaches w n) (manned seen s) (site_of w n was.it) ev key

@@ -1,8 +1,8 @@
 -- The loop that tells the processes elsewhere, step by step.
-use Rattle.std.proofs.Common.{◌≡◌, ◌==◌, ◌≤◌, ℕ, Bool, true, false, cond, List, [], ◌∷◌, ◌++◌, Option, None, Some, is_some, refl}
+use Rattle.std.proofs.Common.{◌≡◌, ◌==◌, ◌≤◌, ℕ, Bool, true, false, cond, List, [], ◌∷◌, ◌++◌, Option, None, Some, refl}
 use Rattle.std.proofs.Common.{sym, ◌∙◌, ap}
-use Rattle.std.proofs.Common.{subst, arith}
-use Rattle.std.specs.Prelude.{IsSomeAnd, IsSome}
+use Rattle.std.proofs.Common.{subst, arith, inl, inr}
+use Rattle.std.specs.Prelude.{IsSomeAnd}
 use Rattle.std.specs.List.{filter_map, cons_option, AllByRecursion}
 use Rattle.std.specs.Option.{option_map}
 use Rattle.std.specs.Ordering.{nat_cmp, eq_by_cmp}
@@ -10,6 +10,7 @@ use Rattle.std.proofs.lemmas.Bool.{eqb-true}
 use Rattle.std.proofs.lemmas.List.{append_assoc, append-nil}
 use Rattle.capability.specs.declared.Uid.{Uid}
 use Rattle.eden_value.specs.declared.status.Status.TheVariants as status
+use Rattle.eden_model.specs.Crew.{Crew, nothing, set_waits}
 use Rattle.eden_model.specs.Map.{with_item, value_at, uid_cmp}
 use Rattle.eden_model.specs.Traffic.{Traffic, shell_name, waiting_process}
 use Rattle.eden_model.specs.declared.Asker.TheVariants.{Shell, Eject as Process}
@@ -27,10 +28,11 @@ use Rattle.journal.specs.declared.event.Key.{Key}
 use Rattle.journal.specs.World.{World, Node, Site, Eject, Active, node_at, site_of, at_node, eject_in, on_eject}
 use Rattle.journal.specs.Ejects.{tells, told, on_active, with_active}
 use Rattle.journal.specs.Crashes.{tells_each}
-use Rattle.journal.specs.Sites.{active_in}
 use Rattle.history_laws.proofs.Frame.{node-at_node, after_at, eject-on_eject}
-use Rattle.history_laws.proofs.SiteWorlds.{at-none, traffic-tells}
-use Rattle.active_part.specs.Body.{active_of}
+use Rattle.history_laws.proofs.SiteCrews.{Loose, waits_outside, waits_not}
+use Rattle.history_laws.proofs.SiteWorlds.{at-none, loose-told, traffic-tells}
+use Rattle.active_part.specs.Body.{Body, active_of}
+use Rattle.ejects.specs.Marks.{IsLoose, IsLooseIn}
 use Rattle.ejects.specs.Parts.{Parts, Stands, Known, known, body_at}
 use Rattle.ejects.specs.View.{parts_of}
 use Rattle.ejects.proofs.KeptClasses.{Keeps}
@@ -39,7 +41,7 @@ use Rattle.eden_kernel.specs.Stands.{Held, NodeStands}
 use Rattle.eden_kernel.specs.Turns.{told_broken}
 use Rattle.eden_world.specs.Worlds.{Seat, up, down, InHand, WorldStands, SeatStands, UpStands}
 use Rattle.eden_world.specs.Steps.{disk_of, TakesSeat}
-use Rattle.eden_world.specs.Told.{Reseats, waiting_at, name_at, CanBeTold, IsToldNode, marked, IsTelling, Tells}
+use Rattle.eden_world.specs.Told.{Reseats, waiting_at, name_at, CanBeTold, IsLooseAt, IsToldNode, marked, IsTelling, Tells}
 use Rattle.eden_world.proofs.Alike.{Alike, node-alike}
 use Rattle.eden_world.proofs.EightKeys.{keys-at_node}
 use Rattle.eden_world.proofs.Reseating.{Renodes, renodes-other, traffic-marked}
@@ -56,19 +58,29 @@ tells_one q w = at_node q.0.node (tells q.0 q.1 broken) w
 
 -- 1. Who can be told can still be told behind others
 
-active-told : (p : ℕ) (a : Answer) (e : Eject) (o : Option Active) → is_some o ≡ true
-    → is_some (with_item o (λ it. with_active (Some (told p a it)) e) e).active ≡ true
-active-told p a e None h = absurd (cc h)
-active-told p a e (Some it) h = refl
+loose-behind : (crew : Crew) (q p : ℕ) → IsLoose crew q → IsLoose (set_waits p nothing crew) q
+loose-behind crew q p l = back (loose-told crew q p (there l))
+  where
+    there : IsLoose crew q → Loose crew q
+    there (inl waits) = waits_outside waits
+    there (inr runs) = waits_not runs
 
-active-tells : (u v : Uid) (p : ℕ) (a : Answer) (s : Site) → IsSome (active_in (eject_in s v)) → IsSome
-    (active_in (eject_in (tells u p a s) v))
-active-tells u v p a s h = subst (λ o. IsSome (active_in o)) (sym (eject-on_eject u v (on_active (told p a)) s))
+    back : Loose (set_waits p nothing crew) q → IsLoose (set_waits p nothing crew) q
+    back (waits_outside waits) = inl waits
+    back (waits_not runs) = inr runs
+
+active-told : (p q : ℕ) (a : Answer) (e : Eject) (o : Option Active) → e.active ≡ o → IsSomeAnd o (λ it. IsLoose it.crew q)
+    → IsSomeAnd (with_item o (λ it. with_active (Some (told p a it)) e) e).active (λ it. IsLoose it.crew q)
+active-told p q a e None is h = absurd h
+active-told p q a e (Some it) is h = loose-behind it.crew q p h
+
+active-tells : (u v : Uid) (p q : ℕ) (a : Answer) (s : Site) → IsLooseAt (eject_in s v) q → IsLooseAt (eject_in (tells u p a s) v) q
+active-tells u v p q a s h = subst (λ o. IsLooseAt o q) (sym (eject-on_eject u v (on_active (told p a)) s))
     (go (eq_by_cmp uid_cmp v u) (eject_in s v) h)
   where
-    go : (b : Bool) (o : Option Eject) → IsSome (active_in o) → IsSome (active_in (cond b (option_map (on_active (told p a)) o) o))
+    go : (b : Bool) (o : Option Eject) → IsLooseAt o q → IsLooseAt (cond b (option_map (on_active (told p a)) o) o) q
     go true None h = h
-    go true (Some e) h = active-told p a e e.active h
+    go true (Some e) h = active-told p q a e e.active refl h
     go false o h = h
 
 can-behind : (n : ℕ) (w : World) (q r : Uid × ℕ) → CanBeTold n w r → CanBeTold n (tells_one q w) r
@@ -78,7 +90,7 @@ can-behind n w q r can it at = go (eq_by_cmp nat_cmp r.0.node q.0.node) refl (no
     go : (b : Bool) → eq_by_cmp nat_cmp r.0.node q.0.node ≡ b → (o : Option Node) → node_at w r.0.node ≡ o
         → cond (eq_by_cmp nat_cmp r.0.node q.0.node) (option_map (after_at q.0.node (tells q.0 q.1 broken) w) (node_at w r.0.node))
         (node_at w r.0.node) ≡ Some it
-        → ((r.0.node == n) ≡ false) × IsSome (active_in (eject_in (site_of (tells_one q w) r.0.node it) r.0))
+        → ((r.0.node == n) ≡ false) × IsLooseAt (eject_in (site_of (tells_one q w) r.0.node it) r.0) r.1
     go false other o is found = can it (sym (ap (λ b. cond b (option_map (after_at q.0.node (tells q.0 q.1 broken) w) (node_at w r.0.node))
         (node_at w r.0.node)) other) ∙ found)
     go true same None is found = absurd (let bad : None ≡ Some it =
@@ -93,8 +105,8 @@ can-behind n w q r can it at = go (eq_by_cmp nat_cmp r.0.node q.0.node) refl (no
         let node_is : after_at q.0.node (tells q.0 q.1 broken) w jt ≡ it = cc both in
         let was = can jt is in (
           was.0,
-          subst (λ (x : Node). IsSome (active_in (value_at uid_cmp r.0 x.ejects))) node_is
-              (active-tells q.0 r.0 q.1 broken (site_of w q.0.node jt) was.1),
+          subst (λ (x : Node). IsLooseAt (value_at uid_cmp r.0 x.ejects) r.1) node_is
+              (active-tells q.0 r.0 q.1 r.1 broken (site_of w q.0.node jt) was.1),
         )
 
 all-behind : (n : ℕ) (w : World) (q : Uid × ℕ) (qs : List (Uid × ℕ)) → AllByRecursion (CanBeTold n w) qs
@@ -104,15 +116,15 @@ all-behind n w q (r ∷ qs) all = (can-behind n w q r all.0, all-behind n w q qs
 
 -- 2. An Eject that is active has its active part in hand
 
-pub body-there : (p : Parts) (s : Site) (u : Uid) → Stands p s → IsSome (active_in (eject_in s u)) → IsSome (body_at p u)
-body-there p s u h active = sym (mapped active_of (body_at p u)) ∙ sym (ap (λ (k : Known). is_some k.active) (h.ejects u)) ∙ shown
-    (eject_in s u) active
+pub body-loose : (n : Parts) (s : Site) (u : Uid) (p : ℕ) → Stands n s → IsLooseAt (eject_in s u) p → IsLooseIn (body_at n u) p
+body-loose n s u p h loose = mapped (body_at n u) (subst (λ (k : Known). IsSomeAnd k.active (λ it. IsLoose it.crew p)) (h.ejects u)
+    (shown (eject_in s u) loose))
   where
-    mapped : {X Y : Type 0} (f : X → Y) (o : Option X) → is_some (option_map f o) ≡ is_some o
-    mapped f None = refl
-    mapped f (Some x) = refl
+    mapped : (o : Option Body) → IsSomeAnd (option_map active_of o) (λ it. IsLoose it.crew p) → IsLooseIn o p
+    mapped None x = x
+    mapped (Some b) x = x
 
-    shown : (o : Option Eject) → IsSome (active_in o) → is_some (known o).active ≡ true
+    shown : (o : Option Eject) → IsLooseAt o p → IsSomeAnd (known o).active (λ it. IsLoose it.crew p)
     shown None x = x
     shown (Some e) x = x
 
@@ -134,12 +146,12 @@ IsNotUp None = Unit {0}
 IsNotUp (Some (up h)) = ⊥
 IsNotUp (Some (down noted d)) = Unit {0}
 
-not-active : (s : Site) (u : Uid) → ((e : Eject) → eject_in s u ≡ Some e → e.active ≡ None) → IsSome (active_in (eject_in s u)) → ⊥
-not-active s u none active = go (eject_in s u) refl active
+not-active : (s : Site) (u : Uid) (p : ℕ) → ((e : Eject) → eject_in s u ≡ Some e → e.active ≡ None) → IsLooseAt (eject_in s u) p → ⊥
+not-active s u p none loose = go (eject_in s u) refl loose
   where
-    go : (o : Option Eject) → eject_in s u ≡ o → IsSome (active_in o) → ⊥
-    go None is x = let bad : false ≡ true = x in cc bad
-    go (Some e) is x = let bad : false ≡ true = sym (ap (λ (o : Option Active). is_some o) (none e is)) ∙ x in cc bad
+    go : (o : Option Eject) → eject_in s u ≡ o → IsLooseAt o p → ⊥
+    go None is x = x
+    go (Some e) is x = subst (λ o. IsSomeAnd o (λ it. IsLoose it.crew p)) (none e is) x
 
 pub tell-none : (layout : Layout) (more : ℕ) (key : Option Key) (n clock : ℕ) (last : World) (h : InHand) (k : ℕ) (left : List ℕ)
     (u : Uid) (p : ℕ) → IsTelling layout more key n clock last h (k ∷ left) → waiting_at h.mail k ≡ Some (u, p) → IsNotUp (h.seats u.node)
@@ -158,12 +170,12 @@ tell-none layout more key n clock last h k left u p t some not_up = record {
     ends : tells_each (filter_map (waiting_at h.mail) left) (tells_one (u, p) t.world) ≡ last
     ends = ap (λ o. tells_each (cons_option o (filter_map (waiting_at h.mail) left)) t.world) (sym some) ∙ t.ends
 
-    by_seat : (it : Node) → IsSome (active_in (eject_in (site_of t.world u.node it) u)) → (o : Option Seat) → IsNotUp o
+    by_seat : (it : Node) → IsLooseAt (eject_in (site_of t.world u.node it) u) p → (o : Option Seat) → IsNotUp o
         → IsSomeAnd o (SeatStands layout h.types h.mail more (site_of (marked key n clock t.world) u.node it)) → ⊥
-    by_seat it active None x stands = stands
-    by_seat it active (Some (up a)) x stands = x
-    by_seat it active (Some (down noted d)) x stands = not-active (site_of t.world u.node it) u (λ e is. (stands.asleep u e is).passive)
-        active
+    by_seat it loose None x stands = stands
+    by_seat it loose (Some (up a)) x stands = x
+    by_seat it loose (Some (down noted d)) x stands = not-active (site_of t.world u.node it) u p
+        (λ e is. (stands.asleep u e is).passive) loose
 
     absent : node_at t.world u.node ≡ None
     absent = go (node_at t.world u.node) refl
@@ -265,7 +277,7 @@ tell-up layout more key n clock last old new k left u p a b t some seat was_told
         (ups-kept u.node later it before after nodes before_at (up-tells u p broken site) m))
         (λ x y le ly. ap (λ (pl : Stations). joined_at pl x y) takes.places)
       where
-        x : ((u.node == n) ≡ false) × IsSome (active_in (eject_in (site_of t.world u.node it) u))
+        x : ((u.node == n) ≡ false) × IsLooseAt (eject_in (site_of t.world u.node it) u) p
         x = can.0 it at
 
         site : Site
@@ -299,7 +311,7 @@ tell-up layout more key n clock last old new k left u p a b t some seat was_told
 
         at_site : NodeStands layout old.types b old.mail (told_broken u p (site_of before u.node it))
         at_site = was_told.stands old.types old.mail (site_of before u.node it)
-            (body-there (parts_of old.types a.ejects) (site_of before u.node it) u here.stands.calls.parts x.1) here.stands
+            (body-loose (parts_of old.types a.ejects) (site_of before u.node it) u p here.stands.calls.parts x.1) here.stands
 
         same_node : later ≡ (told_broken u p (site_of before u.node it)).node
         same_node = node-tells u p broken (site_of before u.node it) site refl

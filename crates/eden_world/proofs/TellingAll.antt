@@ -2,7 +2,7 @@
 use Rattle.std.proofs.Common.{◌≡◌, ◌≤◌, ◌<◌, ◌+◌, ℕ, true, List, [], ◌∷◌, drop, get_or, length, Option, None, Some}
 use Rattle.std.proofs.Common.{refl, sym, ◌∙◌, ap, subst, is_some}
 use Rattle.std.proofs.lemmas.List.{at_drop_more, at_drop_all}
-use Rattle.std.specs.Prelude.{IsSomeAnd, IsSome}
+use Rattle.std.specs.Prelude.{IsSomeAnd}
 use Rattle.std.specs.List.{filter_map, cons_option, AllByRecursion}
 use Rattle.capability.specs.declared.Uid.{Uid}
 use Rattle.eden_model.specs.Map.{with_item}
@@ -14,6 +14,7 @@ use Rattle.passive_store.specs.Kept.{Layout}
 use Rattle.passive_store.specs.Seen.{Seen, DiskSeen}
 use Rattle.journal.specs.declared.event.Key.{Key}
 use Rattle.journal.specs.World.{World, Node, Site, node_at, site_of}
+use Rattle.ejects.specs.Marks.{IsLooseIn}
 use Rattle.ejects.specs.Parts.{body_at}
 use Rattle.ejects.specs.View.{parts_of}
 use Rattle.eden_kernel.specs.Stands.{Held, held, NodeStands}
@@ -29,18 +30,18 @@ use Rattle.eden_world.specs.declared.seats.Seat.TheVariants as place
 use Rattle.eden_world.specs.declared.breaks.Waiter.TheVariants as waits
 use Rattle.eden_world.proofs.Numbers.{one-of-eight}
 use Rattle.eden_world.proofs.Reseating.{node-marked_other}
-use Rattle.eden_world.proofs.Telling.{body-there, tells-start, tells-shell, tells-up, tells-none, tells-nobody, asked-by_process, IsNotUp}
+use Rattle.eden_world.proofs.Telling.{body-loose, tells-start, tells-shell, tells-up, tells-none, tells-nobody, asked-by_process, IsNotUp}
 
 -- 1. The site at which a process is told
 
-record IsTold (layout : Layout) (h : InHand) (u : Uid) (a : Held) : Type 0 where
+record IsTold (layout : Layout) (h : InHand) (u : Uid) (p : ℕ) (a : Held) : Type 0 where
   site : Site
-  body : IsSome (body_at (parts_of h.types a.ejects) u)
+  body : IsLooseIn (body_at (parts_of h.types a.ejects) u) p
   stands : NodeStands layout h.types a h.mail site
 
 told-there : (layout : Layout) (more : ℕ) (key : Option Key) (n clock : ℕ) (last : World) (h : InHand) (k : ℕ) (left : List ℕ) (u : Uid)
     (p : ℕ) (a : Held) → IsTelling layout more key n clock last h (k ∷ left) → waiting_at h.mail k ≡ Some (u, p) → IsNumber u.node
-    → h.seats u.node ≡ Some (up a) → IsTold layout h u a
+    → h.seats u.node ≡ Some (up a) → IsTold layout h u p a
 told-there layout more key n clock last h k left u p a t some number seat = go (node_at t.world u.node) refl
     (one-of-eight u.node t.world.nodes t.numbers number)
   where
@@ -50,7 +51,7 @@ told-there layout more key n clock last h k left u p a t some number seat = go (
     before : World
     before = marked key n clock t.world
 
-    at-node : (it : Node) → node_at t.world u.node ≡ Some it → IsTold layout h u a
+    at-node : (it : Node) → node_at t.world u.node ≡ Some it → IsTold layout h u p a
     at-node it at =
         let x = can it at in
         let here : UpStands layout h.types h.mail more (site_of before u.node it) a =
@@ -58,11 +59,11 @@ told-there layout more key n clock last h k left u p a t some number seat = go (
         (t.stands.nodes u.node it (node-marked_other key n clock t.world u.node x.0 ∙ at)) in
         record {
           site = site_of before u.node it;
-          body = body-there (parts_of h.types a.ejects) (site_of before u.node it) u here.stands.calls.parts x.1;
+          body = body-loose (parts_of h.types a.ejects) (site_of before u.node it) u p here.stands.calls.parts x.1;
           stands = here.stands;
         }
 
-    go : (o : Option Node) → node_at t.world u.node ≡ o → is_some o ≡ true → IsTold layout h u a
+    go : (o : Option Node) → node_at t.world u.node ≡ o → is_some o ≡ true → IsTold layout h u p a
     go None at is = absurd (cc is)
     go (Some it) at is = at-node it at
 
@@ -97,11 +98,11 @@ module _ {T D : Type 0} (layout : Layout) (seen : T → Seen) (look : D → Disk
 
   site-told : (c : Call) (u : Uid) (p : ℕ) → item_in k mid.calls.calls ≡ Some c → c.asker ≡ Process u p → (more : ℕ) (key : Option Key)
       (n clock : ℕ) (last : World) → IsTelling layout more key n clock last (hand old) numbers → (s : ScheduledNode T D)
-      → station_at mid u.node ≡ Some s → (site : Site) × IsSome (body_at (parts_of mid.types s.node.ejects) u)
+      → station_at mid u.node ≡ Some s → (site : Site) × IsLooseIn (body_at (parts_of mid.types s.node.ejects) u) p
       × NodeStands layout mid.types (held seen s.node) mid.calls site
   site-told c u p is asker more key n clock last telling s at =
       let here : place_at mid u.node ≡ Some (place.Up s) = node-up (place_at mid u.node) s at in
-      let y : IsTold layout (hand mid) u (held seen s.node) = told-there layout more key n clock last (hand mid) k left u p
+      let y : IsTold layout (hand mid) u p (held seen s.node) = told-there layout more key n clock last (hand mid) k left u p
       (held seen s.node)
       (part.tells.on more key n clock last telling) (asked-by_process mid.calls k c u p is asker).1
       (number-of seen u.node s (fits.nodes u.node s here)) (ap (seen_at seen look) here) in

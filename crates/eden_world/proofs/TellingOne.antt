@@ -1,6 +1,6 @@
 -- A process is told at its place: what the program has in hand then.
 use Rattle.std.proofs.Common.{◌≡◌, ℕ, Result, Ok, Err, refl, sym, ap, subst}
-use Rattle.std.specs.Prelude.{IsSome, OnOk}
+use Rattle.std.specs.Prelude.{OnOk}
 use Rattle.capability.specs.declared.Uid.{Uid}
 use Rattle.epl_syntax.specs.Rules.OfTypes.{TypeList}
 use Rattle.invocation.specs.Mail.{Mail}
@@ -9,6 +9,7 @@ use Rattle.passive_store.specs.Seen.{Seen, DiskSeen}
 use Rattle.journal.specs.World.{Site}
 use Rattle.agenda.specs.Indexed.{indices_of}
 use Rattle.agenda.specs.Keys.{IsAgenda}
+use Rattle.ejects.specs.Marks.{IsLooseIn}
 use Rattle.ejects.specs.Parts.{body_at}
 use Rattle.ejects.specs.View.{parts_of}
 use Rattle.eden_kernel.specs.Stands.{held, IsWhole, NodeStands}
@@ -37,7 +38,7 @@ module _ {T D : Type 0} (layout : Layout) (seen : T → Seen) (look : D → Disk
       (λ moving. cc moving)
 
   pub told-at : IsWhole (held seen t.node)
-      → ((ts : TypeList) (m : Mail) (site : Site) → IsSome (body_at (parts_of ts s.node.ejects) u)
+      → ((ts : TypeList) (m : Mail) (site : Site) → IsLooseIn (body_at (parts_of ts s.node.ejects) u) p
       → NodeStands layout ts (held seen s.node) m site → NodeStands layout ts (held seen t.node) m (told_broken u p site))
       → TellsAt layout u p (in_hand seen look old) (in_hand seen look new) (seen_at seen look (place_at old u.node))
   told-at whole stands = subst (λ o. TellsAt layout u p (in_hand seen look old) (in_hand seen look new) (seen_at seen look o)) (sym x.was) (
@@ -46,9 +47,9 @@ module _ {T D : Type 0} (layout : Layout) (seen : T → Seen) (look : D → Disk
     takes-seat seen look u.node (place.Up s) (place.Up t) (up (held seen t.node)) old.calls old new x refl,
   )
 
-  pub told-agendas : ((ts : TypeList) (m : Mail) (site : Site) → IsSome (body_at (parts_of ts s.node.ejects) u)
+  pub told-agendas : ((ts : TypeList) (m : Mail) (site : Site) → IsLooseIn (body_at (parts_of ts s.node.ejects) u) p
       → ScheduledStands layout ts (manned seen s) m site → ScheduledStands layout ts (manned seen t) m (told_broken u p site))
-      → KeepsAgendas layout seen u old new
+      → KeepsAgendas layout seen u p old new
   told-agendas told where_is have = let y = where_is s (ap station_in x.was) in
       agendas-behind u.node (place.Up s) (place.Up t) old.calls old new x have (λ r is.
       subst (λ (z : ScheduledNode T D). IsAgenda (indices_of z.agenda)

@@ -1,5 +1,5 @@
 -- What becomes of a program as calls break: whoever waited for them is told, once a node is gone or a link is cut.
-use Rattle.std.specs.Prelude.{◌≡◌, ℕ, Bool, false, List, [], ◌∷◌, ◌++◌, Option, None, Some, IsSome}
+use Rattle.std.specs.Prelude.{◌≡◌, ℕ, Bool, false, List, [], ◌∷◌, ◌++◌, Option, None, Some}
 use Rattle.capability.specs.declared.Uid.{Uid}
 use Rattle.eden_disk.specs.declared.disk.ImageMode.{ImageMode}
 use Rattle.eden_model.specs.Map.{with_item}
@@ -14,6 +14,7 @@ use Rattle.passive_store.specs.Seen.{Seen, DiskSeen}
 use Rattle.passive_store.specs.declared.store.Doubt.{Doubt}
 use Rattle.journal.specs.declared.event.Key.{Key}
 use Rattle.journal.specs.World.{World, Site}
+use Rattle.ejects.specs.Marks.{IsLooseIn}
 use Rattle.ejects.specs.Parts.{body_at}
 use Rattle.ejects.specs.View.{parts_of}
 use Rattle.eden_kernel.specs.Stands.{Held, held, NodeStands}
@@ -52,10 +53,10 @@ TellsAt layout u p old new None = new ≡ old
 TellsAt layout u p old new (Some (down noted d)) = new ≡ old
 TellsAt layout u p old new (Some (up a)) = (b : Held) × IsToldNode layout u p a b × TakesSeat u.node (up b) old.mail old new
 
--- The agendas stand behind it, where the Eject is active at a site for which its node stood, if it has a node that is up.
-abbrev pub KeepsAgendas : {T D : Type 0} → Layout → (T → Seen) → Uid → Program T D → Program T D → Type 0
-KeepsAgendas layout seen u old new =
-    ((s : ScheduledNode _ _) → station_at old u.node ≡ Some s → (site : Site) × IsSome (body_at (parts_of old.types s.node.ejects) u)
+-- The agendas stand behind it, where the process stands in no queue at a site for which its node stood, if it has a node that is up.
+abbrev pub KeepsAgendas : {T D : Type 0} → Layout → (T → Seen) → Uid → ℕ → Program T D → Program T D → Type 0
+KeepsAgendas layout seen u p old new =
+    ((s : ScheduledNode _ _) → station_at old u.node ≡ Some s → (site : Site) × IsLooseIn (body_at (parts_of old.types s.node.ejects) u) p
     × NodeStands layout old.types (held seen s.node) old.calls site)
     → HaveAgendas old → HaveAgendas new
 
@@ -82,7 +83,7 @@ abbrev pub TellsBy : {T D : Type 0} → Layout → (T → Seen) → (D → DiskS
 TellsBy layout seen look (waits.Shell name) names later old new = (later ≡ names ++ name ∷ []) × (new ≡ old)
 TellsBy layout seen look (waits.Process u p) names later old new = (later ≡ names)
     × TellsAt layout u p (in_hand seen look old) (in_hand seen look new) ((in_hand seen look old).seats u.node)
-    × KeepsAgendas layout seen u old new
+    × KeepsAgendas layout seen u p old new
 TellsBy layout seen look waits.Nobody names later old new = (later ≡ names) × (new ≡ old)
 
 -- 4. A node that is gone

@@ -1,5 +1,5 @@
 -- A node fell, or a link was cut: the processes elsewhere whose calls broke are told, one behind the other.
-use Rattle.std.specs.Prelude.{◌≡◌, ◌==◌, ◌≤◌, ℕ, Bool, false, cond, List, ◌++◌, map, Option, None, Some, IsSome}
+use Rattle.std.specs.Prelude.{◌≡◌, ◌==◌, ◌≤◌, ℕ, Bool, false, cond, List, ◌++◌, map, Option, None, Some, IsSomeAnd}
 use Rattle.std.specs.List.{filter_map, AllByRecursion}
 use Rattle.std.specs.Option.{option_map}
 use Rattle.capability.specs.declared.Uid.{Uid}
@@ -16,10 +16,11 @@ use Rattle.passive_store.specs.Kept.{Layout}
 use Rattle.passive_store.specs.Seen.{DiskSeen}
 use Rattle.journal.specs.declared.event.Entry.{Entry}
 use Rattle.journal.specs.declared.event.Key.{Key}
-use Rattle.journal.specs.World.{World, Site, Node, node_at, site_of, eject_in}
+use Rattle.journal.specs.World.{World, Site, Node, Eject, node_at, site_of, eject_in}
 use Rattle.journal.specs.Crashes.{tells_each}
 use Rattle.journal.specs.Sites.{active_in}
 use Rattle.journal.specs.Step.{counted, clocked}
+use Rattle.ejects.specs.Marks.{IsLoose, IsLooseIn}
 use Rattle.ejects.specs.Parts.{body_at}
 use Rattle.ejects.specs.View.{parts_of}
 use Rattle.eden_kernel.specs.Stands.{Held, IsWhole, NodeStands}
@@ -83,16 +84,20 @@ pub record Cuts (a b : ℕ) (numbers : List ℕ) (old new : InHand) : Type 0 whe
 
 -- 4. One process is told
 
--- It is of no node that fell, and where it has a node its Eject is active there.
+-- The Eject is active, and this process of it stands in no queue of a monitor or a condition.
+abbrev pub IsLooseAt : Option Eject → ℕ → Type 0
+IsLooseAt o p = IsSomeAnd (active_in o) (λ it. IsLoose it.crew p)
+
+-- It is of no node that fell, and where it has a node its Eject is active there, and it stands in no queue.
 abbrev pub CanBeTold : ℕ → World → Uid × ℕ → Type 0
 CanBeTold n w q = (it : Node) → node_at w q.0.node ≡ Some it
-    → ((q.0.node == n) ≡ false) × IsSome (active_in (eject_in (site_of w q.0.node it) q.0))
+    → ((q.0.node == n) ≡ false) × IsLooseAt (eject_in (site_of w q.0.node it) q.0) q.1
 
 -- the node was told, and nothing else of it changed
 pub record IsToldNode (layout : Layout) (u : Uid) (p : ℕ) (old new : Held) : Type 0 where
   pub whole : IsWhole new
   pub seen : new.seen ≡ old.seen
-  pub stands : (ts : TypeList) (m : Mail) (s : Site) → IsSome (body_at (parts_of ts old.ejects) u) → NodeStands layout ts old m s
+  pub stands : (ts : TypeList) (m : Mail) (s : Site) → IsLooseIn (body_at (parts_of ts old.ejects) u) p → NodeStands layout ts old m s
       → NodeStands layout ts new m (told_broken u p s)
 
 -- 5. All of them

@@ -12,7 +12,7 @@ use Rattle.journal.specs.Sites.{IsSoundSite}
 use Rattle.journal.specs.World.{Site}
 use Rattle.checkpoint.specs.Touches.{ReadsByCalls}
 use Rattle.disk_faults.specs.Shows.{ShowsCounts, NoneFalls}
-use Rattle.ejects.specs.Creations.{HasNewUid}
+use Rattle.ejects.specs.Creations.{MayTurn}
 use Rattle.ejects.specs.Replies.{Reaches}
 use Rattle.eden_kernel.specs.DiskTurns.{IsWholeBehind, Starves}
 use Rattle.eden_kernel.specs.Stands.{held, NodeStands}
@@ -43,7 +43,7 @@ pub record TurnSays {T D : Type 0} (how : TurnEnd) (tells : Bool) (layout : Layo
       → TurnTouches site ev (seen s.node.store).disk (seen t.node.store).disk
   pub clock : ShowsClock ev (seen t.node.store).disk.counts.clock
   pub turn : IsTrue tells → IsLayout layout → (reach : ℕ → Bool) (site : Site) → IsKeyOf site.number key
-      → Reaches reach places site.number → IsSoundSite site → HasNewUid site → 1 ≤ (seen s.node.store).more
+      → Reaches reach places site.number → IsSoundSite site → MayTurn site → 1 ≤ (seen s.node.store).more
       → ScheduledStands layout ts (manned seen s) m site
       → KeyTurns how layout ts (manned seen t) later reach (manned seen s) site ev key
 

@@ -93,7 +93,7 @@ where
         ensures told { let look = disk_seen St.Device.counts St.Device.told St.Device.due in IsTrue St.Device.tells
             → OnOk result (TellsAt St.layout uid process (in_hand St.seen look self.old) (in_hand St.seen look self.new)
             ((in_hand St.seen look self.old).seats uid.node)) }
-        ensures agendas { IsTrue St.Device.tells → OnOk result (KeepsAgendas St.layout St.seen uid self.old self.new) }
+        ensures agendas { IsTrue St.Device.tells → OnOk result (KeepsAgendas St.layout St.seen uid process self.old self.new) }
     {
         if self.station(uid.node).is_none() {
             return Ok(());

@@ -31,12 +31,13 @@ use Rattle.journal.specs.declared.event.Shown.TheVariants as shown
 use Rattle.journal.specs.World.{Site, Task}
 use Rattle.journal.specs.Processes.{turn_of, refused_at_once, process_turn, shown_of, CreatesKnown}
 use Rattle.journal.specs.Step.{AllowsAt}
+use Rattle.journal.specs.FitTurns.{MayStep, TurnsAreFit}
 use Rattle.journal.specs.Sites.{IsSoundSite, IsManned, IsHeldAt, runs_of}
 use Rattle.active_part.specs.Body.{Body, active_of, calls_of}
 use Rattle.ejects.specs.Turned.{shown_step}
 use Rattle.ejects.specs.Parts.{Parts, SameNode, known, body_at, Stands, IsAt, IsStep}
 use Rattle.active_part.specs.Bodies.{turned_body, ended_body, asking_body, crewed_body, serves_of}
-use Rattle.active_part.specs.View.{stepped}
+use Rattle.active_part.specs.View.{effect_of, stepped, MayTake}
 use Rattle.active_part.specs.declared.Step.{Step}
 use Rattle.active_part.specs.declared.Step.TheVariants.{Lock, Leave, Wait, Signal}
 use Rattle.ejects.specs.View.{with_body}
@@ -44,7 +45,7 @@ use Rattle.ejects.specs.Passive.{SameAt, HoldsPassive, IsKeptIn}
 use Rattle.ejects.specs.Replies.{IsOut, AreOut, Returned, Faulted, Slept, Reaches, Invoked}
 use Rattle.ejects.proofs.Delivered.{active-as, found-active, body-now, table-at, table-other}
 use Rattle.ejects.proofs.Starting.{HoldsAll, holds-all}
-use Rattle.ejects.proofs.Turns.{returns-stands, returns-traffic, ends-stands, ends-traffic, effect_of, steps-stands, steps-traffic}
+use Rattle.ejects.proofs.Turns.{returns-stands, returns-traffic, ends-stands, ends-traffic, steps-stands, steps-traffic}
 use Rattle.ejects.proofs.Turns.{yields-stands, yields-traffic}
 use Rattle.ejects.proofs.Turns.{invokes-stands, invokes-traffic}
 use Rattle.ejects.specs.Asking.{checkpointed_body}
@@ -122,6 +123,22 @@ turn-allowed n s u p b said h at t created shows =
       known = rw t.is_turn created;
       shows = rw t.is_turn (shows ∙ ap (λ i. shown_of s i t.turn.effect) serves);
     })
+
+-- the type of which the turn creates an Eject, if it creates one, is there
+pub may-create : (n : Parts) (s : Site) (u : Uid) (p : ℕ) (b : Body) (h : Stands n s) → body_at n u ≡ Some b → TurnsAreFit s
+    → (t : HasTurn u p b) → CreatesKnown s.types t.turn.effect
+may-create n s u p b h at fit t =
+    let f = found-active n s u b h at in
+    let was = active-as n u b f.eject (ap known (sym f.is) ∙ h.ejects u) at in
+    fit.known u f.eject (active_of b) p t.turn f.is was.active t.is_turn
+
+-- the step in which the turn ends, if it ends in one, is one that the process may take
+may-step : (n : Parts) (s : Site) (u : Uid) (p : ℕ) (b : Body) (h : Stands n s) → body_at n u ≡ Some b → TurnsAreFit s
+    → Runs b.crew.crew p → (t : HasTurn u p b) → MayStep b.crew.crew p t.turn.effect
+may-step n s u p b h at fit runs t =
+    let f = found-active n s u b h at in
+    let was = active-as n u b f.eject (ap known (sym f.is) ∙ h.ejects u) at in
+    fit.steps u f.eject (active_of b) p t.turn f.is was.active runs t.is_turn
 
 -- 3. What runs is on no way
 
@@ -373,13 +390,16 @@ module _ (reach : ℕ → Bool) (n mid new : Parts) (m later : Mail) (s : Site) 
   step-shown (Signal k) b = refl
 
   pub process-steps : (e : Effect) (step : Step) → said ≡ shown_step step → IsSomeAnd (body_at n u) (λ b. Runs b.crew.crew p) → TurnedBy e
-      → e ≡ effect_of step → ((b : Body) → body_at mid u ≡ Some b → new ≡ with_body u (crewed_body (stepped step p) b) mid)
-      → Carries later s.traffic
+      → e ≡ effect_of step → ((b : Body) → body_at mid u ≡ Some b → MayTake b.crew.crew p step
+      → new ≡ with_body u (crewed_body (stepped step p) b) mid)
+      → Carries later s.traffic → TurnsAreFit s
       → IsStep reach new later s (event.Process u p said)
-  process-steps e step told runs turned is_step took carries = by-body e runs turned
+  process-steps e step told runs turned is_step took carries fit = by-body e runs turned
       (λ b is t mid_is same. body-step b is t mid_is (effect_of step) (crewed_body (stepped step p) (turned_body p t.turn b))
       (step-known step)
-      (told ∙ step-shown step b) (sym is_step ∙ same) (took (turned_body p t.turn b) (mid-body b is t mid_is))
+      (told ∙ step-shown step b) (sym is_step ∙ same) (took (turned_body p t.turn b) (mid-body b is t mid_is)
+      (subst (MayStep b.crew.crew p) (sym (sym is_step ∙ same)) (may-step n s u p b at.parts is fit
+      (subst (λ o. IsSomeAnd o (λ x. Runs x.crew.crew p)) is runs) t)))
       (steps-stands n s u p b at.parts is reach t.turn t.is_turn step (sym (sym is_step ∙ same)))
       (steps-traffic n s u p b at.parts is reach t.turn t.is_turn step (sym (sym is_step ∙ same))) carries)
 

@@ -25,10 +25,10 @@ use Rattle.history_laws.proofs.Creations.{next-active}
 use Rattle.history_laws.proofs.Ordered.{order-changed}
 use Rattle.active_part.specs.Body.{Body, active_of}
 use Rattle.active_part.specs.Bodies.{turned_body, serves_of}
-use Rattle.ejects.specs.Creations.{HasNewUid, CreatedFor}
+use Rattle.ejects.specs.Creations.{HasNewUid, CreatedFor, MayTurn}
 use Rattle.ejects.specs.Parts.{Parts, body_at, Stands, IsAt, IsStep}
 use Rattle.ejects.specs.View.{with_body}
-use Rattle.ejects.proofs.Acting.{HasTurn, turn-allowed, mid-body, by-body}
+use Rattle.ejects.proofs.Acting.{HasTurn, turn-allowed, may-create, mid-body, by-body}
 use Rattle.ejects.proofs.Turns.{stays-active, effect-is}
 
 -- 1. The site behind the turn, up to its effect
@@ -86,19 +86,22 @@ module _ (reach : ℕ → Bool) (n mid new : Parts) (m later : Mail) (s : Site) 
     }
 
   -- in the words of the contract
-  pub process-creates : (e : Effect) (name : List ℕ) → HasNewUid s → IsSomeAnd (body_at n u) (λ b. Runs b.crew.crew p)
+  pub process-creates : (e : Effect) (name : List ℕ) → MayTurn s → IsSomeAnd (body_at n u) (λ b. Runs b.crew.crew p)
       → ((b : Body) (t : Turned) → body_at n u ≡ Some b → turn_of u (active_of b) p ≡ Some t
       → (e ≡ t.effect) × (mid ≡ with_body u (turned_body p t b) n))
       → e ≡ effect.Create name
-      → ((b : Body) (x : Site) → body_at mid u ≡ Some b → Runs b.crew.crew p → HasNewUid x → Stands mid x
+      → ((b : Body) (x : Site) → body_at mid u ≡ Some b → Runs b.crew.crew p → HasNewUid x
+      → IsTrue (is_some (type_of x.types name)) → Stands mid x
       → CreatedFor u p name new said x)
       → Carries later s.traffic → IsStep reach new later s (event.Process u p said)
-  process-creates e name ready runs turns is_create created carries =
+  process-creates e name may runs turns is_create created carries =
       by-body reach n mid new m later s u p said sound at e runs turns (λ b is t mid_is same.
-      create-step b is t name (sym is_create ∙ same) ready
+      create-step b is t name (sym is_create ∙ same) may.new_uid
       (created (turned_body p t.turn b) (on_eject u (on_active (turned p t.turn)) s)
       (mid-body reach n mid new m later s u p said sound at b is t mid_is)
-      (subst (λ o. IsSomeAnd o (λ x. Runs x.crew.crew p)) is runs) (ready-later u (turned p t.turn) s ready)
+      (subst (λ o. IsSomeAnd o (λ x. Runs x.crew.crew p)) is runs) (ready-later u (turned p t.turn) s may.new_uid)
+      (subst (λ ts. IsTrue (is_some (type_of ts name))) (sym (same-types u (on_active (turned p t.turn)) s))
+      (subst (CreatesKnown s.types) (sym (sym is_create ∙ same)) (may-create n s u p b at.parts is may.turns t)))
       (subst (λ y. Stands y (on_eject u (on_active (turned p t.turn)) s)) (sym mid_is)
       (stays-active n s u b (turned_body p t.turn b) (turned p t.turn) at.parts is refl refl refl)))
       carries)

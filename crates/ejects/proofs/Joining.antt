@@ -2,7 +2,7 @@
 use Rattle.std.proofs.Common.{◌≡◌, ℕ, suc, ◌+◌, Bool, true, false, cond, not, List, [], ◌∷◌, ◌++◌, map, drop, add-one}
 use Rattle.std.proofs.Common.{Option, None, Some}
 use Rattle.std.proofs.Common.{refl, sym, ◌∙◌, ap, subst}
-use Rattle.std.specs.Prelude.{is_some, IsSomeAnd, Result, Ok, Err}
+use Rattle.std.specs.Prelude.{is_some, IsSomeAnd, Ok, Err}
 use Rattle.std.specs.List.{AllByRecursion, filter}
 use Rattle.std.specs.Option.{option_map}
 use Rattle.std.specs.Ordering.{nat_cmp, eq_by_cmp}
@@ -10,9 +10,8 @@ use Rattle.std.specs.Cmp.{nat_cmp_total}
 use Rattle.std.specs.FinMap.{nat_cmp-IsAntisymmetric}
 use Rattle.capability.specs.declared.Uid.{Uid}
 use Rattle.eden_value.specs.declared.status.Status.{Status}
-use Rattle.eden_value.specs.declared.status.Status.TheVariants as status
 use Rattle.eden_model.specs.Map.{with_item}
-use Rattle.eden_model.specs.Lines.{has, Distinct}
+use Rattle.eden_model.specs.Lines.{has}
 use Rattle.eden_model.specs.Crew.{Invocation}
 use Rattle.eden_model.proofs.Laws.{value-changed_other}
 use Rattle.eden_model.proofs.LineLaws.{or-left, or-right}
@@ -32,7 +31,7 @@ use Rattle.journal.specs.Sites.{IsHeldAt}
 use Rattle.journal.specs.Starts.{fits_at, misfits_answered}
 use Rattle.active_part.specs.Body.{Body, calls_of}
 use Rattle.active_part.specs.Bodies.{joined_body}
-use Rattle.ejects.specs.Activations.{fitting, queued_body, AreQueued, Joins, JoinsAll}
+use Rattle.ejects.specs.Activations.{fitting, queued_body, AreQueued, JoinsAll}
 use Rattle.ejects.specs.Parts.{HasClass}
 use Rattle.ejects.specs.View.{call_at_place}
 use Rattle.ejects.proofs.Acting.{held-out}

@@ -1,13 +1,11 @@
 -- A settling leaves of the Ejects of a node what it leaves at the site.
-use Rattle.std.proofs.Common.{◌≡◌, ℕ, Bool, true, false, cond, ◌||◌, ◌&&◌, List, [], Option, None, Some, refl, sym, ◌∙◌, ap, subst}
+use Rattle.std.proofs.Common.{◌≡◌, ℕ, Bool, true, false, ◌||◌, ◌&&◌, List, Option, None, Some, refl, sym, ◌∙◌, ap, subst}
 use Rattle.std.specs.Prelude.{is_some, IsSomeAnd}
 use Rattle.std.specs.Option.{option_map}
 use Rattle.std.specs.Ordering.{eq_by_cmp}
-use Rattle.std.specs.FinMap.{FinMap, get, remove, get-remove}
-use Rattle.std.proofs.lemmas.Cmp.{tied_itself}
 use Rattle.capability.specs.declared.Uid.{Uid}
-use Rattle.capability.proofs.Uids.{uid_cmp_total, uid_cmp-IsAntisymmetric}
-use Rattle.eden_model.specs.Map.{value_at, uid_cmp, same_uid, with_item, first}
+use Rattle.capability.proofs.Uids.{uid_cmp-IsAntisymmetric}
+use Rattle.eden_model.specs.Map.{uid_cmp, same_uid, with_item}
 use Rattle.eden_model.proofs.Laws.{eq-same}
 use Rattle.passive_store.specs.declared.store.Pick.{Pick}
 use Rattle.passive_store.specs.declared.store.Pick.TheVariants as pick
@@ -15,7 +13,7 @@ use Rattle.invocation.specs.Mail.{Mail}
 use Rattle.invocation.specs.Carries.{Carries}
 use Rattle.journal.specs.EjectChange.{EjectChange, kept_of}
 use Rattle.journal.specs.World.{Active, Eject, StoreRequest, Node, Site, eject_in, on_node}
-use Rattle.journal.specs.Ejects.{is_kept, is_there}
+use Rattle.journal.specs.Ejects.{is_there}
 use Rattle.journal.specs.Settling.{first_request, settled, settled_eject, settled_epoch}
 use Rattle.journal.specs.Stores.{Work, syncs, reads, unkept, without_room, calls, work_of, EndsSo, AllowsStore, worked, store_turn}
 use Rattle.journal.specs.Step.{AllowsAt, site_turn}

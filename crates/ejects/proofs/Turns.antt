@@ -24,7 +24,7 @@ use Rattle.journal.specs.Processes.{serving, turn_taken, active_turn, process_tu
 use Rattle.active_part.specs.Body.{Body, active_of, calls_of}
 use Rattle.ejects.specs.Parts.{Parts, known, body_at, HasClass, HasClasses, Stands}
 use Rattle.active_part.specs.Bodies.{turned_body, ended_body, asking_body, crewed_body}
-use Rattle.active_part.specs.View.{stepped}
+use Rattle.active_part.specs.View.{effect_of, stepped}
 use Rattle.active_part.specs.declared.Step.{Step}
 use Rattle.active_part.specs.declared.Step.TheVariants.{Lock, Leave, Wait, Signal}
 use Rattle.ejects.proofs.Stays.{Keeps, stays-on_traffic}
@@ -78,13 +78,6 @@ stays-active-twice n s u b new f g h at changed queued kind =
     rw (on_eject-twice u (on_active f) (on_active g) s)
     (subst (λ (x : Eject → Eject). Stands (with_body u new n) (on_eject u x s)) (λ i e. sym (on_active-twice f g e) i)
     (stays-active n s u b new (λ it. g (f it)) h at changed queued kind))
-
--- the effect of a step at the monitors
-abbrev pub effect_of : Step → Effect
-effect_of (Lock m) = effect.Lock m
-effect_of (Leave m) = effect.Leave m
-effect_of (Wait c) = effect.Wait c
-effect_of (Signal c) = effect.Signal c
 
 -- 3. The turn returns, or ends
 

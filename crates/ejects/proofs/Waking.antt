@@ -2,7 +2,6 @@
 use Rattle.std.proofs.Common.{◌≡◌, ℕ, Bool, true, false, cond, List, [], ◌++◌, Option, None, Some, refl, sym, ◌∙◌, ap, subst}
 use Rattle.std.specs.Prelude.{is_some, IsSomeAnd}
 use Rattle.std.specs.List.{filter}
-use Rattle.std.specs.FinMap.{get}
 use Rattle.std.specs.Option.{option_map}
 use Rattle.std.specs.Ordering.{eq_by_cmp}
 use Rattle.std.proofs.lemmas.Cmp.{tied_itself}
@@ -45,7 +44,7 @@ use Rattle.ejects.proofs.Acting.{held-all-out}
 use Rattle.ejects.proofs.Delivered.{same-known, table-at, table-other}
 use Rattle.ejects.proofs.Joining.{keeps-misfits, fitting-calls, fitting-classes}
 use Rattle.ejects.proofs.Keeping.{keeps-all_replied, value-each}
-use Rattle.ejects.proofs.Leaving.{flipped, body_in, parts_with, part-written}
+use Rattle.ejects.proofs.Leaving.{flipped, parts_with, part-written}
 use Rattle.ejects.proofs.Replying.{distinct-second}
 use Rattle.ejects.proofs.Starting.{all-second}
 use Rattle.ejects.proofs.Stays.{stays-on_traffic, stays-at}

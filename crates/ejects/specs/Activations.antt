@@ -1,5 +1,5 @@
 -- A passive Eject is activated: its queued calls join the active part where they fit, and are answered otherwise.
-use Rattle.std.specs.Prelude.{◌≡◌, ℕ, List, [], ◌∷◌, ◌++◌, map, Option, None, Some}
+use Rattle.std.specs.Prelude.{◌≡◌, ℕ, List, ◌++◌, map, Option, None, Some}
 use Rattle.std.specs.List.{AllByRecursion, filter}
 use Rattle.capability.specs.declared.Uid.{Uid}
 use Rattle.eden_value.specs.declared.status.Status.{Status}
@@ -16,8 +16,6 @@ use Rattle.journal.specs.Processes.{invocation}
 use Rattle.journal.specs.Sites.{IsHeldAt}
 use Rattle.journal.specs.Starts.{fits_at, misfits_answered}
 use Rattle.active_part.specs.Body.{Body}
-use Rattle.ejects.specs.Parts.{Parts}
-use Rattle.ejects.specs.View.{with_body}
 
 -- the invocations of these calls that fit the type, in order
 abbrev pub fitting : Edentype → Traffic → List ℕ → List Invocation

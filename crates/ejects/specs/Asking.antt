@@ -1,5 +1,5 @@
 -- What a process asks of the store, and what the requests of a node's worker are.
-use Rattle.std.specs.Prelude.{◌≡◌, ◌≤◌, ◌<◌, ℕ, nat_le, cond, List, [], ◌∷◌, ◌++◌, length, Option, None, Some}
+use Rattle.std.specs.Prelude.{◌≡◌, ℕ, nat_le, cond, List, [], ◌∷◌, ◌++◌, length}
 use Rattle.capability.specs.declared.Uid.{Uid}
 use Rattle.capability.specs.declared.TheConstants.{BODY_LIMIT}
 use Rattle.eden_value.specs.declared.status.Status.TheVariants as status

@@ -1,5 +1,5 @@
 -- An Eject is created: which uid it gets, and how the node stands with it.
-use Rattle.std.specs.Prelude.{◌≡◌, ℕ, ◌+◌, nat_le, cond, [], List, Option, None, Some, Result, Ok, Err, is_some, IsTrue}
+use Rattle.std.specs.Prelude.{◌≡◌, ℕ, ◌+◌, nat_le, cond, [], List, None, Result, Ok, Err, is_some, IsTrue}
 use Rattle.capability.specs.declared.Uid.{Uid}
 use Rattle.eden_value.specs.declared.status.Status.{Status}
 use Rattle.eden_value.specs.declared.status.Status.TheVariants as status
@@ -10,6 +10,7 @@ use Rattle.journal.specs.World.{Site, eject_in}
 use Rattle.journal.specs.Ejects.{fresh, next_uid, born}
 use Rattle.journal.specs.Processes.{shown_creation, creates}
 use Rattle.journal.specs.Sites.{InOrder}
+use Rattle.journal.specs.FitTurns.{TurnsAreFit}
 use Rattle.active_part.specs.Body.{Body, active_of}
 use Rattle.ejects.specs.Parts.{Parts, Stands}
 use Rattle.ejects.specs.View.{with_body}
@@ -38,6 +39,11 @@ pub record IsFresh (t : Edentype) (b : Body) : Type 0 where
 pub record HasNewUid (s : Site) : Type 0 where
   pub in_order : InOrder s.node.ejects
   pub is_new : (u : Uid) → next_uid s ≡ Ok u → eject_in s u ≡ None
+
+-- what the turns of processes rely on at a site: the uid that comes next is new, and each turn can be carried out
+pub record MayTurn (s : Site) : Type 0 where
+  pub new_uid : HasNewUid s
+  pub turns : TurnsAreFit s
 
 -- what is answered is the uid that comes next, or why there is none; and the parts stand for the site with the new Eject
 pub record IsCreated (t : Edentype) (made : Result Uid Status) (new : Parts) (s : Site) : Type 0 where

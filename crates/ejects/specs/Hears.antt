@@ -1,5 +1,5 @@
 -- Which messages a node's Ejects have a turn for.
-use Rattle.std.specs.Prelude.{ℕ, Bool, true, false, List, Option, None, Some, is_some}
+use Rattle.std.specs.Prelude.{ℕ, Bool, true, false, List, None, is_some}
 use Rattle.eden_model.specs.Map.{first, with_item}
 use Rattle.eden_model.specs.Traffic.{waiting_process}
 use Rattle.invocation.specs.declared.call.Call.{Call}

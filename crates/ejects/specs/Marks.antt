@@ -1,9 +1,9 @@
 -- Which turns of its own an Eject may take.
-use Rattle.std.specs.Prelude.{◌≡◌, ℕ, Bool, false, not, ◌&&◌, Option, None, Some, is_some, IsSome, IsSomeAnd}
+use Rattle.std.specs.Prelude.{◌≡◌, ◌⊎◌, ℕ, Bool, false, not, ◌&&◌, Option, None, Some, is_some, IsSome, IsSomeAnd}
 use Rattle.std.specs.List.{list_any}
 use Rattle.capability.specs.declared.Uid.{Uid}
 use Rattle.eden_model.specs.Map.{first, same_uid}
-use Rattle.eden_model.specs.Crew.{Runs, Waits, outside, startable}
+use Rattle.eden_model.specs.Crew.{Crew, Runs, Waits, outside, startable}
 use Rattle.invocation.specs.Mail.{Mail}
 use Rattle.invocation.specs.Numbers.{item_in}
 use Rattle.journal.specs.Enabled.{is_ready}
@@ -31,6 +31,14 @@ IsReady o p = IsSomeAnd o (λ b. Runs b.crew.crew p)
 -- it is active, and this process of it waits for what is outside: for a reply or for the store
 abbrev pub AwaitsIn : Option Body → ℕ → Type 0
 AwaitsIn o p = IsSomeAnd o (λ b. Waits b.crew.crew p outside)
+
+-- a process stands in no queue of a monitor or a condition: it waits for what is outside, or for nothing
+abbrev pub IsLoose : Crew → ℕ → Type 0
+IsLoose crew p = Waits crew p outside ⊎ Runs crew p
+
+-- it is active, and this process of it stands in no queue of a monitor or a condition
+abbrev pub IsLooseIn : Option Body → ℕ → Type 0
+IsLooseIn o p = IsSomeAnd o (λ b. IsLoose b.crew.crew p)
 
 -- it is active, and an invocation may start of which the call was asked
 abbrev pub MayBegin : Mail → Option Body → Type 0

@@ -1,18 +1,17 @@
 -- What a node keeps in hand of its Ejects, and when that stands for its part of a world.
-use Rattle.std.specs.Prelude.{◌≡◌, ℕ, Bool, false, List, [], map, Option, None, Some, is_some, IsSomeAnd}
+use Rattle.std.specs.Prelude.{◌≡◌, ℕ, Bool, false, List, [], Option, None, Some, is_some, IsSomeAnd}
 use Rattle.std.specs.List.{AllByRecursion}
 use Rattle.std.specs.Option.{option_map}
 use Rattle.capability.specs.declared.Uid.{Uid}
-use Rattle.eden_value.specs.Datum.{Datum}
 use Rattle.eden_model.specs.Map.{value_at, uid_cmp}
-use Rattle.eden_model.specs.Crew.{Coordination, Invocation}
+use Rattle.eden_model.specs.Crew.{Invocation}
 use Rattle.eden_model.specs.Traffic.{Traffic, call_at}
 use Rattle.epl_syntax.specs.Edentype.{Edentype}
 use Rattle.eject_table.specs.Table.{active_in}
 use Rattle.active_part.specs.Body.{Body, active_of, calls_of}
 use Rattle.invocation.specs.Mail.{Mail}
 use Rattle.invocation.specs.Carries.{Carries}
-use Rattle.journal.specs.World.{Task, Active, Eject, Site, eject_in}
+use Rattle.journal.specs.World.{Active, Eject, Site, eject_in}
 use Rattle.journal.specs.Ejects.{is_there, stored_epoch}
 use Rattle.journal.specs.Processes.{class_of}
 use Rattle.journal.specs.declared.event.Event.{Event}

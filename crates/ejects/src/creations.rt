@@ -1,5 +1,5 @@
 //! Ejects are created.
-ghost use Rattle.std.specs.Prelude.{◌≡◌, IfOk, Some};
+ghost use Rattle.std.specs.Prelude.{◌≡◌, IfOk, IsTrue, Some, is_some};
 ghost use Rattle.std.specs.FinMap.{len};
 ghost use Rattle.eden_model.specs.Crew.{Runs};
 ghost use Rattle.epl_syntax.specs.Meaning.{type_of, types_in};
@@ -22,16 +22,6 @@ use eject_table::CreateRefusal;
 use epl_syntax::{Answer, Types};
 use journal::Shown;
 use std::alloc::{AllocError, Global};
-
-// The type of this name, which a checked script has.
-fn type_named(types: &Types, name: &Txt) -> Result<Kind, AllocError>
-    ensures { IfOk result (λ kind. type_of (types_in types.now) name.now ≡ Some (kind_in types.now kind)) }
-{
-    match edentypes::find(types, name) {
-        Some(kind) => Ok(kind),
-        None => Err(AllocError),
-    }
-}
 
 // The active part of a new Eject of this type.
 fn new_part(alloc: Global, types: &Types, kind: Kind) -> Result<Part, AllocError>
@@ -74,17 +64,8 @@ impl Ejects {
         Ok(made)
     }
 
-    // A process that waits for nothing is told what came of its creation.
-    fn tell_created(&mut self, uid: Uid, process: u8, answer: Answer)
-        ensures { (ts : TypeList) (b : Body) → body_at (parts_of ts self.old) uid ≡ Some b → Runs b.crew.crew process
-            → parts_of ts self.new ≡ with_body uid (told_body process answer b) (parts_of ts self.old) }
-    {
-        if self.is_ready(uid, process) {
-            self.answer_at(uid, process, answer);
-        }
-    }
-
-    // A process creates an Eject of the type of this name, and is told.
+    // A process creates an Eject of the type of this name, and is told. Where there is no such type nothing happens; a checked program
+    // names none.
     pub(crate) fn creates(
         &mut self,
         alloc: Global,
@@ -94,21 +75,24 @@ impl Ejects {
         type_name: &Txt,
     ) -> Result<Shown, AllocError>
         ensures { IfOk result (λ said. (b : Body) (s : Site) → body_at (parts_of types.now self.old) uid ≡ Some b
-            → Runs b.crew.crew process → HasNewUid s → Stands (parts_of types.now self.old) s
+            → Runs b.crew.crew process → HasNewUid s → IsTrue (is_some (type_of s.types type_name.now))
+            → Stands (parts_of types.now self.old) s
             → CreatedFor uid process type_name.now (parts_of types.now self.new) said s) }
     {
-        let kind = type_named(types, type_name)?;
+        let Some(kind) = edentypes::find(types, type_name) else {
+            return Ok(Shown::Yield);
+        };
         match self.create(alloc, types, kind)? {
             Ok(created) => {
                 let answer = Answer::Created {
                     status: Status::Ok,
                     cap: Some(mint(created)),
                 };
-                self.tell_created(uid, process, answer);
+                self.tell_loose(uid, process, answer);
                 Ok(Shown::Created { uid: created })
             }
             Err(status) => {
-                self.tell_created(uid, process, Answer::Created { status, cap: None });
+                self.tell_loose(uid, process, Answer::Created { status, cap: None });
                 Ok(Shown::Refused { status })
             }
         }

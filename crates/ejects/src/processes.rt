@@ -9,14 +9,14 @@ ghost use Rattle.journal.specs.Sites.{IsSoundSite};
 ghost use Rattle.epl_syntax.specs.Rules.OfTypes.{TypeList};
 ghost use Rattle.active_part.specs.Body.{Body, active_of};
 ghost use Rattle.ejects.specs.Parts.{Parts, body_at, IsAt, IsStep};
-ghost use Rattle.active_part.specs.View.{stepped};
+ghost use Rattle.active_part.specs.View.{stepped, MayTake};
 ghost use Rattle.ejects.specs.Replies.{Returned, Invoked, Reaches};
 ghost use Rattle.passive_store.specs.Kept.{Work, IsEject};
 ghost use Rattle.journal.specs.Step.{site_turn};
 ghost use Rattle.checkpoint.specs.Asked.{requests_of, AllOfNode};
 ghost use Rattle.checkpoint.specs.Queues.{AllAnswerBut};
 ghost use Rattle.ejects.specs.Asking.{RequestsAre};
-ghost use Rattle.ejects.specs.Creations.{HasNewUid};
+ghost use Rattle.ejects.specs.Creations.{MayTurn};
 ghost use Rattle.ejects.specs.Events.{IsTurnOf};
 ghost use Rattle.ejects.specs.Marks.{IsReady};
 ghost use Rattle.ejects.specs.Turned.{HasTurned, shown_step};
@@ -106,41 +106,32 @@ impl Ejects {
         }
     }
 
-    // A process does something at its monitors.
-    pub(crate) fn coordinate_at(
-        &mut self,
-        uid: Uid,
-        process: u8,
-        step: Step,
-    ) -> Result<(), AllocError>
+    // A process does something at its monitors, where it may.
+    pub(crate) fn coordinate_at(&mut self, uid: Uid, process: u8, step: Step)
         requires { RunsIn self.old uid process }
-        ensures { OnOk result ((ts : TypeList) (b : Body) → body_at (parts_of ts self.old) uid ≡ Some b
-            → parts_of ts self.new ≡ with_body uid (crewed_body (stepped step process) b) (parts_of ts self.old)) }
+        ensures { (ts : TypeList) (b : Body) → body_at (parts_of ts self.old) uid ≡ Some b → MayTake b.crew.crew process step
+            → parts_of ts self.new ≡ with_body uid (crewed_body (stepped step process) b) (parts_of ts self.old) }
     {
         match self.table.active_mut(uid) {
-            Some(part) => {
-                part.coordinate(process, step)?;
-                Ok(())
-            }
+            Some(part) => part.coordinate(process, step),
             None => unreachable!(),
         }
     }
 
     // The same, and what is shown of it.
-    fn coordinates(&mut self, uid: Uid, process: u8, step: Step) -> Result<Shown, AllocError>
+    fn coordinates(&mut self, uid: Uid, process: u8, step: Step) -> Shown
         requires { RunsIn self.old uid process }
-        ensures { IfOk result (λ said. (said ≡ shown_step step) × ((ts : TypeList) (b : Body)
-            → body_at (parts_of ts self.old) uid ≡ Some b
-            → parts_of ts self.new ≡ with_body uid (crewed_body (stepped step process) b) (parts_of ts self.old))) }
+        ensures shown { result ≡ shown_step step }
+        ensures parts { (ts : TypeList) (b : Body) → body_at (parts_of ts self.old) uid ≡ Some b → MayTake b.crew.crew process step
+            → parts_of ts self.new ≡ with_body uid (crewed_body (stepped step process) b) (parts_of ts self.old) }
     {
-        let shown = match step {
+        self.coordinate_at(uid, process, step);
+        match step {
             Step::Lock { .. } => Shown::Lock,
             Step::Leave { .. } => Shown::Leave,
             Step::Wait { .. } => Shown::Wait,
             Step::Signal { .. } => Shown::Signal,
-        };
-        self.coordinate_at(uid, process, step)?;
-        Ok(shown)
+        }
     }
 
     // A process waits for the call that it made, or is told at once.
@@ -198,7 +189,7 @@ impl Ejects {
         requires runs { RunsIn self.old uid process }
         ensures parts { IfOk result (λ said. (reach : ℕ → Bool) (n : Parts) (s : Site) → IsSoundSite s → IsAt n calls.old s
             → HasTurned uid process effect n (parts_of types.now self.old)
-            → IsKeptIn s uid stays → Reaches reach places.now uid.node → HasNewUid s
+            → IsKeptIn s uid stays → Reaches reach places.now uid.node → MayTurn s
             → IsStep reach (parts_of types.now self.new) calls.new s (event.Process uid process said)) }
         ensures requests { IfOk result (λ said. (reach : ℕ → Bool) (n : Parts) (s : Site) (work : Work) (size : ℕ) → IsSoundSite s
             → IsAt n calls.old s → HasTurned uid process effect n (parts_of types.now self.old)
@@ -239,14 +230,22 @@ impl Ejects {
                 let _served = self.end_at(uid, process);
                 Ok(Shown::End)
             }
-            Effect::Lock { monitor } => self.coordinates(uid, process, Step::Lock { monitor }),
-            Effect::Leave { monitor } => self.coordinates(uid, process, Step::Leave { monitor }),
-            Effect::Wait { condition } => self.coordinates(uid, process, Step::Wait { condition }),
-            Effect::Signal { condition } => self.coordinates(
+            Effect::Lock { monitor } => Ok(self.coordinates(uid, process, Step::Lock { monitor })),
+            Effect::Leave { monitor } => Ok(self.coordinates(
+                uid,
+                process,
+                Step::Leave { monitor },
+            )),
+            Effect::Wait { condition } => Ok(self.coordinates(
+                uid,
+                process,
+                Step::Wait { condition },
+            )),
+            Effect::Signal { condition } => Ok(self.coordinates(
                 uid,
                 process,
                 Step::Signal { condition },
-            ),
+            )),
             Effect::Yield => Ok(Shown::Yield),
         }
     }
@@ -270,7 +269,7 @@ impl Ejects {
         requires ready { IsReady (body_at (parts_of types.now self.old) uid) process }
         ensures event { IfOk result (IsTurnOf uid process) }
         ensures parts { IfOk result (λ e. (reach : ℕ → Bool) (s : Site) → IsSoundSite s → IsAt (parts_of types.now self.old) calls.old s
-            → IsKeptIn s uid stays → Reaches reach places.now uid.node → HasNewUid s
+            → IsKeptIn s uid stays → Reaches reach places.now uid.node → MayTurn s
             → IsStep reach (parts_of types.now self.new) calls.new s e) }
         ensures requests { IfOk result (λ e. (reach : ℕ → Bool) (s : Site) (work : Work) (size : ℕ) → IsSoundSite s
             → IsAt (parts_of types.now self.old) calls.old s → IsKeptIn s uid stays → RequestsAre work size worker.old s

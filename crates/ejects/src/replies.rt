@@ -14,7 +14,7 @@ ghost use Rattle.journal.specs.Sites.{IsSoundSite};
 ghost use Rattle.epl_syntax.specs.Rules.OfTypes.{TypeList};
 ghost use Rattle.active_part.specs.Body.{Body};
 ghost use Rattle.ejects.specs.Events.{IsDelivery};
-ghost use Rattle.ejects.specs.Marks.{AwaitsIn};
+ghost use Rattle.ejects.specs.Marks.{IsLoose, IsLooseIn};
 ghost use Rattle.ejects.specs.Parts.{body_at, Stands, IsStep};
 ghost use Rattle.ejects.specs.Replies.{AreOut, seconds, sized};
 ghost use Rattle.active_part.specs.Bodies.{told_body};
@@ -109,16 +109,6 @@ pub(crate) fn reply_pairs(
 }
 
 impl Ejects {
-    // Whether the Eject is active and this process of it waits for what is outside.
-    fn awaits(&self, uid: Uid, process: u8) -> bool
-        ensures { (ts : TypeList) → IsTrue result ↔ AwaitsIn (body_at (parts_of ts self.now) uid) process }
-    {
-        match self.table.active(uid) {
-            Some(part) => part.awaits(process),
-            None => false,
-        }
-    }
-
     // A process that waits for what is outside is told what it waited for. For any other nothing changes.
     pub(crate) fn tell_at(&mut self, uid: Uid, process: u8, answer: Answer)
         ensures { (ts : TypeList) (b : Body) → body_at (parts_of ts self.old) uid ≡ Some b → Waits b.crew.crew process outside
@@ -127,6 +117,18 @@ impl Ejects {
         match self.table.active_mut(uid) {
             Some(part) => part.tell(process, answer),
             None => {}
+        }
+    }
+
+    // The same of a process that waits for nothing. For one in a queue of a monitor or a condition nothing changes.
+    pub(crate) fn tell_loose(&mut self, uid: Uid, process: u8, answer: Answer)
+        ensures { (ts : TypeList) (b : Body) → body_at (parts_of ts self.old) uid ≡ Some b → IsLoose b.crew.crew process
+            → parts_of ts self.new ≡ with_body uid (told_body process answer b) (parts_of ts self.old) }
+    {
+        if self.is_ready(uid, process) {
+            self.answer_at(uid, process, answer);
+        } else {
+            self.tell_at(uid, process, answer);
         }
     }
 
@@ -175,18 +177,14 @@ impl Ejects {
     }
 
     /// A process that waits for a call elsewhere is told that the call is broken.
-    pub fn broken(&mut self, alloc: Global, uid: Uid, process: u8) -> Result<(), AllocError>
-        ensures { OnOk result ((ts : TypeList) (s : Site) → Stands (parts_of ts self.old) s → IsSome (body_at (parts_of ts self.old) uid)
-            → Stands (parts_of ts self.new) (tells uid process (Told Status.Broken []) s)) }
+    pub fn broken(&mut self, alloc: Global, uid: Uid, process: u8)
+        ensures { (ts : TypeList) (s : Site) → Stands (parts_of ts self.old) s → IsLooseIn (body_at (parts_of ts self.old) uid) process
+            → Stands (parts_of ts self.new) (tells uid process (Told Status.Broken []) s) }
     {
-        if !self.awaits(uid, process) {
-            return Err(AllocError);
-        }
         let answer = Answer::Reply {
             status: Status::Broken,
             results: no_items(alloc),
         };
-        self.tell_at(uid, process, answer);
-        Ok(())
+        self.tell_loose(uid, process, answer);
     }
 }

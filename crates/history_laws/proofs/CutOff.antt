@@ -308,8 +308,8 @@ goes-turn m w _ sound rest allowed = absurd allowed
 
 -- 4. Commands
 
-pub goes-shell : (m : ℕ) (w : World) (name : List ℕ) (target : Cap) (operation : List ℕ) (args : List Datum) (k : ℕ) (at_once : Option Status)
-    → AreNumbered 1 w.traffic.calls → k ≡ next_call w.traffic
+pub goes-shell : (m : ℕ) (w : World) (name : List ℕ) (target : Cap) (operation : List ℕ) (args : List Datum) (k : ℕ)
+    (at_once : Option Status) → AreNumbered 1 w.traffic.calls → k ≡ next_call w.traffic
     → Goes m w (asks name target operation args k at_once w)
 goes-shell m w name target operation args k at_once ordered number =
     subst (λ j. GoFrom (Fresh m) w.traffic (with_call j (Shell name) target operation args at_once w.traffic)) (sym number)

@@ -201,7 +201,7 @@ start-turn w n it u e at number is may = by_active e.active refl may
 -- 5. Turns of processes
 
 -- a turn creates only Ejects of types that are there
-creates-known : (types : List Edentype) (serves : Bool) (e : Effect) → FitsEffect types serves e → CreatesKnown types e
+pub creates-known : (types : List Edentype) (serves : Bool) (e : Effect) → FitsEffect types serves e → CreatesKnown types e
 creates-known types serves (effect.Create name) fits = fits
 creates-known types serves _ fits = tt
 

@@ -58,6 +58,7 @@ pub mod RuledTypes
 pub mod CallsKeep
 pub mod SiteWorlds
 pub mod SiteRuns
+pub mod OwnUids
 pub mod SiteForms
 pub mod Falling
 pub mod Goings
@@ -71,6 +72,7 @@ pub mod EpochBounds
 pub mod HeldWork
 pub mod HeldRuns
 pub mod SeatRuns
+pub mod FitTurns
 pub mod MonitorTurns
 pub mod VariableTurns
 pub mod VariableRuns

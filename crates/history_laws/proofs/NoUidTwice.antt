@@ -1,6 +1,6 @@
 -- No uid is given twice in any history of any script over disks that are handed in fit.
 use Rattle.std.proofs.Common.{◌≡◌, ◌==◌, ℕ, Bool, true, false, cond, T, List, [], ◌∷◌, map, Option, None, Some, Result, Ok, Err, is_some}
-use Rattle.std.proofs.Common.{refl, sym, ◌∙◌, ap, subst}
+use Rattle.std.proofs.Common.{zero, suc, ◌≤◌, refl, sym, ◌∙◌, ap, subst, arith}
 use Rattle.std.specs.Prelude.{IsSomeAnd}
 use Rattle.std.specs.List.{filter_map, cons_option}
 use Rattle.std.specs.Ordering.{nat_cmp, eq_by_cmp}
@@ -8,6 +8,7 @@ use Rattle.std.specs.FinMap as finite
 use Rattle.std.specs.FinMap.{nat_cmp-IsAntisymmetric}
 use Rattle.std.specs.FinMap.Entries.{is_sorted}
 use Rattle.capability.specs.declared.Uid.{Uid}
+use Rattle.capability.proofs.Uids.{uid_cmp-IsAntisymmetric}
 use Rattle.eden_model.specs.Map.{uid_cmp, value_at}
 use Rattle.eden_model.proofs.Laws.{eq-same}
 use Rattle.eden_disk.specs.Told.{contents}
@@ -46,6 +47,29 @@ kept-there u (e ∷ es) there = go (e.0.serial == 0) refl (eq_by_cmp uid_cmp u e
         (λ c. is_some (cond c (Some (passive e.1)) (value_at uid_cmp u (filter_map passive_entry es))) ≡ true) is
         (subst (λ c. is_some (value_at uid_cmp u (entry c)) ≡ true) s there)))
 
+-- what is kept under serial 0 is no Eject
+serial-counts : (u : Uid) (kept : List (Uid × List ℕ)) → is_some (value_at uid_cmp u (filter_map passive_entry kept)) ≡ true
+    → 1 ≤ u.serial
+serial-counts u [] there = absurd (cc there)
+serial-counts u (e ∷ es) there = go (e.0.serial == 0) refl (eq_by_cmp uid_cmp u e.0) refl (serial-counts u es)
+  where
+    entry : Bool → List (Uid × Eject)
+    entry c = cons_option (cond c None (Some (e.0, passive e.1))) (filter_map passive_entry es)
+
+    positive : (n : ℕ) → (n == 0) ≡ false → 1 ≤ n
+    positive zero is = absurd (cc is)
+    positive (suc n) is = omega arith
+
+    go : (skipped : Bool) → (e.0.serial == 0) ≡ skipped → (b : Bool) → eq_by_cmp uid_cmp u e.0 ≡ b
+        → (is_some (value_at uid_cmp u (filter_map passive_entry es)) ≡ true → 1 ≤ u.serial) → 1 ≤ u.serial
+    go true s b is later = later (subst (λ c. is_some (value_at uid_cmp u (entry c)) ≡ true) s there)
+    go false s true is later = let same : u ≡ e.0 = eq-same uid_cmp uid_cmp-IsAntisymmetric u e.0 is in
+        let h : 1 ≤ e.0.serial = positive e.0.serial s in
+        omega (arith, h, ap (λ (v : Uid). v.serial) same)
+    go false s false is later = later (subst
+        (λ c. is_some (cond c (Some (passive e.1)) (value_at uid_cmp u (filter_map passive_entry es))) ≡ true) is
+        (subst (λ c. is_some (value_at uid_cmp u (entry c)) ≡ true) s there))
+
 pub in-order : (layout : Layout) (n : ℕ) (image : List ℕ) (kept : List (Uid × List ℕ)) → found_in layout n image ≡ Ok kept
     → T (is_sorted uid_cmp kept)
 in-order layout n image kept is = go (layout.map_of n image) is
@@ -59,16 +83,24 @@ fit-node : (n size : ℕ) (found : Result (List (Uid × List ℕ)) ℕ) (overful
     → ((kept : List (Uid × List ℕ)) → found ≡ Ok kept → IsOwnMap n kept × T (is_sorted uid_cmp kept))
     → Fit (OfNode (CreatedIn []) n) (node_from n size found overfull ledger)
 fit-node n size (Ok kept) overfull ledger fits = let x = fits kept refl in let fit : IsOwnMap n kept = x.0 in record {
+  up_keeps = λ is. absurd (cc is);
   doubt_is_next = tt;
   in_order = order-passive kept x.1;
   behind = λ u there. record {
+    epoch_counts = fit.counted u (kept-there u kept there) (serial-counts u kept there);
+    serial_counts = serial-counts u kept there;
     epoch_given = fit.epochs u (kept-there u kept there);
     serial_given = λ same. fit.serials u (kept-there u kept there);
   };
   all_given = λ u g. absurd g.1;
 }
-fit-node n size (Err place) overfull ledger fits =
-    record { doubt_is_next = tt; in_order = tt; behind = λ u there. absurd (cc there); all_given = λ u g. absurd g.1 }
+fit-node n size (Err place) overfull ledger fits = record {
+  up_keeps = λ is. absurd (cc is);
+  doubt_is_next = tt;
+  in_order = tt;
+  behind = λ u there. absurd (cc there);
+  all_given = λ u g. absurd g.1;
+}
 
 -- each node is that of its disk
 pub disk-node : (layout : Layout) (n : ℕ) (it : Node) (disks : List (ℕ × DiskRun))

@@ -69,13 +69,13 @@ use Rattle.history_laws.proofs.SiteRuns.{site-looked_up, rests-opening, site-ope
 
 -- 1. How a turn moves its process
 
-some-monitor : (n i : ℕ) → i < n
+pub some-monitor : (n i : ℕ) → i < n
     → is_some (option_map (λ (m : Monitor). m.holder) (slice_get (replicate n (record { holder = None; entering = [] })) i)) ≡ true
 some-monitor zero i less = absurd (omega (arith, less))
 some-monitor (suc n) zero less = refl
 some-monitor (suc n) (suc i) less = some-monitor n i (omega (arith, less))
 
-its-condition : (cs : List CondDecl) (c : ℕ) → c < length cs
+pub its-condition : (cs : List CondDecl) (c : ℕ) → c < length cs
     → option_map (λ (it : Condition). it.monitor) (slice_get (map quiet_at (map (λ c. c.monitor) cs)) c)
     ≡ Some (with_item (slice_get cs c) (λ it. it.monitor) 0)
 its-condition [] c less = absurd (omega (arith, less))
@@ -408,10 +408,17 @@ in-their-monitors w seats u = go (node_at w u.node) refl
     go None at = tt
     go (Some it) at = two it at (value_at uid_cmp u it.ejects) refl
 
-pub monitors-are-held : (layout : Layout) (script : Script) (disks : List DiskRun) (history : List Entry) → IsLayout layout
+-- the last world of a history so far, with the nodes of the opening one
+pub seat-last : (layout : Layout) (script : Script) (disks : List DiskRun) (history : List Entry) → IsLayout layout
     → AreHandedIn layout disks → KeepRules script.types → HaveMonitors script.types → Begins layout script disks history
-    → AreInTheirMonitors (last_world (opening_world layout script disks) script history)
-monitors-are-held layout script disks history lays fits rules monitors begins = in-their-monitors (last_world w script history) last.seats
+    → SeatWorld (λ n. is_some (node_at (opening_world layout script disks) n))
+    (last_world (opening_world layout script disks) script history)
+seat-last layout script disks history lays fits rules monitors begins = end-keeps Any (SeatWorld here) (record {
+  entries = λ past w c e any allowed i. (tt, seat-next here w c e allowed i);
+  look_ups = λ past w name target path e any allowed plain i. (tt, seat-looked_up here w name target path e.event allowed i);
+}) (beginning w script.nodes script.commands) [] history (of-any 1 script.nodes w script.commands)
+    (subst (SeatWorld here) (sym (world-booting 1 script.nodes w script.commands))
+    (seat-opening layout script disks lays fits rules monitors)) begins
   where
     w : World
     w = opening_world layout script disks
@@ -419,10 +426,9 @@ monitors-are-held layout script disks history lays fits rules monitors begins = 
     here : ℕ → Bool
     here n = is_some (node_at w n)
 
-    last : SeatWorld here (last_world w script history)
-    last = end-keeps Any (SeatWorld here) (record {
-      entries = λ past w c e any allowed i. (tt, seat-next here w c e allowed i);
-      look_ups = λ past w name target path e any allowed plain i. (tt, seat-looked_up here w name target path e.event allowed i);
-    }) (beginning w script.nodes script.commands) [] history (of-any 1 script.nodes w script.commands)
-        (subst (SeatWorld here) (sym (world-booting 1 script.nodes w script.commands))
-        (seat-opening layout script disks lays fits rules monitors)) begins
+pub monitors-are-held : (layout : Layout) (script : Script) (disks : List DiskRun) (history : List Entry) → IsLayout layout
+    → AreHandedIn layout disks → KeepRules script.types → HaveMonitors script.types → Begins layout script disks history
+    → AreInTheirMonitors (last_world (opening_world layout script disks) script history)
+monitors-are-held layout script disks history lays fits rules monitors begins = in-their-monitors
+    (last_world (opening_world layout script disks) script history)
+    (seat-last layout script disks history lays fits rules monitors begins).seats

@@ -746,23 +746,31 @@ reached layout script disks history lays fits rules monitors begins = end-keeps 
     here : ℕ → Bool
     here n = is_some (node_at w n)
 
-pub worlds-are-sound : (layout : Layout) (script : Script) (disks : List DiskRun) (history : List Entry) → IsLayout layout
+-- what is known of each world that a history reaches
+pub worlds-are-known : (layout : Layout) (script : Script) (disks : List DiskRun) (history : List Entry) → IsLayout layout
     → AreHandedIn layout disks
     → Begins layout script disks history
-    → SoundWorld (λ n. is_some (node_at (opening_world layout script disks) n))
+    → KnownWorld (λ n. is_some (node_at (opening_world layout script disks) n))
     (last_world (opening_world layout script disks) script history)
-worlds-are-sound layout script disks history lays fits begins = (end-keeps Any (KnownWorld here) (record {
+worlds-are-known layout script disks history lays fits begins = end-keeps Any (KnownWorld here) (record {
   entries = λ past w c e any allowed i. (tt, known-next here w c e allowed i);
   look_ups = λ past w name target path e any allowed plain i. (tt, known-looked_up here w name target path e.event allowed i);
 }) (beginning w script.nodes script.commands) [] history (of-any 1 script.nodes w script.commands)
     (subst (KnownWorld here) (sym (world-booting 1 script.nodes w script.commands))
-    (known-opening layout script disks lays fits)) begins).sound
+    (known-opening layout script disks lays fits)) begins
   where
     w : World
     w = opening_world layout script disks
 
     here : ℕ → Bool
     here n = is_some (node_at w n)
+
+pub worlds-are-sound : (layout : Layout) (script : Script) (disks : List DiskRun) (history : List Entry) → IsLayout layout
+    → AreHandedIn layout disks
+    → Begins layout script disks history
+    → SoundWorld (λ n. is_some (node_at (opening_world layout script disks) n))
+    (last_world (opening_world layout script disks) script history)
+worlds-are-sound layout script disks history lays fits begins = (worlds-are-known layout script disks history lays fits begins).sound
 
 pub sites-are-sound : (layout : Layout) (script : Script) (disks : List DiskRun) (history : List Entry) → IsLayout layout
     → AreHandedIn layout disks → KeepRules script.types → HaveMonitors script.types

@@ -112,7 +112,7 @@ pub record CanTell (s : Site) (u : Uid) (p : ℕ) : Type 0 where
   pub free : Claims s u p → ⊥
   pub loose : (a : Active) → HasPart s u a → Loose a.crew p
 
-loose-told : (crew : Crew) (p q : ℕ) → Loose crew p → Loose (set_waits q nothing crew) p
+pub loose-told : (crew : Crew) (p q : ℕ) → Loose crew p → Loose (set_waits q nothing crew) p
 loose-told crew p q l = go (eq_by_cmp nat_cmp p q) refl l
   where
     go : (b : Bool) → eq_by_cmp nat_cmp p q ≡ b → Loose crew p → Loose (set_waits q nothing crew) p

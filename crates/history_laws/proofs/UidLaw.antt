@@ -1,6 +1,6 @@
 -- The uids of a node's Ejects are behind its epoch and its last serial, and no turn but a boot and a creation changes that.
-use Rattle.std.proofs.Common.{◌≡◌, ◌==◌, ◌+◌, ◌<◌, ℕ, Bool, true, false, cond, not, List, [], ◌∷◌, ◌++◌, Option, None, Some, Result, Ok}
-use Rattle.std.proofs.Common.{Err, is_some, refl, sym, ◌∙◌, ap, subst, nat_le, length, arith}
+use Rattle.std.proofs.Common.{◌≡◌, ◌==◌, ◌+◌, ◌<◌, ◌≤◌, ℕ, Bool, true, false, cond, not, List, [], ◌∷◌, ◌++◌, Option, None, Some, Result}
+use Rattle.std.proofs.Common.{Ok, Err, is_some, refl, sym, ◌∙◌, ap, subst, nat_le, length, arith}
 use Rattle.std.specs.List.{filter}
 use Rattle.std.specs.Option.{option_map}
 use Rattle.std.specs.Ordering.{eq_by_cmp}
@@ -38,7 +38,7 @@ use Rattle.journal.specs.Ejects.{with_active, with_queued, on_active, on_crew, i
 use Rattle.journal.specs.Ejects.{turned_away, gone_if_unkept, fresh, next_uid, newborn, born}
 use Rattle.journal.specs.Deliveries.{requested, tells_asker, received, heard}
 use Rattle.journal.specs.Processes.{turn_of, turned, serving, with_start, start, without_process, asks_store, answers, refused_at_once}
-use Rattle.journal.specs.Processes.{waits_or_told, creates, checkpoints, effected, process_turn}
+use Rattle.journal.specs.Processes.{waits_or_told, creates, checkpoints, effected, active_turn, process_turn}
 use Rattle.journal.specs.Settling.{first_request, settled_eject, settled, unsynced, written_with, to_settle}
 use Rattle.journal.specs.Crashes.{fallen, down, crashed}
 use Rattle.journal.specs.Stores.{Work, syncs, reads, unkept, without_room, calls, work_of, more_made, doubted, tells_code, request_ended}
@@ -57,10 +57,11 @@ use Rattle.history_laws.proofs.Frame.{eject-on_eject}
 abbrev pub SameUids : List (Uid × Eject) → List (Uid × Eject) → Type 0
 SameUids old new = (u : Uid) → is_some (value_at uid_cmp u new) ≡ is_some (value_at uid_cmp u old)
 
-pub fit-same : {G : Uid → Type 0} (epoch doubt : Option ℕ) (last : ℕ) (old new : List (Uid × Eject)) → SameUids old new
-    → (InOrder old → InOrder new) → UidsFit G epoch doubt last old → UidsFit G epoch doubt last new
-fit-same epoch doubt last old new same ordered fit =
+pub fit-same : {G : Uid → Type 0} (up : Bool) (epoch doubt : Option ℕ) (last : ℕ) (old new : List (Uid × Eject)) → SameUids old new
+    → (InOrder old → InOrder new) → UidsFit G up epoch doubt last old → UidsFit G up epoch doubt last new
+fit-same up epoch doubt last old new same ordered fit =
     record {
+      up_keeps = fit.up_keeps;
       doubt_is_next = fit.doubt_is_next;
       in_order = ordered fit.in_order;
       behind = λ u is. fit.behind u (sym (same u) ∙ is);
@@ -74,7 +75,7 @@ some-changed false f o = refl
 
 pub fit-on_eject : {G : Uid → Type 0} (v : Uid) (f : Eject → Eject) (s : Site) → Fit G s.node → Fit G (on_eject v f s).node
 unfolding on_eject
-fit-on_eject v f s fit = fit-same s.node.epoch s.node.epoch_doubt s.node.last_serial s.node.ejects _
+fit-on_eject v f s fit = fit-same s.node.up s.node.epoch s.node.epoch_doubt s.node.last_serial s.node.ejects _
     (λ u. ap is_some (eject-on_eject v u f s) ∙ some-changed (eq_by_cmp uid_cmp u v) f (eject_in s u)) (order-changed v f s.node.ejects) fit
 
 pub fit-on_traffic : {G : Uid → Type 0} (f : Traffic → Traffic) (s : Site) → Fit G s.node → Fit G (on_traffic f s).node
@@ -125,11 +126,18 @@ fit-checkpoints v p bytes s fit = fit-cond (nat_le (length bytes) BODY_LIMIT) (a
 -- 3. Creations
 
 later-behind : (u : Uid) (e last : ℕ) → IsBehind u e last → IsBehind u e (last + 1)
-later-behind u e last b = record { epoch_given = b.epoch_given; serial_given = λ same. omega (arith, b.serial_given same) }
+later-behind u e last b = record {
+  epoch_counts = b.epoch_counts;
+  serial_counts = b.serial_counts;
+  epoch_given = b.epoch_given;
+  serial_given = λ same. omega (arith, b.serial_given same);
+}
 
-pub fit-born : {G : Uid → Type 0} (v : Uid) (it : Active) (s : Site) → v ≡ following_uid s → Fit G s.node → Fit G (born v it s).node
+pub fit-born : {G : Uid → Type 0} (v : Uid) (it : Active) (s : Site) → v ≡ following_uid s → 1 ≤ epoch_or_zero s.node.epoch
+    → Fit G s.node → Fit G (born v it s).node
 unfolding on_node
-fit-born v it s is fit = record {
+fit-born v it s is counts fit = record {
+  up_keeps = fit.up_keeps;
   doubt_is_next = fit.doubt_is_next;
   in_order = order-put v _ s.node.ejects fit.in_order;
   behind = λ u there. go u (eq_by_cmp uid_cmp u v) refl
@@ -147,6 +155,8 @@ fit-born v it s is fit = record {
         → IsBehind u (epoch_or_zero s.node.epoch) v.serial
     go u true e there = let same : u ≡ v = eq-same uid_cmp uid_cmp-IsAntisymmetric u v e in
         record {
+          epoch_counts = omega (arith, counts, ap (λ (w : Uid). w.epoch) (same ∙ is));
+          serial_counts = omega (arith, ap (λ (w : Uid). w.serial) (same ∙ is));
           epoch_given = omega (arith, ap (λ (w : Uid). w.epoch) (same ∙ is));
           serial_given = λ here. omega (arith, ap (λ (w : Uid). w.serial) same);
         }
@@ -155,39 +165,53 @@ fit-born v it s is fit = record {
         there)))
 
 fit-creates : {G : Uid → Type 0} (v : Uid) (p : ℕ) (t : Option Edentype) (made : Result Uid Status) (s : Site) → next_uid s ≡ made
-    → Fit G s.node → Fit G (creates v p t made s).node
-fit-creates v p None made s is fit = fit
-fit-creates v p (Some t) (Ok new) s is fit = fit-tells v p (Made status.Ok (Some (full new))) (born new (fresh t (first_values t)) s)
-    (fit-born new (fresh t (first_values t)) s (next-following s new is) fit)
-fit-creates v p (Some t) (Err why) s is fit = fit-tells v p (Made why None) s fit
+    → 1 ≤ epoch_or_zero s.node.epoch → Fit G s.node → Fit G (creates v p t made s).node
+fit-creates v p None made s is counts fit = fit
+fit-creates v p (Some t) (Ok new) s is counts fit = fit-tells v p (Made status.Ok (Some (full new))) (born new (fresh t (first_values t)) s)
+    (fit-born new (fresh t (first_values t)) s (next-following s new is) counts fit)
+fit-creates v p (Some t) (Err why) s is counts fit = fit-tells v p (Made why None) s fit
 
 -- 4. A turn of a process
 
 fit-effected : {G : Uid → Type 0} (reach : ℕ → Bool) (v : Uid) (p : ℕ) (i : Option Invocation) (t : Edentype) (vars : List Datum)
-    (e : Effect) (s : Site) → Fit G s.node → Fit G (effected reach v p i t vars e s).node
-fit-effected reach v p i t vars (effect.Return results) s fit = fit-on_traffic (answers i results)
+    (e : Effect) (s : Site) → 1 ≤ epoch_or_zero s.node.epoch → Fit G s.node → Fit G (effected reach v p i t vars e s).node
+fit-effected reach v p i t vars (effect.Return results) s counts fit = fit-on_traffic (answers i results)
     (on_eject v (on_active (without_process p)) s) (fit-on_eject v (on_active (without_process p)) s fit)
-fit-effected reach v p i t vars effect.End s fit = fit-on_eject v (on_active (without_process p)) s fit
-fit-effected reach v p i t vars effect.Checkpoint s fit = fit-checkpoints v p (spelling (rep_of t vars)) s fit
-fit-effected reach v p i t vars effect.Destroy s fit = fit-asks v p removal s fit
-fit-effected reach v p i t vars effect.Deactivate s fit = fit-gone v (deactivated v s) (fit-deactivated v s fit)
-fit-effected reach v p i t vars (effect.Fault cause) s fit = fit-turned_away v status.Dropped (deactivated v s) (fit-deactivated v s fit)
-fit-effected reach v p i t vars (effect.Create type_name) s fit = fit-creates v p (type_of s.types type_name) (next_uid s) s refl fit
-fit-effected reach v p i t vars (effect.Invoke target operation args) s fit = let at_once = refused_at_once (reach target.uid.node) args in
+fit-effected reach v p i t vars effect.End s counts fit = fit-on_eject v (on_active (without_process p)) s fit
+fit-effected reach v p i t vars effect.Checkpoint s counts fit = fit-checkpoints v p (spelling (rep_of t vars)) s fit
+fit-effected reach v p i t vars effect.Destroy s counts fit = fit-asks v p removal s fit
+fit-effected reach v p i t vars effect.Deactivate s counts fit = fit-gone v (deactivated v s) (fit-deactivated v s fit)
+fit-effected reach v p i t vars (effect.Fault cause) s counts fit = fit-turned_away v status.Dropped (deactivated v s)
+    (fit-deactivated v s fit)
+fit-effected reach v p i t vars (effect.Create type_name) s counts fit = fit-creates v p (type_of s.types type_name) (next_uid s) s
+    refl counts fit
+fit-effected reach v p i t vars (effect.Invoke target operation args) s counts fit =
+    let at_once = refused_at_once (reach target.uid.node) args in
     fit-on_traffic (λ t. with_call (next_call t) (Process v p) target operation args at_once t)
     (on_eject v (on_active (waits_or_told p at_once)) s)
     (fit-on_eject v (on_active (waits_or_told p at_once)) s fit)
-fit-effected reach v p i t vars (effect.Lock m) s fit = fit-on_eject v (on_active (on_crew (locked p m))) s fit
-fit-effected reach v p i t vars (effect.Leave m) s fit = fit-on_eject v (on_active (on_crew (left m))) s fit
-fit-effected reach v p i t vars (effect.Wait c) s fit = fit-on_eject v (on_active (on_crew (waited p c))) s fit
-fit-effected reach v p i t vars (effect.Signal c) s fit = fit-on_eject v (on_active (on_crew (signalled c))) s fit
-fit-effected reach v p i t vars effect.Yield s fit = fit
+fit-effected reach v p i t vars (effect.Lock m) s counts fit = fit-on_eject v (on_active (on_crew (locked p m))) s fit
+fit-effected reach v p i t vars (effect.Leave m) s counts fit = fit-on_eject v (on_active (on_crew (left m))) s fit
+fit-effected reach v p i t vars (effect.Wait c) s counts fit = fit-on_eject v (on_active (on_crew (waited p c))) s fit
+fit-effected reach v p i t vars (effect.Signal c) s counts fit = fit-on_eject v (on_active (on_crew (signalled c))) s fit
+fit-effected reach v p i t vars effect.Yield s counts fit = fit
 
 pub fit-process_turn : {G : Uid → Type 0} (reach : ℕ → Bool) (v : Uid) (p : ℕ) (s : Site) → Fit G s.node
     → Fit G (process_turn reach v p s).node
-fit-process_turn reach v p s fit = fit-item s (eject_in s v) _ (λ e. fit-item s e.active _ (λ it. fit-item s (turn_of v it p) _ (λ t.
-    fit-effected reach v p (serving it p) it.kind t.vars t.effect (on_eject v (on_active (turned p t)) s)
-    (fit-on_eject v (on_active (turned p t)) s fit)) fit) fit) fit
+unfolding on_eject
+fit-process_turn {G = G} reach v p s fit = go (eject_in s v) refl
+  where
+    -- the Eject that takes the turn is of an epoch that is counted, and the node's is no earlier
+    counts : (e : Eject) → eject_in s v ≡ Some e → 1 ≤ epoch_or_zero s.node.epoch
+    counts e at = let b : IsBehind v (epoch_or_zero s.node.epoch) s.node.last_serial = fit.behind v (ap is_some at) in
+        omega (arith, b.epoch_counts, b.epoch_given)
+
+    go : (o : Option Eject) → eject_in s v ≡ o
+        → Fit G (with_item o (λ e. with_item e.active (λ it. active_turn reach v p it s) s) s).node
+    go None at = fit
+    go (Some e) at = fit-item s e.active _ (λ it. fit-item s (turn_of v it p) _ (λ t.
+        fit-effected reach v p (serving it p) it.kind t.vars t.effect (on_eject v (on_active (turned p t)) s) (counts e at)
+        (fit-on_eject v (on_active (turned p t)) s fit)) fit) fit
 
 -- 5. Deliveries, starts and crashes
 
@@ -223,42 +247,62 @@ same-each f (e ∷ es) u = go (same-each f es u) (eq_by_cmp uid_cmp u e.0) refl
     go later true is = rw is refl
     go later false is = rw is later
 
+-- a node that is down owes no epoch
+fit-down : {G : Uid → Type 0} {up : Bool} {epoch doubt : Option ℕ} {last : ℕ} {es : List (Uid × Eject)} → UidsFit G up epoch doubt last es
+    → UidsFit G false epoch doubt last es
+fit-down fit = record {
+  up_keeps = λ is. absurd (cc is);
+  doubt_is_next = fit.doubt_is_next;
+  in_order = fit.in_order;
+  behind = fit.behind;
+  all_given = fit.all_given;
+}
+
 pub fit-crashed : {G : Uid → Type 0} (s : Site) → Fit G s.node → Fit G (crashed s).node
 fit-crashed s fit = fit-on_traffic (without_node s.number) (on_node down s) (fit-on_node down s
-    (fit-same s.node.epoch s.node.epoch_doubt s.node.last_serial s.node.ejects (each_value fallen s.node.ejects)
-    (same-each fallen s.node.ejects) (order-each fallen s.node.ejects) fit))
+    (fit-down (fit-same s.node.up s.node.epoch s.node.epoch_doubt s.node.last_serial s.node.ejects (each_value fallen s.node.ejects)
+    (same-each fallen s.node.ejects) (order-each fallen s.node.ejects) fit)))
 
 -- 6. Settling: a doubt that is found done raises the epoch
 
 pub raised : (u : Uid) (e later last n : ℕ) → e < later → IsBehind u e last → IsBehind u later n
 raised u e later last n up b = record {
+  epoch_counts = b.epoch_counts;
+  serial_counts = b.serial_counts;
   epoch_given = omega (arith, b.epoch_given, up);
   serial_given = λ same. absurd (omega (arith, b.epoch_given, up, same));
 }
 
-settled-new : {G : Uid → Type 0} (epoch doubt : Option ℕ) (last : ℕ) (es : List (Uid × Eject)) → UidsFit G epoch doubt last es
-    → UidsFit G (with_item doubt (λ e. Some e) epoch) None last es
-settled-new epoch None last es fit = fit
-settled-new epoch (Some e) last es fit = record {
+settled-new : {G : Uid → Type 0} (up : Bool) (epoch doubt : Option ℕ) (last : ℕ) (es : List (Uid × Eject))
+    → UidsFit G up epoch doubt last es → UidsFit G up (with_item doubt (λ e. Some e) epoch) None last es
+settled-new up epoch None last es fit = fit
+settled-new up epoch (Some e) last es fit = record {
+  up_keeps = λ is. omega (arith, fit.doubt_is_next);
   doubt_is_next = tt;
   in_order = fit.in_order;
   behind = λ u there. raised u (epoch_or_zero epoch) e last last fit.doubt_is_next (fit.behind u there);
   all_given = λ u g. raised u (epoch_or_zero epoch) e last last fit.doubt_is_next (fit.all_given u g);
 }
 
-settled-old : {G : Uid → Type 0} (epoch doubt : Option ℕ) (last : ℕ) (es : List (Uid × Eject)) → UidsFit G epoch doubt last es
-    → UidsFit G epoch None last es
-settled-old epoch doubt last es fit = record { doubt_is_next = tt; in_order = fit.in_order; behind = fit.behind; all_given = fit.all_given }
+settled-old : {G : Uid → Type 0} (up : Bool) (epoch doubt : Option ℕ) (last : ℕ) (es : List (Uid × Eject))
+    → UidsFit G up epoch doubt last es → UidsFit G up epoch None last es
+settled-old up epoch doubt last es fit = record {
+  up_keeps = fit.up_keeps;
+  doubt_is_next = tt;
+  in_order = fit.in_order;
+  behind = fit.behind;
+  all_given = fit.all_given;
+}
 
 pub fit-settled : {G : Uid → Type 0} (p : Option Pick) (s : Site) → Fit G s.node → Fit G (settled p s).node
 unfolding on_node
 fit-settled None s fit = fit
-fit-settled (Some pick.Old) s fit = settled-old s.node.epoch s.node.epoch_doubt s.node.last_serial _
-    (fit-same s.node.epoch s.node.epoch_doubt s.node.last_serial s.node.ejects _ (same-each (settled_eject pick.Old) s.node.ejects)
-    (order-each (settled_eject pick.Old) s.node.ejects) fit)
-fit-settled (Some pick.New) s fit = settled-new s.node.epoch s.node.epoch_doubt s.node.last_serial _
-    (fit-same s.node.epoch s.node.epoch_doubt s.node.last_serial s.node.ejects _ (same-each (settled_eject pick.New) s.node.ejects)
-    (order-each (settled_eject pick.New) s.node.ejects) fit)
+fit-settled (Some pick.Old) s fit = settled-old s.node.up s.node.epoch s.node.epoch_doubt s.node.last_serial _
+    (fit-same s.node.up s.node.epoch s.node.epoch_doubt s.node.last_serial s.node.ejects _
+    (same-each (settled_eject pick.Old) s.node.ejects) (order-each (settled_eject pick.Old) s.node.ejects) fit)
+fit-settled (Some pick.New) s fit = settled-new s.node.up s.node.epoch s.node.epoch_doubt s.node.last_serial _
+    (fit-same s.node.up s.node.epoch s.node.epoch_doubt s.node.last_serial s.node.ejects _
+    (same-each (settled_eject pick.New) s.node.ejects) (order-each (settled_eject pick.New) s.node.ejects) fit)
 
 pub fit-unsynced : {G : Uid → Type 0} (s : Site) → Fit G s.node → Fit G (unsynced s).node
 fit-unsynced s fit = fit-on_node (λ it. record it { synced = false }) s fit

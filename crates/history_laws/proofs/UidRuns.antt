@@ -119,6 +119,7 @@ there-next w c e (Some v) x = (
 with-given : (G : Uid → Type 0) (w later : World) (new : Option Uid) → IsGiven w later new → AllFit G later
     → AllFit (λ u. (new ≡ Some u) ⊎ G u) later
 with-given G w later new x all n it is = let fit : Fit (OfNode G n) it = all n it is in record {
+  up_keeps = fit.up_keeps;
   doubt_is_next = fit.doubt_is_next;
   in_order = fit.in_order;
   behind = fit.behind;

@@ -20,12 +20,17 @@ use Rattle.history_laws.proofs.UidLaw.{fit-crashed, fit-settled, fit-store_turn,
 
 -- 1. Boots: the epoch that is put is past the stored one
 
-began-doubt : {G : Uid → Type 0} (epoch doubt : Option ℕ) (last : ℕ) (es : List (Uid × Eject)) (e : ℕ) (began : Bool)
+began-doubt : {G : Uid → Type 0} (up : Bool) (epoch doubt : Option ℕ) (last : ℕ) (es : List (Uid × Eject)) (e : ℕ) (began : Bool)
     → (began ≡ true → e ≡ epoch_or_zero epoch + 1)
-    → UidsFit G epoch doubt last es → UidsFit G epoch (cond began (Some e) doubt) last es
-began-doubt epoch doubt last es e false is fit = fit
-began-doubt epoch doubt last es e true is fit =
-    record { doubt_is_next = omega (arith, is refl); in_order = fit.in_order; behind = fit.behind; all_given = fit.all_given }
+    → UidsFit G up epoch doubt last es → UidsFit G up epoch (cond began (Some e) doubt) last es
+began-doubt up epoch doubt last es e false is fit = fit
+began-doubt up epoch doubt last es e true is fit = record {
+  up_keeps = fit.up_keeps;
+  doubt_is_next = omega (arith, is refl);
+  in_order = fit.in_order;
+  behind = fit.behind;
+  all_given = fit.all_given;
+}
 
 false-true : {A : Type 0} → false ≡ true → A
 false-true e = absurd (cc e)
@@ -49,9 +54,10 @@ no-doubt None s is = go s.node.epoch_doubt refl
     go None e = e
     go (Some x) e = false-true (is ∙ ap (λ d. in_doubt s.number (record s.node { epoch_doubt = d })) e)
 
-up-fits : {G : Uid → Type 0} (epoch doubt : Option ℕ) (last : ℕ) (es : List (Uid × Eject)) (e : ℕ) → doubt ≡ None
-    → e ≡ epoch_or_zero epoch + 1 → UidsFit G epoch doubt last es → UidsFit G (Some e) doubt 0 es
-up-fits epoch doubt last es e none is fit = record {
+up-fits : {G : Uid → Type 0} (up : Bool) (epoch doubt : Option ℕ) (last : ℕ) (es : List (Uid × Eject)) (e : ℕ) → doubt ≡ None
+    → e ≡ epoch_or_zero epoch + 1 → UidsFit G up epoch doubt last es → UidsFit G true (Some e) doubt 0 es
+up-fits up epoch doubt last es e none is fit = record {
+  up_keeps = λ on. omega (arith, is);
   doubt_is_next = rw none tt;
   in_order = fit.in_order;
   behind = λ u there. raised u (epoch_or_zero epoch) e last 0 (omega (arith, is)) (fit.behind u there);
@@ -60,23 +66,27 @@ up-fits epoch doubt last es e none is fit = record {
 
 fit-booted : {G : Uid → Type 0} (s : Site) (e : ℕ) (how : BootEnd) (p : Option Pick) (began : Bool) (now : Site) → now ≡ settled p s
     → BootsSo s e how p began → Fit G now.node → Fit G (booted_node s e how began now.node)
-fit-booted s e boot_end.Up p began now is b fit = up-fits now.node.epoch now.node.epoch_doubt now.node.last_serial now.node.ejects e
-    (ap (λ (t : Site). t.node.epoch_doubt) is ∙ no-doubt p s b.opened.picked)
+fit-booted s e boot_end.Up p began now is b fit = up-fits now.node.up now.node.epoch now.node.epoch_doubt now.node.last_serial
+    now.node.ejects e (ap (λ (t : Site). t.node.epoch_doubt) is ∙ no-doubt p s b.opened.picked)
     (b.next_one ∙ ap (λ (t : Site). epoch_or_zero t.node.epoch + 1) (sym is)) fit
 fit-booted s e boot_end.DiskFault p began now is b fit =
-    began-doubt now.node.epoch now.node.epoch_doubt now.node.last_serial now.node.ejects e began
+    began-doubt now.node.up now.node.epoch now.node.epoch_doubt now.node.last_serial now.node.ejects e began
     (λ h. failed-next s e p began b h ∙ ap (λ (t : Site). epoch_or_zero t.node.epoch + 1) (sym is)) fit
 fit-booted s e boot_end.Stop p began now is b fit =
-    began-doubt now.node.epoch now.node.epoch_doubt now.node.last_serial now.node.ejects e began
+    began-doubt now.node.up now.node.epoch now.node.epoch_doubt now.node.last_serial now.node.ejects e began
     (λ h. failed-next s e p began b h ∙ ap (λ (t : Site). epoch_or_zero t.node.epoch + 1) (sym is)) fit
 fit-booted s e (boot_end.Damaged place) p began now is b fit =
-    began-doubt now.node.epoch now.node.epoch_doubt now.node.last_serial now.node.ejects e began (not-begun began b.nothing.not_begun) fit
+    began-doubt now.node.up now.node.epoch now.node.epoch_doubt now.node.last_serial now.node.ejects e began
+    (not-begun began b.nothing.not_begun) fit
 fit-booted s e boot_end.EpochsSpent p began now is b fit =
-    began-doubt now.node.epoch now.node.epoch_doubt now.node.last_serial now.node.ejects e began (not-begun began b.nothing.not_begun) fit
+    began-doubt now.node.up now.node.epoch now.node.epoch_doubt now.node.last_serial now.node.ejects e began
+    (not-begun began b.nothing.not_begun) fit
 fit-booted s e boot_end.Full p began now is (inl b) fit =
-    began-doubt now.node.epoch now.node.epoch_doubt now.node.last_serial now.node.ejects e began (not-begun began b.nothing.not_begun) fit
+    began-doubt now.node.up now.node.epoch now.node.epoch_doubt now.node.last_serial now.node.ejects e began
+    (not-begun began b.nothing.not_begun) fit
 fit-booted s e boot_end.Full p began now is (inr b) fit =
-    began-doubt now.node.epoch now.node.epoch_doubt now.node.last_serial now.node.ejects e began (not-begun began b.nothing.not_begun) fit
+    began-doubt now.node.up now.node.epoch now.node.epoch_doubt now.node.last_serial now.node.ejects e began
+    (not-begun began b.nothing.not_begun) fit
 
 fit-boot : {G : Uid → Type 0} (e : ℕ) (how : BootEnd) (p : Option Pick) (began : Bool) (s : Site) → BootsSo s e how p began → Fit G s.node
     → Fit G (boot_turn e how p began s).node
@@ -112,6 +122,6 @@ kept-fit G w e = record {
   turns = λ n it at place allowed fit. fit-site_turn (reaches w n) e (site_of w n it) allowed fit;
   crashes = λ n s is number fit. fit-crashed s fit;
   tellings = λ u p a s fit. fit-tells u p a s fit;
-  births = λ u t s is on known fit. fit-born u (fresh t (first_values t)) s (next-following s u is) fit;
+  births = λ u t s is on known fit. fit-born u (fresh t (first_values t)) s (next-following s u is) (fit.up_keeps on) fit;
   clocks = λ n c it fit. fit;
 }

@@ -14,5 +14,5 @@ pub use law::{
 pub use site_law::{
     a_held_call_is_run_or_queued, a_stop_ends_in_a_fall, an_entry_elsewhere_leaves_a_state,
     an_event_keeps_its_site, every_epoch_is_bounded, every_monitor_is_held, every_site_is_sound,
-    every_world_is_sound, monitors_keep_their_variables,
+    every_turn_is_fit, every_world_is_sound, monitors_keep_their_variables,
 };

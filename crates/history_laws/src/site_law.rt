@@ -1,6 +1,6 @@
 //! What holds of every node of every world that a history reaches, and of every event at a node.
 ghost use Rattle.journal.specs.SiteLaws.{WorldsAreSound, SitesAreSound, HeldCallsAreWork, MonitorsAreHeld, EpochsAreBounded};
-ghost use Rattle.journal.specs.SiteLaws.{StopsAreFalls, FallsAreLast, EventsKeepSites, EventsKeepCalls, StatesStayElsewhere};
+ghost use Rattle.journal.specs.SiteLaws.{EveryTurnIsFit, StopsAreFalls, FallsAreLast, EventsKeepSites, EventsKeepCalls, StatesStayElsewhere};
 ghost use Rattle.journal.specs.SiteLaws.{MonitorsKeepVariables, VariablesStay};
 
 /// Every world at the end of a history so far, over disks that are handed in as they have to be, is sound:
@@ -26,6 +26,13 @@ pub fn a_held_call_is_run_or_queued()
 /// conditions, with such types; and no other does.
 pub fn every_monitor_is_held()
     ensures { MonitorsAreHeld }
+{}
+
+/// A process that waits for nothing has a turn that can be carried out, with such types: it creates Ejects only
+/// of types that there are, locks monitors that there are, leaves one that it holds, and waits on conditions
+/// of one that it holds, and signals those.
+pub fn every_turn_is_fit()
+    ensures { EveryTurnIsFit }
 {}
 
 /// A process of a declared type touches in its turn no variable of a monitor that it does not hold, with such

@@ -11,7 +11,8 @@ mod call;
 mod closing;
 mod queues;
 
-ghost use Rattle.std.specs.Prelude.{◌≡◌, ◌≤◌, ◌<◌, ◌+◌, ◌-◌, ◌∷◌, [], ℕ, false, not, List, IfOk, IfSome, MatchResult, length, option_copied};
+ghost use Rattle.std.specs.Prelude.{◌≡◌, ◌≤◌, ◌<◌, ◌+◌, ◌-◌, ◌∷◌, [], ℕ, false, not, List, IfOk, IfSome, MatchResult, length};
+ghost use Rattle.std.specs.Prelude.{option_copied};
 ghost use Rattle.eden_model.specs.Map.{first};
 ghost use Rattle.eden_model.specs.Lines.{has, Distinct};
 ghost use Rattle.eden_model.specs.Traffic.{Traffic, asking_station, with_call, replied, without_link, without_node};

@@ -16,6 +16,7 @@ use Rattle.journal.specs.Standing.{DiskRun, state}
 use Rattle.journal.specs.LegalRun.{AreHandedIn, opening_world, last_world, run_of}
 use Rattle.journal.specs.Laws.{Begins}
 use Rattle.journal.specs.Monitors.{AreInTheirMonitors, EventKeepsMonitors, LeavesVariables}
+use Rattle.journal.specs.FitTurns.{TurnsAreFit}
 use Rattle.journal.specs.Sites.{Everywhere, HasEpochs, SoundWorld, AllSound, IsSoundSite, HoldsItsWork, CallsGoOn, KeepsSite}
 
 -- 1. Every world that is reached
@@ -48,6 +49,11 @@ HeldCallsAreWork = OfEachRuled (λ opening w. Everywhere (λ n it. HoldsItsWork 
 -- Each process whose rest is inside of a monitor holds it, waits in its entry queue, or waits on one of its conditions; and no other does.
 abbrev pub MonitorsAreHeld : Type 0
 MonitorsAreHeld = OfEachRuled (λ opening w. AreInTheirMonitors w)
+
+-- Each process that waits for nothing has a turn that can be carried out: a type of which it creates an Eject is there, and a step at the
+-- monitors is one that it may take.
+abbrev pub EveryTurnIsFit : Type 0
+EveryTurnIsFit = OfEachRuled (λ opening w. Everywhere (λ n it. TurnsAreFit (site_of w n it)) w)
 
 -- The stored epoch of each node, and the one in doubt, are at most 4,294,967,295.
 abbrev pub EpochsAreBounded : Type 0

@@ -199,14 +199,12 @@ fn store_turn<St: Store>(
 }
 
 /// The first process of the Eject is told that its call is broken.
-fn tell_broken<St: Store>(alloc: Global, node: &mut Node<St>) -> Option<Seen>
+fn tell_broken<St: Store>(alloc: Global, node: &mut Node<St>) -> Seen
     requires { IsWhole (held St.seen node.old) }
-    ensures { IfSome result (λ _. IsWhole (held St.seen node.new)) }
+    ensures { IsWhole (held St.seen node.new) }
 {
-    match node.broken(alloc, FIRST, 1) {
-        Ok(()) => Some(Seen::Nothing),
-        Err(_) => None,
-    }
+    node.broken(alloc, FIRST, 1);
+    Seen::Nothing
 }
 
 /// The disk is to fail, or to stop in this mode, behind so many device calls.
@@ -238,7 +236,7 @@ fn go_on<St: Store>(
         Act::Deliver => Some(deliver(rt, alloc, node, types, calls)),
         Act::Start => start(rt, alloc, node, types, calls),
         Act::Process => process(rt, alloc, node, types, calls),
-        Act::Break => tell_broken(alloc, node),
+        Act::Break => Some(tell_broken(alloc, node)),
         Act::Fail(made) => Some(arm(node, None, made)),
         Act::Stop(made, mode) => Some(arm(node, Some(mode), made)),
         _ => None,

@@ -27,7 +27,7 @@ const ROWS: &[(&[Act], &[Act], Option<TurnShown>)] = &[
     (&[], &[Act::Start], None),
     (&[], &[Act::Activate], None),
     (&[], &[Act::Process], None),
-    (&[], &[Act::Break], None),
+    (&[], &[Act::Break], NONE),
 ];
 
 #[test]

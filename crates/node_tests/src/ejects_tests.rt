@@ -273,10 +273,10 @@ impl Bench {
             }
             Act::Wake(serial, number) => self.wake(rt, serial, number),
             Act::TurnAway(serial, status) => self.turn_away(rt, serial, status),
-            Act::Break(serial) => match self.ejects.broken(self.alloc, uid_of(serial), 1) {
-                Ok(()) => Seen::Done,
-                Err(_) => Seen::Refused,
-            },
+            Act::Break(serial) => {
+                self.ejects.broken(self.alloc, uid_of(serial), 1);
+                Seen::Done
+            }
             _ => self.look(rt, act),
         }
     }
@@ -441,7 +441,8 @@ const RUNS: &[(&str, &[(Act, Seen)])] = &[
             SAVED,
             (Act::Break(1), Seen::Done),
             (Act::May(1), Seen::May(false, false, true)),
-            (Act::Break(1), Seen::Refused),
+            (Act::Break(1), Seen::Done),
+            (Act::May(1), Seen::May(false, false, true)),
         ],
     ),
 ];

@@ -32,6 +32,8 @@ use Rattle.history_laws.proofs.Runs.{Any, of-any, end-keeps, world-booting}
 use Rattle.history_laws.proofs.SiteRuns.{KnownWorld, known-opening, known-next, known-looked_up, new-by, sites-are-sound}
 use Rattle.history_laws.proofs.CutOff.{down-nodes-rest}
 use Rattle.history_laws.proofs.EpochBounds.{epochs-are-bounded}
+use Rattle.history_laws.proofs.FitTurns.{every-turn-is-fit}
+use Rattle.history_laws.proofs.OwnUids.{own-uids}
 use Rattle.history_laws.proofs.ShellAsks.{none-asks-at-the-shell}
 use Rattle.runs.specs.Reached.{is_node}
 use Rattle.journal.specs.Fit.{IsFit}
@@ -144,6 +146,8 @@ runs-may-begin layout script disks lays fits fit enough = record {
     sound = own-nodes (is_node w) (last_world w script h) known.sound;
     sites = sites-are-sound layout script disks h lays fits fit.keep_rules fit.have_monitors leads;
     new_uids = λ n it at. new-by (site_of (last_world w script h) n it) (known.fit n it at);
+    own_uids = own-uids layout script disks h lays fits leads;
+    turns = every-turn-is-fit layout script disks h lays fits fit.keep_rules fit.have_monitors leads;
     epochs = epochs-are-bounded layout script disks h lays fits leads;
     doubts = next-is-in-doubt layout script disks h lays fits leads;
     rest = down-nodes-rest layout script disks h lays fits leads;

@@ -1,15 +1,17 @@
 -- What a machine may rely on of each world that a history reaches, and of each command that is carried out there.
-use Rattle.std.specs.Prelude.{◌≡◌, ◌≤◌, ◌+◌, ℕ, Bool, false, List, None, Some, Ok, is_some, IsTrue, IfSome}
+use Rattle.std.specs.Prelude.{◌≡◌, ◌≤◌, ◌+◌, ℕ, Bool, true, false, List, None, Some, Ok, is_some, IsTrue, IfSome}
 use Rattle.std.specs.List.{Contains}
 use Rattle.capability.specs.declared.Uid.{Uid}
 use Rattle.capability.specs.declared.Cap.{Cap}
-use Rattle.eden_model.specs.Map.{with_item}
+use Rattle.eden_model.specs.Map.{with_item, uid_cmp, value_at}
 use Rattle.eden_model.specs.Traffic.{Call, call_at}
 use Rattle.epl_syntax.specs.Meaning.{type_of}
+use Rattle.passive_store.specs.Kept.{IsEject}
 use Rattle.journal.specs.declared.command.Command.{Command}
 use Rattle.journal.specs.World.{World, Site, Node, node_at, site_of, eject_in}
 use Rattle.journal.specs.Ejects.{next_uid, stored_epoch}
 use Rattle.journal.specs.References.{value_at_name, present_cap}
+use Rattle.journal.specs.FitTurns.{TurnsAreFit}
 use Rattle.journal.specs.Laws.{IsAtRest}
 use Rattle.journal.specs.Sites.{Everywhere, HasEpochs, IsAskedAt, SoundWorld, AllSound}
 use Rattle.journal.specs.Fit.{IsFitCommand}
@@ -36,6 +38,10 @@ pub record IsReached (w : World) : Type 0 where
   pub sites : AllSound w
   -- an Eject that is created there is new
   pub new_uids : Everywhere (λ n it. NextIsNew (site_of w n it)) w
+  -- the uid of each Eject is one of its node
+  pub own_uids : Everywhere (λ n it. (u : Uid) → is_some (value_at uid_cmp u it.ejects) ≡ true → IsEject n u) w
+  -- each process there that waits for nothing has a turn that can be carried out
+  pub turns : Everywhere (λ n it. TurnsAreFit (site_of w n it)) w
   -- its epochs are numbers of 32 bits
   pub epochs : Everywhere (λ n it. HasEpochs it) w
   -- and one that is in doubt is the next

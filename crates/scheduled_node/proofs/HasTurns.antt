@@ -1,6 +1,6 @@
 -- Each key of a sound site has its turn in a node that stands for the site.
 use Rattle.std.proofs.Common.{◌≡◌, ◌≢◌, ◌≤◌, ◌==◌, ℕ, suc, Bool, true, false, ◌||◌, List, [], ◌∷◌, ◌++◌, length, Option, None, Some}
-use Rattle.std.proofs.Common.{is_some, refl, sym, ◌∙◌, ap, subst, arith, T}
+use Rattle.std.proofs.Common.{is_some, not, refl, sym, ◌∙◌, ap, subst, arith, T}
 use Rattle.std.specs.Prelude.{◌↔◌, IfSome, IsSome, IsSomeAnd, IsTrue}
 use Rattle.std.specs.List.{AllByRecursion}
 use Rattle.std.specs.Option.{option_map}
@@ -12,23 +12,24 @@ use Rattle.std.proofs.lemmas.Cmp.{tied_itself}
 use Rattle.std.proofs.lemmas.List.Elements.{recursion_from_All}
 use Rattle.capability.specs.declared.Uid.{Uid}
 use Rattle.capability.proofs.Uids.{uid_cmp_total}
-use Rattle.eden_model.specs.Map.{uid_cmp, value_at}
+use Rattle.eden_model.specs.Map.{first, uid_cmp, value_at}
 use Rattle.eden_model.specs.Crew.{Invocation, Process, Waiting, nothing, startable}
 use Rattle.eden_model.specs.Traffic.{Call, call_at}
 use Rattle.epl_syntax.specs.Rules.OfTypes.{TypeList}
 use Rattle.invocation.specs.Mail.{Mail}
 use Rattle.invocation.specs.Numbers.{item_in}
 use Rattle.invocation.proofs.CarriesLaws.{asked-call}
-use Rattle.passive_store.specs.Kept.{Layout, worked_on}
+use Rattle.passive_store.specs.Kept.{IsEject, Layout, worked_on}
 use Rattle.checkpoint.specs.declared.worker.Request.{Request}
 use Rattle.history_laws.proofs.EntryLists.{all-found}
+use Rattle.history_laws.proofs.SiteRuns.{both-true}
 use Rattle.journal.specs.declared.event.Key.{Key}
-use Rattle.journal.specs.World.{Active, Eject, Site}
+use Rattle.journal.specs.World.{Active, Eject, Site, eject_in}
 use Rattle.journal.specs.Enabled.{activity, is_ready, no_uid, node_keys}
 use Rattle.journal.specs.Sites.{IsManned, IsSoundSite}
 use Rattle.active_part.specs.Body.{Body, active_of}
 use Rattle.ejects.specs.Marks.{IsReady, MayBegin, may_run, may_start, may_wake}
-use Rattle.ejects.specs.Parts.{HasClass, HasClasses, Parts, body_at, held_of, known}
+use Rattle.ejects.specs.Parts.{HasClass, HasClasses, Known, Parts, body_at, held_of, known, queue_at}
 use Rattle.ejects.specs.View.{parts_of}
 use Rattle.ejects.proofs.Delivered.{active-as, found-active}
 use Rattle.ejects.proofs.Started.{startable-all}
@@ -73,6 +74,7 @@ is-ready nothing is = refl
 is-ready _ is = absurd (cc is)
 
 module _ (layout : Layout) (ts : TypeList) (h : Manned) (m : Mail) (s : Site) (sound : IsSoundSite s)
+    (own : (u : Uid) → is_some (eject_in s u) ≡ true → IsEject s.number u) (number : h.node.number ≡ s.number)
     (stands : ScheduledStands layout ts h m s) where
   abbrev n : Parts
   n = parts_of ts h.node.ejects
@@ -126,13 +128,29 @@ module _ (layout : Layout) (ts : TypeList) (h : Manned) (m : Mail) (s : Site) (s
   apart-from o u other is = let same : is_it (Some u) u ≡ true = rw (tied_itself uid_cmp_total u) refl in
       let bad : false ≡ true = sym other ∙ ap (λ x. is_it x u) is ∙ same in cc bad
 
+  -- one that may wake is there, and so is one that is active
+  is-own : (u : Uid) → is_some (eject_in s u) ≡ true → IsEject h.node.number u
+  is-own u there = subst (λ k. IsEject k u) (sym number) (own u there)
+
+  wakes-there : (u : Uid) → may_wake n u ≡ true → is_some (eject_in s u) ≡ true
+  wakes-there u may = go (eject_in s u) refl
+    where
+      queued : may_wake n u ≡ true → is_some (first (queue_at n u)) ≡ true
+      queued is = (both-true (not (is_some (body_at n u))) (is_some (first (queue_at n u))) is).1
+
+      go : (o : Option Eject) → eject_in s u ≡ o → is_some o ≡ true
+      go None at = absurd (let none : queue_at n u ≡ [] = ap (λ (k : Known). k.queued)
+          (sym (stands.node.calls.parts.ejects u) ∙ ap known at) in
+          let bad : true ≡ false = sym (queued may) ∙ ap (λ ks. is_some (first ks)) none in cc bad)
+      go (Some e) at = refl
+
   waking : (u : Uid) → may_wake n u ≡ true
       → AllByRecursion Has (key_unless (is_it (worked_on h.node.seen.work) u) (activity n.number 2 u 0))
   waking u may = go (is_it (worked_on h.node.seen.work) u) refl
     where
       go : (b : Bool) → is_it (worked_on h.node.seen.work) u ≡ b → AllByRecursion Has (key_unless b (activity n.number 2 u 0))
       go true is = tt
-      go false is = (activation-has n.number u (record { wakes = may; free = apart-from (worked_on h.node.seen.work) u is }), tt)
+      go false is = (activation-has n.number u (record { own = is-own u (wakes-there u may); wakes = may; free = apart-from (worked_on h.node.seen.work) u is }), tt)
 
   -- 4. Starts
 
@@ -175,8 +193,11 @@ module _ (layout : Layout) (ts : TypeList) (h : Manned) (m : Mail) (s : Site) (s
     where
       one : (b : Body) → body_at n u ≡ Some b → (q : ℕ × Process) → value_at nat_cmp q.0 b.crew.crew.processes ≡ Some q.1
           → is_ready q.1.waits ≡ true → Has (activity u.node 4 u q.0)
-      one b at q found waits = process-has u.node u q.0 (subst (λ o. IsReady o q.0) (sym at)
-          (ap (option_map (λ (it : Process). it.waits)) found ∙ ap Some (is-ready q.1.waits waits)))
+      one b at q found waits = process-has u.node u q.0 (record {
+        own = is-own u (ap is_some (found-active n s u b stands.node.calls.parts at).is);
+        ready = subst (λ o. IsReady o q.0) (sym at)
+            (ap (option_map (λ (it : Process). it.waits)) found ∙ ap Some (is-ready q.1.waits waits));
+      })
 
       go : (o : Option Body) → body_at n u ≡ o → AllByRecursion Has (run_keys_of u o)
       go None at = tt

@@ -1,5 +1,5 @@
 //! A node goes down, its disk is armed, and its processes are told of calls that broke elsewhere.
-ghost use Rattle.std.specs.Prelude.{◌≡◌, ◌≤◌, ℕ, Bool, IsSome, IsTrue, OnOk};
+ghost use Rattle.std.specs.Prelude.{◌≡◌, ◌≤◌, ℕ, Bool, IsTrue, OnOk};
 ghost use Rattle.epl_syntax.specs.Rules.OfTypes.{TypeList};
 ghost use Rattle.invocation.specs.Mail.{Mail};
 ghost use Rattle.eden_disk.specs.Calls.{armed, calls_until};
@@ -9,6 +9,7 @@ ghost use Rattle.journal.specs.World.{Site};
 ghost use Rattle.journal.specs.Crashes.{crashed};
 ghost use Rattle.checkpoint.specs.Asked.{noted_in};
 ghost use Rattle.checkpoint.specs.Turns.{with_clock};
+ghost use Rattle.ejects.specs.Marks.{IsLooseIn};
 ghost use Rattle.ejects.specs.Parts.{body_at};
 ghost use Rattle.ejects.specs.View.{parts_of};
 ghost use Rattle.journal.specs.declared.event.Event.TheVariants.{Armed, Crash};
@@ -95,13 +96,13 @@ impl<St: Store> ScheduledNode<St> {
         ensures number { self.new.node.number ≡ self.old.node.number }
         ensures store { St.seen self.new.node.store ≡ St.seen self.old.node.store }
         ensures stands { IsTrue St.Device.tells → OnOk result ((ts : TypeList) (m : Mail) (s : Site)
-            → IsSome (body_at (parts_of ts self.old.node.ejects) uid) → NodeStands St.layout ts (held St.seen self.old.node) m s
+            → IsLooseIn (body_at (parts_of ts self.old.node.ejects) uid) process → NodeStands St.layout ts (held St.seen self.old.node) m s
             → NodeStands St.layout ts (held St.seen self.new.node) m (told_broken uid process s)) }
         ensures told { IsTrue St.Device.tells → OnOk result ((ts : TypeList) (m : Mail) (s : Site)
-            → IsSome (body_at (parts_of ts self.old.node.ejects) uid) → ScheduledStands St.layout ts (manned St.seen self.old) m s
+            → IsLooseIn (body_at (parts_of ts self.old.node.ejects) uid) process → ScheduledStands St.layout ts (manned St.seen self.old) m s
             → ScheduledStands St.layout ts (manned St.seen self.new) m (told_broken uid process s)) }
     {
-        self.node.broken(alloc, uid, process)?;
+        self.node.broken(alloc, uid, process);
         self.agenda.note_each(self.node.ejects(), Some(uid), None)
     }
 }

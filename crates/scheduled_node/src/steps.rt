@@ -6,7 +6,7 @@ ghost use Rattle.journal.specs.Sites.{IsSoundSite};
 ghost use Rattle.journal.specs.World.{Site};
 ghost use Rattle.checkpoint.specs.Touches.{ReadsByCalls};
 ghost use Rattle.disk_faults.specs.Shows.{NoneFalls, ShowsCounts};
-ghost use Rattle.ejects.specs.Creations.{HasNewUid};
+ghost use Rattle.ejects.specs.Creations.{MayTurn};
 ghost use Rattle.ejects.specs.Replies.{Reaches};
 ghost use Rattle.eden_kernel.specs.DiskTurns.{IsWholeBehind, Starves};
 ghost use Rattle.eden_kernel.specs.Stands.{held, IsWhole, NodeStands};
@@ -81,7 +81,7 @@ impl<St: Store> ScheduledNode<St> {
             → NodeStands St.layout types.now (held St.seen self.old.node) calls.old s
             → (St.seen self.old.node.store).more ≤ (St.seen self.new.node.store).more + 1) }
         ensures turn { IsTrue St.Device.tells → IsLayout St.layout → IfOk result (λ r. (reach : ℕ → Bool) (s : Site)
-            → IsKeyOf s.number key → Reaches reach places.now s.number → IsSoundSite s → HasNewUid s
+            → IsKeyOf s.number key → Reaches reach places.now s.number → IsSoundSite s → MayTurn s
             → 1 ≤ (St.seen self.old.node.store).more
             → ScheduledStands St.layout types.now (manned St.seen self.old) calls.old s
             → KeyTurns r.1 St.layout types.now (manned St.seen self.new) calls.new reach (manned St.seen self.old) s r.0 key) }

@@ -8,7 +8,7 @@ ghost use Rattle.journal.specs.World.{Site};
 ghost use Rattle.checkpoint.specs.Touches.{ReadsByCalls, Touches, TouchesOnce};
 ghost use Rattle.disk_faults.specs.Elsewhere.{shown_of};
 ghost use Rattle.disk_faults.specs.Shows.{NoneFalls, ShowsCounts};
-ghost use Rattle.ejects.specs.Creations.{HasNewUid};
+ghost use Rattle.ejects.specs.Creations.{MayTurn};
 ghost use Rattle.ejects.specs.Events.{IsStartOf, IsTurnOf};
 ghost use Rattle.ejects.specs.Replies.{Reaches};
 ghost use Rattle.eden_kernel.specs.DiskTurns.{IsActivation, IsStoreTurn, IsWholeBehind, Starves};
@@ -70,7 +70,7 @@ impl<St: Store> ScheduledNode<St> {
         ensures event { IfOk result (IsTurnOf uid process) }
         ensures store { St.seen self.new.node.store ≡ St.seen self.old.node.store }
         ensures turn { IsTrue St.Device.tells → IfOk result (λ e. (reach : ℕ → Bool) (s : Site) → Reaches reach places.now uid.node
-            → IsSoundSite s → HasNewUid s → ScheduledStands St.layout types.now (manned St.seen self.old) calls.old s
+            → IsSoundSite s → MayTurn s → ScheduledStands St.layout types.now (manned St.seen self.old) calls.old s
             → ScheduledTurns St.layout types.now (manned St.seen self.new) calls.new reach (manned St.seen self.old) s e) }
     {
         let event = self

@@ -1,4 +1,4 @@
-use Rattle.std.proofs.Common.{List, Option, refl, sym, subst, ◌∙◌}
+use Rattle.std.proofs.Common.{List, Option, sym, subst, ◌∙◌}
 use Rattle.std.specs.Prelude.{is_some}
 use Rattle.eden_value.specs.Datum.{Datum}
 use Rattle.epl_syntax.specs.Edentype.{Edentype}
@@ -14,12 +14,12 @@ use Rattle.eden_kernel.specs.DiskTurns.{EndsTurn, begun_as}
 use Rattle.eden_kernel.proofs.Activating.{apart-of, turn-activates}
 use Rattle.eden_kernel.proofs.Asleep.{asleep-for}
 use Rattle.eden_kernel.proofs.StoreTurn.{told-of}
-use Rattle.eden_kernel.proofs.Starving.{starves-still, starves-started}
+use Rattle.eden_kernel.proofs.Starving.{starves-started}
 use Rattle.journal.specs.Step.{touches_start}
 use Rattle.checkpoint.specs.Calls.{MakesCalls}
 use Rattle.checkpoint.specs.Starting.{call_of_start}
 use Rattle.checkpoint.specs.Touches.{Touches, ObeyedIn, RaisesClock}
-use Rattle.eden_kernel.proofs.Showing.{shows-start, none-falls, none-fell}
+use Rattle.eden_kernel.proofs.Showing.{shows-start, none-falls}
 use Rattle.eden_kernel.proofs.Node.activate.Goals as goal
 
 pub returns-clause-turn : goal.returns-clause-turn
@@ -44,18 +44,12 @@ returns-clause-turn g c = λ so law reach s sound h.
     c.activation_ends.new.calls reach s c.start_from.ensures.node h c.args.uid p start
     c.requires.may.wakes how
     (subst (λ e. StartsTo g.St.Store.layout x.node s rs c.args.uid x e start p y) (sym c.in_ok-end.ensures.how)
-    (c.in_ok-start.ensures.starts so law (apart-of n.number x.node c.args.uid (c.is_eject.ensures c.if-not-is_eject.false)) s rs
+    (c.in_ok-start.ensures.starts so law (apart-of n.number x.node c.args.uid c.requires.may.own) s rs
     h.calls.parts.types h.disk))
     (λ z stands settles. c.settle_ejects.ensures.stands so ts z stands
     (told-of (unsure_in x.work) c.in_ok-start.settled (λ v q. SettlesAt v (is_some (kept_at y.kept v)) q z) c.in_ok-start.ensures.whose
     settles))
     (λ up allowed values at. c.in_ok-end.ensures.turn reach s p sound up allowed values at)))
-
-pub returns-then-not-is_eject-clause-starves : goal.returns-then-not-is_eject-clause-starves
-returns-then-not-is_eject-clause-starves g c = λ so law s h.
-    let n = c.args.self.now in
-    let x : Seen = g.St.Store.seen n.store in
-    starves-still g.St.Store.layout s (requests_of x.work n.worker.requests.items) x x h.disk refl
 
 -- what it shows of the disk
 pub returns-clause-shows : goal.returns-clause-shows
@@ -64,7 +58,7 @@ returns-clause-shows g c =
     let x : Seen = g.St.Store.seen n.store in
     let y : Seen = g.St.Store.seen c.start_from.new.store in
     shows-start g.St.Device.Disk.obeys n.number c.args.uid c.in_ok-end.end c.pick_in.result x.disk y.disk
-    ((c.is_eject.ensures c.if-not-is_eject.false).0)
+    c.requires.may.own.0
     (subst (λ e. MakesCalls x.disk.counts y.disk.counts (call_of_start e)) (sym c.in_ok-end.ensures.how) c.in_ok-start.ensures.calls)
     (subst (λ e. ObeyedIn g.St.Device.Disk.obeys x.disk y.disk (call_of_start e))
     (sym c.in_ok-end.ensures.how) c.in_ok-start.ensures.obeyed)
@@ -73,7 +67,7 @@ returns-clause-shows g c =
 
 -- its event is of the node
 pub returns-clause-of_node : goal.returns-clause-of_node
-returns-clause-of_node g c = (c.is_eject.ensures c.if-not-is_eject.false).0
+returns-clause-of_node g c = c.requires.may.own.0
 
 pub returns-clause-touches : goal.returns-clause-touches
 returns-clause-touches g c = λ so law s h.
@@ -81,13 +75,10 @@ returns-clause-touches g c = λ so law s h.
     let x : Seen = g.St.Store.seen n.store in
     let y : Seen = g.St.Store.seen c.start_from.new.store in
     subst (λ e. Touches (touches_start s c.args.uid) x.disk.counts y.disk.counts (call_of_start e)) (sym c.in_ok-end.ensures.how)
-    (c.in_ok-start.ensures.touches so law (apart-of n.number x.node c.args.uid (c.is_eject.ensures c.if-not-is_eject.false)) s
+    (c.in_ok-start.ensures.touches so law (apart-of n.number x.node c.args.uid c.requires.may.own) s
     (requests_of x.work n.worker.requests.items) h.disk)
 
 -- where there was no memory
-pub returns-then-not-is_eject-clause-counts : goal.returns-then-not-is_eject-clause-counts
-returns-then-not-is_eject-clause-counts g c = none-fell _ _ refl
-
 pub returns-in_err-start-clause-counts : goal.returns-in_err-start-clause-counts
 returns-in_err-start-clause-counts g c = any-err c.from_residual.result _
     (let m = c.start_from.ensures.calls in none-falls m.made (g.St.Store.seen c.args.self.now.store).disk.counts
@@ -108,7 +99,7 @@ returns-in_err-end-clause-starves g c = λ so law.
     let rs : List StoreRequest = requests_of x.work n.worker.requests.items in
     any-err c.from_residual-in_err-end.result _ (λ s h.
     starves-started g.St.Store.layout s rs c.args.uid x y (end_of_start c.in_ok-start.start) (values_of (begun_as ts) c.in_ok-start.start) p
-    (c.in_ok-start.ensures.starts so law (apart-of n.number x.node c.args.uid (c.is_eject.ensures c.if-not-is_eject.false)) s rs
+    (c.in_ok-start.ensures.starts so law (apart-of n.number x.node c.args.uid c.requires.may.own) s rs
     h.calls.parts.types h.disk))
 
 -- it is not active

@@ -11,7 +11,7 @@ pub returns-clause-turn : goal.returns-clause-turn
 returns-clause-turn g c = λ so.
     let x : Seen = g.St.Store.seen c.args.self.now.store in
     let own : IsEject x.node c.args.uid =
-    subst (λ k. IsEject k c.args.uid) c.requires.whole.number (c.is_eject.ensures c.if-not-is_eject.false) in
+    subst (λ k. IsEject k c.args.uid) c.requires.whole.number c.requires.may.own in
     three-ok _ _ _ _ c.process.result c.process.ensures.event c.process.ensures.parts c.process.ensures.requests
     (λ e is parts requests reach s reached sound fresh h.
     let kept : IsKeptIn s c.args.uid c.is_kept-stays.result =

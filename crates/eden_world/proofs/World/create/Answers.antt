@@ -1,8 +1,6 @@
-use Rattle.std.proofs.Common.{◌&&◌, is_some}
 use Rattle.passive_store.specs.Seen.{disk_seen}
-use Rattle.locator.specs.Reach.{reaches}
 use Rattle.checkpoint.proofs.Activations.{any-err}
-use Rattle.eden_world.specs.Seated.{station_at}
+use Rattle.eden_world.specs.Creating.{creates_at}
 use Rattle.eden_world.proofs.Created.{level-ends, made-level, made-told}
 use Rattle.eden_world.proofs.World.create.Goals as goal
 
@@ -12,8 +10,7 @@ returns-in_err-event-clause-starved g c = any-err c.from_residual-in_err-event.r
     (record c.create_reached.new.self { names = c.create.new.self })
     (made-level g.St.Device.Disk.tells g.St.Store.layout g.St.Store.seen
     (disk_seen g.St.Device.Disk.counts g.St.Device.Disk.told g.St.Device.Disk.due) c.args.self.now c.create_reached.new.self c.args.node
-    c.args.type_name.now
-    (reaches c.args.self.now.places 0 c.args.node && is_some (station_at c.args.self.now c.args.node)) c.in_ok-made.made
+    c.args.type_name.now (creates_at c.args.self.now c.args.node c.args.type_name.now) c.in_ok-made.made
     c.in_ok-made.ensures.made))
 
 pub returns-clause-carried : goal.returns-clause-carried

@@ -1,7 +1,4 @@
-use Rattle.std.proofs.Common.{sym, ◌∙◌, ap}
-use Rattle.std.specs.Option.{option_map}
 use Rattle.std.proofs.lemmas.Result.{on_ok_weaker}
-use Rattle.edentypes.specs.View.{kind_in}
 use Rattle.passive_store.specs.Seen.{disk_seen}
 use Rattle.checkpoint.proofs.Activations.{any-err}
 use Rattle.eden_world.specs.InHand.{place_at}
@@ -22,11 +19,11 @@ returns-clause-whole g c = on_ok_weaker c.create-made.result (node-fits g.St.Sto
     c.create-made.ensures.number c.requires.whole) c.create-made.ensures.whole
 
 pub returns-clause-made : goal.returns-clause-made
-returns-clause-made g c = creates-in-ok g.St.Device.Disk.tells g.St.Store.layout g.St.Store.seen c.args.node c.args.type_name.now
-    c.args.self.now c.unseat.new.self c.set_seat.new.self c.in-Up.station c.create-made.new.self c.in-Some.kind c.create-made.result
+returns-clause-made g c name known = creates-in-ok g.St.Device.Disk.tells g.St.Store.layout g.St.Store.seen c.args.node name
+    c.args.self.now c.unseat.new.self c.set_seat.new.self c.in-Up.station c.create-made.new.self c.args.kind c.create-made.result
     (taken-up (place_at c.args.self.now c.args.node) c.unseat.result c.in-Up.station c.unseat.ensures.old c.in-Up.is)
     c.unseat.ensures.takes c.set_seat.ensures.takes c.create-made.ensures.store
-    (sym c.find.ensures ∙ ap (option_map (kind_in c.args.self.now.types)) c.in-Some.is) (λ so. c.create-made.ensures.made so)
+    known (λ so. c.create-made.ensures.made so)
 
 pub returns-clause-starved : goal.returns-clause-starved
 returns-clause-starved g c = any-err c.create-made.result _ (level-ends g.St.Device.Disk.tells g.St.Store.layout g.St.Store.seen

@@ -56,44 +56,40 @@ returns-in-End-clause-parts c reach n s sound at took kept reached ready =
     (λ b is. (c.end_at-served.ensures c.args.types.now b is).1) at.calls
 
 pub returns-in-Lock-clause-parts : goal.returns-in-Lock-clause-parts
-returns-in-Lock-clause-parts c = IfOk-weaker c.coordinates.result _ _ (λ said told reach n s sound at took kept reached ready.
+returns-in-Lock-clause-parts c reach n s sound at took kept reached may =
     process-steps reach n (parts_of c.args.types.now c.args.self.now)
     (parts_of c.args.types.now c.coordinates.new.self)
-    c.args.calls.now c.args.calls.now s c.args.uid c.args.process said sound at c.args.effect
-    (step.Lock c.in-Lock.monitor) told.0
+    c.args.calls.now c.args.calls.now s c.args.uid c.args.process c.coordinates.result sound at c.args.effect
+    (step.Lock c.in-Lock.monitor) c.coordinates.ensures.shown
     took.runs took.turned c.in-Lock.is
-    (told.1 c.args.types.now) at.calls)
-    c.coordinates.ensures
+    (c.coordinates.ensures.parts c.args.types.now) at.calls may.turns
 
 pub returns-in-Leave-clause-parts : goal.returns-in-Leave-clause-parts
-returns-in-Leave-clause-parts c = IfOk-weaker c.coordinates-in-Leave.result _ _ (λ said told reach n s sound at took kept reached ready.
+returns-in-Leave-clause-parts c reach n s sound at took kept reached may =
     process-steps reach n (parts_of c.args.types.now c.args.self.now)
     (parts_of c.args.types.now c.coordinates-in-Leave.new.self)
-    c.args.calls.now c.args.calls.now s c.args.uid c.args.process said sound at c.args.effect
-    (step.Leave c.in-Leave.monitor) told.0
+    c.args.calls.now c.args.calls.now s c.args.uid c.args.process c.coordinates-in-Leave.result sound at c.args.effect
+    (step.Leave c.in-Leave.monitor) c.coordinates-in-Leave.ensures.shown
     took.runs took.turned c.in-Leave.is
-    (told.1 c.args.types.now) at.calls)
-    c.coordinates-in-Leave.ensures
+    (c.coordinates-in-Leave.ensures.parts c.args.types.now) at.calls may.turns
 
 pub returns-in-Wait-clause-parts : goal.returns-in-Wait-clause-parts
-returns-in-Wait-clause-parts c = IfOk-weaker c.coordinates-in-Wait.result _ _ (λ said told reach n s sound at took kept reached ready.
+returns-in-Wait-clause-parts c reach n s sound at took kept reached may =
     process-steps reach n (parts_of c.args.types.now c.args.self.now)
     (parts_of c.args.types.now c.coordinates-in-Wait.new.self)
-    c.args.calls.now c.args.calls.now s c.args.uid c.args.process said sound at c.args.effect
-    (step.Wait c.in-Wait.condition) told.0
+    c.args.calls.now c.args.calls.now s c.args.uid c.args.process c.coordinates-in-Wait.result sound at c.args.effect
+    (step.Wait c.in-Wait.condition) c.coordinates-in-Wait.ensures.shown
     took.runs took.turned c.in-Wait.is
-    (told.1 c.args.types.now) at.calls)
-    c.coordinates-in-Wait.ensures
+    (c.coordinates-in-Wait.ensures.parts c.args.types.now) at.calls may.turns
 
 pub returns-in-Signal-clause-parts : goal.returns-in-Signal-clause-parts
-returns-in-Signal-clause-parts c = IfOk-weaker c.coordinates-in-Signal.result _ _ (λ said told reach n s sound at took kept reached ready.
+returns-in-Signal-clause-parts c reach n s sound at took kept reached may =
     process-steps reach n (parts_of c.args.types.now c.args.self.now)
     (parts_of c.args.types.now c.coordinates-in-Signal.new.self)
-    c.args.calls.now c.args.calls.now s c.args.uid c.args.process said sound at c.args.effect
-    (step.Signal c.in-Signal.condition) told.0
+    c.args.calls.now c.args.calls.now s c.args.uid c.args.process c.coordinates-in-Signal.result sound at c.args.effect
+    (step.Signal c.in-Signal.condition) c.coordinates-in-Signal.ensures.shown
     took.runs took.turned c.in-Signal.is
-    (told.1 c.args.types.now) at.calls)
-    c.coordinates-in-Signal.ensures
+    (c.coordinates-in-Signal.ensures.parts c.args.types.now) at.calls may.turns
 
 pub returns-in-Yield-clause-parts : goal.returns-in-Yield-clause-parts
 returns-in-Yield-clause-parts c reach n s sound at took kept reached ready =
@@ -145,40 +141,36 @@ returns-in-End-clause-requests c reach n s work size sound at took kept q =
     (effect.End) tt c.in-End.is refl
 
 pub returns-in-Lock-clause-requests : goal.returns-in-Lock-clause-requests
-returns-in-Lock-clause-requests c = IfOk-weaker c.coordinates.result _ _ (λ said told reach n s work size sound at took kept q.
+returns-in-Lock-clause-requests c reach n s work size sound at took kept q =
     asks-nothing reach n (parts_of c.args.types.now c.args.self.now) c.args.calls.now s
     c.args.uid
     c.args.process sound at c.args.effect took.runs took.turned
     work size c.args.worker.now q c.args.worker.now.requests.items
-    (effect.Lock c.in-Lock.monitor) tt c.in-Lock.is refl)
-    c.coordinates.ensures
+    (effect.Lock c.in-Lock.monitor) tt c.in-Lock.is refl
 
 pub returns-in-Leave-clause-requests : goal.returns-in-Leave-clause-requests
-returns-in-Leave-clause-requests c = IfOk-weaker c.coordinates-in-Leave.result _ _ (λ said told reach n s work size sound at took kept q.
+returns-in-Leave-clause-requests c reach n s work size sound at took kept q =
     asks-nothing reach n (parts_of c.args.types.now c.args.self.now) c.args.calls.now s
     c.args.uid
     c.args.process sound at c.args.effect took.runs took.turned
     work size c.args.worker.now q c.args.worker.now.requests.items
-    (effect.Leave c.in-Leave.monitor) tt c.in-Leave.is refl)
-    c.coordinates-in-Leave.ensures
+    (effect.Leave c.in-Leave.monitor) tt c.in-Leave.is refl
 
 pub returns-in-Wait-clause-requests : goal.returns-in-Wait-clause-requests
-returns-in-Wait-clause-requests c = IfOk-weaker c.coordinates-in-Wait.result _ _ (λ said told reach n s work size sound at took kept q.
+returns-in-Wait-clause-requests c reach n s work size sound at took kept q =
     asks-nothing reach n (parts_of c.args.types.now c.args.self.now) c.args.calls.now s
     c.args.uid
     c.args.process sound at c.args.effect took.runs took.turned
     work size c.args.worker.now q c.args.worker.now.requests.items
-    (effect.Wait c.in-Wait.condition) tt c.in-Wait.is refl)
-    c.coordinates-in-Wait.ensures
+    (effect.Wait c.in-Wait.condition) tt c.in-Wait.is refl
 
 pub returns-in-Signal-clause-requests : goal.returns-in-Signal-clause-requests
-returns-in-Signal-clause-requests c = IfOk-weaker c.coordinates-in-Signal.result _ _ (λ said told reach n s work size sound at took kept q.
+returns-in-Signal-clause-requests c reach n s work size sound at took kept q =
     asks-nothing reach n (parts_of c.args.types.now c.args.self.now) c.args.calls.now s
     c.args.uid
     c.args.process sound at c.args.effect took.runs took.turned
     work size c.args.worker.now q c.args.worker.now.requests.items
-    (effect.Signal c.in-Signal.condition) tt c.in-Signal.is refl)
-    c.coordinates-in-Signal.ensures
+    (effect.Signal c.in-Signal.condition) tt c.in-Signal.is refl
 
 pub returns-in-Yield-clause-requests : goal.returns-in-Yield-clause-requests
 returns-in-Yield-clause-requests c reach n s work size sound at took kept q =

@@ -1,17 +1,20 @@
-use Rattle.std.proofs.Common.{sym}
+use Rattle.std.proofs.Common.{subst, sym}
 use Rattle.active_part.specs.Bodies.{crewed_body}
-use Rattle.active_part.specs.View.{stepped}
-use Rattle.ejects.proofs.Leaving.{part-changed}
+use Rattle.active_part.specs.Body.{Body}
+use Rattle.active_part.specs.View.{stepped, MayTake}
+use Rattle.ejects.proofs.Leaving.{part-changed, same-body}
 use Rattle.eden_model.specs.Crew.{Runs}
 use Rattle.ejects.specs.View.{part_at}
 use Rattle.ejects.proofs.Active.{may-none, may-part}
 use Rattle.ejects.proofs.Ejects.coordinate_at.Goals as goal
 
 pub returns : goal.returns
-returns c ts b is =
+returns c ts b is may =
     part-changed ts c.args.self.now.table c.args.self.now.waiting.entries c.args.uid c.in-Some.part.now
     c.coordinate.new.self b
-    (crewed_body (stepped c.args.step c.args.process)) c.in-Some.ensures.value is (c.in_ok-coordinate-in-Some.ensures.after ts)
+    (crewed_body (stepped c.args.step c.args.process)) c.in-Some.ensures.value is (c.coordinate.ensures.after
+    (subst (λ (x : Body). MayTake x.crew.crew c.args.process c.args.step)
+    (sym (same-body ts c.args.self.now.table c.args.uid c.in-Some.part.now b c.in-Some.ensures.value is)) may) ts)
 
 pub coordinate-requires : goal.coordinate-requires
 coordinate-requires c =

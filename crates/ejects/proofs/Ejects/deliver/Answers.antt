@@ -6,7 +6,8 @@ use Rattle.ejects.proofs.Ejects.deliver.Goals as goal
 
 pub returns-in-Some-Request-clause-steps : goal.returns-in-Some-Request-clause-steps
 returns-in-Some-Request-clause-steps c = IfOk-weaker c.request.result _ _ (λ e steps reach s sound at.
-    let is : c.deliver.result ≡ Some (Request c.in-Some-Request.call) = c.in-Some-Request.is ∙ ap (λ d. Some d) c.in-Some-Request.field-0-is in
+    let is : c.deliver.result ≡ Some (Request c.in-Some-Request.call) =
+    c.in-Some-Request.is ∙ ap (λ d. Some d) c.in-Some-Request.field-0-is in
     steps reach s at.parts (subst (λ o. CarriesDelivery c.args.from c.args.self.now.table.node o c.deliver.new.self s.traffic) is
     (subst (λ k. CarriesDelivery c.args.from k c.deliver.result c.deliver.new.self s.traffic) c.number.ensures.value
     (c.deliver.ensures.model s.traffic at.calls)))) c.request.ensures.steps

@@ -1,4 +1,4 @@
-use Rattle.std.proofs.Common.{◌≡◌, ◌∙◌, sym, ap, subst}
+use Rattle.std.proofs.Common.{◌∙◌, sym, ap, subst}
 use Rattle.edentypes.specs.View.{fit_in, result_of}
 use Rattle.eden_model.specs.Traffic.{replied}
 use Rattle.invocation.specs.Carries.{Carries}

@@ -1,4 +1,4 @@
-use Rattle.std.proofs.Common.{refl, sym, subst, arith}
+use Rattle.std.proofs.Common.{sym, subst, arith}
 use Rattle.ejects.specs.Events.{IsDelivery}
 use Rattle.ejects.specs.Replies.{Reaches}
 use Rattle.checkpoint.proofs.Activations.{any-err}
