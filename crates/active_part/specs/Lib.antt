@@ -1,4 +1,5 @@
 pub mod Body
 pub mod Bodies
 pub mod Places
+pub mod Fitting
 pub mod View

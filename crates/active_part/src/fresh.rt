@@ -2,6 +2,7 @@
 ghost use Rattle.std.specs.Prelude.{◌≡◌, ◌≤◌, IfOk, length, map, []};
 ghost use Rattle.epl_syntax.specs.Edentype.{Edentype};
 ghost use Rattle.eden_model.specs.Map.{each_value};
+ghost use Rattle.edentypes.specs.Fitting.{FitsKind};
 ghost use Rattle.edentypes.specs.View.{kind_in, rest_of};
 ghost use Rattle.journal.specs.Ejects.{fresh, tasks_from};
 ghost use Rattle.active_part.specs.Body.{active_of};
@@ -38,6 +39,7 @@ impl Part {
     /// An active part that has these values of all its variables and starts anew: its declared processes run, its
     /// monitors are free, and nothing is queued.
     pub fn fresh(alloc: Global, types: &Types, kind: Kind, vars: Values) -> Result<Part, AllocError>
+        requires { FitsKind kind vars }
         ensures active { IfOk result (λ part. active_of (body_of types.now part) ≡ fresh (kind_in types.now kind) vars) }
         ensures queued { IfOk result (λ part. (body_of types.now part).crew.queued ≡ []) }
     {

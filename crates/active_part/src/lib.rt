@@ -15,6 +15,7 @@ ghost use Rattle.epl_syntax.specs.declared.effect.Answer.TheVariants.{Go};
 ghost use Rattle.epl_syntax.specs.Meaning as meaning;
 ghost use Rattle.epl_syntax.specs.Meaning.{Turned, rep_of};
 ghost use Rattle.epl_syntax.specs.Rules.OfTypes.{TypeList};
+ghost use Rattle.edentypes.specs.Fitting.{FitsKind, RestFits};
 ghost use Rattle.edentypes.specs.View.{kind_in, rest_of, turned_of};
 ghost use Rattle.journal.specs.FitTurns.{HoldsFor};
 ghost use Rattle.journal.specs.Processes.{turn_of};
@@ -105,9 +106,13 @@ fn take_turn(
     doing: &mut Doing,
     me: Uid,
 ) -> Result<Effect, AllocError>
+    requires vars { FitsKind kind vars.old }
+    requires rest { RestFits kind doing.old.rest }
     ensures turned { IfOk result (λ e. turned_of vars.new (rest_of (kind_in types.now kind) doing.new.rest) e
         ≡ meaning.turn (kind_in types.now kind) vars.old (rest_of (kind_in types.now kind) doing.old.rest) doing.old.answer me) }
     ensures answer { OnOk result (doing.new.answer ≡ Go) }
+    ensures vars { FitsKind kind vars.new }
+    ensures rest { RestFits kind doing.new.rest }
 {
     let answer = replace(&mut doing.answer, Answer::Go);
     let effect = edentypes::turn(alloc, types, kind, vars, &mut doing.rest, answer, me)?;
@@ -198,13 +203,6 @@ impl Part {
         self.tasks.remove(process);
         self.crew.end(process);
         call
-    }
-
-    /// Whether the process is there and waits for what is outside: for a reply or for the store.
-    pub fn awaits(&self, process: u8) -> bool
-        ensures { (ts : TypeList) → IsTrue result ↔ Waits (body_of ts self.now).crew.crew process outside }
-    {
-        self.crew.awaits(process)
     }
 
     /// A process that waits for what is outside is told what it waited for. For any other nothing changes.

@@ -4,6 +4,8 @@ ghost use Rattle.std.specs.List.{list_any};
 ghost use Rattle.std.specs.Ordering.{nat_cmp};
 ghost use Rattle.eden_model.specs.Map.{changed_at, put_at, each_value, where_key};
 ghost use Rattle.epl_syntax.specs.Edentype.{Edentype};
+ghost use Rattle.edentypes.specs.declared.Kind.{Kind};
+ghost use Rattle.active_part.specs.Fitting.{RestsFit};
 ghost use Rattle.active_part.specs.Places.{Ascend, StandsAt, is_number_in, keys};
 ghost use Rattle.active_part.specs.View.{task_of};
 
@@ -56,6 +58,7 @@ impl TaskList {
         ensures after { (t : Edentype) → each_value (task_of t) self.new.entries.items
             ≡ changed_at nat_cmp process (λ x. record x { answer = answer }) (each_value (task_of t) self.old.entries.items) }
         ensures numbers { keys self.new.entries.items ≡ keys self.old.entries.items }
+        ensures fit { (k : Kind) → RestsFit k self.old.entries.items → RestsFit k self.new.entries.items }
     {
         let place = self.find(process);
         self.entries[place].1.answer = answer;

@@ -11,12 +11,17 @@ use Rattle.eden_value.specs.Shape.{Shape, texts, caps, has_shape, have_shape, da
 use Rattle.eden_value.specs.declared.value.TheConstants.{LIST_LIMIT}
 use Rattle.eden_value.proofs.Laws.{shape-data_of}
 use Rattle.eden_model.specs.Map.{with_item}
+use Rattle.epl_syntax.specs.declared.effect.Answer.{Answer}
+use Rattle.epl_syntax.specs.declared.types.Native.TheVariants as types
 use Rattle.epl_syntax.specs.Directory.{entries, values_of, all_differ, place_of, with_entry, without_entry}
 use Rattle.epl_syntax.specs.Directory.{changed, changes}
+use Rattle.epl_syntax.specs.Natives.{native_turn}
 use Rattle.epl_syntax.specs.Same.{same}
 use Rattle.epl_syntax.specs.Simple.{argument, items_in, returns_code}
+use Rattle.directory_eject.specs.declared.stage.Stage.{Stage}
 use Rattle.directory_eject.specs.declared.stage.Stage.TheVariants.{Adds, Looks, Deletes, Tells, Changed}
-use Rattle.directory_eject.specs.Kept.{IsDirectory, TurnsStay}
+use Rattle.directory_eject.specs.Kept.{MayStart, TurnsStay, TurnsMayStart}
+use Rattle.directory_eject.specs.Stages.{stage_of}
 use Rattle.directory_eject.proofs.Compared.{itself, one_value}
 use Rattle.directory_eject.proofs.Stored.{AreStored, are_stored}
 
@@ -147,8 +152,8 @@ unequal a b h e = true≢false (sym (ap (λ k. k == b) e ∙ nat_eq_equiv.refl b
 
 -- ---- the values of a directory
 
-made : (ns hs : List Datum) → AreStored ns hs → length ns ≤ LIST_LIMIT → IsDirectory (values_of (record { names = ns; held = hs }))
-made ns hs stored few =
+stored_again : (ns hs : List Datum) → AreStored ns hs → MayStart (values_of (record { names = ns; held = hs }))
+stored_again ns hs stored =
     let n = items_of-data_of ns in
     let h = items_of-data_of hs in
     let as_many : (length ns == length hs) ≡ true =
@@ -158,50 +163,93 @@ made ns hs stored few =
           (both (data_shape (data_of hs) caps) true (shape-data_of hs caps ∙ stored.caps) refl);
       condition = (λ i. (length (n i) == length (h i)) && all_differ (n i))
           ∙ both (length ns == length hs) (all_differ ns) as_many stored.differ;
-      few = subst (λ l. length l ≤ LIST_LIMIT) (sym n) few;
     }
 
-module _ (vars : List Datum) (was : IsDirectory vars) where
+module _ (vars : List Datum) (was : MayStart vars) where
   abbrev ns : List Datum
   ns = items_in (argument 0 vars)
 
   abbrev hs : List Datum
   hs = items_in (argument 1 vars)
 
-  add_stays : (n : List ℕ) (c : Option Cap) (o : Option ℕ) (b : Bool) → place_of (text n) (entries vars) ≡ o → (length ns == LIST_LIMIT) ≡ b
-      → IsDirectory (with_item o (λ i. (vars, changed, returns_code 1)) (cond b (vars, changed, returns_code 2)
+  add_starts : (n : List ℕ) (c : Option Cap) (o : Option ℕ) (b : Bool) → place_of (text n) (entries vars) ≡ o
+      → MayStart (with_item o (λ i. (vars, changed, returns_code 1)) (cond b (vars, changed, returns_code 2)
       (changes (with_entry (text n) (cap c) (entries vars))))).0
-  add_stays n c (Some i) b p q = was
-  add_stays n c None true p q = was
-  add_stays n c None false p q =
+  add_starts n c (Some i) b p = was
+  add_starts n c None true p = was
+  add_starts n c None false p =
       let s = are_stored vars was.kinds was.condition in
       let ln = length_end ns (text n) in
       let lh = length_end hs (cap c) in
-      made (ns ++ text n ∷ []) (hs ++ cap c ∷ []) (record {
+      stored_again (ns ++ text n ∷ []) (hs ++ cap c ∷ []) (record {
         texts = shape_end ns (text n) texts s.texts refl;
         caps = shape_end hs (cap c) caps s.caps refl;
         as_many = ln ∙ ap suc s.as_many ∙ sym lh;
         differ = differ_end ns (text n) s.differ (no_place (same (text n)) ns p);
-      }) (omega (arith, ln, was.few, unequal (length ns) LIST_LIMIT q))
+      })
 
-  delete_stays : (n : List ℕ) (o : Option ℕ)
-      → IsDirectory (with_item o (λ i. changes (without_entry i (entries vars))) (vars, changed, returns_code 1)).0
-  delete_stays n None = was
-  delete_stays n (Some i) =
+  delete_starts : (n : List ℕ) (o : Option ℕ)
+      → MayStart (with_item o (λ i. changes (without_entry i (entries vars))) (vars, changed, returns_code 1)).0
+  delete_starts n None = was
+  delete_starts n (Some i) =
       let s = are_stored vars was.kinds was.condition in
       let next : suc i ≡ i + 1 = omega arith in
-      let left = made (left_out i ns) (left_out i hs) (record {
+      let left = stored_again (left_out i ns) (left_out i hs) (record {
         texts = shape_out i ns texts s.texts;
         caps = shape_out i hs caps s.caps;
         as_many = as_many_out i ns hs s.as_many;
         differ = differ_out i ns s.differ;
-      }) (omega (arith, fewer_out i ns, was.few)) in
-      subst (λ k. IsDirectory (values_of (record { names = take i ns ++ drop k ns; held = take i hs ++ drop k hs }))) next left
+      }) in
+      subst (λ k. MayStart (values_of (record { names = take i ns ++ drop k ns; held = take i hs ++ drop k hs }))) next left
+
+pub turns_may_start : TurnsMayStart
+turns_may_start vars (Adds n c) a was =
+    add_starts vars was n c (place_of (text n) (entries vars)) (length (items_in (argument 0 vars)) == LIST_LIMIT) refl
+turns_may_start vars (Looks n) a was = was
+turns_may_start vars (Deletes n) a was = delete_starts vars was n (place_of (text n) (entries vars))
+turns_may_start vars Tells a was = was
+turns_may_start vars Changed a was = was
+
+-- ---- and how many names they have
+
+few_made : (ds es : List Datum) → length ds ≤ LIST_LIMIT
+    → length (items_in (argument 0 (values_of (record { names = ds; held = es })))) ≤ LIST_LIMIT
+few_made ds es few = subst (λ l. length l ≤ LIST_LIMIT) (sym (items_of-data_of ds)) few
+
+module _ (vars : List Datum) (few : length (items_in (argument 0 vars)) ≤ LIST_LIMIT) where
+  abbrev names : List Datum
+  names = items_in (argument 0 vars)
+
+  abbrev IsFew : List Datum → Type 0
+  IsFew ds = length (items_in (argument 0 ds)) ≤ LIST_LIMIT
+
+  add_few : (n : List ℕ) (c : Option Cap) (o : Option ℕ) (b : Bool) → (length names == LIST_LIMIT) ≡ b
+      → IsFew (with_item o (λ i. (vars, changed, returns_code 1)) (cond b (vars, changed, returns_code 2)
+      (changes (with_entry (text n) (cap c) (entries vars))))).0
+  add_few n c (Some i) b q = few
+  add_few n c None true q = few
+  add_few n c None false q =
+      let ln = length_end names (text n) in
+      few_made (names ++ text n ∷ []) (items_in (argument 1 vars) ++ cap c ∷ [])
+      (omega (arith, ln, few, unequal (length names) LIST_LIMIT q))
+
+  delete_few : (n : List ℕ) (o : Option ℕ)
+      → IsFew (with_item o (λ i. changes (without_entry i (entries vars))) (vars, changed, returns_code 1)).0
+  delete_few n None = few
+  delete_few n (Some i) =
+      let next : suc i ≡ i + 1 = omega arith in
+      let held = items_in (argument 1 vars) in
+      let left = few_made (left_out i names) (left_out i held) (omega (arith, fewer_out i names, few)) in
+      subst (λ k. IsFew (values_of (record { names = take i names ++ drop k names; held = take i held ++ drop k held }))) next left
+
+turns_few : (vars : List Datum) (s : Stage) (a : Answer) → length (items_in (argument 0 vars)) ≤ LIST_LIMIT
+    → length (items_in (argument 0 (native_turn types.Directory vars (stage_of s) a).0)) ≤ LIST_LIMIT
+turns_few vars (Adds n c) a few =
+    add_few vars few n c (place_of (text n) (entries vars)) (length (items_in (argument 0 vars)) == LIST_LIMIT) refl
+turns_few vars (Looks n) a few = few
+turns_few vars (Deletes n) a few = delete_few vars few n (place_of (text n) (entries vars))
+turns_few vars Tells a few = few
+turns_few vars Changed a few = few
 
 pub turns_stay : TurnsStay
-turns_stay vars (Adds n c) a was =
-    add_stays vars was n c (place_of (text n) (entries vars)) (length (items_in (argument 0 vars)) == LIST_LIMIT) refl refl
-turns_stay vars (Looks n) a was = was
-turns_stay vars (Deletes n) a was = delete_stays vars was n (place_of (text n) (entries vars))
-turns_stay vars Tells a was = was
-turns_stay vars Changed a was = was
+turns_stay vars s a was = record { starts = turns_may_start vars s a was.starts; few = turns_few vars s a was.few }

@@ -35,7 +35,7 @@ use Rattle.checkpoint.specs.declared.worker.StoreEnd.TheVariants as store_end
 use Rattle.eden_kernel.specs.Boots.{IsAsleep}
 use Rattle.eden_kernel.specs.Stands.{Held, IsWhole}
 use Rattle.eden_kernel.specs.Turns.{Turns, Falls, clock_of}
-use Rattle.eden_kernel.specs.declared.activations.Begun.{Begun}
+use Rattle.edentypes.specs.declared.starting.Begun.{Begun}
 use Rattle.eden_kernel.specs.declared.stores.TurnEnd.{TurnEnd}
 use Rattle.eden_kernel.specs.declared.stores.TurnEnd.TheVariants.{Up, Down}
 

@@ -31,8 +31,8 @@ use crate::{Node, TurnEnd};
 use capability::Uid;
 use checkpoint::{Settled, Start, Starter, start_from};
 use eden_codec::Rep;
-use eden_value::{Items, Status};
-use edentypes::Kind;
+use eden_value::Status;
+use edentypes::Begun;
 use ejects::Ejects;
 use epl_syntax::Types;
 use invocation::Calls;
@@ -46,13 +46,6 @@ struct Kinds<'a> {
     types: &'a Types,
 }
 
-/// An Eject that starts: its type and its durable values.
-#[derive(Drop)]
-struct Begun {
-    kind: Kind,
-    durable: Items,
-}
-
 impl Starter for Kinds<'_> {
     type Started = Begun;
 
@@ -61,10 +54,7 @@ impl Starter for Kinds<'_> {
     ghost started = { λ kinds. begun_as kinds.types.now };
 
     fn start(&self, alloc: Global, rep: Rep, me: Uid) -> Result<Option<Begun>, AllocError> {
-        match edentypes::start_from(alloc, self.types, &rep, me)? {
-            Some((kind, durable)) => Ok(Some(Begun { kind, durable })),
-            None => Ok(None),
-        }
+        edentypes::start_from(alloc, self.types, &rep, me)
     }
 }
 
@@ -113,8 +103,7 @@ fn activation_ends(
 {
     match start {
         Start::Values { start } => {
-            let Begun { kind, durable } = start;
-            ejects.wake(alloc, types, calls, uid, kind, &durable)?;
+            ejects.wake(alloc, types, calls, uid, &start)?;
             Ok(StartEnd::Ok)
         }
         Start::Gone => {

@@ -1,3 +1,4 @@
 pub mod Places
 pub mod Outlines
-pub mod Begun
+pub mod ProcessLists
+pub mod Fitting

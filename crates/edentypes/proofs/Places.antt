@@ -14,7 +14,7 @@ use Rattle.epl_syntax.specs.Meaning.{name_of, type_of, types_in}
 use Rattle.epl_syntax.specs.Natives.{native_name}
 use Rattle.epl_syntax.specs.Rules.OfTypes.{TypeList, names_of, place_named}
 use Rattle.epl_syntax.specs.Tree.{type_tree}
-use Rattle.edentypes.specs.View.{kind_in}
+use Rattle.edentypes.specs.View.{type_at}
 
 -- counted from one place further on
 shift : {K : Type 0} (test : K → Bool) (i : ℕ) (xs : List K) → position_from test (suc i) xs ≡ option_map suc (position_from test i xs)
@@ -79,7 +79,7 @@ no_name ts name r is h =
 
 -- the type of the name stands at its place
 pub at_name : (ts : TypeList) (name : List ℕ) (r : Option ℕ) (p : ℕ) → r ≡ place_named ts name → r ≡ Some p
-    → Some (kind_in ts (record { place = p })) ≡ type_of (types_in ts) name
+    → Some (type_at ts p) ≡ type_of (types_in ts) name
 at_name ts name r p is h = go (type_of (types_in ts) name) refl
   where
     at : Some p ≡ position_from (λ t. same_text t name) 0 (map name_of (types_in ts))
@@ -88,6 +88,6 @@ at_name ts name r p is h = go (type_of (types_in ts) name) refl
     got : slice_get (types_in ts) p ≡ type_of (types_in ts) name
     got = ap (λ o. with_item o (slice_get (types_in ts)) None) at ∙ found name (types_in ts)
 
-    go : (o : Option Edentype) → type_of (types_in ts) name ≡ o → Some (kind_in ts (record { place = p })) ≡ type_of (types_in ts) name
+    go : (o : Option Edentype) → type_of (types_in ts) name ≡ o → Some (type_at ts p) ≡ type_of (types_in ts) name
     go None e = let none : Some p ≡ None = at ∙ nowhere name 0 (types_in ts) e in absurd cc
     go (Some t) e = ap (λ o. Some (with_item o (λ u. u) (native Cell))) (got ∙ e) ∙ sym e

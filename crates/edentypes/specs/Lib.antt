@@ -1,3 +1,4 @@
 pub mod View
 pub mod Forms
 pub mod Held
+pub mod Fitting

@@ -8,7 +8,8 @@ use Rattle.eden_value.specs.declared.status.Status.TheVariants as status
 use Rattle.eden_model.specs.Map.{with_item}
 use Rattle.epl_syntax.specs.declared.types.Native.TheVariants.{Cell}
 use Rattle.epl_syntax.specs.declared.effect.Effect.{Effect}
-use Rattle.epl_syntax.specs.Rules.OfTypes.{TypeList}
+use Rattle.epl_syntax.specs.Rules.OfTypes.{TypeList, declared_at}
+use Rattle.epl_syntax.specs.Tree.{type_tree}
 use Rattle.epl_syntax.specs.Edentype.{Edentype, native, declared}
 use Rattle.epl_syntax.specs.Kinds.{have_shapes}
 use Rattle.epl_syntax.specs.Cell as cell
@@ -20,6 +21,7 @@ use Rattle.epl_run.specs.Blocks.{left_of}
 use Rattle.epl_run.specs.declared.rest.Rest.{Rest as LeftToDo}
 use Rattle.transput.specs.View as streams
 use Rattle.edentypes.specs.declared.Kind.{Kind}
+use Rattle.edentypes.specs.declared.Kind.TheVariants as kinds
 use Rattle.edentypes.specs.declared.Rest.{Rest}
 use Rattle.edentypes.specs.declared.Rest.TheVariants as rest
 use Rattle.edentypes.specs.declared.cell.CellStage.{CellStage}
@@ -28,8 +30,14 @@ use Rattle.edentypes.specs.declared.operations.Fit.{Fit}
 use Rattle.edentypes.specs.declared.operations.Fit.TheVariants.{Fits, Misfits}
 
 -- the type at a place among those of the script; no Eject has a place past them
+abbrev pub type_at : TypeList → ℕ → Edentype
+type_at ts place = with_item (slice_get (types_in ts) place) (λ t. t) (native Cell)
+
+-- The type of a kind: a native one whatever the types of the script, or the one that stands at this place among them. No Eject has a
+-- place at which no declared type stands.
 abbrev pub kind_in : TypeList → Kind → Edentype
-kind_in ts k = with_item (slice_get (types_in ts) k.place) (λ t. t) (native Cell)
+kind_in ts (kinds.Native n) = native n
+kind_in ts (kinds.Declared place) = with_item (declared_at ts place) (λ p. declared (type_tree p)) (native Cell)
 
 -- the stage that one of the code is
 abbrev pub stage_of : CellStage → cell.Stage

@@ -1,10 +1,12 @@
 //! How processes begin.
-ghost use Rattle.std.specs.Prelude.{◌≡◌, ◌≤◌, IfOk, length, map};
+ghost use Rattle.std.specs.Prelude.{◌≡◌, ◌≤◌, IfOk, false, length, map, true};
+ghost use Rattle.std.specs.List.{AllByRecursion};
 ghost use Rattle.epl_syntax.specs.declared.types.Native.TheVariants as natives;
 ghost use Rattle.epl_syntax.specs.Edentype.{native as native_type, declared as declared_type};
 ghost use Rattle.epl_syntax.specs.Meaning as meaning;
 ghost use Rattle.epl_syntax.specs.Rules.Limits.{IsWithinLimits};
 ghost use Rattle.epl_syntax.specs.Tree.{type_tree};
+ghost use Rattle.edentypes.specs.Fitting.{RestFits, is_directory_rest, is_directory_type};
 ghost use Rattle.edentypes.specs.View.{kind_in, rest_of};
 
 use crate::form::{Form, form_at};
@@ -20,6 +22,7 @@ fn declared_processes(alloc: Global, program: &Program) -> Result<Vec<Rest>, All
     ensures begin { IfOk result (λ found. map (rest_of (declared_type (type_tree program.now))) found.items
         ≡ meaning.declared (declared_type (type_tree program.now))) }
     ensures few { IfOk result (λ found. length found.items ≤ 8) }
+    ensures fit { IfOk result (λ found. AllByRecursion (λ r. is_directory_rest r ≡ false) found.items) }
 {
     let mut left = epl_run::processes(alloc, program)?;
     let mut found = Vec::with_capacity(alloc, left.len())?;
@@ -35,6 +38,7 @@ pub fn processes(alloc: Global, types: &Types, kind: Kind) -> Result<Vec<Rest>, 
     ensures begin { IfOk result (λ found. map (rest_of (kind_in types.now kind)) found.items
         ≡ meaning.declared (kind_in types.now kind)) }
     ensures few { IfOk result (λ found. length found.items ≤ 8) }
+    ensures fit { IfOk result (λ found. AllByRecursion (RestFits kind) found.items) }
 {
     match form_at(types, kind) {
         Form::Native { .. } => Ok(Vec::new(alloc)),
@@ -44,8 +48,9 @@ pub fn processes(alloc: Global, types: &Types, kind: Kind) -> Result<Vec<Rest>, 
 
 /// An operation of a Directory begins.
 fn directory_begin(alloc: Global, operation: &Txt, args: &Items) -> Result<Rest, AllocError>
-    ensures { IfOk result (λ rest. rest_of (native_type natives.Directory) rest
+    ensures same { IfOk result (λ rest. rest_of (native_type natives.Directory) rest
         ≡ meaning.begin (native_type natives.Directory) operation.now args.now) }
+    ensures fits { IfOk result (λ rest. is_directory_rest rest ≡ true) }
 {
     let stage = directory_eject::native_begin(alloc, operation, args)?;
     Ok(Rest::Directory { stage })
@@ -58,7 +63,8 @@ fn native_begin(
     operation: &Txt,
     args: &Items,
 ) -> Result<Rest, AllocError>
-    ensures { IfOk result (λ rest. rest_of (native_type native) rest ≡ meaning.begin (native_type native) operation.now args.now) }
+    ensures same { IfOk result (λ rest. rest_of (native_type native) rest ≡ meaning.begin (native_type native) operation.now args.now) }
+    ensures fits { IfOk result (λ rest. is_directory_rest rest ≡ is_directory_type native) }
 {
     match native {
         Native::Cell => Ok(Rest::Cell {
@@ -79,8 +85,9 @@ fn declared_begin(
     operation: &Txt,
     args: &Items,
 ) -> Result<Rest, AllocError>
-    ensures { IfOk result (λ rest. rest_of (declared_type (type_tree program.now)) rest
+    ensures same { IfOk result (λ rest. rest_of (declared_type (type_tree program.now)) rest
         ≡ meaning.begin (declared_type (type_tree program.now)) operation.now args.now) }
+    ensures fits { IfOk result (λ rest. is_directory_rest rest ≡ false) }
 {
     let rest = Box::new(alloc, epl_run::begin(alloc, program, operation, args)?)?;
     Ok(Rest::Declared { rest })
@@ -94,7 +101,9 @@ pub fn begin(
     operation: &Txt,
     args: &Items,
 ) -> Result<Rest, AllocError>
-    ensures { IfOk result (λ rest. rest_of (kind_in types.now kind) rest ≡ meaning.begin (kind_in types.now kind) operation.now args.now) }
+    ensures same { IfOk result (λ rest. rest_of (kind_in types.now kind) rest
+        ≡ meaning.begin (kind_in types.now kind) operation.now args.now) }
+    ensures fits { IfOk result (RestFits kind) }
 {
     match form_at(types, kind) {
         Form::Native { native } => native_begin(alloc, native, operation, args),

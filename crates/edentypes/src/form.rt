@@ -1,6 +1,7 @@
-//! A type by its place.
+//! The type of a kind.
 ghost use Rattle.std.specs.Prelude.{◌≡◌};
 ghost use Rattle.edentypes.specs.View.{kind_in};
+ghost use Rattle.edentypes.specs.Fitting.{is_directory, is_directory_form};
 ghost use Rattle.edentypes.specs.Forms.{form_of, IsLimited, IsResolved};
 
 use crate::Kind;
@@ -13,15 +14,16 @@ pub(crate) enum Form<'a> {
     Declared { program: &'a Program },
 }
 
-/// The type at a place.
+/// The type of a kind.
 pub(crate) fn form_at(types: &Types, kind: Kind) -> Form<'_>
     ensures form { form_of result ≡ kind_in types.now kind }
     ensures limits { IsLimited result }
     ensures resolved { IsResolved result }
+    ensures directory { is_directory_form result ≡ is_directory kind }
 {
-    match types.native_at(kind.place) {
-        Some(native) => Form::Native { native },
-        None => match types.declared_at(kind.place) {
+    match kind {
+        Kind::Native { native } => Form::Native { native },
+        Kind::Declared { place } => match types.declared_at(place) {
             Some(program) => Form::Declared { program },
             None => Form::Native {
                 native: Native::Cell,

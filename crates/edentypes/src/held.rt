@@ -1,11 +1,9 @@
 //! The values of the variables of an Eject.
 ghost use Rattle.std.specs.Prelude.{◌≡◌, IfOk, []};
+ghost use Rattle.directory_eject.specs.Kept.{MayStart};
 
-use crate::native::slots_of;
-use crate::variables::fit_kept;
 use directory_eject::Directory;
 use eden_value::{Items, copy_items};
-use epl_syntax::Native;
 use std::alloc::{AllocError, Global};
 use std::marker::Model;
 
@@ -86,26 +84,14 @@ impl Values {
         }
     }
 
-    /// The directory of the values, whatever held them before. No Eject of the type Directory has other values than those of one,
-    /// and from others none is made.
+    /// The directory of the values, whatever held them before.
     pub(crate) fn into_directory(self, alloc: Global) -> Result<Directory, AllocError>
+        requires { MayStart self }
         ensures { IfOk result (λ directory. directory ≡ self) }
     {
         match self.held {
             Held::Entries { directory } => Ok(directory),
-            Held::Plain { items } => entries_of(alloc, &items),
+            Held::Plain { items } => Directory::from_values(alloc, &items),
         }
     }
-}
-
-/// The directory that has these values.
-fn entries_of(alloc: Global, items: &Items) -> Result<Directory, AllocError>
-    ensures { IfOk result (λ directory. directory ≡ items.now) }
-{
-    if !fit_kept(slots_of(Native::Directory), &items.values)
-        || !directory_eject::native_start(items)
-    {
-        return Err(AllocError);
-    }
-    Directory::from_values(alloc, items)
 }

@@ -8,6 +8,7 @@ ghost use Rattle.epl_syntax.specs.Bindings.{is_resolved};
 ghost use Rattle.epl_syntax.specs.Rules.Limits.{IsWithinLimits};
 ghost use Rattle.epl_syntax.specs.Tree.{type_tree};
 ghost use Rattle.eden_value.specs.View.{datums};
+ghost use Rattle.edentypes.specs.Fitting.{FitsKind};
 ghost use Rattle.edentypes.specs.Forms.{slot_of_variable};
 ghost use Rattle.edentypes.specs.View.{kind_in};
 
@@ -22,6 +23,14 @@ use eden_value::{Items, Txt, Value, copy_items};
 use epl_syntax::{Native, Program, Types, VarDecl};
 use std::alloc::{AllocError, Global};
 
+/// An Eject that starts: its type, and the values of its durable variables.
+#[derive(Drop)]
+pub struct Begun {
+    pub kind: Kind,
+    pub durable: Items,
+    pub ghost fits: { FitsKind kind durable },
+}
+
 /// The variables of a declared type, in order.
 fn variables_of(program: &Program) -> &[VarDecl]
     ensures { map slot_of_variable result.now ≡ (declared_outline (type_tree program.now)).slots }
@@ -29,18 +38,8 @@ fn variables_of(program: &Program) -> &[VarDecl]
     &program.vars
 }
 
-/// The values of all variables of a new Eject.
-pub fn first_values(alloc: Global, types: &Types, kind: Kind) -> Result<Values, AllocError>
-    ensures { IfOk result (λ vars. vars ≡ meaning.first_values (kind_in types.now kind)) }
-{
-    let none = Items {
-        values: Vec::new(alloc),
-    };
-    start(alloc, types, kind, &none)
-}
-
-/// The values of all variables of an Eject that starts from durable ones: the working ones begin anew.
-pub fn start(
+/// The values of all variables, where the durable ones have these.
+fn values_from(
     alloc: Global,
     types: &Types,
     kind: Kind,
@@ -53,6 +52,25 @@ pub fn start(
         Form::Declared { program } => with_kept(alloc, variables_of(program), &durable.values)?,
     };
     Ok(Values::plain(Items { values }))
+}
+
+/// The values of all variables of a new Eject.
+pub fn first_values(alloc: Global, types: &Types, kind: Kind) -> Result<Values, AllocError>
+    ensures same { IfOk result (λ vars. vars ≡ meaning.first_values (kind_in types.now kind)) }
+    ensures fits { IfOk result (FitsKind kind) }
+{
+    let none = Items {
+        values: Vec::new(alloc),
+    };
+    values_from(alloc, types, kind, &none)
+}
+
+/// The values of all variables of an Eject that starts: the working ones begin anew.
+pub fn start(alloc: Global, types: &Types, begun: &Begun) -> Result<Values, AllocError>
+    ensures same { IfOk result (λ vars. vars ≡ meaning.values_from (kind_in types.now begun.now.kind) begun.now.durable) }
+    ensures fits { IfOk result (FitsKind begun.now.kind) }
+{
+    values_from(alloc, types, begun.kind, &begun.durable)
 }
 
 /// The values of the durable variables, in order.
@@ -190,22 +208,21 @@ fn durable_from(
     upgraded(alloc, types, kind, rep, me)
 }
 
-/// The type of a representation, and the durable values with which the Eject `me` starts. None exactly where it fits none
-/// of the types.
+/// The Eject `me` starts from a representation. None exactly where that fits none of the types.
 pub fn start_from(
     alloc: Global,
     types: &Types,
     rep: &Rep,
     me: Uid,
-) -> Result<Option<(Kind, Items)>, AllocError>
-    ensures { IfOk result (λ found. option_map (λ p. (kind_in types.now p.0, p.1)) found
+) -> Result<Option<Begun>, AllocError>
+    ensures { IfOk result (λ found. option_map (λ b. (kind_in types.now b.kind, b.durable)) found
         ≡ meaning.started_from (meaning.types_in types.now) rep.now me) }
 {
     let Some(kind) = find(types, &rep.type_name) else {
         return Ok(None);
     };
     match durable_from(alloc, types, kind, rep, me)? {
-        Some(durable) => Ok(Some((kind, durable))),
+        Some(durable) => Ok(Some(Begun { kind, durable })),
         None => Ok(None),
     }
 }

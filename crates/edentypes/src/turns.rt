@@ -7,10 +7,12 @@ ghost use Rattle.epl_syntax.specs.Natives as natives;
 ghost use Rattle.epl_syntax.specs.Bindings.{is_resolved};
 ghost use Rattle.epl_syntax.specs.Rules.Limits.{IsWithinLimits};
 ghost use Rattle.epl_syntax.specs.Tree.{type_tree};
-ghost use Rattle.epl_syntax.specs.declared.types.Native.TheVariants.{Directory};
+ghost use Rattle.epl_syntax.specs.declared.types.Native.TheVariants as types;
 ghost use Rattle.directory_eject.specs.Stages as directories;
 ghost use Rattle.transput.specs.View as streams;
 ghost use Rattle.transput.specs.View.{native_of};
+ghost use Rattle.directory_eject.specs.Kept.{MayStart};
+ghost use Rattle.edentypes.specs.Fitting.{FitsIf, FitsKind, RestFits, is_directory_rest, is_directory_type};
 ghost use Rattle.edentypes.specs.View.{kind_in, rest_of, turned_of, stage_of as cell_stage};
 
 use crate::form::{Form, form_at};
@@ -18,6 +20,7 @@ use crate::held::Values;
 use crate::native::stream_of;
 use crate::{CellStage, Kind, Rest, cell};
 use capability::Uid;
+use directory_eject::Directory;
 use epl_syntax::{Answer, Effect, Native, Program, Types};
 use std::alloc::{AllocError, Global};
 use std::mem::replace;
@@ -46,10 +49,13 @@ fn directory_turn(
     stage: &mut directory_eject::Stage,
     answer: Answer,
 ) -> Result<Effect, AllocError>
-    ensures { IfOk result (λ effect. (vars.new, directories.stage_of stage.new, effect)
-        ≡ natives.native_turn Directory vars.old (directories.stage_of stage.old) answer) }
+    requires { MayStart vars.old }
+    ensures same { IfOk result (λ effect. (vars.new, directories.stage_of stage.new, effect)
+        ≡ natives.native_turn types.Directory vars.old (directories.stage_of stage.old) answer) }
+    ensures fit { MayStart vars.new }
 {
-    let mut directory = replace(vars, Values::none(alloc)).into_directory(alloc)?;
+    let none = Values::entries(Directory::new(alloc));
+    let mut directory = replace(vars, none).into_directory(alloc)?;
     let effect = directory_eject::native_turn(alloc, &mut directory, stage, answer)?;
     *vars = Values::entries(directory);
     Ok(effect)
@@ -81,8 +87,12 @@ fn native_turn(
     answer: Answer,
     _me: Uid,
 ) -> Result<Effect, AllocError>
-    ensures { IfOk result (λ effect. turned_of vars.new (rest_of (native_type native) rest.new) effect
+    requires vars { FitsIf (is_directory_type native) vars.old }
+    requires rest { is_directory_rest rest.old ≡ is_directory_type native }
+    ensures same { IfOk result (λ effect. turned_of vars.new (rest_of (native_type native) rest.new) effect
         ≡ meaning.turn (native_type native) vars.old (rest_of (native_type native) rest.old) answer _me) }
+    ensures vars { FitsIf (is_directory_type native) vars.new }
+    ensures rest { is_directory_rest rest.new ≡ is_directory_type native }
 {
     match rest {
         Rest::Cell { stage } => cell_turn(alloc, vars, stage, &answer),
@@ -103,9 +113,10 @@ fn declared_turn(
 ) -> Result<Effect, AllocError>
     requires limits { IsWithinLimits program.now }
     requires resolved { is_resolved program.now ≡ true }
-    ensures { IfOk result (λ effect. turned_of vars.new (rest_of (declared_type (type_tree program.now)) rest.new) effect
+    ensures same { IfOk result (λ effect. turned_of vars.new (rest_of (declared_type (type_tree program.now)) rest.new) effect
         ≡ meaning.turn (declared_type (type_tree program.now)) vars.old (rest_of (declared_type (type_tree program.now)) rest.old)
         answer me) }
+    ensures rest { is_directory_rest rest.new ≡ is_directory_rest rest.old }
 {
     match rest {
         Rest::Declared { rest } => {
@@ -120,7 +131,7 @@ fn declared_turn(
 
 /// A process of the Eject `me` takes a turn, up to its effect.
 ///
-/// Where memory runs out, values and what is left may have changed.
+/// Where memory runs out, values and what is left may have changed, but still are such as an Eject of the type may have.
 pub fn turn(
     alloc: Global,
     types: &Types,
@@ -130,8 +141,12 @@ pub fn turn(
     answer: Answer,
     me: Uid,
 ) -> Result<Effect, AllocError>
-    ensures { IfOk result (λ effect. turned_of vars.new (rest_of (kind_in types.now kind) rest.new) effect
+    requires vars { FitsKind kind vars.old }
+    requires rest { RestFits kind rest.old }
+    ensures same { IfOk result (λ effect. turned_of vars.new (rest_of (kind_in types.now kind) rest.new) effect
         ≡ meaning.turn (kind_in types.now kind) vars.old (rest_of (kind_in types.now kind) rest.old) answer me) }
+    ensures vars { FitsKind kind vars.new }
+    ensures rest { RestFits kind rest.new }
 {
     match form_at(types, kind) {
         Form::Native { native } => native_turn(alloc, native, vars, rest, answer, me),

@@ -1,6 +1,7 @@
 -- What comes of a request, by how its target stands.
-use Rattle.std.proofs.Common.{◌≡◌, ◌≤◌, ◌<◌, ℕ, nat_lt, Bool, true, false, cond, not, length, Option, None, Some, refl, sym, ◌∙◌, ap, arith}
-use Rattle.std.specs.Prelude.{is_some, Result, Ok, Err}
+use Rattle.std.proofs.Common.{◌≡◌, ◌≤◌, ◌<◌, ℕ, nat_lt, Bool, true, false, cond, not, length, Option, None, Some, refl, sym, ◌∙◌, ap}
+use Rattle.std.proofs.Common.{subst, arith}
+use Rattle.std.specs.Prelude.{is_some, IsSomeAnd, Result, Ok, Err}
 use Rattle.std.proofs.lemmas.List.{length-map}
 use Rattle.std.proofs.lemmas.Bool.Decides.{nat_tests}
 use Rattle.capability.specs.Rights.{is_within}
@@ -8,7 +9,7 @@ use Rattle.capability.specs.declared.Uid.{Uid}
 use Rattle.eden_value.specs.declared.status.Status.{Status}
 use Rattle.eden_value.specs.declared.status.Status.TheVariants as status
 use Rattle.eden_model.specs.Map.{value_at, uid_cmp, with_item}
-use Rattle.eden_model.specs.Traffic.{Call}
+use Rattle.eden_model.specs.Traffic.{Call, asked}
 use Rattle.epl_syntax.specs.Edentype.{Edentype}
 use Rattle.epl_syntax.specs.Kinds.{have_shapes}
 use Rattle.epl_syntax.specs.Meaning.{Operation, operation_of}
@@ -20,6 +21,10 @@ use Rattle.journal.specs.Processes.{class_of}
 use Rattle.active_part.specs.Body.{Body}
 use Rattle.ejects.specs.Parts.{Parts, body_at, queue_in, held_of}
 use Rattle.ejects.specs.Refusals.{refusal_of}
+use Rattle.ejects.specs.View.{IsAdmission, IsAdmissionAt, call_at_place}
+use Rattle.ejects.specs.declared.requests.Admission.{Admission}
+use Rattle.ejects.specs.declared.requests.Admission.TheVariants.{Active, Passive, Refused}
+use Rattle.invocation.specs.declared.call.Call.{Call as Asked}
 use Rattle.ejects.proofs.Delivered.{there-body}
 
 pub refusal-active : (n : Parts) (u : Uid) (b : Body) (c : Call) → body_at n u ≡ Some b
@@ -85,3 +90,16 @@ few-full b len full is = go (nat_lt len 64) refl
     go : (x : Bool) → nat_lt len 64 ≡ x → len < 64
     go true e = grind (arith, nat_tests, e)
     go false e = let more : 64 ≤ len = grind (arith, nat_tests, e) in absurd (let bad : true ≡ false = sym (full more) ∙ is in cc bad)
+
+-- what comes of a request at an active part comes of it at the Eject
+pub admitted-active : (n : Parts) (x : Asked) (b : Body) (a : Admission) → body_at n x.target.uid ≡ Some b → IsAdmissionAt b x a
+    → IsAdmission n x a
+admitted-active n x b (Active class) is h =
+    let c = call_at_place asked x in
+    let few : nat_lt (length b.crew.queued) 64 ≡ true = grind (arith, nat_tests, h.0) in
+    let refused : refusal_of c (held_of n x.target.uid) ≡ None =
+    refusal-active n x.target.uid b c is
+    ∙ ap (λ t. cond (not t) (Some status.Busy) (misfit b.kind c)) few ∙ h.1 in
+    (refused, subst (λ o. IsSomeAnd o (λ y. class ≡ class_of y.kind c)) (sym is) h.2)
+admitted-active n x b Passive is h = absurd h
+admitted-active n x b (Refused why) is h = refusal-active n x.target.uid b (call_at_place asked x) is ∙ h

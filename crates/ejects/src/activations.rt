@@ -22,8 +22,8 @@ use crate::replies::{reply, reply_all};
 use crate::{Ejects, take_waiting};
 use active_part::{Part, no_items};
 use capability::{CallNumbers, Uid};
-use eden_value::{Items, Status};
-use edentypes::{Fit, Kind, fit_call};
+use eden_value::Status;
+use edentypes::{Begun, Fit, fit_call};
 use epl_syntax::Types;
 use invocation::Calls;
 use std::alloc::{AllocError, Global};
@@ -83,8 +83,8 @@ impl Ejects {
         }
     }
 
-    /// An Eject that is not active starts with these values of its durable variables, behind the settling of its activation. The
-    /// calls of its queue that fit its type join the active part, and the others are answered, both in order.
+    /// An Eject that is not active starts, behind the settling of its activation. The calls of its queue that fit its type join the
+    /// active part, and the others are answered, both in order.
     ///
     /// For want of memory the queue may have left the node.
     pub fn wake(
@@ -93,17 +93,16 @@ impl Ejects {
         types: &Types,
         calls: &mut Calls,
         uid: Uid,
-        kind: Kind,
-        durable: &Items,
+        begun: &Begun,
     ) -> Result<(), AllocError>
         requires { (ts : TypeList) → body_at (parts_of ts self.old) uid ≡ None }
         ensures { OnOk result ((reach : ℕ → Bool) (s : Site) (p : Option Pick) → IsSoundSite s
-            → AllowsAt s (Activate uid end.Ok p) → StartsWith s uid p (kind_in types.now kind, durable.now)
+            → AllowsAt s (Activate uid end.Ok p) → StartsWith s uid p (kind_in types.now begun.now.kind, begun.now.durable)
             → IsAt (parts_of types.now self.old) calls.old (start_settled p s)
             → IsAt (parts_of types.now self.new) calls.new (site_turn reach (Activate uid end.Ok p) s)) }
     {
-        let vars = edentypes::start(alloc, types, kind, durable)?;
-        let mut part = Part::fresh(alloc, types, kind, vars)?;
+        let vars = edentypes::start(alloc, types, begun)?;
+        let mut part = Part::fresh(alloc, types, begun.kind, vars)?;
         let queued = take_waiting(alloc, &mut self.waiting, uid);
         join_all(alloc, types, calls, &mut part, &queued)?;
         self.enter(alloc, uid, part)?;

@@ -1,7 +1,7 @@
 //! What holds of every node of every world that a history reaches, and of every event at a node.
 ghost use Rattle.journal.specs.SiteLaws.{WorldsAreSound, SitesAreSound, HeldCallsAreWork, MonitorsAreHeld, EpochsAreBounded};
-ghost use Rattle.journal.specs.SiteLaws.{EveryTurnIsFit, StopsAreFalls, FallsAreLast, EventsKeepSites, EventsKeepCalls, StatesStayElsewhere};
-ghost use Rattle.journal.specs.SiteLaws.{MonitorsKeepVariables, VariablesStay};
+ghost use Rattle.journal.specs.SiteLaws.{StopsAreFalls, FallsAreLast, EventsKeepSites, EventsKeepCalls, StatesStayElsewhere};
+ghost use Rattle.journal.specs.SiteLaws.{EveryTurnIsFit, MonitorsKeepVariables, VariablesStay};
 
 /// Every world at the end of a history so far, over disks that are handed in as they have to be, is sound:
 /// its nodes and their Ejects are in order, each process has a task, only the first of a node's requests

@@ -2,9 +2,9 @@ use crate::common::{are_few, ask, assert_same, integers, no_calls, number_in, pl
 use capability::Uid;
 use checkpoint::{StoreEnd, Worker};
 use eden_value::Status;
-use edentypes::{Kind, find};
+use edentypes::{Begun, Kind, find};
 use ejects::*;
-use epl_syntax::Types;
+use epl_syntax::{Native, Types};
 use history_tests::common::{FIRST, text, uid_of};
 use invocation::{Calls, Delivery};
 use journal::{Event, Shown};
@@ -217,16 +217,14 @@ impl Bench {
             return Seen::Refused;
         }
         let mut calls = asked(rt, self.alloc, serial, b"Get", None);
-        let durable = integers(rt, self.alloc, Some(number));
+        let begun = Begun {
+            kind: Kind::Native {
+                native: Native::Cell,
+            },
+            durable: integers(rt, self.alloc, Some(number)),
+        };
         self.ejects
-            .wake(
-                self.alloc,
-                &self.types,
-                &mut calls,
-                uid,
-                self.cell,
-                &durable,
-            )
+            .wake(self.alloc, &self.types, &mut calls, uid, &begun)
             .expect(rt, "memory");
         Seen::Done
     }

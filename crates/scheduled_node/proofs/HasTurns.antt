@@ -150,7 +150,14 @@ module _ (layout : Layout) (ts : TypeList) (h : Manned) (m : Mail) (s : Site) (s
     where
       go : (b : Bool) → is_it (worked_on h.node.seen.work) u ≡ b → AllByRecursion Has (key_unless b (activity n.number 2 u 0))
       go true is = tt
-      go false is = (activation-has n.number u (record { own = is-own u (wakes-there u may); wakes = may; free = apart-from (worked_on h.node.seen.work) u is }), tt)
+      go false is = (
+        activation-has n.number u (record {
+          own = is-own u (wakes-there u may);
+          wakes = may;
+          free = apart-from (worked_on h.node.seen.work) u is;
+        }),
+        tt,
+      )
 
   -- 4. Starts
 

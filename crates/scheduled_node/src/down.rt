@@ -96,7 +96,8 @@ impl<St: Store> ScheduledNode<St> {
         ensures number { self.new.node.number ≡ self.old.node.number }
         ensures store { St.seen self.new.node.store ≡ St.seen self.old.node.store }
         ensures stands { IsTrue St.Device.tells → OnOk result ((ts : TypeList) (m : Mail) (s : Site)
-            → IsLooseIn (body_at (parts_of ts self.old.node.ejects) uid) process → NodeStands St.layout ts (held St.seen self.old.node) m s
+            → IsLooseIn (body_at (parts_of ts self.old.node.ejects) uid) process
+            → NodeStands St.layout ts (held St.seen self.old.node) m s
             → NodeStands St.layout ts (held St.seen self.new.node) m (told_broken uid process s)) }
         ensures told { IsTrue St.Device.tells → OnOk result ((ts : TypeList) (m : Mail) (s : Site)
             → IsLooseIn (body_at (parts_of ts self.old.node.ejects) uid) process → ScheduledStands St.layout ts (manned St.seen self.old) m s

@@ -1,10 +1,14 @@
+ghost use Rattle.std.specs.Prelude.{◌≡◌};
+ghost use Rattle.edentypes.specs.Fitting.{FitsKind, RestFits};
+ghost use Rattle.edentypes.specs.declared.Kind.TheVariants as kinds;
+
 use crate::common::{Given, items_of, printed, returned, text};
 use capability::{Cap, Rights, Uid};
 use coordinator::Coordinator;
 use eden_codec::Rep;
 use eden_value::{Items, Status, Txt};
 use edentypes::*;
-use epl_syntax::{Answer, Effect, Types};
+use epl_syntax::{Answer, Effect, Native, Types};
 use std::alloc::Global;
 use std::process::Abort;
 
@@ -14,18 +18,18 @@ const ME: Uid = Uid {
     serial: 1,
 };
 
-/// A name, the place of its type, and how many variables that has, of which so many are durable.
-type Named = (&'static [u8], Option<usize>, usize, usize);
+/// A name, its type, and how many variables that has, of which so many are durable.
+type Named = (&'static [u8], Option<Native>, usize, usize);
 
 const NAMES: &[Named] = &[
-    (b"Cell", Some(0), 1, 1),
-    (b"Directory", Some(1), 2, 2),
-    (b"Lines", Some(2), 3, 2),
-    (b"Take", Some(3), 6, 5),
-    (b"Skip", Some(4), 6, 5),
-    (b"Only", Some(5), 6, 5),
-    (b"Number", Some(6), 5, 4),
-    (b"Sink", Some(7), 3, 2),
+    (b"Cell", Some(Native::Cell), 1, 1),
+    (b"Directory", Some(Native::Directory), 2, 2),
+    (b"Lines", Some(Native::Lines), 3, 2),
+    (b"Take", Some(Native::Take), 6, 5),
+    (b"Skip", Some(Native::Skip), 6, 5),
+    (b"Only", Some(Native::Only), 6, 5),
+    (b"Number", Some(Native::Number), 5, 4),
+    (b"Sink", Some(Native::Sink), 3, 2),
     (b"Cel", None, 0, 0),
 ];
 
@@ -35,8 +39,17 @@ fn native(rt: &impl Abort, alloc: Global) -> Box<Types> {
     Box::new(alloc, types).expect(rt, "memory")
 }
 
+/// The kind of a native type.
+fn kind_of(native: Native) -> Kind
+    ensures { result ≡ kinds.Native native }
+{
+    Kind::Native { native }
+}
+
 /// The values of a new Eject.
-fn new_values(rt: &impl Abort, alloc: Global, types: &Types, kind: Kind) -> Box<Values> {
+fn new_values(rt: &impl Abort, alloc: Global, types: &Types, kind: Kind) -> Box<Values>
+    ensures { FitsKind kind result.value }
+{
     let vars = first_values(alloc, types, kind).expect(rt, "memory");
     Box::new(alloc, vars).expect(rt, "memory")
 }
@@ -57,14 +70,10 @@ fn kept_of(rt: &impl Abort, alloc: Global, types: &Types, kind: Kind, vars: &Val
 }
 
 /// The values of an Eject that starts from what is kept.
-fn values_again(
-    rt: &impl Abort,
-    alloc: Global,
-    types: &Types,
-    kind: Kind,
-    kept: &Rep,
-) -> Box<Values> {
-    let vars = start(alloc, types, kind, &kept.values).expect(rt, "memory");
+fn values_again(rt: &impl Abort, alloc: Global, types: &Types, kept: &Rep) -> Box<Values> {
+    let found = start_from(alloc, types, kept, ME).expect(rt, "memory");
+    let begun = found.expect(rt, "it fits");
+    let vars = start(alloc, types, &begun).expect(rt, "memory");
     Box::new(alloc, vars).expect(rt, "memory")
 }
 
@@ -74,14 +83,8 @@ fn is_kept(kept: &Rep, name: &Txt, durable: usize) -> bool {
 }
 
 /// Whether an Eject starts from what is kept with these values.
-fn starts_with(
-    rt: &impl Abort,
-    alloc: Global,
-    (types, kind): (&Types, Kind),
-    kept: &Rep,
-    vars: &Values,
-) -> bool {
-    let again = values_again(rt, alloc, types, kind, kept);
+fn starts_with(rt: &impl Abort, alloc: Global, types: &Types, kept: &Rep, vars: &Values) -> bool {
+    let again = values_again(rt, alloc, types, kept);
     shown(rt, alloc, &again) == shown(rt, alloc, vars)
 }
 
@@ -97,7 +100,7 @@ fn starts_as_kept(
     let kept = kept_of(rt, alloc, types, kind, &vars);
     count_of(rt, alloc, &vars) == variables
         && is_kept(&kept, name, durable)
-        && starts_with(rt, alloc, (types, kind), &kept, &vars)
+        && starts_with(rt, alloc, types, &kept, &vars)
 }
 
 /// How many classes it has.
@@ -121,21 +124,21 @@ fn is_plain(rt: &impl Abort, alloc: Global, types: &Types, kind: Kind) -> bool {
         && crew_of(rt, alloc, types, kind).monitors() == 0
 }
 
-/// Whether the name is that of the type at its place, which starts, or of none.
+/// Whether the name is that of the type, which starts, or of none.
 fn is_named(
     rt: &impl Abort,
     alloc: Global,
     types: &Types,
-    &(name, place, variables, durable): &Named,
+    &(name, native, variables, durable): &Named,
 ) -> bool {
     let name = text(rt, alloc, name);
-    match find(types, &name) {
-        Some(kind) => {
-            place == Some(kind.place)
+    match (find(types, &name), native) {
+        (Some(kind), Some(native)) => {
+            kind == kind_of(native)
                 && is_plain(rt, alloc, types, kind)
                 && starts_as_kept(rt, alloc, (types, kind), &name, (variables, durable))
         }
-        None => place.is_none(),
+        (found, _) => found.is_none() && native.is_none(),
     }
 }
 
@@ -147,32 +150,38 @@ fn every_native_type_starts(rt: HostRuntime) {
     }
 }
 
-/// The place of a type, the rights of the capability, an operation, the values that it is given, and what is wrong.
-type Asked = (usize, u16, &'static [u8], &'static [Given], Option<Status>);
+/// A type, the rights of the capability, an operation, the values that it is given, and what is wrong.
+type Asked = (Native, u16, &'static [u8], &'static [Given], Option<Status>);
 
 const CALLS: &[Asked] = &[
-    (0, 1, b"Set", &[Given::Number { n: 5 }], None),
+    (Native::Cell, 1, b"Set", &[Given::Number { n: 5 }], None),
     (
-        0,
+        Native::Cell,
         0xFFFE,
         b"Set",
         &[Given::Number { n: 5 }],
         Some(Status::NoRight),
     ),
-    (0, 1, b"Set", &[], Some(Status::BadArguments)),
-    (0, 0, b"Put", &[], Some(Status::NoOperation)),
-    (0, 16, b"Kill", &[], None),
-    (1, 8, b"List", &[], None),
+    (Native::Cell, 1, b"Set", &[], Some(Status::BadArguments)),
+    (Native::Cell, 0, b"Put", &[], Some(Status::NoOperation)),
+    (Native::Cell, 16, b"Kill", &[], None),
+    (Native::Directory, 8, b"List", &[], None),
     (
-        1,
+        Native::Directory,
         2,
         b"LookUp",
         &[Given::Number { n: 1 }],
         Some(Status::BadArguments),
     ),
-    (2, 2, b"Transfer", &[Given::Number { n: 0 }], None),
     (
-        7,
+        Native::Lines,
+        2,
+        b"Transfer",
+        &[Given::Number { n: 0 }],
+        None,
+    ),
+    (
+        Native::Sink,
         4,
         b"Read",
         &[Given::Number { n: 7 }],
@@ -193,7 +202,7 @@ fn is_judged(
     rt: &impl Abort,
     alloc: Global,
     types: &Types,
-    &(place, bits, operation, args, wrong): &Asked,
+    &(native, bits, operation, args, wrong): &Asked,
 ) -> bool {
     let target = Cap {
         uid: ME,
@@ -202,7 +211,7 @@ fn is_judged(
     let operation = text(rt, alloc, operation);
     let args = items_of(rt, alloc, args);
     is_fit(
-        fit_call(types, Kind { place }, target, &operation, &args),
+        fit_call(types, kind_of(native), target, &operation, &args),
         wrong,
     )
 }
@@ -215,17 +224,22 @@ fn calls_fit_or_not(rt: HostRuntime) {
     }
 }
 
-/// What is kept of an Eject: its type's name, its version and its values. And the place of the type of the Eject that starts
-/// from it, with its durable values, if one does.
+/// What is kept of an Eject: its type's name, its version and its values. And the type of the Eject that starts from it, with its
+/// durable values, if one does.
 type KeptRow = (
     &'static [u8],
     u16,
     &'static [Given],
-    Option<(usize, &'static [u8])>,
+    Option<(Native, &'static [u8])>,
 );
 
 const KEPT: &[KeptRow] = &[
-    (b"Cell", 1, &[Given::Number { n: 7 }], Some((0, b"[7]"))),
+    (
+        b"Cell",
+        1,
+        &[Given::Number { n: 7 }],
+        Some((Native::Cell, b"[7]")),
+    ),
     (b"Cell", 2, &[Given::Number { n: 7 }], None),
     (b"Cell", 1, &[], None),
     (
@@ -242,7 +256,7 @@ const KEPT: &[KeptRow] = &[
             Given::Names { all: &[b"a", b"b"] },
             Given::Caps { all: &[None, None] },
         ],
-        Some((1, b"[[\"a\", \"b\"], [<none>, <none>]]")),
+        Some((Native::Directory, b"[[\"a\", \"b\"], [<none>, <none>]]")),
     ),
     (
         b"Directory",
@@ -255,18 +269,18 @@ const KEPT: &[KeptRow] = &[
     ),
 ];
 
-/// The place of the type of the Eject that starts from what is kept, and its durable values, as the text of a list.
-fn started(rt: &impl Abort, alloc: Global, types: &Types, kept: &Rep) -> Option<(usize, Vec<u8>)> {
+/// The type of the Eject that starts from what is kept, and its durable values, as the text of a list.
+fn started(rt: &impl Abort, alloc: Global, types: &Types, kept: &Rep) -> Option<(Kind, Vec<u8>)> {
     match start_from(alloc, types, kept, ME).expect(rt, "memory") {
-        Some((kind, durable)) => Some((kind.place, printed(rt, alloc, durable))),
+        Some(begun) => Some((begun.kind, printed(rt, alloc, begun.durable))),
         None => None,
     }
 }
 
-fn is_started(found: &Option<(usize, Vec<u8>)>, wanted: Option<(usize, &[u8])>) -> bool {
+fn is_started(found: &Option<(Kind, Vec<u8>)>, wanted: Option<(Native, &[u8])>) -> bool {
     match (found, wanted) {
-        (Some((place, durable)), Some((at, values))) => {
-            *place == at && durable.as_slice() == values
+        (Some((kind, durable)), Some((native, values))) => {
+            *kind == kind_of(native) && durable.as_slice() == values
         }
         (None, None) => true,
         _ => false,
@@ -309,11 +323,17 @@ type Call = (&'static [u8], &'static [Given], Status);
 fn turned(
     rt: &impl Abort,
     alloc: Global,
-    (types, kind): (&Types, Kind),
+    types: &Types,
+    kind: Kind,
     vars: &mut Values,
     rest: &mut Rest,
     answer: Answer,
-) -> Box<Effect> {
+) -> Box<Effect>
+    requires vars { FitsKind kind vars.old }
+    requires rest { RestFits kind rest.old }
+    ensures vars { FitsKind kind vars.new }
+    ensures rest { RestFits kind rest.new }
+{
     let effect = turn(alloc, types, kind, vars, rest, answer, ME).expect(rt, "memory");
     Box::new(alloc, effect).expect(rt, "memory")
 }
@@ -322,10 +342,13 @@ fn turned(
 fn begun(
     rt: &impl Abort,
     alloc: Global,
-    (types, kind): (&Types, Kind),
+    types: &Types,
+    kind: Kind,
     operation: &[u8],
     args: &[Given],
-) -> Box<Rest> {
+) -> Box<Rest>
+    ensures { RestFits kind result.value }
+{
     let operation = text(rt, alloc, operation);
     let args = items_of(rt, alloc, args);
     let rest = begin(alloc, types, kind, &operation, &args).expect(rt, "memory");
@@ -336,15 +359,20 @@ fn begun(
 fn last_effect(
     rt: &impl Abort,
     alloc: Global,
-    (types, kind): (&Types, Kind),
+    types: &Types,
+    kind: Kind,
     vars: &mut Values,
     rest: &mut Rest,
     status: Status,
-) -> Box<Effect> {
-    let effect = turned(rt, alloc, (types, kind), vars, rest, Answer::Go);
+) -> Box<Effect>
+    requires vars { FitsKind kind vars.old }
+    requires rest { RestFits kind rest.old }
+    ensures { FitsKind kind vars.new }
+{
+    let effect = turned(rt, alloc, types, kind, vars, rest, Answer::Go);
     if matches!(*effect, Effect::Checkpoint | Effect::Destroy) {
         let told = Answer::Code { status };
-        turned(rt, alloc, (types, kind), vars, rest, told)
+        turned(rt, alloc, types, kind, vars, rest, told)
     } else {
         effect
     }
@@ -354,12 +382,17 @@ fn last_effect(
 fn carried_out(
     rt: &impl Abort,
     alloc: Global,
-    (types, kind): (&Types, Kind),
+    types: &Types,
+    kind: Kind,
     vars: &mut Values,
-    (operation, args, status): Call,
-) -> Vec<u8> {
-    let mut rest = begun(rt, alloc, (types, kind), operation, args);
-    let effect = last_effect(rt, alloc, (types, kind), vars, &mut rest, status);
+    call: Call,
+) -> Vec<u8>
+    requires { FitsKind kind vars.old }
+    ensures { FitsKind kind vars.new }
+{
+    let (operation, args, status) = call;
+    let mut rest = begun(rt, alloc, types, kind, operation, args);
+    let effect = last_effect(rt, alloc, types, kind, vars, &mut rest, status);
     returned(rt, alloc, &effect)
 }
 
@@ -367,12 +400,16 @@ fn carried_out(
 fn returns(
     rt: &impl Abort,
     alloc: Global,
-    (types, kind): (&Types, Kind),
+    types: &Types,
+    kind: Kind,
     vars: &mut Values,
     call: Call,
     wanted: &[u8],
-) -> bool {
-    carried_out(rt, alloc, (types, kind), vars, call).as_slice() == wanted
+) -> bool
+    requires { FitsKind kind vars.old }
+    ensures { FitsKind kind vars.new }
+{
+    carried_out(rt, alloc, types, kind, vars, call).as_slice() == wanted
 }
 
 /// An operation of a Cell of value 3, the value after it, and what it returns at last.
@@ -407,9 +444,9 @@ fn cell_answers(
     call: Call,
     (after, wanted): (&[u8], &[u8]),
 ) -> bool {
-    let kind = Kind { place: 0 };
+    let kind = kind_of(Native::Cell);
     let mut vars = cell_of_three(rt, alloc);
-    returns(rt, alloc, (types, kind), &mut vars, call, wanted) && are_shown(rt, alloc, &vars, after)
+    returns(rt, alloc, types, kind, &mut vars, call, wanted) && are_shown(rt, alloc, &vars, after)
 }
 
 #[test]
@@ -481,29 +518,33 @@ fn starts_again(rt: &impl Abort, alloc: Global, types: &Types, kind: Kind, vars:
 fn answers(
     rt: &impl Abort,
     alloc: Global,
-    (types, kind): (&Types, Kind),
+    types: &Types,
+    kind: Kind,
     vars: &mut Values,
     call: Call,
     wanted: &[u8],
-) -> bool {
-    returns(rt, alloc, (types, kind), vars, call, wanted)
+) -> bool
+    requires { FitsKind kind vars.old }
+    ensures { FitsKind kind vars.new }
+{
+    returns(rt, alloc, types, kind, vars, call, wanted)
         && starts_again(rt, alloc, types, kind, vars)
 }
 
-/// A new Eject of the type at a place carries out the operations, and each returns what stands beside it.
+/// A new Eject of a native type carries out the operations, and each returns what stands beside it.
 fn carries_out(
     rt: &impl Abort,
     alloc: Global,
     types: &Types,
-    place: usize,
+    native: Native,
     calls: &[(Call, &'static [u8])],
 ) {
-    let kind = Kind { place };
+    let kind = kind_of(native);
     let mut vars = new_values(rt, alloc, types, kind);
     for (i, &(call, wanted)) in calls.iter().enumerate() {
         assert!(rt;
-            answers(rt, alloc, (types, kind), &mut vars, call, wanted),
-            "type {place}, operation {i}"
+            answers(rt, alloc, types, kind, &mut vars, call, wanted),
+            "{native:?}, operation {i}"
         );
     }
 }
@@ -511,7 +552,11 @@ fn carries_out(
 #[test]
 fn native_types_carry_out_operations(rt: HostRuntime) {
     let types = native(&rt, rt.alloc());
-    for &(place, calls) in &[(1, DIRECTORY), (2, LINES), (7, SINK)] {
-        carries_out(&rt, rt.alloc(), &types, place, calls);
+    for &(native, calls) in &[
+        (Native::Directory, DIRECTORY),
+        (Native::Lines, LINES),
+        (Native::Sink, SINK),
+    ] {
+        carries_out(&rt, rt.alloc(), &types, native, calls);
     }
 }

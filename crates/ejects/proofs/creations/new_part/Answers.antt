@@ -5,6 +5,6 @@ use Rattle.ejects.proofs.creations.new_part.Goals as goal
 
 pub returns : goal.returns
 returns c = record {
-  active = c.in_ok-part.ensures.active ∙ ap (fresh (kind_in c.args.types.now c.args.kind)) c.in_ok-vars.ensures;
+  active = c.in_ok-part.ensures.active ∙ ap (fresh (kind_in c.args.types.now c.args.kind)) c.in_ok-vars.ensures.same;
   queued = c.in_ok-part.ensures.queued;
 }

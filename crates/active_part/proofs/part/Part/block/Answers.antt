@@ -9,4 +9,6 @@ invariant_of-self c = record {
   tasks_are = c.args.self.now.tasks_are
       ∙ sym (ap (λ (it : Coordination). keys it.crew.processes) c.block.ensures
       ∙ set-keeps c.args.process outside c.args.self.now.crew.crew);
+  values_fit = c.args.self.now.values_fit;
+  rests_fit = c.args.self.now.rests_fit;
 }

@@ -6,6 +6,7 @@ use Rattle.epl_syntax.specs.declared.types.Native.TheVariants.{Cell}
 use Rattle.active_part.specs.Places.{keys}
 use Rattle.active_part.specs.View.{task_of}
 use Rattle.active_part.proofs.Keys.{removed-keys, ended-keys}
+use Rattle.active_part.proofs.Rests.{removed-fit}
 use Rattle.active_part.proofs.part.Part.end.Goals as goal
 
 pub invariant_of-self : goal.invariant_of-self
@@ -17,4 +18,7 @@ invariant_of-self c =
           (c.remove.ensures (native Cell))
           ∙ ap (filter others) a.tasks_are
           ∙ sym (ap (λ (it : Coordination). keys it.crew.processes) c.end.ensures ∙ ended-keys c.args.process a.crew.crew);
+      values_fit = a.values_fit;
+      rests_fit = removed-fit a.kind (native Cell) others c.remove.new.self.entries.items a.tasks.entries.items
+          (c.remove.ensures (native Cell)) a.rests_fit;
     }

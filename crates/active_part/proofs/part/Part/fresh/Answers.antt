@@ -1,4 +1,5 @@
 use Rattle.active_part.proofs.Filling.{fresh-body, fresh-queue, fresh-tasks}
+use Rattle.active_part.proofs.Rests.{fresh-fit}
 use Rattle.edentypes.specs.View.{kind_in}
 use Rattle.active_part.proofs.part.Part.fresh.Goals as goal
 
@@ -16,4 +17,7 @@ invariant_of-result c =
     record {
       tasks_are = fresh-tasks t c.in_ok-tasks.tasks.entries.items c.in_ok-crew.crew c.in_ok-setup.setup c.in_ok-rests.rests.items
           c.in_ok-crew.ensures c.in_ok-setup.ensures.same (c.in_ok-tasks.ensures t) c.in_ok-rests.ensures.begin;
+      values_fit = c.requires;
+      rests_fit = fresh-fit c.args.kind t c.in_ok-rests.rests.items c.in_ok-tasks.tasks.entries.items (c.in_ok-tasks.ensures t)
+          c.in_ok-rests.ensures.fit;
     }

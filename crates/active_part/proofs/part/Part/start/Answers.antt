@@ -10,6 +10,7 @@ use Rattle.active_part.specs.Places.{is_number_in, keys}
 use Rattle.active_part.specs.View.{task_of}
 use Rattle.active_part.specs.declared.Doing.{Doing}
 use Rattle.active_part.proofs.Keys.{added-keys, any-key, each-keys, few-start, started-keys}
+use Rattle.active_part.proofs.Rests.{added-fit, same-fit}
 use Rattle.active_part.proofs.Tasks.{begun-body}
 use Rattle.active_part.proofs.part.Part.start.Goals as goal
 
@@ -18,7 +19,7 @@ returns-in-Ok-clause-started c =
     begun-body c.args.types.now c.args.self.now c.args.asked.now c.in-Ok.started c.next_number-process.result
     c.start_next.new.crew c.add.new.self (record { rest = c.in_ok-rest.rest; answer = Go }) c.in-Ok.ensures.started
     c.next_number-process.ensures c.in_ok-add.ensures.after
-    (ap (λ r. record { rest = r; answer = Go }) c.in_ok-rest.ensures)
+    (ap (λ r. record { rest = r; answer = Go }) c.in_ok-rest.ensures.same)
 
 pub add-requires : goal.add-requires
 add-requires c =
@@ -41,6 +42,9 @@ invariant_of-self-in-Ok-1 c =
           ∙ ap (λ k. keys (put_at nat_cmp k one a.crew.crew.processes)) c.next_number-process.ensures
           ∙ sym (started-keys a.crew one c.requires.may)
           ∙ sym (ap (λ (it : Coordination). keys it.crew.processes) c.in-Ok.ensures.started.after);
+      values_fit = a.values_fit;
+      rests_fit = added-fit a.kind t p doing c.add.new.self.entries.items a.tasks.entries.items (c.in_ok-add.ensures.after t)
+          c.in_ok-rest.ensures.fits a.rests_fit;
     }
 
 -- it is taken away again where the process does not run
@@ -52,4 +56,7 @@ invariant_of-self-in-Err c =
       tasks_are = sym (each-keys (task_of t) c.remove.new.self.entries.items)
           ∙ ap keys (c.remove.ensures t ∙ c.in_ok-add.ensures.others t) ∙ each-keys (task_of t) a.tasks.entries.items ∙ a.tasks_are
           ∙ sym (ap (λ (it : Coordination). keys it.crew.processes) c.in-Err.ensures.unchanged);
+      values_fit = a.values_fit;
+      rests_fit = same-fit a.kind t c.remove.new.self.entries.items a.tasks.entries.items
+          (c.remove.ensures t ∙ c.in_ok-add.ensures.others t) a.rests_fit;
     }

@@ -19,4 +19,6 @@ invariant_of-self c = record {
   tasks_are = c.answer.ensures.numbers ∙ c.args.self.now.tasks_are
       ∙ sym (ap (λ (it : Coordination). keys it.crew.processes) c.resume.ensures
       ∙ set-keeps c.args.process nothing c.args.self.now.crew.crew);
+  values_fit = c.args.self.now.values_fit;
+  rests_fit = c.answer.ensures.fit c.args.self.now.kind c.args.self.now.rests_fit;
 }

@@ -19,3 +19,12 @@ returns c ts =
     let a = c.args.self.now in
     answered-body ts a c.args.process c.args.answer c.answer.new.self a.crew c.answer.ensures.after
     (ap (λ crew. record a.crew { crew = crew }) (sym (runs-already c.args.process a.crew.crew c.processes_ascend.ensures c.requires)))
+
+pub invariant_of-self : goal.invariant_of-self
+invariant_of-self c =
+    let a = c.args.self.now in
+    record {
+      tasks_are = c.answer.ensures.numbers ∙ a.tasks_are;
+      values_fit = a.values_fit;
+      rests_fit = c.answer.ensures.fit a.kind a.rests_fit;
+    }

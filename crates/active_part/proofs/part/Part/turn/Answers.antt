@@ -4,6 +4,7 @@ use Rattle.eden_model.specs.Crew.{nothing}
 use Rattle.active_part.specs.Places.{Ascend, is_number_in}
 use Rattle.active_part.specs.declared.Doing.{Doing}
 use Rattle.active_part.proofs.Keys.{ascend-keys, process-among, set-keys}
+use Rattle.active_part.proofs.Rests.{read-fit, set-fit}
 use Rattle.active_part.proofs.Tasks.{taken-body}
 use Rattle.active_part.proofs.part.Part.turn.Goals as goal
 
@@ -34,4 +35,13 @@ invariant_of-self c =
           (λ less d. c.find-place.ensures.here d
           ∙ sym (ap (λ (x : ℕ × Doing). x.0) c.index_mut.ensures.value ∙ c.find-place.ensures.here e))
           ∙ a.tasks_are;
+      values_fit = c.take_turn.ensures.vars;
+      rests_fit = set-fit a.kind c.find-place.result (e.0, c.take_turn.new.doing) a.tasks.entries.items c.take_turn.ensures.rest
+          a.rests_fit;
     }
+
+pub take_turn-requires-clause-rest : goal.take_turn-requires-clause-rest
+take_turn-requires-clause-rest c =
+    let a = c.args.self.now in
+    let e = c.index_mut.result.now in
+    read-fit a.kind c.find-place.result e e a.tasks.entries.items c.index_mut.ensures.value c.find-place.ensures.within a.rests_fit
