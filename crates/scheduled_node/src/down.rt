@@ -100,7 +100,8 @@ impl<St: Store> ScheduledNode<St> {
             → NodeStands St.layout ts (held St.seen self.old.node) m s
             → NodeStands St.layout ts (held St.seen self.new.node) m (told_broken uid process s)) }
         ensures told { IsTrue St.Device.tells → OnOk result ((ts : TypeList) (m : Mail) (s : Site)
-            → IsLooseIn (body_at (parts_of ts self.old.node.ejects) uid) process → ScheduledStands St.layout ts (manned St.seen self.old) m s
+            → IsLooseIn (body_at (parts_of ts self.old.node.ejects) uid) process
+            → ScheduledStands St.layout ts (manned St.seen self.old) m s
             → ScheduledStands St.layout ts (manned St.seen self.new) m (told_broken uid process s)) }
     {
         self.node.broken(alloc, uid, process);
