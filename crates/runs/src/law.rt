@@ -2,8 +2,9 @@
 ghost use Rattle.runs.specs.Laws.{RunsMayBegin, EntriesAreFew};
 
 /// Each world on the way of a fit script, over disks that are handed in as they have to be, is as machines take
-/// it: its sites are sound, its next uids are new, its epochs are bounded. It offers the types of the script and
-/// the nodes that it boots, where there is a disk for each.
+/// it (`IsReached`): its sites are sound, its uids are those of its nodes and the next ones are new, its turns
+/// can be carried out, its epochs are bounded. It offers the types of the script and the nodes that it boots,
+/// where there is a disk for each.
 pub fn a_run_may_begin()
     ensures { RunsMayBegin }
 {}
