@@ -15,8 +15,10 @@ use Rattle.journal.specs.Run.{Step, EachStep}
 use Rattle.journal.specs.Standing.{DiskRun}
 use Rattle.journal.specs.Faults.{shows_fault, shows_stop, fail_after, stop_after, due_clock, last_due, clock_of, IsAsked, HasItsCommand}
 use Rattle.journal.specs.Faults.{EachHasItsCommand}
-use Rattle.disk_faults.specs.Shows.{HasFallen, IsTelling, NoneFalls, arms, due_behind}
-use Rattle.disk_faults.specs.Runs.{EntryShows, RunShows, handed_in}
+use Rattle.disk_faults.specs.Shows.{HasFallen, IsTelling, NoneFalls, due_behind}
+use Rattle.disk_faults.specs.Runs.{EntryShows, RunShows, handed_in, RunsLeaveArmed, RunsShowClocks}
+use Rattle.journal.specs.Faults.{ShowsClockBefore, makes_no_call, past_of, due_left}
+use Rattle.journal.specs.Run.{steps}
 use Rattle.disk_faults.proofs.Sums.{falls-none, entry-level, run-level}
 
 -- 1. What falls due behind an entry is what its arming asked for, or what fell due before it
@@ -31,7 +33,7 @@ arm-stop : (what : Arm) (shown clock : ℕ) (due : Due) → shown ≡ clock
 arm-stop (arm.Fail k) shown clock due same = refl
 arm-stop (arm.Stop k mode) shown clock due same = ap (λ c. Some (c + k)) (sym same)
 
-failure-behind : (n : ℕ) (e : Entry) (v : Event) (clock : ℕ) (due : Due) → (IsTrue (arms n v) → e.clock ≡ clock)
+failure-behind : (n : ℕ) (e : Entry) (v : Event) (clock : ℕ) (due : Due) → (IsTrue (makes_no_call n v) → e.clock ≡ clock)
     → (due_behind n v clock due).failure ≡ or_else (due_clock fail_after n e v) due.failure
 failure-behind n e (event.Armed m what) clock due counted = go (m == n) counted
   where
@@ -58,7 +60,7 @@ failure-behind n e event.Quiet clock due counted = refl
 failure-behind n e event.Spent clock due counted = refl
 failure-behind n e (event.Left names) clock due counted = refl
 
-stop-behind : (n : ℕ) (e : Entry) (v : Event) (clock : ℕ) (due : Due) → (IsTrue (arms n v) → e.clock ≡ clock)
+stop-behind : (n : ℕ) (e : Entry) (v : Event) (clock : ℕ) (due : Due) → (IsTrue (makes_no_call n v) → e.clock ≡ clock)
     → (due_behind n v clock due).stop ≡ or_else (due_clock stop_after n e v) due.stop
 stop-behind n e (event.Armed m what) clock due counted = go (m == n) counted
   where
@@ -98,9 +100,9 @@ record Reaches (n : ℕ) (first : Due) (began : ℕ) (past : List Step) (now : D
   failure : now.due.failure ≡ or_else (last_due fail_after n past) first.failure
   stop : now.due.stop ≡ or_else (last_due stop_after n past) first.stop
 
-clock-next : (n began : ℕ) (past : List Step) (s : Step) (old mid : DiskSeen) → clock_of n began past ≡ old.counts.clock
-    → EntryShows true n s.entry old mid → clock_of n began (s ∷ past) ≡ mid.counts.clock
-clock-next n began past s old mid is e = go (s.entry.node == n) refl
+clock-next : (obeys : Bool) (n began : ℕ) (past : List Step) (s : Step) (old mid : DiskSeen) → clock_of n began past ≡ old.counts.clock
+    → EntryShows obeys n s.entry old mid → clock_of n began (s ∷ past) ≡ mid.counts.clock
+clock-next obeys n began past s old mid is e = go (s.entry.node == n) refl
   where
     go : (b : Bool) → (s.entry.node == n) ≡ b → cond (s.entry.node == n) s.entry.clock (clock_of n began past) ≡ mid.counts.clock
     go true here = ap (λ b. cond b s.entry.clock (clock_of n began past)) here ∙ e.shown here
@@ -109,7 +111,7 @@ clock-next n began past s old mid is e = go (s.entry.node == n) refl
 reaches-next : (n : ℕ) (first : Due) (began : ℕ) (past : List Step) (s : Step) (old mid : DiskSeen) → Reaches n first began past old
     → EntryShows true n s.entry old mid → Reaches n first began (s ∷ past) mid
 reaches-next n first began past s old mid r e = record {
-  clock = clock-next n began past s old mid r.clock e;
+  clock = clock-next true n began past s old mid r.clock e;
   since = omega (arith, r.since, e.shows.clock);
   failure = ap (λ (d : Due). d.failure) (e.shows.due refl) ∙ failure-behind n s.entry s.entry.event old.counts.clock old.due e.counted
       ∙ ap (or_else (due_clock fail_after n s.entry s.entry.event)) r.failure
@@ -131,7 +133,7 @@ on-disk n s old mid e rose = go (s.entry.node == n) refl
     go false there = let same : mid.counts.clock ≡ old.counts.clock = e.elsewhere there in absurd (omega (arith, same, rose))
 
 was-asked : (o due first : Option ℕ) (began before after shown clock : ℕ) → due ≡ or_else o first → IfSome first (λ c. c ≤ began)
-    → began ≤ before → clock ≡ before → shown ≡ after → HasFallen due before after → IsSomeAnd o (λ k. (clock < k) × (k ≤ shown))
+    → began ≤ before → clock ≡ before → shown ≡ after → HasFallen due before after → IsSomeAnd o (λ k. (clock < k) × (k ≡ shown))
 was-asked None due None began before after shown clock is none since same at fell =
     absurd (let bad : None ≡ Some after = sym is ∙ fell.at in cc bad)
 was-asked None due (Some c) began before after shown clock is none since same at fell =
@@ -140,7 +142,7 @@ was-asked None due (Some c) began before after shown clock is none since same at
     absurd (omega (arith, here, none, since, rose))
 was-asked (Some k) due first began before after shown clock is none since same at fell =
     let here : k ≡ after = (let both : Some k ≡ Some after = sym is ∙ fell.at in cc both) in
-    let rose : before < after = fell.rose in (omega (arith, same, here, rose), omega (arith, at, here))
+    let rose : before < after = fell.rose in (omega (arith, same, here, rose), here ∙ sym at)
 
 asked-fault : (n : ℕ) (first : Due) (began : ℕ) (past : List Step) (s : Step) (old mid : DiskSeen) → IfSome first.failure (λ c. c ≤ began)
     → Reaches n first began past old → EntryShows true n s.entry old mid → IsTelling old.counts mid.counts
@@ -208,3 +210,33 @@ has-commands run n d last r more = λ o.
     (record { clock = refl; since = omega arith; failure = refl; stop = refl })
     (subst (λ b. RunShows b n run (handed_in d) last) o.obeys r) more
     (record { wants = o.no_wants; wants_told = o.wants_told; below = o.below })
+
+-- 5. The clocks of armings and of power cuts
+
+each-counted : (obeys : Bool) (n began : ℕ) (past run : List Step) (old new : DiskSeen) → clock_of n began past ≡ old.counts.clock
+    → RunShows obeys n run old new → EachStep (ShowsClockBefore n began) past run
+each-counted obeys n began past [] old new is r = tt
+each-counted obeys n began past (s ∷ run) old new is (mid, e, more) = (
+  (λ still. e.counted still ∙ sym is),
+  each-counted obeys n began (s ∷ past) run mid new (clock-next obeys n began past s old mid is e) more,
+)
+
+pub shows-clocks : RunsShowClocks
+shows-clocks n p history d last shows = each-counted d.obeys n d.first.clock [] (steps p history) (handed_in d) last refl shows
+
+-- 6. What is armed at the end
+
+reaches-last : (n : ℕ) (first : Due) (began : ℕ) (past run : List Step) (old new : DiskSeen) → Reaches n first began past old
+    → RunShows true n run old new → Reaches n first began (past_of past run) new
+reaches-last n first began past [] old new r same = subst (Reaches n first began past) (sym same) r
+reaches-last n first began past (s ∷ run) old new r (mid, e, more) =
+    reaches-last n first began (s ∷ past) run mid new (reaches-next n first began past s old mid r e) more
+
+pub left-armed : RunsLeaveArmed
+left-armed n p history d last shows back = λ obeys. sym back
+    ∙ go (reaches-last n d.due d.first.clock [] (steps p history) (handed_in d) last
+    (record { clock = refl; since = omega arith; failure = refl; stop = refl })
+    (subst (λ b. RunShows b n (steps p history) (handed_in d) last) obeys shows))
+  where
+    go : Reaches n d.due d.first.clock (past_of [] (steps p history)) last → last.due ≡ due_left n d.due (steps p history)
+    go r = λ i. record { failure = r.failure i; stop = r.stop i }

@@ -12,9 +12,9 @@ use Rattle.journal.specs.declared.event.RequestEnd.TheVariants as request_end
 use Rattle.journal.specs.declared.event.Entry.{Entry}
 use Rattle.journal.specs.declared.event.Event.{Event}
 use Rattle.journal.specs.declared.event.Event.TheVariants as event
-use Rattle.journal.specs.Faults.{shows_fault, shows_stop}
+use Rattle.journal.specs.Faults.{makes_no_call, shows_fault, shows_stop}
 use Rattle.journal.specs.Run.{Step}
-use Rattle.disk_faults.specs.Shows.{ShowsCounts, count_behind, due_behind, arms}
+use Rattle.disk_faults.specs.Shows.{ShowsCounts, count_behind, due_behind}
 use Rattle.disk_faults.specs.Runs.{EntryShows, RunShows}
 use Rattle.disk_faults.specs.Elsewhere.{shown_of}
 
@@ -86,25 +86,25 @@ no-stop n event.Quiet other = refl
 no-stop n event.Spent other = refl
 no-stop n (event.Left names) other = refl
 
-no-arming : (n : ℕ) (v : Event) → (shown_of v == n) ≡ false → arms n v ≡ false
-no-arming n (event.Boot m e how p began) other = refl
-no-arming n (event.Activate u how p) other = refl
-no-arming n (event.Store u c how p) other = refl
-no-arming n (event.Crash m) other = refl
-no-arming n (event.Still m up) other = refl
-no-arming n (event.Link a b joined) other = refl
-no-arming n (event.Made name status uid) other = refl
-no-arming n (event.Bound name held) other = refl
-no-arming n (event.Void name) other = refl
-no-arming n (event.Asked k name at_once) other = refl
-no-arming n (event.Request k a b refused) other = refl
-no-arming n (event.Reply k a b name status results) other = refl
-no-arming n (event.Start k u p) other = refl
-no-arming n (event.Process u p said) other = refl
-no-arming n event.Quiet other = refl
-no-arming n event.Spent other = refl
-no-arming n (event.Left names) other = refl
-no-arming n (event.Armed m what) other = other
+no-standing : (n : ℕ) (v : Event) → (shown_of v == n) ≡ false → makes_no_call n v ≡ false
+no-standing n (event.Boot m e how p began) other = refl
+no-standing n (event.Activate u how p) other = refl
+no-standing n (event.Store u c how p) other = refl
+no-standing n (event.Crash m) other = other
+no-standing n (event.Still m up) other = refl
+no-standing n (event.Link a b joined) other = refl
+no-standing n (event.Made name status uid) other = refl
+no-standing n (event.Bound name held) other = refl
+no-standing n (event.Void name) other = refl
+no-standing n (event.Asked k name at_once) other = refl
+no-standing n (event.Request k a b refused) other = refl
+no-standing n (event.Reply k a b name status results) other = refl
+no-standing n (event.Start k u p) other = refl
+no-standing n (event.Process u p said) other = refl
+no-standing n event.Quiet other = refl
+no-standing n event.Spent other = refl
+no-standing n (event.Left names) other = refl
+no-standing n (event.Armed m what) other = other
 
 still-due : (n : ℕ) (v : Event) (clock : ℕ) (due : Due) → (shown_of v == n) ≡ false → due_behind n v clock due ≡ due
 still-due n (event.Boot m e how p began) clock due other = refl
@@ -146,13 +146,13 @@ entry-elsewhere obeys n e d other there = record {
   shows = shows-nothing obeys n e.event d other;
   shown = λ here. absurd (let bad : false ≡ true = sym there ∙ here in cc bad);
   elsewhere = λ same. refl;
-  counted = λ arming. absurd (let bad : false ≡ true = sym (no-arming n e.event other) ∙ arming in cc bad);
+  counted = λ arming. absurd (let bad : false ≡ true = sym (no-standing n e.event other) ∙ arming in cc bad);
 }
 
 -- of this node: on its disk, or on none and without a device call
 pub entry-here : (obeys : Bool) (n : ℕ) (e : Entry) (old new : DiskSeen) → 1 ≤ n → ShowsCounts obeys n e.event old new
     → ((e.node ≡ n) × (e.clock ≡ new.counts.clock)) ⊎ ((e.node ≡ 0) × (new.counts.clock ≡ old.counts.clock))
-    → (IsTrue (arms n e.event) → e.clock ≡ old.counts.clock) → EntryShows obeys n e old new
+    → (IsTrue (makes_no_call n e.event) → e.clock ≡ old.counts.clock) → EntryShows obeys n e old new
 entry-here obeys n e old new some shows (inl on) counted = record {
   shows = shows;
   shown = λ here. on.1;

@@ -4,8 +4,8 @@ use Rattle.passive_store.specs.Seen.{DiskSeen}
 use Rattle.journal.specs.declared.event.Entry.{Entry}
 use Rattle.journal.specs.Run.{Position, Step, steps}
 use Rattle.journal.specs.Standing.{DiskRun}
-use Rattle.journal.specs.Faults.{ShowsEach, ShowsNoMore, EachHasItsCommand}
-use Rattle.disk_faults.specs.Shows.{ShowsCounts, NoneFalls, arms}
+use Rattle.journal.specs.Faults.{ShowsEach, ShowsNoMore, EachHasItsCommand, EachShowsClockBefore, IsLeftArmed, makes_no_call}
+use Rattle.disk_faults.specs.Shows.{ShowsCounts, NoneFalls}
 
 -- 1. The entries
 
@@ -15,8 +15,8 @@ pub record EntryShows (obeys : Bool) (n : ℕ) (e : Entry) (old new : DiskSeen) 
   -- on the disk it shows its clock, and elsewhere it leaves that
   pub shown : (e.node == n) ≡ true → e.clock ≡ new.counts.clock
   pub elsewhere : (e.node == n) ≡ false → new.counts.clock ≡ old.counts.clock
-  -- an arming shows the clock from which it is counted
-  pub counted : IsTrue (arms n e.event) → e.clock ≡ old.counts.clock
+  -- an arming shows the clock from which it is counted, and a power cut the clock that the disk has
+  pub counted : IsTrue (makes_no_call n e.event) → e.clock ≡ old.counts.clock
 
 -- all entries of a run, from what is seen of the disk at the first to what is seen of it at the end
 abbrev pub RunShows : Bool → ℕ → List Step → DiskSeen → DiskSeen → Type 0
@@ -40,3 +40,13 @@ abbrev pub RunsShowNoMore : Type 0
 RunsShowNoMore = (n : ℕ) (p : Position) (history : List Entry) (d : DiskRun) (last : DiskSeen)
     → RunShows d.obeys n (steps p history) (handed_in d) last → NoneFalls last.counts d.last
     → ShowsNoMore history n d × EachHasItsCommand (steps p history) n d
+
+-- An arming and a power cut show the clock of the disk before them, whatever became of it behind the last entry.
+abbrev pub RunsShowClocks : Type 0
+RunsShowClocks = (n : ℕ) (p : Position) (history : List Entry) (d : DiskRun) (last : DiskSeen)
+    → RunShows d.obeys n (steps p history) (handed_in d) last → EachShowsClockBefore (steps p history) n d
+
+-- A disk given back as it is behind the last entry is armed as the entries asked.
+abbrev pub RunsLeaveArmed : Type 0
+RunsLeaveArmed = (n : ℕ) (p : Position) (history : List Entry) (d : DiskRun) (last : DiskSeen)
+    → RunShows d.obeys n (steps p history) (handed_in d) last → last.due ≡ d.left → IsLeftArmed (steps p history) n d

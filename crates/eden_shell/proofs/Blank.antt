@@ -2,8 +2,10 @@
 -- in as they have to be.
 use Rattle.std.proofs.Common.{◌≡◌, ℕ, zero, suc, ◌-◌, ◌/◌, ◌≤◌, ◌<◌, Bool, true, false, ◌==◌, ◌&&◌, ◌||◌, not, List, [], ◌∷◌, length}
 use Rattle.std.proofs.Common.{replicate, is_some, IsTrue, subst, refl, sym, ◌∙◌, ap, arith}
-use Rattle.std.specs.Prelude.{if◌then◌else◌, find, sum_by, nat_le, slice_index, slice_index_or, ◌^◌, Ok, Err}
+use Rattle.std.specs.Prelude.{if◌then◌else◌, find, sum_by, nat_le, slice_index, slice_get, slice_index_or, ◌^◌, Ok, Err, Some}
 use Rattle.std.specs.List.{All}
+use Rattle.std.specs.Option.{option_map}
+use Rattle.std.proofs.lemmas.List.Elements.{All-head, All-tail}
 use Rattle.std.proofs.lemmas.Bool.{false≢true}
 use Rattle.std.proofs.lemmas.Bool.Decides.{nat_tests}
 use Rattle.std.proofs.lemmas.List.{length-replicate, get_or-replicate}
@@ -11,16 +13,20 @@ use Rattle.std.specs.FinMap as finite
 use Rattle.capability.specs.declared.Uid.{Uid}
 use Rattle.capability.specs.Uids.{uid_cmp}
 use Rattle.eden_model.specs.Map.{value_at}
+use Rattle.eden_disk.specs.SimDisk.{Simulated, blank_of, zeros as sim_zeros}
 use Rattle.eden_disk.specs.Told.{Told}
+use Rattle.passive_store.specs.Seen.{DiskSeen}
 use Rattle.passive_store.specs.Kept.{nothing_kept, reserved_uid}
 use Rattle.block_tables.specs.Blocks.{numbers, is_block_size, data_count, blocks_of, greatest}
 use Rattle.block_tables.specs.Changes.{is_taken}
 use Rattle.passive_blocks.specs.BlockLayout.{Blank, format_of, map_by, block_map, overfull_by, heads_by, changes_left, block_changes}
 use Rattle.passive_blocks.specs.BlockLayout.{blocks_left, has_first, block_layout}
-use Rattle.journal.specs.Opening.{IsFitImage, entries_of, found_in}
-use Rattle.journal.specs.LegalRun.{IsHandedIn}
-use Rattle.journal.specs.RefusedRuns.{zeros}
-use Rattle.eden_shell.specs.Blank.{BlankDisksMayBeHandedIn}
+use Rattle.journal.specs.Opening.{IsFitFor, entries_of, found_in, most_changes}
+use Rattle.journal.specs.LegalRun.{IsHandedInFor}
+use Rattle.journal.specs.RefusedRuns.{blank_told, zeros}
+use Rattle.journal.specs.Standing.{DiskRun}
+use Rattle.eden_world.proofs.DiskPairs.{paired}
+use Rattle.eden_shell.specs.Blank.{AreBlank, BlankDisksAreHandedIn, BlankDisksMayBeHandedIn, BlankDisksMayBeHandedInForMany, sim_seen}
 
 -- 1. What is kept where nothing was written
 
@@ -106,10 +112,10 @@ small_bytes size k d there =
 blank_found : (n size : ℕ) → is_block_size size ≡ true → found_in block_layout n (zeros size) ≡ Ok []
 blank_found n size sized = ap entries_of (zeros_keep_nothing n size sized) ∙ ap Ok no_entries
 
-fit_allowed : (n size : ℕ) → is_block_size size ≡ true → IsFitImage block_layout n (zeros size)
-fit_allowed n size sized = record {
+fit_allowed : (n size more : ℕ) → more ≤ 9223372036854775808 → is_block_size size ≡ true → IsFitFor block_layout n more (zeros size)
+fit_allowed n size more few sized = record {
   epochs = λ kept found u there. absurd (nothing_there kept u (cc (sym (blank_found n size sized) ∙ found)) there);
-  room_is_told = λ kept found. omega (arith, zeros_have_room n size sized);
+  room_is_told = λ kept found opens. omega (arith, few, zeros_have_room n size sized);
 }
   where
     nothing_there : (kept : List (Uid × List ℕ)) (u : Uid) → [] ≡ kept → IsTrue (is_some (value_at uid_cmp u kept)) → ⊥
@@ -119,22 +125,47 @@ fit_allowed n size sized = record {
 no_map : (node : ℕ) (image : List ℕ) → is_block_size (length image) ≡ false → block_map node image ≡ Err 0
 no_map node image unsized = ap (λ b. if b then map_by (format_of image) node image else Err 0) unsized
 
-fit_other : (n size : ℕ) → is_block_size size ≡ false → IsFitImage block_layout n (zeros size)
-fit_other n size unsized =
+fit_other : (n size more : ℕ) → is_block_size size ≡ false → IsFitFor block_layout n more (zeros size)
+fit_other n size more unsized =
     let none : block_map n (zeros size) ≡ Err 0 =
     no_map n (zeros size) (ap (λ k. is_block_size k) (length-replicate {A = ℕ} size 0) ∙ unsized) in
     record {
       epochs = λ kept found u there. absurd (cc (sym (ap entries_of none) ∙ found));
-      room_is_told = λ kept found. absurd (cc (sym none ∙ found));
+      room_is_told = λ kept found opens. absurd (cc (sym none ∙ found));
     }
 
-fit_blank : (n size : ℕ) → IsFitImage block_layout n (zeros size)
-fit_blank n size = by_size (is_block_size size) refl
+fit_blank : (n size more : ℕ) → more ≤ 9223372036854775808 → IsFitFor block_layout n more (zeros size)
+fit_blank n size more few = by_size (is_block_size size) refl
   where
-    by_size : (b : Bool) → is_block_size size ≡ b → IsFitImage block_layout n (zeros size)
-    by_size true sized = fit_allowed n size sized
-    by_size false unsized = fit_other n size unsized
+    by_size : (b : Bool) → is_block_size size ≡ b → IsFitFor block_layout n more (zeros size)
+    by_size true sized = fit_allowed n size more few sized
+    by_size false unsized = fit_other n size more unsized
+
+pub blank_for_many : BlankDisksMayBeHandedInForMany
+blank_for_many n size more d few before = subst (λ (told : Told). IsHandedInFor block_layout n more (record d { before = told }))
+    (sym before)
+    (record { nothing_unsynced = refl; same = refl; bytes = small_bytes size; fit = fit_blank n size more few })
 
 pub blank_disks : BlankDisksMayBeHandedIn
-blank_disks n size d before = subst (λ (told : Told). IsHandedIn block_layout n (record d { before = told })) (sym before)
-    (record { nothing_unsynced = refl; same = refl; bytes = small_bytes size; fit = fit_blank n size })
+blank_disks n size d before = blank_for_many n size most_changes d (omega arith) before
+
+-- 5. In memory
+
+sim-zeros : (size : ℕ) → (blank_of size).told ≡ blank_told size
+unfolding sim_zeros
+sim-zeros size = refl
+
+at-place : (before : List Simulated) (k : ℕ) (d : DiskSeen) → AreBlank before → option_map sim_seen (slice_get before k) ≡ Some d
+    → (size : ℕ) × (d.told ≡ blank_told size)
+at-place [] k d blank is = absurd (cc is)
+at-place (x ∷ before) zero d blank is =
+    let one = All-head (λ y. (size : ℕ) × (y ≡ blank_of size)) x before blank in
+    let same : sim_seen x ≡ d = cc is in
+    (one.0, ap (λ (y : DiskSeen). y.told) (sym same) ∙ ap (λ (y : Simulated). y.told) one.1 ∙ sim-zeros one.0)
+at-place (x ∷ before) (suc k) d blank is = at-place before k d (All-tail (λ y. (size : ℕ) × (y ≡ blank_of size)) x before blank) is
+
+pub blank_in_memory : BlankDisksAreHandedIn
+blank_in_memory before after more few blank n d there =
+    let r = paired true sim_seen before after 1 n d there in
+    let zeros = at-place before r.index r.old blank r.was in
+    blank_for_many n zeros.0 more d few (ap (λ (z : DiskRun). z.before) r.run ∙ zeros.1)

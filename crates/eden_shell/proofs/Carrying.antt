@@ -25,7 +25,7 @@ use Rattle.shell_answers.specs.Answers.{Disks, IsUntouched, WantedNoMemory, IsLe
 -- those that no one touched
 pub untouched : {D : Type 0} (obeys : Bool) (look : D → DiskSeen) (disks : List D) → All IsUntouched (disk_runs obeys look disks disks)
 untouched obeys look [] = All-nil IsUntouched
-untouched obeys look (d ∷ disks) = All-cons IsUntouched _ _ (record { told = refl; counts = refl }) (untouched obeys look disks)
+untouched obeys look (d ∷ disks) = All-cons IsUntouched _ _ (record { told = refl; counts = refl; due = refl }) (untouched obeys look disks)
 
 first-wants : {D : Type 0} (f : D → ℕ) (a b : D) (before after : List D) → map f (b ∷ after) ≡ map f (a ∷ before)
     → (f b ≡ f a) × (map f after ≡ map f before)

@@ -1,8 +1,15 @@
 //! What may be handed in for a run.
-ghost use Rattle.eden_shell.specs.Blank.{BlankDisksMayBeHandedIn};
+ghost use Rattle.eden_shell.specs.Blank.{BlankDisksMayBeHandedIn, BlankDisksMayBeHandedInForMany};
+ghost use Rattle.eden_shell.specs.HandedOn.{PowerCutsHandOn};
 
 /// A disk of zeros, on which nothing was ever written, is handed in as it has to be, whatever its size: those of 4,194,304 bytes,
-/// and those of 1,048,576 bytes, which become blocks too.
+/// and those of 1,048,576 bytes, which become blocks too. It is so for as many runs as make 2^63 changes, one behind the other.
 pub fn blank_disks_may_be_handed_in()
-    ensures { BlankDisksMayBeHandedIn }
+    ensures once { BlankDisksMayBeHandedIn }
+    ensures often { BlankDisksMayBeHandedInForMany }
+{}
+
+/// A disk that a run gave back is handed on once its power is cut, where it holds bytes then.
+pub fn a_power_cut_hands_on()
+    ensures { PowerCutsHandOn }
 {}

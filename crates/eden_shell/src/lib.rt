@@ -2,9 +2,11 @@
 #![tactic(auto)]
 
 mod carry;
+mod in_memory;
 mod law;
 mod shell;
 
-pub use law::blank_disks_may_be_handed_in;
+pub use in_memory::eden_over_blank;
+pub use law::{a_power_cut_hands_on, blank_disks_may_be_handed_in};
 pub use shell::eden;
 pub use shell_answers::{Job, Outcome, Report, host_dir, status};

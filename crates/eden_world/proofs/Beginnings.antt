@@ -79,11 +79,11 @@ begins-first seen look script disks runs p begins same sized = record {
 
 pub begins-stands : {T D : Type 0} (tells : Bool) (layout : Layout) (seen : T → Seen) (look : D → DiskSeen) (ts : TypeList)
     (disks : List D) (p : Program T D) → Begins ts disks p → StandsOpened tells layout seen look ts disks p
-begins-stands tells layout seen look ts disks p begins script runs more telling types opened few = record {
+begins-stands tells layout seen look ts disks p begins script runs more telling types opened told = record {
   telling = telling;
   its_layout = opened.its_layout;
   reads = opened.reads;
-  world = opens layout more script runs (in_hand seen look p) opened.its_layout opened.handed_in few opened.eight
+  world = opens layout more script runs (in_hand seen look p) opened.its_layout opened.handed_in told opened.eight
       (begins-first seen look script disks runs p (subst (λ xs. Begins xs disks p) (sym types) begins) opened.seen opened.sized);
   agendas = begins-agendas ts disks p begins;
 }

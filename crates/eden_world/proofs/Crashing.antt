@@ -1,6 +1,6 @@
 -- A node goes down in a program: what is left of the disks, and what the entry of a crash shows of them.
 use Rattle.std.proofs.Common.{◌≡◌, ◌==◌, inl, ℕ, Bool, true, false, Option, None, Some, refl, sym, ◌∙◌, ap, subst, arith}
-use Rattle.std.specs.Prelude.{IsTrue, is_some}
+use Rattle.std.specs.Prelude.{is_some}
 use Rattle.std.specs.Option.{option_map}
 use Rattle.std.proofs.lemmas.Bool.{eqb-true}
 use Rattle.eden_disk.specs.Calls.{Counts}
@@ -12,7 +12,7 @@ use Rattle.journal.specs.declared.event.Entry.{Entry}
 use Rattle.journal.specs.declared.event.Event.TheVariants as event
 use Rattle.disk_faults.specs.Elsewhere.{shown_of}
 use Rattle.disk_faults.specs.Runs.{EntryShows}
-use Rattle.disk_faults.specs.Shows.{NoneFalls, ShowsCounts, arms}
+use Rattle.disk_faults.specs.Shows.{NoneFalls, ShowsCounts}
 use Rattle.disk_faults.proofs.Entries.{entry-here}
 use Rattle.eden_kernel.specs.Stands.{Held, held}
 use Rattle.eden_kernel.proofs.Showing.{shows-crash}
@@ -27,7 +27,7 @@ use Rattle.eden_world.specs.declared.seats.Seat.TheVariants as place
 use Rattle.eden_world.proofs.CarriedOut.{clock-of-seat, up-here}
 use Rattle.eden_world.proofs.Falls.{apart}
 use Rattle.eden_world.proofs.TellingAll.{node-up, number-of}
-use Rattle.eden_world.proofs.Untouched.{FallsNone, ShowsOf, elsewhere-shows, level-counts, none-fall, none-is}
+use Rattle.eden_world.proofs.Untouched.{FallsNone, ShowsOf, elsewhere-shows, level-counts, none-fall}
 
 -- 1. A node that is up
 
@@ -136,20 +136,20 @@ crash-shows heeding tells obeys layout seen look mode n s old new e was number l
     there : option_map disk_of (seen_at seen look (place_at new n)) ≡ Some l.disk
     there = behind tells obeys layout seen look (Some mode) n s old new was l
 
-    no-arming : IsTrue (arms n e.event) → ⊥
-    no-arming arming = let bad : false ≡ true = subst (λ v. arms n v ≡ true) is arming in cc bad
+    shown : e.clock ≡ l.disk.counts.clock
+    shown = clock ∙ clock-of-seat (seen_at seen look (place_at new n)) l.disk there
 
     shows : EntryShows heeding n e (held seen s.node).seen.disk l.disk
     shows = entry-here heeding n e (held seen s.node).seen.disk l.disk number.first
         (subst (λ v. ShowsCounts heeding n v (held seen s.node).seen.disk l.disk) (sym is)
         (shows-crash heeding n (held seen s.node).seen.disk l.disk l.left.counts l.left.due))
-        (inl (node, clock ∙ clock-of-seat (seen_at seen look (place_at new n)) l.disk there))
-        (λ arming. absurd (no-arming arming))
+        (inl (node, shown))
+        (λ none. shown ∙ ap (λ (k : Counts). k.clock) l.left.counts)
 
     go : (b : Bool) → (m == n) ≡ b → ShowsOf heeding m e (seen_at seen look (place_at old m)) (seen_at seen look (place_at new m))
     go true same = subst (λ j. ShowsOf heeding j e (seen_at seen look (place_at old j)) (seen_at seen look (place_at new j)))
         (sym (eqb-true m n same)) (shown-there heeding n e (seen_at seen look (place_at old n)) (seen_at seen look (place_at new n))
         (up (held seen s.node)) l.disk (before tells obeys layout seen look (Some mode) n s old new was l) there shows)
     go false other = elsewhere-shows heeding m e (seen_at seen look (place_at old m)) (seen_at seen look (place_at new m))
-        (others-level tells obeys layout seen look (Some mode) n s old new was l m other) (none-is m its_number (shown_of e.event)
-        (ap shown_of is)) (ap (λ k. k == m) node ∙ apart m n other)
+        (others-level tells obeys layout seen look (Some mode) n s old new was l m other)
+        (ap (λ v. shown_of v == m) is ∙ apart m n other) (ap (λ k. k == m) node ∙ apart m n other)

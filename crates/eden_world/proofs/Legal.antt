@@ -9,9 +9,9 @@ use Rattle.passive_store.specs.Layout.{IsLayout}
 use Rattle.passive_store.specs.Seen.{Seen, DiskSeen}
 use Rattle.journal.specs.declared.command.Script.{Script}
 use Rattle.journal.specs.declared.event.Entry.{Entry}
-use Rattle.journal.specs.Faults.{EachHasItsCommand, ShowsEach, ShowsNoMore}
+use Rattle.journal.specs.Faults.{EachHasItsCommand, EachShowsClockBefore, IsLeftArmed, ShowsEach, ShowsNoMore}
 use Rattle.journal.specs.Fit.{IsFit}
-use Rattle.journal.specs.Laws.{EachDiskStands}
+use Rattle.journal.specs.Laws.{EachDiskStands, LeaveRoom}
 use Rattle.journal.specs.LegalRun.{AreHandedIn, EachDisk, EndsAt, IsLegalRun, IsLegalSoFar, end_over, numbered, opening_world, run_over}
 use Rattle.journal.specs.Run.{Position, Step, EachStep, FollowsSoFar, beginning}
 use Rattle.journal.specs.Standing.{DiskRun, StandsThroughout, nothing_added, unfinished}
@@ -35,7 +35,7 @@ use Rattle.eden_world.proofs.IdleSteps.{StillIfIdle, still-steps}
 use Rattle.eden_world.proofs.LegalDisks.{IsAtPlace, at-place, clock-stands, did-on, disk_at, ends-on, left-on, shown-on}
 use Rattle.eden_world.proofs.Numbers.{not-zero}
 use Rattle.eden_world.proofs.Openings.{stands-first}
-use Rattle.eden_world.proofs.ShownRuns.{commands-shown, shows-each, shows-no_more}
+use Rattle.eden_world.proofs.ShownRuns.{PartShows, armed-shown, clocks-shown, commands-shown, part-shown, shows-each, shows-no_more}
 use Rattle.eden_world.proofs.WrittenNone.{write-none}
 
 -- 1. Faults, whatever world the program stands for, and over disks that need not tell
@@ -121,13 +121,15 @@ pub legal-run : {T D : Type 0} (tells obeys : Bool) (layout : Layout) (seen : T 
     → IsLayout layout → IsFit script → AreHandedIn layout (disk_runs obeys look before after) → length before ≡ 8
     → Begins types before first
     → IsDone (Stands tells layout seen look) (Did layout seen look) first run
-    (opening_world layout script (disk_runs obeys look before after)) script.nodes script.commands
+    (opening_world layout script (disk_runs obeys look before after)) script.nodes script.commands 0
     → ShowsAll (EachShows obeys seen look) first run.history.items run.machine → AreGiven seen look run.machine after
+    → LeaveRoom layout (disk_runs obeys look before after)
     → IsLegalRun layout script (disk_runs obeys look before after) run.history.items
-legal-run tells obeys layout seen look script types before after first run lays fit handed eight begins done shows given =
+legal-run tells obeys layout seen look script types before after first run lays fit handed eight begins done shows given room =
     runs-are-legal layout script runs history lays handed
     (write-none (names_of script.types) script.nodes script.commands fit.commands) done.follows stand ends
     (faults-shown obeys obeys seen look types before after first run.machine history (omega (arith, eight)) begins given shows) commands
+    counted armed room
   where
     runs : List DiskRun
     runs = disk_runs obeys look before after
@@ -164,6 +166,20 @@ legal-run tells obeys layout seen look script types before after first run lays 
         (shown-on obeys seen look n x.number) (start layout script runs) history first run.machine x.old x.new x.was x.is
         (still layout script runs history done.follows.leads) shows)
 
+    counted : EachDisk runs (EachShowsClockBefore run_is)
+    counted n d there = let x = at n d there in
+        subst (λ (z : DiskRun). EachShowsClockBefore run_is n z) (sym x.run)
+        (clocks-shown obeys n (EachShows obeys seen look) (disk_at seen look n) (not-zero n x.number)
+        (shown-on obeys seen look n x.number) (start layout script runs) history first run.machine x.old x.new x.was x.is
+        (still layout script runs history done.follows.leads) shows)
+
+    armed : EachDisk runs (IsLeftArmed run_is)
+    armed n d there = let x = at n d there in
+        subst (λ (z : DiskRun). IsLeftArmed run_is n z) (sym x.run)
+        (armed-shown obeys n (EachShows obeys seen look) (disk_at seen look n) (not-zero n x.number)
+        (shown-on obeys seen look n x.number) (start layout script runs) history first run.machine x.old x.new x.was x.is
+        (still layout script runs history done.follows.leads) shows)
+
 -- 4. One that want of memory ended
 
 pub legal-part : {T D : Type 0} (obeys : Bool) (layout : Layout) (seen : T → Seen) (look : D → DiskSeen) (script : Script)
@@ -179,6 +195,10 @@ legal-part obeys layout seen look script types before after first run lays fit h
     runs-are-legal-so-far layout script runs history lays handed
     (write-none (names_of script.types) script.nodes script.commands fit.commands) cut.begins stand
     (faults-shown_so_far obeys obeys seen look types before after first run.machine history (omega (arith, eight)) begins given shows)
+    (λ n d there. let x = at n d there in
+    subst (λ (z : DiskRun). EachHasItsCommand run_is n z) (sym x.run) (part n d x).commands)
+    (λ n d there. let x = at n d there in
+    subst (λ (z : DiskRun). EachShowsClockBefore run_is n z) (sym x.run) (part n d x).counted)
   where
     runs : List DiskRun
     runs = disk_runs obeys look before after
@@ -202,3 +222,9 @@ legal-part obeys layout seen look script types before after first run lays fit h
         first run.machine obeys x.old x.new (not-zero n x.number) (did-on layout seen look n x.number) (ends-on layout seen look n x.number)
         (still layout script runs history cut.begins) (first-state layout script runs n obeys d x.old x.new lays handed there x.run)
         x.was x.is cut.came)
+
+    part : (n : ℕ) (d : DiskRun) → (x : IsAtPlace obeys seen look first run.machine n d)
+        → PartShows (start layout script runs) history n (disk_run obeys x.old x.new)
+    part n d x = part-shown obeys n (EachShows obeys seen look) (FitsTogether seen) (KeepsDisks seen look) (disk_at seen look n)
+        (not-zero n x.number) (shown-on obeys seen look n x.number) (left-on seen look n x.number) (start layout script runs) history first
+        run.machine x.old x.new x.was x.is (still layout script runs history cut.begins) shows

@@ -1,5 +1,5 @@
 -- A program that began over disks that were handed in, and carried a fit script: its run is legal, and so far where memory was wanting.
-use Rattle.std.proofs.Common.{◌≡◌, ◌≤◌, inl, inr, ℕ, Bool, true, false, List, [], length, refl, sym, subst, arith}
+use Rattle.std.proofs.Common.{◌≡◌, ◌≤◌, inl, inr, ℕ, ◌+◌, Bool, true, false, List, [], length, refl, sym, subst, arith}
 use Rattle.std.specs.Prelude.{IsTrue}
 use Rattle.epl_syntax.specs.Rules.OfTypes.{names_of}
 use Rattle.passive_store.specs.Kept.{Layout}
@@ -7,11 +7,12 @@ use Rattle.passive_store.specs.Seen.{Seen, DiskSeen}
 use Rattle.journal.specs.declared.command.Script.{Script}
 use Rattle.journal.specs.declared.event.Entry.{Entry}
 use Rattle.journal.specs.Faults.{ShowsEach, ShowsNoMore}
-use Rattle.journal.specs.LegalRun.{EachDisk, IsLegalRun, IsLegalSoFar, opening_world}
+use Rattle.journal.specs.LegalRun.{AreToldFor, EachDisk, IsLegalRun, IsLegalSoFar, end_over, opening_world}
+use Rattle.journal.specs.Opening.{most_changes}
 use Rattle.journal.specs.Standing.{DiskRun}
 use Rattle.runs.specs.Machines.{IsLeft, ShowsAll}
 use Rattle.runs.specs.Room.{most_entries}
-use Rattle.runs.specs.Runs.{CarriesAll, CarriesPart, KeepsShown, KeepsShownSoFar, MayBegin}
+use Rattle.runs.specs.Runs.{CarriesAll, CarriesPart, IsDone, KeepsShown, KeepsShownSoFar, MayBegin}
 use Rattle.runs.specs.declared.run.Run.{Run}
 use Rattle.runs.proofs.Reaching.{may-begin}
 use Rattle.eden_world.specs.InHand.{Did, Ends, Stands}
@@ -21,31 +22,49 @@ use Rattle.eden_world.specs.Seated.{AreGiven, EachShows, FitsTogether, IsSeated,
 use Rattle.eden_world.specs.declared.World.{World as Program}
 use Rattle.eden_world.proofs.Beginnings.{begins-stands}
 use Rattle.eden_world.proofs.Legal.{faults-shown, faults-shown_so_far, legal-part, legal-run}
+use Rattle.eden_world.proofs.LeftRoom.{leave-room}
 use Rattle.eden_world.proofs.OpenedRuns.{opened-runs}
 
 -- 1. The run may begin
 
 may-carry : {T D : Type 0} (tells obeys : Bool) (layout : Layout) (seen : T → Seen) (look : D → DiskSeen) (script : Script)
-    (before after : List D) (run : Run (Program T D)) → IsInOrder tells obeys layout look script before after → IsAtStart script before run
+    (before after : List D) (run : Run (Program T D)) (spare : ℕ) → IsInOrder tells obeys layout look script before after
+    → IsAtStart script before run
+    → AreToldFor layout (most_entries script.nodes script.commands + spare) (disk_runs obeys look before after)
     → MayBegin (Stands tells layout seen look) run (opening_world layout script (disk_runs obeys look before after))
-    (names_of script.types) script.nodes script.commands
-may-carry tells obeys layout seen look script before after run order new =
-    may-begin (Stands tells layout seen look) run layout script runs order.its_layout order.handed_in order.fit
+    (names_of script.types) script.nodes script.commands spare
+may-carry tells obeys layout seen look script before after run spare order new told =
+    may-begin (Stands tells layout seen look) run layout script runs spare order.its_layout order.handed_in order.fit
     (let nodes : script.nodes ≤ 8 = order.fit.nodes.1 in omega (arith, nodes, opened.eight)) new.history new.turns new.last new.again (
       most,
       omega arith,
       begins-stands tells layout seen look script.types before run.machine new.begins script runs most order.telling refl
-          opened order.few,
+          opened told,
     )
   where
     runs : List DiskRun
     runs = disk_runs obeys look before after
 
     most : ℕ
-    most = most_entries script.nodes script.commands
+    most = most_entries script.nodes script.commands + spare
 
     opened : IsOpened layout look before runs
     opened = opened-runs obeys layout look before after order.its_layout order.reads order.handed_in order.eight order.given order.sized
+
+-- as fit images have it, the room is told for all that the script gives
+told-enough : {D : Type 0} (tells obeys : Bool) (layout : Layout) (look : D → DiskSeen) (script : Script) (before after : List D)
+    → IsInOrder tells obeys layout look script before after
+    → AreToldFor layout (most_entries script.nodes script.commands + 0) (disk_runs obeys look before after)
+told-enough tells obeys layout look script before after order n d there kept map opens =
+    omega (arith, order.few, (order.handed_in n d there).fit.room_is_told kept map opens)
+
+-- and for more, where it is told for more
+told-besides : {D : Type 0} (tells obeys : Bool) (layout : Layout) (look : D → DiskSeen) (script : Script) (before after : List D)
+    (more : ℕ) → IsInOrder tells obeys layout look script before after
+    → AreToldFor layout (most_changes + more) (disk_runs obeys look before after)
+    → AreToldFor layout (most_entries script.nodes script.commands + more) (disk_runs obeys look before after)
+told-besides tells obeys layout look script before after more order told n d there kept map opens =
+    omega (arith, order.few, told n d there kept map opens)
 
 -- nothing was shown before it
 none-shown : {T D : Type 0} (obeys : Bool) (seen : T → Seen) (look : D → DiskSeen) (run : Run (Program T D)) → run.history.items ≡ []
@@ -67,11 +86,19 @@ pub carried-legal : {T D : Type 0} (tells obeys : Bool) (layout : Layout) (seen 
     → IsLegalRun layout script (disk_runs obeys look before after) new.history.items
 carried-legal tells obeys layout seen look script before after old new order first carries shows given =
     legal-run tells obeys layout seen look script script.types before after old.machine new order.its_layout order.fit order.handed_in
-    order.eight first.begins
-    (carries (opening_world layout script (disk_runs obeys look before after)) (names_of script.types)
-    (may-carry tells obeys layout seen look script before after old order first))
+    order.eight first.begins (done 0 (told-enough tells obeys layout look script before after order))
     (subst (λ b. KeepsShown (EachShows b seen look) old new) (heeds-telling tells obeys order.telling) shows old.machine
     (none-shown obeys seen look old first.history)) given
+    (λ more told. let stays = (done more (told-besides tells obeys layout look script before after more order told)).stays in
+    leave-room tells obeys layout seen look script.types before after old.machine new.machine
+    (end_over layout script (disk_runs obeys look before after) new.history.items) more stays.0 (let eight = order.eight in omega
+    (arith, eight)) first.begins given stays.1 stays.2)
+  where
+    done : (spare : ℕ) → AreToldFor layout (most_entries script.nodes script.commands + spare) (disk_runs obeys look before after)
+        → IsDone (Stands tells layout seen look) (Did layout seen look) old.machine new
+        (opening_world layout script (disk_runs obeys look before after)) script.nodes script.commands spare
+    done spare told = carries (opening_world layout script (disk_runs obeys look before after)) (names_of script.types) spare
+        (may-carry tells obeys layout seen look script before after old spare order first told)
 
 -- its faults are shown over disks that need not tell as well
 pub carried-shows : {T D : Type 0} (obeys told : Bool) (seen : T → Seen) (look : D → DiskSeen) (script : Script) (before after : List D)
@@ -92,8 +119,9 @@ pub carried-part : {T D : Type 0} (tells obeys : Bool) (layout : Layout) (seen :
 carried-part tells obeys layout seen look script before after old new order first carries shows given =
     legal-part obeys layout seen look script script.types before after old.machine new order.its_layout order.fit order.handed_in
     order.eight first.begins
-    (carries (opening_world layout script (disk_runs obeys look before after)) (names_of script.types)
-    (may-carry tells obeys layout seen look script before after old order first))
+    (carries (opening_world layout script (disk_runs obeys look before after)) (names_of script.types) 0
+    (may-carry tells obeys layout seen look script before after old 0 order first
+    (told-enough tells obeys layout look script before after order)))
     (subst (λ b. KeepsShownSoFar (EachShows b seen look) (FitsTogether seen) (KeepsDisks seen look) old new)
     (heeds-telling tells obeys order.telling) shows old.machine (none-shown obeys seen look old first.history)) given
 

@@ -51,6 +51,7 @@ pub mod AlongRuns
 pub mod ShownRuns
 pub mod DiskPairs
 pub mod LegalDisks
+pub mod LeftRoom
 pub mod Legal
 pub mod OpenedRuns
 pub mod LegalCarried

@@ -1,5 +1,5 @@
 -- Before the first entry: over disks that are handed in as they have to be what is in hand stands for the opening world.
-use Rattle.std.proofs.Common.{◌≡◌, inl, inr, ◌==◌, ◌≤◌, ℕ, Bool, true, false, cond, not, ◌&&◌, List, [], ◌∷◌, length, map}
+use Rattle.std.proofs.Common.{◌≡◌, inl, inr, ◌==◌, ℕ, Bool, true, false, cond, not, ◌&&◌, List, [], ◌∷◌, length, map}
 use Rattle.std.proofs.Common.{Option, None}
 use Rattle.std.proofs.Common.{Some, Result, Ok, Err, refl, sym, ◌∙◌, ap, subst, arith}
 use Rattle.std.specs.Prelude.{IsSomeAnd}
@@ -16,9 +16,9 @@ use Rattle.passive_store.specs.Kept.{Layout, Kept}
 use Rattle.passive_store.specs.Layout.{IsLayout}
 use Rattle.journal.specs.declared.command.Script.{Script}
 use Rattle.journal.specs.World.{World, Node, Site, Eject, site_of}
-use Rattle.journal.specs.Opening.{most_changes, node_of, node_from, entries_of, ledger_of, passive, passive_entry}
+use Rattle.journal.specs.Opening.{IsToldFor, node_of, node_from, entries_of, ledger_of, passive, passive_entry}
 use Rattle.journal.specs.Standing.{DiskRun}
-use Rattle.journal.specs.LegalRun.{AreHandedIn, EachDisk, IsHandedIn, images, numbered, opening_world}
+use Rattle.journal.specs.LegalRun.{AreHandedIn, AreToldFor, EachDisk, IsHandedIn, images, numbered, opening_world}
 use Rattle.history_laws.proofs.AtTheOpening.{at-the-opening}
 use Rattle.checkpoint.specs.BarredBoots.{damaged, overfull}
 use Rattle.checkpoint.specs.Throughout.{StandsFirst}
@@ -57,10 +57,10 @@ abbrev image_of : DiskRun → List ℕ
 image_of d = (contents d.before).now
 
 -- the seat of a node that is handed in
-first-seat : (layout : Layout) (more n : ℕ) (w : World) (d : DiskRun) → IsLayout layout → more ≤ most_changes → w.layout ≡ layout
-    → IsHandedIn layout n d → length (image_of d) ≡ d.first.size
+first-seat : (layout : Layout) (more n : ℕ) (w : World) (d : DiskRun) → IsLayout layout → IsToldFor layout n more (image_of d)
+    → w.layout ≡ layout → IsHandedIn layout n d → length (image_of d) ≡ d.first.size
     → DownStands layout more (site_of w n (node_of layout (n, image_of d))) None (first_seen d)
-first-seat layout more n w d lays few its_layout handed sized = record {
+first-seat layout more n w d lays told its_layout handed sized = record {
   asleep = λ u e is. asleep-from n (length (image_of d)) (layout.map_of n (image_of d)) (layout.is_overfull n (image_of d)) u e is;
   disk = go (layout.map_of n (image_of d)) refl (layout.is_overfull n (image_of d)) refl;
 }
@@ -100,7 +100,7 @@ first-seat layout more n w d lays few its_layout handed sized = record {
     )
     go (Ok kept) map false small = inl (
       layout.changes_told n (image_of d),
-      omega (arith, few, handed.fit.room_is_told kept map),
+      told kept map small,
       rests-first layout n s kept d.before d.first.size d.first.clock lays (record {
         number = refl;
         its_layout = its_layout;
@@ -148,8 +148,9 @@ eight-keys layout (a ∷ b ∷ c ∷ d ∷ e ∷ f ∷ g ∷ h ∷ x ∷ xs) is 
 -- 3. The world
 
 pub opens : (layout : Layout) (more : ℕ) (script : Script) (disks : List DiskRun) (h : InHand) → IsLayout layout → AreHandedIn layout disks
-    → more ≤ most_changes → length disks ≡ 8 → IsFirst script disks h → WorldStands layout more h (opening_world layout script disks)
-opens layout more script disks h lays handed few long first = record {
+    → AreToldFor layout more disks → length disks ≡ 8 → IsFirst script disks h
+    → WorldStands layout more h (opening_world layout script disks)
+opens layout more script disks h lays handed told long first = record {
   its_layout = refl;
   its_types = ap types_in (sym first.types);
   numbers = eight-keys layout disks long;
@@ -178,7 +179,8 @@ opens layout more script disks h lays handed few long first = record {
         subst (λ o. IsSomeAnd o (SeatStands layout h.types h.mail more (site_of (opening_world layout script disks) n it)))
         (sym (first.seats n d there))
         (subst (λ x. DownStands layout more (site_of (opening_world layout script disks) n x) None (first_seen d)) node_is
-        (first-seat layout more n (opening_world layout script disks) d lays few refl (handed n d there) (first.sized n d there)))
+        (first-seat layout more n (opening_world layout script disks) d lays (told n d there) refl (handed n d there)
+        (first.sized n d there)))
 
 -- and a crash leaves of each disk only what stands for the state of its node
 pub stands-first : (layout : Layout) (script : Script) (disks : List DiskRun) → IsLayout layout → AreHandedIn layout disks

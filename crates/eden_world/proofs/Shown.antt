@@ -6,7 +6,7 @@ use Rattle.std.proofs.lemmas.Bool.{eqb-true, eq-eqb}
 use Rattle.eden_disk.specs.Calls.{faults_after, stops_after}
 use Rattle.passive_store.specs.declared.store.Pick.{Pick}
 use Rattle.passive_store.specs.Seen.{Seen, DiskSeen}
-use Rattle.journal.specs.Faults.{shows_fault, shows_stop}
+use Rattle.journal.specs.Faults.{makes_no_call, shows_fault, shows_stop}
 use Rattle.journal.specs.declared.event.BootEnd.{BootEnd}
 use Rattle.journal.specs.declared.event.BootEnd.TheVariants as end
 use Rattle.journal.specs.declared.event.Entry.{Entry}
@@ -16,7 +16,7 @@ use Rattle.checkpoint.specs.Calls.{MakesCalls, call_of_fall, powered}
 use Rattle.checkpoint.specs.declared.up.BootNote.{BootNote}
 use Rattle.disk_faults.specs.Elsewhere.{shown_of}
 use Rattle.disk_faults.specs.Runs.{EntryShows}
-use Rattle.disk_faults.specs.Shows.{NoneFalls, ShowsCounts, arms, count_behind}
+use Rattle.disk_faults.specs.Shows.{NoneFalls, ShowsCounts, count_behind}
 use Rattle.disk_faults.proofs.Entries.{entry-elsewhere}
 use Rattle.eden_kernel.specs.Shows.{boot_event}
 use Rattle.eden_kernel.proofs.Showing.{none-falls, none-fell}
@@ -75,13 +75,13 @@ boot-counts false obeys n how note a b shows calls = unheeded n how note a b cal
 
 -- 2. An entry on the disk of its node
 
-pub entry-on : (obeys : Bool) (n : ℕ) (v : Event) (e : Entry) (a b : DiskSeen) → ShowsCounts obeys n v a b → e.event ≡ v → arms n v ≡ false
-    → e.node ≡ n → e.clock ≡ b.counts.clock → EntryShows obeys n e a b
-entry-on obeys n v e a b shows is unarmed node clock = record {
+pub entry-on : (obeys : Bool) (n : ℕ) (v : Event) (e : Entry) (a b : DiskSeen) → ShowsCounts obeys n v a b → e.event ≡ v
+    → makes_no_call n v ≡ false → e.node ≡ n → e.clock ≡ b.counts.clock → EntryShows obeys n e a b
+entry-on obeys n v e a b shows is calls node clock = record {
   shows = subst (λ x. ShowsCounts obeys n x a b) (sym is) shows;
   shown = λ same. clock;
   elsewhere = λ other. absurd (let bad : true ≡ false = sym (eq-eqb e.node n node) ∙ other in cc bad);
-  counted = λ arming. absurd (let bad : false ≡ true = sym (ap (arms n) is ∙ unarmed) ∙ arming in cc bad);
+  counted = λ none. absurd (let bad : false ≡ true = sym (ap (makes_no_call n) is ∙ calls) ∙ none in cc bad);
 }
 
 shown-both : (obeys : Bool) (n : ℕ) (e : Entry) (o p : Option Seat) (a b : DiskSeen) → option_map disk_of o ≡ Some a

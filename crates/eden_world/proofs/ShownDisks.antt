@@ -10,9 +10,10 @@ use Rattle.passive_store.specs.Seen.{Seen, DiskSeen}
 use Rattle.journal.specs.declared.event.Entry.{Entry}
 use Rattle.journal.specs.declared.event.Event.{Event}
 use Rattle.journal.specs.declared.event.Event.TheVariants as event
+use Rattle.journal.specs.Faults.{makes_no_call}
 use Rattle.disk_faults.specs.Elsewhere.{shown_of}
 use Rattle.disk_faults.specs.Runs.{EntryShows}
-use Rattle.disk_faults.specs.Shows.{ShowsCounts, NoneFalls, arms, count_behind}
+use Rattle.disk_faults.specs.Shows.{ShowsCounts, NoneFalls, count_behind}
 use Rattle.disk_faults.proofs.Entries.{entry-here, entry-elsewhere}
 use Rattle.scheduled_node.specs.Touched.{IsNodeTurn}
 use Rattle.eden_world.specs.InHand.{place_at, seen_at, in_hand}
@@ -59,14 +60,14 @@ none-fell c = record { clock = omega arith; faults = omega arith; stops = omega 
 
 -- 2. The entry of a node's turn
 
-not-arming : (m n : ℕ) (v : Event) → IsNodeTurn n v → arms m v ≡ false
-not-arming m n (event.Request k a b refused) is = refl
-not-arming m n (event.Reply k a b name why values) is = refl
-not-arming m n (event.Start k u p) is = refl
-not-arming m n (event.Process u p said) is = refl
-not-arming m n (event.Activate u how p) is = refl
-not-arming m n (event.Store u clock how p) is = refl
-not-arming m n _ is = absurd is
+may-call : (m n : ℕ) (v : Event) → IsNodeTurn n v → makes_no_call m v ≡ false
+may-call m n (event.Request k a b refused) is = refl
+may-call m n (event.Reply k a b name why values) is = refl
+may-call m n (event.Start k u p) is = refl
+may-call m n (event.Process u p said) is = refl
+may-call m n (event.Activate u how p) is = refl
+may-call m n (event.Store u clock how p) is = refl
+may-call m n _ is = absurd is
 
 not-true : {A : Type 0} (b : Bool) → b ≡ false → IsTrue b → A
 not-true b off on = absurd (let bad : false ≡ true = sym off ∙ on in cc bad)
@@ -85,7 +86,7 @@ pub turn-shows : (obeys : Bool) (n : ℕ) (v : Event) (e : Entry) (old new : Dis
 turn-shows obeys n v e old new some turn counts is shows =
     entry-here obeys n e old new some (subst (λ z. ShowsCounts obeys n z old new) (sym is) counts)
     (go (turn_touches v old.counts.clock new.counts.clock) refl shows)
-    (λ arming. not-true (arms n e.event) (ap (arms n) is ∙ not-arming n n v turn) arming)
+    (λ none. not-true (makes_no_call n e.event) (ap (makes_no_call n) is ∙ may-call n n v turn) none)
   where
     go : (b : Bool) → turn_touches v old.counts.clock new.counts.clock ≡ b → ShowsIf b n new.counts.clock e
         → ((e.node ≡ n) × (e.clock ≡ new.counts.clock)) ⊎ ((e.node ≡ 0) × (new.counts.clock ≡ old.counts.clock))

@@ -5,11 +5,13 @@ use Rattle.std.specs.Prelude.{IfSome, IsSomeAnd}
 use Rattle.eden_disk.specs.Calls.{Counts}
 use Rattle.passive_store.specs.Seen.{DiskSeen}
 use Rattle.journal.specs.declared.event.Entry.{Entry}
-use Rattle.journal.specs.Faults.{EachHasItsCommand, RoseBy, ShowsEach, ShowsNoMore, number_of, shows_fault, shows_stop}
+use Rattle.journal.specs.Faults.{EachHasItsCommand, EachShowsClockBefore, IsLeftArmed, RoseBy, ShowsEach, ShowsNoMore}
+use Rattle.journal.specs.Faults.{number_of, shows_fault, shows_stop}
+use Rattle.journal.specs.Standing.{DiskRun}
 use Rattle.journal.specs.Run.{Position, Step, EachStep, lead, steps}
 use Rattle.disk_faults.specs.Runs.{EntryShows, RunShows}
 use Rattle.disk_faults.specs.Shows.{NoneFalls, count_behind}
-use Rattle.disk_faults.proofs.Commands.{has-commands}
+use Rattle.disk_faults.proofs.Commands.{has-commands, left-armed, shows-clocks}
 use Rattle.disk_faults.proofs.Entries.{entry-elsewhere}
 use Rattle.disk_faults.proofs.Sums.{entry-level, falls-none, level}
 use Rattle.runs.specs.Machines.{IsLeft, Leaves, Shows, ShowsAll, ShowsOne, ShowsPart, Whole, is_idle}
@@ -234,3 +236,53 @@ commands-shown obeys n shows disk some each p history first last x y was is stil
     (both-at (RunShows obeys n (steps p history)) (disk first) (disk last) x y was is
     (run-shows obeys n shows disk some each p [] history first last (ap is_some was) still all))
     (level y.counts y.counts refl)
+
+-- of which the last is any disk that came of no other than these
+run-to : {M : Type 0} (obeys : Bool) (n : ℕ) (shows : Shows M) (disk : M → Option DiskSeen) → (0 == n) ≡ false
+    → EachShown obeys n shows disk → (p : Position) (history : List Entry) (first last : M) (x y : DiskSeen)
+    → disk first ≡ Some x → disk last ≡ Some y → EachStep (λ past s. StillIfIdle s) [] (steps p history)
+    → ShowsAll shows first history last → RunShows obeys n (steps p history) x y
+run-to obeys n shows disk some each p history first last x y was is still all =
+    both-at (RunShows obeys n (steps p history)) (disk first) (disk last) x y was is
+    (run-shows obeys n shows disk some each p [] history first last (ap is_some was) still all)
+
+-- it is armed as they asked
+pub armed-shown : {M : Type 0} (obeys : Bool) (n : ℕ) (shows : Shows M) (disk : M → Option DiskSeen) → (0 == n) ≡ false
+    → EachShown obeys n shows disk → (p : Position) (history : List Entry) (first last : M) (x y : DiskSeen)
+    → disk first ≡ Some x → disk last ≡ Some y → EachStep (λ past s. StillIfIdle s) [] (steps p history)
+    → ShowsAll shows first history last → IsLeftArmed (steps p history) n (disk_run obeys x y)
+armed-shown obeys n shows disk some each p history first last x y was is still all =
+    left-armed n p history (disk_run obeys x y) y (run-to obeys n shows disk some each p history first last x y was is still all) refl
+
+-- and where no memory was found behind them, each has its command all the same, and the clocks are as they were
+pub record PartShows (p : Position) (history : List Entry) (n : ℕ) (d : DiskRun) : Type 0 where
+  pub commands : EachHasItsCommand (steps p history) n d
+  pub counted : EachShowsClockBefore (steps p history) n d
+
+pub clocks-shown : {M : Type 0} (obeys : Bool) (n : ℕ) (shows : Shows M) (disk : M → Option DiskSeen) → (0 == n) ≡ false
+    → EachShown obeys n shows disk → (p : Position) (history : List Entry) (first last : M) (x y : DiskSeen)
+    → disk first ≡ Some x → disk last ≡ Some y → EachStep (λ past s. StillIfIdle s) [] (steps p history)
+    → ShowsAll shows first history last → EachShowsClockBefore (steps p history) n (disk_run obeys x y)
+clocks-shown obeys n shows disk some each p history first last x y was is still all =
+    shows-clocks n p history (disk_run obeys x y) y (run-to obeys n shows disk some each p history first last x y was is still all)
+
+pub part-shown : {M : Type 0} (obeys : Bool) (n : ℕ) (shows : Shows M) (whole : Whole M) (leaves : Leaves M) (disk : M → Option DiskSeen)
+    → (0 == n) ≡ false → EachShown obeys n shows disk → EachLeft leaves disk → (p : Position) (history : List Entry) (first last : M)
+    (x y : DiskSeen) → disk first ≡ Some x → disk last ≡ Some y → EachStep (λ past s. StillIfIdle s) [] (steps p history)
+    → ShowsPart shows whole leaves first history last → PartShows p history n (disk_run obeys x y)
+part-shown obeys n shows whole leaves disk some each left p history first last x y was is still (between, all, rest) =
+    go (disk between) refl
+  where
+    both : Both (RunShows obeys n (steps p history)) (disk first) (disk between)
+    both = run-shows obeys n shows disk some each p [] history first between (ap is_some was) still all
+
+    go : (o : Option DiskSeen) → disk between ≡ o → PartShows p history n (disk_run obeys x y)
+    go None none = absurd (let bad : false ≡ true = sym (ap is_some none)
+        ∙ both-there (RunShows obeys n (steps p history)) (disk first) (disk between) both in cc bad)
+    go (Some m) there =
+        let run = both-at (RunShows obeys n (steps p history)) (disk first) (disk between) x m was there both in
+        record {
+          commands = has-commands (steps p history) n (disk_run obeys x y) m run
+              (not-fallen whole leaves disk left between last m y there is rest);
+          counted = shows-clocks n p history (disk_run obeys x y) m run;
+        }

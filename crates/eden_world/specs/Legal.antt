@@ -26,6 +26,7 @@ disk_run obeys before after = record {
   first = before.counts;
   after = after.told;
   last = after.counts;
+  left = after.due;
 }
 
 -- Those that were handed in, in the order of their nodes, each with the one that was given back in its place. Where one list is shorter

@@ -1,5 +1,5 @@
 -- The opening worlds for which a program stands that begins over the disks of a run.
-use Rattle.std.specs.Prelude.{◌≡◌, ◌≤◌, ℕ, Bool, List, length, map, IsTrue}
+use Rattle.std.specs.Prelude.{◌≡◌, ℕ, Bool, List, length, map, IsTrue}
 use Rattle.eden_disk.specs.Told.{contents}
 use Rattle.epl_syntax.specs.Rules.OfTypes.{TypeList}
 use Rattle.passive_store.specs.Kept.{Layout}
@@ -7,8 +7,7 @@ use Rattle.passive_store.specs.Layout.{IsLayout}
 use Rattle.passive_store.specs.Seen.{Seen, DiskSeen}
 use Rattle.checkpoint.specs.Touches.{ReadsByCalls}
 use Rattle.journal.specs.declared.command.Script.{Script}
-use Rattle.journal.specs.LegalRun.{AreHandedIn, EachDisk, opening_world}
-use Rattle.journal.specs.Opening.{most_changes}
+use Rattle.journal.specs.LegalRun.{AreHandedIn, AreToldFor, EachDisk, opening_world}
 use Rattle.journal.specs.Standing.{DiskRun}
 use Rattle.eden_world.specs.InHand.{Stands}
 use Rattle.eden_world.specs.Openings.{first_seen}
@@ -23,7 +22,8 @@ pub record IsOpened {D : Type 0} (layout : Layout) (look : D → DiskSeen) (disk
   pub seen : map look disks ≡ map first_seen runs
   pub sized : EachDisk runs (λ n d. length (contents d.before).now ≡ d.first.size)
 
--- Then it stands for the opening world of each script with these types, with the room told for as many changes as a run can make.
+-- Then it stands for the opening world of each script with these types, with the room told for as many changes as that of each disk is.
 abbrev pub StandsOpened : {T D : Type 0} → Bool → Layout → (T → Seen) → (D → DiskSeen) → TypeList → List D → Program T D → Type 0
 StandsOpened tells layout seen look ts disks p = (script : Script) (runs : List DiskRun) (more : ℕ) → IsTrue tells → script.types ≡ ts
-    → IsOpened layout look disks runs → more ≤ most_changes → Stands tells layout seen look p more (opening_world layout script runs)
+    → IsOpened layout look disks runs → AreToldFor layout more runs
+    → Stands tells layout seen look p more (opening_world layout script runs)

@@ -11,9 +11,10 @@ use Rattle.eden_disk.specs.Timed.{Timed, InOrder}
 use Rattle.passive_store.specs.Kept.{Layout}
 use Rattle.journal.specs.Run.{Step}
 use Rattle.journal.specs.World.{World}
-use Rattle.journal.specs.Standing.{DiskRun, Stands, ShowsItsClock, state, state_before, at, from_past, is_past, with_changes}
+use Rattle.journal.specs.Standing.{DiskRun, Stands, StandsThroughout, ShowsItsClock, state, state_before, at, from_past, is_past}
+use Rattle.journal.specs.Standing.{nothing_added, with_changes}
 use Rattle.journal.specs.LegalRun.{opening_world, last_world, run_of}
-use Rattle.journal.specs.Laws.{DisksStandAtTheEnd}
+use Rattle.journal.specs.Laws.{DisksStandAtTheEnd, LeavesItsState}
 
 -- behind the last act, what stands there may be left
 behind-last : (c : Contents) (began : ℕ) (acts : List Act) (ended : ℕ) (image : List ℕ) → InOrder c began acts ended
@@ -56,12 +57,15 @@ stands-last layout n last [] image e there =
     subst (λ cs. Stands layout n (record (state last n) { changes = cs }) image) (append-nil (state last n).changes) there
 stands-last layout n last (s ∷ steps) image e there = absurd cc
 
-pub at-the-end : DisksStandAtTheEnd
-at-the-end layout script disks history legal n d is image left =
-    let stands = legal.safe.each_disk_stands n d is in
-    stands-last layout n (last_world (opening_world layout script disks) script history)
-    (from_past n d.last.clock (run_of (opening_world layout script disks) script history)) image
-    (none-past n d (run_of (opening_world layout script disks) script history) stands.clocks)
+pub left-stands : (layout : Layout) (last : World) (run : List Step) (n : ℕ) (d : DiskRun)
+    → StandsThroughout layout last run nothing_added n d → LeavesItsState layout last n d.after
+left-stands layout last run n d stands image left =
+    stands-last layout n last (from_past n d.last.clock run) image (none-past n d run stands.clocks)
     (stands.behind d.last.clock image (rises (contents d.before) d.first.clock d.last.clock stands.same.acts stands.same.order)
     (omega arith)
     (left-last d.first.clock d.last.clock d.before d.after image stands.same left))
+
+pub at-the-end : DisksStandAtTheEnd
+at-the-end layout script disks history legal n d is =
+    left-stands layout (last_world (opening_world layout script disks) script history)
+    (run_of (opening_world layout script disks) script history) n d (legal.safe.each_disk_stands n d is)

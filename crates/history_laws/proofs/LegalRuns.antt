@@ -1,12 +1,18 @@
 -- A run is legal once its history follows and its disks stand: the rest are laws.
-use Rattle.std.proofs.Common.{List}
+use Rattle.std.proofs.Common.{List, []}
 use Rattle.passive_store.specs.Kept.{Layout}
 use Rattle.passive_store.specs.Layout.{IsLayout}
 use Rattle.journal.specs.declared.command.Script.{Script}
 use Rattle.journal.specs.declared.event.Entry.{Entry}
+use Rattle.journal.specs.World.{World}
 use Rattle.journal.specs.Standing.{DiskRun, Added, nothing_added, unfinished}
 use Rattle.journal.specs.LegalRun.{IsSafeRun, numbered, AreHandedIn, opening_world, last_world, run_of}
 use Rattle.journal.specs.Laws.{Begins, WriteNone, EachDiskStands, RunsAreLegal, RunsAreLegalSoFar}
+use Rattle.history_laws.proofs.AtTheEnd.{left-stands}
+use Rattle.history_laws.proofs.EpochBounds.{epochs-are-bounded}
+use Rattle.history_laws.proofs.LeftFit.{epochs-left}
+use Rattle.history_laws.proofs.SiteRuns.{worlds-are-known}
+use Rattle.history_laws.proofs.Uids.{CreatedIn, OfNode}
 use Rattle.history_laws.proofs.SafeRuns.{each-none-rolled-back}
 use Rattle.history_laws.proofs.StartsWholeLaw.{starts-are-whole}
 use Rattle.history_laws.proofs.NoUidTwice.{no-uid-twice}
@@ -27,18 +33,34 @@ is-safe layout script disks history added lays fits none begins stands = record 
 }
 
 pub runs-are-legal : RunsAreLegal
-runs-are-legal layout script disks history lays fits none follows stands ends faults commands = record {
+runs-are-legal layout script disks history lays fits none follows stands ends faults commands counted armed room = record {
   follows = follows;
   safe = is-safe layout script disks history nothing_added lays fits none follows.leads stands;
   ends = ends;
   faults = faults;
   commands = commands;
+  counted = counted;
+  armed = armed;
+  fit = λ more told n d there image left. record {
+    epochs = epochs-left (OfNode (CreatedIn []) n) layout n last image
+        (λ it at. (
+          (worlds-are-known layout script disks history lays fits follows.leads).fit n it at,
+          epochs-are-bounded layout script disks history lays fits follows.leads n it at,
+        ))
+        (left-stands layout last (run_of (opening_world layout script disks) script history) n d (stands n d there) image left);
+    room_is_told = room more told n d there image left;
+  };
 }
+  where
+    last : World
+    last = last_world (opening_world layout script disks) script history
 
 pub runs-are-legal-so-far : RunsAreLegalSoFar
-runs-are-legal-so-far layout script disks history lays fits none begins stands faults = record {
+runs-are-legal-so-far layout script disks history lays fits none begins stands faults commands counted = record {
   begins = begins;
   safe = is-safe layout script disks history
       (unfinished (last_world (opening_world layout script disks) script history)) lays fits none begins stands;
   faults = faults;
+  commands = commands;
+  counted = counted;
 }

@@ -77,4 +77,5 @@ pub mod MonitorTurns
 pub mod VariableTurns
 pub mod VariableRuns
 pub mod AtTheEnd
+pub mod LeftFit
 pub mod RefusedRuns

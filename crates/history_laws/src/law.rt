@@ -3,7 +3,7 @@ ghost use Rattle.journal.specs.RefusedRuns.{UnwrittenDiskIsRefused, ExchangedDis
 ghost use Rattle.journal.specs.RefusedRuns.{UnaskedStopIsRefused, OtherClockIsRefused, BlankLogsMayBeHandedIn};
 ghost use Rattle.journal.specs.Laws.{NoEjectIsRolledBack, EveryStartIsWhole, NoUidIsGivenTwice, RunsAreLegal, RunsAreLegalSoFar};
 ghost use Rattle.journal.specs.Laws.{FirstPartsFollow, FirstPartsFollowSoFar, EnabledKeysHaveTurns, OnlyGrantedAreUsed, DownNodesRest};
-ghost use Rattle.journal.specs.Laws.{DisksStandAtTheOpening, DisksStandAtTheEnd};
+ghost use Rattle.journal.specs.Laws.{DisksStandAtTheOpening, DisksStandAtTheEnd, DisksMayBeHandedOn};
 
 /// No Eject is rolled back but by its own put or removal, acknowledged or found done; a crash of one
 /// node takes no active part from an Eject of another.
@@ -70,6 +70,12 @@ pub fn disks_stand_at_the_opening()
 /// node.
 pub fn disks_stand_at_the_end()
     ensures { DisksStandAtTheEnd }
+{}
+
+/// From run to run: disks that were handed in for the changes of a run and for so many more may be handed in
+/// for these, once a legal run gave them back and they are at rest again, as behind a power cut.
+pub fn disks_may_be_handed_on()
+    ensures { DisksMayBeHandedOn }
 {}
 
 /// A save is acknowledged, and its value found after a crash, over a disk that was never written: that is

@@ -59,7 +59,7 @@ small-bytes size k d there =
 fit-blank : (n size : ℕ) → 17 ≤ size → IsFitImage log_layout n (zeros size)
 fit-blank n size fits = record {
   epochs = λ kept found u there. absurd (nothing-there kept u (cc (sym (blank-found n size fits) ∙ found)) there);
-  room_is_told = λ kept found. omega arith;
+  room_is_told = λ kept found opens. omega arith;
 }
   where
     nothing-there : (kept : List (Uid × List ℕ)) (u : Uid) → [] ≡ kept → IsTrue (is_some (value_at uid_cmp u kept)) → ⊥

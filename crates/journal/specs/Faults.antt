@@ -4,6 +4,7 @@ use Rattle.std.specs.Prelude.{IsSomeAnd, IfSome, IsTrue}
 use Rattle.eden_model.specs.Map.{with_item, or_else}
 use Rattle.eden_disk.specs.declared.disk.Arm.{Arm}
 use Rattle.eden_disk.specs.declared.disk.Arm.TheVariants as arm
+use Rattle.eden_disk.specs.Calls.{Due}
 use Rattle.journal.specs.declared.event.Event.{Event}
 use Rattle.journal.specs.declared.event.Event.TheVariants as event
 use Rattle.journal.specs.declared.event.Entry.{Entry}
@@ -86,10 +87,10 @@ abbrev pub clock_of : ℕ → ℕ → List Step → ℕ
 clock_of n began [] = began
 clock_of n began (s ∷ past) = cond (s.entry.node == n) s.entry.clock (clock_of n began past)
 
--- where an entry shows one (true), the last request of this sort fell due in it: past the clock before it, and by its own
+-- where an entry shows one (true), the last request of this sort fell due in it: past the clock before it, and at just the one it shows
 abbrev pub IsAsked : (Arm → Option ℕ) → Bool → ℕ → ℕ → List Step → Step → Type 0
 IsAsked after false n began past s = Unit {0}
-IsAsked after true n began past s = IsSomeAnd (last_due after n past) (λ due. (clock_of n began past < due) × (due ≤ s.entry.clock))
+IsAsked after true n began past s = IsSomeAnd (last_due after n past) (λ due. (clock_of n began past < due) × (due ≡ s.entry.clock))
 
 -- a fault or a stop that the entry shows on node n has the command that asked for it; this is asked of obedient disks alone
 pub record HasItsCommand (n began : ℕ) (past : List Step) (s : Step) : Type 0 where
@@ -117,3 +118,35 @@ pub record IsObedient (d : DiskRun) : Type 0 where
 -- of an obedient disk each fault and each stop that an entry of its node shows has its command
 abbrev pub EachHasItsCommand : List Step → ℕ → DiskRun → Type 0
 EachHasItsCommand run n d = IsObedient d → EachStep (HasItsCommand n d.first.clock) [] run
+
+-- a power cut of node n, or an arming of its disk: these make no device call
+abbrev pub makes_no_call : ℕ → Event → Bool
+makes_no_call n (event.Crash m) = m == n
+makes_no_call n (event.Armed m what) = m == n
+makes_no_call n _ = false
+
+-- such an entry shows just the clock of the entry before it on the disk, so that what is asked for is counted from there
+abbrev pub ShowsClockBefore : ℕ → ℕ → List Step → Step → Type 0
+ShowsClockBefore n began past s = IsTrue (makes_no_call n s.entry.event) → s.entry.clock ≡ clock_of n began past
+
+-- each of them
+abbrev pub EachShowsClockBefore : List Step → ℕ → DiskRun → Type 0
+EachShowsClockBefore run n d = EachStep (ShowsClockBefore n d.first.clock) [] run
+
+-- 4. What is asked for at the end
+
+-- the steps with the newest in front, before a past
+abbrev pub past_of : List Step → List Step → List Step
+past_of past [] = past
+past_of past (s ∷ run) = past_of (s ∷ past) run
+
+-- what falls due on node n behind these steps: what the last request of its sort asked for, or what was to come as the disk was handed in
+abbrev pub due_left : ℕ → Due → List Step → Due
+due_left n first run = record {
+  failure = or_else (last_due fail_after n (past_of [] run)) first.failure;
+  stop = or_else (last_due stop_after n (past_of [] run)) first.stop;
+}
+
+-- a disk that does what is asked of it is given back with what the entries asked, and with nothing else
+abbrev pub IsLeftArmed : List Step → ℕ → DiskRun → Type 0
+IsLeftArmed run n d = IsTrue d.obeys → d.left ≡ due_left n d.due run

@@ -1,11 +1,12 @@
 -- The statement about a whole run: its history follows the script, every start is whole, no other Eject is rolled back, only
 -- granted capabilities are used, no uid is given twice, and each disk stands for the history at every moment.
 use Rattle.std.specs.Prelude.{◌≡◌, ◌≢◌, ◌⊎◌, ℕ, ◌+◌, ◌==◌, true, false, List, [], ◌∷◌, map, Option, None, Some, is_some, IsTrue, ◌<◌}
+use Rattle.std.specs.Prelude.{IsSomeAnd}
 use Rattle.std.specs.List.{All}
 use Rattle.std.specs.Ordering.{nat_cmp}
 use Rattle.capability.specs.declared.Uid.{Uid}
 use Rattle.eden_model.specs.Map.{with_item, value_at}
-use Rattle.eden_disk.specs.Told.{contents}
+use Rattle.eden_disk.specs.Told.{contents, Left, LeavesOnly}
 use Rattle.passive_store.specs.declared.store.Pick.TheVariants as pick
 use Rattle.passive_store.specs.Kept.{Layout}
 use Rattle.journal.specs.declared.command.Script.{Script}
@@ -19,10 +20,10 @@ use Rattle.epl_syntax.specs.Meaning.{types_in}
 use Rattle.journal.specs.World.{World, eject_at, is_active_at}
 use Rattle.journal.specs.Step.{clock_before}
 use Rattle.journal.specs.Run.{Follows, FollowsSoFar, Step, EachStep, beginning, steps, world_after}
-use Rattle.journal.specs.Opening.{opening, IsFitImage}
+use Rattle.journal.specs.Opening.{opening, most_changes, IsToldFor, IsFitFor}
 use Rattle.journal.specs.Kept.{start_bytes, crashes, picked}
 use Rattle.journal.specs.Standing.{DiskRun, Added, StandsThroughout, nothing_added, unfinished}
-use Rattle.journal.specs.Faults.{ShowsEach, ShowsNoMore, EachHasItsCommand}
+use Rattle.journal.specs.Faults.{ShowsEach, ShowsNoMore, EachHasItsCommand, EachShowsClockBefore, IsLeftArmed}
 use Rattle.journal.specs.Granted.{AllGranted, uses, kept_after_pick}
 
 -- 1. Every start is whole
@@ -129,6 +130,16 @@ abbrev pub EndsAt : Option ℕ → DiskRun → Type 0
 EndsAt None d = d.last.clock ≡ d.first.clock
 EndsAt (Some clock) d = d.last.clock ≡ clock
 
+-- the room of each disk that is handed in is told for so many changes
+abbrev pub AreToldFor : Layout → ℕ → List DiskRun → Type 0
+AreToldFor layout more disks = EachDisk disks (λ n d. IsToldFor layout n more (contents d.before).now)
+
+-- Where the room of each disk is told for so many changes besides those of this run, each image that a crash may leave of a disk as it is
+-- given back is fit for so many: so a run may follow on it.
+abbrev pub StayFit : Layout → List DiskRun → Type 0
+StayFit layout disks = (more : ℕ) → AreToldFor layout (most_changes + more) disks
+    → EachDisk disks (λ n d. LeavesOnly (IsFitFor layout n more) (contents d.after))
+
 -- what the theorem says of the run of a script over disks that told what became of them, in the order of their nodes
 pub record IsLegalRun (layout : Layout) (script : Script) (disks : List DiskRun) (history : List Entry) : Type 0 where
   -- the entries are those that the script gives, up to its end
@@ -142,6 +153,12 @@ pub record IsLegalRun (layout : Layout) (script : Script) (disks : List DiskRun)
   pub faults : EachDisk disks (ShowsEach history)
   -- where a disk fails and stops at no will but that of the script, each has its command
   pub commands : EachDisk disks (EachHasItsCommand (run_over layout script disks history))
+  -- a power cut and an arming show the clock that the disk has then
+  pub counted : EachDisk disks (EachShowsClockBefore (run_over layout script disks history))
+  -- and each `fail` and each `stop` is asked of its disk, and nothing else is
+  pub armed : EachDisk disks (IsLeftArmed (run_over layout script disks history))
+  -- every image that may be left is fit, for as many changes as the room was told for besides
+  pub fit : StayFit layout disks
 
 -- and of a run that want of memory ended
 pub record IsLegalSoFar (layout : Layout) (script : Script) (disks : List DiskRun) (history : List Entry) : Type 0 where
@@ -152,18 +169,49 @@ pub record IsLegalSoFar (layout : Layout) (script : Script) (disks : List DiskRu
       (run_over layout script disks history) (unfinished (end_over layout script disks history)) (numbered disks)
   -- no fault and no stop is made up
   pub faults : EachDisk disks (ShowsNoMore history)
+  -- where a disk fails and stops at no will but that of the script, each has its command
+  pub commands : EachDisk disks (EachHasItsCommand (run_over layout script disks history))
+  -- a power cut and an arming show the clock that the disk has then
+  pub counted : EachDisk disks (EachShowsClockBefore (run_over layout script disks history))
 
--- What is taken for granted of the disk that is handed in for node n. What a layout owes of every image is no part of it (IsLayout).
-pub record IsHandedIn (layout : Layout) (n : ℕ) (d : DiskRun) : Type 0 where
+-- What is taken for granted of the disk that is handed in for node n, for so many changes. What a layout owes of every image is no part of
+-- it (IsLayout).
+pub record IsHandedInFor (layout : Layout) (n more : ℕ) (d : DiskRun) : Type 0 where
   -- no place of the disk is unsynced
   pub nothing_unsynced : (contents d.before).unsynced ≡ []
   -- a read sees what the last sync left
   pub same : (contents d.before).stable ≡ (contents d.before).now
   -- it holds bytes
   pub bytes : All (λ byte. byte < 256) (contents d.before).now
-  -- these are an image that is fit for the node
-  pub fit : IsFitImage layout n (contents d.before).now
+  -- these are an image that is fit for the node, and for so many changes
+  pub fit : IsFitFor layout n more (contents d.before).now
 
 -- each of the disks that are handed in
+abbrev pub AreHandedInFor : Layout → ℕ → List DiskRun → Type 0
+AreHandedInFor layout more disks = EachDisk disks (λ n d. IsHandedInFor layout n more d)
+
+-- for all that a run can change
+abbrev pub IsHandedIn : Layout → ℕ → DiskRun → Type 0
+IsHandedIn layout n d = IsHandedInFor layout n most_changes d
+
+-- each of them
 abbrev pub AreHandedIn : Layout → List DiskRun → Type 0
 AreHandedIn layout disks = EachDisk disks (IsHandedIn layout)
+
+-- 6. The next run
+
+-- The disk that is handed in next is at rest and holds bytes, an image that a crash may have left of this one as it was given back: so it
+-- is behind a power cut and a restart.
+pub record IsHandedOn (d next : DiskRun) : Type 0 where
+  -- no place of the disk is unsynced
+  pub nothing_unsynced : (contents next.before).unsynced ≡ []
+  -- a read sees what the last sync left
+  pub same : (contents next.before).stable ≡ (contents next.before).now
+  -- it holds bytes
+  pub bytes : All (λ byte. byte < 256) (contents next.before).now
+  -- a crash may have left these
+  pub left : Left (contents d.after) (contents next.before).now
+
+-- each disk that is handed in next was given back by this run, for the same node
+abbrev pub AreHandedOn : List DiskRun → List DiskRun → Type 0
+AreHandedOn disks next = EachDisk next (λ n e. IsSomeAnd (value_at nat_cmp n (numbered disks)) (λ d. IsHandedOn d e))

@@ -83,14 +83,23 @@ found_in layout n image = entries_of (layout.map_of n image)
 abbrev pub most_changes : ℕ
 most_changes = 1048576 + most_turns
 
--- An image is fit where it keeps nothing of an epoch past the stored one, and its room is told for all that a run can change. An image that
+-- for so many more changes the room of an image is told, if it has a map and is not too full to be opened
+abbrev pub IsToldFor : Layout → ℕ → ℕ → List ℕ → Type 0
+IsToldFor layout n more image = (kept : Kept) → layout.map_of n image ≡ Ok kept → layout.is_overfull n image ≡ false
+    → more ≤ layout.changes_told n image
+
+-- An image is fit for so many changes where it keeps nothing of an epoch past the stored one, and its room is told for them. An image that
 -- has no map is fit.
-pub record IsFitImage (layout : Layout) (n : ℕ) (image : List ℕ) : Type 0 where
+pub record IsFitFor (layout : Layout) (n more : ℕ) (image : List ℕ) : Type 0 where
   -- the image keeps nothing under a uid whose epoch is past the stored one, or past 0 where none is stored
   pub epochs : (kept : List (Uid × List ℕ)) → found_in layout n image ≡ Ok kept → (u : Uid) → IsTrue (is_some (value_at uid_cmp u kept))
       → u.epoch ≤ epoch_or_zero (epoch_in n kept)
-  -- where the image has a map, its room is told for `most_changes` changes or more
-  pub room_is_told : (kept : Kept) → layout.map_of n image ≡ Ok kept → most_changes ≤ layout.changes_told n image
+  -- where the image has a map and can be opened, its room is told for so many changes
+  pub room_is_told : IsToldFor layout n more image
+
+-- it is fit where it is fit for all that a run can change
+abbrev pub IsFitImage : Layout → ℕ → List ℕ → Type 0
+IsFitImage layout n image = IsFitFor layout n most_changes image
 
 -- the node with this number and this image on its disk, before the first event: down, and with what the image keeps
 abbrev pub node_of : Layout → ℕ × List ℕ → Node

@@ -116,6 +116,8 @@ pub record DiskRun : Type 0 where
   pub after : Told
   -- its counts as it was given back
   pub last : Counts
+  -- the clocks at which a failure and a stop fall due that were asked for before it was given back
+  pub left : Due
 
 -- what may be under way besides, at a moment of a node's disk
 abbrev pub Added : Type 0

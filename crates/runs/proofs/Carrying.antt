@@ -80,22 +80,24 @@ module _ {M : Type 0} (stands : Stands M) (did : Did M) (starved : Starved M) (o
 
   -- some nodes are booted, and the others are left
   abbrev pub IsBooting : Run M → ℕ → Type 0
-  IsBooting now done = (opening : World) (types : List (List ℕ)) → MayBegin stands old opening types nodes cs → (later : World)
-      × IsOn stands did (origin opening types) ((nodes - done) + entries_in cs) now (booting (done + 1) (nodes - done) later cs)
+  IsBooting now done = (opening : World) (types : List (List ℕ)) (spare : ℕ) → MayBegin stands old opening types nodes cs spare
+      → (later : World)
+      × IsOn stands did (origin opening types) ((nodes - done) + (entries_in cs + spare)) now
+      (booting (done + 1) (nodes - done) later cs)
 
   -- these commands are left
   abbrev pub IsCarrying : Run M → List Command → Type 0
-  IsCarrying now left = (opening : World) (types : List (List ℕ)) → MayBegin stands old opening types nodes cs → (later : World)
-      × IsOn stands did (origin opening types) (entries_in left) now (at_commands later left)
+  IsCarrying now left = (opening : World) (types : List (List ℕ)) (spare : ℕ) → MayBegin stands old opening types nodes cs spare
+      → (later : World) × IsOn stands did (origin opening types) (entries_in left + spare) now (at_commands later left)
 
   pub booting-start : IsBooting old 0
-  booting-start opening types at = let start = beginning opening nodes cs in (
+  booting-start opening types spare at = let start = beginning opening nodes cs in (
     opening,
     record {
       reached = at.reached;
       leads = subst (Leads start) (sym at.history) tt;
       at = ap (end_of start) at.history ∙ ap (λ m. booting 1 m opening cs) all;
-      machine = subst (StandsWith stands old.machine ((most_turns - old.turns) + ((nodes - 0) + entries_in cs)))
+      machine = subst (StandsWith stands old.machine ((most_turns - old.turns) + ((nodes - 0) + (entries_in cs + spare))))
           (sym (world-booting 1 (nodes - 0) opening cs))
           (at.machine.0, omega (arith, at.machine.1), at.machine.2);
       came = subst (λ h. DidAll did old.machine (steps start h) old.machine) (sym at.history) refl;
@@ -120,27 +122,28 @@ module _ {M : Type 0} (stands : Stands M) (did : Did M) (starved : Starved M) (o
   }
 
   -- the next node is due
-  boot-on : (now : Run M) (done : ℕ) (o : Origin M) (w : World) → done < nodes
-      → IsOn stands did o ((nodes - done) + entries_in cs) now (booting (done + 1) (nodes - done) w cs)
-      → IsOn stands did o (suc ((nodes - (done + 1)) + entries_in cs)) now (due_in w (boots (done + 1) (nodes - (done + 1))) cs)
-  boot-on now done o w lt on = subst (λ n. IsOn stands did o n now (due_in w (boots (done + 1) (nodes - (done + 1))) cs)) fewer
-      (subst (λ m. IsOn stands did o ((nodes - done) + entries_in cs) now (booting (done + 1) m w cs)) more on)
+  boot-on : (now : Run M) (done : ℕ) (o : Origin M) (w : World) (spare : ℕ) → done < nodes
+      → IsOn stands did o ((nodes - done) + (entries_in cs + spare)) now (booting (done + 1) (nodes - done) w cs)
+      → IsOn stands did o (suc ((nodes - (done + 1)) + (entries_in cs + spare))) now
+      (due_in w (boots (done + 1) (nodes - (done + 1))) cs)
+  boot-on now done o w spare lt on = subst (λ n. IsOn stands did o n now (due_in w (boots (done + 1) (nodes - (done + 1))) cs)) fewer
+      (subst (λ m. IsOn stands did o ((nodes - done) + (entries_in cs + spare)) now (booting (done + 1) m w cs)) more on)
     where
       more : nodes - done ≡ suc (nodes - (done + 1))
       more = omega (arith, lt)
 
-      fewer : (nodes - done) + entries_in cs ≡ suc ((nodes - (done + 1)) + entries_in cs)
+      fewer : (nodes - done) + (entries_in cs + spare) ≡ suc ((nodes - (done + 1)) + (entries_in cs + spare))
       fewer = omega (arith, lt)
 
   pub booting-on : (mid new : Run M) (done : ℕ) → done < nodes → IsBooting mid done
       → TakesCommand stands did mid new (command.Restart (done + 1))
       → IsBooting new (done + 1)
-  booting-on mid new done lt b takes opening types at =
+  booting-on mid new done lt b takes opening types spare at =
       let o = origin opening types in
-      let r = b opening types at in
-      let others = (nodes - (done + 1)) + entries_in cs in
+      let r = b opening types spare at in
+      let others = (nodes - (done + 1)) + (entries_in cs + spare) in
       let here = due_in r.0 (boots (done + 1) (nodes - (done + 1))) cs in
-      let on = boot-on mid done o r.0 lt r.1 in
+      let on = boot-on mid done o r.0 spare lt r.1 in
       let t = takes o others here (restart-fits types done lt) on in
       let later = next r.0 (Some (command.Restart (done + 1))) t.0 in (
         later,
@@ -157,39 +160,50 @@ module _ {M : Type 0} (stands : Stands M) (did : Did M) (starved : Starved M) (o
   pub booting-fails : (mid new : Run M) (done : ℕ) → done < nodes → IsBooting mid done
       → CommandFails stands did starved mid new (command.Restart (done + 1))
       → new.history.items ≡ mid.history.items → CarriesPart stands did starved old new nodes cs
-  booting-fails mid new done lt b fails same opening types at =
+  booting-fails mid new done lt b fails same opening types spare at =
       let o = origin opening types in
-      let r = b opening types at in
-      let others = (nodes - (done + 1)) + entries_in cs in
+      let r = b opening types spare at in
+      let others = (nodes - (done + 1)) + (entries_in cs + spare) in
       let here = due_in r.0 (boots (done + 1) (nodes - (done + 1))) cs in
-      let on = boot-on mid done o r.0 lt r.1 in
+      let on = boot-on mid done o r.0 spare lt r.1 in
       cut-short new opening types (ends-short stands did o starved (suc others) mid new here on same (fails o others here
       (restart-fits types done lt) on))
 
   pub carrying-start : (now : Run M) → IsBooting now nodes → IsCarrying now cs
-  carrying-start now b opening types at = let r = b opening types at in (
+  carrying-start now b opening types spare at = let r = b opening types spare at in (
     r.0,
     subst (λ n. IsOn stands did (origin opening types) n now (at_commands r.0 cs)) left
-        (subst (λ m. IsOn stands did (origin opening types) ((nodes - nodes) + entries_in cs) now (booting (nodes + 1) m r.0 cs)) none r.1),
+        (subst (λ m. IsOn stands did (origin opening types) ((nodes - nodes) + (entries_in cs + spare)) now
+        (booting (nodes + 1) m r.0 cs)) none r.1),
   )
     where
       none : nodes - nodes ≡ 0
       none = omega arith
 
-      left : (nodes - nodes) + entries_in cs ≡ entries_in cs
+      left : (nodes - nodes) + (entries_in cs + spare) ≡ entries_in cs + spare
       left = omega arith
+
+  -- the room of the next command, and the rest
+  room-on : (mid : Run M) (o : Origin M) (c : Command) (left : List Command) (spare : ℕ) (p : Position)
+      → IsOn stands did o (entries_in (c ∷ left) + spare) mid p → IsOn stands did o (entries_of c + (entries_in left + spare)) mid p
+  room-on mid o c left spare p on = subst (λ n. IsOn stands did o n mid p) same on
+    where
+      same : (entries_of c + entries_in left) + spare ≡ entries_of c + (entries_in left + spare)
+      same = omega arith
 
   carrying-on : (mid new : Run M) (c : Command) (left : List Command)
       → ((types : List (List ℕ)) → All (IsFitCommand types nodes) cs → IsFitCommand types nodes c)
       → IsCarrying mid (c ∷ left) → CarriesCommand stands did mid new c → IsCarrying new left
-  carrying-on mid new c left fit k does opening types at = let r = k opening types at in
-      does (origin opening types) (entries_in left) r.0 left (fit types at.commands) r.1
+  carrying-on mid new c left fit k does opening types spare at = let r = k opening types spare at in
+      does (origin opening types) (entries_in left + spare) r.0 left (fit types at.commands)
+      (room-on mid (origin opening types) c left spare (at_commands r.0 (c ∷ left)) r.1)
 
   carrying-part : (mid new : Run M) (c : Command) (left : List Command)
       → ((types : List (List ℕ)) → All (IsFitCommand types nodes) cs → IsFitCommand types nodes c)
       → IsCarrying mid (c ∷ left) → PartOfCommand stands did starved mid new c → CarriesPart stands did starved old new nodes cs
-  carrying-part mid new c left fit k part opening types at = let r = k opening types at in
-      cut-short new opening types (part (origin opening types) (entries_in left) r.0 left (fit types at.commands) r.1)
+  carrying-part mid new c left fit k part opening types spare at = let r = k opening types spare at in
+      cut-short new opening types (part (origin opening types) (entries_in left + spare) r.0 left (fit types at.commands)
+      (room-on mid (origin opening types) c left spare (at_commands r.0 (c ∷ left)) r.1))
 
   fit-at : (i : ℕ) (c : Command) → i < length cs → c ≡ get_or cs i c → (types : List (List ℕ)) → All (IsFitCommand types nodes) cs
       → IsFitCommand types nodes c
@@ -211,8 +225,9 @@ module _ {M : Type 0} (stands : Stands M) (did : Did M) (starved : Starved M) (o
       (carrying-here mid i c lt is k) part
 
   pub carrying-end : (new : Run M) → IsCarrying new [] → CarriesAll stands did old new nodes cs
-  carrying-end new k opening types at = let r = k opening types at in record {
+  carrying-end new k opening types spare at = let r = k opening types spare at in record {
     follows = record { leads = r.1.leads; whole = ap (λ (p : Position). p.due) r.1.at };
     came = r.1.came;
-    stays = subst (λ (p : Position). StandsWith stands new.machine 0 p.world) (sym r.1.at) (r.1.machine.0, omega arith, r.1.machine.2);
+    stays = subst (λ (p : Position). StandsWith stands new.machine spare p.world) (sym r.1.at)
+        (r.1.machine.0, omega (arith, r.1.machine.1), r.1.machine.2);
   }

@@ -165,11 +165,13 @@ runs-may-begin layout script disks lays fits fit enough = record {
 
 -- 4. A run of which nothing has happened yet may begin
 
-pub may-begin : {M : Type 0} (stands : Stands M) (run : Run M) (layout : Layout) (script : Script) (disks : List DiskRun) → IsLayout layout
+pub may-begin : {M : Type 0} (stands : Stands M) (run : Run M) (layout : Layout) (script : Script) (disks : List DiskRun) (spare : ℕ)
+    → IsLayout layout
     → AreHandedIn layout disks → IsFit script → script.nodes ≤ length disks → run.history.items ≡ [] → run.turns ≡ 0 → run.last ≡ None
-    → run.again ≡ false → StandsWith stands run.machine (most_entries script.nodes script.commands) (opening_world layout script disks)
-    → MayBegin stands run (opening_world layout script disks) (names_of script.types) script.nodes script.commands
-may-begin stands run layout script disks lays fits fit enough history turns last again machine = record {
+    → run.again ≡ false → StandsWith stands run.machine (most_entries script.nodes script.commands + spare)
+    (opening_world layout script disks)
+    → MayBegin stands run (opening_world layout script disks) (names_of script.types) script.nodes script.commands spare
+may-begin stands run layout script disks spare lays fits fit enough history turns last again machine = record {
   history = history;
   turns = (turns, refl);
   last = (last, refl);

@@ -169,24 +169,25 @@ KeepsShownSoFar shows whole leaves old new = (first : _) → ShowsAll shows firs
 
 -- 6. The whole
 
--- Nothing has happened, and the machine stands for the opening world with room for all that a script gives. Its commands are fit, and the
--- worlds on its way are as machines take them.
+-- Nothing has happened, and the machine stands for the opening world with room for all that a script gives, and for so many entries to
+-- spare. Its commands are fit, and the worlds on its way are as machines take them.
 pub record MayBegin {M : Type 0} (stands : Stands M) (run : Run M) (opening : World) (types : List (List ℕ)) (nodes : ℕ)
-    (cs : List Command) : Type 0 where
+    (cs : List Command) (spare : ℕ) : Type 0 where
   pub history : run.history.items ≡ []
   pub turns : (run.turns ≡ 0) × (opening.turns ≡ 0)
   pub last : (run.last ≡ None) × (opening.last ≡ None)
   pub again : run.again ≡ false
-  pub machine : StandsWith stands run.machine (most_entries nodes cs) opening
+  pub machine : StandsWith stands run.machine (most_entries nodes cs + spare) opening
   pub commands : All (IsFitCommand types nodes) cs
   pub reached : AreReachedFrom types nodes (beginning opening nodes cs)
 
--- The history follows the script. The machine came to what it is by its steps, and stands for the last world.
+-- The history follows the script. The machine came to what it is by its steps, and stands for the last world, with room for what was to
+-- spare.
 pub record IsDone {M : Type 0} (stands : Stands M) (did : Did M) (first : M) (run : Run M) (opening : World) (nodes : ℕ)
-    (cs : List Command) : Type 0 where
+    (cs : List Command) (spare : ℕ) : Type 0 where
   pub follows : Follows opening nodes cs run.history.items
   pub came : DidAll did first (steps (beginning opening nodes cs) run.history.items) run.machine
-  pub stays : StandsWith stands run.machine 0 (world_after opening nodes cs run.history.items)
+  pub stays : StandsWith stands run.machine spare (world_after opening nodes cs run.history.items)
 
 -- The history follows the script so far. The machine came to what it is by its steps, and what was begun when memory was wanting.
 pub record IsCutShort {M : Type 0} (did : Did M) (starved : Starved M) (first : M) (run : Run M) (opening : World) (nodes : ℕ)
@@ -197,10 +198,10 @@ pub record IsCutShort {M : Type 0} (did : Did M) (starved : Starved M) (first : 
 
 -- over whatever opening world the old run may begin with these commands, the new one is done with them
 abbrev pub CarriesAll : {M : Type 0} → Stands M → Did M → Run M → Run M → ℕ → List Command → Type 0
-CarriesAll stands did old new nodes cs = (opening : World) (types : List (List ℕ)) → MayBegin stands old opening types nodes cs
-    → IsDone stands did old.machine new opening nodes cs
+CarriesAll stands did old new nodes cs = (opening : World) (types : List (List ℕ)) (spare : ℕ)
+    → MayBegin stands old opening types nodes cs spare → IsDone stands did old.machine new opening nodes cs spare
 
 -- over whatever opening world the old run may begin with these commands, the new one was cut short for want of memory
 abbrev pub CarriesPart : {M : Type 0} → Stands M → Did M → Starved M → Run M → Run M → ℕ → List Command → Type 0
-CarriesPart stands did starved old new nodes cs = (opening : World) (types : List (List ℕ)) → MayBegin stands old opening types nodes cs
-    → IsCutShort did starved old.machine new opening nodes cs
+CarriesPart stands did starved old new nodes cs = (opening : World) (types : List (List ℕ)) (spare : ℕ)
+    → MayBegin stands old opening types nodes cs spare → IsCutShort did starved old.machine new opening nodes cs

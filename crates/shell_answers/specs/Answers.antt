@@ -55,6 +55,7 @@ pub record Call : Type 0 where
 pub record IsUntouched (d : DiskRun) : Type 0 where
   pub told : d.after ≡ d.before
   pub counts : d.last ≡ d.first
+  pub due : d.left ≡ d.due
 
 -- the count of device calls that found no memory is as it was
 abbrev pub WantedNoMemory : DiskRun → Type 0
