@@ -6,6 +6,7 @@ use eden_kernel::TurnEnd;
 use epl_syntax::Types;
 use history_tests::common::{FIRST, Log, blank, text};
 use invocation::Calls;
+use journal::Key;
 use passive_store::{Doubt, Store};
 use scheduled_node::ScheduledNode;
 use std::alloc::Global;
@@ -62,18 +63,18 @@ fn create<St: Store>(rt: &impl Abort, alloc: Global, types: &Types, node: &mut S
     assert!(rt; created == Ok(FIRST), "it is another Eject");
 }
 
-/// The kind and the process of the next key of a node that goes on, whose turn is taken.
+/// The kind and the process of a key of a node that goes on, whose turn is taken.
 fn turn<St: Store>(
     rt: &impl Abort,
     alloc: Global,
     types: &Types,
     calls: &mut Calls,
     node: &mut ScheduledNode<St>,
+    key: Key,
 ) -> Seen
     requires { IsWhole (held St.seen node.old.node) }
     ensures { IsWhole (held St.seen node.new.node) }
 {
-    let key = node.next(None).expect(rt, "a key");
     assert!(rt; are_few(calls), "too many calls");
     assert!(rt; node.has_turn(calls, key), "the node has no such turn");
     let (event, behind) = node
@@ -115,11 +116,20 @@ fn take<St: Store>(
             Seen::Done
         }
         Act::Deliver => {
-            assert!(rt; node.ejects().hears(calls, 0), "no request is heard");
-            drop(node.deliver(alloc, types, calls, 0).expect(rt, "memory"));
+            let key = Key {
+                station: 1,
+                kind: 1,
+                sender: 0,
+                uid: FIRST,
+                process: 0,
+            };
+            let _shown = turn(rt, alloc, types, calls, node, key);
             Seen::Done
         }
-        Act::Turn => turn(rt, alloc, types, calls, node),
+        Act::Turn => {
+            let key = node.next(None).expect(rt, "a key");
+            turn(rt, alloc, types, calls, node, key)
+        }
         Act::Next => match node.next(None) {
             Some(key) => Seen::Key(key.kind, key.process),
             None => Seen::NoKey,

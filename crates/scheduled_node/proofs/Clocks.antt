@@ -1,6 +1,6 @@
 -- Which events show the clock of the disk.
 use Rattle.std.proofs.Common.{ℕ, Result, Ok, Err}
-use Rattle.std.specs.Prelude.{IfOk}
+use Rattle.std.specs.Prelude.{IfOk, IfErr}
 use Rattle.capability.specs.declared.Uid.{Uid}
 use Rattle.eden_disk.specs.Calls.{Counts}
 use Rattle.journal.specs.declared.event.Event.{Event}
@@ -12,6 +12,12 @@ use Rattle.scheduled_node.specs.Touched.{ShowsClock}
 pub any-ok : {X E : Type 0} (r : Result X E) (P Q : X → Type 0) → ((x : X) → P x → Q x) → IfOk r P → IfOk r Q
 any-ok (Ok x) P Q f h = f x h
 any-ok (Err e) P Q f h = h
+
+-- what follows however a call ended
+pub either-way : {X E : Type 0} (r : Result X E) (P : Type 0) (Q : X → Type 0) (R : E → Type 0) → IfOk r Q → IfErr r R
+    → ((x : X) → Q x → P) → ((e : E) → R e → P) → P
+either-way (Ok x) P Q R ok err f g = f x ok
+either-way (Err e) P Q R ok err f g = g e err
 
 pub clock-delivered : (from n now : ℕ) (e : Event) → IsDelivery from n e → ShowsClock e now
 clock-delivered from n now (event.Request k a b refused) is = tt

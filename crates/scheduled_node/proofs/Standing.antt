@@ -138,10 +138,9 @@ same-truth a b same = (subst IsTrue same, subst IsTrue (sym same))
 
 -- 6. A turn is allowed, whichever way it ends
 
-pub allowed-by : (how : TurnEnd) (layout : Layout) (ts : TypeList) (new : Manned) (later : Mail) (reach : ℕ → Bool) (old : Manned)
-    (s : Site)
-    (e : Event) → EndsScheduledTurn how layout ts new later reach old s e → AllowsAt s e
-allowed-by Up layout ts new later reach old s e turn = turn.turn.allowed
+pub allowed-by : (how : TurnEnd) (layout : Layout) (ts : TypeList) (new : Held) (later : Mail) (reach : ℕ → Bool) (old : Held) (s : Site)
+    (e : Event) → EndsTurn how layout ts new later reach old s e → AllowsAt s e
+allowed-by Up layout ts new later reach old s e turn = turn.allowed
 allowed-by Down layout ts new later reach old s e turn = turn.allowed
 
 -- 7. There was no memory to note it

@@ -10,14 +10,13 @@ use Rattle.passive_store.specs.Seen.{Seen}
 use Rattle.journal.specs.declared.event.Event.{Event}
 use Rattle.journal.specs.declared.event.Key.{Key}
 use Rattle.journal.specs.World.{Site}
-use Rattle.journal.specs.Sites.{IsSoundSite}
 use Rattle.journal.specs.Step.{key_of}
 use Rattle.ejects.specs.View.{parts_of}
 use Rattle.agenda.specs.Keys.{Indices, IsAgenda}
 use Rattle.agenda.specs.Indexed.{indices_of}
 use Rattle.eden_kernel.specs.Stands.{Held, held, NodeStands}
 use Rattle.eden_kernel.specs.Creations.{NodeCreates}
-use Rattle.eden_kernel.specs.DiskTurns.{Stops}
+use Rattle.eden_kernel.specs.DiskTurns.{EndsTurn, Stops}
 use Rattle.eden_kernel.specs.Turns.{Turns}
 use Rattle.eden_kernel.specs.declared.stores.TurnEnd.{TurnEnd}
 use Rattle.eden_kernel.specs.declared.stores.TurnEnd.TheVariants.{Up, Down}
@@ -43,15 +42,16 @@ pub record ScheduledTurns (layout : Layout) (ts : TypeList) (new : Manned) (late
   pub turn : Turns layout ts new.node later reach old.node s e
   pub agenda : IsAgenda new.agenda (parts_of ts new.node.ejects)
 
--- at each sound site for which the node, its agenda and the calls stood
-abbrev pub ScheduledTurnsAt : Layout → TypeList → Manned → Mail → Manned → Mail → Event → Type 0
-ScheduledTurnsAt layout ts old m new later e = (reach : ℕ → Bool) (s : Site) → IsSoundSite s → ScheduledStands layout ts old m s
-    → ScheduledTurns layout ts new later reach old s e
-
 -- a turn in which the disk is called: the node goes on, or its disk stopped
 abbrev pub EndsScheduledTurn : TurnEnd → Layout → TypeList → Manned → Mail → (ℕ → Bool) → Manned → Site → Event → Type 0
 EndsScheduledTurn Up layout ts new later reach old s e = ScheduledTurns layout ts new later reach old s e
 EndsScheduledTurn Down layout ts new later reach old s e = Stops layout new.node reach old.node s e
+
+-- The turn of a key at the node, whose event has that key.
+pub record KeyEnds (how : TurnEnd) (layout : Layout) (ts : TypeList) (new : Held) (later : Mail) (reach : ℕ → Bool) (old : Held)
+    (s : Site) (e : Event) (k : Key) : Type 0 where
+  pub turn : EndsTurn how layout ts new later reach old s e
+  pub key : key_of e ≡ Some k
 
 -- The turn of a key, whose event has that key.
 pub record KeyTurns (how : TurnEnd) (layout : Layout) (ts : TypeList) (new : Manned) (later : Mail) (reach : ℕ → Bool) (old : Manned)

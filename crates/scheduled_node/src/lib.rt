@@ -3,12 +3,10 @@
 
 mod boots;
 mod creations;
-mod deliveries;
 mod down;
 mod looks;
 mod noting;
 mod steps;
-mod turns;
 
 use agenda::Agenda;
 use eden_kernel::Node;

@@ -97,7 +97,7 @@ fn created_in(event: &Event) -> Option<Uid>
 }
 
 // What the Ejects may do that an event was about is noted.
-pub(crate) fn note(
+fn note(
     agenda: &mut Agenda,
     ejects: &Ejects,
     calls: &Calls,

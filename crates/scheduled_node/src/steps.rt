@@ -12,17 +12,77 @@ ghost use Rattle.eden_kernel.specs.DiskTurns.{IsWholeBehind, Starves};
 ghost use Rattle.eden_kernel.specs.Stands.{held, IsWhole, NodeStands};
 ghost use Rattle.eden_kernel.specs.declared.stores.TurnEnd.TheVariants.{Down};
 ghost use Rattle.scheduled_node.specs.Keys.{HasTurn, IsKeyOf};
-ghost use Rattle.scheduled_node.specs.Scheduled.{manned, ScheduledStands, KeyTurns};
+ghost use Rattle.scheduled_node.specs.Scheduled.{manned, ScheduledStands, KeyEnds, KeyTurns};
 ghost use Rattle.scheduled_node.specs.Touched.{IsNodeTurn, ShowsClock, TurnTouches};
 
 use crate::ScheduledNode;
-use eden_kernel::TurnEnd;
+use crate::noting::note_behind;
+use eden_kernel::{Node, TurnEnd};
 use epl_syntax::Types;
 use invocation::Calls;
 use journal::{Event, Key};
 use locator::Places;
 use passive_store::Store;
 use std::alloc::{AllocError, Global};
+
+// The turn of a key of a node: a delivery, an activation, a start, or a turn of a process or of the store. Where the disk stops the node is
+// down, and is to be closed.
+//
+// For want of memory a device call may have been made, and the node is not to go on.
+fn key_turn<St: Store>(
+    node: &mut Node<St>,
+    alloc: Global,
+    types: &Types,
+    calls: &mut Calls,
+    places: &Places,
+    key: Key,
+) -> Result<(Event, TurnEnd), AllocError>
+    requires calls { length calls.old.calls < 4294967295 }
+    requires whole { IsWhole (held St.seen node.old) }
+    requires has { HasTurn types.now (held St.seen node.old) calls.old key }
+    ensures whole { IfOk result (λ r. IsWholeBehind r.1 (held St.seen node.new)) }
+    ensures number { node.new.number ≡ node.old.number }
+    ensures event { IfOk result (λ r. IsNodeTurn node.old.number r.0) }
+    ensures calls { IfOk result (λ r. r.1 ≡ Down → calls.new ≡ calls.old) }
+    ensures touches { IsTrue St.Device.tells → ReadsByCalls St.layout → IfOk result (λ r. (s : Site)
+        → 1 ≤ (St.seen node.old.store).more → NodeStands St.layout types.now (held St.seen node.old) calls.old s
+        → TurnTouches s r.0 (St.seen node.old.store).disk (St.seen node.new.store).disk) }
+    ensures clock { IfOk result (λ r. ShowsClock r.0 (St.seen node.new.store).disk.counts.clock) }
+    ensures shows { IfOk result (λ r. ShowsCounts St.Device.obeys node.old.number r.0
+        (St.seen node.old.store).disk (St.seen node.new.store).disk) }
+    ensures counts { OnErr result
+        (NoneFalls (St.seen node.old.store).disk.counts (St.seen node.new.store).disk.counts) }
+    ensures more { IsTrue St.Device.tells → IfOk result (λ r. (s : Site) → 1 ≤ (St.seen node.old.store).more
+        → NodeStands St.layout types.now (held St.seen node.old) calls.old s
+        → (St.seen node.old.store).more ≤ (St.seen node.new.store).more + 1) }
+    ensures turn { IsTrue St.Device.tells → IsLayout St.layout → IfOk result (λ r. (reach : ℕ → Bool) (s : Site)
+        → IsKeyOf s.number key → Reaches reach places.now s.number → IsSoundSite s → MayTurn s
+        → 1 ≤ (St.seen node.old.store).more
+        → NodeStands St.layout types.now (held St.seen node.old) calls.old s
+        → KeyEnds r.1 St.layout types.now (held St.seen node.new) calls.new reach (held St.seen node.old) s r.0 key) }
+    // With memory or without.
+    ensures starves { IsTrue St.Device.tells → IsLayout St.layout → (s : Site) → IsSoundSite s
+        → 1 ≤ (St.seen node.old.store).more → NodeStands St.layout types.now (held St.seen node.old) calls.old s
+        → Starves St.layout s (St.seen node.old.store) (St.seen node.new.store) }
+{
+    match key.kind {
+        1 => {
+            let event = node.deliver(alloc, types, calls, key.sender)?;
+            Ok((event, TurnEnd::Up))
+        }
+        2 => node.activate(alloc, types, calls, key.uid),
+        3 => {
+            let event = node.start(alloc, types, calls, key.uid)?;
+            Ok((event, TurnEnd::Up))
+        }
+        4 => {
+            let event = node.process(alloc, types, calls, places, key.uid, key.process)?;
+            Ok((event, TurnEnd::Up))
+        }
+        5 => node.store_turn(alloc, calls),
+        _ => unreachable!(),
+    }
+}
 
 impl<St: Store> ScheduledNode<St> {
     /// Whether the node has the turn of a key.
@@ -89,22 +149,8 @@ impl<St: Store> ScheduledNode<St> {
             → 1 ≤ (St.seen self.old.node.store).more → NodeStands St.layout types.now (held St.seen self.old.node) calls.old s
             → Starves St.layout s (St.seen self.old.node.store) (St.seen self.new.node.store)) }
     {
-        match key.kind {
-            1 => {
-                let event = self.deliver(alloc, types, calls, key.sender)?;
-                Ok((event, TurnEnd::Up))
-            }
-            2 => self.activate(alloc, types, calls, key.uid),
-            3 => {
-                let event = self.start(alloc, types, calls, key.uid)?;
-                Ok((event, TurnEnd::Up))
-            }
-            4 => {
-                let event = self.process(alloc, types, calls, places, key.uid, key.process)?;
-                Ok((event, TurnEnd::Up))
-            }
-            5 => self.store_turn(alloc, calls),
-            _ => unreachable!(),
-        }
+        let (event, end) = key_turn(&mut self.node, alloc, types, calls, places, key)?;
+        note_behind(&mut self.agenda, self.node.ejects(), calls, &event, end)?;
+        Ok((event, end))
     }
 }
