@@ -14,7 +14,7 @@ fn items_in(value: &Value) -> &[Value]
     ensures { datums result.now ≡ simple.items_in (datum value.now) }
 {
     match value {
-        Value::List { items } => &items.values,
+        Value::List { items } => items.as_slice(),
         _ => &[],
     }
 }

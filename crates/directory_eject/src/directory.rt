@@ -14,7 +14,7 @@ use crate::condition::items_at;
 use crate::effect::{DONE, FULL, NAME_TAKEN, NO_NAME, code, code_and_cap};
 use crate::stage::{cap_at, text_at};
 use capability::Cap;
-use eden_value::{Items, LIST_LIMIT, Txt, Value};
+use eden_value::{Items, LIST_LIMIT, Txt, Value, listed, texted};
 use epl_syntax::Effect;
 use indexmap::IndexMap;
 use std::alloc::{AllocError, Global};
@@ -47,10 +47,8 @@ fn names(alloc: Global, entries: &IndexMap<Vec<u8>, Option<Cap>>) -> Result<Vec<
 {
     let mut made = Vec::with_capacity(alloc, entries.len())?;
     for name in entries.keys().as_slice() {
-        let bytes = Vec::from_slice(alloc, name)?;
-        made.push(Value::Text {
-            text: Txt { bytes },
-        })?;
+        let text = texted(Vec::from_slice(alloc, name)?)?;
+        made.push(Value::Text { text })?;
     }
     Ok(made)
 }
@@ -88,7 +86,7 @@ impl Directory {
         let mut entries = IndexMap::with_capacity(alloc, names.len())?;
         for i in 0..names.len() {
             let name = text_at(alloc, names, i)?;
-            entries.insert(name.bytes, cap_at(held, i))?;
+            entries.insert(name.into_bytes()?, cap_at(held, i))?;
         }
         Ok(Directory { entries })
     }
@@ -99,14 +97,10 @@ impl Directory {
         ensures durable { IfOk result (λ values. values ≡ durable_of (native types.Directory) self.now) }
     {
         let names = Value::List {
-            items: Items {
-                values: names(alloc, &self.entries)?,
-            },
+            items: listed(names(alloc, &self.entries)?)?,
         };
         let held = Value::List {
-            items: Items {
-                values: held(alloc, &self.entries)?,
-            },
+            items: listed(held(alloc, &self.entries)?)?,
         };
         let values = vec![in alloc; names, held]?;
         Ok(Items { values })
@@ -128,7 +122,7 @@ impl Directory {
         if self.entries.len() == LIST_LIMIT {
             return code(alloc, FULL);
         }
-        self.entries.insert(name.bytes, held)?;
+        self.entries.insert(name.into_bytes()?, held)?;
         Ok(Effect::Checkpoint)
     }
 
@@ -162,9 +156,7 @@ impl Directory {
         ensures { IfOk result (λ effect. spec.directory_turn self.now spec.tells answers.Go ≡ (self.now, spec.changed, effect)) }
     {
         let names = Value::List {
-            items: Items {
-                values: names(alloc, &self.entries)?,
-            },
+            items: listed(names(alloc, &self.entries)?)?,
         };
         let values = vec![in alloc; names]?;
         Ok(Effect::Return {

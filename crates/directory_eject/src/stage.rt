@@ -7,7 +7,7 @@ ghost use Rattle.epl_syntax.specs.Simple.{argument, text_in, cap_in};
 ghost use Rattle.directory_eject.specs.Stages.{stage_of};
 
 use capability::Cap;
-use eden_value::{Items, Txt, Value};
+use eden_value::{Items, Txt, Value, texted};
 use epl_syntax::is_called;
 use std::alloc::{AllocError, Global};
 
@@ -31,13 +31,8 @@ pub(crate) fn text_at(alloc: Global, values: &[Value], place: usize) -> Result<T
     ensures { IfOk result (λ text. text ≡ text_in (argument place (datums values.now))) }
 {
     match values.get(place) {
-        Some(Value::Text { text }) => {
-            let bytes = Vec::from_slice(alloc, &text.bytes)?;
-            Ok(Txt { bytes })
-        }
-        _ => Ok(Txt {
-            bytes: Vec::new(alloc),
-        }),
+        Some(Value::Text { text }) => text.share(),
+        _ => texted(Vec::new(alloc)),
     }
 }
 

@@ -94,13 +94,13 @@ fn add_value(value: &Value, out: &mut Vec<u8>) -> Result<(), AllocError>
         Value::Bool { b } => out.extend_from_slice(&[tag::BOOL, u8::from(*b)]),
         Value::Text { text } => {
             out.push(tag::TEXT)?;
-            add_text(&text.bytes, out)
+            add_text(text.as_slice(), out)
         }
         Value::Cap { cap } => add_option(*cap, out),
         Value::List { items } => {
             out.push(tag::LIST)?;
             add_length(items.values.len(), out)?;
-            add_values(&items.values, out)?;
+            add_values(items.values.as_slice(), out)?;
             Ok(())
         }
     }
@@ -144,7 +144,7 @@ fn add_rep(rep: &Rep, out: &mut Vec<u8>) -> Result<(), AllocError>
     let name = &rep.type_name;
     let values = &rep.values;
     out.push(FORMAT)?;
-    add_name(&name.bytes, out)?;
+    add_name(name.as_slice(), out)?;
     out.extend_from_slice(&rep.version.to_be_bytes())?;
     add_row(&values.values, out)?;
     Ok(())

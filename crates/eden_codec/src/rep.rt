@@ -5,7 +5,7 @@ ghost use Rattle.eden_codec.specs.Reading.{name_at};
 
 use crate::field::{Alphabet, byte_of};
 use crate::value::bytes_of;
-use eden_value::{Items, Txt};
+use eden_value::{Items, Txt, texted};
 use grammar::{Stop, number_of};
 use std::alloc::Global;
 
@@ -27,5 +27,5 @@ pub fn name_of(alloc: Global, bytes: &[u8]) -> Result<(Txt, &[u8]), Stop>
     let (first, rest) = byte_of(Alphabet::Upper, rest)?;
     let (mut bytes, rest) = bytes_of(alloc, Alphabet::Name, count - 1, rest)?;
     bytes.insert(0, first)?;
-    Ok((Txt { bytes }, rest))
+    Ok((texted(bytes)?, rest))
 }

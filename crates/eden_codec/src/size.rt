@@ -15,7 +15,7 @@ fn value_size(value: &Value) -> u64
         Value::Text { text } => (text.bytes.len() as u64).saturating_add(3),
         Value::Cap { cap: None } => 1,
         Value::Cap { cap: Some(_) } => 12,
-        Value::List { items } => row_size(&items.values).saturating_add(3),
+        Value::List { items } => row_size(items.values.as_slice()).saturating_add(3),
     }
 }
 

@@ -9,7 +9,7 @@ ghost use Rattle.eden_codec.specs.Reading.{int_at, text_at, cap_at, plain_of, pl
 use crate::field::{Alphabet, byte_of, truth_of};
 use crate::tag;
 use capability::{Cap, Rights, Uid};
-use eden_value::{DEPTH_LIMIT, Items, LIST_LIMIT, TEXT_LIMIT, Txt, Value};
+use eden_value::{DEPTH_LIMIT, Items, LIST_LIMIT, TEXT_LIMIT, Txt, Value, listed, texted};
 use grammar::{Stop, number_of};
 use std::alloc::Global;
 
@@ -54,7 +54,7 @@ fn text_of(alloc: Global, bytes: &[u8]) -> Result<(Txt, &[u8]), Stop>
 {
     let (count, rest) = number_of(bytes, 2, 0, TEXT_LIMIT as u64)?;
     let (bytes, rest) = bytes_of(alloc, Alphabet::Printable, count, rest)?;
-    Ok((Txt { bytes }, rest))
+    Ok((texted(bytes)?, rest))
 }
 
 fn cap_of(bytes: &[u8]) -> Result<(Cap, &[u8]), Stop>
@@ -154,7 +154,7 @@ fn any_value(
         None => {
             let (count, rest) = number_of(bytes, 2, 0, LIST_LIMIT as u64)?;
             let (values, rest) = values_of(alloc, depth, count, rest)?;
-            let items = Items { values };
+            let items = listed(values)?;
             Ok((Value::List { items }, rest))
         }
     }

@@ -12,7 +12,7 @@ ghost use Rattle.eden_script.specs.View.{Gives, written, value_in};
 use crate::cause::ScriptCause;
 use crate::reader::{Fault, end};
 use crate::value::{in_range, value};
-use eden_value::{DEPTH_LIMIT, Items, Value, copy};
+use eden_value::{DEPTH_LIMIT, Value, copy, listed};
 use journal::Arg;
 use std::alloc::{AllocError, Global};
 
@@ -26,9 +26,8 @@ fn value_of(alloc: Global, arg: &Arg) -> Result<Value, AllocError>
         Arg::Named { .. } => Ok(Value::Cap { cap: None }),
         Arg::List { items } => {
             let values = values_of(alloc, &items.args)?;
-            Ok(Value::List {
-                items: Items { values },
-            })
+            let items = listed(values)?;
+            Ok(Value::List { items })
         }
     }
 }

@@ -19,7 +19,7 @@ use crate::cut::line_at_place;
 use crate::flaw::Place;
 use crate::line::Seen;
 use crate::reader::{is_upper, name_length};
-use eden_value::Txt;
+use eden_value::{Txt, texted};
 use epl_check::{CheckRefusal, check, resolve};
 use epl_parser::{conditions_are_in_monitors, parse_edentype};
 use epl_syntax::{Checked, ParseRefusal, Types};
@@ -90,7 +90,7 @@ pub fn name_flaw(alloc: Global, types: &Types, text: &[u8]) -> Result<Option<Pla
         return Ok(None);
     };
     let bytes = Vec::from_slice(alloc, name)?;
-    if !is_type(types, &Txt { bytes }) {
+    if !is_type(types, &texted(bytes)?) {
         return Ok(None);
     }
     Ok(Some(Place {

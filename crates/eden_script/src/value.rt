@@ -11,7 +11,7 @@ ghost use Rattle.eden_script.specs.View.{Gives, written, plainly, values_read};
 
 use crate::cause::ScriptCause;
 use crate::reader::{Fault, behind, digits, lower, up_to, within, word};
-use eden_value::{Txt, Value, is_printable};
+use eden_value::{Txt, Value, is_printable, texted};
 use journal::{Arg, Args, Ref};
 use std::alloc::{AllocError, Global};
 
@@ -19,9 +19,7 @@ use std::alloc::{AllocError, Global};
 pub fn txt(alloc: Global, bytes: &[u8]) -> Result<Txt, AllocError>
     ensures { IfOk result (λ t. t ≡ bytes.now) }
 {
-    Ok(Txt {
-        bytes: Vec::from_slice(alloc, bytes)?,
-    })
+    texted(Vec::from_slice(alloc, bytes)?)
 }
 
 /// A text behind its first quote, and what stands behind the last.
@@ -55,7 +53,7 @@ fn text(alloc: Global, bytes: &[u8]) -> Result<(Txt, &[u8]), Fault>
     ensures { Gives (λ x. (x.0, x.1.now)) result (reading.read_text bytes.now) }
 {
     match text_body(alloc, bytes)? {
-        Some((found, rest)) if found.len() <= 1024 => Ok((Txt { bytes: found }, rest)),
+        Some((found, rest)) if found.len() <= 1024 => Ok((texted(found)?, rest)),
         _ => Err(Fault::Bad {
             cause: ScriptCause::BadForm,
         }),

@@ -1,5 +1,5 @@
 -- The definitions at a value of the code that is a list.
-use Rattle.std.proofs.Common.{◌≡◌, ◌↔◌, Bool as Truth, true, false, ℕ, suc, ◌-◌, ◌<◌, ◌++◌, nat_le, List, [], ◌∷◌, refl, ap, sym, ◌∙◌}
+use Rattle.std.proofs.Common.{◌≡◌, ◌↔◌, Bool as Truth, true, false, ℕ, suc, ◌+◌, ◌-◌, ◌<◌, ◌++◌, min, nat_le, nat_lt, List, [], ◌∷◌, refl, ap, sym, ◌∙◌}
 use Rattle.std.proofs.Common.{arith}
 use Rattle.std.proofs.lemmas.Bool.Decides.{nat_tests}
 use Rattle.eden_value.specs.Datum.{Datum, list, data_of}
@@ -20,11 +20,8 @@ list_within ds most h = within (depth_of ds) (depths (data_of ds)) most (depths-
     within : (a b m : ℕ) → b ≡ a → 0 < m → nat_le a (m - 1) ≡ nat_le (suc b) m
     within a b m e h = grind (arith, nat_tests)
 
--- a value v that is a list of the code's values ws
-module _ (v : Value) (items : List Datum) (vs ws : List Value) (is : v ≡ Listed items) (view : datums vs ≡ items) (slice : ws ≡ vs) where
-  items_are : datums ws ≡ items
-  items_are = ap datums slice ∙ view
-
+-- a value v that is a list, of the code's values ws
+module _ (v : Value) (items : List Datum) (ws : List Value) (is : v ≡ Listed items) (items_are : datums ws ≡ items) where
   datum_is : datum v ≡ list (data_of (datums ws))
   datum_is = ap datum is ∙ ap (λ ds. list (data_of ds)) (sym items_are)
 
@@ -49,12 +46,24 @@ module _ (v : Value) (items : List Datum) (vs ws : List Value) (is : v ≡ Liste
       row [] = refl
       row (d ∷ ds) = ap (λ l. printed d ++ l) (behind ds)
 
+-- how deep lists nest in a value v that is a list of these values
+pub list_depth : (v : Value) (items raw : List Datum) → v ≡ Listed items → raw ≡ items → depth (datum v) ≡ suc (depth_of raw)
+list_depth v items raw is view = ap (λ w. depth (datum w)) is ∙ ap suc (depths-data_of items ∙ ap depth_of (sym view))
+
+-- the depth that is kept tells whether the list is within a limit
+pub shallow : (kept deep raw most : ℕ) → kept ≡ min raw 255 → deep ≡ suc raw → most < 256 → nat_lt kept most ≡ nat_le deep most
+shallow kept deep raw most e f h = grind (arith, nat_tests)
+
+-- the depth of a list from the one that is kept
+pub one_deeper : (sum kept deep raw : ℕ) → sum ≡ min (kept + 1) 255 → kept ≡ min raw 255 → deep ≡ suc raw → sum ≡ min deep 255
+one_deeper sum kept deep raw e f g = omega (arith, e, f, g)
+
 -- two lists are one value where their items are the same
-pub same_lists : (a b : Value) (x y : List Datum) (vs us ws zs : List Value) → a ≡ Listed x → datums vs ≡ x → ws ≡ vs → b ≡ Listed y
-    → datums us ≡ y → zs ≡ us → (ws ≡ zs) ↔ (a ≡ b)
-same_lists a b x y vs us ws zs p q r s t u = (
-  λ e. p ∙ ap Listed (sym (ap datums r ∙ q) ∙ ap datums e ∙ ap datums u ∙ t) ∙ sym s,
-  λ e. let f : x ≡ y = cc (p, s, e) in same_values ws zs (ap datums r ∙ q ∙ f ∙ sym (ap datums u ∙ t)),
+pub same_lists : (a b : Value) (x y : List Datum) (ws zs : List Value) → a ≡ Listed x → datums ws ≡ x → b ≡ Listed y
+    → datums zs ≡ y → (ws ≡ zs) ↔ (a ≡ b)
+same_lists a b x y ws zs p q s t = (
+  λ e. p ∙ ap Listed (sym q ∙ ap datums e ∙ t) ∙ sym s,
+  λ e. let f : x ≡ y = cc (p, s, e) in same_values ws zs (q ∙ f ∙ sym t),
 )
 
 -- what is left of a row to print, which has no comma before its first value

@@ -26,7 +26,7 @@ pub fn has_kind(value: &Value, kind: &Kind) -> bool
         (Value::Bool { .. }, Kind::Bool) => true,
         (Value::Text { .. }, Kind::Text) => true,
         (Value::Cap { .. }, Kind::Cap) => true,
-        (Value::List { items }, Kind::List { of }) => have_kind(&items.values, of),
+        (Value::List { items }, Kind::List { of }) => have_kind(items.values.as_slice(), of),
         _ => false,
     }
 }

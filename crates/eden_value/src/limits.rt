@@ -6,7 +6,8 @@ ghost use Rattle.eden_value.specs.Bytes.{is_printable};
 ghost use Rattle.eden_value.specs.Limits.{IsText, depth, depth_of};
 
 use crate::bytes::is_printable;
-use crate::value::{DEPTH_LIMIT, Items, LIST_LIMIT, TEXT_LIMIT, Txt, Value, ValueRefusal};
+use crate::shared::{listed, texted};
+use crate::value::{DEPTH_LIMIT, LIST_LIMIT, TEXT_LIMIT, Txt, Value, ValueRefusal};
 use std::alloc::Global;
 
 fn are_printable(bytes: &[u8]) -> bool
@@ -37,25 +38,26 @@ pub fn text_of(alloc: Global, bytes: &[u8]) -> Result<Txt, ValueRefusal>
     if bytes.len() > TEXT_LIMIT {
         return Err(ValueRefusal::TooLong);
     }
-    match Vec::from_slice(alloc, bytes) {
-        Ok(bytes) => Ok(Txt { bytes }),
+    let Ok(bytes) = Vec::from_slice(alloc, bytes) else {
+        return Err(ValueRefusal::OutOfMemory);
+    };
+    match texted(bytes) {
+        Ok(text) => Ok(text),
         Err(_) => Err(ValueRefusal::OutOfMemory),
     }
 }
 
 /// Whether lists nest at most `most` deep in a value.
-#[cycle(depth)]
 pub fn is_shallow(value: &Value, most: u8) -> bool
     ensures { result ≡ nat_le (depth (datum value.now)) most }
 {
     match value {
-        Value::List { items } => most > 0 && are_shallow(&items.values, most - 1),
+        Value::List { items } => items.depth < most,
         _ => true,
     }
 }
 
 /// Whether lists nest at most `most` deep in each of these values.
-#[cycle(depth)]
 pub fn are_shallow(values: &[Value], most: u8) -> bool
     ensures { result ≡ nat_le (depth_of (datums values.now)) most }
 {
@@ -69,15 +71,13 @@ pub fn are_shallow(values: &[Value], most: u8) -> bool
 
 /// The list of these values.
 ///
-/// A number of values past `LIST_LIMIT` is found first, then a depth past `DEPTH_LIMIT`. It takes no
-/// memory, and always answers one of these two or the list.
+/// A number of values past `LIST_LIMIT` is found first, then a depth past `DEPTH_LIMIT`.
 pub fn list_of(values: Vec<Value>) -> Result<Value, ValueRefusal>
     ensures ok { IfOk result (λ list. list ≡ list_value values.items) }
     ensures too_long { (result ≡ Err ValueRefusal.TooLong) ↔ (LIST_LIMIT < length values.items) }
     ensures too_deep { (result ≡ Err ValueRefusal.TooDeep)
         ↔ ((length values.items ≤ LIST_LIMIT) × (DEPTH_LIMIT ≤ depth_of (datums values.items))) }
     ensures no_bad_byte { result ≢ Err ValueRefusal.BadByte }
-    ensures takes_no_memory { result ≢ Err ValueRefusal.OutOfMemory }
 {
     if values.len() > LIST_LIMIT {
         return Err(ValueRefusal::TooLong);
@@ -85,7 +85,8 @@ pub fn list_of(values: Vec<Value>) -> Result<Value, ValueRefusal>
     if !are_shallow(&values, DEPTH_LIMIT - 1) {
         return Err(ValueRefusal::TooDeep);
     }
-    Ok(Value::List {
-        items: Items { values },
-    })
+    match listed(values) {
+        Ok(items) => Ok(Value::List { items }),
+        Err(_) => Err(ValueRefusal::OutOfMemory),
+    }
 }

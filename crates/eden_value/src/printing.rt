@@ -92,14 +92,14 @@ fn add_value(value: &Value, out: &mut Vec<u8>) -> Result<(), AllocError>
         Value::Bool { b } => out.extend_from_slice(if *b { b"true" } else { b"false" }),
         Value::Text { text } => {
             out.push(b'"')?;
-            add_quoted(&text.bytes, out)?;
+            add_quoted(text.as_slice(), out)?;
             out.push(b'"')?;
             Ok(())
         }
         Value::Cap { cap } => add_cap(*cap, out),
         Value::List { items } => {
             out.push(b'[')?;
-            add_row(&items.values, out)?;
+            add_row(items.values.as_slice(), out)?;
             out.push(b']')?;
             Ok(())
         }

@@ -3,46 +3,48 @@ ghost use Rattle.std.specs.Prelude.{◌≡◌, ◌↔◌, ◌++◌, IsTrue, IfOk
 ghost use Rattle.eden_value.specs.View.{datum, datums};
 ghost use Rattle.eden_value.specs.Caps as held;
 
-use crate::value::{Items, Txt, Value};
+use crate::value::{Items, Value};
 use capability::Cap;
 use std::alloc::{AllocError, Global};
 
-/// A value equal to this one.
-#[cycle(copy)]
-pub fn copy(alloc: Global, value: &Value) -> Result<Value, AllocError>
+/// A value equal to this one. A text or a list takes no memory: it is shared.
+pub fn share(value: &Value) -> Result<Value, AllocError>
     ensures { IfOk result (λ v. v ≡ value.now) }
 {
     match value {
         Value::Int { n } => Ok(Value::Int { n: *n }),
         Value::Bool { b } => Ok(Value::Bool { b: *b }),
         Value::Text { text } => {
-            let bytes = Vec::from_slice(alloc, &text.bytes)?;
-            Ok(Value::Text {
-                text: Txt { bytes },
-            })
+            let text = text.share()?;
+            Ok(Value::Text { text })
         }
         Value::Cap { cap } => Ok(Value::Cap { cap: *cap }),
         Value::List { items } => {
-            let values = copies(alloc, &items.values)?;
-            Ok(Value::List {
-                items: Items { values },
-            })
+            let items = items.share()?;
+            Ok(Value::List { items })
         }
     }
 }
 
-#[cycle(copy)]
-fn copies(alloc: Global, values: &[Value]) -> Result<Vec<Value>, AllocError>
+/// A value equal to this one. A text or a list takes no memory: it is shared.
+pub fn copy(_alloc: Global, value: &Value) -> Result<Value, AllocError>
+    ensures { IfOk result (λ v. v ≡ value.now) }
+{
+    share(value)
+}
+
+/// The same values in a row.
+pub(crate) fn copies(alloc: Global, values: &[Value]) -> Result<Vec<Value>, AllocError>
     ensures { IfOk result (λ v. v.items ≡ values.now) }
 {
     let mut made = Vec::with_capacity(alloc, values.len())?;
     for value in values {
-        made.push(copy(alloc, value)?)?;
+        made.push(share(value)?)?;
     }
     Ok(made)
 }
 
-/// The same values in a row. Each list in them takes the memory of its items and no more.
+/// The same values in a row, in the memory of the row and no more.
 pub fn copy_items(alloc: Global, items: &Items) -> Result<Items, AllocError>
     ensures { IfOk result (λ copied. copied ≡ items.now) }
 {
@@ -56,7 +58,7 @@ fn add_caps(value: &Value, found: &mut Vec<Cap>) -> Result<(), AllocError>
 {
     match value {
         Value::Cap { cap: Some(cap) } => found.push(*cap)?,
-        Value::List { items } => add_all_caps(&items.values, found)?,
+        Value::List { items } => add_all_caps(items.values.as_slice(), found)?,
         _ => {}
     }
     Ok(())
@@ -89,9 +91,9 @@ pub fn equal(a: &Value, b: &Value) -> bool
     match (a, b) {
         (Value::Int { n }, Value::Int { n: m }) => *n == *m,
         (Value::Bool { b: c }, Value::Bool { b: d }) => *c == *d,
-        (Value::Text { text: s }, Value::Text { text: t }) => s.bytes == t.bytes,
+        (Value::Text { text: s }, Value::Text { text: t }) => s.as_slice() == t.as_slice(),
         (Value::Cap { cap: c }, Value::Cap { cap: d }) => *c == *d,
-        (Value::List { items: x }, Value::List { items: y }) => are_equal(&x.values, &y.values),
+        (Value::List { items: x }, Value::List { items: y }) => are_equal(x.values.as_slice(), y.values.as_slice()),
         _ => false,
     }
 }

@@ -11,7 +11,7 @@ use crate::breaks::copy_name;
 use crate::entries::entry_of_none;
 use capability::Cap;
 use eden_model::Asker;
-use eden_value::{Items, Txt, Value};
+use eden_value::{Items, Txt, Value, texted};
 use invocation::Asked;
 use journal::{Args, Entry, Event, Ref};
 use passive_store::Store;
@@ -21,9 +21,7 @@ use std::alloc::{AllocError, Global};
 fn look_up_of(alloc: Global, component: &Txt) -> Result<(Txt, Items), AllocError>
     ensures { IfOk result (λ it. (it.0 ≡ codes "LookUp") × (it.1 ≡ lookup_args (component.now ∷ []))) }
 {
-    let operation = Txt {
-        bytes: b"LookUp".to_vec(alloc)?,
-    };
+    let operation = texted(b"LookUp".to_vec(alloc)?)?;
     let mut values = Vec::new(alloc);
     values.reserve(1)?;
     values.push_reserved(Value::Text {

@@ -19,11 +19,10 @@ use passive_store::Store;
 use std::alloc::{AllocError, Global};
 
 // A copy of a name.
-pub(crate) fn copy_name(alloc: Global, name: &Txt) -> Result<Txt, AllocError>
+pub(crate) fn copy_name(_alloc: Global, name: &Txt) -> Result<Txt, AllocError>
     ensures { IfOk result (λ copied. copied ≡ name.now) }
 {
-    let bytes = Vec::from_slice(alloc, &name.bytes)?;
-    Ok(Txt { bytes })
+    name.share()
 }
 
 // Who waited for a call.

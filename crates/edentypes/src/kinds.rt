@@ -46,7 +46,7 @@ fn is_list_of(value: &Value, kind: &Kind) -> bool
     ensures { result ≡ has_shape (datum value.now) (lists (shape kind.now)) }
 {
     match value {
-        Value::List { items } => have_kind(&items.values, kind),
+        Value::List { items } => have_kind(items.as_slice(), kind),
         _ => false,
     }
 }

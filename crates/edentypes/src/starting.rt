@@ -19,7 +19,7 @@ use crate::variables::{fit_kept, only_kept, with_kept};
 use crate::{Kind, find};
 use capability::Uid;
 use eden_codec::Rep;
-use eden_value::{Items, Txt, Value, copy_items};
+use eden_value::{Items, Txt, Value, copy_items, texted};
 use epl_syntax::{Native, Program, Types, VarDecl};
 use std::alloc::{AllocError, Global};
 
@@ -111,9 +111,9 @@ fn name_in(alloc: Global, types: &Types, kind: Kind) -> Result<Txt, AllocError>
 {
     let bytes = match form_at(types, kind) {
         Form::Native { native } => Vec::from_slice(alloc, name_of(native))?,
-        Form::Declared { program } => Vec::from_slice(alloc, &program.name.text.bytes)?,
+        Form::Declared { program } => Vec::from_slice(alloc, program.name.text.as_slice())?,
     };
-    Ok(Txt { bytes })
+    texted(bytes)
 }
 
 /// What is kept of an Eject with these values.

@@ -11,7 +11,7 @@ ghost use Rattle.edentypes.specs.Forms.{slot_of, slot_of_variable};
 
 use crate::kinds::Kinded;
 use crate::native::{First, Slot};
-use eden_value::{Items, Txt, Value, copy, has_kind};
+use eden_value::{Value, copy, has_kind, listed, texted};
 use epl_syntax::{Const, VarDecl};
 use std::alloc::{AllocError, Global};
 
@@ -34,14 +34,11 @@ pub(crate) trait Variable {
         ensures { IfOk result (λ value. datum value ≡ (slot self.now).start) };
 }
 
-fn empty_list(alloc: Global) -> Value
-    ensures { datum result ≡ list no_data }
+fn empty_list(alloc: Global) -> Result<Value, AllocError>
+    ensures { IfOk result (λ value. datum value ≡ list no_data) }
 {
-    Value::List {
-        items: Items {
-            values: Vec::new(alloc),
-        },
-    }
+    let items = listed(Vec::new(alloc))?;
+    Ok(Value::List { items })
 }
 
 impl Variable for Slot {
@@ -61,13 +58,11 @@ impl Variable for Slot {
             First::False => Ok(Value::Bool { b: false }),
             First::True => Ok(Value::Bool { b: true }),
             First::NoText => {
-                let bytes = Vec::new(alloc);
-                Ok(Value::Text {
-                    text: Txt { bytes },
-                })
+                let text = texted(Vec::new(alloc))?;
+                Ok(Value::Text { text })
             }
             First::NoCap => Ok(Value::Cap { cap: None }),
-            First::NoItems => Ok(empty_list(alloc)),
+            First::NoItems => empty_list(alloc),
         }
     }
 }
@@ -79,14 +74,12 @@ fn value_of(alloc: Global, constant: &Const) -> Result<Value, AllocError>
     match constant {
         Const::Int { n } => Ok(Value::Int { n: *n }),
         Const::Text { text } => {
-            let bytes = Vec::from_slice(alloc, &text.bytes)?;
-            Ok(Value::Text {
-                text: Txt { bytes },
-            })
+            let text = text.share()?;
+            Ok(Value::Text { text })
         }
         Const::Bool { b } => Ok(Value::Bool { b: *b }),
         Const::Absent => Ok(Value::Cap { cap: None }),
-        Const::EmptyList { .. } => Ok(empty_list(alloc)),
+        Const::EmptyList { .. } => empty_list(alloc),
     }
 }
 

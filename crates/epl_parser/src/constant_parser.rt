@@ -9,7 +9,7 @@ ghost use Rattle.epl_parser.specs.Constants.{text_at, begins_with, read_kind_in_
 use crate::head::{ConstantHead, constant_head, negated};
 use crate::kind_parser::written_kind;
 use crate::reading::{Source, bytes_of, take_found, take_mark};
-use eden_value::Txt;
+use eden_value::{Txt, texted};
 use epl_syntax::{Const, Mark, Start, Token, WrittenKind};
 use grammar::Halt;
 use std::alloc::{AllocError, Global};
@@ -68,12 +68,8 @@ pub(crate) fn text_value(alloc: Global, text: &[u8], token: Token) -> Result<Txt
 {
     let spelled = bytes_of(alloc, text, token)?;
     match spelled.bytes.split_first() {
-        Some((_, body)) => Ok(Txt {
-            bytes: unescaped(alloc, body)?,
-        }),
-        None => Ok(Txt {
-            bytes: Vec::new(alloc),
-        }),
+        Some((_, body)) => texted(unescaped(alloc, body)?),
+        None => texted(Vec::new(alloc)),
     }
 }
 

@@ -4,7 +4,7 @@ ghost use Rattle.grammar.specs.Tells.{Tells};
 ghost use Rattle.epl_parser.specs.OneToken.{bytes_at, name_at, the_mark, the_word, the_lower, the_upper, the_number};
 ghost use Rattle.epl_parser.specs.OneToken.{peeked, take_found, look_one, number_behind};
 
-use eden_value::Txt;
+use eden_value::{Txt, texted};
 use epl_syntax::{Mark, Name, Number, Token, TokenKind, Word};
 use grammar::Halt;
 use std::alloc::{AllocError, Global};
@@ -162,9 +162,7 @@ pub(crate) fn bytes_of(alloc: Global, text: &[u8], token: Token) -> Result<Txt, 
 {
     let size = token.end.saturating_sub(token.start) as usize;
     let spelled = first_bytes(bytes_from(text, token.start as usize), size);
-    Ok(Txt {
-        bytes: Vec::from_slice(alloc, spelled)?,
-    })
+    texted(Vec::from_slice(alloc, spelled)?)
 }
 
 /// The name that stands at a token.

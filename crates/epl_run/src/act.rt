@@ -74,11 +74,10 @@ fn target_of(program: &Program, vars: &Variables, target: &Target) -> Result<Cap
     }
 }
 
-fn copy_text(alloc: Global, text: &Txt) -> Result<Txt, AllocError>
+fn copy_text(_alloc: Global, text: &Txt) -> Result<Txt, AllocError>
     ensures { IfOk result (λ copied. copied ≡ text.now) }
 {
-    let bytes = Vec::from_slice(alloc, &text.bytes)?;
-    Ok(Txt { bytes })
+    text.share()
 }
 
 /// An invocation: its target is looked at first, then its arguments.

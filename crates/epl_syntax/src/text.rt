@@ -8,12 +8,12 @@ use eden_value::Txt;
 pub fn same_text(a: &Txt, b: &Txt) -> bool
     ensures { result ≡ same_text a.now b.now }
 {
-    a.bytes == b.bytes
+    a.as_slice() == b.as_slice()
 }
 
 /// Whether a text is these bytes.
 pub fn is_called(text: &Txt, name: &[u8]) -> bool
     ensures { result ≡ same_text text.now name.now }
 {
-    text.bytes.as_slice() == name
+    text.as_slice() == name
 }

@@ -98,7 +98,7 @@ fn name_of(kind: &Native) -> &'static [u8]
 fn is_named(kind: &Native, name: &Txt) -> bool
     ensures { result ≡ same_text (natives.native_name kind.now) name.now }
 {
-    name_of(kind) == name.bytes.as_slice()
+    name_of(kind) == name.as_slice()
 }
 
 fn has_native(types: &[Native], name: &Txt) -> bool

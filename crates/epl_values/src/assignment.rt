@@ -15,21 +15,21 @@ use crate::expression::value_of;
 use crate::operator::joined;
 use crate::stop::Stop;
 use crate::variables::{Variables, replace, set, value_named};
-use eden_value::{DEPTH_LIMIT, Items, LIST_LIMIT, TEXT_LIMIT, Txt, Value, are_shallow};
+use eden_value::{DEPTH_LIMIT, LIST_LIMIT, Listed, TEXT_LIMIT, Txt, Value, are_shallow};
 use epl_syntax::{Expr, FaultCause, Name, Operator, Program, same_text};
 use std::alloc::Global;
 
 /// Whether one list may stand behind another.
-fn lists_may_join(a: &Items, b: &Items) -> Result<(), FaultCause>
+fn lists_may_join(a: &Listed, b: &Listed) -> Result<(), FaultCause>
     ensures { Joins result (operators.joined (list (data_of a.now)) (list (data_of b.now))) }
 {
     if a.values.len() + b.values.len() > LIST_LIMIT {
         return Err(FaultCause::TooLong);
     }
-    if !are_shallow(&a.values, DEPTH_LIMIT - 1) {
+    if !are_shallow(a.as_slice(), DEPTH_LIMIT - 1) {
         return Err(FaultCause::TooDeep);
     }
-    if !are_shallow(&b.values, DEPTH_LIMIT - 1) {
+    if !are_shallow(b.as_slice(), DEPTH_LIMIT - 1) {
         return Err(FaultCause::TooDeep);
     }
     Ok(())

@@ -9,7 +9,7 @@ ghost use Rattle.epl_values.specs.Comes.{Comes};
 use crate::operator::list_of;
 use crate::stop::Stop;
 use capability::{Cap, Rights, restrict};
-use eden_value::{Items, Txt, Value};
+use eden_value::{Listed, Value, share, texted};
 use epl_syntax::{Builtin, FaultCause};
 use itoa::Buffer;
 use std::alloc::Global;
@@ -28,12 +28,12 @@ fn place_in(size: usize, n: i64) -> Result<usize, Stop>
 
 /// The item of a list at a place.
 #[tactic(auto, using(crate::proofs::Operands::listed, crate::proofs::Operands::length_datums))]
-fn item_in(items: Items, n: i64) -> Result<Value, Stop>
+fn item_in(items: Listed, n: i64) -> Result<Value, Stop>
     ensures { Comes datum result (meaning.item_at (list (data_of items)) (number n)) }
 {
-    let mut values = items.values;
+    let values = items.as_slice();
     let place = place_in(values.len(), n)?;
-    Ok(values.swap_remove(place))
+    Ok(share(&values[place])?)
 }
 
 /// `l[i]`: the item at a place, counted from 0.
@@ -70,10 +70,8 @@ fn decimals(alloc: Global, value: &Value) -> Result<Value, Stop>
     match value {
         Value::Int { n } => {
             let mut digits = Buffer::new();
-            let bytes = Vec::from_slice(alloc, digits.format(*n).as_bytes())?;
-            Ok(Value::Text {
-                text: Txt { bytes },
-            })
+            let text = texted(Vec::from_slice(alloc, digits.format(*n).as_bytes())?)?;
+            Ok(Value::Text { text })
         }
         _ => Err(Stop::Fault {
             cause: FaultCause::BadKind,
@@ -83,10 +81,10 @@ fn decimals(alloc: Global, value: &Value) -> Result<Value, Stop>
 
 /// A list with another item at a place.
 #[tactic(auto, using(crate::proofs::Operands::listed, crate::proofs::Operands::length_datums, crate::proofs::Operands::set_datums))]
-fn put_in(items: Items, n: i64, item: Value) -> Result<Value, Stop>
+fn put_in(items: Listed, n: i64, item: Value) -> Result<Value, Stop>
     ensures { Comes datum result (meaning.applied builtin.Put (list (data_of items) ∷ number n ∷ datum item ∷ [])) }
 {
-    let mut values = items.values;
+    let mut values = items.into_values()?;
     let place = place_in(values.len(), n)?;
     values[place] = item;
     list_of(values)
@@ -106,10 +104,10 @@ fn put(of: Value, at: Value, item: Value) -> Result<Value, Stop>
 
 /// A list without the item at a place.
 #[tactic(auto, using(crate::proofs::Operands::listed, crate::proofs::Operands::length_datums))]
-fn cut_of(items: Items, n: i64) -> Result<Value, Stop>
+fn cut_of(items: Listed, n: i64) -> Result<Value, Stop>
     ensures { Comes datum result (meaning.applied builtin.Cut (list (data_of items) ∷ number n ∷ [])) }
 {
-    let mut values = items.values;
+    let mut values = items.into_values()?;
     let place = place_in(values.len(), n)?;
     values.remove(place);
     list_of(values)
@@ -137,10 +135,11 @@ fn part_of(alloc: Global, bytes: &[u8], from: i64, count: i64) -> Result<Value, 
         });
     }
     let from = from as usize;
-    let bytes = Vec::from_slice(alloc, &bytes[from..from + count as usize])?;
-    Ok(Value::Text {
-        text: Txt { bytes },
-    })
+    let text = texted(Vec::from_slice(
+        alloc,
+        &bytes[from..from + count as usize],
+    )?)?;
+    Ok(Value::Text { text })
 }
 
 /// `part`, of the bytes of a text.
@@ -149,7 +148,7 @@ fn part(alloc: Global, of: &Value, from: &Value, count: &Value) -> Result<Value,
 {
     match (of, from, count) {
         (Value::Text { text }, Value::Int { n: from }, Value::Int { n: count }) => {
-            part_of(alloc, &text.bytes, *from, *count)
+            part_of(alloc, text.as_slice(), *from, *count)
         }
         _ => Err(Stop::Fault {
             cause: FaultCause::BadKind,

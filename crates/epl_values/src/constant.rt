@@ -4,7 +4,7 @@ ghost use Rattle.eden_value.specs.View.{datum};
 ghost use Rattle.epl_syntax.specs.Tree.{constant};
 ghost use Rattle.epl_syntax.specs.Memory as meaning;
 
-use eden_value::{Items, Txt, Value};
+use eden_value::{Value, listed};
 use epl_syntax::Const;
 use std::alloc::{AllocError, Global};
 
@@ -15,18 +15,14 @@ pub fn value_of_constant(alloc: Global, c: &Const) -> Result<Value, AllocError>
     match c {
         Const::Int { n } => Ok(Value::Int { n: *n }),
         Const::Text { text } => {
-            let bytes = Vec::from_slice(alloc, &text.bytes)?;
-            Ok(Value::Text {
-                text: Txt { bytes },
-            })
+            let text = text.share()?;
+            Ok(Value::Text { text })
         }
         Const::Bool { b } => Ok(Value::Bool { b: *b }),
         Const::Absent => Ok(Value::Cap { cap: None }),
         Const::EmptyList { .. } => {
-            let values = Vec::new(alloc);
-            Ok(Value::List {
-                items: Items { values },
-            })
+            let items = listed(Vec::new(alloc))?;
+            Ok(Value::List { items })
         }
     }
 }

@@ -7,7 +7,7 @@ ghost use Rattle.epl_values.specs.Comes.{Comes};
 
 use crate::numbers::{negated, of_numbers};
 use crate::stop::Stop;
-use eden_value::{Items, TEXT_LIMIT, Txt, Value, ValueRefusal, equal};
+use eden_value::{Listed, TEXT_LIMIT, Txt, Value, ValueRefusal, equal, texted};
 use epl_syntax::{FaultCause, Operator, Prefix};
 
 /// The list of these values, within its limits.
@@ -35,20 +35,19 @@ fn joined_texts(a: Txt, b: &Txt) -> Result<Value, Stop>
             cause: FaultCause::TooLong,
         });
     }
-    let mut bytes = a.bytes;
-    bytes.extend_from_slice(&b.bytes)?;
-    Ok(Value::Text {
-        text: Txt { bytes },
-    })
+    let mut bytes = a.into_bytes()?;
+    bytes.extend_from_slice(b.as_slice())?;
+    let text = texted(bytes)?;
+    Ok(Value::Text { text })
 }
 
 /// One list behind another.
 #[tactic(auto, using(crate::proofs::Operands::listed, crate::proofs::Operands::append_datums))]
-fn joined_lists(a: Items, b: Items) -> Result<Value, Stop>
+fn joined_lists(a: Listed, b: Listed) -> Result<Value, Stop>
     ensures { Comes datum result (meaning.joined (list (data_of a)) (list (data_of b))) }
 {
-    let mut values = a.values;
-    let mut behind = b.values;
+    let mut behind = b.into_values()?;
+    let mut values = a.into_values()?;
     values.append(&mut behind)?;
     list_of(values)
 }

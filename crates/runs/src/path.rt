@@ -2,7 +2,7 @@
 ghost use Rattle.std.specs.Prelude.{◌≡◌, IfOk};
 ghost use Rattle.journal.specs.Run.{components};
 
-use eden_value::Txt;
+use eden_value::{Txt, texted};
 use std::alloc::{AllocError, Global};
 
 /// The components of a path, which slashes part. There is one at least.
@@ -13,12 +13,12 @@ pub fn components(alloc: Global, path: &[u8]) -> Result<Vec<Txt>, AllocError>
     let mut part = Vec::new(alloc);
     for byte in path {
         if *byte == b'/' {
-            parts.push(Txt { bytes: part })?;
+            parts.push(texted(part)?)?;
             part = Vec::new(alloc);
         } else {
             part.push(*byte)?;
         }
     }
-    parts.push(Txt { bytes: part })?;
+    parts.push(texted(part)?)?;
     Ok(parts)
 }

@@ -10,7 +10,7 @@ ghost use Rattle.shell_names.specs.Names.{NamesStand};
 ghost use Rattle.shell_names.specs.Shallow.{shallow, shallow_all};
 
 use crate::names::ShellNames;
-use eden_value::{DEPTH_LIMIT, Items, Value, copy, is_shallow};
+use eden_value::{DEPTH_LIMIT, Items, Value, copy, is_shallow, listed};
 use journal::{Arg, Args};
 use std::alloc::{AllocError, Global};
 
@@ -49,7 +49,7 @@ fn read(alloc: Global, names: &ShellNames, arg: &Arg, most: u8) -> Result<Option
             let values = read_all(alloc, names, &items.args, most - 1)?;
             match values {
                 Some(values) => Ok(Some(Value::List {
-                    items: Items { values },
+                    items: listed(values)?,
                 })),
                 None => Ok(None),
             }

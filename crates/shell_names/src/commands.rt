@@ -15,11 +15,10 @@ use eden_value::{Items, Status, Txt, copy_items};
 use journal::{Args, Event, Ref};
 use std::alloc::{AllocError, Global};
 
-fn copy_name(alloc: Global, name: &Txt) -> Result<Txt, AllocError>
+fn copy_name(_alloc: Global, name: &Txt) -> Result<Txt, AllocError>
     ensures { IfOk result (λ copied. copied ≡ name.now) }
 {
-    let bytes = Vec::from_slice(alloc, &name.bytes)?;
-    Ok(Txt { bytes })
+    name.share()
 }
 
 impl ShellNames {

@@ -6,7 +6,7 @@ ghost use Rattle.epl_syntax.specs.Streams as streams;
 ghost use Rattle.transput.specs.View.{came_of, came_as, pair_in, pair_of};
 
 use capability::Cap;
-use eden_value::{Items, Status, Txt, Value};
+use eden_value::{Items, Status, Txt, Value, texted};
 use epl_syntax::{Answer, Effect};
 use std::alloc::{AllocError, Global};
 
@@ -40,8 +40,7 @@ pub enum Heard {
 fn text_of(alloc: Global, bytes: &[u8]) -> Result<Txt, AllocError>
     ensures { IfOk result (λ text. text ≡ bytes.now) }
 {
-    let bytes = Vec::from_slice(alloc, bytes)?;
-    Ok(Txt { bytes })
+    texted(Vec::from_slice(alloc, bytes)?)
 }
 
 /// A code is returned, and nothing else.
@@ -66,9 +65,7 @@ pub fn returns_item(alloc: Global, item: Value) -> Result<Effect, AllocError>
 pub fn returns_none(alloc: Global, code: u8) -> Result<Effect, AllocError>
     ensures { IfOk result (λ effect. effect ≡ streams.returns_none code) }
 {
-    let text = Txt {
-        bytes: Vec::new(alloc),
-    };
+    let text = texted(Vec::new(alloc))?;
     let values = vec![in alloc; Value::Int { n: i64::from(code) }, Value::Text { text }]?;
     let results = Items { values };
     Ok(Effect::Return { results })

@@ -386,7 +386,7 @@ pub fn filter_values(alloc: Global, rule: Rule) -> Result<Items, AllocError>
 {
     let argument = match rule {
         Rule::Take | Rule::Skip => vec![in alloc; Value::Int { n: 0 }]?,
-        Rule::Only => vec![in alloc; no_text(alloc)]?,
+        Rule::Only => vec![in alloc; no_text(alloc)?]?,
         Rule::Number => Vec::new(alloc),
     };
     let filter = Filter {
@@ -394,7 +394,7 @@ pub fn filter_values(alloc: Global, rule: Rule) -> Result<Items, AllocError>
         arg: Items { values: argument },
         got: 0,
         made: 0,
-        last: no_text(alloc),
+        last: no_text(alloc)?,
         saved: true,
     };
     filter.into_values()

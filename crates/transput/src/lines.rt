@@ -12,7 +12,7 @@ use crate::effects::{
     returns_none,
 };
 use crate::values::{copied_items, items_at, no_items, number_at, take_items, truth_at};
-use eden_value::{Items, Txt, Value, copy};
+use eden_value::{Items, Txt, Value, copy, listed};
 use epl_syntax::{Answer, Effect, is_called};
 use std::alloc::{AllocError, Global};
 
@@ -35,7 +35,7 @@ fn values_of(alloc: Global, filled: bool, items: Items, saved: bool) -> Result<I
 {
     let values = vec![in alloc;
         Value::Bool { b: filled },
-        Value::List { items },
+        Value::List { items: listed(items.values)? },
         Value::Bool { b: saved },
     ]?;
     Ok(Items { values })
@@ -46,7 +46,7 @@ fn set_saved(alloc: Global, vars: &mut Items, saved: bool) -> Result<(), AllocEr
     ensures { OnOk result (vars.new ≡ lines.values_of (record (lines.source vars.old) { saved = saved })) }
 {
     let filled = truth_at(vars, 0);
-    let items = take_items(alloc, vars, 1);
+    let items = take_items(alloc, vars, 1)?;
     *vars = values_of(alloc, filled, items, saved)?;
     Ok(())
 }

@@ -6,7 +6,7 @@ ghost use Rattle.transput.specs.View.{rule_of, filter_of};
 
 use crate::filter::Filter;
 use crate::values::{number_at, text_at};
-use eden_value::{TEXT_LIMIT, Txt, Value, print};
+use eden_value::{TEXT_LIMIT, Txt, Value, print, texted};
 use std::alloc::{AllocError, Global};
 
 /// The type of a filter.
@@ -36,9 +36,9 @@ fn numbered(alloc: Global, n: i64, item: &Txt) -> Result<Txt, AllocError>
     let mut bytes = Vec::new(alloc);
     print(alloc, &Value::Int { n }, &mut bytes)?;
     bytes.extend_from_slice(b": ")?;
-    bytes.extend_from_slice(&item.bytes)?;
+    bytes.extend_from_slice(item.as_slice())?;
     bytes.truncate(TEXT_LIMIT);
-    Ok(Txt { bytes })
+    texted(bytes)
 }
 
 impl Rule {

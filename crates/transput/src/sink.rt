@@ -15,7 +15,7 @@ use crate::effects::{
 };
 use crate::values::{cap_at, no_items, number_at, take_items, truth_at};
 use capability::Cap;
-use eden_value::{Items, LIST_LIMIT, Txt, Value, copy};
+use eden_value::{Items, LIST_LIMIT, Txt, Value, copy, listed};
 use epl_syntax::{Answer, Effect, is_called};
 use std::alloc::{AllocError, Global};
 
@@ -56,13 +56,13 @@ struct Pumped {
 
 impl Drain {
     /// What stands in the values of the variables, which are taken away.
-    fn of(alloc: Global, vars: &mut Items) -> Drain
-        ensures { drain_of result ≡ sink.drain vars.old }
+    fn of(alloc: Global, vars: &mut Items) -> Result<Drain, AllocError>
+        ensures { IfOk result (λ drain. drain_of drain ≡ sink.drain vars.old) }
     {
         let src = cap_at(vars, 0);
         let saved = truth_at(vars, 2);
-        let items = take_items(alloc, vars, 1);
-        Drain { src, items, saved }
+        let items = take_items(alloc, vars, 1)?;
+        Ok(Drain { src, items, saved })
     }
 
     /// The values of the variables.
@@ -71,7 +71,7 @@ impl Drain {
     {
         let values = vec![in alloc;
             Value::Cap { cap: self.src },
-            Value::List { items: self.items },
+            Value::List { items: listed(self.items.values)? },
             Value::Bool { b: self.saved },
         ]?;
         Ok(Items { values })
@@ -216,7 +216,7 @@ fn opens(
 ) -> Result<(SinkStage, Effect), AllocError>
     ensures { IfOk result (λ r. (vars.new, sink_stage r.0, r.1) ≡ sink.sink_turn vars.old (sink.opens src) answer.Go) }
 {
-    let drain = Drain::of(alloc, vars);
+    let drain = Drain::of(alloc, vars)?;
     if drain.src.is_some() || src.is_none() {
         let after = answers_code(alloc, drain, NOT_OPENED)?;
         return ends(alloc, vars, after);
@@ -233,7 +233,7 @@ fn open_saved(
 ) -> Result<(SinkStage, Effect), AllocError>
     ensures { IfOk result (λ r. (vars.new, sink_stage r.0, r.1) ≡ sink.sink_turn vars.old sink.open_saved answer.now) }
 {
-    let drain = Drain::of(alloc, vars);
+    let drain = Drain::of(alloc, vars)?;
     if !is_fine(answer) {
         let after = answers_code(alloc, drain, TROUBLE)?;
         return ends(alloc, vars, after);
@@ -246,7 +246,7 @@ fn open_saved(
 fn pumps(alloc: Global, vars: &mut Items, wanted: i64) -> Result<(SinkStage, Effect), AllocError>
     ensures { IfOk result (λ r. (vars.new, sink_stage r.0, r.1) ≡ sink.sink_turn vars.old (sink.pumps wanted) answer.Go) }
 {
-    let drain = Drain::of(alloc, vars);
+    let drain = Drain::of(alloc, vars)?;
     if drain.src.is_none() {
         let after = counts(alloc, drain, TROUBLE)?;
         return ends(alloc, vars, after);
@@ -266,7 +266,7 @@ fn item_saved(
     ensures { IfOk result (λ r. (vars.new, sink_stage r.0, r.1)
         ≡ sink.sink_turn vars.old (sink.item_saved wanted taken) answer.now) }
 {
-    let drain = Drain::of(alloc, vars);
+    let drain = Drain::of(alloc, vars)?;
     if !is_fine(answer) {
         let after = counts(alloc, drain, TROUBLE)?;
         return ends(alloc, vars, after);
@@ -309,7 +309,7 @@ pub fn sink_turn(
         SinkStage::OpenSaved => open_saved(alloc, vars, &answer),
         SinkStage::Pumps { wanted } => pumps(alloc, vars, wanted),
         SinkStage::Asked { wanted, taken } => {
-            let drain = Drain::of(alloc, vars);
+            let drain = Drain::of(alloc, vars)?;
             let after = after_asking(alloc, drain, wanted, taken, came(answer))?;
             ends(alloc, vars, after)
         }

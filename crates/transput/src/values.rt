@@ -5,7 +5,7 @@ ghost use Rattle.eden_value.specs.Datum.{text};
 ghost use Rattle.epl_syntax.specs.Simple.{argument, number_in, truth_in, text_in, cap_in, items_in};
 
 use capability::Cap;
-use eden_value::{Items, Txt, Value, copy_items};
+use eden_value::{Items, Txt, Value, copy_items, texted};
 use std::alloc::{AllocError, Global};
 use std::mem;
 
@@ -19,13 +19,11 @@ pub fn no_items(alloc: Global) -> Items
 }
 
 /// The empty text.
-pub fn no_text(alloc: Global) -> Value
-    ensures { datum result ≡ text [] }
+pub fn no_text(alloc: Global) -> Result<Value, AllocError>
+    ensures { IfOk result (λ value. datum value ≡ text []) }
 {
-    let text = Txt {
-        bytes: Vec::new(alloc),
-    };
-    Value::Text { text }
+    let text = texted(Vec::new(alloc))?;
+    Ok(Value::Text { text })
 }
 
 /// The number at a place, 0 where none stands there.
@@ -53,7 +51,7 @@ pub fn text_at(values: &Items, place: usize) -> &[u8]
     ensures { result.now ≡ text_in (argument place values.now) }
 {
     match values.values.get(place) {
-        Some(Value::Text { text }) => &text.bytes,
+        Some(Value::Text { text }) => text.as_slice(),
         _ => &[],
     }
 }
@@ -73,7 +71,7 @@ fn items_of(value: &Value) -> &[Value]
     ensures { datums result.now ≡ items_in (datum value.now) }
 {
     match value {
-        Value::List { items } => &items.values,
+        Value::List { items } => items.as_slice(),
         _ => &[],
     }
 }
@@ -100,12 +98,14 @@ pub fn take_value(values: &mut Items, place: usize) -> Value
 }
 
 /// The items of the list at a place, which are taken away.
-pub fn take_items(alloc: Global, values: &mut Items, place: usize) -> Items
-    ensures { result ≡ items_in (argument place values.old) }
+pub fn take_items(alloc: Global, values: &mut Items, place: usize) -> Result<Items, AllocError>
+    ensures { IfOk result (λ items. items ≡ items_in (argument place values.old)) }
 {
     match take_value(values, place) {
-        Value::List { items } => items,
-        _ => no_items(alloc),
+        Value::List { items } => Ok(Items {
+            values: items.into_values()?,
+        }),
+        _ => Ok(no_items(alloc)),
     }
 }
 
@@ -125,7 +125,9 @@ fn copied(alloc: Global, value: &Value) -> Result<Items, AllocError>
     ensures { IfOk result (λ items. items ≡ items_in (datum value.now)) }
 {
     match value {
-        Value::List { items } => copy_items(alloc, items),
+        Value::List { items } => Ok(Items {
+            values: items.share()?.into_values()?,
+        }),
         _ => Ok(no_items(alloc)),
     }
 }

@@ -8,6 +8,6 @@ pub has_kind-returns-in-List-List : goal.has_kind-returns-in-List-List
 has_kind-returns-in-List-List t c =
     let e : shape c.args.kind.now ≡ lists (shape c.in-List-List.of.value) = ap shape c.in-List-List.is-1 in
     c.have_kind.ensures
-    ∙ ap (λ k. have_shape (datums c.deref.result.now) (shape k)) c.deref-in-List-List.ensures
-    ∙ value_shape c.args.value.now c.in-List-List.items c.items.inside.values.items c.deref.result.now c.in-List-List.is-0 c.items.view_is
-    c.deref.ensures.value (shape c.in-List-List.of.value) (shape c.args.kind.now) e
+    ∙ ap (λ k. have_shape (datums c.as_slice.result.now) (shape k)) c.deref-in-List-List.ensures
+    ∙ value_shape c.args.value.now c.in-List-List.items c.as_slice.result.now c.in-List-List.is-0
+    (ap datums (c.as_slice.ensures.value ∙ ap (λ v. v.items) c.deref.ensures) ∙ c.items.view_is) (shape c.in-List-List.of.value) (shape c.args.kind.now) e

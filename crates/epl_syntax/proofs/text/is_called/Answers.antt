@@ -6,4 +6,4 @@ use Rattle.epl_syntax.proofs.text.is_called.Goals as goal
 pub returns : goal.returns
 returns c =
     let n = c.args.name.now in
-    c.eq.ensures ∙ ap (λ l. pointwise nat_eq l n) (c.as_slice.ensures.value ∙ c.text.view_is) ∙ sym (same_as_pointwise c.args.text.now n)
+    c.eq.ensures ∙ ap (λ l. pointwise nat_eq l n) c.as_slice.ensures ∙ sym (same_as_pointwise c.args.text.now n)

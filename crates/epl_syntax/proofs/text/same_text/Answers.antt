@@ -7,5 +7,5 @@ pub returns : goal.returns
 returns c =
     let a = c.args.a.now in
     let b = c.args.b.now in
-    c.eq.ensures ∙ ap (λ l. pointwise nat_eq l c.b.inside.bytes.items) c.a.view_is
-    ∙ ap (λ l. pointwise nat_eq a l) c.b.view_is ∙ sym (same_as_pointwise a b)
+    c.eq.ensures ∙ ap (λ l. pointwise nat_eq l c.as_slice-2.result.now) c.as_slice.ensures
+    ∙ ap (λ l. pointwise nat_eq a l) c.as_slice-2.ensures ∙ sym (same_as_pointwise a b)

@@ -1,12 +1,13 @@
 use Rattle.std.proofs.Common.{◌≡◌, length, sym, ap, ◌∙◌, rules, Ok}
+use Rattle.eden_value.specs.View.{datum}
 use Rattle.epl_syntax.specs.Operators.{place_in}
 use Rattle.epl_values.proofs.Operands.{item_found}
 use Rattle.epl_values.proofs.builtin.item_in.Goals as goal
 
 pub returns : goal.returns
 returns c =
-    let vs = c.items.inside.values.items in
-    let size : c.len.result ≡ length vs = search rules in
-    let place : place_in c.len.result c.args.n ≡ Ok c.in_ok-place.place = search rules in
-    item_found c.args.items c.items.inside.values.items c.args.n c.in_ok-place.place c.swap_remove.result c.items.view_is
-    (ap (λ k. place_in k c.args.n) (sym size) ∙ place) c.swap_remove.ensures.value
+    let vs = c.as_slice-values.result.now in
+    let place : place_in (length vs) c.args.n ≡ Ok c.in_ok-place.place = search rules in
+    item_found c.args.items vs c.args.n c.in_ok-place.place c.index-values-place.result c.as_slice-values.ensures place
+    c.index-values-place.is
+    ∙ ap (λ v. Ok (datum v)) (sym c.in_ok-share.ensures)
