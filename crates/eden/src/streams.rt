@@ -1,6 +1,4 @@
 //! The standard streams as a source and a sink. They tell nothing of the bytes.
-ghost use Rattle.std.specs.Prelude.{None};
-
 use eden_io::{Failed, Sink, Source};
 use std::io::{Read, Write};
 
@@ -23,7 +21,7 @@ impl<R: Read + Drop> StdSource<R> {
 }
 
 impl<R: Read + Drop> Source for StdSource<R> {
-    ghost left = { λ s. None };
+    ghost left = { λ s. R.remaining s.reader };
 
     ghost ended = { λ s. s.ended };
 
@@ -61,7 +59,7 @@ impl<W: Write + Drop> StdSink<W> {
 }
 
 impl<W: Write + Drop> Sink for StdSink<W> {
-    ghost written = { λ s. None };
+    ghost written = { λ s. W.contents s.writer };
 
     ghost faults = { λ s. s.faults };
 
