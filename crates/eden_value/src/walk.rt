@@ -93,7 +93,10 @@ pub fn equal(a: &Value, b: &Value) -> bool
         (Value::Bool { b: c }, Value::Bool { b: d }) => *c == *d,
         (Value::Text { text: s }, Value::Text { text: t }) => s.as_slice() == t.as_slice(),
         (Value::Cap { cap: c }, Value::Cap { cap: d }) => *c == *d,
-        (Value::List { items: x }, Value::List { items: y }) => are_equal(x.values.as_slice(), y.values.as_slice()),
+        (Value::List { items: x }, Value::List { items: y }) => are_equal(
+            x.values.as_slice(),
+            y.values.as_slice(),
+        ),
         _ => false,
     }
 }

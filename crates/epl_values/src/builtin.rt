@@ -135,10 +135,7 @@ fn part_of(alloc: Global, bytes: &[u8], from: i64, count: i64) -> Result<Value, 
         });
     }
     let from = from as usize;
-    let text = texted(Vec::from_slice(
-        alloc,
-        &bytes[from..from + count as usize],
-    )?)?;
+    let text = texted(Vec::from_slice(alloc, &bytes[from..from + count as usize])?)?;
     Ok(Value::Text { text })
 }
 

@@ -35,7 +35,9 @@ fn values_of(alloc: Global, filled: bool, items: Items, saved: bool) -> Result<I
 {
     let values = vec![in alloc;
         Value::Bool { b: filled },
-        Value::List { items: listed(items.values)? },
+        Value::List {
+            items: listed(items.values)?
+        },
         Value::Bool { b: saved },
     ]?;
     Ok(Items { values })

@@ -71,7 +71,9 @@ impl Drain {
     {
         let values = vec![in alloc;
             Value::Cap { cap: self.src },
-            Value::List { items: listed(self.items.values)? },
+            Value::List {
+                items: listed(self.items.values)?
+            },
             Value::Bool { b: self.saved },
         ]?;
         Ok(Items { values })
