@@ -9,6 +9,7 @@ pub mod Same
 pub mod Outline
 pub mod Operators
 pub mod Memory
+pub mod Constants
 pub mod Expressions
 pub mod Statements
 pub mod Turns

@@ -209,7 +209,7 @@ epochs-turn reach (event.Boot n e how p began) s allowed h = epochs-boot e how p
 epochs-turn reach (event.Crash n) s allowed h = epochs-crashed s h
 epochs-turn reach _ s allowed h = absurd allowed
 
-kept-epochs : (w : World) (e : Event) → IsKeptAt (λ n it. HasEpochs it) w e
+pub kept-epochs : (w : World) (e : Event) → IsKeptAt (λ n it. HasEpochs it) w e
 kept-epochs w e = record {
   turns = λ n it at place allowed h. epochs-turn (reaches w n) e (site_of w n it) allowed h;
   crashes = λ n s is number h. epochs-crashed s h;
@@ -221,7 +221,7 @@ kept-epochs w e = record {
 -- 6. Images
 
 -- a number of four bytes
-four-bytes : (bytes : List ℕ) → length bytes ≡ 4 → All (λ byte. byte < 256) bytes → number_from 0 bytes ≤ last_epoch
+pub four-bytes : (bytes : List ℕ) → length bytes ≡ 4 → All (λ byte. byte < 256) bytes → number_from 0 bytes ≤ last_epoch
 four-bytes [] size all = absurd (cc size)
 four-bytes (a ∷ []) size all = absurd (omega (arith, size))
 four-bytes (a ∷ b ∷ []) size all = absurd (omega (arith, size))
@@ -268,13 +268,13 @@ image-epoch layout n d lays handed kept found = go (layout.map_of n image) refl 
         (subst (λ o. IfSome (with_item o (λ bytes. Some (number_from 0 bytes)) None) (λ e. e ≤ last_epoch))
         (finite.get-entries k.bodies (epoch_uid n)) (body k at (finite.get k.bodies (epoch_uid n)) refl))
 
-node-epochs : (n size : ℕ) (found : Result (List (Uid × List ℕ)) ℕ) (overfull : Bool) (ledger : List ℕ)
+pub node-epochs : (n size : ℕ) (found : Result (List (Uid × List ℕ)) ℕ) (overfull : Bool) (ledger : List ℕ)
     → ((kept : List (Uid × List ℕ)) → found ≡ Ok kept → IfSome (epoch_in n kept) (λ e. e ≤ last_epoch))
     → HasEpochs (node_from n size found overfull ledger)
 node-epochs n size (Ok kept) overfull ledger fits = record { stored = fits kept refl; doubted = tt }
 node-epochs n size (Err place) overfull ledger fits = record { stored = tt; doubted = tt }
 
-opening-epochs : (layout : Layout) (disks : List (ℕ × DiskRun)) → IsLayout layout
+pub opening-epochs : (layout : Layout) (disks : List (ℕ × DiskRun)) → IsLayout layout
     → ((n : ℕ) (d : DiskRun) → value_at nat_cmp n disks ≡ Some d → IsHandedIn layout n d)
     → (n : ℕ) (it : Node) → value_at nat_cmp n (map (λ d. (d.0, node_of layout d)) (images disks)) ≡ Some it → HasEpochs it
 opening-epochs layout disks lays fits n it is = go (value_at nat_cmp n disks) refl (disk-node layout n it disks is)

@@ -70,29 +70,29 @@ itself (c ∷ cs) more = (inl (below_self c), below-later cs (c ∷ []) (cs ++ m
 
 -- 1. Names
 
-names-at : (D : List Cap) (w v : World) → v.names ≡ w.names → NamesHold D w.names → NamesHold D v.names
+pub names-at : (D : List Cap) (w v : World) → v.names ≡ w.names → NamesHold D w.names → NamesHold D v.names
 names-at D w v same h = subst (NamesHold D) (sym same) h
 
-names-tells_each : (qs : List (Uid × ℕ)) (w : World) → (tells_each qs w).names ≡ w.names
+pub names-tells_each : (qs : List (Uid × ℕ)) (w : World) → (tells_each qs w).names ≡ w.names
 names-tells_each [] w = refl
 names-tells_each (q ∷ qs) w = names-tells_each qs (at_node q.0.node (tells q.0 q.1 (Told status.Broken [])) w)
     ∙ (only-at_node q.0.node (tells q.0 q.1 (Told status.Broken [])) w).names
 
-names-site : (w : World) (n : ℕ) (e : Event) → (at_site w n e).names ≡ w.names
+pub names-site : (w : World) (n : ℕ) (e : Event) → (at_site w n e).names ≡ w.names
 names-site w n e = (only-at_node n (site_turn (reaches w n) e) w).names
 
-names-stopped : (w : World) (n : ℕ) (e : Event) → (stopped_at w n e).names ≡ w.names
+pub names-stopped : (w : World) (n : ℕ) (e : Event) → (stopped_at w n e).names ≡ w.names
 names-stopped w n e = names-tells_each (processes_of (broken_by_node n) w.traffic) (at_site w n e) ∙ names-site w n e
 
-names-counted : (k : Option Key) (w : World) → (counted k w).names ≡ w.names
+pub names-counted : (k : Option Key) (w : World) → (counted k w).names ≡ w.names
 names-counted None w = refl
 names-counted (Some k) w = refl
 
-names-born_as : (u : Uid) (t : Option Edentype) (w : World) → (born_as u t w).names ≡ w.names
+pub names-born_as : (u : Uid) (t : Option Edentype) (w : World) → (born_as u t w).names ≡ w.names
 names-born_as u None w = refl
 names-born_as u (Some t) w = (only-at_node u.node (born u (fresh t (first_values t))) w).names
 
-names-linked : (a b : ℕ) (joined : Bool) (w : World) → (linked a b joined w).names ≡ w.names
+pub names-linked : (a b : ℕ) (joined : Bool) (w : World) → (linked a b joined w).names ≡ w.names
 names-linked a b true w = refl
 names-linked a b false w = names-tells_each (processes_of (broken_by_link a b) w.traffic)
     (record w { cuts = (a, b) ∷ w.cuts; traffic = without_link a b w.traffic })

@@ -464,7 +464,7 @@ sites-clocked n c w all = all-clocked (λ m it. SoundSite (site_of w m it)) (λ 
 
 -- the types of a world stay
 
-types-at_node : (n : ℕ) (f : Site → Site) (w : World) → (at_node n f w).types ≡ w.types
+pub types-at_node : (n : ℕ) (f : Site → Site) (w : World) → (at_node n f w).types ≡ w.types
 unfolding at_node
 types-at_node n f w = go (node_at w n)
   where
@@ -472,15 +472,15 @@ types-at_node n f w = go (node_at w n)
     go None = refl
     go (Some it) = refl
 
-types-tells_each : (qs : List (Uid × ℕ)) (w : World) → (tells_each qs w).types ≡ w.types
+pub types-tells_each : (qs : List (Uid × ℕ)) (w : World) → (tells_each qs w).types ≡ w.types
 types-tells_each [] w = refl
 types-tells_each (q ∷ qs) w = types-tells_each qs (at_node q.0.node (tells q.0 q.1 (Told status.Broken [])) w)
     ∙ types-at_node q.0.node (tells q.0 q.1 (Told status.Broken [])) w
 
-types-stopped : (w : World) (n : ℕ) (e : Event) → (stopped_at w n e).types ≡ w.types
+pub types-stopped : (w : World) (n : ℕ) (e : Event) → (stopped_at w n e).types ≡ w.types
 types-stopped w n e = types-tells_each (processes_of (broken_by_node n) w.traffic) (at_site w n e) ∙ types-at_node n _ w
 
-types-turn : (w : World) (e : Event) → (after_turn w e).types ≡ w.types
+pub types-turn : (w : World) (e : Event) → (after_turn w e).types ≡ w.types
 types-turn w (event.Request k a b refused) = types-at_node b _ w
 types-turn w (event.Reply k a b None why values) = types-at_node b _ w
 types-turn w (event.Reply k a b (Some name) why values) = refl
@@ -509,37 +509,37 @@ types-turn w event.Quiet = refl
 types-turn w event.Spent = refl
 types-turn w (event.Left names) = refl
 
-types-item : {X : Type 0} (w : World) (o : Option X) (f : X → World) → ((x : X) → (f x).types ≡ w.types) → (with_item o f w).types ≡ w.types
+pub types-item : {X : Type 0} (w : World) (o : Option X) (f : X → World) → ((x : X) → (f x).types ≡ w.types) → (with_item o f w).types ≡ w.types
 types-item w None f each = refl
 types-item w (Some x) f each = each x
 
-types-held : (c : Command) (w : World) → (held_by c w).types ≡ w.types
+pub types-held : (c : Command) (w : World) → (held_by c w).types ≡ w.types
 types-held (command.Hold name v) w = refl
 types-held _ w = refl
 
-types-restricted : (c : Command) (w : World) → (restricted_by c w).types ≡ w.types
+pub types-restricted : (c : Command) (w : World) → (restricted_by c w).types ≡ w.types
 types-restricted (command.Restrict name target mask) w = types-item w (cap_at w target) _ (λ c. refl)
 types-restricted _ w = refl
 
-types-asked : (c : Command) (k : ℕ) (at_once : Option Status) (w : World) → (asked_by c k at_once w).types ≡ w.types
+pub types-asked : (c : Command) (k : ℕ) (at_once : Option Status) (w : World) → (asked_by c k at_once w).types ≡ w.types
 types-asked (command.Call name target operation args) k at_once w =
     types-item w (ready_call w (command.Call name target operation args)) _ (λ c. refl)
 types-asked _ k at_once w = refl
 
-types-linked : (a b : ℕ) (joined : Bool) (w : World) → (linked a b joined w).types ≡ w.types
+pub types-linked : (a b : ℕ) (joined : Bool) (w : World) → (linked a b joined w).types ≡ w.types
 types-linked a b true w = refl
 types-linked a b false w = types-tells_each (processes_of (broken_by_link a b) w.traffic)
     (record w { cuts = (a, b) ∷ w.cuts; traffic = without_link a b w.traffic })
 
-types-born : (u : Uid) (t : Option Edentype) (w : World) → (born_as u t w).types ≡ w.types
+pub types-born : (u : Uid) (t : Option Edentype) (w : World) → (born_as u t w).types ≡ w.types
 types-born u None w = refl
 types-born u (Some t) w = types-at_node u.node _ w
 
-types-made : (name type_name : List ℕ) (u : Option Uid) (w : World) → (made name type_name u w).types ≡ w.types
+pub types-made : (name type_name : List ℕ) (u : Option Uid) (w : World) → (made name type_name u w).types ≡ w.types
 types-made name type_name None w = refl
 types-made name type_name (Some u) w = types-born u (type_of w.types type_name) w
 
-types-command : (w : World) (c : Command) (e : Event) → (after_command w c e).types ≡ w.types
+pub types-command : (w : World) (c : Command) (e : Event) → (after_command w c e).types ≡ w.types
 types-command w c (event.Boot n e how q began) = types-at_node n _ w
 types-command w c (event.Crash n) = types-stopped w n (event.Crash n)
 types-command w c (event.Link a b joined) = types-linked a b joined w
@@ -560,18 +560,18 @@ types-command w c event.Quiet = refl
 types-command w c event.Spent = refl
 types-command w c (event.Left names) = refl
 
-types-happened : (w : World) (c : Option Command) (e : Event) → (happened w c e).types ≡ w.types
+pub types-happened : (w : World) (c : Option Command) (e : Event) → (happened w c e).types ≡ w.types
 types-happened w None e = types-turn w e
 types-happened w (Some c) e = types-command w c e
 
-types-counted : (k : Option Key) (n c : ℕ) (w : World) → (counted k (clocked n c w)).types ≡ w.types
+pub types-counted : (k : Option Key) (n c : ℕ) (w : World) → (counted k (clocked n c w)).types ≡ w.types
 types-counted None n c w = refl
 types-counted (Some k) n c w = refl
 
-types-next : (w : World) (c : Option Command) (e : Entry) → (next w c e).types ≡ w.types
+pub types-next : (w : World) (c : Option Command) (e : Entry) → (next w c e).types ≡ w.types
 types-next w c e = types-counted (key_of e.event) e.node e.clock (happened w c e.event) ∙ types-happened w c e.event
 
-types-looked_up : (w : World) (name : List ℕ) (target : Option Cap) (path : List (List ℕ)) (e : Event)
+pub types-looked_up : (w : World) (name : List ℕ) (target : Option Cap) (path : List (List ℕ)) (e : Event)
     → (looked_up w name target path e).types ≡ w.types
 types-looked_up w name (Some target) path (event.Asked k said at_once) = refl
 types-looked_up w name target path _ = refl

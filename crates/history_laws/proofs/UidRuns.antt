@@ -33,7 +33,7 @@ use Rattle.history_laws.proofs.Creations.{process-makes, process-there, made-the
 -- 1. A uid that comes next
 
 -- a uid that comes next is no Eject's, and none that was given
-new-next : (G : Uid → Type 0) (w : World) (u : Uid) → AllFit G w → IsNext w u → (eject_at w u ≡ None) × (G u → ⊥)
+pub new-next : (G : Uid → Type 0) (w : World) (u : Uid) → AllFit G w → IsNext w u → (eject_at w u ≡ None) × (G u → ⊥)
 new-next G w u all is = go (node_at w u.node) refl is
   where
     clash : (it : Node) → u ≡ following_uid (site_of w u.node it) → IsBehind u (epoch_or_zero it.epoch) it.last_serial → ⊥
@@ -57,11 +57,11 @@ new-next G w u all is = go (node_at w u.node) refl is
 -- 2. What is created
 
 -- it came next, and it is there now
-abbrev IsGiven : World → World → Option Uid → Type 0
+abbrev pub IsGiven : World → World → Option Uid → Type 0
 IsGiven w later None = Unit {0}
 IsGiven w later (Some v) = IsNext w v × (is_some (eject_at later v) ≡ true)
 
-given-turn : (G : Uid → Type 0) (w : World) (e : Event) → AllowsInTurn w e → AllFit G w → IsGiven w (after_turn w e) (created_by e)
+pub given-turn : (G : Uid → Type 0) (w : World) (e : Event) → AllowsInTurn w e → AllFit G w → IsGiven w (after_turn w e) (created_by e)
 given-turn G w (event.Process u p (shown.Created v)) allowed all = go (node_at w u.node) refl allowed
   where
     go : (o : Option Node) → node_at w u.node ≡ o
@@ -73,22 +73,22 @@ given-turn G w (event.Process u p (shown.Created v)) allowed all = go (node_at w
 given-turn G w (event.Made name why u) allowed all = absurd allowed
 given-turn G w _ allowed all = tt
 
-given-command : (w : World) (c : Command) (e : Event) → AllowsCommand w c e → IsGiven w (after_command w c e) (created_by e)
+pub given-command : (w : World) (c : Command) (e : Event) → AllowsCommand w c e → IsGiven w (after_command w c e) (created_by e)
 given-command w c (event.Made name why None) allowed = tt
 given-command w c (event.Made name why (Some u)) allowed = (made-next w c name why u allowed, made-there w c name why u allowed)
 given-command w c (event.Process u p (shown.Created v)) allowed = absurd (no-turn w c (event.Process u p (shown.Created v)) refl allowed)
 given-command w c _ allowed = tt
 
-given : (G : Uid → Type 0) (w : World) (c : Option Command) (e : Event) → AllowsEvent w c e → AllFit G w
+pub given : (G : Uid → Type 0) (w : World) (c : Option Command) (e : Event) → AllowsEvent w c e → AllFit G w
     → IsGiven w (happened w c e) (created_by e)
 given G w None e allowed all = given-turn G w e allowed all
 given G w (Some c) e allowed all = given-command w c e allowed
 
 -- the clock and the key of an entry leave it there
-abbrev there_via : Uid → Option Node → Bool
+abbrev pub there_via : Uid → Option Node → Bool
 there_via u o = is_some (with_item o (λ it. value_at uid_cmp u it.ejects) None)
 
-there-clocked : (n c : ℕ) (w : World) (u : Uid) → is_some (eject_at (clocked n c w) u) ≡ is_some (eject_at w u)
+pub there-clocked : (n c : ℕ) (w : World) (u : Uid) → is_some (eject_at (clocked n c w) u) ≡ is_some (eject_at w u)
 there-clocked n c w u = elim (n == 0) as (λ b. there_via u
     (value_at nat_cmp u.node (cond b w.nodes (changed_at nat_cmp n (with_clock c) w.nodes))) ≡ there_via u (node_at w u.node)) [
       | true ↦ refl
@@ -101,11 +101,11 @@ there-clocked n c w u = elim (n == 0) as (λ b. there_via u
     same true (Some it) = refl
     same false o = refl
 
-there-counted : (k : Option Key) (w : World) (u : Uid) → is_some (eject_at (counted k w) u) ≡ is_some (eject_at w u)
+pub there-counted : (k : Option Key) (w : World) (u : Uid) → is_some (eject_at (counted k w) u) ≡ is_some (eject_at w u)
 there-counted None w u = refl
 there-counted (Some k) w u = refl
 
-there-next : (w : World) (c : Option Command) (e : Entry) (new : Option Uid) → IsGiven w (happened w c e.event) new
+pub there-next : (w : World) (c : Option Command) (e : Entry) (new : Option Uid) → IsGiven w (happened w c e.event) new
     → IsGiven w (next w c e) new
 there-next w c e None x = tt
 there-next w c e (Some v) x = (

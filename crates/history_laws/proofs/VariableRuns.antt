@@ -43,38 +43,38 @@ use Rattle.history_laws.proofs.VariableTurns.{VarsOf, Gives, vars-site_turn, var
 -- 1. What was there before the event
 
 -- an Eject of this node was not active
-abbrev WasPassive : World → ℕ → Uid → Type 0
+abbrev pub WasPassive : World → ℕ → Uid → Type 0
 WasPassive w n u = u.node ≡ n → active_at w u ≡ None
 
 -- these values of an Eject of this node are left of those that it had
-abbrev AreLeft : World → Event → ℕ → Uid → List Datum → Type 0
+abbrev pub AreLeft : World → Event → ℕ → Uid → List Datum → Type 0
 AreLeft w e n u vars = u.node ≡ n → (it : Active) → active_at w u ≡ Some it → Leaves (whose_turn u e) it vars
 
-abbrev NodeLeaves : World → Event → ℕ → Node → Type 0
+abbrev pub NodeLeaves : World → Event → ℕ → Node → Type 0
 NodeLeaves w e n node = (u : Uid) → VarsOf (WasPassive w n) (AreLeft w e n) u (value_at uid_cmp u node.ejects)
 
-left-any : (w : World) (e : Event) (n : ℕ) (u : Uid) → WasPassive w n u → (vars : List Datum) → AreLeft w e n u vars
+pub left-any : (w : World) (e : Event) (n : ℕ) (u : Uid) → WasPassive w n u → (vars : List Datum) → AreLeft w e n u vars
 left-any w e n u none vars here it is = absurd (let bad : None ≡ Some it = sym (none here) ∙ is in cc bad)
 
-active-here : (w : World) (n : ℕ) (node : Node) (u : Uid) → node_at w n ≡ Some node → u.node ≡ n
+pub active-here : (w : World) (n : ℕ) (node : Node) (u : Uid) → node_at w n ≡ Some node → u.node ≡ n
     → active_at w u ≡ active_in (value_at uid_cmp u node.ejects)
 active-here w n node u at here = ap active_in (ap (λ m. with_item (node_at w m) (λ it. value_at uid_cmp u it.ejects) None) here
     ∙ ap (λ o. with_item o (λ (it : Node). value_at uid_cmp u it.ejects) None) at)
 
 -- the active part that an Eject had
-same-active : (w : World) (n : ℕ) (node : Node) (u : Uid) → node_at w n ≡ Some node → u.node ≡ n
+pub same-active : (w : World) (n : ℕ) (node : Node) (u : Uid) → node_at w n ≡ Some node → u.node ≡ n
     → (x : Eject) → value_at uid_cmp u node.ejects ≡ Some x → (a b : Active) → x.active ≡ Some a → active_at w u ≡ Some b → a ≡ b
 same-active w n node u at here x is a b mine was =
     let e : Some a ≡ Some b = sym mine ∙ sym (ap active_in is) ∙ sym (active-here w n node u at here) ∙ was in cc e
 
 -- 2. At first
 
-leaves-itself : (c : Option ℕ) (it : Active) → HasValues it.kind it.vars → Leaves c it it.vars
+pub leaves-itself : (c : Option ℕ) (it : Active) → HasValues it.kind it.vars → Leaves c it it.vars
 leaves-itself None it many = refl
 leaves-itself (Some p) it many = λ t kind. same_everywhere (may_not_touch it.crew p) t.vars it.vars
     (let values : HasValues (declared t) it.vars = subst (λ k. HasValues k it.vars) kind many in values)
 
-leaves-first : (H : ℕ → Bool) (w : World) (e : Event) → SeatWorld H w → Everywhere (NodeLeaves w e) w
+pub leaves-first : (H : ℕ → Bool) (w : World) (e : Event) → SeatWorld H w → Everywhere (NodeLeaves w e) w
 leaves-first H w e h n node at u = go (value_at uid_cmp u node.ejects) refl
   where
     part : (x : Eject) → value_at uid_cmp u node.ejects ≡ Some x → (o : Option Active) → x.active ≡ o
@@ -92,15 +92,15 @@ leaves-first H w e h n node at u = go (value_at uid_cmp u node.ejects) refl
 
 -- 3. A turn
 
-turn-left : (u : Uid) (p : ℕ) (it : Active) (now : Turned) → KeepsMonitors u p it → turn_of u it p ≡ Some now
+pub turn-left : (u : Uid) (p : ℕ) (it : Active) (now : Turned) → KeepsMonitors u p it → turn_of u it p ≡ Some now
     → Leaves (Some p) it now.vars
 turn-left u p it now keeps is t kind = (let own : TouchesItsOwn u p it t now =
     subst (λ o. IsSomeAnd o (TouchesItsOwn u p it t)) is (keeps t kind) in own.changes_no_other)
 
-whose-own : (u : Uid) (p : ℕ) (said : Shown) → whose_turn u (event.Process u p said) ≡ Some p
+pub whose-own : (u : Uid) (p : ℕ) (said : Shown) → whose_turn u (event.Process u p said) ≡ Some p
 whose-own u p said = rw (tied_itself uid_cmp_total u) refl
 
-gives-left : (H : ℕ → Bool) (w : World) (e : Event) (n : ℕ) (node : Node) → SeatWorld H w → node_at w n ≡ Some node
+pub gives-left : (H : ℕ → Bool) (w : World) (e : Event) (n : ℕ) (node : Node) → SeatWorld H w → node_at w n ≡ Some node
     → AllowsAt (site_of w n node) e → (v : Uid) (p : ℕ) (said : Shown) → e ≡ event.Process v p said
     → Gives (AreLeft w e n) (site_of w n node) v p
 gives-left H w e n node h at allowed v p said same x is a mine now turned here b was =
@@ -113,7 +113,7 @@ gives-left H w e n node h at allowed v p said same x is a mine now turned here b
 
 -- 4. An entry
 
-kept-variables : (H : ℕ → Bool) (w : World) (e : Event) → SeatWorld H w
+pub kept-variables : (H : ℕ → Bool) (w : World) (e : Event) → SeatWorld H w
     → IsKeptAt (λ n it. Fit (OfNode (CreatedIn []) n) it × NodeLeaves w e n it) w e
 kept-variables H w e h = let fits = kept-fit (CreatedIn []) w e in record {
   turns = λ n it at place allowed x. (
@@ -138,7 +138,7 @@ kept-variables H w e h = let fits = kept-fit (CreatedIn []) w e in record {
   clocks = λ n c it x. (fits.clocks n c it x.0, x.1);
 }
 
-left-later : (w later : World) (e : Event) → Everywhere (NodeLeaves w e) later → LeavesVariables w e later
+pub left-later : (w later : World) (e : Event) → Everywhere (NodeLeaves w e) later → LeavesVariables w e later
 left-later w later e all u it after was now = go (node_at later u.node) refl now
   where
     part : (x : Eject) → x.active ≡ Some after → VarsOf (WasPassive w u.node) (AreLeft w e u.node) u (Some x)
@@ -156,7 +156,7 @@ left-later w later e all u it after was now = go (node_at later u.node) refl now
     go None at is = absurd (cc is)
     go (Some node) at is = eject (value_at uid_cmp u node.ejects) is (all u.node node at u)
 
-leaves-entry : (H : ℕ → Bool) (w : World) (c : Option Command) (e : Entry) → SeatWorld H w → Allows w c e
+pub leaves-entry : (H : ℕ → Bool) (w : World) (c : Option Command) (e : Entry) → SeatWorld H w → Allows w c e
     → LeavesVariables w e.event (next w c e)
 leaves-entry H w c e h allowed = left-later w (next w c e) e.event (λ n jt is. (all-next (λ n it. Fit (OfNode (CreatedIn []) n) it
     × NodeLeaves w e.event n it) w c e (kept-variables H w e.event h) allowed

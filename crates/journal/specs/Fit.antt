@@ -12,6 +12,7 @@ use Rattle.eden_value.specs.declared.value.TheConstants.{DEPTH_LIMIT, LIST_LIMIT
 use Rattle.eden_disk.specs.declared.disk.ImageMode.{ImageMode}
 use Rattle.eden_disk.specs.declared.disk.ImageMode.TheVariants as image
 use Rattle.epl_syntax.specs.Form.{is_name_byte}
+use Rattle.epl_syntax.specs.Constants.{HaveValues}
 use Rattle.epl_syntax.specs.Rules.OfTypes.{names_of, NamesDiffer, KeepRules, HaveMonitors}
 use Rattle.journal.specs.Argument.{Argument, Arguments, plain, named, several, no_arguments, argument_and, arguments_in, arguments_of}
 use Rattle.journal.specs.World.{World}
@@ -193,6 +194,8 @@ pub record IsFit (script : Script) : Type 0 where
   pub keep_rules : KeepRules script.types
   -- each condition of a declared type is of one of that type's monitors
   pub have_monitors : HaveMonitors script.types
+  -- the constants of declared types are values
+  pub have_values : HaveValues script.types
   -- each command for itself
   pub commands : All (IsFitCommand (names_of script.types) script.nodes) script.commands
   -- each name is introduced once, and before it is referred to
