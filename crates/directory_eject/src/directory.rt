@@ -86,7 +86,8 @@ impl Directory {
         let mut entries = IndexMap::with_capacity(alloc, names.len())?;
         for i in 0..names.len() {
             let name = text_at(alloc, names, i)?;
-            entries.insert(name.into_bytes()?, cap_at(held, i))?;
+            let key = name.into_bytes()?;
+            entries.insert(key, cap_at(held, i))?;
         }
         Ok(Directory { entries })
     }
@@ -116,13 +117,14 @@ impl Directory {
         ensures { IfOk result (λ effect. spec.directory_turn self.old (spec.adds name held) answers.Go
             ≡ (self.new, spec.changed, effect)) }
     {
-        if self.entries.get_index_of(name.bytes.as_slice()).is_some() {
+        if self.entries.get_index_of(name.as_slice()).is_some() {
             return code(alloc, NAME_TAKEN);
         }
         if self.entries.len() == LIST_LIMIT {
             return code(alloc, FULL);
         }
-        self.entries.insert(name.into_bytes()?, held)?;
+        let key = name.into_bytes()?;
+        self.entries.insert(key, held)?;
         Ok(Effect::Checkpoint)
     }
 
@@ -131,7 +133,7 @@ impl Directory {
         ensures { IfOk result (λ effect. spec.directory_turn self.now (spec.looks name.now) answers.Go
             ≡ (self.now, spec.changed, effect)) }
     {
-        match self.entries.get_full(name.bytes.as_slice()) {
+        match self.entries.get_full(name.as_slice()) {
             Some((_, _, held)) => code_and_cap(alloc, DONE, *held),
             None => code_and_cap(alloc, NO_NAME, None),
         }
@@ -142,7 +144,7 @@ impl Directory {
         ensures { IfOk result (λ effect. spec.directory_turn self.old (spec.deletes name.now) answers.Go
             ≡ (self.new, spec.changed, effect)) }
     {
-        match self.entries.get_index_of(name.bytes.as_slice()) {
+        match self.entries.get_index_of(name.as_slice()) {
             Some(place) => {
                 self.entries.shift_remove_index(place);
                 Ok(Effect::Checkpoint)

@@ -30,7 +30,7 @@ pub enum Fit {
 pub(crate) fn is_called(name: &[u8], text: &Txt) -> bool
     ensures { result ≡ same_text name.now text.now }
 {
-    name == text.bytes.as_slice()
+    name == text.as_slice()
 }
 
 /// Whether all bits of `needs` are in the rights.

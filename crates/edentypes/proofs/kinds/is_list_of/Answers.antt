@@ -6,5 +6,5 @@ use Rattle.edentypes.proofs.kinds.is_list_of.Goals as goal
 pub returns-in-List : goal.returns-in-List
 returns-in-List c =
     c.have_kind.ensures
-    ∙ value_shape c.args.value.now c.in-List.items c.items.inside.values.items c.deref.result.now c.in-List.is c.items.view_is
-    c.deref.ensures.value (shape c.args.kind.now) (lists (shape c.args.kind.now)) refl
+    ∙ value_shape c.args.value.now c.in-List.items c.as_slice.result.now c.in-List.is c.as_slice.ensures
+    (shape c.args.kind.now) (lists (shape c.args.kind.now)) refl

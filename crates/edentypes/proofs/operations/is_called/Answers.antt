@@ -6,4 +6,4 @@ use Rattle.edentypes.proofs.operations.is_called.Goals as goal
 pub returns : goal.returns
 returns c =
     let n = c.args.name.now in
-    c.eq.ensures ∙ ap (λ l. pointwise nat_eq n l) (c.as_slice.ensures.value ∙ c.text.view_is) ∙ sym (same_as_pointwise n c.args.text.now)
+    c.eq.ensures ∙ ap (λ l. pointwise nat_eq n l) c.as_slice.ensures ∙ sym (same_as_pointwise n c.args.text.now)

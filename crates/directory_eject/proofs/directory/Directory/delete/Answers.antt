@@ -11,7 +11,7 @@ pub returns-in-Some : goal.returns-in-Some
 returns-in-Some c =
     let es = c.self.inside.entries.entries in
     let n = c.args.name.now in
-    let at = sym (ap (λ m. position (named m) (keys_of es)) (c.as_slice.ensures.value ∙ c.name.view_is))
+    let at = sym (ap (λ m. position (named m) (keys_of es)) c.as_slice.ensures)
     ∙ sym c.get_index_of.ensures.index ∙ c.in-Some.is in
     becomes es c.args.self.now c.self.view_is (deletes n) _ Checkpoint (delete_there n es Go c.in-Some.place at)
     ∙ ap (λ fs. (vars_of fs, changed, Checkpoint)) (sym c.shift_remove_index.ensures.entries)
@@ -20,6 +20,6 @@ pub returns-in-None : goal.returns-in-None
 returns-in-None c =
     let es = c.self.inside.entries.entries in
     let n = c.args.name.now in
-    let at = sym (ap (λ m. position (named m) (keys_of es)) (c.as_slice.ensures.value ∙ c.name.view_is))
+    let at = sym (ap (λ m. position (named m) (keys_of es)) c.as_slice.ensures)
     ∙ sym c.get_index_of.ensures.index ∙ c.in-None.is in
     stays es c.args.self.now c.self.view_is (deletes n) _ (delete_absent n es Go at) c.code.result c.code.ensures

@@ -43,8 +43,8 @@ loop-i-preserved c =
     c.durable.view_is in
     let stored = stored_here ds names held c.requires.kinds c.requires.condition n h in
     let within : c.loop-i.i < length names = omega (arith, c.loop-i-test.true, length-map c.items_at-names.result.now datum) in
-    one_more names held stored c.loop-i.entries c.insert.new.self c.loop-i.i c.loop-i.invariant within c.name.inside.bytes c.cap_at.result
-    (c.name.view_is ∙ c.in_ok-name.ensures) c.cap_at.ensures c.in_ok-insert.ensures.entries
+    one_more names held stored c.loop-i.entries c.insert.new.self c.loop-i.i c.loop-i.invariant within c.in_ok-key.key c.cap_at.result
+    (c.in_ok-key.ensures ∙ c.in_ok-name.ensures) c.cap_at.ensures c.in_ok-insert.ensures.entries
 
 pub returns-clause-same : goal.returns-clause-same
 returns-clause-same c =
