@@ -48,9 +48,10 @@ fn read(alloc: Global, names: &ShellNames, arg: &Arg, most: u8) -> Result<Option
             }
             let values = read_all(alloc, names, &items.args, most - 1)?;
             match values {
-                Some(values) => Ok(Some(Value::List {
-                    items: listed(values)?,
-                })),
+                Some(values) => {
+                    let items = listed(values)?;
+                    Ok(Some(Value::List { items }))
+                }
                 None => Ok(None),
             }
         }

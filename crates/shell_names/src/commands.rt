@@ -15,12 +15,6 @@ use eden_value::{Items, Status, Txt, copy_items};
 use journal::{Args, Event, Ref};
 use std::alloc::{AllocError, Global};
 
-fn copy_name(_alloc: Global, name: &Txt) -> Result<Txt, AllocError>
-    ensures { IfOk result (λ copied. copied ≡ name.now) }
-{
-    name.share()
-}
-
 impl ShellNames {
     /// Carries out `hold NAME N.E.S`: the name stands for the capability of this uid with all rights. Where memory runs out
     /// nothing changes.
@@ -29,7 +23,7 @@ impl ShellNames {
         ensures stands { IfOk result (StandsAfter self.old self.new (commands.Hold name.now uid)) }
         ensures err { OnErr result (self.new ≡ self.old) }
     {
-        let copied = copy_name(alloc, name)?;
+        let copied = name.share()?;
         self.bind_capability(alloc, name, mint(uid))?;
         Ok(Event::Bound {
             name: copied,
@@ -50,7 +44,7 @@ impl ShellNames {
         ensures stands { IfOk result (StandsAfter self.old self.new (commands.Restrict name.now target.now mask)) }
         ensures err { OnErr result (self.new ≡ self.old) }
     {
-        let copied = copy_name(alloc, name)?;
+        let copied = name.share()?;
         match self.capability(target) {
             Some(cap) => {
                 self.bind_capability(alloc, name, restrict(cap, mask))?;
@@ -89,7 +83,7 @@ impl ShellNames {
             → StandsAfter self.old self.new (commands.Create name.now node type_name) event) }
         ensures err { OnErr result (self.new ≡ self.old) }
     {
-        let copied = copy_name(alloc, name)?;
+        let copied = name.share()?;
         self.bind_made(alloc, name, uid)?;
         Ok(Event::Made {
             name: copied,
@@ -133,7 +127,7 @@ impl ShellNames {
             → StandsAfterCall self.old self.new (commands.Call name.now target operation args) event) }
         ensures err { OnErr result (self.new ≡ self.old) }
     {
-        let copied = copy_name(alloc, name)?;
+        let copied = name.share()?;
         self.bind_nothing(alloc, name)?;
         Ok(Event::Asked {
             call,

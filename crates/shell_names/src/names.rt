@@ -53,7 +53,7 @@ impl ShellNames {
     fn meant(&self, name: &Txt) -> Option<&Meant>
         ensures { option_map meaning (option_copied result) ≡ meanings self.now name.now }
     {
-        self.names.get(name.bytes.as_slice())
+        self.names.get(name.as_slice())
     }
 
     /// The name stands for this from now on. Where memory runs out nothing changes.
@@ -62,7 +62,7 @@ impl ShellNames {
         ensures stands { OnOk result (StandsWith self.old self.new name.now (meaning meant)) }
         ensures err { OnErr result (self.new ≡ self.old) }
     {
-        let key = Vec::from_slice(alloc, &name.bytes)?;
+        let key = Vec::from_slice(alloc, name.as_slice())?;
         self.names.insert(key, meant)?;
         Ok(())
     }

@@ -1,6 +1,7 @@
 use Rattle.std.proofs.Common.{◌≡◌, ◌+◌, ◌-◌, None, Some, drop, sym, ap, ◌∙◌}
 use Rattle.std.proofs.lemmas.List.{drop_all}
 use Rattle.std.specs.Option.{option_map}
+use Rattle.eden_value.specs.Datum.{list, data_of}
 use Rattle.eden_value.specs.View.{datum, datums}
 use Rattle.journal.specs.Argument.{arguments_of}
 use Rattle.journal.specs.ArgumentView.{given, givens}
@@ -9,8 +10,8 @@ use Rattle.shell_names.specs.Shallow.{shallow, shallow_all}
 use Rattle.shell_names.proofs.Depths.{before, list-read, one-more, stopped, next-item, all-read}
 use Rattle.shell_names.proofs.arguments.+read.Goals as goal
 
-pub read-returns-in-Some : goal.read-returns-in-Some
-read-returns-in-Some t c w h =
+pub read-returns-in_ok-items-in-Some : goal.read-returns-in_ok-items-in-Some
+read-returns-in_ok-items-in-Some t c w h =
     let most = c.args.most in
     let gs = c.in-List.items in
     let found = c.in-Some.values.items in
@@ -18,7 +19,8 @@ read-returns-in-Some t c w h =
     let all : Some (datums found) ≡ shallow_all (most - 1) (values_of w (arguments_of gs)) =
     ap (option_map (λ v. datums v.items)) (sym c.in-Some.is) ∙ c.in_ok-values-in-List.ensures w h
     ∙ ap (λ l. shallow_all (most - 1) (values_of w (arguments_of l))) seen in
-    list-read most (values_of w (arguments_of gs)) (Some (datums found)) c.if-most-eq0.false all
+    ap (λ ds. Some (list (data_of ds))) c.in_ok-items-in-Some.ensures
+    ∙ list-read most (values_of w (arguments_of gs)) (Some (datums found)) c.if-most-eq0.false all
     ∙ ap (λ a. shallow most (value_of w (given a))) (sym c.in-List.is)
 
 pub read_all-returns-in-None : goal.read_all-returns-in-None

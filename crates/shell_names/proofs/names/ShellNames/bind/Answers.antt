@@ -9,7 +9,7 @@ pub returns-clause-means : goal.returns-clause-means
 returns-clause-means c other =
     let es = c.self.inside.names.entries in
     let key = c.in_ok-key.key in
-    let key_is : key.items ≡ c.args.name.now = c.in_ok-key.ensures.items ∙ c.deref.ensures.value ∙ c.name.view_is in
+    let key_is : key.items ≡ c.args.name.now = c.in_ok-key.ensures.items ∙ c.as_slice.ensures in
     ap (λ fs. meanings (names_in fs) other) c.in_ok-insert.ensures.entries ∙ inserted meaning key c.args.meant es other
     ∙ (λ i. cond (same_text (key_is i) other) (Some (meaning c.args.meant)) (meanings (c.self.view_is i) other))
 

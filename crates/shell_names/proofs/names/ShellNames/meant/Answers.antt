@@ -9,5 +9,5 @@ pub returns : goal.returns
 returns c =
     let es = c.self.inside.names.entries in
     let name = c.args.name.now in
-    ap (option_map meaning) (c.get.ensures.value ∙ ap (λ t. lookup (named t) es) (c.as_slice.ensures.value ∙ c.name.view_is))
+    ap (option_map meaning) (c.get.ensures.value ∙ ap (λ t. lookup (named t) es) c.as_slice.ensures)
     ∙ looked-up meaning name es ∙ ap (λ ns. meanings ns name) c.self.view_is
