@@ -13,12 +13,14 @@ pub fn components(alloc: Global, path: &[u8]) -> Result<Vec<Txt>, AllocError>
     let mut part = Vec::new(alloc);
     for byte in path {
         if *byte == b'/' {
-            parts.push(texted(part)?)?;
+            let text = texted(part)?;
+            parts.push(text)?;
             part = Vec::new(alloc);
         } else {
             part.push(*byte)?;
         }
     }
-    parts.push(texted(part)?)?;
+    let text = texted(part)?;
+    parts.push(text)?;
     Ok(parts)
 }

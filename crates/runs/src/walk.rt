@@ -86,7 +86,7 @@ impl<M: Machine> Run<M> {
         ensures whole { OnOk result (M.whole self.new.machine) }
         ensures shown_part { OnErr result (KeepsShownSoFar M.shows M.whole M.leaves self.old self.new) }
     {
-        let parts = components(alloc, &path.bytes)?;
+        let parts = components(alloc, path.as_slice())?;
         let mut directory = self.machine.capability(target);
         for part in &parts {
             let Some(call) = self.ask(alloc, name, directory, part)? else {

@@ -19,8 +19,7 @@ pub returns-in_err-call-clause-part : goal.returns-in_err-call-clause-part
 returns-in_err-call-clause-part g c =
     let a = c.deref-part-items.ensures.value in
     let b = c.in_ok-parts.ensures in
-    let d = c.deref.ensures.value in
-    let e = c.path.view_is in
+    let d = c.as_slice.ensures in
     let same : c.deref-part-items.result.now ≡ components c.args.path.now = cc in
     let it = at-part c.deref-part-items.result.now c.args.path.now c.loop-part.part-index c.part-item.result same c.loop-part-test.true
     c.part-item.is in
@@ -33,8 +32,7 @@ pub returns-in_default-clause-done : goal.returns-in_default-clause-done
 returns-in_default-clause-done g c =
     let a = c.deref-part-items.ensures.value in
     let b = c.in_ok-parts.ensures in
-    let d = c.deref.ensures.value in
-    let e = c.path.view_is in
+    let d = c.as_slice.ensures in
     let same : c.deref-part-items.result.now ≡ components c.args.path.now = cc in
     let it = at-part c.deref-part-items.result.now c.args.path.now c.loop-part.part-index c.part-item.result same c.loop-part-test.true
     c.part-item.is in
@@ -47,8 +45,7 @@ pub returns-in_err-wait-clause-part : goal.returns-in_err-wait-clause-part
 returns-in_err-wait-clause-part g c =
     let a = c.deref-part-items.ensures.value in
     let b = c.in_ok-parts.ensures in
-    let d = c.deref.ensures.value in
-    let e = c.path.view_is in
+    let d = c.as_slice.ensures in
     let same : c.deref-part-items.result.now ≡ components c.args.path.now = cc in
     let it = at-part c.deref-part-items.result.now c.args.path.now c.loop-part.part-index c.part-item.result same c.loop-part-test.true
     c.part-item.is in
@@ -63,8 +60,7 @@ pub returns-then-not-branch-clause-done : goal.returns-then-not-branch-clause-do
 returns-then-not-branch-clause-done g c =
     let a = c.deref-part-items.ensures.value in
     let b = c.in_ok-parts.ensures in
-    let d = c.deref.ensures.value in
-    let e = c.path.view_is in
+    let d = c.as_slice.ensures in
     let same : c.deref-part-items.result.now ≡ components c.args.path.now = cc in
     let it = at-part c.deref-part-items.result.now c.args.path.now c.loop-part.part-index c.part-item.result same c.loop-part-test.true
     c.part-item.is in
@@ -79,8 +75,7 @@ pub returns-then-not-found-clause-done : goal.returns-then-not-found-clause-done
 returns-then-not-found-clause-done g c =
     let a = c.deref-part-items.ensures.value in
     let b = c.in_ok-parts.ensures in
-    let d = c.deref.ensures.value in
-    let e = c.path.view_is in
+    let d = c.as_slice.ensures in
     let same : c.deref-part-items.result.now ≡ components c.args.path.now = cc in
     let it = at-part c.deref-part-items.result.now c.args.path.now c.loop-part.part-index c.part-item.result same c.loop-part-test.true
     c.part-item.is in
@@ -95,8 +90,7 @@ pub loop-part-preserved : goal.loop-part-preserved
 loop-part-preserved g c =
     let a = c.deref-part-items.ensures.value in
     let b = c.in_ok-parts.ensures in
-    let d = c.deref.ensures.value in
-    let e = c.path.view_is in
+    let d = c.as_slice.ensures in
     let same : c.deref-part-items.result.now ≡ components c.args.path.now = cc in
     let it = at-part c.deref-part-items.result.now c.args.path.now c.loop-part.part-index c.part-item.result same c.loop-part-test.true
     c.part-item.is in
@@ -119,8 +113,7 @@ pub returns-clause-done : goal.returns-clause-done
 returns-clause-done g c =
     let a = c.deref-part-items.ensures.value in
     let b = c.in_ok-parts.ensures in
-    let d = c.deref.ensures.value in
-    let e = c.path.view_is in
+    let d = c.as_slice.ensures in
     let same : c.deref-part-items.result.now ≡ components c.args.path.now = cc in
     let all = c.loop-part-test.false in
     let none = drop_all c.loop-part.part-index (components c.args.path.now)
