@@ -1,6 +1,7 @@
 pub mod Behind
 pub mod ConstantReads
 pub mod Endings
+pub mod ExpressionConstants
 pub mod ExpressionForms
 pub mod ExpressionReads
 pub mod ExpressionSteps
@@ -17,10 +18,13 @@ pub mod OneAnswer
 pub mod Ranks
 pub mod RowLoops
 pub mod SingleTokens
+pub mod StatementConstants
 pub mod StatementForms
 pub mod StatementReads
 pub mod Steps
+pub mod TextTokens
 pub mod TokenReads
+pub mod TreeConstants
 pub mod TreeNames
 pub mod TreeMonitors
 pub mod Turns

@@ -67,7 +67,7 @@ pub(crate) fn text_value(alloc: Global, text: &[u8], token: Token) -> Result<Txt
     ensures { IfOk result (λ value. value ≡ text_at text.now token) }
 {
     let spelled = bytes_of(alloc, text, token)?;
-    match spelled.bytes.split_first() {
+    match spelled.as_slice().split_first() {
         Some((_, body)) => texted(unescaped(alloc, body)?),
         None => texted(Vec::new(alloc)),
     }

@@ -1,5 +1,6 @@
 //! What the grammar of a text promises, apart from any code.
 ghost use Rattle.std.specs.Prelude.{◌≡◌, ℕ, List};
+ghost use Rattle.epl_syntax.specs.Constants.{TreeFits};
 ghost use Rattle.epl_syntax.specs.Tree.{TypeTree};
 ghost use Rattle.epl_parser.specs.Program.{SpellsType, IsNamed, AreInMonitors, RefusesType};
 
@@ -22,4 +23,9 @@ pub fn types_are_named()
 /// Each condition of an Edentype is of one of its monitors: that in which it stands in the text.
 pub fn conditions_are_in_monitors()
     ensures inside { (text : List ℕ) (e : TypeTree) → SpellsType text e → AreInMonitors e }
+{}
+
+/// The constants of an Edentype are values: integers of 64 bits, and texts within their limits.
+pub fn constants_are_values()
+    ensures values { (text : List ℕ) (e : TypeTree) → SpellsType text e → TreeFits e }
 {}

@@ -18,5 +18,8 @@ mod program;
 mod reading;
 mod statement;
 
-pub use law::{conditions_are_in_monitors, refusals_are_one, types_are_named, types_are_one};
+pub use law::{
+    conditions_are_in_monitors, constants_are_values, refusals_are_one, types_are_named,
+    types_are_one,
+};
 pub use program::parse_edentype;
