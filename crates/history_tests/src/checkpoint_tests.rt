@@ -18,7 +18,7 @@ use checkpoint::{
 };
 use eden_codec::Rep;
 use eden_disk::{Disk, ImageMode, SimDisk};
-use eden_value::{Items, Kind, Txt, Value, has_kind};
+use eden_value::{Items, Kind, Value, has_kind, texted};
 use epl_syntax::same_text;
 use journal::BootEnd;
 use passive_store::{Doubt, Pick, Store};
@@ -59,9 +59,7 @@ fn is_cell(alloc: Global, rep: &Rep) -> Result<bool, AllocError>
     ensures { IfOk result (λ is. is ≡ (same_text (codes "Cell") rep.now.type_name
         && ((rep.now.version == 1) && have_shapes rep.now.values (ints ∷ [])))) }
 {
-    let name = Txt {
-        bytes: b"Cell".to_vec(alloc)?,
-    };
+    let name = texted(b"Cell".to_vec(alloc)?)?;
     Ok(same_text(&name, &rep.type_name) && rep.version == 1 && are_one_int(&rep.values))
 }
 

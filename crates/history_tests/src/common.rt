@@ -4,7 +4,7 @@ ghost use Rattle.eden_disk.specs.Calls.{calls_until};
 
 use capability::Uid;
 use eden_disk::{Arm, ImageMode, SimDisk};
-use eden_value::Txt;
+use eden_value::{Txt, texted};
 use passive_store::LogStore;
 use std::alloc::{AllocError, Global};
 
@@ -38,9 +38,7 @@ pub fn uid_of(serial: u32) -> Uid
 
 /// A text of these bytes.
 pub fn text(alloc: Global, bytes: &[u8]) -> Result<Txt, AllocError> {
-    Ok(Txt {
-        bytes: bytes.to_vec(alloc)?,
-    })
+    texted(bytes.to_vec(alloc)?)
 }
 
 /// A failure, or a stop in this mode, of the device call that comes so many calls later.

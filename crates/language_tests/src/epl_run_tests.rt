@@ -1,7 +1,7 @@
 ghost use Rattle.std.specs.Prelude.{◌≡◌, true};
 ghost use Rattle.epl_syntax.specs.Bindings.{is_resolved};
 
-use crate::sample::{ME, TURNED, only, text};
+use crate::sample::{ME, TURNED, list_of_one, only, text};
 use crate::texts::resolved;
 use eden_codec::Rep;
 use eden_value::{Items, Status, Value};
@@ -46,8 +46,9 @@ fn is_seen(effect: &Effect, wanted: Seen) -> bool {
 fn start(rt: &impl Abort, alloc: Global) -> Items {
     let mut vars = only(rt, alloc, 7);
     vars.values.push(Value::Int { n: 0 }).expect(rt, "memory");
-    let items = only(rt, alloc, 4);
-    vars.values.push(Value::List { items }).expect(rt, "memory");
+    vars.values
+        .push(list_of_one(rt, alloc, 4))
+        .expect(rt, "memory");
     vars
 }
 

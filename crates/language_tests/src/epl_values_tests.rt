@@ -1,6 +1,6 @@
 ghost use Rattle.std.specs.Prelude.{◌≡◌, length};
 
-use crate::sample::{ME, VALUED, named, only, text};
+use crate::sample::{ME, VALUED, list_of_one, named, only, text};
 use crate::texts::type_of;
 use eden_value::{Items, Value, equal};
 use epl_syntax::{Const, Expr, FaultCause, Name, Operator, Program, Stmt};
@@ -39,8 +39,9 @@ fn both(rt: &impl Abort, alloc: Global, operator: Operator, left: i64, right: i6
 /// The number 7, and the list of the number 1.
 fn held(rt: &impl Abort, alloc: Global) -> Items {
     let mut held = only(rt, alloc, 7);
-    let items = only(rt, alloc, 1);
-    held.values.push(Value::List { items }).expect(rt, "memory");
+    held.values
+        .push(list_of_one(rt, alloc, 1))
+        .expect(rt, "memory");
     held
 }
 

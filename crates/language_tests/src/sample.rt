@@ -1,6 +1,6 @@
 //! Types whose bodies the tests run.
 use capability::Uid;
-use eden_value::{Items, Txt, Value};
+use eden_value::{Items, Txt, Value, listed, texted};
 use epl_syntax::Name;
 use std::alloc::Global;
 use std::process::Abort;
@@ -36,7 +36,7 @@ pub(crate) const TURNED: &[u8] = b"edentype A version 3 \
 
 pub(crate) fn text(rt: &impl Abort, alloc: Global, bytes: &[u8]) -> Txt {
     let bytes = Vec::from_slice(alloc, bytes).expect(rt, "memory");
-    Txt { bytes }
+    texted(bytes).expect(rt, "memory")
 }
 
 /// A name that stands nowhere in a text.
@@ -45,8 +45,14 @@ pub(crate) fn named(rt: &impl Abort, alloc: Global, bytes: &[u8]) -> Name {
     Name { text, place: 0 }
 }
 
-/// The list of this number.
+/// This number alone.
 pub(crate) fn only(rt: &impl Abort, alloc: Global, n: i64) -> Items {
     let values = vec![in alloc; Value::Int { n }].expect(rt, "memory");
     Items { values }
+}
+
+/// The list of this number.
+pub(crate) fn list_of_one(rt: &impl Abort, alloc: Global, n: i64) -> Value {
+    let items = listed(only(rt, alloc, n).values).expect(rt, "memory");
+    Value::List { items }
 }

@@ -1,6 +1,6 @@
 use capability::Seq;
 use eden_io::{MemSink, Sink};
-use eden_value::Txt;
+use eden_value::{Txt, texted};
 use journal::{BootEnd, Entry, Event, History, Mode};
 use std::alloc::Global;
 use std::process::Abort;
@@ -19,9 +19,8 @@ fn entry(alloc: Global, event: Event, node: u8) -> Entry {
 
 /// The name of the one call.
 fn caller(rt: &impl Abort, alloc: Global) -> Txt {
-    Txt {
-        bytes: b"a".to_vec(alloc).expect(rt, "memory"),
-    }
+    let bytes = b"a".to_vec(alloc).expect(rt, "memory");
+    texted(bytes).expect(rt, "memory")
 }
 
 /// A crash of the node, which breaks the call.

@@ -2,7 +2,7 @@
 ghost use Rattle.std.specs.Prelude.{◌≡◌};
 
 use capability::{Cap, Rights, Uid};
-use eden_value::{Items, Txt, Value, copy_items, print};
+use eden_value::{Items, Listed, Txt, Value, copy_items, listed, print, texted};
 use epl_syntax::Effect;
 use std::alloc::Global;
 use std::process::Abort;
@@ -41,7 +41,7 @@ pub fn text(rt: &impl Abort, alloc: Global, bytes: &[u8]) -> Txt
     ensures { result ≡ bytes.now }
 {
     let bytes = Vec::from_slice(alloc, bytes).expect(rt, "memory");
-    Txt { bytes }
+    texted(bytes).expect(rt, "memory")
 }
 
 fn name(rt: &impl Abort, alloc: Global, bytes: &[u8]) -> Value {
@@ -50,15 +50,15 @@ fn name(rt: &impl Abort, alloc: Global, bytes: &[u8]) -> Value {
     }
 }
 
-fn names(rt: &impl Abort, alloc: Global, all: &[&[u8]]) -> Items {
+fn names(rt: &impl Abort, alloc: Global, all: &[&[u8]]) -> Listed {
     let mut values = Vec::new(alloc);
     for bytes in all {
         values.push(name(rt, alloc, *bytes)).expect(rt, "memory");
     }
-    Items { values }
+    listed(values).expect(rt, "memory")
 }
 
-fn caps(rt: &impl Abort, alloc: Global, all: &[Option<u32>]) -> Items {
+fn caps(rt: &impl Abort, alloc: Global, all: &[Option<u32>]) -> Listed {
     let mut values = Vec::new(alloc);
     for serial in all {
         let parts = match serial {
@@ -69,7 +69,7 @@ fn caps(rt: &impl Abort, alloc: Global, all: &[Option<u32>]) -> Items {
             .push(Value::Cap { cap: cap_of(parts) })
             .expect(rt, "memory");
     }
-    Items { values }
+    listed(values).expect(rt, "memory")
 }
 
 fn value_of(rt: &impl Abort, alloc: Global, given: Given) -> Value {
@@ -104,6 +104,7 @@ pub fn items_of(rt: &impl Abort, alloc: Global, all: &[Given]) -> Items {
 /// The values as the text of a list.
 pub fn printed(rt: &impl Abort, alloc: Global, items: Items) -> Vec<u8> {
     let mut out = Vec::new(alloc);
+    let items = listed(items.values).expect(rt, "memory");
     print(alloc, &Value::List { items }, &mut out).expect(rt, "memory");
     out
 }

@@ -8,7 +8,7 @@ ghost use Rattle.eden_value.specs.Datum.{text as text_datum};
 use crate::common::{Given, cap_of, items_of, printed, returned, text};
 use capability::Cap;
 use directory_eject::*;
-use eden_value::{Items, Status, Value};
+use eden_value::{Items, Status, Value, listed};
 use epl_syntax::{Answer, Effect};
 use std::alloc::Global;
 use std::process::Abort;
@@ -271,12 +271,11 @@ fn one_entry(rt: &impl Abort, alloc: Global) -> Items
     ensures { have_shapes result (durable_kinds (native types.Directory)) ≡ true }
 {
     let names = Value::List {
-        items: named(rt, alloc, b"ann"),
+        items: listed(named(rt, alloc, b"ann").values).expect(rt, "memory"),
     };
+    let no_cap = vec![in alloc; Value::Cap { cap: None }].expect(rt, "memory");
     let held = Value::List {
-        items: Items {
-            values: vec![in alloc; Value::Cap { cap: None }].expect(rt, "memory"),
-        },
+        items: listed(no_cap).expect(rt, "memory"),
     };
     Items {
         values: vec![in alloc; names, held].expect(rt, "memory"),

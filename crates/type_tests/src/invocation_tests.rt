@@ -1,8 +1,9 @@
 ghost use Rattle.std.specs.Prelude.{◌≡◌, ◌≤◌, ◌<◌, length, IsTrue};
 ghost use Rattle.eden_model.specs.Traffic.{asking_station};
 
+use crate::common::text;
 use capability::{Cap, Rights, Uid};
-use eden_value::{Items, Status, Txt, Value, text_of};
+use eden_value::{Items, Status, Value};
 use invocation::*;
 use locator::Places;
 use std::alloc::Global;
@@ -71,16 +72,6 @@ fn uid_at(node: u8) -> Uid
     }
 }
 
-/// A text that is printable, or an empty one.
-fn text(alloc: Global) -> Txt {
-    match text_of(alloc, b"Get") {
-        Ok(text) => text,
-        Err(_) => Txt {
-            bytes: Vec::new(alloc),
-        },
-    }
-}
-
 /// As many numbers.
 fn numbers(rt: &impl Abort, alloc: Global, count: usize) -> Items {
     let mut values = Vec::new(alloc);
@@ -117,7 +108,7 @@ fn ask(
         rights: Rights { bits: 65_535 },
     };
     let args = numbers(rt, alloc, count);
-    let asked = calls.ask(alloc, asker, target, text(alloc), args, places);
+    let asked = calls.ask(alloc, asker, target, text(rt, alloc, b"Get"), args, places);
     let Asked { call, at_once } = asked.expect(rt, "memory");
     match at_once {
         Some(status) => Seen::AtOnce(call, status),
@@ -134,7 +125,7 @@ fn shell_asks(
     count: usize,
     places: &Places,
 ) -> Seen {
-    let name = text(alloc);
+    let name = text(rt, alloc, b"Get");
     ask(rt, alloc, calls, Asker::Shell { name }, node, count, places)
 }
 

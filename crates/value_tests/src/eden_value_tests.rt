@@ -79,7 +79,7 @@ fn texts_have_printable_bytes_and_a_greatest_length(rt: HostRuntime) {
 fn nested(rt: &impl Abort, alloc: Global, lists: u32) -> Vec<Value> {
     let mut values = Vec::new(alloc);
     for _ in 0..lists {
-        let items = Items { values };
+        let items = listed(values).expect(rt, "memory");
         values = vec![in alloc; Value::List { items }].expect(rt, "memory");
     }
     values

@@ -120,9 +120,7 @@ impl Machine for Keys {
         directory: Option<Cap>,
         _component: &Txt,
     ) -> Result<Entry, AllocError> {
-        let name = Txt {
-            bytes: Vec::from_slice(alloc, &name.bytes)?,
-        };
+        let name = name.share()?;
         if directory.is_none() {
             return Ok(entry(alloc, Event::Void { name }));
         }

@@ -1,6 +1,6 @@
 use crate::fixtures::{by, txt};
 use capability::{Cap, Rights, Uid};
-use eden_value::{Items, Status, Txt, Value, print};
+use eden_value::{Items, Status, Txt, Value, listed, print};
 use journal::{Arg, Args, Event};
 use shell_names::ShellNames;
 use std::alloc::{AllocError, Global};
@@ -37,9 +37,8 @@ fn nested(rt: &impl Abort, alloc: Global, deep: u8) -> Value {
     let mut value = Value::Int { n: 7 };
     for _ in 0..deep {
         let values = vec![in alloc; value].expect(rt, "memory");
-        value = Value::List {
-            items: Items { values },
-        };
+        let items = listed(values).expect(rt, "memory");
+        value = Value::List { items };
     }
     value
 }
@@ -156,7 +155,9 @@ fn are_arguments(
     wanted: &str,
 ) -> bool {
     let value = match names.arguments(alloc, args).expect(rt, "memory") {
-        Some(items) => Some(Value::List { items }),
+        Some(items) => Some(Value::List {
+            items: listed(items.values).expect(rt, "memory"),
+        }),
         None => None,
     };
     is_printed(rt, alloc, value, wanted)
