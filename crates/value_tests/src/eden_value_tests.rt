@@ -148,24 +148,65 @@ fn copied(rt: &impl Abort, alloc: Global, whole: &Value) -> Box<Value> {
     Box::new(alloc, other).expect(rt, "memory")
 }
 
+/// The share of a value.
+fn shared(rt: &impl Abort, alloc: Global, whole: &Value) -> Box<Value> {
+    let other = share(whole).expect(rt, "memory");
+    Box::new(alloc, other).expect(rt, "memory")
+}
+
 #[test]
 fn a_copy_equals_its_value(rt: HostRuntime) {
     let mixed = value(&rt, rt.alloc(), MIXED);
     let other = copied(&rt, rt.alloc(), &mixed);
     assert!(rt; equal(&mixed, &other));
+    assert!(rt; equal(&other, &shared(&rt, rt.alloc(), &mixed)));
     assert!(rt; !equals(&rt, rt.alloc(), &mixed, ONE));
+}
+
+/// Bytes of a text, also of one that `text_of` refuses.
+const BYTES: &[&[u8]] = &[b"", b"a\"b", &[0, 255]];
+
+/// The bytes of a text, and one more.
+fn one_more(rt: &impl Abort, text: Txt) -> Vec<u8> {
+    let mut bytes = text.into_bytes().expect(rt, "memory");
+    bytes.push(b'x').expect(rt, "memory");
+    bytes
+}
+
+/// The text of these bytes, shared once. Where one of the two is changed the other stays.
+fn is_shared_text(rt: &impl Abort, alloc: Global, bytes: &[u8]) {
+    let row = Vec::from_slice(alloc, bytes).expect(rt, "memory");
+    let text = texted(row).expect(rt, "memory");
+    let other = text.share().expect(rt, "memory");
+    assert!(rt; one_more(rt, text).len() == bytes.len() + 1);
+    assert!(rt; other.as_slice() == bytes);
+    let alone = other.into_bytes().expect(rt, "memory");
+    assert!(rt; alone.as_slice() == bytes);
+}
+
+#[test]
+fn a_shared_text_stays(rt: HostRuntime) {
+    for &bytes in BYTES {
+        is_shared_text(&rt, rt.alloc(), bytes);
+    }
 }
 
 /// Values of different kinds.
 const COPIED: &[&[u8]] = &[MIXED, TRUE];
 
-/// The values of these bytes, copied.
-fn copies(rt: &impl Abort, alloc: Global, all: &[&[u8]]) -> Items {
+/// The values of these bytes.
+fn values(rt: &impl Abort, alloc: Global, all: &[&[u8]]) -> Vec<Value> {
     let mut values = Vec::new(alloc);
     for &spelled in all {
         let value = value(rt, alloc, spelled);
         values.push(Box::into_inner(value)).expect(rt, "memory");
     }
+    values
+}
+
+/// The values of these bytes, copied.
+fn copies(rt: &impl Abort, alloc: Global, all: &[&[u8]]) -> Items {
+    let values = values(rt, alloc, all);
     copy_items(alloc, &Items { values }).expect(rt, "memory")
 }
 
@@ -181,6 +222,34 @@ fn copied_items_equal_what_was_copied(rt: HostRuntime) {
     let copied = copies(&rt, rt.alloc(), COPIED);
     assert!(rt; copied.values.len() == COPIED.len());
     each_equals(&rt, rt.alloc(), &copied.values, COPIED);
+}
+
+/// The values of lists.
+const LISTED: &[&[&[u8]]] = &[&[], COPIED];
+
+/// The values of a list, and one more.
+fn grown(rt: &impl Abort, list: Listed) -> Vec<Value> {
+    let mut values = list.into_values().expect(rt, "memory");
+    values.push(Value::Bool { b: true }).expect(rt, "memory");
+    values
+}
+
+/// The list of these values, shared once. Where one of the two is changed the other stays.
+fn is_shared_list(rt: &impl Abort, alloc: Global, all: &[&[u8]]) {
+    let list = listed(values(rt, alloc, all)).expect(rt, "memory");
+    let other = list.share().expect(rt, "memory");
+    assert!(rt; grown(rt, list).len() == all.len() + 1);
+    assert!(rt; other.as_slice().len() == all.len());
+    each_equals(rt, alloc, other.as_slice(), all);
+    let alone = other.into_values().expect(rt, "memory");
+    each_equals(rt, alloc, &alone, all);
+}
+
+#[test]
+fn a_shared_list_stays(rt: HostRuntime) {
+    for &all in LISTED {
+        is_shared_list(&rt, rt.alloc(), all);
+    }
 }
 
 /// Whether the value of these bytes has two capabilities, of these rights.
