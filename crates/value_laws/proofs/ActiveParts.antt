@@ -1,36 +1,37 @@
 -- Changes of an active part keep its values within the limits, and one process at a time where its type is native.
-use Rattle.std.proofs.Common.{arith, ◌≡◌, ◌==◌, ◌+◌, ℕ, Bool, true, false, cond, not, List, [], ◌∷◌, Option, None, Some, refl, sym, ap, subst}
+use Rattle.std.proofs.Common.{arith, ◌≡◌, ◌==◌, ◌+◌, ℕ, Bool, true, false, cond, not, List, [], ◌∷◌, Option, None, Some, refl, sym, subst}
 use Rattle.std.specs.Prelude.{IfSome}
+use Rattle.std.specs.FinMap.Entries.{by_order}
 use Rattle.std.specs.List.{AllByRecursion}
 use Rattle.std.specs.Ordering.{nat_cmp, eq_by_cmp}
 use Rattle.std.specs.declared.cmp.Ordering.{Ordering}
 use Rattle.std.specs.declared.cmp.Ordering.TheVariants.{Less, Equal, Greater}
-use Rattle.std.specs.FinMap.Entries.{by_order}
 use Rattle.std.proofs.lemmas.Bool.Decides.{nat_tests}
 use Rattle.capability.specs.declared.Uid.{Uid}
 use Rattle.eden_value.specs.Datum.{Datum}
-use Rattle.eden_codec.specs.declared.rep.Rep.{Rep}
 use Rattle.eden_codec.specs.Reading.{reading}
+use Rattle.eden_codec.specs.declared.rep.Rep.{Rep}
 use Rattle.eden_model.specs.Crew.{Crew}
 use Rattle.eden_model.specs.Map.{with_item, value_at, put_at, changed_at, where_key}
 use Rattle.eden_model.specs.Traffic.{Traffic, Call}
-use Rattle.epl_syntax.specs.declared.effect.Answer.{Answer}
-use Rattle.epl_syntax.specs.declared.effect.Answer.TheVariants.{Go}
 use Rattle.epl_syntax.specs.Edentype.{Edentype, native, declared as declared_type}
 use Rattle.epl_syntax.specs.Kinds.{have_shapes}
 use Rattle.epl_syntax.specs.Meaning.{Rest, Turned, turn, declared, type_of, values_from, durable_from, started_from, operation_of}
 use Rattle.epl_syntax.specs.Outline.{Operation}
 use Rattle.epl_syntax.specs.Tree.{TypeTree}
-use Rattle.journal.specs.World.{Active, Eject, Task}
+use Rattle.epl_syntax.specs.declared.effect.Answer.{Answer}
+use Rattle.epl_syntax.specs.declared.effect.Answer.TheVariants.{Go}
 use Rattle.journal.specs.Ejects.{fresh, on_crew, tasks_from, told}
 use Rattle.journal.specs.Processes.{AllowsStart, turn_of, turned, with_start, without_process}
 use Rattle.journal.specs.Starts.{start_of}
+use Rattle.journal.specs.World.{Active, Eject, Task}
 use Rattle.value_laws.specs.Limited.{AreLimited, IsLimitedUid, TypeFits, RestFits, HasRoom, VarsFit, AnswerFits, goes_on, IsLeftLimited}
 use Rattle.value_laws.specs.Worlds.{TaskLimited, ActiveLimited}
-use Rattle.value_laws.proofs.Laws.{turn_keeps_limits, begin_keeps_limits, declared_are_limited, start_keeps_limits}
 use Rattle.value_laws.proofs.Kept.{bytes_give_limited}
+use Rattle.value_laws.proofs.Laws.{turn_keeps_limits, begin_keeps_limits, declared_are_limited, start_keeps_limits}
+use Rattle.value_laws.proofs.Single.{SingleAs, SingleIfNative, IsAlone, single-fresh, single-told, single-turned, single-without}
+use Rattle.value_laws.proofs.Single.{single-start, one-changed}
 use Rattle.value_laws.proofs.Types.{TypesFit}
-use Rattle.value_laws.proofs.Single.{SingleAs, SingleIfNative, IsAlone, single-fresh, single-told, single-turned, single-without, single-start, one-changed}
 
 -- 1. Tasks
 

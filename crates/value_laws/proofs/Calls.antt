@@ -1,28 +1,28 @@
 -- The targets, the arguments and the results of all calls stay within the limits around every entry.
 use Rattle.std.proofs.Common.{◌≡◌, ◌⊎◌, inl, inr, ℕ, List, Option, None, Some, refl, sym, subst}
 use Rattle.std.specs.Prelude.{IsSomeAnd, IfSome}
-use Rattle.capability.specs.declared.Uid.{Uid}
 use Rattle.capability.specs.declared.Cap.{Cap}
+use Rattle.capability.specs.declared.Uid.{Uid}
 use Rattle.eden_value.specs.Datum.{Datum, cap}
 use Rattle.eden_value.specs.declared.status.Status.{Status}
-use Rattle.eden_model.specs.declared.Asker.{Asker}
-use Rattle.eden_model.specs.Traffic.{Traffic, Call, call_at, answered}
 use Rattle.eden_model.specs.Crew.{Invocation}
+use Rattle.eden_model.specs.Traffic.{Traffic, Call, call_at, answered}
+use Rattle.eden_model.specs.declared.Asker.{Asker}
 use Rattle.epl_syntax.specs.declared.effect.Effect.{Effect}
 use Rattle.epl_syntax.specs.declared.effect.Effect.TheVariants as effect
-use Rattle.journal.specs.declared.command.Command.{Command}
-use Rattle.journal.specs.declared.event.Event.{Event}
-use Rattle.journal.specs.declared.event.Event.TheVariants as event
-use Rattle.journal.specs.declared.event.Entry.{Entry}
-use Rattle.journal.specs.World.{World, Node, Eject, Active, node_at, site_of, eject_in, reaches}
 use Rattle.journal.specs.Processes.{serving}
 use Rattle.journal.specs.Step.{Allows, next}
+use Rattle.journal.specs.World.{World, Node, Eject, Active, node_at, site_of, eject_in, reaches}
+use Rattle.journal.specs.declared.command.Command.{Command}
+use Rattle.journal.specs.declared.event.Entry.{Entry}
+use Rattle.journal.specs.declared.event.Event.{Event}
+use Rattle.journal.specs.declared.event.Event.TheVariants as event
 use Rattle.value_laws.specs.Limited.{IsLimited, AreLimited, EffectFits}
 use Rattle.value_laws.specs.Worlds.{ActiveLimited, CallLimited}
-use Rattle.value_laws.proofs.AnswerCalls.{GoOn, Was, IsNew, IsNews, MayDo, process_turn-on}
-use Rattle.value_laws.proofs.WorldCalls.{KeepsTurn, ShellAsks, keeps-next}
 use Rattle.value_laws.proofs.ActiveParts.{ActiveHolds, turn-left}
+use Rattle.value_laws.proofs.AnswerCalls.{GoOn, Was, IsNew, IsNews, MayDo, process_turn-on}
 use Rattle.value_laws.proofs.Nodes.{AllHold, EntryHolds, EjectHolds}
+use Rattle.value_laws.proofs.WorldCalls.{KeepsTurn, ShellAsks, keeps-next}
 
 -- what may be new of an answer, and of a call
 abbrev pub Answered : ℕ → Status → List Datum → Type 0

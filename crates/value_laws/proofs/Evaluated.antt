@@ -1,23 +1,22 @@
 -- Variables and expressions give values within the limits.
 use Rattle.std.proofs.Common.{ℕ, Bool, true, false, cond, List, [], ◌∷◌, ◌++◌, Option, None, Some, Result, Ok, Err}
 use Rattle.std.specs.Prelude.{IfOk, IfSome}
-use Rattle.std.specs.List.{AllByRecursion, find, list_any}
+use Rattle.std.specs.List.{find, list_any}
 use Rattle.capability.specs.Capability.{full}
 use Rattle.eden_value.specs.Datum.{Datum, cap}
 use Rattle.eden_model.specs.Map.{with_item}
+use Rattle.epl_syntax.specs.Constants.{ExpressionFits, ExpressionsFit, LocalsFit}
+use Rattle.epl_syntax.specs.Expressions.{value_of, values_of}
+use Rattle.epl_syntax.specs.Memory.{Held, Memory, is_called, held_as, value_as, put_into, set, set_each, variables, arguments, locals}
+use Rattle.epl_syntax.specs.Operators.{found, before_operand, between, item_at, list_of, applied}
+use Rattle.epl_syntax.specs.Tree.{Expression, Const_, Name_, Me, Unary, Binary, Index, ListOf, Apply, Expressions, no_expressions}
+use Rattle.epl_syntax.specs.Tree.{expression_and, Variable, Local, Parameter}
+use Rattle.epl_syntax.specs.Turns.{values_in}
 use Rattle.epl_syntax.specs.declared.effect.FaultCause.{FaultCause}
 use Rattle.epl_syntax.specs.declared.effect.FaultCause.TheVariants.{BadKind}
-use Rattle.epl_syntax.specs.Tree.{Expression, Const_, Name_, Me, Unary, Binary}
-use Rattle.epl_syntax.specs.Tree.{Index, ListOf, Apply, Expressions, no_expressions, expression_and, Variable, Local, Parameter}
-use Rattle.epl_syntax.specs.Operators.{found, before_operand, between, item_at, list_of, applied}
-use Rattle.epl_syntax.specs.Memory.{Held, Memory, is_called, held_as, value_as, put_into, set, set_each, variables}
-use Rattle.epl_syntax.specs.Memory.{arguments, locals}
-use Rattle.epl_syntax.specs.Expressions.{value_of, values_of}
-use Rattle.epl_syntax.specs.Turns.{values_in}
-use Rattle.epl_syntax.specs.Constants.{ConstantFits, ExpressionFits, ExpressionsFit}
 use Rattle.value_laws.specs.Limited.{IsLimited, AreLimited}
-use Rattle.value_laws.proofs.Values.{found_through}
 use Rattle.value_laws.proofs.Operands.{FoundLimited, before_limited, between_limited, item_at_limited, list_of_limited, applied_limited}
+use Rattle.value_laws.proofs.Values.{found_through}
 
 -- the values of variables
 abbrev pub VarsLimited : List Held → Type 0
@@ -82,7 +81,7 @@ arguments_limited [] ds h = tt
 arguments_limited (p ∷ ps) [] h = tt
 arguments_limited (p ∷ ps) (d ∷ ds) h = (h.0, arguments_limited ps ds h.1)
 
-pub locals_limited : (vs : List Local) → AllByRecursion (λ v. ConstantFits v.start.value) vs → VarsLimited (locals vs)
+pub locals_limited : (vs : List Local) → LocalsFit vs → VarsLimited (locals vs)
 locals_limited [] h = tt
 locals_limited (v ∷ vs) h = (h.0, locals_limited vs h.1)
 

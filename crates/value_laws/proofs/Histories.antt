@@ -5,36 +5,36 @@ use Rattle.std.specs.List.{All, AllByRecursion}
 use Rattle.std.proofs.lemmas.List.Elements.{All-head, All-tail}
 use Rattle.capability.specs.declared.Cap.{Cap}
 use Rattle.eden_value.specs.declared.status.Status.{Status}
-use Rattle.eden_model.specs.declared.Asker.TheVariants.{Shell}
-use Rattle.eden_model.specs.Traffic.{Call, call_at}
-use Rattle.epl_syntax.specs.Rules.OfTypes.{names_of}
 use Rattle.passive_store.specs.Kept.{Layout}
 use Rattle.passive_store.specs.Layout.{IsLayout}
-use Rattle.journal.specs.declared.command.Command.{Command}
-use Rattle.journal.specs.declared.command.Script.{Script}
-use Rattle.journal.specs.declared.event.Entry.{Entry}
-use Rattle.journal.specs.declared.event.Event.{Event}
-use Rattle.journal.specs.declared.event.Event.TheVariants as event
-use Rattle.journal.specs.World.{World, node_at, nothing}
+use Rattle.eden_model.specs.Traffic.{Call, call_at}
+use Rattle.eden_model.specs.declared.Asker.TheVariants.{Shell}
+use Rattle.epl_syntax.specs.Rules.OfTypes.{names_of}
 use Rattle.journal.specs.Fit.{NumbersFit, IsFit, IsFitCommand}
 use Rattle.journal.specs.Laws.{Begins}
 use Rattle.journal.specs.LegalRun.{AreHandedIn, images, numbered, opening_world, run_over}
 use Rattle.journal.specs.Run.{Step, EachStep, AllowsLookUp, lookup_args, looked_up, beginning}
 use Rattle.journal.specs.Standing.{DiskRun}
-use Rattle.journal.specs.Step.{Allows, next}
+use Rattle.journal.specs.Step.{next}
+use Rattle.journal.specs.World.{World, node_at, nothing}
+use Rattle.journal.specs.declared.command.Command.{Command}
+use Rattle.journal.specs.declared.command.Script.{Script}
+use Rattle.journal.specs.declared.event.Entry.{Entry}
+use Rattle.journal.specs.declared.event.Event.{Event}
+use Rattle.journal.specs.declared.event.Event.TheVariants as event
 use Rattle.history_laws.proofs.CallsKeep.{kept-itself}
 use Rattle.history_laws.proofs.DownRuns.{DownWorld, down-next, down-looked_up, calm-opening}
 use Rattle.history_laws.proofs.EveryNode.{all-same_nodes}
 use Rattle.history_laws.proofs.Runs.{step, IsNamed, EachOf, of-booting, each-step, world-booting, nodes-looked_up}
 use Rattle.history_laws.proofs.SiteRuns.{SiteWorld, site-next, site-looked_up, site-opening, types-next, types-looked_up}
-use Rattle.value_laws.specs.Limited.{IsLimited, AreLimited}
+use Rattle.value_laws.specs.Limited.{AreLimited}
 use Rattle.value_laws.specs.Worlds.{WorldLimited, HistoriesKeepLimits}
-use Rattle.value_laws.proofs.Types.{TypesFit, types-fit}
-use Rattle.value_laws.proofs.Nodes.{NodeHolds}
-use Rattle.value_laws.proofs.WorldCalls.{keeps-looked_up}
 use Rattle.value_laws.proofs.Calls.{Answered, Asked, calls-go_on}
 use Rattle.value_laws.proofs.Names.{names-with, named-limited}
+use Rattle.value_laws.proofs.Nodes.{NodeHolds}
 use Rattle.value_laws.proofs.ShellCalls.{AsksLimited, AsksFitly, asked-there, new-args, each-step-asks}
+use Rattle.value_laws.proofs.Types.{TypesFit, types-fit}
+use Rattle.value_laws.proofs.WorldCalls.{keeps-looked_up}
 use Rattle.value_laws.proofs.Worlds.{IsWithin, IsKnown, IsFitFor, within-limited, within-next, within-opening, held-limited}
 
 -- what is known of a world, which is within the limits where the shell asked with values so far

@@ -1,30 +1,32 @@
 -- The laws of values in types.
-use Rattle.std.proofs.Common.{◌≡◌, List, [], ◌∷◌, map, Bool, Option, None, Some, Result, Ok, Err}
-use Rattle.std.proofs.Common.{subst}
+use Rattle.std.proofs.Common.{◌≡◌, List, [], ◌∷◌, map, Bool, Option, None, Some, Result, Ok, Err, subst}
 use Rattle.std.specs.Prelude.{IfOk, IfSome}
 use Rattle.std.specs.List.{AllByRecursion, find}
 use Rattle.std.specs.Option.{option_map}
 use Rattle.std.specs.Result.{result_ok}
 use Rattle.capability.specs.declared.Uid.{Uid}
-use Rattle.capability.specs.Capability.{full}
-use Rattle.eden_value.specs.Datum.{Datum, cap}
+use Rattle.eden_value.specs.Datum.{Datum}
 use Rattle.eden_codec.specs.declared.rep.Rep.{Rep}
 use Rattle.eden_model.specs.Map.{with_item, first, rest}
-use Rattle.epl_syntax.specs.declared.effect.FaultCause.{FaultCause}
-use Rattle.epl_syntax.specs.Tree.{Variable, Process, UpgradeAssignment, Upgrade, TypeTree}
-use Rattle.epl_syntax.specs.Memory.{Memory, value_of_constant, set}
+use Rattle.epl_syntax.specs.Constants.{ConstantFits, ExpressionFits, LocalsFit, StatementFits, TreeFits}
+use Rattle.epl_syntax.specs.Edentype.{native, declared, outline_of, slots_of}
 use Rattle.epl_syntax.specs.Expressions.{value_of}
+use Rattle.epl_syntax.specs.Meaning.{Edentype, of_native, of_declared, values_from, durable_of, upgraded, is_current, durable_from}
+use Rattle.epl_syntax.specs.Memory.{Memory, value_of_constant, set}
+use Rattle.epl_syntax.specs.Outline.{Slot, starts, only_kept, with_kept}
+use Rattle.epl_syntax.specs.Tree.{Variable, Process, UpgradeAssignment, Upgrade, TypeTree}
 use Rattle.epl_syntax.specs.Turns.{values_in, process_left}
 use Rattle.epl_syntax.specs.Upgrades.{assigned, before_upgrade, made_by, upgrade_for, upgraded_by}
-use Rattle.epl_syntax.specs.Meaning.{Edentype, of_native, of_declared, values_from, durable_of, upgraded, is_current, durable_from}
-use Rattle.epl_syntax.specs.Edentype.{native, declared, outline_of, slots_of}
-use Rattle.epl_syntax.specs.Outline.{Slot, starts, only_kept, with_kept}
-use Rattle.epl_syntax.specs.Constants.{ConstantFits, ExpressionFits, LocalsFit, StatementFits, TreeFits}
-use Rattle.value_laws.specs.Limited.{IsLimited, AreLimited, TypeFits, RestFits, VarsFit, HasRoom, TurnKeepsLimits, BeginKeepsLimits, DeclaredAreLimited, FirstAreLimited, DurableAreLimited, StartKeepsLimits}
-use Rattle.value_laws.proofs.Values.{either, found_through}
-use Rattle.value_laws.proofs.Steps.{process_limited, operation_limited, declared_limited}
+use Rattle.epl_syntax.specs.declared.effect.FaultCause.{FaultCause}
+use Rattle.value_laws.specs.Limited.{IsLimited, AreLimited, IsLimitedUid, TypeFits, RestFits, VarsFit, HasRoom, TurnKeepsLimits}
+use Rattle.value_laws.specs.Limited.{BeginKeepsLimits, DeclaredAreLimited, FirstAreLimited, DurableAreLimited, StartKeepsLimits}
 use Rattle.value_laws.proofs.Evaluated.{MemoryLimited, value_limited, set_limited, variables_limited, arguments_limited, values_limited}
-use Rattle.value_laws.proofs.Natives.{native_limited, first_limited, first_values_fit, started_fit}
+use Rattle.value_laws.proofs.NativeStarts.{first_limited, first_values_fit, started_fit}
+use Rattle.value_laws.proofs.Natives.{native_limited}
+use Rattle.value_laws.proofs.Steps.{process_limited, operation_limited, declared_limited}
+use Rattle.value_laws.proofs.Values.{either, found_through}
+
+-- 1. Turns, beginnings and checkpoints
 
 pub turn_keeps_limits : TurnKeepsLimits
 turn_keeps_limits (native n) vars (of_native stage) told me h = native_limited n vars stage told h.vars h.fits h.rest h.room h.answer
@@ -65,7 +67,7 @@ pub first_are_limited : FirstAreLimited
 first_are_limited (native n) fit = first_values_fit n
 first_are_limited (declared t) fit = (starts_limited t.vars fit.vars, tt)
 
--- ---- starts
+-- 2. Starts
 given_or : (o : Option Datum) (d : Datum) → IfSome o IsLimited → IsLimited d → IsLimited (with_item o (λ x. x) d)
 given_or None d h k = k
 given_or (Some x) d h k = h
@@ -102,8 +104,12 @@ begin_values : (vs : List Variable) → AllByRecursion (λ v. ConstantFits v.sta
 begin_values [] h = tt
 begin_values (v ∷ vs) h = (h.0, begin_values vs h.1)
 
-made_limited : (t : TypeTree) (u : Upgrade) (old : List Datum) (me : Uid) → TreeFits t → AllByRecursion (λ c. ExpressionFits c.value) u.changes
-    → AreLimited old → IsLimited (cap (Some (full me))) → IfOk (made_by t u old me) AreLimited
+-- each constant of what an upgrade assigns
+abbrev UpgradeFits : Upgrade → Type 0
+UpgradeFits u = AllByRecursion (λ c. ExpressionFits c.value) u.changes
+
+made_limited : (t : TypeTree) (u : Upgrade) (old : List Datum) (me : Uid) → TreeFits t → UpgradeFits u → AreLimited old → IsLimitedUid me
+    → IfOk (made_by t u old me) AreLimited
 made_limited t u old me fit f h k =
     let m : Memory = before_upgrade t u old me in
     found_through MemoryLimited AreLimited (assigned u.changes m) (λ m. Ok (values_in m.shared))
@@ -119,15 +125,14 @@ ok_limited : (r : Result (List Datum) FaultCause) → IfOk r AreLimited → IfSo
 ok_limited (Ok ds) h = h
 ok_limited (Err c) h = tt
 
-upgraded_limited : (t : TypeTree) (rep : Rep) (me : Uid) → TreeFits t → AreLimited rep.values → IsLimited (cap (Some (full me)))
+upgraded_limited : (t : TypeTree) (rep : Rep) (me : Uid) → TreeFits t → AreLimited rep.values → IsLimitedUid me
     → IfSome (upgraded_by t rep me) AreLimited
 upgraded_limited t rep me fit h k = go (upgrade_for t rep) (found_fits _ t.upgrades fit.upgrades)
   where
     P : Option Upgrade → Type 0
-    P o = IfSome o (λ (u : Upgrade). AllByRecursion (λ c. ExpressionFits c.value) u.changes)
+    P o = IfSome o UpgradeFits
 
-    found_fits : (test : Upgrade → Bool) (us : List Upgrade) → AllByRecursion (λ (u : Upgrade). AllByRecursion (λ c. ExpressionFits c.value) u.changes) us
-        → P (find test us)
+    found_fits : (test : Upgrade → Bool) (us : List Upgrade) → AllByRecursion UpgradeFits us → P (find test us)
     found_fits test [] f = tt
     found_fits test (u ∷ us) f = either P (test u) (Some u) (find test us) f.0 (found_fits test us f.1)
 
@@ -140,7 +145,7 @@ durable_limited : (t : TypeTree) (o : Option (List Datum)) → IfSome o AreLimit
 durable_limited t None h = tt
 durable_limited t (Some ds) h = only_kept_limited (outline_of (declared t)).slots ds h
 
-from_limited : (t : Edentype) (rep : Rep) (me : Uid) → TypeFits t → AreLimited rep.values → IsLimited (cap (Some (full me)))
+from_limited : (t : Edentype) (rep : Rep) (me : Uid) → TypeFits t → AreLimited rep.values → IsLimitedUid me
     → IfSome (durable_from t rep me) AreLimited
 from_limited (native n) rep me fit h k = either (λ o. IfSome o AreLimited) (is_current (native n) rep) (Some rep.values) None h tt
 from_limited (declared t) rep me fit h k =

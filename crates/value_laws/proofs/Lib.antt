@@ -3,6 +3,7 @@ pub mod Operands
 pub mod Evaluated
 pub mod Steps
 pub mod Natives
+pub mod NativeStarts
 pub mod Laws
 pub mod Kept
 pub mod Types
@@ -16,4 +17,4 @@ pub mod Names
 pub mod ShellCalls
 pub mod Worlds
 pub mod Histories
-pub mod NotWithout
+pub mod WithoutRoom

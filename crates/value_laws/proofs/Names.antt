@@ -1,51 +1,38 @@
 -- What the names of a script stand for stays within the limits around every entry.
-use Rattle.std.proofs.Common.{◌≡◌, ℕ, Bool, true, false, cond, List, [], ◌∷◌, Option, None, Some}
-use Rattle.std.proofs.Common.{refl, sym, ◌∙◌, ap, subst}
-use Rattle.std.specs.Prelude.{IsSomeAnd, IfSome}
-use Rattle.capability.specs.declared.Uid.{Uid}
-use Rattle.capability.specs.declared.Cap.{Cap}
+use Rattle.std.proofs.Common.{◌≡◌, ℕ, Bool, true, false, cond, List, ◌∷◌, Option, None, Some, refl, sym, ap, subst, zero, suc, arith}
+use Rattle.std.specs.Prelude.{IsSomeAnd, IfSome, slice_get}
+use Rattle.std.specs.List.{find}
+use Rattle.std.proofs.lemmas.Nat.{and_le_l}
 use Rattle.capability.specs.Capability.{full, restricted}
+use Rattle.capability.specs.declared.Cap.{Cap}
+use Rattle.capability.specs.declared.Rights.{Rights}
+use Rattle.capability.specs.declared.Uid.{Uid}
 use Rattle.eden_value.specs.Datum.{Datum, number, truth, text, cap, list}
 use Rattle.eden_value.specs.declared.status.Status.{Status}
 use Rattle.eden_value.specs.declared.status.Status.TheVariants as status
-use Rattle.eden_model.specs.Map.{with_item}
-use Rattle.eden_model.specs.Traffic.{Call, call_at, answered, shell_name, processes_of, broken_by_node, broken_by_link, without_link}
-use Rattle.epl_syntax.specs.declared.effect.Answer.TheVariants.{Reply as Told}
-use Rattle.epl_syntax.specs.Edentype.{Edentype}
-use Rattle.epl_syntax.specs.Meaning.{type_of, first_values}
+use Rattle.eden_model.specs.Map.{with_item, same_text}
+use Rattle.eden_model.specs.Traffic.{Call, call_at, answered, shell_name}
+use Rattle.epl_syntax.specs.Meaning.{type_of}
+use Rattle.journal.specs.Commands.{AllowsCommand, born_as, made, held_by, restricted_by, asked_by, asked, ready_call, type_name_of}
+use Rattle.journal.specs.Deliveries.{AllowsReply, meaning_of_reply}
+use Rattle.journal.specs.Fit.{NamesAreValues}
+use Rattle.journal.specs.References.{meaning_of, cap_at, with_name, value_at_name, value_of_meaning, present_cap}
+use Rattle.journal.specs.Step.{AllowsInTurn, AllowsEvent, Allows, next, after_turn, after_command, happened, clocked, key_of}
+use Rattle.journal.specs.World.{World, Meaning, capability, results, nothing}
 use Rattle.journal.specs.declared.command.Command.{Command}
 use Rattle.journal.specs.declared.command.Command.TheVariants as command
-use Rattle.journal.specs.declared.event.Key.{Key}
+use Rattle.journal.specs.declared.command.Ref.{Ref}
+use Rattle.journal.specs.declared.event.Entry.{Entry}
 use Rattle.journal.specs.declared.event.Event.{Event}
 use Rattle.journal.specs.declared.event.Event.TheVariants as event
-use Rattle.journal.specs.declared.event.StartEnd.TheVariants as start_end
 use Rattle.journal.specs.declared.event.RequestEnd.TheVariants as end
-use Rattle.journal.specs.declared.event.Entry.{Entry}
-use Rattle.journal.specs.World.{World, Meaning, capability, results, nothing, at_node, reaches}
-use Rattle.journal.specs.Ejects.{fresh, tells, born}
-use Rattle.journal.specs.Deliveries.{AllowsReply, meaning_of_reply}
-use Rattle.journal.specs.Crashes.{tells_each, linked}
-use Rattle.journal.specs.References.{meaning_of, cap_at, with_name}
-use Rattle.journal.specs.Commands.{AllowsCommand, born_as, made, held_by, restricted_by, asked_by, asked, ready_call}
-use Rattle.journal.specs.Commands.{type_name_of}
-use Rattle.journal.specs.Step.{AllowsInTurn, AllowsEvent, Allows, next, after_turn, after_command, happened, at_site, stopped_at}
-use Rattle.journal.specs.Step.{site_turn, counted, clocked, key_of}
+use Rattle.journal.specs.declared.event.StartEnd.TheVariants as start_end
 use Rattle.history_laws.proofs.GrantedRuns.{names-site, names-stopped, names-counted, names-born_as, names-linked}
-use Rattle.history_laws.proofs.ShellHolds.{meaning_in}
-
-use Rattle.std.specs.Prelude.{slice_get}
-use Rattle.std.specs.List.{find}
-use Rattle.eden_model.specs.Map.{same_text}
-use Rattle.journal.specs.References.{value_at_name, value_of_meaning, present_cap}
-use Rattle.journal.specs.declared.command.Ref.{Ref}
-use Rattle.capability.specs.declared.Rights.{Rights}
-use Rattle.journal.specs.Fit.{NamesAreValues}
 use Rattle.history_laws.proofs.Runs.{IsNamed}
-use Rattle.std.proofs.Common.{zero, suc, arith}
-use Rattle.std.proofs.lemmas.Nat.{and_le_l}
+use Rattle.history_laws.proofs.ShellHolds.{meaning_in}
 use Rattle.value_laws.specs.Limited.{IsLimited, AreLimited, IsLimitedUid}
-use Rattle.value_laws.proofs.Values.{item_limited}
 use Rattle.value_laws.proofs.Calls.{CallsLimited}
+use Rattle.value_laws.proofs.Values.{item_limited}
 
 -- 1. What a name stands for
 abbrev pub MeaningLimited : Meaning → Type 0
@@ -57,7 +44,8 @@ MeaningLimited nothing = Unit {0}
 pub record NamesLimited (names : List (List ℕ × Meaning)) : Type 0 where
   pub at : (name : List ℕ) (m : Meaning) → meaning_in names name ≡ Some m → MeaningLimited m
 
-pub names-with : (name : List ℕ) (m : Meaning) (names : List (List ℕ × Meaning)) → MeaningLimited m → NamesLimited names → NamesLimited ((name, m) ∷ names)
+pub names-with : (name : List ℕ) (m : Meaning) (names : List (List ℕ × Meaning)) → MeaningLimited m → NamesLimited names
+    → NamesLimited ((name, m) ∷ names)
 names-with name m names new h = record { at = λ q x is. go q x (same_text name q) is }
   where
     go : (q : List ℕ) (x : Meaning) (b : Bool)
@@ -149,7 +137,8 @@ names-turn w (event.Activate v start_end.Gone p) allowed calls h = like _ w
     (names-site w v.node (event.Activate v start_end.Gone p)) h
 names-turn w (event.Activate v start_end.Fault p) allowed calls h = like _ w
     (names-site w v.node (event.Activate v start_end.Fault p)) h
-names-turn w (event.Activate v start_end.Damaged p) allowed calls h = like _ w (names-site w v.node (event.Activate v start_end.Damaged p)) h
+names-turn w (event.Activate v start_end.Damaged p) allowed calls h = like _ w
+    (names-site w v.node (event.Activate v start_end.Damaged p)) h
 names-turn w (event.Activate v start_end.Stop p) allowed calls h = like _ w
     (names-stopped w v.node (event.Activate v start_end.Stop p)) h
 names-turn w (event.Store v clock end.Part p) allowed calls h = like _ w
@@ -166,7 +155,6 @@ names-turn w event.Quiet allowed calls h = h
 names-turn w event.Spent allowed calls h = h
 names-turn w _ allowed calls h = absurd allowed
 
-
 held-names : (w : World) (c : Command) (name : List ℕ) → ((u : Uid) → c ≡ command.Hold name u → IsLimitedUid u)
     → AllowsCommand w c (event.Bound name true) → NamesLimited w.names → NamesLimited (held_by c w).names
 held-names w (command.Hold said v) name own allowed h = names-with said (capability (full v)) w.names
@@ -177,13 +165,15 @@ held-names w _ name own allowed h = absurd allowed
 restricted-names : (w : World) (c : Command) → NamesLimited w.names → NamesLimited (restricted_by c w).names
 restricted-names w (command.Restrict said target mask) h = go (cap_at w target) refl
   where
-    go : (o : Option Cap) → cap_at w target ≡ o → NamesLimited (with_item o (λ b. with_name said (capability (restricted b mask)) w) w).names
+    go : (o : Option Cap) → cap_at w target ≡ o
+        → NamesLimited (with_item o (λ b. with_name said (capability (restricted b mask)) w) w).names
     go None at = h
     go (Some b) at = names-with said (capability (restricted b mask)) w.names
         (restricted-limited b mask (cap-limited w h target b at)) h
 restricted-names w _ h = h
 
-asked-names : (w : World) (c : Command) (k : ℕ) (at_once : Option Status) → NamesLimited w.names → NamesLimited (asked_by c k at_once w).names
+asked-names : (w : World) (c : Command) (k : ℕ) (at_once : Option Status) → NamesLimited w.names
+    → NamesLimited (asked_by c k at_once w).names
 asked-names w (command.Call said target operation args) k at_once h = go (ready_call w (command.Call said target operation args))
   where
     go : (o : Option (Cap × List Datum)) → NamesLimited (with_item o (λ c. asked said c.0 operation c.1 k at_once w) w).names

@@ -1,59 +1,46 @@
 -- A turn of a native type leaves values within the limits.
-use Rattle.std.proofs.Common.{◌≡◌, ◌≢◌, ◌≤◌, ◌<◌, ◌^◌, ℕ, zero, suc, ◌+◌, ◌-◌, ◌==◌, ℤ, pos, negsuc, Bool, true, false, not, cond, ◌&&◌, ◌||◌}
-use Rattle.std.proofs.Common.{List, [], ◌∷◌, ◌++◌, take, drop, length, length-append, slice_get, Option, None, Some, is_some, codes}
+use Rattle.std.proofs.Common.{◌≡◌, ◌≢◌, ◌≤◌, ◌<◌, ◌^◌, ℕ, zero, suc, ◌+◌, ◌-◌, ◌==◌, ℤ, pos, negsuc, Bool, true, false, not, cond, ◌&&◌}
+use Rattle.std.proofs.Common.{◌||◌, List, [], ◌∷◌, ◌++◌, take, drop, length, length-append, slice_get, Option, None, Some, is_some, codes}
 use Rattle.std.proofs.Common.{refl, ap, sym, ◌∙◌, subst, arith}
 use Rattle.std.specs.Prelude.{IfSome, int_le, ◌+ℤ◌, ◌-ℤ◌, FitsSigned}
+use Rattle.std.specs.Fmt.{signed_decimal}
 use Rattle.std.specs.Int.{w64}
 use Rattle.std.specs.Ordering.{int_eq}
-use Rattle.std.specs.Fmt.{signed_decimal}
-use Rattle.std.proofs.lemmas.Bool.Decides.{nat_tests}
+use Rattle.std.proofs.lemmas.Bool.{leb-true, le-leb}
+use Rattle.std.proofs.lemmas.List.{length-take, length-drop, length-take-le}
 use Rattle.capability.specs.declared.Cap.{Cap}
-use Rattle.eden_value.specs.Datum.{Datum, number, truth, text, cap, list, no_data, items_of, data_of}
 use Rattle.eden_value.specs.Code.{items_of-data_of}
+use Rattle.eden_value.specs.Datum.{Datum, number, truth, text, cap, list, items_of, data_of}
 use Rattle.eden_value.specs.Limits.{IsText, depth_of}
 use Rattle.eden_value.specs.declared.status.Status.TheVariants as status
 use Rattle.eden_value.specs.declared.value.TheConstants.{TEXT_LIMIT, LIST_LIMIT, DEPTH_LIMIT}
-use Rattle.eden_model.specs.Map.{with_item, is_none, same_text}
-use Rattle.epl_syntax.specs.declared.effect.Answer.{Answer}
-use Rattle.epl_syntax.specs.declared.effect.Answer.TheVariants.{Code, Reply}
-use Rattle.epl_syntax.specs.declared.effect.Effect.{Effect}
+use Rattle.eden_model.specs.Map.{with_item, is_none}
+use Rattle.epl_syntax.specs.Cell as cell
+use Rattle.epl_syntax.specs.Directory as directory
+use Rattle.epl_syntax.specs.Edentype.{native}
+use Rattle.epl_syntax.specs.Filters as filters
+use Rattle.epl_syntax.specs.Lines as lines
+use Rattle.epl_syntax.specs.Meaning.{of_native, turned_as}
+use Rattle.epl_syntax.specs.Natives.{Stage, in_cell, in_directory, in_lines, in_filter, in_sink, rule_of, native_turn}
 use Rattle.epl_syntax.specs.Operators.{greatest}
 use Rattle.epl_syntax.specs.Simple.{argument, number_in, text_in, cap_in, items_in, returns_code, is_fine}
+use Rattle.epl_syntax.specs.Sink as sink
 use Rattle.epl_syntax.specs.Streams.{item_code, end_code, out_of_reach, trouble, returns_item, returns_none, asks_for, an_item, the_end}
 use Rattle.epl_syntax.specs.Streams.{nothing, came}
 use Rattle.epl_syntax.specs.Streams as streams
-use Rattle.epl_syntax.specs.Cell as cell
-use Rattle.epl_syntax.specs.Directory as directory
-use Rattle.epl_syntax.specs.Lines as lines
-use Rattle.epl_syntax.specs.Filters as filters
-use Rattle.epl_syntax.specs.Sink as sink
-use Rattle.epl_syntax.specs.Natives.{Stage, in_cell, in_directory, in_lines, in_filter, in_sink, rule_of, first_stage, native_turn}
+use Rattle.epl_syntax.specs.declared.effect.Answer.{Answer}
+use Rattle.epl_syntax.specs.declared.effect.Answer.TheVariants.{Code, Reply}
+use Rattle.epl_syntax.specs.declared.effect.Effect.{Effect}
 use Rattle.epl_syntax.specs.declared.types.Native.{Native}
 use Rattle.epl_syntax.specs.declared.types.Native.TheVariants as native_type
-use Rattle.epl_syntax.specs.Edentype.{native}
-use Rattle.epl_syntax.specs.Meaning.{of_native, turned_as}
-use Rattle.eden_value.specs.Shape.{Shape, ints, caps, has_shape}
-use Rattle.std.specs.Prelude.{map}
-use Rattle.std.specs.List.{find}
-use Rattle.std.proofs.lemmas.List.{length-map}
-use Rattle.std.specs.Cmp.{eq_by_cmp_equiv}
-use Rattle.std.specs.Cmp.Lexicographic.{nat_list_cmp_total}
-use Rattle.epl_syntax.specs.Simple.{of_one_class}
-use Rattle.epl_syntax.specs.Kinds.{have_shapes}
-use Rattle.epl_syntax.specs.Outline.{Operation}
-use Rattle.epl_syntax.specs.Natives.{native_condition}
-use Rattle.capability.specs.declared.Uid.{Uid}
-use Rattle.eden_codec.specs.declared.rep.Rep.{Rep}
-use Rattle.epl_syntax.specs.Outline.{with_kept}
-use Rattle.epl_syntax.specs.Meaning.{operation_of, first_values, values_from, durable_from, durable_kinds, is_current, version_of}
-use Rattle.value_laws.specs.Limited.{IsLimited, AreLimited, CellFits, DirectoryFits, LinesFit, FilterFits, SinkFits, StageFits, CountsFit, VarsFit, FilterHasRoom, SinkHasRoom, StageHasRoom, AnswerFits, EffectFits, goes_on, IsLeftLimited}
-use Rattle.value_laws.proofs.Values.{append_limited, take_limited, drop_limited, item_limited, MakeList, make_list, made_list}
-use Rattle.value_laws.proofs.Values.{depth-append, depth-take, depth-drop, few-without, most-take, append_printable, take_printable}
-use Rattle.value_laws.proofs.Values.{either, either_by, small_fits, le_of, le_true}
+use Rattle.value_laws.specs.Limited.{IsLimited, AreLimited, CellFits, DirectoryFits, LinesFit, FilterFits, SinkFits, StageFits, CountsFit}
+use Rattle.value_laws.specs.Limited.{VarsFit, FilterHasRoom, SinkHasRoom, StageHasRoom, AnswerFits, EffectFits, goes_on, IsLeftLimited}
 use Rattle.value_laws.proofs.Operands.{decimal_text}
 use Rattle.value_laws.proofs.Steps.{code_limited}
+use Rattle.value_laws.proofs.Values.{append_limited, take_limited, drop_limited, item_limited, MakeList, make_list, made_list, depth-append}
+use Rattle.value_laws.proofs.Values.{depth-take, depth-drop, few-without, append_printable, take_printable, either, either_by, small_fits}
 
-argument_limited : (i : ℕ) (ds : List Datum) → AreLimited ds → IsLimited (argument i ds)
+pub argument_limited : (i : ℕ) (ds : List Datum) → AreLimited ds → IsLimited (argument i ds)
 argument_limited i ds h = go (slice_get ds i) (item_limited ds i h)
   where
     go : (o : Option Datum) → IfSome o IsLimited → IsLimited (with_item o (λ d. d) (cap None))
@@ -63,21 +50,21 @@ argument_limited i ds h = go (slice_get ds i) (item_limited ds i h)
 no_items : MakeList []
 no_items = (tt, omega arith, omega arith)
 
-items_in_limited : (d : Datum) → IsLimited d → MakeList (items_in d)
+pub items_in_limited : (d : Datum) → IsLimited d → MakeList (items_in d)
 items_in_limited (list ds) h = made_list ds h
 items_in_limited (number n) h = no_items
 items_in_limited (truth b) h = no_items
 items_in_limited (text t) h = no_items
 items_in_limited (cap c) h = no_items
 
-cap_in_limited : (d : Datum) → IsLimited d → IsLimited (cap (cap_in d))
+pub cap_in_limited : (d : Datum) → IsLimited d → IsLimited (cap (cap_in d))
 cap_in_limited (cap c) h = h
 cap_in_limited _ h = (tt, tt)
 
-empty_text : IsText []
+pub empty_text : IsText []
 empty_text = record { printable = refl; short = omega arith }
 
-text_in_limited : (d : Datum) → IsLimited d → IsText (text_in d)
+pub text_in_limited : (d : Datum) → IsLimited d → IsText (text_in d)
 text_in_limited (text t) h = h.0
 text_in_limited (number n) h = empty_text
 text_in_limited (truth b) h = empty_text
@@ -95,7 +82,7 @@ number_in_limited (list ds) h = zero_fits
 number_in_limited (cap c) h = zero_fits
 
 -- a small number
-counted : (n : ℕ) → n < 2 ^ 32 → IsLimited (number (pos n))
+pub counted : (n : ℕ) → n < 2 ^ 32 → IsLimited (number (pos n))
 counted n h = (tt, small_fits n h)
 
 one_code : (n : ℕ) → n < 2 ^ 32 → EffectFits (returns_code n)
@@ -119,7 +106,8 @@ any (Some x) = tt
 not_limit : (n : ℕ) → (n == LIST_LIMIT) ≡ false → n ≢ LIST_LIMIT
 not_limit n h e = let bad : (n == LIST_LIMIT) ≡ true = ap (λ m. m == LIST_LIMIT) e in absurd (let x : true ≡ false = sym bad ∙ h in cc x)
 
--- ---- Cell
+-- 1. Cell
+
 code_of_limited : (a : Answer) → AreLimited (cell.code_of a)
 code_of_limited (Code s) = (code_limited s, tt)
 code_of_limited _ = tt
@@ -139,8 +127,9 @@ cell_limited vars cell.sleeps a h k = record { vars = h; rest = tt; effect = tt 
 cell_limited vars cell.kills a h k = record { vars = h; rest = tt; effect = tt }
 cell_limited vars cell.killed a h k = record { vars = h; rest = tt; effect = code_of_limited a }
 
--- ---- Directory
-abbrev AreEntries : List Datum → Type 0
+-- 2. Directory
+
+abbrev pub AreEntries : List Datum → Type 0
 AreEntries vars = length (directory.entries vars).names ≡ length (directory.entries vars).held
 
 record InDirectory (t : List Datum × directory.Stage × Effect) : Type 0 where
@@ -177,22 +166,16 @@ one_less i ds h = (
 )
 
 same_less : (i : ℕ) (xs ys : List Datum) → length xs ≡ length ys → length (directory.without i xs) ≡ length (directory.without i ys)
-same_less i xs ys same = length-append (take i xs) (drop (i + 1) xs)
-    ∙ (omega (arith, takes i xs ys same, drops (i + 1) xs ys same)) ∙ sym (length-append (take i ys) (drop (i + 1) ys))
-  where
-    takes : (i : ℕ) (xs ys : List Datum) → length xs ≡ length ys → length (take i xs) ≡ length (take i ys)
-    takes zero xs ys e = refl
-    takes (suc i) [] [] e = refl
-    takes (suc i) [] (y ∷ ys) e = absurd (omega (arith, e))
-    takes (suc i) (x ∷ xs) [] e = absurd (omega (arith, e))
-    takes (suc i) (x ∷ xs) (y ∷ ys) e = omega (arith, takes i xs ys (omega (arith, e)))
-
-    drops : (i : ℕ) (xs ys : List Datum) → length xs ≡ length ys → length (drop i xs) ≡ length (drop i ys)
-    drops zero xs ys e = e
-    drops (suc i) [] [] e = refl
-    drops (suc i) [] (y ∷ ys) e = absurd (omega (arith, e))
-    drops (suc i) (x ∷ xs) [] e = absurd (omega (arith, e))
-    drops (suc i) (x ∷ xs) (y ∷ ys) e = drops i xs ys (omega (arith, e))
+same_less i xs ys same = omega (
+  arith,
+  same,
+  length-append (take i xs) (drop (i + 1) xs),
+  length-append (take i ys) (drop (i + 1) ys),
+  length-take i xs,
+  length-take i ys,
+  length-drop (i + 1) xs,
+  length-drop (i + 1) ys,
+)
 
 directory_limited : (vars : List Datum) (stage : directory.Stage) (a : Answer) → AreLimited vars → AreEntries vars
     → DirectoryFits stage → InDirectory (directory.directory_turn vars stage a)
@@ -237,7 +220,8 @@ directory_limited vars stage a h same k = go stage k
     go directory.changed k = stays _ (one_code (cond (is_fine a) 0 3)
         (either (λ n. n < 2 ^ 32) (is_fine a) 0 3 (omega arith) (omega arith)))
 
--- ---- Lines
+-- 3. Lines
+
 record InLines (t : List Datum × lines.Stage × Effect) : Type 0 where
   vars : AreLimited t.0
   rest : LinesFit t.1
@@ -294,9 +278,10 @@ lines_limited vars stage a h k = go stage k
         (keeps (record s { saved = true }) lines.fill_saved _ its tt (line_at_limited s.items p its.0))
         (stays _ (no_item trouble (omega arith)))
 
--- ---- the numbers of a filter
+-- 4. The numbers of a filter
+
 neg_up : (n : ℕ) → negsuc (suc n) +ℤ pos 1 ≡ negsuc n
-neg_up n = ap (λ b. cond b (negsuc (suc (suc n) - 2)) (pos (1 - suc (suc n)))) (le_true 2 (suc (suc n)) (omega arith))
+neg_up n = ap (λ b. cond b (negsuc (suc (suc n) - 2)) (pos (1 - suc (suc n)))) (le-leb 2 (suc (suc n)) (omega arith))
     ∙ ap negsuc (omega arith)
 
 up_fits : (n : ℤ) → FitsSigned w64 n → n ≢ greatest → FitsSigned w64 (n +ℤ pos 1)
@@ -309,36 +294,37 @@ up_fits (negsuc (suc n)) h room = let small : suc n < 2 ^ 63 = h.sfits in
 less_fits : (m n : ℤ) → FitsSigned w64 m → FitsSigned w64 n → int_le m n ≡ true → n ≢ greatest → FitsSigned w64 (m +ℤ pos 1)
 less_fits (pos m) (pos n) f g h room = let small : n < 2 ^ 63 = g.sfits in
     let not_last : n ≢ 0x7FFF_FFFF_FFFF_FFFF = (λ e. room (ap pos e)) in
-    record { sfits = omega (arith, small, not_last, le_of m n h) }
+    record { sfits = omega (arith, small, not_last, leb-true m n h) }
 less_fits (pos m) (negsuc n) f g h room = absurd (let x : false ≡ true = h in cc x)
 less_fits (negsuc zero) n f g h room = zero_fits
 less_fits (negsuc (suc m)) n f g h room = let small : suc m < 2 ^ 63 = f.sfits in
     subst (λ x. FitsSigned w64 x) (sym (neg_up m)) (record { sfits = omega (arith, small) })
 
 up_both : (m n : ℤ) → int_le m n ≡ true → int_le (m +ℤ pos 1) (n +ℤ pos 1) ≡ true
-up_both (pos m) (pos n) h = le_true (m + 1) (n + 1) (omega (arith, le_of m n h))
+up_both (pos m) (pos n) h = le-leb (m + 1) (n + 1) (omega (arith, leb-true m n h))
 up_both (pos m) (negsuc n) h = absurd (let x : false ≡ true = h in cc x)
-up_both (negsuc zero) (pos n) h = le_true 0 (n + 1) (omega arith)
+up_both (negsuc zero) (pos n) h = le-leb 0 (n + 1) (omega arith)
 up_both (negsuc (suc m)) (pos n) h = subst (λ x. int_le x (pos (n + 1)) ≡ true) (sym (neg_up m)) refl
 up_both (negsuc zero) (negsuc zero) h = refl
-up_both (negsuc zero) (negsuc (suc n)) h = let le : suc n ≤ 0 = le_of (suc n) 0 h in absurd (omega (arith, le))
+up_both (negsuc zero) (negsuc (suc n)) h = let le : suc n ≤ 0 = leb-true (suc n) 0 h in absurd (omega (arith, le))
 up_both (negsuc (suc m)) (negsuc zero) h = subst (λ x. int_le x (pos 0) ≡ true) (sym (neg_up m)) refl
 up_both (negsuc (suc m)) (negsuc (suc n)) h = subst (λ x. int_le x (negsuc (suc n) +ℤ pos 1) ≡ true) (sym (neg_up m))
-    (subst (λ x. int_le (negsuc m) x ≡ true) (sym (neg_up n)) (le_true n m (omega (arith, le_of (suc n) (suc m) h))))
+    (subst (λ x. int_le (negsuc m) x ≡ true) (sym (neg_up n)) (le-leb n m (omega (arith, leb-true (suc n) (suc m) h))))
 
 up_one : (m n : ℤ) → int_le m n ≡ true → int_le m (n +ℤ pos 1) ≡ true
-up_one (pos m) (pos n) h = le_true m (n + 1) (omega (arith, le_of m n h))
+up_one (pos m) (pos n) h = le-leb m (n + 1) (omega (arith, leb-true m n h))
 up_one (pos m) (negsuc n) h = absurd (let x : false ≡ true = h in cc x)
 up_one (negsuc m) (pos n) h = refl
 up_one (negsuc m) (negsuc zero) h = refl
 up_one (negsuc m) (negsuc (suc n)) h = subst (λ x. int_le (negsuc m) x ≡ true) (sym (neg_up n))
-    (le_true n m (omega (arith, le_of (suc n) m h)))
+    (le-leb n m (omega (arith, leb-true (suc n) m h)))
 
 not_greatest : (n : ℤ) → int_eq n greatest ≡ false → n ≢ greatest
 not_greatest n h e = let same : int_eq n greatest ≡ int_eq greatest greatest = ap (λ m. int_eq m greatest) e in
     absurd (let x : true ≡ false = sym same ∙ h in cc x)
 
--- ---- the rules
+-- 5. The rules
+
 filter_of : (src : Option Cap) (arg : List Datum) (got made : ℤ) (last : Datum) (saved : Bool) → filters.Filter
 filter_of src arg got made last saved = record { src = src; arg = arg; got = got; made = made; last = last; saved = saved }
 
@@ -390,7 +376,7 @@ numbered_text n item h k = record {
   printable = take_printable TEXT_LIMIT (signed_decimal n ++ (codes ": " ++ item))
       (append_printable (signed_decimal n) (codes ": " ++ item) (decimal_text n k).printable
       (append_printable (codes ": ") item colon.printable h.printable));
-  short = most-take TEXT_LIMIT (signed_decimal n ++ (codes ": " ++ item));
+  short = omega (arith, length-take TEXT_LIMIT (signed_decimal n ++ (codes ": " ++ item)));
 }
 
 number_law : RuleLaw filters.number_rule
@@ -399,7 +385,8 @@ number_law = record {
   becomes = λ f item h k. numbered_text (f.made +ℤ pos 1) item h k;
 }
 
--- ---- what the stage before answered
+-- 6. What the stage before answered
+
 abbrev CameFits : streams.Came → Type 0
 CameFits (an_item item) = IsText item
 CameFits _ = Unit {0}
@@ -409,21 +396,14 @@ came_fits (Reply status.Ok (number (pos zero) ∷ text t ∷ [])) h = h.1.0.0
 came_fits (Reply status.Ok (number (pos (suc zero)) ∷ text t ∷ [])) h = tt
 came_fits _ h = tt
 
--- ---- how many values
-taken_all : (n : ℕ) (ds : List Datum) → n ≤ length ds → length (take n ds) ≡ n
-taken_all zero ds h = refl
-taken_all (suc n) [] h = absurd (omega (arith, h))
-taken_all (suc n) (d ∷ ds) h = ap suc (taken_all n ds (omega (arith, h)))
+-- 7. How many values
 
 count_from : (n : ℕ) (vars : List Datum) → length vars ≡ n + 5 → length (take n (drop 1 vars)) ≡ n
 count_from n [] h = absurd (omega (arith, h))
-count_from n (d ∷ ds) h = taken_all n ds (omega (arith, h))
+count_from n (d ∷ ds) h = length-take-le n ds (omega (arith, h))
 
-one_fewer : (n : ℕ) (args : List Datum) → length args ≡ n + 1 → length (drop 1 args) ≡ n
-one_fewer n [] h = absurd (omega (arith, h))
-one_fewer n (d ∷ ds) h = omega (arith, h)
+-- 8. The filters
 
--- ---- the filters
 record InFilter (r : filters.Rule) (t : filters.Moved) : Type 0 where
   vars : AreLimited t.0
   fits : CountsFit r t.0
@@ -577,7 +557,7 @@ module _ (r : filters.Rule) (law : RuleLaw r) where
           (record {
             src = cap_in_limited (argument 0 args) (argument_limited 0 args k.0);
             arg = drop_limited 1 args k.0;
-            count = one_fewer (length r.arg) args k.1;
+            count = omega (arith, length-drop 1 args, k.1);
             got = x.got;
             made = x.made;
             counts = x.counts;
@@ -600,7 +580,8 @@ module _ (r : filters.Rule) (law : RuleLaw r) where
           (λ g y. either (InFilter r) passed (filters.answers g (returns_item g.last)) (filters.asks g)
           (last_limited g y) (asks_limited g y))
 
--- ---- Sink
+-- 9. Sink
+
 record InSink (t : sink.Moved) : Type 0 where
   vars : AreLimited t.0
   rest : SinkFits t.1
@@ -696,7 +677,8 @@ sink_limited vars stage a h k room told = go stage k room
         (counts_limited s trouble (omega arith) x)
     go sink.reads k room = record { vars = h; rest = tt; room = λ on. tt; effect = (argument_limited 1 vars h, tt) }
 
--- ---- all
+-- 10. All
+
 any_filter : (n : Native) (vars : List Datum) (stage : filters.Stage) (a : Answer) → RuleLaw (rule_of n) → AreLimited vars
     → CountsFit (rule_of n) vars → FilterFits (length (rule_of n).arg) stage → FilterHasRoom (rule_of n) vars stage → AnswerFits a
     → InFilter (rule_of n) (filters.filter_turn (rule_of n) vars stage a)
@@ -730,253 +712,3 @@ native_limited native_type.Sink vars (in_sink stage) a h fits k room told =
     let t = sink_limited vars stage a h k room told in
     record { vars = t.vars; fits = tt; rest = t.rest; room = t.room; effect = t.effect }
 native_limited _ vars stage a h fits k room told = absurd k
-
--- ---- how operations begin
-directory_first : (name : List ℕ) (args : List Datum) → AreLimited args → DirectoryFits (directory.first_stage name args)
-directory_first name args h =
-    either DirectoryFits (same_text name (codes "AddEntry")) (directory.adds entry (cap_in (argument 1 args))) after_first
-    (text_in_limited (argument 0 args) (argument_limited 0 args h), cap_in_limited (argument 1 args) (argument_limited 1 args h))
-    (either DirectoryFits (same_text name (codes "LookUp")) (directory.looks entry) after_second tt
-    (either DirectoryFits (same_text name (codes "DeleteEntry")) (directory.deletes entry) directory.tells tt tt))
-  where
-    entry : List ℕ
-    entry = text_in (argument 0 args)
-
-    after_second : directory.Stage
-    after_second = cond (same_text name (codes "DeleteEntry")) (directory.deletes entry) directory.tells
-
-    after_first : directory.Stage
-    after_first = cond (same_text name (codes "LookUp")) (directory.looks entry) after_second
-
-cell_first : (name : List ℕ) (args : List Datum) → AreLimited args → CellFits (cell.first_stage name args)
-cell_first name args h =
-    either CellFits (same_text name (codes "Set")) (cell.sets_to args) after_set (sets args h)
-    (either CellFits (same_text name (codes "Get")) cell.gets after_get tt
-    (either CellFits (same_text name (codes "Save")) cell.saves after_save tt
-    (either CellFits (same_text name (codes "Sleep")) cell.sleeps cell.kills tt tt)))
-  where
-    after_save : cell.Stage
-    after_save = cond (same_text name (codes "Sleep")) cell.sleeps cell.kills
-
-    after_get : cell.Stage
-    after_get = cond (same_text name (codes "Save")) cell.saves after_save
-
-    after_set : cell.Stage
-    after_set = cond (same_text name (codes "Get")) cell.gets after_get
-
-    sets : (args : List Datum) → AreLimited args → CellFits (cell.sets_to args)
-    sets (number n ∷ []) h = h.0.1
-    sets _ h = tt
-
-lines_first : (name : List ℕ) (args : List Datum) → AreLimited args → LinesFit (lines.first_stage name args)
-lines_first name args h = either LinesFit (same_text name (codes "Fill"))
-    (lines.fills (items_in (argument 0 args))) (lines.transfers (number_in (argument 0 args)))
-    (make_list (items_in (argument 0 args)) (items_in_limited (argument 0 args) (argument_limited 0 args h))) tt
-
-filter_first : (n : ℕ) (name : List ℕ) (args : List Datum) → AreLimited args
-    → (same_text name (codes "Open") ≡ true → length args ≡ n + 1) → FilterFits n (filters.first_stage name args)
-filter_first n name args h count = either_by (FilterFits n) (same_text name (codes "Open")) (filters.opens args)
-    (filters.transfers (number_in (argument 0 args))) (λ e. (h, count e)) (λ e. tt)
-
-filter_ready : (r : filters.Rule) (vars : List Datum) (name : List ℕ) (args : List Datum)
-    → FilterHasRoom r vars (filters.first_stage name args)
-filter_ready r vars name args = either (FilterHasRoom r vars) (same_text name (codes "Open")) (filters.opens args)
-    (filters.transfers (number_in (argument 0 args))) tt tt
-
-sink_first : (name : List ℕ) (args : List Datum) → AreLimited args → SinkFits (sink.first_stage name args)
-sink_first name args h =
-    either SinkFits (same_text name (codes "Open")) (sink.opens (cap_in (argument 0 args))) after_first
-    (cap_in_limited (argument 0 args) (argument_limited 0 args h))
-    (either SinkFits (same_text name (codes "Pump")) (sink.pumps (number_in (argument 0 args))) sink.reads tt tt)
-  where
-    after_first : sink.Stage
-    after_first = cond (same_text name (codes "Pump")) (sink.pumps (number_in (argument 0 args))) sink.reads
-
-sink_ready : (vars : List Datum) (name : List ℕ) (args : List Datum) → SinkHasRoom vars (sink.first_stage name args)
-sink_ready vars name args =
-    either (SinkHasRoom vars) (same_text name (codes "Open")) (sink.opens (cap_in (argument 0 args))) after_first tt
-    (either (SinkHasRoom vars) (same_text name (codes "Pump")) (sink.pumps (number_in (argument 0 args))) sink.reads tt tt)
-  where
-    after_first : sink.Stage
-    after_first = cond (same_text name (codes "Pump")) (sink.pumps (number_in (argument 0 args))) sink.reads
-
--- as many values as kinds
-many_shapes : (ds : List Datum) (shapes : List Shape) → have_shapes ds shapes ≡ true → length ds ≡ length shapes
-many_shapes [] [] h = refl
-many_shapes [] (s ∷ shapes) h = absurd (let x : false ≡ true = h in cc x)
-many_shapes (d ∷ ds) [] h = absurd (let x : false ≡ true = h in cc x)
-many_shapes (d ∷ ds) (s ∷ shapes) h = ap suc (many_shapes ds shapes (second (has_shape d s) (have_shapes ds shapes) h))
-  where
-    second : (a b : Bool) → (a && b) ≡ true → b ≡ true
-    second true b e = e
-    second false b e = absurd (let x : false ≡ true = e in cc x)
-
--- Open of a filter takes so many arguments
-opens_count : (r : filters.Rule) (name : List ℕ) (args : List Datum) (o : Operation)
-    → find (λ (o : Operation). same_text o.name name) (filters.filter_outline r).operations ≡ Some o
-    → have_shapes args o.params ≡ true → same_text name (codes "Open") ≡ true → length args ≡ length r.arg + 1
-opens_count r name args o is shapes open_ =
-    many_shapes args (caps ∷ map (λ v. v.kind) r.arg) (subst (λ (x : Operation). have_shapes args x.params ≡ true) (sym same) shapes)
-    ∙ omega (arith, length-map r.arg (λ v. v.kind))
-  where
-    at_open : same_text (codes "Open") name ≡ true
-    at_open = (eq_by_cmp_equiv nat_list_cmp_total).symm (codes "Open") name ∙ open_
-
-    the_open : Operation
-    the_open = of_one_class (codes "Open") 1 (caps ∷ map (λ v. v.kind) r.arg)
-
-    same : the_open ≡ o
-    same = let both : Some the_open ≡ Some o = sym (ap (λ b. cond b (Some the_open)
-        (find (λ (o : Operation). same_text o.name name) (of_one_class (codes "Transfer") 2 (ints ∷ []) ∷ []))) at_open) ∙ is in cc both
-
-pub first_limited : (n : Native) (vars : List Datum) (name : List ℕ) (args : List Datum) (o : Operation)
-    → operation_of (native n) name ≡ Some o → have_shapes args o.params ≡ true → AreLimited args
-    → StageFits n (first_stage n name args) × StageHasRoom n vars (first_stage n name args)
-first_limited native_type.Cell vars name args o is shapes h = (cell_first name args h, tt)
-first_limited native_type.Directory vars name args o is shapes h = (directory_first name args h, tt)
-first_limited native_type.Lines vars name args o is shapes h = (lines_first name args h, tt)
-first_limited native_type.Take vars name args o is shapes h = (
-  filter_first 1 name args h (opens_count filters.take_rule name args o is shapes),
-  filter_ready filters.take_rule vars name args,
-)
-first_limited native_type.Skip vars name args o is shapes h = (
-  filter_first 1 name args h (opens_count filters.skip_rule name args o is shapes),
-  filter_ready filters.skip_rule vars name args,
-)
-first_limited native_type.Only vars name args o is shapes h = (
-  filter_first 1 name args h (opens_count filters.only_rule name args o is shapes),
-  filter_ready filters.only_rule vars name args,
-)
-first_limited native_type.Number vars name args o is shapes h = (
-  filter_first 0 name args h (opens_count filters.number_rule name args o is shapes),
-  filter_ready filters.number_rule vars name args,
-)
-first_limited native_type.Sink vars name args o is shapes h = (sink_first name args h, sink_ready vars name args)
-
--- ---- how an Eject begins
-empty_list : IsLimited (list no_data)
-empty_list = ((omega arith, tt), tt)
-
-nothing_yet : IsLimited (text [])
-nothing_yet = (empty_text, tt)
-
-some_count : AreLimited (cap None ∷ number (pos 0) ∷ number (pos 0) ∷ number (pos 0) ∷ text [] ∷ truth true ∷ [])
-some_count = ((tt, tt), (counted 0 (omega arith), (counted 0 (omega arith), (counted 0 (omega arith), (nothing_yet, ((tt, tt), tt))))))
-
-some_text : AreLimited (cap None ∷ text [] ∷ number (pos 0) ∷ number (pos 0) ∷ text [] ∷ truth true ∷ [])
-some_text = ((tt, tt), (nothing_yet, (counted 0 (omega arith), (counted 0 (omega arith), (nothing_yet, ((tt, tt), tt))))))
-
-no_argument : AreLimited (cap None ∷ number (pos 0) ∷ number (pos 0) ∷ text [] ∷ truth true ∷ [])
-no_argument = ((tt, tt), (counted 0 (omega arith), (counted 0 (omega arith), (nothing_yet, ((tt, tt), tt)))))
-
-pub first_values_fit : (n : Native) → AreLimited (first_values (native n)) × VarsFit (native n) (first_values (native n))
-first_values_fit native_type.Cell = ((counted 0 (omega arith), tt), tt)
-first_values_fit native_type.Directory = ((empty_list, (empty_list, tt)), refl)
-first_values_fit native_type.Lines = (((tt, tt), (empty_list, ((tt, tt), tt))), tt)
-first_values_fit native_type.Take = (some_count, record { count = refl; counts = refl })
-first_values_fit native_type.Skip = (some_count, record { count = refl; counts = refl })
-first_values_fit native_type.Only = (some_text, record { count = refl; counts = refl })
-first_values_fit native_type.Number = (no_argument, record { count = refl; counts = refl })
-first_values_fit native_type.Sink = (((tt, tt), (empty_list, ((tt, tt), tt))), tt)
-
--- ---- how an Eject starts
-first_of : (a b : Bool) → (a && b) ≡ true → a ≡ true
-first_of true b h = refl
-first_of false b h = h
-
-second_of : (a b : Bool) → (a && b) ≡ true → b ≡ true
-second_of true b h = h
-second_of false b h = absurd (let x : false ≡ true = h in cc x)
-
--- what it starts from is of the kinds, and meets the condition
-record IsCurrent (n : Native) (durable : List Datum) : Type 0 where
-  kinds : length durable ≡ length (durable_kinds (native n))
-  condition : native_condition n durable ≡ true
-
-current : (n : Native) (rep : Rep) (me : Uid) (durable : List Datum) → durable_from (native n) rep me ≡ Some durable → IsCurrent n durable
-current n rep me durable is = go (is_current (native n) rep) refl is
-  where
-    go : (b : Bool) → is_current (native n) rep ≡ b → cond b (Some rep.values) None ≡ Some durable → IsCurrent n durable
-    go false at e = absurd (let x : None ≡ Some durable = e in cc x)
-    go true at e =
-        let same : rep.values ≡ durable = cc e in
-        let both : (have_shapes rep.values (durable_kinds (native n)) && native_condition n rep.values) ≡ true =
-        second_of (rep.version == version_of (native n)) (have_shapes rep.values (durable_kinds (native n)) && native_condition n rep.values) at in
-        subst (IsCurrent n) same (record {
-          kinds = many_shapes rep.values (durable_kinds (native n))
-              (first_of (have_shapes rep.values (durable_kinds (native n))) (native_condition n rep.values) both);
-          condition = second_of (have_shapes rep.values (durable_kinds (native n))) (native_condition n rep.values) both;
-        })
-
-equal_counts : (a b : ℕ) → (a == b) ≡ true → a ≡ b
-equal_counts a b h = grind (arith, nat_tests)
-
-directory_starts : (ds : List Datum) → length ds ≡ 2 → directory.are_entries ds ≡ true
-    → AreEntries (with_kept directory.directory.slots ds)
-directory_starts [] h k = absurd (omega (arith, h))
-directory_starts (a ∷ []) h k = absurd (omega (arith, h))
-directory_starts (a ∷ b ∷ []) h k = equal_counts (length (items_in a)) (length (items_in b))
-    (first_of (length (items_in a) == length (items_in b)) (directory.all_differ (items_in a)) k)
-directory_starts (a ∷ b ∷ c ∷ ds) h k = absurd (omega (arith, h))
-
-take_starts : (ds : List Datum) → length ds ≡ 5 → filters.counts_fit filters.take_rule ds ≡ true
-    → CountsFit filters.take_rule (with_kept (filters.filter_slots filters.take_rule) ds)
-take_starts (a ∷ b ∷ c ∷ d ∷ e ∷ []) h k = record {
-  count = refl;
-  counts = second_of (int_le (pos 0) (number_in d)) (int_le (number_in d) (number_in c)) k;
-}
-take_starts [] h k = absurd (omega (arith, h))
-take_starts (a ∷ []) h k = absurd (omega (arith, h))
-take_starts (a ∷ b ∷ []) h k = absurd (omega (arith, h))
-take_starts (a ∷ b ∷ c ∷ []) h k = absurd (omega (arith, h))
-take_starts (a ∷ b ∷ c ∷ d ∷ []) h k = absurd (omega (arith, h))
-take_starts (a ∷ b ∷ c ∷ d ∷ e ∷ f ∷ ds) h k = absurd (omega (arith, h))
-
-skip_starts : (ds : List Datum) → length ds ≡ 5 → filters.counts_fit filters.skip_rule ds ≡ true
-    → CountsFit filters.skip_rule (with_kept (filters.filter_slots filters.skip_rule) ds)
-skip_starts (a ∷ b ∷ c ∷ d ∷ e ∷ []) h k = record {
-  count = refl;
-  counts = second_of (int_le (pos 0) (number_in d)) (int_le (number_in d) (number_in c)) k;
-}
-skip_starts [] h k = absurd (omega (arith, h))
-skip_starts (a ∷ []) h k = absurd (omega (arith, h))
-skip_starts (a ∷ b ∷ []) h k = absurd (omega (arith, h))
-skip_starts (a ∷ b ∷ c ∷ []) h k = absurd (omega (arith, h))
-skip_starts (a ∷ b ∷ c ∷ d ∷ []) h k = absurd (omega (arith, h))
-skip_starts (a ∷ b ∷ c ∷ d ∷ e ∷ f ∷ ds) h k = absurd (omega (arith, h))
-
-only_starts : (ds : List Datum) → length ds ≡ 5 → filters.counts_fit filters.only_rule ds ≡ true
-    → CountsFit filters.only_rule (with_kept (filters.filter_slots filters.only_rule) ds)
-only_starts (a ∷ b ∷ c ∷ d ∷ e ∷ []) h k = record {
-  count = refl;
-  counts = second_of (int_le (pos 0) (number_in d)) (int_le (number_in d) (number_in c)) k;
-}
-only_starts [] h k = absurd (omega (arith, h))
-only_starts (a ∷ []) h k = absurd (omega (arith, h))
-only_starts (a ∷ b ∷ []) h k = absurd (omega (arith, h))
-only_starts (a ∷ b ∷ c ∷ []) h k = absurd (omega (arith, h))
-only_starts (a ∷ b ∷ c ∷ d ∷ []) h k = absurd (omega (arith, h))
-only_starts (a ∷ b ∷ c ∷ d ∷ e ∷ f ∷ ds) h k = absurd (omega (arith, h))
-
-number_starts : (ds : List Datum) → length ds ≡ 4 → filters.counts_fit filters.number_rule ds ≡ true
-    → CountsFit filters.number_rule (with_kept (filters.filter_slots filters.number_rule) ds)
-number_starts (a ∷ b ∷ c ∷ d ∷ []) h k = record {
-  count = refl;
-  counts = second_of (int_le (pos 0) (number_in c)) (int_le (number_in c) (number_in b)) k;
-}
-number_starts [] h k = absurd (omega (arith, h))
-number_starts (a ∷ []) h k = absurd (omega (arith, h))
-number_starts (a ∷ b ∷ []) h k = absurd (omega (arith, h))
-number_starts (a ∷ b ∷ c ∷ []) h k = absurd (omega (arith, h))
-number_starts (a ∷ b ∷ c ∷ d ∷ e ∷ ds) h k = absurd (omega (arith, h))
-
-pub started_fit : (n : Native) (rep : Rep) (me : Uid) (durable : List Datum) → durable_from (native n) rep me ≡ Some durable
-    → VarsFit (native n) (values_from (native n) durable)
-started_fit native_type.Directory rep me durable is = let c = current native_type.Directory rep me durable is in directory_starts durable c.kinds c.condition
-started_fit native_type.Take rep me durable is = let c = current native_type.Take rep me durable is in take_starts durable c.kinds c.condition
-started_fit native_type.Skip rep me durable is = let c = current native_type.Skip rep me durable is in skip_starts durable c.kinds c.condition
-started_fit native_type.Only rep me durable is = let c = current native_type.Only rep me durable is in only_starts durable c.kinds c.condition
-started_fit native_type.Number rep me durable is = let c = current native_type.Number rep me durable is in number_starts durable c.kinds c.condition
-started_fit native_type.Cell rep me durable is = tt
-started_fit native_type.Lines rep me durable is = tt
-started_fit native_type.Sink rep me durable is = tt

@@ -2,74 +2,73 @@
 use Rattle.std.proofs.Common.{arith, ◌≡◌, ◌==◌, ◌+◌, ◌≤◌, ◌<◌, ℕ, nat_le, Bool, true, false, cond, not, List, [], ◌∷◌, ◌++◌, Option, None}
 use Rattle.std.proofs.Common.{Some, is_some, Result, Ok, Err, length, refl, sym, ◌∙◌, ap, subst}
 use Rattle.std.specs.Prelude.{IfSome, IsSomeAnd}
+use Rattle.std.specs.FinMap.Entries.{find-put}
 use Rattle.std.specs.List.{filter}
 use Rattle.std.specs.Option.{option_map}
 use Rattle.std.specs.Ordering.{eq_by_cmp}
-use Rattle.std.specs.FinMap.Entries.{find-put}
 use Rattle.std.proofs.lemmas.Bool.Decides.{nat_tests}
-use Rattle.capability.specs.declared.Uid.{Uid}
-use Rattle.capability.specs.declared.TheConstants.{BODY_LIMIT}
 use Rattle.capability.specs.Capability.{full}
+use Rattle.capability.specs.declared.TheConstants.{BODY_LIMIT}
+use Rattle.capability.specs.declared.Uid.{Uid}
 use Rattle.capability.proofs.Uids.{uid_cmp_total, uid_cmp-IsAntisymmetric}
 use Rattle.eden_value.specs.Datum.{Datum}
 use Rattle.eden_value.specs.declared.status.Status.{Status}
 use Rattle.eden_value.specs.declared.status.Status.TheVariants as status
 use Rattle.eden_codec.specs.Spelling.{spelling}
+use Rattle.passive_store.specs.declared.store.Pick.{Pick}
+use Rattle.passive_store.specs.declared.store.Pick.TheVariants as pick
+use Rattle.eden_model.specs.Crew.{Crew, Invocation, Process as Worker, outside, set_waits, locked, left, waited, signalled, running}
 use Rattle.eden_model.specs.Map.{with_item, rest, uid_cmp, value_at, each_value}
-use Rattle.eden_model.proofs.Laws.{eq-same}
-use Rattle.eden_model.specs.Traffic.{Traffic, Call, held, call_at, changed_call, at_place, taken, replied, all_replied, orphaned}
-use Rattle.eden_model.specs.Traffic.{next_call, with_call, without_node}
+use Rattle.eden_model.specs.Traffic.{Traffic, Call, held, call_at, changed_call, at_place, taken, replied, all_replied, orphaned, next_call}
+use Rattle.eden_model.specs.Traffic.{with_call, without_node}
 use Rattle.eden_model.specs.declared.Asker.{Asker}
 use Rattle.eden_model.specs.declared.Asker.TheVariants.{Shell, Eject as Process}
-use Rattle.eden_model.specs.Crew.{Crew, Invocation, Process as Worker, outside, set_waits, locked, left, waited, signalled, running}
+use Rattle.eden_model.proofs.Laws.{eq-same}
+use Rattle.epl_syntax.specs.Edentype.{Edentype}
+use Rattle.epl_syntax.specs.Meaning.{Turned, rep_of, type_of, first_values}
 use Rattle.epl_syntax.specs.declared.effect.Answer.{Answer}
 use Rattle.epl_syntax.specs.declared.effect.Answer.TheVariants.{Code, Reply as Told, Created as Made}
 use Rattle.epl_syntax.specs.declared.effect.Effect.{Effect}
 use Rattle.epl_syntax.specs.declared.effect.Effect.TheVariants as effect
-use Rattle.epl_syntax.specs.Edentype.{Edentype}
-use Rattle.epl_syntax.specs.Meaning.{Turned, rep_of, type_of, first_values}
-use Rattle.passive_store.specs.declared.store.Pick.{Pick}
-use Rattle.passive_store.specs.declared.store.Pick.TheVariants as pick
+use Rattle.journal.specs.Boots.{booted_node, boot_turn}
+use Rattle.journal.specs.Crashes.{fallen, down, crashed}
+use Rattle.journal.specs.Deliveries.{requested, tells_asker, received, heard}
 use Rattle.journal.specs.EjectChange.{EjectChange, body, removal, kept_of}
-use Rattle.journal.specs.declared.event.BootEnd.{BootEnd}
-use Rattle.journal.specs.declared.event.BootEnd.TheVariants as boot_end
-use Rattle.journal.specs.declared.event.StartEnd.{StartEnd}
-use Rattle.journal.specs.declared.event.StartEnd.TheVariants as start_end
-use Rattle.journal.specs.declared.event.RequestEnd.{RequestEnd}
-use Rattle.journal.specs.declared.event.RequestEnd.TheVariants as end
-use Rattle.journal.specs.declared.event.Event.{Event}
-use Rattle.journal.specs.declared.event.Shown.{Shown}
-use Rattle.journal.specs.declared.event.Event.TheVariants as event
-use Rattle.journal.specs.World.{World, Site, Node, Eject, Active, StoreRequest, node_at, site_of, reaches, eject_in, on_eject}
-use Rattle.journal.specs.World.{on_node, on_traffic}
 use Rattle.journal.specs.Ejects.{with_active, with_queued, on_active, on_crew, is_there, told, tells, without_requests, deactivated}
 use Rattle.journal.specs.Ejects.{turned_away, gone_if_unkept, fresh, stored_epoch, epoch_or_zero, next_uid, newborn, born, count}
-use Rattle.journal.specs.Deliveries.{requested, tells_asker, received, heard}
-use Rattle.journal.specs.Processes.{AllowsStart, AllowsTurn, turn_of, turned, serving, with_start, start, worker_at, without_process, asks_store}
-use Rattle.journal.specs.Processes.{answers, refused_at_once, waits_or_told, creates, checkpoints, effected, process_turn}
+use Rattle.journal.specs.Processes.{AllowsStart, AllowsTurn, turn_of, turned, serving, with_start, start, worker_at, without_process}
+use Rattle.journal.specs.Processes.{asks_store, answers, refused_at_once, waits_or_told, creates, checkpoints, effected, process_turn}
 use Rattle.journal.specs.Settling.{first_request, settled_eject, settled, unsynced, written_with, to_settle}
-use Rattle.journal.specs.Crashes.{fallen, down, crashed}
+use Rattle.journal.specs.Sites.{HasEpochs, InOrder}
+use Rattle.journal.specs.Starts.{start_of, misfits_answered, activated, start_settled, activation_turn}
+use Rattle.journal.specs.Step.{AllowsAt, IsActiveAnd, site_turn}
 use Rattle.journal.specs.Stores.{Work, syncs, reads, unkept, without_room, calls, work_of, more_made, doubted, tells_code, request_ended}
 use Rattle.journal.specs.Stores.{removed, stored, done, worked, store_turn}
-use Rattle.journal.specs.Starts.{start_of, misfits_answered, activated, start_settled, activation_turn}
-use Rattle.journal.specs.Boots.{booted_node, boot_turn}
-use Rattle.journal.specs.Sites.{HasEpochs, InOrder}
-use Rattle.journal.specs.Step.{AllowsAt, IsActiveAnd, site_turn}
-use Rattle.history_laws.proofs.Frame.{eject-on_eject, on_eject-twice}
-use Rattle.history_laws.proofs.KeptTurns.{value-each}
+use Rattle.journal.specs.World.{World, Site, Node, Eject, Active, StoreRequest, node_at, site_of, reaches, eject_in, on_eject, on_node}
+use Rattle.journal.specs.World.{on_traffic}
+use Rattle.journal.specs.declared.event.BootEnd.{BootEnd}
+use Rattle.journal.specs.declared.event.BootEnd.TheVariants as boot_end
+use Rattle.journal.specs.declared.event.Event.{Event}
+use Rattle.journal.specs.declared.event.Event.TheVariants as event
+use Rattle.journal.specs.declared.event.RequestEnd.{RequestEnd}
+use Rattle.journal.specs.declared.event.RequestEnd.TheVariants as end
+use Rattle.journal.specs.declared.event.Shown.{Shown}
+use Rattle.journal.specs.declared.event.StartEnd.{StartEnd}
+use Rattle.journal.specs.declared.event.StartEnd.TheVariants as start_end
 use Rattle.history_laws.proofs.Creations.{next-active}
 use Rattle.history_laws.proofs.EpochBounds.{kept-epochs}
-use Rattle.history_laws.proofs.EveryNode.{IsKeptBy, IsAt}
-use Rattle.history_laws.proofs.Uids.{Fit, OfNode, CreatedIn}
+use Rattle.history_laws.proofs.EveryNode.{IsKeptBy}
+use Rattle.history_laws.proofs.Frame.{eject-on_eject, on_eject-twice}
+use Rattle.history_laws.proofs.KeptTurns.{value-each}
 use Rattle.history_laws.proofs.UidTurns.{kept-fit}
+use Rattle.history_laws.proofs.Uids.{Fit, OfNode, CreatedIn}
 use Rattle.value_laws.specs.Limited.{AreLimited, IsLimitedUid, TypeFits, AnswerFits, goes_on}
-use Rattle.value_laws.specs.Worlds.{ActiveLimited}
-use Rattle.value_laws.proofs.Laws.{first_are_limited}
-use Rattle.value_laws.proofs.Types.{TypesFit, type-fits}
-use Rattle.value_laws.proofs.Single.{SingleAs, SingleIfNative, single-waits, single-locked, single-left, single-waited, single-signalled}
-use Rattle.value_laws.proofs.Single.{single-alone}
 use Rattle.value_laws.proofs.ActiveParts.{ActiveHolds, MayBegin, active-fresh, active-told, active-crew, active-without, active-started}
 use Rattle.value_laws.proofs.ActiveParts.{active-turned, active-ended, active-started_from, turn-left}
+use Rattle.value_laws.proofs.Laws.{first_are_limited}
+use Rattle.value_laws.proofs.Single.{SingleAs, SingleIfNative, single-waits, single-locked, single-left, single-waited, single-signalled}
+use Rattle.value_laws.proofs.Single.{single-alone}
+use Rattle.value_laws.proofs.Types.{TypesFit, type-fits}
 
 -- 1. Ejects
 
@@ -180,10 +179,12 @@ holds-checkpoints : (v : Uid) (p : ℕ) (bytes : List ℕ) (s : Site) → SiteHo
 holds-checkpoints v p bytes s h = holds-cond (nat_le (length bytes) BODY_LIMIT) (asks_store v p (body bytes) s)
     (tells v p (Code status.TooLarge) s) (holds-asks v p (body bytes) s h) (holds-tells v p (Code status.TooLarge) s tt h)
 
-holds-born : (v : Uid) (t : Edentype) (s : Site) → TypeFits t → IsLimitedUid v → SiteHolds s → SiteHolds (born v (fresh t (first_values t)) s)
+holds-born : (v : Uid) (t : Edentype) (s : Site) → TypeFits t → IsLimitedUid v → SiteHolds s
+    → SiteHolds (born v (fresh t (first_values t)) s)
 unfolding on_node
 holds-born v t s fit own h = record {
-  at = λ u. subst (EntryHolds u) (sym (find-put uid_cmp uid_cmp_total u v grown s.node.ejects)) (go u (eq_by_cmp uid_cmp u v) refl (h.at u));
+  at = λ u. subst (EntryHolds u) (sym (find-put uid_cmp uid_cmp_total u v grown s.node.ejects))
+      (go u (eq_by_cmp uid_cmp u v) refl (h.at u));
 }
   where
     grown : Eject
@@ -464,7 +465,8 @@ has-process s v p said allowed = on-eject (eject_in s v) allowed
     on-part None x = x
     on-part (Some it) x = on-worker it (worker_at it p) x
 
-    on-eject : (o : Option Eject) → IsSomeAnd o (λ e. IsSomeAnd e.active (λ it. IsSomeAnd (worker_at it p) (λ q. AllowsTurn s v p said it q)))
+    on-eject : (o : Option Eject)
+        → IsSomeAnd o (λ e. IsSomeAnd e.active (λ it. IsSomeAnd (worker_at it p) (λ q. AllowsTurn s v p said it q)))
         → IsSomeAnd o (λ e. IsSomeAnd e.active (λ it. is_some (worker_at it p) ≡ true))
     on-eject None x = x
     on-eject (Some e) x = on-part e.active x

@@ -1,42 +1,42 @@
 -- What the shell asks is within the limits: the arguments of each `call` of a fit script, and what is left of the path of each walk.
 use Rattle.std.proofs.Common.{◌≡◌, ◌+◌, ◌-◌, ℕ, zero, suc, Bool, true, false, cond, List, [], ◌∷◌, Option, None, Some, refl, sym, ◌∙◌, ap}
 use Rattle.std.proofs.Common.{subst}
-use Rattle.std.specs.Prelude.{IsSomeAnd, IfSome}
-use Rattle.std.specs.List.{All}
-use Rattle.std.specs.Ordering.{nat_cmp}
+use Rattle.std.specs.Prelude.{IsSomeAnd}
 use Rattle.std.specs.Cmp.{nat_cmp_total, eq_by_cmp_equiv}
 use Rattle.std.specs.FinMap.Entries.{find-put}
+use Rattle.std.specs.List.{All}
+use Rattle.std.specs.Ordering.{nat_cmp}
 use Rattle.std.proofs.lemmas.List.Elements.{All-head, All-tail}
 use Rattle.capability.specs.declared.Cap.{Cap}
 use Rattle.eden_value.specs.Datum.{Datum, cap}
 use Rattle.eden_value.specs.Limits.{IsText}
 use Rattle.eden_value.specs.declared.status.Status.{Status}
 use Rattle.eden_model.specs.Map.{with_item}
+use Rattle.eden_model.specs.Traffic.{Call, call_at, new_call}
 use Rattle.eden_model.specs.declared.Asker.{Asker}
 use Rattle.eden_model.specs.declared.Asker.TheVariants.{Shell}
-use Rattle.eden_model.specs.Traffic.{Call, call_at, new_call}
+use Rattle.journal.specs.Commands.{AllowsCommand, AllowsAsked, asked, asked_by, ready_call}
+use Rattle.journal.specs.Fit.{ArgumentsFit, PathFits}
+use Rattle.journal.specs.References.{cap_at, args_of}
+use Rattle.journal.specs.Run.{Due, boots, command_is, turn_is, turns, looks_up, waits_for, over, Position, Step, IsDue, EachStep, Leads}
+use Rattle.journal.specs.Run.{steps, at_commands, booting, going, walking, walked, AllowsLookUp, sent_look_up, due_by, lead, is_found}
+use Rattle.journal.specs.Run.{is_open_call, lookup_args, looked_up, after_first}
+use Rattle.journal.specs.Step.{Allows, AllowsInTurn, next, after_command, key_of}
+use Rattle.journal.specs.World.{World}
 use Rattle.journal.specs.declared.command.Command.{Command}
 use Rattle.journal.specs.declared.command.Command.TheVariants as command
 use Rattle.journal.specs.declared.event.Entry.{Entry}
 use Rattle.journal.specs.declared.event.Event.{Event}
 use Rattle.journal.specs.declared.event.Event.TheVariants as event
 use Rattle.journal.specs.declared.event.Key.{Key}
-use Rattle.journal.specs.World.{World}
-use Rattle.journal.specs.References.{cap_at, args_of}
-use Rattle.journal.specs.Commands.{AllowsCommand, AllowsAsked, asked, asked_by, ready_call}
-use Rattle.journal.specs.Step.{Allows, AllowsInTurn, next, after_command, happened, key_of}
-use Rattle.journal.specs.Fit.{ArgumentsFit, PathFits}
-use Rattle.journal.specs.Run.{Due, boots, command_is, turn_is, turns, looks_up, waits_for, over, Position, Step, IsDue, EachStep, Leads, steps}
-use Rattle.journal.specs.Run.{at_commands, booting, going, walking, walked, AllowsLookUp, sent_look_up, due_by, lead, is_found, is_open_call}
-use Rattle.journal.specs.Run.{next_directory, lookup_args, looked_up, after_first}
 use Rattle.journal.proofs.FitValues.{arguments-are-values, components-are-texts}
 use Rattle.history_laws.proofs.CutOff.{traffic-counted}
 use Rattle.history_laws.proofs.Runs.{step, EachOf, world-at_commands, world-booting}
 use Rattle.value_laws.specs.Limited.{IsLimited, AreLimited}
-use Rattle.value_laws.proofs.Values.{values_limited}
-use Rattle.value_laws.proofs.WorldCalls.{ShellAsks}
 use Rattle.value_laws.proofs.Calls.{Answered, Asked}
 use Rattle.value_laws.proofs.Names.{NamesLimited, names-are-values, cap-limited}
+use Rattle.value_laws.proofs.Values.{values_limited}
+use Rattle.value_laws.proofs.WorldCalls.{ShellAsks}
 
 -- 1. A command
 
@@ -76,11 +76,11 @@ new-args a target operation args None = refl
 new-args a target operation args (Some s) = refl
 
 -- and so are its arguments
-just-asked : (name : List ℕ) (target : Cap) (operation : List ℕ) (args : List Datum) (k : ℕ) (at_once : Option Status) (w : World) (c : Call)
-    → call_at (asked name target operation args k at_once w).traffic k ≡ Some c → AreLimited args → AreLimited c.args
+just-asked : (name : List ℕ) (target : Cap) (operation : List ℕ) (args : List Datum) (k : ℕ) (at_once : Option Status) (w : World)
+    (c : Call) → call_at (asked name target operation args k at_once w).traffic k ≡ Some c → AreLimited args → AreLimited c.args
 just-asked name target operation args k at_once w c is h =
     let both : Some (new_call (Shell name) target operation args at_once) ≡ Some c =
-        sym (asked-there name target operation args k at_once w) ∙ is in
+    sym (asked-there name target operation args k at_once w) ∙ is in
     let same : new_call (Shell name) target operation args at_once ≡ c = cc both in
     subst AreLimited (sym (new-args (Shell name) target operation args at_once) ∙ ap (λ (x : Call). x.args) same) h
 
@@ -210,7 +210,8 @@ asks-led w (command_is c) cs e is due = subst (λ v. AsksLimited (step w e v)) (
 asks-led w (turn_is i) cs e is due = turn-asks w e (lead (record { world = w; due = turn_is i; commands = cs }) e).world is.allowed
 asks-led w (turns n) cs e is due = turn-asks w e (lead (record { world = w; due = turns n; commands = cs }) e).world is.allowed
 asks-led w (looks_up name target path) cs e is due = look-up-asks w name target path cs e is.0 due
-asks-led w (waits_for name k path) cs e is due = turn-asks w e (lead (record { world = w; due = waits_for name k path; commands = cs }) e).world is.allowed
+asks-led w (waits_for name k path) cs e is due = turn-asks w e
+    (lead (record { world = w; due = waits_for name k path; commands = cs }) e).world is.allowed
 asks-led w over cs e is due = absurd is
 
 -- 4. Every step

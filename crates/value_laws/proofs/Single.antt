@@ -1,29 +1,29 @@
 -- An active part of a native type runs one process at a time: all operations of the type are of one class, and that has the limit 1.
-use Rattle.std.proofs.Common.{◌≡◌, ◌⊎◌, inl, inr, ℕ, ◌+◌, ◌==◌, nat_lt, Bool, true, false, cond, not, List, [], ◌∷◌, map, length}
-use Rattle.std.proofs.Common.{Option, None, Some, is_some, refl, ap, sym, ◌∙◌, subst}
-use Rattle.std.specs.Prelude.{IsSomeAnd, slice_index}
-use Rattle.std.specs.List.{AllByRecursion, find, count_by}
-use Rattle.std.specs.Ordering.{nat_cmp, eq_by_cmp}
+use Rattle.std.proofs.Common.{◌≡◌, ◌⊎◌, inl, inr, ℕ, ◌+◌, ◌==◌, nat_lt, Bool, true, false, cond, not, List, [], ◌∷◌, map, length, Option}
+use Rattle.std.proofs.Common.{None, Some, is_some, refl, ap, sym, ◌∙◌, subst}
+use Rattle.std.specs.Prelude.{slice_index}
 use Rattle.std.specs.Cmp.{nat_cmp_total, eq_by_cmp_equiv}
 use Rattle.std.specs.FinMap.Entries.{by_order}
+use Rattle.std.specs.List.{AllByRecursion, find, count_by}
+use Rattle.std.specs.Ordering.{nat_cmp, eq_by_cmp}
 use Rattle.std.proofs.lemmas.Cmp.{tied_itself}
 use Rattle.eden_value.specs.Datum.{Datum}
-use Rattle.eden_model.specs.Map.{with_item, value_at, put_at, changed_at, where_key}
 use Rattle.eden_model.specs.Crew.{Crew, Invocation, Process as Worker, Waiting, nothing, with_waits, set_waits, locked, left, waited}
 use Rattle.eden_model.specs.Crew.{signalled, class_is, serves_class, may_start, least_free, leave_held, ended}
+use Rattle.eden_model.specs.Map.{with_item, value_at, put_at, changed_at, where_key}
 use Rattle.eden_model.specs.Traffic.{Traffic, Call, call_at}
 use Rattle.eden_model.proofs.Numbers.{same-true}
-use Rattle.epl_syntax.specs.declared.effect.Answer.{Answer}
-use Rattle.epl_syntax.specs.declared.effect.Answer.TheVariants.{Go}
-use Rattle.epl_syntax.specs.declared.types.Native.{Native}
-use Rattle.epl_syntax.specs.declared.types.Native.TheVariants as native_type
 use Rattle.epl_syntax.specs.Edentype.{Edentype, native, declared}
 use Rattle.epl_syntax.specs.Meaning.{Turned, begin}
 use Rattle.epl_syntax.specs.Natives.{native_outline}
 use Rattle.epl_syntax.specs.Outline.{Operation}
-use Rattle.journal.specs.World.{Active, Eject, Task}
+use Rattle.epl_syntax.specs.declared.effect.Answer.{Answer}
+use Rattle.epl_syntax.specs.declared.effect.Answer.TheVariants.{Go}
+use Rattle.epl_syntax.specs.declared.types.Native.{Native}
+use Rattle.epl_syntax.specs.declared.types.Native.TheVariants as native_type
 use Rattle.journal.specs.Ejects.{fresh, on_crew, told}
 use Rattle.journal.specs.Processes.{AllowsStart, class_of, invocation, next_start, with_start, worker_at, turned, without_process}
+use Rattle.journal.specs.World.{Active, Eject, Task}
 
 -- 1. What is known of it
 
@@ -62,7 +62,8 @@ SingleIfNative it = SingleAs it.kind it
 
 pub one-changed : (p : ℕ) (f : Task → Task) (t : Task) → changed_at nat_cmp p f ((p, t) ∷ []) ≡ (p, f t) ∷ []
 one-changed p f t =
-    ap (λ b. with_item (cond b (Some t) None) (λ x. put_at nat_cmp p (f x) ((p, t) ∷ [])) ((p, t) ∷ [])) ((eq_by_cmp_equiv nat_cmp_total).refl p)
+    ap (λ b. with_item (cond b (Some t) None) (λ x. put_at nat_cmp p (f x) ((p, t) ∷ [])) ((p, t) ∷ []))
+    ((eq_by_cmp_equiv nat_cmp_total).refl p)
     ∙ ap (λ o. by_order o ((p, f t) ∷ (p, t) ∷ []) ((p, f t) ∷ []) ((p, t) ∷ (p, f t) ∷ [])) (tied_itself nat_cmp_total p)
 
 -- a change at any key leaves the one key
@@ -212,16 +213,24 @@ pub single-fresh : (t : Edentype) (vars : List Datum) → SingleAs t (fresh t va
 single-fresh (declared t) vars = tt
 single-fresh (native n) vars = go n
   where
+    as-set-up : (it : Active) → it.crew.limits ≡ 1 ∷ [] → it.crew.monitors ≡ [] → it.crew.conditions ≡ [] → it.crew.processes ≡ []
+        → it.tasks ≡ [] → IsSingle it
+    as-set-up it limits monitors conditions processes tasks = record {
+      limits = limits;
+      monitors = monitors;
+      conditions = conditions;
+      work = inl (record { processes = processes; tasks = tasks });
+    }
+
     go : (n : Native) → IsSingle (fresh (native n) vars)
-    go native_type.Cell = record { limits = refl; monitors = refl; conditions = refl; work = inl (record { processes = refl; tasks = refl }) }
-    go native_type.Directory =
-        record { limits = refl; monitors = refl; conditions = refl; work = inl (record { processes = refl; tasks = refl }) }
-    go native_type.Lines = record { limits = refl; monitors = refl; conditions = refl; work = inl (record { processes = refl; tasks = refl }) }
-    go native_type.Take = record { limits = refl; monitors = refl; conditions = refl; work = inl (record { processes = refl; tasks = refl }) }
-    go native_type.Skip = record { limits = refl; monitors = refl; conditions = refl; work = inl (record { processes = refl; tasks = refl }) }
-    go native_type.Only = record { limits = refl; monitors = refl; conditions = refl; work = inl (record { processes = refl; tasks = refl }) }
-    go native_type.Number = record { limits = refl; monitors = refl; conditions = refl; work = inl (record { processes = refl; tasks = refl }) }
-    go native_type.Sink = record { limits = refl; monitors = refl; conditions = refl; work = inl (record { processes = refl; tasks = refl }) }
+    go native_type.Cell = as-set-up _ refl refl refl refl refl
+    go native_type.Directory = as-set-up _ refl refl refl refl refl
+    go native_type.Lines = as-set-up _ refl refl refl refl refl
+    go native_type.Take = as-set-up _ refl refl refl refl refl
+    go native_type.Skip = as-set-up _ refl refl refl refl refl
+    go native_type.Only = as-set-up _ refl refl refl refl refl
+    go native_type.Number = as-set-up _ refl refl refl refl refl
+    go native_type.Sink = as-set-up _ refl refl refl refl refl
 
 -- 7. A call starts
 
@@ -259,7 +268,8 @@ none-may : (it : Active) (i : Invocation) → IsSingle it → RunsOne it → i.c
 none-may it i h x class may = full (subst (λ o. nat_lt (0 + cond (class_is 0 o) 1 0) 1 ≡ true) x.serves
     (subst (λ (ps : List (ℕ × Worker)). nat_lt (count_by (λ (e : ℕ × Worker). serves_class 0 e.1) ps) 1 ≡ true) x.processes
     (subst (λ ls. nat_lt (count_by (λ (e : ℕ × Worker). serves_class 0 e.1) it.crew.processes) (slice_index ls 0) ≡ true) h.limits
-    (subst (λ c. nat_lt (count_by (λ (e : ℕ × Worker). serves_class c e.1) it.crew.processes) (slice_index it.crew.limits c) ≡ true) class may))))
+    (subst (λ c. nat_lt (count_by (λ (e : ℕ × Worker). serves_class c e.1) it.crew.processes) (slice_index it.crew.limits c) ≡ true)
+    class may))))
   where
     full : nat_lt (0 + cond (x.call.class == 0) 1 0) 1 ≡ true → ⊥
     full e = let bad : nat_lt 1 1 ≡ true = subst (λ c. nat_lt (0 + cond (c == 0) 1 0) 1 ≡ true) x.class e in cc bad
@@ -277,7 +287,8 @@ starts-alone : (it : Active) (e : Eject) (traffic : Traffic) (k : ℕ) → IsSin
 starts-alone it e traffic k h class is = go h.work (nat_lt (length it.crew.processes) 16) is
   where
     go : RunsNone it ⊎ RunsOne it → (b : Bool)
-        → cond b (find (may_start it.crew) (map (invocation it.kind traffic) e.queued)) None ≡ Some (invocation it.kind traffic k) → RunsNone it
+        → cond b (find (may_start it.crew) (map (invocation it.kind traffic) e.queued)) None ≡ Some (invocation it.kind traffic k)
+        → RunsNone it
     go (inl x) b found = x
     go (inr x) true found = absurd (none-may it (invocation it.kind traffic k) h x class (found-passes (may_start it.crew)
         (map (invocation it.kind traffic) e.queued) (invocation it.kind traffic k) found))
@@ -287,17 +298,25 @@ pub single-start : (traffic : Traffic) (k p : ℕ) (c : Call) (e : Eject) (it : 
     → SingleIfNative (with_start traffic k p c it)
 single-start traffic k p c e it allowed h = go it.kind refl h
   where
-    started : (n : Native) → it.kind ≡ native n → IsSingle it → RunsNone it → RunsOne (with_start traffic k p c it)
-    started n kind h x = record {
+    serving : Invocation
+    serving = invocation it.kind traffic k
+
+    class : (n : Native) → it.kind ≡ native n → serving.class ≡ 0
+    class n kind = ap (λ t. (invocation t traffic k).class) kind ∙ invocation-class n traffic k
+
+    worker : Worker
+    worker = record { serves = Some serving; waits = nothing }
+
+    started : (n : Native) → it.kind ≡ native n → RunsNone it → RunsOne (with_start traffic k p c it)
+    started n kind x = record {
       number = p;
-      worker = record { serves = Some (invocation it.kind traffic k); waits = nothing };
-      call = invocation it.kind traffic k;
+      worker = worker;
+      call = serving;
       task = record { rest = begin it.kind c.operation c.args; answer = Go };
-      processes = ap (put_at nat_cmp (least_free it.crew) (record { serves = Some (invocation it.kind traffic k); waits = nothing })) x.processes
-          ∙ ap (λ (q : ℕ). (q, record { serves = Some (invocation it.kind traffic k); waits = nothing }) ∷ []) (sym allowed.number);
+      processes = ap (put_at nat_cmp (least_free it.crew) worker) x.processes ∙ ap (λ (q : ℕ). (q, worker) ∷ []) (sym allowed.number);
       tasks = ap (put_at nat_cmp p (record { rest = begin it.kind c.operation c.args; answer = Go })) x.tasks;
       serves = refl;
-      class = ap (λ t. (invocation t traffic k).class) kind ∙ invocation-class n traffic k;
+      class = class n kind;
     }
 
     go : (t : Edentype) → it.kind ≡ t → SingleAs t it → SingleAs t (with_start traffic k p c it)
@@ -306,8 +325,7 @@ single-start traffic k p c e it allowed h = go it.kind refl h
       limits = h.limits;
       monitors = h.monitors;
       conditions = h.conditions;
-      work = inr (started n kind h (starts-alone it e traffic k h (ap (λ t. (invocation t traffic k).class) kind ∙ invocation-class n traffic k)
-          allowed.earliest));
+      work = inr (started n kind (starts-alone it e traffic k h (class n kind) allowed.earliest));
     }
 
 -- 8. A process of it is the only one

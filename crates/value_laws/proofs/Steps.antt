@@ -3,13 +3,25 @@ use Rattle.std.proofs.Common.{◌<◌, ◌^◌, arith, ℕ, pos, zero, suc, Bool
 use Rattle.std.specs.Prelude.{IfOk, FitsSigned}
 use Rattle.std.specs.Int.{w64}
 use Rattle.std.specs.List.{AllByRecursion, find}
-use Rattle.capability.specs.declared.Uid.{Uid}
 use Rattle.capability.specs.Capability.{full}
+use Rattle.capability.specs.declared.Uid.{Uid}
 use Rattle.eden_value.specs.Datum.{Datum, truth, cap}
 use Rattle.eden_value.specs.Status.{status_number}
 use Rattle.eden_value.specs.declared.status.Status.{Status}
 use Rattle.eden_value.specs.declared.status.Status.TheVariants as status
 use Rattle.eden_model.specs.Map.{with_item, same_text}
+use Rattle.epl_syntax.specs.Constants.{ExpressionFits, ExpressionsFit, LocalsFit, StatementFits, StatementsFit, TreeFits}
+use Rattle.epl_syntax.specs.Edentype.{declared}
+use Rattle.epl_syntax.specs.Expressions.{value_of, values_of}
+use Rattle.epl_syntax.specs.Kinds.{have_shapes}
+use Rattle.epl_syntax.specs.Meaning.{of_declared, turned_as}
+use Rattle.epl_syntax.specs.Memory.{Held, Memory, value_as, set, set_each, arguments, locals}
+use Rattle.epl_syntax.specs.Statements.{Step, does, leaves, steps, Awaited, a_code, a_creation, a_reply, Came, goes_on, ends, ends_in}
+use Rattle.epl_syntax.specs.Statements.{faults, with_found, tested, present, target_of, came_of}
+use Rattle.epl_syntax.specs.Tree.{TypeTree, Operation, Statement, Statements, no_statements, statement_and, Expression, Process, Assign, If}
+use Rattle.epl_syntax.specs.Tree.{While, With, Wait, Signal, Yield, Deactivate, Checkpoint, Destroy, Create, Invoke, Return, in_order}
+use Rattle.epl_syntax.specs.Turns.{Left, code, kinds_as, taken, told, onward, run, budget, seen_by, values_in, came_to, as_turn}
+use Rattle.epl_syntax.specs.Turns.{process_turn, left_of, nothing_left, operation_left, process_left}
 use Rattle.epl_syntax.specs.declared.effect.Answer.{Answer}
 use Rattle.epl_syntax.specs.declared.effect.Answer.TheVariants as answer
 use Rattle.epl_syntax.specs.declared.effect.Effect.TheVariants as effect
@@ -17,22 +29,13 @@ use Rattle.epl_syntax.specs.declared.effect.FaultCause.{FaultCause}
 use Rattle.epl_syntax.specs.declared.effect.FaultCause.TheVariants.{BadKind, NoReturn}
 use Rattle.epl_syntax.specs.declared.tree.Target.{Target}
 use Rattle.epl_syntax.specs.declared.tree.Target.TheVariants as target
-use Rattle.epl_syntax.specs.Kinds.{have_shapes}
-use Rattle.epl_syntax.specs.Tree.{TypeTree, Operation, Statement, Statements, no_statements, statement_and, Expression, Process, Assign, If, While, With, Wait, Signal, Yield, Deactivate, Checkpoint, Destroy}
-use Rattle.epl_syntax.specs.Tree.{Create, Invoke, Return, in_order}
-use Rattle.epl_syntax.specs.Memory.{Held, Memory, value_as, set, set_each, arguments, locals}
-use Rattle.epl_syntax.specs.Expressions.{value_of, values_of}
-use Rattle.epl_syntax.specs.Statements.{Step, does, leaves, steps, Awaited, a_code, a_creation, a_reply, Came, goes_on, ends, ends_in}
-use Rattle.epl_syntax.specs.Statements.{faults, with_found, tested, present, target_of, came_of}
-use Rattle.epl_syntax.specs.Turns.{Left, code, kinds_as, taken, told, onward, run, budget, seen_by, values_in, came_to, as_turn}
-use Rattle.epl_syntax.specs.Turns.{process_turn, left_of, nothing_left, operation_left, process_left}
-use Rattle.epl_syntax.specs.Edentype.{declared}
-use Rattle.epl_syntax.specs.Meaning.{of_declared, turned_as}
-use Rattle.epl_syntax.specs.Constants.{ConstantFits, ExpressionFits, ExpressionsFit, LocalsFit, StatementFits, StatementsFit, TreeFits}
 use Rattle.value_laws.specs.Limited.{IsLimited, AreLimited, StepFits, AnswerFits, EffectFits, IsLeftLimited}
-use Rattle.value_laws.proofs.Values.{either, found_through, small_fits}
 use Rattle.value_laws.proofs.Evaluated.{VarsLimited, MemoryLimited, value_limited, row_limited, value_as_limited, set_limited}
-use Rattle.value_laws.proofs.Evaluated.{set_each_limited, variables_limited, arguments_limited, locals_limited, body_limited, values_limited}
+use Rattle.value_laws.proofs.Evaluated.{set_each_limited, variables_limited, arguments_limited, locals_limited, body_limited}
+use Rattle.value_laws.proofs.Evaluated.{values_limited}
+use Rattle.value_laws.proofs.Values.{either, found_through, small_fits}
+
+-- 1. A step
 
 -- the steps of a body fit
 abbrev pub StepsFit : List Step → Type 0
@@ -145,7 +148,7 @@ run_limited zero t returns m (s ∷ rest) h g = (h, tt, tt)
 run_limited (suc n) t returns m (s ∷ rest) h g = onward_limited (came_of t m s rest) (run n t returns)
     (came_limited t m s rest h g.0 g.1) (λ m rest k x. run_limited n t returns m rest k x)
 
--- ---- the answer
+-- 2. The answer
 abbrev AllMemoryLimited : Result Memory FaultCause → Type 0
 AllMemoryLimited r = IfOk r MemoryLimited
 
@@ -215,7 +218,7 @@ pub operation_limited : (t : TypeTree) (name : List ℕ) (args : List Datum) →
     → StepsFit (operation_left t name args).steps × AreLimited (values_in (operation_left t name args).own)
 operation_limited t name args fit h = go t.operations fit.operations
   where
-    one : (o : Operation) → AllByRecursion (λ v. ConstantFits v.start.value) o.locals × AllByRecursion StatementFits o.body
+    one : (o : Operation) → LocalsFit o.locals × AllByRecursion StatementFits o.body
         → StepsFit (left_of o args).steps × AreLimited (values_in (left_of o args).own)
     one o f = (
       body_fits o.body f.1,
@@ -227,7 +230,8 @@ operation_limited t name args fit h = go t.operations fit.operations
     P o = StepsFit (with_item o (λ o. left_of o args) nothing_left).steps
         × AreLimited (values_in (with_item o (λ o. left_of o args) nothing_left).own)
 
-    go : (os : List Operation) → AllByRecursion (λ (o : Operation). AllByRecursion (λ v. ConstantFits v.start.value) o.locals × AllByRecursion StatementFits o.body) os
+    go : (os : List Operation)
+        → AllByRecursion (λ (o : Operation). LocalsFit o.locals × AllByRecursion StatementFits o.body) os
         → P (find (λ o. same_text o.name.text name) os)
     go [] f = (tt, tt)
     go (o ∷ os) f = either P (same_text o.name.text name) (Some o) (find (λ o. same_text o.name.text name) os) (one o f.0) (go os f.1)

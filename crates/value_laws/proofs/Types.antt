@@ -3,13 +3,13 @@ use Rattle.std.proofs.Common.{◌≡◌, ℕ, Bool, true, false, cond, List, [],
 use Rattle.std.specs.Prelude.{IfSome}
 use Rattle.std.specs.List.{AllByRecursion, find}
 use Rattle.eden_model.specs.Map.{same_text}
-use Rattle.epl_syntax.specs.declared.tree.Program.{Program}
-use Rattle.epl_syntax.specs.declared.types.Native.{Native}
 use Rattle.epl_syntax.specs.Constants.{TreeFits, HaveValues}
 use Rattle.epl_syntax.specs.Edentype.{Edentype, native, declared}
 use Rattle.epl_syntax.specs.Meaning.{name_of, types_in, type_of}
 use Rattle.epl_syntax.specs.Rules.OfTypes.{TypeList}
 use Rattle.epl_syntax.specs.Tree.{type_tree}
+use Rattle.epl_syntax.specs.declared.tree.Program.{Program}
+use Rattle.epl_syntax.specs.declared.types.Native.{Native}
 use Rattle.value_laws.specs.Limited.{TypeFits}
 
 -- those of each type that a name stands for

@@ -1,39 +1,37 @@
 -- Every entry of a history leads from a world within the limits to another, and the world before the first entry is within them.
-use Rattle.std.proofs.Common.{◌≡◌, ◌≤◌, ◌<◌, ◌+◌, ℕ, zero, suc, nat_le, Bool, true, false, cond, not, List, [], ◌∷◌, map, length, Option}
-use Rattle.std.proofs.Common.{inl, inr, ◌∙◌, None, Some, Result, Ok, Err, is_some, refl, sym, ap, subst, arith}
+use Rattle.std.proofs.Common.{◌≡◌, ◌≤◌, ◌<◌, ◌+◌, ℕ, Bool, true, false, cond, not, List, [], ◌∷◌, map, length, Option, inl, inr, ◌∙◌, None}
+use Rattle.std.proofs.Common.{Some, Result, Ok, Err, is_some, refl, sym, ap, subst, arith}
 use Rattle.std.specs.Prelude.{IsSomeAnd, IfSome}
 use Rattle.std.specs.Ordering.{nat_cmp, eq_by_cmp}
-use Rattle.std.proofs.lemmas.Bool.Decides.{nat_tests}
 use Rattle.capability.specs.declared.Uid.{Uid}
 use Rattle.eden_disk.specs.Told.{contents}
-use Rattle.eden_value.specs.Datum.{Datum}
 use Rattle.eden_value.specs.declared.status.Status.{Status}
 use Rattle.eden_value.specs.declared.status.Status.TheVariants as status
-use Rattle.eden_model.proofs.Numbers.{same-true}
+use Rattle.passive_store.specs.Kept.{Layout}
+use Rattle.passive_store.specs.Layout.{IsLayout}
 use Rattle.eden_model.specs.Map.{with_item, value_at, uid_cmp}
 use Rattle.eden_model.specs.Traffic.{Call, call_at, answered, shell_name}
+use Rattle.eden_model.proofs.Numbers.{same-true}
 use Rattle.epl_syntax.specs.Edentype.{Edentype}
 use Rattle.epl_syntax.specs.Kinds.{have_shapes}
 use Rattle.epl_syntax.specs.Meaning.{operation_of}
 use Rattle.epl_syntax.specs.Outline.{Operation}
-use Rattle.passive_store.specs.Kept.{Layout}
-use Rattle.passive_store.specs.Layout.{IsLayout}
+use Rattle.journal.specs.Deliveries.{misfit, misfit_of}
+use Rattle.journal.specs.Ejects.{epoch_or_zero}
+use Rattle.journal.specs.Fit.{ArgumentsFit, NumbersFit}
+use Rattle.journal.specs.LegalRun.{AreHandedIn, created_by, numbered, numbered_from, images, opening_world}
+use Rattle.journal.specs.Opening.{found_in, node_of, node_from}
+use Rattle.journal.specs.Processes.{AllowsStart, invocation}
+use Rattle.journal.specs.Sites.{Everywhere, HasEpochs}
+use Rattle.journal.specs.Standing.{DiskRun}
+use Rattle.journal.specs.Step.{AllowsAt, AllowsInTurn, AllowsEvent, Allows, IsActiveAnd, next, happened}
+use Rattle.journal.specs.World.{World, Node, Eject, Active, Site, node_at, eject_at, site_of}
 use Rattle.journal.specs.declared.command.Command.{Command}
 use Rattle.journal.specs.declared.command.Command.TheVariants as command
 use Rattle.journal.specs.declared.command.Script.{Script}
 use Rattle.journal.specs.declared.event.Entry.{Entry}
 use Rattle.journal.specs.declared.event.Event.{Event}
 use Rattle.journal.specs.declared.event.Event.TheVariants as event
-use Rattle.journal.specs.World.{World, Node, Eject, Active, Site, node_at, eject_at, site_of}
-use Rattle.journal.specs.Ejects.{epoch_or_zero}
-use Rattle.journal.specs.Deliveries.{misfit, misfit_of}
-use Rattle.journal.specs.Processes.{AllowsStart, invocation}
-use Rattle.journal.specs.Fit.{ArgumentsFit, NumbersFit}
-use Rattle.journal.specs.LegalRun.{AreHandedIn, created_by, numbered, numbered_from, images, opening_world}
-use Rattle.journal.specs.Opening.{found_in, node_of, node_from}
-use Rattle.journal.specs.Sites.{Everywhere, HasEpochs}
-use Rattle.journal.specs.Standing.{DiskRun}
-use Rattle.journal.specs.Step.{AllowsAt, AllowsInTurn, AllowsEvent, Allows, IsActiveAnd, next, happened}
 use Rattle.journal.proofs.FitValues.{held-are-ejects}
 use Rattle.history_laws.proofs.Down.{Rests, Calm, not-active}
 use Rattle.history_laws.proofs.DownRuns.{AllCalm}
@@ -45,17 +43,17 @@ use Rattle.history_laws.proofs.NoUidTwice.{disk-node, fit-opening, kept-there}
 use Rattle.history_laws.proofs.SiteEvents.{startable-there}
 use Rattle.history_laws.proofs.SiteRuns.{known-opening, rests-opening}
 use Rattle.history_laws.proofs.Tasks.{FitsActive, NodeFits}
-use Rattle.history_laws.proofs.Uids.{IsBehind, Fit, OfNode, CreatedIn}
 use Rattle.history_laws.proofs.UidRuns.{IsGiven, given-command, there-next}
+use Rattle.history_laws.proofs.Uids.{IsBehind, Fit, OfNode, CreatedIn}
 use Rattle.value_laws.specs.Limited.{AreLimited, IsLimitedUid}
 use Rattle.value_laws.specs.Worlds.{ActiveLimited, BytesLimited, EjectLimited, WorldLimited}
-use Rattle.value_laws.proofs.Kept.{bytes_give_limited}
-use Rattle.value_laws.proofs.Types.{TypesFit}
 use Rattle.value_laws.proofs.ActiveParts.{ActiveHolds}
-use Rattle.value_laws.proofs.Nodes.{EntryHolds, EjectHolds, AllHold, NodeHolds, IsFed, stored-small, gives-limited, kept-limits}
 use Rattle.value_laws.proofs.Calls.{Answered, Asked, CallsLimited, calls-next}
+use Rattle.value_laws.proofs.Kept.{bytes_give_limited}
 use Rattle.value_laws.proofs.Names.{NamesLimited, IsFedBy, names-are-values, names-next}
+use Rattle.value_laws.proofs.Nodes.{EntryHolds, EjectHolds, NodeHolds, IsFed, stored-small, gives-limited, kept-limits}
 use Rattle.value_laws.proofs.ShellCalls.{shell-asks}
+use Rattle.value_laws.proofs.Types.{TypesFit}
 use Rattle.value_laws.proofs.WorldCalls.{ShellAsks}
 
 -- 1. Worlds
@@ -123,7 +121,8 @@ may-begin : (types : List Edentype) (s : Site) (k p : ℕ) (v : Uid) → NodeFit
 may-begin types s k p v fits allowed calls = λ c e it is is_e is_it.
     let on_e = subst (λ o. IsSomeAnd o (λ e. IsSomeAnd e.active (λ it. AllowsStart s.traffic k p e it))) is_e allowed in
     let starts : AllowsStart s.traffic k p e it = subst (λ o. IsSomeAnd o (λ it. AllowsStart s.traffic k p e it)) is_it on_e in
-    let active : FitsActive types s.traffic e.queued it = subst (λ o. IfSome o (FitsActive types s.traffic e.queued)) is_it (fits v e is_e) in
+    let active : FitsActive types s.traffic e.queued it =
+    subst (λ o. IfSome o (FitsActive types s.traffic e.queued)) is_it (fits v e is_e) in
     let queued : 1 ≤ times k e.queued = (startable-there it s.traffic e.queued (invocation it.kind s.traffic k) starts.earliest).0 in
     let fit : misfit it.kind c ≡ None = subst (λ o. IsSomeAnd o (λ c. misfit it.kind c ≡ None)) is (active.waiting k queued) in
     let x = fitting it.kind c fit in
@@ -173,8 +172,8 @@ feeds w (event.Process v p said) known calls n it at allowed holds = (
 feeds w _ known calls n it at allowed holds = tt
 
 -- what is created is there behind the entry
-made-limited : (w : World) (c : Option Command) (e : Entry) → Allows w c e → Everywhere NodeHolds (next w c e) → (name : List ℕ) (why : Status)
-    (u : Uid) → e.event ≡ event.Made name why (Some u) → IsLimitedUid u
+made-limited : (w : World) (c : Option Command) (e : Entry) → Allows w c e → Everywhere NodeHolds (next w c e)
+    → (name : List ℕ) (why : Status) (u : Uid) → e.event ≡ event.Made name why (Some u) → IsLimitedUid u
 made-limited w c e allowed nodes name why u is = uid-limited (next w c e) nodes u (go c allowed.event).1
   where
     go : (c : Option Command) → AllowsEvent w c e.event → IsGiven w (next w c e) (Some u)

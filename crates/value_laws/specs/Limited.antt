@@ -3,34 +3,34 @@
 use Rattle.std.specs.Prelude.{◌≡◌, ◌≢◌, ℕ, ◌+◌, Bool, true, false, List, Some, length, int_le, FitsSigned}
 use Rattle.std.specs.Int.{w64}
 use Rattle.std.specs.List.{AllByRecursion}
-use Rattle.capability.specs.declared.Uid.{Uid}
 use Rattle.capability.specs.Capability.{full}
+use Rattle.capability.specs.declared.Uid.{Uid}
 use Rattle.eden_value.specs.Datum.{Datum, cap, list, data_of}
 use Rattle.eden_value.specs.Limits.{IsText, IsValue}
 use Rattle.eden_value.specs.Range.{InRange}
 use Rattle.eden_value.specs.declared.value.TheConstants.{DEPTH_LIMIT, LIST_LIMIT}
 use Rattle.eden_codec.specs.declared.rep.Rep.{Rep}
+use Rattle.epl_syntax.specs.Cell as cell
+use Rattle.epl_syntax.specs.Constants.{StatementFits, TreeFits}
+use Rattle.epl_syntax.specs.Directory as directory
+use Rattle.epl_syntax.specs.Edentype.{Edentype, native, declared as declared_type}
+use Rattle.epl_syntax.specs.Filters as filters
+use Rattle.epl_syntax.specs.Kinds.{have_shapes}
+use Rattle.epl_syntax.specs.Lines as lines
+use Rattle.epl_syntax.specs.Meaning.{Rest, of_native, of_declared, Turned, turn, begin, declared, first_values, values_from, durable_of}
+use Rattle.epl_syntax.specs.Meaning.{durable_from, operation_of}
+use Rattle.epl_syntax.specs.Natives.{Stage, in_cell, in_directory, in_lines, in_filter, in_sink, rule_of}
+use Rattle.epl_syntax.specs.Operators.{greatest}
+use Rattle.epl_syntax.specs.Outline.{Operation}
+use Rattle.epl_syntax.specs.Sink as sink
+use Rattle.epl_syntax.specs.Statements.{Step, does, leaves}
+use Rattle.epl_syntax.specs.Turns.{values_in}
 use Rattle.epl_syntax.specs.declared.effect.Answer.{Answer}
 use Rattle.epl_syntax.specs.declared.effect.Answer.TheVariants as answer
 use Rattle.epl_syntax.specs.declared.effect.Effect.{Effect}
 use Rattle.epl_syntax.specs.declared.effect.Effect.TheVariants as effect
 use Rattle.epl_syntax.specs.declared.types.Native.{Native}
 use Rattle.epl_syntax.specs.declared.types.Native.TheVariants as native_type
-use Rattle.epl_syntax.specs.Cell as cell
-use Rattle.epl_syntax.specs.Directory as directory
-use Rattle.epl_syntax.specs.Lines as lines
-use Rattle.epl_syntax.specs.Filters as filters
-use Rattle.epl_syntax.specs.Sink as sink
-use Rattle.epl_syntax.specs.Constants.{StatementFits, TreeFits}
-use Rattle.epl_syntax.specs.Edentype.{Edentype, native, declared as declared_type}
-use Rattle.epl_syntax.specs.Kinds.{have_shapes}
-use Rattle.epl_syntax.specs.Meaning.{Rest, of_native, of_declared, Turned, turn, begin, declared, first_values, values_from, durable_of}
-use Rattle.epl_syntax.specs.Meaning.{durable_from, operation_of}
-use Rattle.epl_syntax.specs.Natives.{Stage, in_cell, in_directory, in_lines, in_filter, in_sink, rule_of}
-use Rattle.epl_syntax.specs.Operators.{greatest}
-use Rattle.epl_syntax.specs.Outline.{Operation}
-use Rattle.epl_syntax.specs.Statements.{Step, does, leaves}
-use Rattle.epl_syntax.specs.Turns.{values_in}
 
 -- 1. Values
 

@@ -4,20 +4,20 @@ use Rattle.std.specs.List.{AllByRecursion}
 use Rattle.capability.specs.declared.Uid.{Uid}
 use Rattle.eden_value.specs.Datum.{Datum, cap}
 use Rattle.eden_value.specs.declared.status.Status.{Status}
-use Rattle.eden_codec.specs.declared.rep.Rep.{Rep}
 use Rattle.eden_codec.specs.Reading.{reading}
-use Rattle.eden_model.specs.Traffic.{Call, call_at, answered}
-use Rattle.epl_syntax.specs.Edentype.{Edentype}
+use Rattle.eden_codec.specs.declared.rep.Rep.{Rep}
 use Rattle.passive_store.specs.Kept.{Layout}
 use Rattle.passive_store.specs.Layout.{IsLayout}
-use Rattle.journal.specs.declared.command.Script.{Script}
-use Rattle.journal.specs.declared.event.Entry.{Entry}
-use Rattle.journal.specs.World.{World, Task, Active, Eject, eject_at}
+use Rattle.eden_model.specs.Traffic.{Call, call_at, answered}
+use Rattle.epl_syntax.specs.Edentype.{Edentype}
 use Rattle.journal.specs.Fit.{IsFit, NamesAreValues}
+use Rattle.journal.specs.Laws.{Begins}
+use Rattle.journal.specs.LegalRun.{AreHandedIn, run_over}
 use Rattle.journal.specs.Run.{EachStep}
 use Rattle.journal.specs.Standing.{DiskRun}
-use Rattle.journal.specs.LegalRun.{AreHandedIn, run_over}
-use Rattle.journal.specs.Laws.{Begins}
+use Rattle.journal.specs.World.{World, Task, Active, Eject, eject_at}
+use Rattle.journal.specs.declared.command.Script.{Script}
+use Rattle.journal.specs.declared.event.Entry.{Entry}
 use Rattle.value_laws.specs.Limited.{IsLimited, AreLimited, IsLimitedUid, TypeFits, RestFits, HasRoom, VarsFit, AnswerFits}
 
 -- 1. Ejects
