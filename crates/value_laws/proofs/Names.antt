@@ -35,6 +35,7 @@ use Rattle.value_laws.proofs.Calls.{CallsLimited}
 use Rattle.value_laws.proofs.Values.{item_limited}
 
 -- 1. What a name stands for
+
 abbrev pub MeaningLimited : Meaning → Type 0
 MeaningLimited (capability c) = IsLimited (cap (Some c))
 MeaningLimited (results ds) = AreLimited ds

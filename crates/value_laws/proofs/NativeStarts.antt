@@ -1,5 +1,5 @@
 -- An operation of a native type begins with values within the limits, and so does an Eject of one, new or from what was kept of it.
-use Rattle.std.proofs.Common.{◌≡◌, ℕ, suc, ◌+◌, ◌-◌, ◌==◌, pos, Bool, true, false, cond, ◌&&◌, List, [], ◌∷◌, length, None, Some, codes}
+use Rattle.std.proofs.Common.{◌≡◌, ℕ, suc, ◌+◌, ◌==◌, pos, Bool, true, false, cond, ◌&&◌, List, [], ◌∷◌, length, None, Some, codes}
 use Rattle.std.proofs.Common.{refl, ap, sym, ◌∙◌, subst, arith}
 use Rattle.std.specs.Prelude.{int_le, map}
 use Rattle.std.specs.Cmp.{eq_by_cmp_equiv}

@@ -75,7 +75,7 @@ pub new-args : (a : Asker) (target : Cap) (operation : List ℕ) (args : List Da
 new-args a target operation args None = refl
 new-args a target operation args (Some s) = refl
 
--- and so are its arguments
+-- its arguments are those with which it was asked
 just-asked : (name : List ℕ) (target : Cap) (operation : List ℕ) (args : List Datum) (k : ℕ) (at_once : Option Status) (w : World)
     (c : Call) → call_at (asked name target operation args k at_once w).traffic k ≡ Some c → AreLimited args → AreLimited c.args
 just-asked name target operation args k at_once w c is h =
