@@ -29,7 +29,7 @@ use Rattle.eden_script.proofs.Verdicts.{both, idle_false, begins_with, first_is_
 use Rattle.eden_script.proofs.Unique.{no_idle, one_line}
 use Rattle.eden_script.proofs.FitCommands.{same_brings, same_uses, same_types, command_fits, writes_none}
 use Rattle.eden_script.proofs.KeptRules.{Named}
-use Rattle.eden_script.proofs.FitTypes.{Inside, types_fit}
+use Rattle.eden_script.proofs.FitTypes.{Inside, Valued, types_fit}
 use Rattle.eden_script.proofs.FitNames.{SameNames, same_names_more, all_known, all_new}
 
 -- ## What a part says, where it passes its tests
@@ -339,21 +339,22 @@ has_begun : (end : Seen) → Started end → end.ended ≡ true → Within 1 8 e
 has_begun end (inl x) ended = absurd (both (sym ended ∙ x.1))
 has_begun end (inr x) ended = x
 
-pub script_fits : Named → Inside → (bytes : List ℕ) (script : Script) → IsScript bytes script → IsFit script
-script_fits named inside bytes script s =
+pub script_fits : Named → Inside → Valued → (bytes : List ℕ) (script : Script) → IsScript bytes script → IsFit script
+script_fits named inside valued bytes script s =
     let parts = parts_of (lines_of bytes) in
     let counted =
     counted_to parts s.end at_first (map written_command script.commands) s.says (record { started = inl (refl, refl); few = omega arith })
     in
     let fit = commands_fit parts s.end s.ended at_first script.commands [] (parts_end (lines_of bytes)) s.says (λ x. refl) in
     let types : type_names s.end.types ≡ names_of script.types = ap type_names s.types ∙ sym (same_names script.types) in
-    let kept = types_fit named inside bytes script s in
+    let kept = types_fit named inside valued bytes script s in
     record {
       nodes = subst (Within 1 8) s.nodes (has_begun s.end counted.started s.ended);
       few_types = omega (arith, counted.few, ap (λ (t : Types). length t.declared) s.types, length-map script.types.declared type_tree);
       names_differ = kept.1;
       keep_rules = kept.0;
       have_monitors = kept.2;
+      have_values = kept.3;
       commands = subst (λ (n : ℕ). All (IsFitCommand (names_of script.types) n) script.commands) s.nodes
           (subst (λ (l : List (List ℕ)). All (IsFitCommand l s.end.nodes) script.commands) types fit.commands);
       names = fit.names;

@@ -1,4 +1,4 @@
--- The types of a script keep the rules, each behind those before it, and no two of them have one name.
+-- The types of a script keep the rules, each behind those before it, no two of them have one name, and their constants are values.
 use Rattle.std.proofs.Common.{◌≡◌, ◌∙◌, ap, sym, refl, subst, ℕ, Bool, true, false, cond, List, [], ◌∷◌, ◌++◌, map, append_assoc}
 use Rattle.std.specs.List.{AllByRecursion, IsDistinct, list_any}
 use Rattle.eden_model.specs.Map.{same_text}
@@ -6,6 +6,7 @@ use Rattle.epl_syntax.specs.Natives.{native_name, native_types}
 use Rattle.epl_syntax.specs.declared.rule.Broken.{Broken}
 use Rattle.epl_syntax.specs.declared.tree.Program.{Program}
 use Rattle.epl_syntax.specs.Tree.{TypeTree, type_tree}
+use Rattle.epl_syntax.specs.Constants.{TreeFits, HaveValues}
 use Rattle.epl_syntax.specs.Rules.InItems.{broken_program}
 use Rattle.epl_syntax.specs.Rules.OfTypes.{broken_types, NamesDiffer, KeepRules, HasMonitors, HaveMonitors}
 use Rattle.epl_syntax.proofs.KeptTypes.{all_push, distinct_push, native_kept}
@@ -99,10 +100,11 @@ pub record TypesFit (ts : Types) : Type 0 where
   pub keep_rules : broken_trees (map native_name ts.native) ts.declared ≡ []
   pub names_differ : IsDistinct same_text (type_names ts)
   pub in_monitors : AllByRecursion AreInMonitors ts.declared
+  pub have_values : AllByRecursion TreeFits ts.declared
 
 fit_more : (ts : Types) (t : TypeTree) → TypesFit ts → broken_program (type_names ts) t ≡ []
-    → list_any (λ n. same_text n t.name.text) (type_names ts) ≡ false → AreInMonitors t → TypesFit (with_declared ts t)
-fit_more ts t fit rules new inside =
+    → list_any (λ n. same_text n t.name.text) (type_names ts) ≡ false → AreInMonitors t → TreeFits t → TypesFit (with_declared ts t)
+fit_more ts t fit rules new inside values =
     let names = map native_name ts.native in
     let texts = map (λ (u : TypeTree). u.name.text) ts.declared in
     let more : type_names ts ++ t.name.text ∷ [] ≡ type_names (with_declared ts t) =
@@ -111,6 +113,7 @@ fit_more ts t fit rules new inside =
       keep_rules = one_more names ts.declared t fit.keep_rules rules;
       names_differ = subst (IsDistinct same_text) more (distinct_push same_text (type_names ts) t.name.text fit.names_differ new);
       in_monitors = all_push AreInMonitors ts.declared t fit.in_monitors inside;
+      have_values = all_push TreeFits ts.declared t fit.have_values values;
     }
 
 -- ## Every part
@@ -119,37 +122,42 @@ fit_more ts t fit rules new inside =
 abbrev pub Inside : Type 0
 Inside = (text : List ℕ) (e : TypeTree) → SpellsType text e → AreInMonitors e
 
-said_fits : Named → Inside → (seen : Seen) (p : Part) (ps : List Part) (l : Line) → AllBegin (p ∷ ps) → IsSaid seen p l
+-- the constants of a type that a text spells are values
+abbrev pub Valued : Type 0
+Valued = (text : List ℕ) (e : TypeTree) → SpellsType text e → TreeFits e
+
+said_fits : Named → Inside → Valued → (seen : Seen) (p : Part) (ps : List Part) (l : Line) → AllBegin (p ∷ ps) → IsSaid seen p l
     → TypesFit seen.types
     → TypesFit (after seen l).types
-said_fits named inside seen (line bytes) ps idle begin h fit = fit
-said_fits named inside seen (line bytes) ps (nodes n) begin h fit = fit
-said_fits named inside seen (line bytes) ps (does o) begin h fit = fit
-said_fits named inside seen (line bytes) ps (declares t) begin h fit = absurd h.tells.0
-said_fits named inside seen (line bytes) ps unended begin h fit = fit
-said_fits named inside seen (declaration text) ps l begin h fit =
+said_fits named inside valued seen (line bytes) ps idle begin h fit = fit
+said_fits named inside valued seen (line bytes) ps (nodes n) begin h fit = fit
+said_fits named inside valued seen (line bytes) ps (does o) begin h fit = fit
+said_fits named inside valued seen (line bytes) ps (declares t) begin h fit = absurd h.tells.0
+said_fits named inside valued seen (line bytes) ps unended begin h fit = fit
+said_fits named inside valued seen (declaration text) ps l begin h fit =
     let t = h.tells.0 in
     let found = tree_name text t.name begin.0 (named text t h.tells.2.spelled) in
     let new_ = h.passes (line_of_place text found.0) DoubledName found.0 t.name.text found.1 refl in
     subst (λ (k : Line). TypesFit (after seen k).types) (sym h.tells.1)
     (fit_more seen.types t fit h.tells.2.keeps_rules (among (type_names seen.types) t.name.text ∙ new_)
-    (inside text t h.tells.2.spelled))
-said_fits named inside seen (unclosed lines) ps l begin h fit = subst (λ (k : Line). TypesFit (after seen k).types) (sym h.tells) fit
+    (inside text t h.tells.2.spelled) (valued text t h.tells.2.spelled))
+said_fits named inside valued seen (unclosed lines) ps l begin h fit =
+    subst (λ (k : Line). TypesFit (after seen k).types) (sym h.tells) fit
 
 begin_behind : (p : Part) (ps : List Part) → AllBegin (p ∷ ps) → AllBegin ps
 begin_behind (line bytes) ps h = h
 begin_behind (declaration text) ps h = h.1
 begin_behind (unclosed lines) ps h = h
 
-says_fit : Named → Inside → (ps : List Part) (seen end : Seen) (orders : List WrittenCommand) → AllBegin ps → Says seen ps orders end
+says_fit : Named → Inside → Valued → (ps : List Part) (seen end : Seen) (orders : List WrittenCommand) → AllBegin ps → Says seen ps orders end
     → TypesFit seen.types → TypesFit end.types
-says_fit named inside [] seen end orders begin says fit = subst (λ (s : Seen). TypesFit s.types) (sym says.1) fit
-says_fit named inside (p ∷ ps) seen end orders begin says fit =
-    says_fit named inside ps (after seen says.0) end says.1 (begin_behind p ps begin) says.4
-    (said_fits named inside seen p ps says.0 begin says.2 fit)
+says_fit named inside valued [] seen end orders begin says fit = subst (λ (s : Seen). TypesFit s.types) (sym says.1) fit
+says_fit named inside valued (p ∷ ps) seen end orders begin says fit =
+    says_fit named inside valued ps (after seen says.0) end says.1 (begin_behind p ps begin) says.4
+    (said_fits named inside valued seen p ps says.0 begin says.2 fit)
 
 native_fit : TypesFit native_alone
-native_fit = record { keep_rules = refl; names_differ = (native_kept native_types [] refl refl).2; in_monitors = tt }
+native_fit = record { keep_rules = refl; names_differ = (native_kept native_types [] refl refl).2; in_monitors = tt; have_values = tt }
 
 -- ## The script
 
@@ -157,12 +165,18 @@ trees_inside : (ps : List Program) → AllByRecursion AreInMonitors (map type_tr
 trees_inside [] h = tt
 trees_inside (p ∷ ps) h = (h.0, trees_inside ps h.1)
 
-pub types_fit : Named → Inside → (bytes : List ℕ) (script : Script) → IsScript bytes script
-    → KeepRules script.types × NamesDiffer script.types × HaveMonitors script.types
-types_fit named inside bytes script s =
-    let fit = subst TypesFit s.types (says_fit named inside (parts_of (lines_of bytes)) at_first s.end (map written_command script.commands)
+trees_valued : (ps : List Program) → AllByRecursion TreeFits (map type_tree ps) → AllByRecursion (λ p. TreeFits (type_tree p)) ps
+trees_valued [] h = tt
+trees_valued (p ∷ ps) h = (h.0, trees_valued ps h.1)
+
+pub types_fit : Named → Inside → Valued → (bytes : List ℕ) (script : Script) → IsScript bytes script
+    → KeepRules script.types × NamesDiffer script.types × HaveMonitors script.types × HaveValues script.types
+types_fit named inside valued bytes script s =
+    let fit =
+    subst TypesFit s.types (says_fit named inside valued (parts_of (lines_of bytes)) at_first s.end (map written_command script.commands)
     (parts_begin (lines_of bytes)) s.says native_fit) in (
       same_broken (map native_name script.types.native) script.types.declared ∙ fit.keep_rules,
       subst (IsDistinct same_text) (sym (same_names script.types)) fit.names_differ,
       trees_inside script.types.declared fit.in_monitors,
+      trees_valued script.types.declared fit.have_values,
     )

@@ -93,7 +93,7 @@ fn value_known(names: &Names, arg: &Arg) -> bool
 {
     match arg {
         Arg::Plain { .. } => true,
-        Arg::Named { by } => names.has(&by.name.bytes),
+        Arg::Named { by } => names.has(by.name.as_slice()),
         Arg::List { items } => values_known(names, &items.args),
     }
 }
@@ -115,10 +115,10 @@ fn uses_known(names: &Names, command: &Command) -> bool
     ensures { result ≡ list_all (form.is_among names.now) (causes.uses (does (written_command command.now))) }
 {
     match command {
-        Command::Call { target, args, .. } => names.has(&target.name.bytes)
+        Command::Call { target, args, .. } => names.has(target.name.as_slice())
             && values_known(names, &args.args),
-        Command::Restrict { target, .. } => names.has(&target.name.bytes),
-        Command::Walk { target, .. } => names.has(&target.name.bytes),
+        Command::Restrict { target, .. } => names.has(target.name.as_slice()),
+        Command::Walk { target, .. } => names.has(target.name.as_slice()),
         _ => true,
     }
 }
@@ -137,11 +137,11 @@ fn brings(command: &Command) -> Option<&[u8]>
     ensures { script.names_of_option result ≡ causes.brings (does (written_command command.now)) }
 {
     match command {
-        Command::Create { name, .. } => Some(&name.bytes),
-        Command::Hold { name, .. } => Some(&name.bytes),
-        Command::Call { name, .. } => Some(&name.bytes),
-        Command::Restrict { name, .. } => Some(&name.bytes),
-        Command::Walk { name, .. } => Some(&name.bytes),
+        Command::Create { name, .. } => Some(name.as_slice()),
+        Command::Hold { name, .. } => Some(name.as_slice()),
+        Command::Call { name, .. } => Some(name.as_slice()),
+        Command::Restrict { name, .. } => Some(name.as_slice()),
+        Command::Walk { name, .. } => Some(name.as_slice()),
         _ => None,
     }
 }

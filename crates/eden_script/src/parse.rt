@@ -14,7 +14,10 @@ use crate::flaw::Flaw;
 use crate::line::{Line, Seen, note};
 use crate::names::Names;
 use crate::part::first_part;
-use epl_parser::{conditions_are_in_monitors, refusals_are_one, types_are_named, types_are_one};
+use epl_parser::{
+    conditions_are_in_monitors, constants_are_values, refusals_are_one, types_are_named,
+    types_are_one,
+};
 use epl_syntax::Types;
 use journal::{Command, Commands, Script};
 use std::alloc::{AllocError, Global};
@@ -65,6 +68,7 @@ pub fn parse_script(alloc: Global, bytes: &[u8]) -> Result<Script, ScriptRefusal
 {
     types_are_named();
     conditions_are_in_monitors();
+    constants_are_values();
     let mut seen = Seen {
         types: Types::native(alloc)?,
         room: DECLARED_LIMIT,

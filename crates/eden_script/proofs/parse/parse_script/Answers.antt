@@ -43,7 +43,8 @@ returns-clause-script c =
 pub returns-clause-bare : goal.returns-clause-bare
 returns-clause-bare c =
     fit_writes_none _
-    (script_fits c.types_are_named.ensures.named c.conditions_are_in_monitors.ensures.inside c.args.bytes.now _
+    (script_fits c.types_are_named.ensures.named c.conditions_are_in_monitors.ensures.inside c.constants_are_values.ensures.values
+    c.args.bytes.now _
     (run_end c.args.bytes.now c.loop-rest.rest.now (map written_command c.loop-rest.commands.items)
     (seen_of c.loop-rest.seen) c.loop-rest.lines _ c.loop-rest.invariant.run (no_bytes c.loop-rest.rest.now (search rules))
     (search rules) refl refl refl))
