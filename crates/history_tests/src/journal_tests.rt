@@ -27,11 +27,12 @@ enum Told {
     Still,
     Cut,
     Armed,
-    Made,
+    Made(Status),
     Void,
     Asked(u32, &'static [u8], Option<Status>),
     Request(Option<Status>),
     Reply,
+    Refused(Status),
     Activate(StartEnd, Option<Pick>),
     Start,
     Turn(Shown),
@@ -74,6 +75,20 @@ fn reply(rt: &impl Abort, alloc: Global) -> Event {
     }
 }
 
+/// A reply of no results.
+fn refused(rt: &impl Abort, alloc: Global, status: Status) -> Event {
+    Event::Reply {
+        call: 2,
+        from: 1,
+        to: 0,
+        name: Some(txt(rt, alloc, b"b")),
+        status,
+        results: Items {
+            values: Vec::new(alloc),
+        },
+    }
+}
+
 fn turn_of(told: Told) -> Event {
     match told {
         Told::Activate(end, pick) => Event::Activate {
@@ -103,9 +118,9 @@ fn turn_of(told: Told) -> Event {
 
 fn with_name(rt: &impl Abort, alloc: Global, told: Told) -> Event {
     match told {
-        Told::Made => Event::Made {
+        Told::Made(status) => Event::Made {
             name: txt(rt, alloc, b"x"),
-            status: Status::TooMany,
+            status,
             uid: None,
         },
         Told::Void => Event::Void {
@@ -120,6 +135,7 @@ fn with_name(rt: &impl Abort, alloc: Global, told: Told) -> Event {
             names: names(rt, alloc, b"f"),
         },
         Told::Reply => reply(rt, alloc),
+        Told::Refused(status) => refused(rt, alloc, status),
         _ => turn_of(told),
     }
 }
@@ -257,6 +273,12 @@ const LINES: &[(Modes, Told, Touched, &[u8])] = &[
     ),
     (
         TURN,
+        Told::Request(Some(Status::Busy)),
+        None,
+        b"+ request 1 0 1 refused 10\n",
+    ),
+    (
+        TURN,
         Told::Activate(StartEnd::Damaged, None),
         None,
         b"+ activate 1.2.3 damaged\n",
@@ -296,8 +318,37 @@ const LINES: &[(Modes, Told, Touched, &[u8])] = &[
     ),
     // A reply prints its results.
     (PLAIN, Told::Reply, None, b"b ok (-5, \"a\\\"b\")\n"),
+    (
+        PLAIN,
+        Told::Refused(Status::Busy),
+        None,
+        b"b refused 10 busy\n",
+    ),
+    (
+        PLAIN,
+        Told::Refused(Status::TooLarge),
+        None,
+        b"b refused 11 too large\n",
+    ),
+    (
+        TRACE,
+        Told::Refused(Status::Full),
+        None,
+        b"+ reply 2 1 0\nb refused 12 full\n",
+    ),
     // Commands show their names.
-    (PLAIN, Told::Made, None, b"x refused 13 too many\n"),
+    (
+        PLAIN,
+        Told::Made(Status::TooMany),
+        None,
+        b"x refused 13 too many\n",
+    ),
+    (
+        PLAIN,
+        Told::Made(Status::SerialsSpent),
+        None,
+        b"x refused 14 serials spent\n",
+    ),
     (PLAIN, Told::Void, None, b"x void\n"),
     (PLAIN, Told::Left, None, b"open f\n"),
     // Lines of a trace come first, and disks last.
