@@ -1,5 +1,5 @@
 -- The laws, of chains whose stages a history creates.
-use Rattle.std.proofs.Common.{◌≡◌, List, [], ◌∷◌, Some, ap}
+use Rattle.std.proofs.Common.{◌≡◌, ◌≤◌, List, [], ◌∷◌, length, Some}
 use Rattle.capability.specs.declared.Uid.{Uid}
 use Rattle.eden_value.specs.Datum.{Datum}
 use Rattle.eden_model.specs.Traffic.{Traffic}
@@ -8,7 +8,6 @@ use Rattle.epl_syntax.specs.declared.types.Native.TheVariants as native
 use Rattle.epl_syntax.specs.Edentype.{native as of_native}
 use Rattle.epl_syntax.specs.Meaning.{type_of, name_of}
 use Rattle.epl_syntax.specs.Pipelines.{sifted, argument_of}
-use Rattle.epl_syntax.specs.Rules.OfTypes.{KeepRules, HaveMonitors}
 use Rattle.passive_store.specs.Kept.{Layout}
 use Rattle.passive_store.specs.Layout.{IsLayout}
 use Rattle.journal.specs.declared.command.Script.{Script}
@@ -16,13 +15,15 @@ use Rattle.journal.specs.declared.event.Entry.{Entry}
 use Rattle.journal.specs.Standing.{DiskRun}
 use Rattle.journal.specs.LegalRun.{created_by, AreHandedIn, opening_world, run_over}
 use Rattle.journal.specs.Laws.{Begins}
+use Rattle.journal.specs.Fit.{IsFit}
 use Rattle.journal.specs.Run.{Step, EachStep}
 use Rattle.stream_laws.specs.Chains.{Stage, Chain, type_of_sieve, EachFilter, type_at, IsCreatedIn, FiltersAreCreated, AreCreated}
-use Rattle.stream_laws.specs.Chains.{OpensOnly, AreJoined, KeepsValues, FiltersKeepValues, KeepValues}
+use Rattle.stream_laws.specs.Chains.{OpensOnly, AreJoined}
 use Rattle.stream_laws.specs.Streams.{OfEachPipeline, PipelinesFlow, ListsStay, SinksHoldAll}
-use Rattle.stream_laws.proofs.Pipelines.{IsStepOf, AreStepsOf, IsStage, IsPipeline, AreNewIn, IsNewIn}
+use Rattle.stream_laws.proofs.Pipelines.{KeepsValues, IsStepOf, AreStepsOf, IsStage, IsPipeline, AreNewIn, IsNewIn}
 use Rattle.stream_laws.proofs.Created.{created-are-new}
 use Rattle.stream_laws.proofs.Known.{types-known}
+use Rattle.stream_laws.proofs.Limits.{stages-keep-values}
 use Rattle.stream_laws.proofs.Flows.{OfNewPipelines}
 use Rattle.stream_laws.proofs.Flows as flows
 
@@ -72,24 +73,25 @@ pipeline c past t steps opens = record {
 
 -- 3. The laws
 module _ (layout : Layout) (script : Script) (disks : List DiskRun) (history : List Entry) (lays : IsLayout layout)
-    (fits : AreHandedIn layout disks) (rules : KeepRules script.types) (monitors : HaveMonitors script.types)
+    (fits : AreHandedIn layout disks) (few : length disks ≤ 8) (fit : IsFit script)
     (begins : Begins layout script disks history) where
   abbrev run : List Step
   run = run_over layout script disks history
 
-  of-one : (u : Uid) (n : Native) → IsCreatedIn run u n → EachStep (λ past s. KeepsValues u n s) [] run → OfStage u n [] run
-  of-one u n made values = each-of u n [] run (types-known layout script disks history lays fits rules monitors begins u n made)
-      (created-are-new layout script disks history lays fits begins u n made).1 values tt
+  of-one : (u : Uid) (n : Native) → IsCreatedIn run u n → OfStage u n [] run
+  of-one u n made = each-of u n [] run
+      (types-known layout script disks history lays fits fit.keep_rules fit.have_monitors begins u n made)
+      (created-are-new layout script disks history lays fits begins u n made).1
+      (stages-keep-values layout script disks history lays fits few fit begins u n) tt
 
-  of-filters : (fs : List Stage) → FiltersAreCreated run fs → FiltersKeepValues run fs
-      → EachStep (λ past s. AreFilters (s ∷ past) fs) [] run
-  of-filters [] made values = nothing [] run
+  of-filters : (fs : List Stage) → FiltersAreCreated run fs → EachStep (λ past s. AreFilters (s ∷ past) fs) [] run
+  of-filters [] made = nothing [] run
     where
       nothing : (past run : List Step) → EachStep (λ past s. AreFilters (s ∷ past) []) past run
       nothing past [] = tt
       nothing past (s ∷ run) = (tt, nothing (s ∷ past) run)
-  of-filters (f ∷ fs) made values = both _ _ [] run (of-one f.uid (type_of_sieve f.sieve) made.0 values.0)
-      (of-filters fs made.1 values.1)
+  of-filters (f ∷ fs) made = both _ _ [] run (of-one f.uid (type_of_sieve f.sieve) made.0)
+      (of-filters fs made.1)
 
   new-filters : (fs : List Stage) → FiltersAreCreated run fs → AreNewIn (opening_world layout script disks) fs
   new-filters [] made = tt
@@ -105,10 +107,10 @@ module _ (layout : Layout) (script : Script) (disks : List DiskRun) (history : L
     sink = (created-are-new layout script disks history lays fits begins c.sink native.Sink made.sink).0;
   }
 
-  steps-of : (c : Chain) → AreCreated run c → KeepValues run c → EachStep (λ past s. OfChain c (s ∷ past)) [] run
-  steps-of c made values = go [] run (of-one c.lines native.Lines made.lines values.lines)
-      (of-filters c.filters made.filters values.filters)
-      (of-one c.sink native.Sink made.sink values.sink)
+  steps-of : (c : Chain) → AreCreated run c → EachStep (λ past s. OfChain c (s ∷ past)) [] run
+  steps-of c made = go [] run (of-one c.lines native.Lines made.lines)
+      (of-filters c.filters made.filters)
+      (of-one c.sink native.Sink made.sink)
     where
       go : (past more : List Step) → OfStage c.lines native.Lines past more → EachStep (λ past s. AreFilters (s ∷ past) c.filters) past more
           → OfStage c.sink native.Sink past more → EachStep (λ past s. OfChain c (s ∷ past)) past more
@@ -116,11 +118,11 @@ module _ (layout : Layout) (script : Script) (disks : List DiskRun) (history : L
       go past (s ∷ more) a b d = (record { lines = a.0; filters = b.0; sink = d.0 }, go (s ∷ past) more a.1 b.1 d.1)
 
 pub of-each : (P : Chain → Step → Type 0) → OfNewPipelines P → OfEachPipeline P
-of-each P law layout script disks history lays fits rules monitors begins c made values =
+of-each P law layout script disks history lays fits few fit begins c made =
     go [] (run_over layout script disks history)
-    (law layout script disks history lays fits rules monitors begins c
-    (is-new layout script disks history lays fits rules monitors begins c made))
-    (steps-of layout script disks history lays fits rules monitors begins c made values)
+    (law layout script disks history lays fits fit.keep_rules fit.have_monitors begins c
+    (is-new layout script disks history lays fits few fit begins c made))
+    (steps-of layout script disks history lays fits few fit begins c made)
   where
     go : (past more : List Step) → EachStep (λ past s. IsPipeline (s ∷ past) s.later.traffic c → P c s) past more
         → EachStep (λ past s. OfChain c (s ∷ past)) past more → EachStep (λ past s. AreJoined s.later.traffic c → P c s) past more

@@ -3,9 +3,7 @@ pub mod FilterTurns
 pub mod LinesTurns
 pub mod SinkTurns
 pub mod Roles
-pub mod AnswerCalls
 pub mod Stage
-pub mod WorldCalls
 pub mod StagedNodes
 pub mod StagedCalls
 pub mod Staged
@@ -17,4 +15,6 @@ pub mod Readable
 pub mod Created
 pub mod Pipelines
 pub mod Known
+pub mod Limits
 pub mod Laws
+pub mod WrongPrograms

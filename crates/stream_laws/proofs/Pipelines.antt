@@ -1,17 +1,31 @@
 -- A pipeline in the steps so far: what each of them has to do with its stages.
-use Rattle.std.specs.Prelude.{◌≡◌, List, [], ◌∷◌, None, Some}
+use Rattle.std.specs.Prelude.{◌≡◌, ℕ, List, [], ◌∷◌, None, Some}
 use Rattle.capability.specs.declared.Uid.{Uid}
 use Rattle.eden_value.specs.Datum.{Datum}
+use Rattle.eden_value.specs.Limits.{AreValues}
+use Rattle.eden_value.specs.Range.{AllInRange}
+use Rattle.eden_value.specs.declared.value.TheConstants.{DEPTH_LIMIT}
 use Rattle.eden_model.specs.Traffic.{Traffic}
+use Rattle.epl_syntax.specs.declared.effect.Effect.TheVariants as effect
 use Rattle.epl_syntax.specs.declared.types.Native.{Native}
 use Rattle.epl_syntax.specs.declared.types.Native.TheVariants as native
 use Rattle.epl_syntax.specs.Edentype.{native as of_native}
-use Rattle.epl_syntax.specs.Meaning.{type_of, name_of}
+use Rattle.epl_syntax.specs.Meaning.{Turned, type_of, name_of, durable_of}
 use Rattle.epl_syntax.specs.Pipelines.{argument_of}
-use Rattle.journal.specs.World.{World, eject_at}
+use Rattle.journal.specs.declared.event.Event.TheVariants as event
+use Rattle.journal.specs.declared.event.Shown.{Shown}
+use Rattle.journal.specs.Processes.{turn_of}
+use Rattle.journal.specs.Sites.{active_in}
+use Rattle.journal.specs.World.{World, Active, eject_at}
 use Rattle.journal.specs.LegalRun.{created_by}
 use Rattle.journal.specs.Run.{Step}
-use Rattle.stream_laws.specs.Chains.{Stage, Chain, type_of_sieve, last_of, EachFilter, type_at, OpensOnly, KeepsValues}
+use Rattle.stream_laws.specs.Chains.{Stage, Chain, type_of_sieve, last_of, EachFilter, type_at, OpensOnly}
+
+-- what a turn of this Eject keeps in this step is within the limits of values
+abbrev pub KeepsValues : Uid → Native → Step → Type 0
+KeepsValues u n s = (p : ℕ) (said : Shown) (it : Active) (t : Turned) → s.entry.event ≡ event.Process u p said
+    → active_in (eject_at s.world u) ≡ Some it → turn_of u it p ≡ Some t → t.effect ≡ effect.Checkpoint
+    → AreValues DEPTH_LIMIT (durable_of (of_native n) t.vars) × AllInRange (durable_of (of_native n) t.vars)
 
 -- What a step has to do with a stage u of this type: where it creates the Eject, it creates it of this type; and what a turn of the stage
 -- keeps are values, within the limits of values.

@@ -1,7 +1,7 @@
 -- A stage in the world: each entry keeps what holds of it.
 use Rattle.std.proofs.Common.{◌≡◌, ◌⊎◌, inl, inr, ℕ, Bool, true, false, cond, List, [], ◌∷◌, Option, None, Some, is_some}
 use Rattle.std.proofs.Common.{refl, ap, ap₂, sym, ◌∙◌, subst}
-use Rattle.std.specs.Prelude.{IsSomeAnd, IfSome}
+use Rattle.std.specs.Prelude.{codes, IsSomeAnd, IfSome}
 use Rattle.std.specs.Option.{option_map}
 use Rattle.std.specs.Ordering.{nat_cmp, eq_by_cmp}
 use Rattle.std.proofs.lemmas.Cmp.{tied_itself}
@@ -28,9 +28,10 @@ use Rattle.eden_value.specs.Datum.{Datum}
 use Rattle.eden_value.specs.declared.status.Status.{Status}
 use Rattle.eden_model.specs.Map.{with_item, value_at, uid_cmp}
 use Rattle.eden_model.specs.Crew.{Process as Worker, nothing, outside, Waits}
-use Rattle.eden_model.specs.declared.Asker.TheVariants.{Eject as Process}
+use Rattle.eden_model.specs.declared.Asker.TheVariants.{Shell, Eject as Process}
 use Rattle.eden_model.specs.Traffic.{Call, answered, call_at}
 use Rattle.journal.specs.declared.command.Command.{Command}
+use Rattle.journal.specs.declared.command.Command.TheVariants as command
 use Rattle.journal.specs.declared.event.Event.{Event}
 use Rattle.journal.specs.declared.event.Event.TheVariants as event
 use Rattle.journal.specs.declared.event.Entry.{Entry}
@@ -48,9 +49,9 @@ use Rattle.history_laws.proofs.SiteRuns.{is-known, site-next}
 use Rattle.history_laws.proofs.SeatRuns.{SeatWorld}
 use Rattle.stream_laws.proofs.Roles.{Role, IsLawful}
 use Rattle.stream_laws.proofs.Stage.{IsTask, IsBusy, IsActive, IsBody, IsChange, AreChanges, NoneOf, IsClean, IsEject, IsStage}
-use Rattle.stream_laws.proofs.AnswerCalls.{GoOn, Was, IsNew, IsNews}
-use Rattle.stream_laws.proofs.WorldCalls.{keeps-next, keeps-looked_up}
-use Rattle.journal.specs.Run.{AllowsLookUp, looked_up}
+use Rattle.value_laws.proofs.AnswerCalls.{GoOn, Was, IsNew, IsNews}
+use Rattle.value_laws.proofs.WorldCalls.{ShellAsks, keeps-next, keeps-looked_up}
+use Rattle.journal.specs.Run.{AllowsLookUp, lookup_args, looked_up}
 use Rattle.eden_model.specs.declared.Asker.{Asker}
 use Rattle.history_laws.proofs.VariableRuns.{leaves-entry}
 use Rattle.stream_laws.proofs.StagedNodes.{kept_now, active_now, own-eject, Around, OnNode, AsksOn, node-next}
@@ -201,8 +202,16 @@ module _ (R : Role) (L : IsLawful R) (u : Uid) (A : ℕ → List Datum) where
     turns-allowed it v p said is at = turn-allowed c it v p said (subst (AllowsEvent w c) is allowed.event) at
 
     calls : GoOn (NewAnswer R L u A w e.event) (NewCall R L u A w e.event) w.traffic later.traffic
-    calls = keeps-next (NewAnswer R L u A w e.event) (NewCall R L u A w e.event) (by-shell R L u A w e.event) w c e
-        (turn-keeps R L u A w e.event H seat.site old.node e.event refl turns-allowed) allowed
+    calls = keeps-next (NewAnswer R L u A w e.event) (NewCall R L u A w e.event) w c e
+        (turn-keeps R L u A w e.event H seat.site old.node e.event refl turns-allowed) (by c) allowed
+      where
+        shell : (x : Command) → ShellAsks (NewAnswer R L u A w e.event) (NewCall R L u A w e.event) w x
+        shell (command.Call name target operation args) = λ k x ready. by-shell R L u A w e.event k name x.0 operation x.1
+        shell _ = tt
+
+        by : (o : Option Command) → IfSome o (ShellAsks (NewAnswer R L u A w e.event) (NewCall R L u A w e.event) w)
+        by None = tt
+        by (Some x) = shell x
 
     said-as : (k : ℕ) (st : Status) (results : List Datum) → R.Said (kept_now w u) (A k) st results
         → R.Said (kept_now later u) (A k) st results
@@ -483,7 +492,11 @@ module _ (R : Role) (L : IsLawful R) (u : Uid) (A : ℕ → List Datum) where
       same-eject = ap (λ ns. with_item (value_at nat_cmp u.node ns) (λ (it : Node). value_at uid_cmp u it.ejects) None) same-nodes
 
       calls : GoOn None_new Shells w.traffic (looked_up w name target path e).traffic
-      calls = keeps-looked_up None_new Shells (λ k name t o g q is. cc is) w name target path e a
+      calls = keeps-looked_up None_new Shells w name target path e (by target) a
+        where
+          by : (o : Option Cap) → IfSome o (λ c. (k : ℕ) → Shells k (Shell name) c (codes "LookUp") (lookup_args path))
+          by None = tt
+          by (Some c) = λ k q is. cc is
 
       nodes : Everywhere (OnNode R L u A (kept_now (looked_up w name target path e) u)) (looked_up w name target path e)
       nodes n it at = subst (λ o. OnNode R L u A (with_item o (λ (e : Eject). is_some e.kept) false) n it) (sym same-eject)

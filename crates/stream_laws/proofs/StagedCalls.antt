@@ -30,8 +30,8 @@ use Rattle.history_laws.proofs.SiteCrews.{runs-served}
 use Rattle.history_laws.proofs.SiteRuns.{SiteWorld}
 use Rattle.stream_laws.proofs.Roles.{Role, IsLawful, TurnEnds}
 use Rattle.stream_laws.proofs.Stage.{IsActive, IsEject, Turn, turn-of-it}
-use Rattle.stream_laws.proofs.AnswerCalls.{MayDo, process_turn-on}
-use Rattle.stream_laws.proofs.WorldCalls.{KeepsTurn}
+use Rattle.value_laws.proofs.AnswerCalls.{MayDo, process_turn-on}
+use Rattle.value_laws.proofs.WorldCalls.{KeepsTurn}
 use Rattle.stream_laws.proofs.StagedNodes.{kept_now, own-eject, OnNode}
 
 module _ (R : Role) (L : IsLawful R) (u : Uid) (A : ℕ → List Datum) where
@@ -166,7 +166,7 @@ module _ (R : Role) (L : IsLawful R) (u : Uid) (A : ℕ → List Datum) where
 
       pub turn-keeps : (e' : Event) → ev ≡ e' → ((it : Node) (v : Uid) (p : ℕ) (said : Shown) → e' ≡ event.Process v p said
           → node_at w v.node ≡ Some it
-          → AllowsAt (site_of w v.node it) (event.Process v p said)) → KeepsTurn NewAnswer NewCall by-shell w e'
+          → AllowsAt (site_of w v.node it) (event.Process v p said)) → KeepsTurn NewAnswer NewCall w e'
       turn-keeps (event.Process v p said) is allowed = λ it at. process_turn-on NewAnswer NewCall (reaches w v.node) v p
           (site_of w v.node it)
           (λ e a t is_e some turns. says v p said it is at (allowed it v p said refl at) e a t is_e some turns)

@@ -11,17 +11,10 @@ use Rattle.epl_syntax.specs.declared.types.Native.TheVariants as native
 use Rattle.epl_syntax.specs.Edentype.{Edentype, native as of_native}
 use Rattle.epl_syntax.specs.Simple.{argument, cap_in}
 use Rattle.epl_syntax.specs.Pipelines.{Sieve, takes, skips, keeps, numbers, sifted, argument_of}
-use Rattle.eden_value.specs.Limits.{AreValues}
-use Rattle.eden_value.specs.Range.{AllInRange}
-use Rattle.epl_syntax.specs.declared.effect.Effect.TheVariants as effect
-use Rattle.epl_syntax.specs.Meaning.{Turned, durable_of}
-use Rattle.journal.specs.declared.event.Event.TheVariants as event
-use Rattle.journal.specs.declared.event.Shown.{Shown}
-use Rattle.journal.specs.Processes.{turn_of}
-use Rattle.journal.specs.World.{World, Active, eject_at}
+use Rattle.journal.specs.World.{World, eject_at}
 use Rattle.journal.specs.Sites.{active_in}
 use Rattle.journal.specs.LegalRun.{created_by}
-use Rattle.journal.specs.Run.{Step, EachStep}
+use Rattle.journal.specs.Run.{Step}
 
 -- 1. The stages
 
@@ -104,23 +97,3 @@ pub record AreJoined (t : Traffic) (c : Chain) : Type 0 where
   pub filters : EachFilter (λ before items f. OpensOnly t f.uid before (argument_of f.sieve)) c.lines [] c.filters
   -- the Sink, which has no argument
   pub sink : OpensOnly t c.sink (last_of c.lines c.filters) []
-
--- 4. What they keep are values
-
--- what a turn of this Eject keeps in this step is within the limits of values
-abbrev pub KeepsValues : Uid → Native → Step → Type 0
-KeepsValues u n s = (p : ℕ) (said : Shown) (it : Active) (t : Turned) → s.entry.event ≡ event.Process u p said
-    → active_in (eject_at s.world u) ≡ Some it → turn_of u it p ≡ Some t → t.effect ≡ effect.Checkpoint
-    → AreValues 4 (durable_of (of_native n) t.vars) × AllInRange (durable_of (of_native n) t.vars)
-
--- the same of each of these filters
-abbrev pub FiltersKeepValues : List Step → List Stage → Type 0
-FiltersKeepValues run [] = Unit {0}
-FiltersKeepValues run (f ∷ filters) = EachStep (λ past s. KeepsValues f.uid (type_of_sieve f.sieve) s) [] run
-    × FiltersKeepValues run filters
-
--- so it is in each of these steps, with each stage of the chain
-pub record KeepValues (run : List Step) (c : Chain) : Type 0 where
-  pub lines : EachStep (λ past s. KeepsValues c.lines native.Lines s) [] run
-  pub filters : FiltersKeepValues run c.filters
-  pub sink : EachStep (λ past s. KeepsValues c.sink native.Sink s) [] run

@@ -1,5 +1,5 @@
 -- Streams under crashes: what the stages of a pipeline hand out and what its Sink holds, in every world of a history.
-use Rattle.std.specs.Prelude.{Bool, true, false, is_some, ◌≡◌, ℕ, ℤ, pos, negsuc, List, [], ◌∷◌, length, map, Option, None, Some}
+use Rattle.std.specs.Prelude.{Bool, true, false, is_some, ◌≡◌, ◌≤◌, ℕ, ℤ, pos, negsuc, List, [], ◌∷◌, length, map, Option, None, Some}
 use Rattle.std.specs.Prelude.{slice_get, codes, IfSome}
 use Rattle.capability.specs.declared.Uid.{Uid}
 use Rattle.eden_value.specs.Datum.{Datum, number}
@@ -16,7 +16,6 @@ use Rattle.epl_syntax.specs.Meaning.{Turned}
 use Rattle.epl_syntax.specs.Simple.{argument, number_in, text_in, items_in}
 use Rattle.epl_syntax.specs.Streams.{Came, an_item, the_end, nothing, came}
 use Rattle.epl_syntax.specs.Pipelines.{IsFront, sifted}
-use Rattle.epl_syntax.specs.Rules.OfTypes.{KeepRules, HaveMonitors}
 use Rattle.passive_store.specs.Kept.{Layout}
 use Rattle.passive_store.specs.Layout.{IsLayout}
 use Rattle.journal.specs.EjectChange.{kept_of}
@@ -30,8 +29,9 @@ use Rattle.journal.specs.Processes.{turn_of}
 use Rattle.journal.specs.Standing.{DiskRun}
 use Rattle.journal.specs.LegalRun.{created_by, kept_at, AreHandedIn, opening_world, run_over}
 use Rattle.journal.specs.Laws.{Begins}
+use Rattle.journal.specs.Fit.{IsFit}
 use Rattle.journal.specs.Run.{Step, EachStep}
-use Rattle.stream_laws.specs.Chains.{Chain, made_by, EachFilter, type_at, IsCreatedIn, AreCreated, AreJoined, KeepValues}
+use Rattle.stream_laws.specs.Chains.{Chain, made_by, EachFilter, type_at, IsCreatedIn, AreCreated, AreJoined}
 
 -- 1. Items
 
@@ -100,13 +100,14 @@ pub record Flows (w : World) (c : Chain) (list : List (List ℕ)) : Type 0 where
 
 -- 5. The laws
 
--- So it is with every pipeline in each step of every history: of a chain whose stages are all created in the history, where those that are
--- open are open to the stage before, in the world behind the step. The disks are handed in as they have to be, and the types of the script
--- keep the rules.
+-- So it is with every pipeline in each step of every history of a fit script, over at most eight disks that are handed in as they have to
+-- be
+-- and a layout that keeps what layouts owe: with each chain whose stages are all created in the history, and are joined in the world behind
+-- the step.
 abbrev pub OfEachPipeline : (Chain → Step → Type 0) → Type 0
 OfEachPipeline P = (layout : Layout) (script : Script) (disks : List DiskRun) (history : List Entry) → IsLayout layout
-    → AreHandedIn layout disks → KeepRules script.types → HaveMonitors script.types → Begins layout script disks history
-    → (c : Chain) → AreCreated (run_over layout script disks history) c → KeepValues (run_over layout script disks history) c
+    → AreHandedIn layout disks → length disks ≤ 8 → IsFit script → Begins layout script disks history
+    → (c : Chain) → AreCreated (run_over layout script disks history) c
     → EachStep (λ past s. AreJoined s.later.traffic c → P c s) [] (run_over layout script disks history)
 
 -- it does what its functions say, of the list that its Lines has kept
