@@ -28,8 +28,9 @@ use Rattle.epl_syntax.specs.Pipelines.{Sieve, takes, skips, keeps, numbers, sift
 use Rattle.epl_syntax.specs.Pipelines.{hands_on}
 use Rattle.epl_syntax.specs.Pipelines.{IsFront}
 use Rattle.epl_syntax.proofs.Pipelines.{filters_make_their_functions, filters_end_as_their_functions}
-use Rattle.stream_laws.specs.Streams.{item_in, IsOf}
-use Rattle.stream_laws.proofs.Items.{append-nothing, behind, front-more, whole-front, front-of-sifted, item-of-front, pos-same}
+use Rattle.stream_laws.specs.Streams.{item_in}
+use Rattle.stream_laws.proofs.Items.{IsOf, HasText, append-nothing, behind, front-more, whole-front, front-of-sifted, item-of-front}
+use Rattle.stream_laws.proofs.Items.{pos-same}
 use Rattle.stream_laws.proofs.Items.{and-first, and-second, or-first, or-second, not-false, int-same}
 
 -- 1. What a filter holds
@@ -115,7 +116,7 @@ IsTold items f _ a = Unit {0}
 -- 3. What a turn comes to
 
 abbrev pub EndsSo : Uid → Sieve → List (List ℕ) → ℤ → Filter → Stage → Effect → Type 0
-EndsSo before s items q f st (effect.Return results) = IsOf (sifted s items) q (came (Told status.Ok results))
+EndsSo before s items q f st (effect.Return results) = IsOf (sifted s items) q (came (Told status.Ok results)) × HasText results
 EndsSo before s items q f st effect.Checkpoint = IsLeft before s q f st
 EndsSo before s items q f st (effect.Invoke c op given) =
     (st ≡ asked) × IsLeft before s q f asked × (c.uid ≡ before) × (op ≡ codes "Transfer") × (given ≡ number f.got ∷ [])
@@ -218,7 +219,7 @@ module _ (before : Uid) (s : Sieve) (items : List (List ℕ)) (q : ℤ) where
   asking : (f : Filter) → Holds before s items f → IsOpen before s items f → f.made ≡ q → (rule_of s).is_over f ≡ false
       → Moves before s items q (asks f)
   asking f h x made on = moves-cond (int_eq f.got greatest) (answers f (returns_none trouble)) _
-      (λ e. answered f (returns_none trouble) h tt)
+      (λ e. answered f (returns_none trouble) h (tt, ([], refl)))
       (λ e. subst (λ o. Moves before s items q (with_item o (λ c. (values_of f, asked, asks_for c f.got))
       (answers f (returns_none trouble))))
       (sym x.1.is_src)
@@ -226,19 +227,23 @@ module _ (before : Uid) (s : Sieve) (items : List (List ℕ)) (q : ℤ) where
 
   -- the item that it made last
   last-is : (f : Filter) (x : IsOpen before s items f) → int_le (pos 1) f.made ≡ true → f.made ≡ q +ℤ pos 1
-      → IsOf (sifted s items) q (came (Told status.Ok (number (pos 0) ∷ f.last ∷ [])))
+      → IsOf (sifted s items) q (came (Told status.Ok (number (pos 0) ∷ f.last ∷ []))) × HasText (number (pos 0) ∷ f.last ∷ [])
   last-is f x some made = go (length (sifted s x.0)) refl
     where
       found : (n : ℕ) → length (sifted s x.0) ≡ suc n → (o : Option (List ℕ)) → slice_get (sifted s x.0) n ≡ o
-          → IsSomeAnd o (λ t. f.last ≡ text t) → IsOf (sifted s items) q (came (Told status.Ok (number (pos 0) ∷ f.last ∷ [])))
+          → IsSomeAnd o (λ t. f.last ≡ text t)
+          → IsOf (sifted s items) q (came (Told status.Ok (number (pos 0) ∷ f.last ∷ []))) × HasText (number (pos 0) ∷ f.last ∷ [])
       found n long None at none = absurd none
       found n long (Some t) at is =
-          let place : q ≡ pos n = (let m : pos (suc n) ≡ q +ℤ pos 1 = ap pos (sym long) ∙ sym x.1.has.made ∙ made in grind (arith, m)) in
-          subst (λ d. IsOf (sifted s items) q (came (Told status.Ok (number (pos 0) ∷ d ∷ [])))) (sym is)
-          (subst (λ p. item_in (sifted s items) p ≡ Some t) (sym place)
-          (item-of-front (sifted s x.0) (sifted s items) (pos n) t (front-of-sifted s x.0 items x.1.begins) at))
+          let place : q ≡ pos n = (let m : pos (suc n) ≡ q +ℤ pos 1 = ap pos (sym long) ∙ sym x.1.has.made ∙ made in grind (arith, m)) in (
+            subst (λ d. IsOf (sifted s items) q (came (Told status.Ok (number (pos 0) ∷ d ∷ [])))) (sym is)
+                (subst (λ p. item_in (sifted s items) p ≡ Some t) (sym place)
+                (item-of-front (sifted s x.0) (sifted s items) (pos n) t (front-of-sifted s x.0 items x.1.begins) at)),
+            (t, ap (λ d. d ∷ []) is),
+          )
 
-      go : (n : ℕ) → length (sifted s x.0) ≡ n → IsOf (sifted s items) q (came (Told status.Ok (number (pos 0) ∷ f.last ∷ [])))
+      go : (n : ℕ) → length (sifted s x.0) ≡ n
+          → IsOf (sifted s items) q (came (Told status.Ok (number (pos 0) ∷ f.last ∷ []))) × HasText (number (pos 0) ∷ f.last ∷ [])
       go zero long = absurd (let e : int_le (pos 1) (pos zero) ≡ true = ap (int_le (pos 1)) (sym (x.1.has.made ∙ ap pos long))
           ∙ some in cc e)
       go (suc n) long = found n long (slice_get (sifted s x.0) n) refl (x.1.last n long)
@@ -249,12 +254,14 @@ module _ (before : Uid) (s : Sieve) (items : List (List ℕ)) (q : ℤ) where
       (λ e. answered f (returns_item f.last) h (last-is f x (and-first (int_le (pos 1) f.made) _ e)
       (let same : q ≡ f.made -ℤ pos 1 = int-same q (f.made -ℤ pos 1) (and-second (int_le (pos 1) f.made) _ e) in grind (arith, same))))
       (λ e. moves-cond (not (int_eq q f.made)) (answers f (returns_none out_of_reach)) _
-      (λ e. answered f (returns_none out_of_reach) h tt)
+      (λ e. answered f (returns_none out_of_reach) h (tt, ([], refl)))
       (λ e. let same : q ≡ f.made = int-same q f.made (not-false (int_eq q f.made) e) in
       moves-cond ((rule_of s).is_over f) (answers f (returns_none end_code)) _
-      (λ over. answered f (returns_none end_code) h
-      (same ∙ x.1.has.made ∙ ap (λ l. pos (length l)) (sym (filters_end_as_their_functions s x.0 x.1.begins.0 f x.1.has over)
-      ∙ ap (sifted s) x.1.begins.1)))
+      (λ over. answered f (returns_none end_code) h (
+        same ∙ x.1.has.made ∙ ap (λ l. pos (length l)) (sym (filters_end_as_their_functions s x.0 x.1.begins.0 f x.1.has over)
+            ∙ ap (sifted s) x.1.begins.1),
+        ([], refl),
+      ))
       (λ on. asking f h x (sym same) on)))
 
   -- an item came that is the one behind its front
@@ -287,7 +294,7 @@ module _ (before : Uid) (s : Sieve) (items : List (List ℕ)) (q : ℤ) where
           → IsSomeAnd (slice_get (sifted s (x.0 ++ t ∷ [])) n) (λ u. (cond b (handed_on (rule_of s) t f) (passed_over f)).last ≡ text u)
       last true n m long =
           let old : length (sifted s x.0) ≡ n = (let e : length (sifted s x.0 ++ (rule_of s).becomes f t ∷ []) ≡ suc n = ap length (sym m)
-              ∙ long in
+          ∙ long in
           omega (arith, e, length-append (sifted s x.0) ((rule_of s).becomes f t ∷ []))) in
           subst (λ o. IsSomeAnd o (λ u. text ((rule_of s).becomes f t) ≡ text u))
           (sym (ap (λ l. slice_get l n) m ∙ ap (slice_get (sifted s x.0 ++ (rule_of s).becomes f t ∷ [])) (sym old)
@@ -364,33 +371,33 @@ module _ (before : Uid) (s : Sieve) (items : List (List ℕ)) (q : ℤ) where
   moved : (f : Filter) (st : Stage) (a : Answer) → Holds before s items f → IsLeft before s q f st → IsTold items f st a
       → Moves before s items q (turned_by (rule_of s) f st a)
   moved f (opens given) a h left told = moves-cond (is_some f.src || is_none (cap_in (argument 0 given))) (answers f (returns_code 1)) _
-      (λ e. answered f (returns_code 1) h tt)
+      (λ e. answered f (returns_code 1) h (tt, tt))
       (λ e. opening f given h (or-first (is_some f.src) _ e) (or-second (is_some f.src) _ e) left)
-  moved f open_saved a h left told = saved-so f a (returns_code trouble) (λ f. answers f (returns_code 0)) h tt
-      (λ h. answered (record f { saved = true }) (returns_code 0) h tt)
+  moved f open_saved a h left told = saved-so f a (returns_code trouble) (λ f. answers f (returns_code 0)) h (tt, tt)
+      (λ h. answered (record f { saved = true }) (returns_code 0) h (tt, tt))
   moved f (transfers p) a h left told = moves-cond (is_none f.src) (answers f (returns_none trouble)) _
-      (λ e. answered f (returns_none trouble) h tt)
+      (λ e. answered f (returns_none trouble) h (tt, ([], refl)))
       (λ there. moves-cond f.saved (gives (rule_of s) f p) (saves f (transfer_saved p))
       (λ e. subst (λ p. Moves before s items q (gives (rule_of s) f p)) (sym left) (giving f h (open-of f h there)))
       (λ e. saving f (transfer_saved p) h (left, there)))
-  moved f (transfer_saved p) a h left told = saved-so f a (returns_none trouble) (λ f. gives (rule_of s) f p) h tt
+  moved f (transfer_saved p) a h left told = saved-so f a (returns_none trouble) (λ f. gives (rule_of s) f p) h (tt, ([], refl))
       (λ h. subst (λ p. Moves before s items q (gives (rule_of s) (record f { saved = true }) p)) (sym left.0)
       (giving (record f { saved = true }) h (open-of (record f { saved = true }) h left.1)))
   moved f asked a h left told = go (came a) told
     where
       go : (c : Came) → IsOf items f.got c → Moves before s items q (after_asking (rule_of s) f c)
       go (an_item t) at = taken f h (open-of f h left.2) t left.0 left.1 at
-      go the_end at = answered f (returns_none end_code) h (ended (open-of f h left.2) at)
+      go the_end at = answered f (returns_none end_code) h (ended (open-of f h left.2) at, ([], refl))
         where
           ended : IsOpen before s items f → f.got ≡ pos (length items) → q ≡ pos (length (sifted s items))
           ended x at =
               let all : x.0 ≡ items = whole-front x.0 items x.1.begins (pos-same (length x.0) (length items) (sym x.1.has.got ∙ at)) in
               sym left.0 ∙ x.1.has.made ∙ ap (λ l. pos (length (sifted s l))) all
-      go nothing at = answered f (returns_none trouble) h tt
-  moved f (item_saved true) a h left told = saved-so f a (returns_none trouble) (λ f. answers f (returns_item f.last)) h tt
+      go nothing at = answered f (returns_none trouble) h (tt, ([], refl))
+  moved f (item_saved true) a h left told = saved-so f a (returns_none trouble) (λ f. answers f (returns_item f.last)) h (tt, ([], refl))
       (λ h. answered (record f { saved = true }) (returns_item f.last) h
       (last-is (record f { saved = true }) (open-of (record f { saved = true }) h left.2) left.1 left.0))
-  moved f (item_saved false) a h left told = saved-so f a (returns_none trouble) asks h tt
+  moved f (item_saved false) a h left told = saved-so f a (returns_none trouble) asks h (tt, ([], refl))
       (λ h. asking (record f { saved = true }) h (open-of (record f { saved = true }) h left.2) left.0
       (over-like s (record f { saved = true }) f refl refl ∙ left.1))
 

@@ -42,7 +42,7 @@ use Rattle.history_laws.proofs.SeatRuns.{SeatWorld, seat-next, seat-looked_up, s
 use Rattle.stream_laws.specs.Chains.{Stage, Chain, made_by, last_of, EachFilter, type_of_sieve, OpensOnly, type_at}
 use Rattle.stream_laws.proofs.Pipelines.{IsStepOf, IsStage, IsPipeline, AreNewIn, IsNewIn}
 use Rattle.journal.specs.Commands.{type_name_of}
-use Rattle.stream_laws.specs.Streams.{items_held, items_stored, list_kept, IsOf, HandsOut, HoldsFront, Flows, has_kept, ComesToTheEnd}
+use Rattle.stream_laws.specs.Streams.{items_held, items_stored, list_kept, HandsOut, HoldsFront, Flows, has_kept, ComesToTheEnd}
 use Rattle.epl_syntax.specs.Natives.{native_turn}
 use Rattle.epl_syntax.specs.Meaning.{Turned}
 use Rattle.journal.specs.declared.event.Shown.{Shown}
@@ -51,6 +51,7 @@ use Rattle.journal.specs.Sites.{active_in}
 use Rattle.journal.specs.Step.{AllowsAt}
 use Rattle.history_laws.proofs.EveryNode.{at-its-site}
 use Rattle.history_laws.proofs.Runs.{no-turn}
+use Rattle.stream_laws.proofs.Items.{texts-back, IsOf, answers-so}
 use Rattle.stream_laws.proofs.Roles.{TurnEnds}
 use Rattle.stream_laws.proofs.StagedCalls.{own-turn}
 use Rattle.stream_laws.proofs.Roles.{Role, IsLawful, filter_role, filter-lawful, lines_role, lines-lawful, sink_role, sink-lawful}
@@ -104,7 +105,7 @@ module _ (A : ℕ → List Datum) where
   list-is u w texts h k = go (node_at w u.node) refl k
     where
       bytes-is : (bytes : List ℕ) → IsBody (lines_role texts) u A (kept_now w u) bytes → texts ≡ items_stored bytes
-      bytes-is bytes b = sym (b.holds.holds.items b.filled) ∙ sym (lines-stored b.values b.holds.form)
+      bytes-is bytes b = sym (ap (map text_in) (b.holds.holds.items b.filled) ∙ texts-back texts) ∙ sym (lines-stored b.values b.holds.form)
           ∙ sym (ap (λ o. with_item o (λ rep. items_held rep.values) []) b.reads)
 
       kept : (y : Eject) (o : Option (List ℕ)) → IfSome o (IsBody (lines_role texts) u A (kept_now w u)) → is_some o ≡ true
@@ -165,8 +166,11 @@ module _ (A : ℕ → List Datum) where
     pipe = record {
       lines = h.pipe.lines.1;
       filters = filters-back w later kept s past c.lines [] c.filters h.pipe.filters;
-      sink = record { steps = h.pipe.sink.steps.1; opened = opens-back w later kept c.sink
-          (last_of c.lines c.filters) [] h.pipe.sink.opened };
+      sink = record {
+        steps = h.pipe.sink.steps.1;
+        opened = opens-back w later kept c.sink
+            (last_of c.lines c.filters) [] h.pipe.sink.opened;
+      };
     };
   }
 
@@ -299,11 +303,11 @@ module _ (A : ℕ → List Datum) where
     };
     rest = λ list same. (let r = old.rest list (λ k. same (ap (λ o. with_item o (λ (y : Eject). is_some y.kept) false) same-eject
         ∙ k)) in record {
-      filters = filters-looked w name target path e a chain.lines list chain.filters r.filters;
-      drained = staged-looked_up (sink_role (last_of chain.lines chain.filters) (made_by chain.filters list))
-          (sink-lawful (last_of chain.lines chain.filters) (made_by chain.filters list)) chain.sink A
-          (λ n. true) w name target path e a r.drained;
-    });
+          filters = filters-looked w name target path e a chain.lines list chain.filters r.filters;
+          drained = staged-looked_up (sink_role (last_of chain.lines chain.filters) (made_by chain.filters list))
+              (sink-lawful (last_of chain.lines chain.filters) (made_by chain.filters list)) chain.sink A
+              (λ n. true) w name target path e a r.drained;
+        });
   }
     where
       same-eject : eject_at (looked_up w name target path e) chain.lines ≡ eject_at w chain.lines
@@ -349,8 +353,9 @@ module _ (A : ℕ → List Datum) where
   -- 6. What that means
   hands-out : (t : Traffic) (u : Uid) (items : List (List ℕ)) → ((k : ℕ) (d : Call) → call_at t k ≡ Some d → d.args ≡ A k)
       → HandsOver t u items A → HandsOut t u items
-  hands-out t u items args h k c st results at to op place =
-      subst (λ g. IsOf items (position g) (came (Told st results))) (sym (args k c at)) (h.at k c st results at to place)
+  hands-out t u items args h k c results at to op place = let x = h.at k c status.Ok results at to place in
+      answers-so items (position c.args) results
+      (subst (λ g. IsOf items (position g) (came (Told status.Ok results))) (sym (args k c at)) x.0) x.1
 
   filters-out : (w : World) → ((k : ℕ) (d : Call) → call_at w.traffic k ≡ Some d → d.args ≡ A k)
       → (before : Uid) (items : List (List ℕ)) (fs : List Stage)
@@ -487,7 +492,7 @@ OfNewPipelines P = (layout : Layout) (script : Script) (disks : List DiskRun) (h
 pub pipelines-flow : OfNewPipelines (λ c s. Flows s.later c (list_kept s.later c.lines))
 pipelines-flow layout script disks history lays fits rules monitors begins c new =
     each-step Any (λ past w. Inv here c past w) (λ past s. IsPipeline (s ∷ past) s.later.traffic c
-        → Flows s.later c (list_kept s.later c.lines)) (record {
+    → Flows s.later c (list_kept s.later c.lines)) (record {
       entries = λ past w x e any allowed i. (let j = entry-inv here c past w x e allowed i in
           (λ pipe. shows here c (record { world = w; entry = e; later = next w x e } ∷ past) (next w x e) j pipe, j));
       look_ups = λ past w name target path e any allowed plain i. (let j = look-inv here c past w name target path e allowed i in (
@@ -542,7 +547,7 @@ all-held before items u A here w x e seat allowed staged later t held h = go (no
         → items_held t.vars ≡ items
     part nd at y is some =
         let z = own-turn (sink_role before items)
-            (sink-lawful before items) u A w e.event here seat.site staged.node u h.process h.said nd y h.active t
+        (sink-lawful before items) u A w e.event here seat.site staged.node u h.process h.said nd y h.active t
         refl at (turn-allowed w x nd u h.process h.said (subst (AllowsEvent w x) h.event_is allowed.event) at) is some h.turn in
         let ends = subst (TurnEnds (sink_role before items) (is_some y.kept) (native_turn native.Sink h.active.vars z.stage z.answer).0
         (A z.busy.call.call) (native_turn native.Sink h.active.vars z.stage z.answer).1) (sym z.effect_is ∙ h.answers) z.keeps.ends in

@@ -1,24 +1,23 @@
 -- What is known of a stage around an entry, where its Opens name the stage before, and what that hands out is of its items.
 use Rattle.std.proofs.Common.{◌≡◌, ℕ, ℤ, Bool, true, false, cond, List, [], map, Option, Some}
-use Rattle.std.proofs.Common.{refl, sym, ◌∙◌, subst}
+use Rattle.std.proofs.Common.{refl, sym, subst}
 use Rattle.std.specs.Prelude.{codes}
 use Rattle.capability.specs.declared.Uid.{Uid}
-use Rattle.eden_value.specs.Datum.{Datum}
+use Rattle.eden_value.specs.Datum.{Datum, text}
 use Rattle.eden_value.specs.declared.status.Status.{Status}
 use Rattle.eden_model.specs.Map.{same_text}
 use Rattle.eden_model.specs.Traffic.{Traffic, Call, answered, call_at}
 use Rattle.epl_syntax.specs.declared.effect.Answer.TheVariants.{Go, Reply as Told}
 use Rattle.epl_syntax.specs.declared.types.Native.TheVariants as native
 use Rattle.epl_syntax.specs.Natives.{first_stage, in_filter, in_sink, in_lines}
-use Rattle.epl_syntax.specs.Simple.{argument, number_in, cap_in, text_in, items_in}
+use Rattle.epl_syntax.specs.Simple.{argument, number_in, cap_in, items_in}
 use Rattle.epl_syntax.specs.Streams.{Came, an_item, the_end, nothing, came}
 use Rattle.epl_syntax.specs.Filters as filters
 use Rattle.epl_syntax.specs.Sink as sink
 use Rattle.epl_syntax.specs.Lines as lines
 use Rattle.epl_syntax.specs.Pipelines.{Sieve, takes, skips, keeps, numbers, sifted, argument_of}
 use Rattle.stream_laws.specs.Chains.{type_of_sieve, OpensSo}
-use Rattle.stream_laws.specs.Streams.{IsOf}
-use Rattle.stream_laws.proofs.Items.{same-texts}
+use Rattle.stream_laws.proofs.Items.{IsOf, HasText, same-texts}
 use Rattle.epl_syntax.specs.declared.effect.Effect.TheVariants as effect
 use Rattle.epl_syntax.specs.Edentype.{native as native_type}
 use Rattle.epl_syntax.specs.Meaning.{Turned, type_of, name_of}
@@ -74,7 +73,7 @@ sink-begins before items vars c opens = go (same_text c.operation (codes "Open")
 
 -- of a Lines: what it is filled with is the list, where it is not filled
 pub lines-begins : (texts : List (List ℕ)) (vars : List Datum) (c : Call)
-    → (c.operation ≡ codes "Fill" → (lines.source vars).filled ≡ false → map text_in (items_in (argument 0 c.args)) ≡ texts)
+    → (c.operation ≡ codes "Fill" → (lines.source vars).filled ≡ false → items_in (argument 0 c.args) ≡ map text texts)
     → LinesTask texts vars c.args (first_stage native.Lines c.operation c.args) Go
 lines-begins texts vars c fills = go (same_text c.operation (codes "Fill")) refl
   where
@@ -86,7 +85,7 @@ lines-begins texts vars c fills = go (same_text c.operation (codes "Fill")) refl
 -- 2. What a stage hands out comes to the stage behind it
 pub record HandsOver (t : Traffic) (before : Uid) (items : List (List ℕ)) (A : ℕ → List Datum) : Type 0 where
   pub at : (k : ℕ) (c : Call) (st : Status) (results : List Datum) → call_at t k ≡ Some c → c.target.uid ≡ before
-      → c.place ≡ answered st results → IsOf items (position (A k)) (came (Told st results))
+      → c.place ≡ answered st results → IsOf items (position (A k)) (came (Told st results)) × HasText results
 
 -- 3. Around an entry: a filter, a Sink
 -- what is known of any stage
@@ -114,7 +113,7 @@ around-filter before s items u A H w c ev g hands opens = record {
   back = g.back;
   made_so = g.made_so;
   created_so = g.created_so;
-  comes = λ vars k x p st results at opened asker place asks. hands.at k x st results at asks.of_before place;
+  comes = λ vars k x p st results at opened asker place asks. (hands.at k x st results at asks.of_before place).0;
   begins = λ k p x it is at to active vars. subst (λ args. FilterTask before s items it.vars args
       (first_stage (type_of_sieve s) x.operation x.args) Go) (g.args k x at) (filter-begins before s items it.vars x
       (λ op. opens k x at to op));
@@ -130,7 +129,7 @@ around-sink before items u A H w c ev g hands opens = record {
   back = g.back;
   made_so = g.made_so;
   created_so = g.created_so;
-  comes = λ vars k x p st results at opened asker place asks. hands.at k x st results at asks.of_before place;
+  comes = λ vars k x p st results at opened asker place asks. (hands.at k x st results at asks.of_before place).0;
   begins = λ k p x it is at to active vars. subst (λ args. SinkTask before items it.vars args
       (first_stage native.Sink x.operation x.args) Go) (g.args k x at) (sink-begins before items it.vars x (λ op. opens k x at to op));
 }
@@ -140,7 +139,7 @@ pub around-lines : (texts : List (List ℕ)) (u : Uid) (A : ℕ → List Datum) 
     (c : Option Command) (ev : Event) → Given (lines_role texts) (lines-lawful texts) u A H w c ev
     → ((k p : ℕ) (x : Call) (it : Active) → ev ≡ event.Start k u p → call_at w.traffic k ≡ Some x → x.target.uid ≡ u
     → active_now w u ≡ Some it
-    → x.operation ≡ codes "Fill" → (lines.source it.vars).filled ≡ false → map text_in (items_in (argument 0 x.args)) ≡ texts)
+    → x.operation ≡ codes "Fill" → (lines.source it.vars).filled ≡ false → items_in (argument 0 x.args) ≡ map text texts)
     → Around (lines_role texts) (lines-lawful texts) u A H w c ev
 around-lines texts u A H w c ev g fills = record {
   site = g.site;
@@ -160,8 +159,12 @@ filter-hands before s items u A w x = record { at = x.said }
 
 pub lines-hands : (texts : List (List ℕ)) (u : Uid) (A : ℕ → List Datum) (w : World) (items : List (List ℕ))
     → (kept_now w u ≡ true → texts ≡ items) → Staged (lines_role texts) (lines-lawful texts) u A w → HandsOver w.traffic u items A
-lines-hands texts u A w items same x = record { at = λ k c st results at to place. go (position (A k)) (came (Told st results))
-    (x.said k c st results at to place) }
+lines-hands texts u A w items same x = record {
+  at = λ k c st results at to place. (
+    go (position (A k)) (came (Told st results)) (x.said k c st results at to place).0,
+    (x.said k c st results at to place).1,
+  );
+}
   where
     go : (q : ℤ) (came : Came) → of_lines.IsSaid (kept_now w u) texts q came → IsOf items q came
     go q (an_item t) h = subst (λ l. IsOf l q (an_item t)) (same h.0) h.1

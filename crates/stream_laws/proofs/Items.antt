@@ -1,14 +1,19 @@
 -- Lists and fronts of them, positions, and what comes for one.
 use Rattle.std.proofs.Common.{◌≡◌, ℕ, zero, suc, ◌+◌, ℤ, pos, negsuc, Bool, true, false, not, ◌&&◌, ◌||◌, List, [], ◌∷◌}
-use Rattle.std.proofs.Common.{◌++◌, map, length, Some, refl, ap, sym, ◌∙◌, subst, arith, length-append}
-use Rattle.std.specs.Prelude.{slice_get}
+use Rattle.std.proofs.Common.{◌++◌, map, length, Option, Some, refl, ap, sym, ◌∙◌, subst, arith, length-append}
+use Rattle.std.specs.Prelude.{slice_get, IsSomeAnd}
 use Rattle.std.specs.Ordering.{int_eq}
 use Rattle.std.specs.Cmp.Lexicographic.{bytes_decides}
+use Rattle.eden_value.specs.Datum.{Datum, number, text}
+use Rattle.eden_value.specs.declared.status.Status.TheVariants as status
 use Rattle.eden_model.specs.Map.{same_text}
+use Rattle.epl_syntax.specs.declared.effect.Answer.TheVariants.{Reply as Told}
+use Rattle.epl_syntax.specs.Simple.{text_in}
+use Rattle.epl_syntax.specs.Streams.{Came, an_item, the_end, nothing, came}
 use Rattle.epl_syntax.proofs.SameText.{same_as_pointwise}
 use Rattle.epl_syntax.specs.Pipelines.{IsFront, Sieve, sifted}
 use Rattle.epl_syntax.proofs.Pipelines.{pipelines_keep_fronts}
-use Rattle.stream_laws.specs.Streams.{item_in}
+use Rattle.stream_laws.specs.Streams.{item_in, IsAnswer}
 
 pub append-nothing : {A : Type 0} (xs : List A) → xs ++ [] ≡ xs
 append-nothing [] = refl
@@ -98,3 +103,31 @@ mapped-length f (x ∷ xs) = ap suc (mapped-length f xs)
 -- two texts that are told to be one are one
 pub same-texts : (a b : List ℕ) → same_text a b ≡ true → a ≡ b
 same-texts a b h = (bytes_decides a b).0 (sym (same_as_pointwise a b) ∙ h)
+
+-- the texts of values that are texts
+pub texts-back : (ts : List (List ℕ)) → map text_in (map text ts) ≡ ts
+texts-back [] = refl
+texts-back (t ∷ ts) = ap (λ l. t ∷ l) (texts-back ts)
+
+-- What came for a position: an item is the one there, and the end comes right behind the last.
+abbrev pub IsOf : List (List ℕ) → ℤ → Came → Type 0
+IsOf items p (an_item t) = item_in items p ≡ Some t
+IsOf items p the_end = p ≡ pos (length items)
+IsOf items p nothing = Unit {0}
+
+-- what stands beside a number in results is a text, and stands there alone
+abbrev pub HasText : List Datum → Type 0
+HasText (number n ∷ d ∷ more) = (t : List ℕ) × (d ∷ more ≡ text t ∷ [])
+HasText _ = Unit {0}
+
+-- results that come so answer so
+pub answers-so : (items : List (List ℕ)) (p : ℤ) (results : List Datum) → IsOf items p (came (Told status.Ok results)) → HasText results
+    → IsAnswer items p results
+answers-so items p (number (pos zero) ∷ d ∷ more) h x = found (item_in items p)
+    (subst (λ l. IsOf items p (came (Told status.Ok (number (pos zero) ∷ l)))) x.1 h)
+  where
+    found : (o : Option (List ℕ)) → o ≡ Some x.0 → IsSomeAnd o (λ t. d ∷ more ≡ text t ∷ [])
+    found o is = subst (λ o. IsSomeAnd o (λ t. d ∷ more ≡ text t ∷ [])) (sym is) x.1
+answers-so items p (number (pos (suc zero)) ∷ d ∷ more) h x =
+    subst (λ l. IsOf items p (came (Told status.Ok (number (pos (suc zero)) ∷ l)))) x.1 h
+answers-so items p _ h x = tt

@@ -1,10 +1,9 @@
 -- The native type of an Eject that a history creates goes by its name in every world of that history.
-use Rattle.std.proofs.Common.{◌≡◌, ◌⊎◌, inl, inr, ℕ, Bool, true, false, cond, List, [], ◌∷◌, Option, None, Some, is_some, refl, ap, sym}
+use Rattle.std.proofs.Common.{◌≡◌, inl, inr, ℕ, Bool, true, false, cond, List, [], ◌∷◌, Option, None, Some, is_some, refl, ap, sym}
 use Rattle.std.proofs.Common.{◌∙◌, subst}
 use Rattle.std.specs.Prelude.{IsSomeAnd}
 use Rattle.std.specs.List.{find}
 use Rattle.capability.specs.declared.Uid.{Uid}
-use Rattle.eden_value.specs.declared.status.Status.{Status}
 use Rattle.eden_model.specs.Map.{with_item, same_text}
 use Rattle.eden_model.specs.Crew.{Process as Worker, Invocation}
 use Rattle.epl_syntax.specs.declared.effect.Effect.{Effect}
@@ -22,14 +21,13 @@ use Rattle.journal.specs.declared.event.Event.TheVariants as event
 use Rattle.journal.specs.declared.event.Entry.{Entry}
 use Rattle.journal.specs.declared.event.Shown.TheVariants as shown
 use Rattle.journal.specs.World.{World, Site, Node, Eject, Active, node_at, site_of, eject_in}
-use Rattle.journal.specs.Ejects.{next_uid}
-use Rattle.journal.specs.Processes.{AllowsTurn, shown_of, shown_return, shown_creation, turn_of, worker_at}
+use Rattle.journal.specs.Processes.{AllowsTurn, shown_of, shown_return, turn_of, worker_at}
 use Rattle.journal.specs.Commands.{AllowsCommand, type_name_of}
-use Rattle.journal.specs.Step.{AllowsAt, AllowsEvent, Allows, next}
+use Rattle.journal.specs.Step.{AllowsAt, AllowsEvent, next}
 use Rattle.journal.specs.Standing.{DiskRun}
 use Rattle.journal.specs.LegalRun.{created_by, AreHandedIn, opening_world, run_over}
 use Rattle.journal.specs.Laws.{Begins}
-use Rattle.journal.specs.Run.{Step, EachStep, beginning, looked_up}
+use Rattle.journal.specs.Run.{Step, EachStep, beginning}
 use Rattle.history_laws.proofs.EveryNode.{at-its-site}
 use Rattle.history_laws.proofs.Runs.{Any, of-any, each-step, no-turn, world-booting}
 use Rattle.history_laws.proofs.SiteRuns.{types-next, types-looked_up}
@@ -74,9 +72,11 @@ module _ (here : ℕ → Bool) (w : World) (e : Entry) (seat : SeatWorld here w)
       turn : (y : Eject) → eject_in (site_of w v.node nd) v ≡ Some y → (a : Active) → y.active ≡ Some a → (q : Worker) (o : Option Turned)
           → turn_of v a p ≡ o → IsSomeAnd o (λ t. shown.Created u ≡ shown_of (site_of w v.node nd) q.serves t.effect) → Named w.types k
       turn y is_y a some q None turns h = absurd h
-      turn y is_y a some q (Some t) turns h = let x = shows-creation (site_of w v.node nd) q.serves t.effect u h in
-          (x.0, created-typed w e nd v p u y a t x.0 k is at
-          (seat.site.known.sound.nodes v.node nd at).in_order allowed is_y some turns x.1 typed)
+      turn y is_y a some q (Some t) turns h = let x = shows-creation (site_of w v.node nd) q.serves t.effect u h in (
+        x.0,
+        created-typed w e nd v p u y a t x.0 k is at
+            (seat.site.known.sound.nodes v.node nd at).in_order allowed is_y some turns x.1 typed,
+      )
 
       worker : (y : Eject) → eject_in (site_of w v.node nd) v ≡ Some y → (a : Active) → y.active ≡ Some a → (o : Option Worker)
           → IsSomeAnd o (λ q. AllowsTurn (site_of w v.node nd) v p (shown.Created u) a q) → Named w.types k
@@ -110,9 +110,11 @@ module _ (here : ℕ → Bool) (w : World) (e : Entry) (seat : SeatWorld here w)
   named-by (Some c) (event.Process v p (shown.Created x)) is allowed makes typed =
       absurd (no-turn w c (event.Process v p (shown.Created x)) refl allowed)
   named-by None (event.Made name why (Some x)) is allowed makes typed = absurd allowed
-  named-by (Some c) (event.Made name why (Some x)) is allowed makes typed = let same : x ≡ u = cc makes in
-      (type_name_of c, made-typed w c e name why u k (is ∙ ap (λ z. event.Made name why (Some z)) same)
-      (subst (λ z. AllowsCommand w c (event.Made name why (Some z))) same allowed) typed)
+  named-by (Some c) (event.Made name why (Some x)) is allowed makes typed = let same : x ≡ u = cc makes in (
+    type_name_of c,
+    made-typed w c e name why u k (is ∙ ap (λ z. event.Made name why (Some z)) same)
+        (subst (λ z. AllowsCommand w c (event.Made name why (Some z))) same allowed) typed,
+  )
   named-by c _ is allowed makes typed = absurd (cc makes)
 
 -- 3. In every world of the history

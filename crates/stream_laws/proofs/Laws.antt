@@ -1,7 +1,6 @@
 -- The laws, of chains whose stages a history creates.
 use Rattle.std.proofs.Common.{◌≡◌, ◌≤◌, List, [], ◌∷◌, length, Some}
 use Rattle.capability.specs.declared.Uid.{Uid}
-use Rattle.eden_value.specs.Datum.{Datum}
 use Rattle.eden_model.specs.Traffic.{Traffic}
 use Rattle.epl_syntax.specs.declared.types.Native.{Native}
 use Rattle.epl_syntax.specs.declared.types.Native.TheVariants as native
@@ -20,7 +19,7 @@ use Rattle.journal.specs.Run.{Step, EachStep}
 use Rattle.stream_laws.specs.Chains.{Stage, Chain, type_of_sieve, EachFilter, type_at, IsCreatedIn, FiltersAreCreated, AreCreated}
 use Rattle.stream_laws.specs.Chains.{OpensOnly, AreJoined}
 use Rattle.stream_laws.specs.Streams.{OfEachPipeline, PipelinesFlow, ListsStay, SinksHoldAll}
-use Rattle.stream_laws.proofs.Pipelines.{KeepsValues, IsStepOf, AreStepsOf, IsStage, IsPipeline, AreNewIn, IsNewIn}
+use Rattle.stream_laws.proofs.Pipelines.{KeepsValues, AreStepsOf, IsStage, IsPipeline, AreNewIn, IsNewIn}
 use Rattle.stream_laws.proofs.Created.{created-are-new}
 use Rattle.stream_laws.proofs.Known.{types-known}
 use Rattle.stream_laws.proofs.Limits.{stages-keep-values}

@@ -18,3 +18,4 @@ pub mod Known
 pub mod Limits
 pub mod Laws
 pub mod WrongPrograms
+pub mod CrashedPipeline

@@ -1,5 +1,5 @@
 -- What a stage keeps are values within their limits, since all values of every history of a fit script are.
-use Rattle.std.proofs.Common.{◌≡◌, ◌≤◌, ℕ, List, [], ◌∷◌, length, Option, None, Some, refl, subst}
+use Rattle.std.proofs.Common.{◌≡◌, ◌≤◌, List, [], ◌∷◌, length, Option, None, Some, refl, subst}
 use Rattle.std.specs.Prelude.{IfSome}
 use Rattle.capability.specs.declared.Uid.{Uid}
 use Rattle.eden_value.specs.Limits.{AreValues}
@@ -7,14 +7,13 @@ use Rattle.eden_value.specs.Range.{AllInRange}
 use Rattle.eden_value.specs.declared.value.TheConstants.{DEPTH_LIMIT}
 use Rattle.epl_syntax.specs.declared.types.Native.{Native}
 use Rattle.epl_syntax.specs.Edentype.{native as of_native}
-use Rattle.epl_syntax.specs.Meaning.{Turned, durable_of}
+use Rattle.epl_syntax.specs.Meaning.{durable_of}
 use Rattle.passive_store.specs.Kept.{Layout}
 use Rattle.passive_store.specs.Layout.{IsLayout}
 use Rattle.journal.specs.declared.command.Script.{Script}
 use Rattle.journal.specs.declared.event.Entry.{Entry}
-use Rattle.journal.specs.World.{Active, Eject, eject_at}
+use Rattle.journal.specs.World.{Eject, eject_at}
 use Rattle.journal.specs.Sites.{active_in}
-use Rattle.journal.specs.Processes.{turn_of}
 use Rattle.journal.specs.Standing.{DiskRun}
 use Rattle.journal.specs.Fit.{IsFit}
 use Rattle.journal.specs.LegalRun.{AreHandedIn, run_over}

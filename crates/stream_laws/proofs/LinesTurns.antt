@@ -1,11 +1,11 @@
 -- One turn of a Lines: its list, once it has one, stays; and it hands out items of it, and tells its end, only once something of it is
 -- kept.
-use Rattle.std.proofs.Common.{◌≡◌, ℕ, ◌==◌, ℤ, pos, negsuc, Bool, true, false, cond, List}
+use Rattle.std.proofs.Common.{◌≡◌, ℕ, ◌==◌, ℤ, pos, negsuc, Bool, true, false, cond, List, []}
 use Rattle.std.proofs.Common.{map, length, Option, None, Some, refl, ap, sym, ◌∙◌, subst}
 use Rattle.std.specs.Prelude.{slice_get}
 use Rattle.std.specs.Option.{option_map}
 use Rattle.std.proofs.lemmas.Option.{slice_get-map}
-use Rattle.eden_value.specs.Datum.{Datum, number, truth, text, cap, list}
+use Rattle.eden_value.specs.Datum.{Datum, text}
 use Rattle.eden_value.specs.Code.{items_of-data_of}
 use Rattle.eden_value.specs.declared.status.Status.TheVariants as status
 use Rattle.eden_model.specs.Map.{with_item}
@@ -13,17 +13,16 @@ use Rattle.epl_syntax.specs.declared.effect.Answer.{Answer}
 use Rattle.epl_syntax.specs.declared.effect.Answer.TheVariants.{Reply as Told}
 use Rattle.epl_syntax.specs.declared.effect.Effect.{Effect}
 use Rattle.epl_syntax.specs.declared.effect.Effect.TheVariants as effect
-use Rattle.epl_syntax.specs.Simple.{text_in, is_fine, returns_code}
+use Rattle.epl_syntax.specs.Simple.{is_fine, returns_code}
 use Rattle.epl_syntax.specs.Streams.{Came, an_item, the_end, nothing, came, returns_item, returns_none, trouble, out_of_reach, end_code}
 use Rattle.epl_syntax.specs.Lines.{Source, Stage, fills, fill_saved, transfers, transfer_saved, source, values_of, item_at, saves}
 use Rattle.epl_syntax.specs.Lines.{lines_turn}
 use Rattle.history_laws.proofs.SafeRuns.{same-number}
-use Rattle.stream_laws.specs.Streams.{IsOf}
-use Rattle.stream_laws.proofs.Items.{mapped-length}
+use Rattle.stream_laws.proofs.Items.{IsOf, HasText, mapped-length}
 
 -- 1. What a Lines holds: where it is filled, it has this list; and where that is saved, something of it is kept
 pub record Holds (kept : Bool) (texts : List (List ℕ)) (s : Source) : Type 0 where
-  pub items : s.filled ≡ true → map text_in s.items ≡ texts
+  pub items : s.filled ≡ true → s.items ≡ map text texts
   pub saved : s.filled ≡ true → s.saved ≡ true → kept ≡ true
 
 -- what is in the variables in which a Lines is, is that Lines
@@ -32,7 +31,7 @@ source-back s = ap (λ items. record s { items = items }) (items_of-data_of s.it
 
 -- 2. What is left to do
 abbrev pub IsLeft : List (List ℕ) → ℤ → Source → Stage → Type 0
-IsLeft texts q s (fills items) = s.filled ≡ false → map text_in items ≡ texts
+IsLeft texts q s (fills items) = s.filled ≡ false → items ≡ map text texts
 IsLeft texts q s fill_saved = s.filled ≡ true
 IsLeft texts q s (transfers p) = p ≡ q
 IsLeft texts q s (transfer_saved p) = (p ≡ q) × (s.filled ≡ true)
@@ -46,7 +45,7 @@ IsSaid kept texts q the_end = (kept ≡ true) × IsOf texts q the_end
 IsSaid kept texts q nothing = Unit {0}
 
 abbrev pub EndsSo : Bool → List (List ℕ) → ℤ → Source → Stage → Effect → Type 0
-EndsSo kept texts q s st (effect.Return results) = IsSaid kept texts q (came (Told status.Ok results))
+EndsSo kept texts q s st (effect.Return results) = IsSaid kept texts q (came (Told status.Ok results)) × HasText results
 EndsSo kept texts q s st effect.Checkpoint = (s.filled ≡ true) × IsLeft texts q s st
 EndsSo kept texts q s st _ = ⊥
 
@@ -81,32 +80,30 @@ module _ (kept : Bool) (texts : List (List ℕ)) (q : ℤ) where
   moves-cond s false x y a b = b refl
 
   -- the item at a position of its list
-  handed : (s : Source) → map text_in s.items ≡ texts → kept ≡ true → EndsSo kept texts q s fill_saved (item_at s.items q)
-  handed s is k = go q is
+  handed : (s : Source) → s.items ≡ map text texts → kept ≡ true → EndsSo kept texts q s fill_saved (item_at s.items q)
+  handed s is k = go q
     where
-      at : (i : ℕ) (o : Option Datum) → slice_get s.items i ≡ o
+      at : (i : ℕ) (o : Option (List ℕ)) → slice_get texts i ≡ o
           → EndsSo kept texts (pos i) s fill_saved
-          (with_item o returns_item (returns_none (cond (i == length s.items) end_code out_of_reach)))
-      at i (Some (text t)) e = (k, subst (λ l. slice_get l i ≡ Some t) is (slice_get-map text_in s.items i ∙ ap (option_map text_in) e))
-      at i (Some (number n)) e = tt
-      at i (Some (truth b)) e = tt
-      at i (Some (cap c)) e = tt
-      at i (Some (list ds)) e = tt
+          (with_item (option_map text o) returns_item (returns_none (cond (i == length s.items) end_code out_of_reach)))
+      at i (Some t) e = ((k, e), (t, refl))
       at i None e = last (i == length s.items) refl
         where
           last : (b : Bool) → (i == length s.items) ≡ b
               → EndsSo kept texts (pos i) s fill_saved (returns_none (cond b end_code out_of_reach))
-          last true e = (k, ap pos (same-number i (length s.items) e ∙ sym (mapped-length text_in s.items) ∙ ap length is))
-          last false e = tt
+          last true e = ((k, ap pos (same-number i (length s.items) e ∙ ap length is ∙ mapped-length text texts)), ([], refl))
+          last false e = (tt, ([], refl))
 
-      go : (q : ℤ) → map text_in s.items ≡ texts → EndsSo kept texts q s fill_saved (item_at s.items q)
-      go (pos i) is = at i (slice_get s.items i) refl
-      go (negsuc i) is = tt
+      go : (q : ℤ) → EndsSo kept texts q s fill_saved (item_at s.items q)
+      go (pos i) = subst (λ o. EndsSo kept texts (pos i) s fill_saved
+          (with_item o returns_item (returns_none (cond (i == length s.items) end_code out_of_reach))))
+          (sym (ap (λ l. slice_get l i) is ∙ slice_get-map text texts i)) (at i (slice_get texts i) refl)
+      go (negsuc i) = (tt, ([], refl))
 
   moved : (s : Source) (st : Stage) (a : Answer) → Holds kept texts s → IsLeft texts q s st → (is_fine a ≡ true → kept ≡ true)
       → Moves kept texts q s (turned_by s (values_of s) st a)
   moved s (fills items) a h left fine = moves-cond s s.filled (values_of s, fill_saved, returns_code 1) _
-      (λ e. record { now = s; values = refl; holds = h; filled = λ x. x; ends = tt })
+      (λ e. record { now = s; values = refl; holds = h; filled = λ x. x; ends = (tt, tt) })
       (λ e. record {
         now = record s { filled = true; items = items; saved = false };
         values = refl;
@@ -121,9 +118,9 @@ module _ (kept : Bool) (texts : List (List ℕ)) (q : ℤ) where
         values = refl;
         holds = record { items = h.items; saved = λ x y. fine e };
         filled = λ x. x;
-        ends = tt;
+        ends = (tt, tt);
       })
-      (λ e. record { now = s; values = refl; holds = h; filled = λ x. x; ends = tt })
+      (λ e. record { now = s; values = refl; holds = h; filled = λ x. x; ends = (tt, tt) })
   moved s (transfers p) a h left fine = moves-cond s s.filled _ (values_of s, fill_saved, returns_none trouble)
       (λ filled. moves-cond s s.saved (values_of s, fill_saved, item_at s.items p) (saves s (transfer_saved p))
       (λ saved. record {
@@ -141,7 +138,7 @@ module _ (kept : Bool) (texts : List (List ℕ)) (q : ℤ) where
         filled = λ x. x;
         ends = (filled, (left, filled));
       }))
-      (λ empty. record { now = s; values = refl; holds = h; filled = λ x. x; ends = tt })
+      (λ empty. record { now = s; values = refl; holds = h; filled = λ x. x; ends = (tt, ([], refl)) })
   moved s (transfer_saved p) a h left fine =
       moves-cond s (is_fine a) (values_of (record s { saved = true }), fill_saved, item_at s.items p) _
       (λ e. record {
@@ -152,7 +149,7 @@ module _ (kept : Bool) (texts : List (List ℕ)) (q : ℤ) where
         ends = subst (λ p. EndsSo kept texts q (record s { saved = true }) fill_saved (item_at s.items p)) (sym left.0)
             (handed s (h.items left.1) (fine e));
       })
-      (λ e. record { now = s; values = refl; holds = h; filled = λ x. x; ends = tt })
+      (λ e. record { now = s; values = refl; holds = h; filled = λ x. x; ends = (tt, ([], refl)) })
 
   pub lines-moves : (s : Source) (st : Stage) (a : Answer) → Holds kept texts s → IsLeft texts q s st → (is_fine a ≡ true → kept ≡ true)
       → Moves kept texts q s (lines_turn (values_of s) st a)

@@ -27,7 +27,7 @@ use Rattle.epl_syntax.specs.Sink.{Drain, drain, sink_turn}
 use Rattle.epl_syntax.specs.Sink as sink
 use Rattle.epl_syntax.specs.Pipelines.{Sieve, takes, skips, keeps, numbers, sifted, rule_of}
 use Rattle.stream_laws.specs.Chains.{type_of_sieve}
-use Rattle.stream_laws.specs.Streams.{IsOf}
+use Rattle.stream_laws.proofs.Items.{IsOf, HasText}
 use Rattle.stream_laws.proofs.FilterTurns.{Moves, IsShut, filter-moves, filter-back, saved-holds}
 use Rattle.stream_laws.proofs.FilterTurns as of_filters
 use Rattle.stream_laws.proofs.LinesTurns.{lines-moves, source-back}
@@ -117,7 +117,7 @@ filter_role before s items = record {
   Vars = λ kept vars. FilterVars before s items vars;
   Filled = λ vars. Unit {0};
   Task = FilterTask before s items;
-  Said = λ kept args st results. IsOf (sifted s items) (position args) (came (Told st results));
+  Said = λ kept args st results. IsOf (sifted s items) (position args) (came (Told st results)) × HasText results;
   Left = λ vars results. Unit {0};
   Asks = FilterAsks before s;
   Comes = λ given st results. IsOf items (position given) (came (Told st results));
@@ -130,14 +130,38 @@ same-rule (keeps t) = refl
 same-rule numbers = refl
 
 filter-first : (before : Uid) (s : Sieve) (items : List (List ℕ)) → FilterVars before s items (first_values (of_native (type_of_sieve s)))
-filter-first before (takes n) items = record { form = refl; holds = record { arg = refl; state = inl
-    (record { src = refl; got = refl; made = refl }) } }
-filter-first before (skips n) items = record { form = refl; holds = record { arg = refl; state = inl
-    (record { src = refl; got = refl; made = refl }) } }
-filter-first before (keeps t) items = record { form = refl; holds = record { arg = refl; state = inl
-    (record { src = refl; got = refl; made = refl }) } }
-filter-first before numbers items = record { form = refl; holds = record { arg = refl; state = inl
-    (record { src = refl; got = refl; made = refl }) } }
+filter-first before (takes n) items = record {
+  form = refl;
+  holds = record {
+    arg = refl;
+    state = inl
+        (record { src = refl; got = refl; made = refl });
+  };
+}
+filter-first before (skips n) items = record {
+  form = refl;
+  holds = record {
+    arg = refl;
+    state = inl
+        (record { src = refl; got = refl; made = refl });
+  };
+}
+filter-first before (keeps t) items = record {
+  form = refl;
+  holds = record {
+    arg = refl;
+    state = inl
+        (record { src = refl; got = refl; made = refl });
+  };
+}
+filter-first before numbers items = record {
+  form = refl;
+  holds = record {
+    arg = refl;
+    state = inl
+        (record { src = refl; got = refl; made = refl });
+  };
+}
 
 -- it starts again from what is kept of it, saved
 again-arg : (s : Sieve) (f : Filter) (a : List Datum) → length a ≡ length (rule_of s).arg
@@ -167,7 +191,7 @@ module _ (before : Uid) (s : Sieve) (items : List (List ℕ)) where
       → (st : filters.Stage) (e : Effect) → of_filters.EndsSo before s items q f st e
       → TurnEnds (filter_role before s items) kept (values_of f) args (in_filter st) e
   filter-ends q kept args at f back st (effect.Return results) x =
-      (subst (λ p. IsOf (sifted s items) p (came (Told status.Ok results))) at x, tt)
+      ((subst (λ p. IsOf (sifted s items) p (came (Told status.Ok results))) at x.0, x.1), tt)
   filter-ends q kept args at f back st effect.Checkpoint x = (
     tt,
     (
@@ -255,7 +279,7 @@ module _ (before : Uid) (s : Sieve) (items : List (List ℕ)) where
     told_code = filter-code;
     told_reply = filter-reply;
     told_nothing = filter-nothing;
-    said_nothing = λ kept args w. of-nothing (sifted s items) (position args) w;
+    said_nothing = λ kept args w. (of-nothing (sifted s items) (position args) w, tt);
     said_later = λ args w results h. h;
     first = filter-first before s items;
     starts_again = λ vars h f. (filter-again vars h, tt);
@@ -276,7 +300,7 @@ lines_role texts = record {
   Vars = λ kept vars. LinesVars texts kept vars;
   Filled = λ vars. (source vars).filled ≡ true;
   Task = LinesTask texts;
-  Said = λ kept args st results. of_lines.IsSaid kept texts (position args) (came (Told st results));
+  Said = λ kept args st results. of_lines.IsSaid kept texts (position args) (came (Told st results)) × HasText results;
   Left = λ vars results. Unit {0};
   Asks = λ vars c op given. ⊥;
   Comes = λ given st results. Unit {0};
@@ -333,8 +357,8 @@ module _ (texts : List (List ℕ)) where
     told_code = λ vars args st a c h. lines-code vars args st a (Code c) h;
     told_reply = λ vars args st a c op given w results h k x. lines-code vars args st a (Told w results) h;
     told_nothing = λ vars args st a w h. lines-code vars args st a (Told w []) h;
-    said_nothing = λ kept args w. subst (of_lines.IsSaid kept texts (position args)) (sym (came-nothing w)) tt;
-    said_later = λ args w results h. said-later args (came (Told w results)) h;
+    said_nothing = λ kept args w. (subst (of_lines.IsSaid kept texts (position args)) (sym (came-nothing w)) tt, tt);
+    said_later = λ args w results h. (said-later args (came (Told w results)) h.0, h.1);
     first = record { form = refl; holds = record { items = λ x. absurd (cc x); saved = λ x y. absurd (cc x) } };
     starts_again = lines-again;
   }
@@ -381,8 +405,12 @@ module _ (before : Uid) (items : List (List ℕ)) where
   )
   sink-ends kept args s st effect.Checkpoint x = (tt, (x.0, subst (λ g. of_sinks.IsTold items g st Go) (sym (drain-back s)) (x.1 Go)))
   sink-ends kept args s st (effect.Invoke c op given) x = (
-    record { of_before = x.1; transfer = x.2; position = ap (λ g. number_in (argument 0 g)) x.3
-        ∙ ap (λ (g : Drain). pos (length g.items)) (sym (drain-back s)) },
+    record {
+      of_before = x.1;
+      transfer = x.2;
+      position = ap (λ g. number_in (argument 0 g)) x.3
+          ∙ ap (λ (g : Drain). pos (length g.items)) (sym (drain-back s));
+    },
     (x.0, later st),
   )
     where

@@ -19,8 +19,7 @@ use Rattle.epl_syntax.specs.Sink.{Drain, Stage, Moved, opens, open_saved, pumps,
 use Rattle.epl_syntax.specs.Sink.{counts}
 use Rattle.epl_syntax.specs.Sink.{saves, goes_on, after_asking, sink_turn}
 use Rattle.epl_syntax.specs.Pipelines.{IsFront}
-use Rattle.stream_laws.specs.Streams.{IsOf}
-use Rattle.stream_laws.proofs.Items.{front-more, whole-front, pos-same, mapped-length}
+use Rattle.stream_laws.proofs.Items.{IsOf, front-more, whole-front, pos-same, mapped-length}
 
 -- 1. What a Sink holds
 pub record Holds (before : Uid) (texts : List (List ℕ)) (s : Drain) : Type 0 where

@@ -303,7 +303,7 @@ module _ (R : Role) (u : Uid) (A : ℕ → List Datum) (was_kept : Bool) where
         → StageOn s.node → StageOn (tells v p a s).node
     stage-tells v p a s may h = stage-eject v (on_active (told p a)) s (λ e same is x.
         eject-active (told p a) s.node.requests e
-            (λ it is_it y. (active-told (is_some e.kept) p a it (may e it same is is_it y) y, refl)) x) h
+        (λ it is_it y. (active-told (is_some e.kept) p a it (may e it same is is_it y) y, refl)) x) h
 
     -- a code that is not `ok`, and a reply with no results
     pub hears-code : (kept : Bool) (vars : List Datum) (s : Status) → (is_fine (Code s) ≡ true → kept ≡ true) → MayHear kept vars (Code s)
@@ -695,7 +695,7 @@ module _ (R : Role) (u : Uid) (A : ℕ → List Datum) (was_kept : Bool) where
         go : (b : Bool) → eq_by_cmp uid_cmp u v ≡ b → StageOn (asks_store v p c s).node
         go true is = let same : v ≡ u = sym (eq-same uid_cmp uid_cmp-IsAntisymmetric u v is) in
             more-own r mid (own same).0 (subst MayKeep (ap (λ w. eject_in (on_eject w (on_active (on_crew (set_waits p outside))) s) u)
-                (sym same))
+            (sym same))
             (subst MayKeep (sym (eject-own (on_active (on_crew (set_waits p outside))) s)) (may (eject_in s u) (own same).1)))
             (stage-waits v p outside s h)
         go false is = more-other r mid (λ same. clash (subst (λ w. eq_by_cmp uid_cmp u w ≡ false) same is)) (stage-waits v p outside s h)
@@ -787,7 +787,7 @@ module _ (R : Role) (u : Uid) (A : ℕ → List Datum) (was_kept : Bool) where
             let same : new ≡ u = sym (eq-same uid_cmp uid_cmp-IsAntisymmetric u new is) in
             let x = own same in
             subst (λ o. IsEject s.node.requests (with_item o (with_active (Some (fresh t (first_values t))))
-                (newborn (fresh t (first_values t)))))
+            (newborn (fresh t (first_values t)))))
             (sym (ap (eject_in s) same ∙ x.1))
             (subst (λ k. IsEject s.node.requests (newborn (fresh k (first_values k)))) (sym x.0)
             (record {
@@ -1113,8 +1113,10 @@ module _ (R : Role) (u : Uid) (A : ℕ → List Datum) (was_kept : Bool) where
     -- or it has ended
     ended-plain : (p : ℕ) (crew : Crew) → crew.monitors ≡ []
         → ended p crew ≡ record crew { processes = where_key nat_cmp (λ k. not (k == p)) crew.processes }
-    ended-plain p crew none = ap (λ n. record (leave_held p n crew) { processes = where_key nat_cmp (λ k. not (k == p))
-        (leave_held p n crew).processes })
+    ended-plain p crew none = ap (λ n. record (leave_held p n crew) {
+      processes = where_key nat_cmp (λ k. not (k == p))
+          (leave_held p n crew).processes;
+    })
         (ap length none)
 
     ended-active : (e : Eject) (it : Active) (p : ℕ) (t : Turned) (x : Turn e it p t) → IsActive (is_some e.kept) it
@@ -1278,7 +1280,7 @@ module _ (R : Role) (u : Uid) (A : ℕ → List Datum) (was_kept : Bool) where
             × R.Filled (values_from (native_type R.kind) durable)
         done durable same = let x = L.starts_again b.values b.holds b.filled in
             subst (λ d. IsActive true (fresh (native_type R.kind) (values_from (native_type R.kind) d))
-                × R.Filled (values_from (native_type R.kind) d))
+            × R.Filled (values_from (native_type R.kind) d))
             (sym same) (fresh-active true (again R.kind b.values) x.0, x.1)
 
         from : (o : Option (List Datum)) → durable_from (native_type R.kind) rep u ≡ o

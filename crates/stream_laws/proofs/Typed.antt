@@ -155,7 +155,7 @@ pub created-typed : (w : World) (e : Entry) (nd : Node) (v : Uid) (p : ℕ) (u :
 unfolding kind-of
 created-typed w e nd v p u y a t name k is at ordered allowed is_y some turns creates_it typed =
     created-kind v p u mid (type_of w.types name) k (known worker)
-        (sym (ap (λ o. with_item (active_in o) (λ (it : Active). Some it.kind) None) left) ∙ typed)
+    (sym (ap (λ o. with_item (active_in o) (λ (it : Active). Some it.kind) None) left) ∙ typed)
   where
     s : Site
     s = site_of w v.node nd

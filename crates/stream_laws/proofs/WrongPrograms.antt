@@ -1,8 +1,8 @@
 -- Histories of wrong programs, and of a right one, held against the law. Each is a run of some steps that make a pipeline and of one more,
 -- in
 -- which the program does what no history does.
-use Rattle.std.proofs.Common.{◌≡◌, ℕ, Bool, true, false, cond, not, ◌&&◌, List, [], ◌∷◌, ◌++◌, Option, None, Some, refl, ap, sym, ◌∙◌, inl}
-use Rattle.std.proofs.Common.{inr, subst}
+use Rattle.std.proofs.Common.{◌≡◌, ℕ, Bool, true, false, cond, List, [], ◌∷◌, Option, None, Some, refl, ap, sym, ◌∙◌, inl}
+use Rattle.std.proofs.Common.{inr}
 use Rattle.std.specs.Prelude.{codes, pos, slice_get}
 use Rattle.std.specs.Ordering.{nat_cmp, eq_by_cmp}
 use Rattle.capability.specs.declared.Uid.{Uid}
@@ -11,22 +11,21 @@ use Rattle.eden_value.specs.Datum.{Datum, number, truth, text, cap, list, data_o
 use Rattle.eden_value.specs.declared.status.Status.TheVariants as status
 use Rattle.eden_codec.specs.Spelling.{spelling}
 use Rattle.eden_model.specs.Map.{with_item, value_at, same_text}
-use Rattle.eden_model.specs.declared.Asker.TheVariants.{Shell, Eject as Process}
-use Rattle.eden_model.specs.Traffic.{Traffic, Call, Place, answered, call_at}
+use Rattle.eden_model.specs.declared.Asker.TheVariants.{Eject as Process}
+use Rattle.eden_model.specs.Traffic.{Call, Place, answered}
 use Rattle.epl_syntax.specs.declared.types.Native.{Native}
 use Rattle.epl_syntax.specs.declared.types.Native.TheVariants as native
 use Rattle.epl_syntax.specs.Edentype.{native as of_native}
 use Rattle.epl_syntax.specs.Meaning.{rep_of}
+use Rattle.epl_syntax.specs.Simple.{argument, text_in}
 use Rattle.epl_syntax.specs.Pipelines.{takes}
-use Rattle.journal.specs.World.{World, Node, Eject, Active}
+use Rattle.journal.specs.World.{World, Eject}
 use Rattle.journal.specs.Ejects.{fresh}
 use Rattle.journal.specs.declared.event.Entry.{Entry}
-use Rattle.journal.specs.declared.event.Event.TheVariants as event
 use Rattle.journal.specs.declared.event.Shown.TheVariants as shown
-use Rattle.journal.specs.declared.event.StartEnd.TheVariants as start_end
 use Rattle.journal.specs.Run.{Step, EachStep}
-use Rattle.journal.proofs.Scenes.{one_node, blank_node, eject, plain, made, turn, on_disk}
-use Rattle.stream_laws.specs.Chains.{Chain, IsCreatedIn, AreCreated, OpensOnly, AreJoined}
+use Rattle.journal.proofs.Scenes.{one_node, blank_node, eject, made, turn}
+use Rattle.stream_laws.specs.Chains.{Chain, AreCreated, AreJoined}
 use Rattle.stream_laws.specs.Streams.{Flows, list_kept}
 
 -- 1. A pipeline: the Lines l, a Take f of all, the Sink k
@@ -153,7 +152,7 @@ pub early : BreaksTheLaw (run_to (turn l 1 (shown.Return 1)) answers_early)
 early = (
   are-created (turn l 1 (shown.Return 1)) answers_early,
   λ law. (let flows = law.1.1.1.0 (joined _ (refl, tt)) in
-      let bad : None ≡ Some a = flows.lines 1 _ _ _ refl refl refl refl in cc bad),
+      flows.lines 1 _ _ refl refl refl refl),
 )
 
 -- 4. A Sink that takes an item twice after a crash
@@ -178,5 +177,5 @@ pub over : BreaksTheLaw (run_to (turn f 1 (shown.Return 1)) passed_over)
 over = (
   are-created (turn f 1 (shown.Return 1)) passed_over,
   λ law. (let flows = law.1.1.1.0 (joined _ (refl, tt)) in
-      let bad : false ≡ true = ap is_a (sym (flows.filters.0 1 _ _ _ refl refl refl refl)) in cc bad),
+      let bad : false ≡ true = ap (λ l. is_a (Some (text_in (argument 0 l)))) (flows.filters.0 1 _ _ refl refl refl refl) in cc bad),
 )

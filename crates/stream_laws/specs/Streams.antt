@@ -1,20 +1,18 @@
 -- Streams under crashes: what the stages of a pipeline hand out and what its Sink holds, in every world of a history.
-use Rattle.std.specs.Prelude.{Bool, true, false, is_some, ◌≡◌, ◌≤◌, ℕ, ℤ, pos, negsuc, List, [], ◌∷◌, length, map, Option, None, Some}
-use Rattle.std.specs.Prelude.{slice_get, codes, IfSome}
+use Rattle.std.specs.Prelude.{Bool, true, false, is_some, ◌≡◌, ◌≤◌, ℕ, zero, suc, ℤ, pos, negsuc, List, [], ◌∷◌, length, map, Option, None}
+use Rattle.std.specs.Prelude.{Some}
+use Rattle.std.specs.Prelude.{slice_get, codes, IfSome, IsSomeAnd}
 use Rattle.capability.specs.declared.Uid.{Uid}
-use Rattle.eden_value.specs.Datum.{Datum, number}
-use Rattle.eden_value.specs.declared.status.Status.{Status}
+use Rattle.eden_value.specs.Datum.{Datum, number, text}
 use Rattle.eden_value.specs.declared.status.Status.TheVariants as status
 use Rattle.eden_codec.specs.Reading.{reading}
 use Rattle.eden_model.specs.Map.{with_item}
 use Rattle.eden_model.specs.Traffic.{Traffic, Call, call_at, answered}
-use Rattle.epl_syntax.specs.declared.effect.Answer.TheVariants.{Reply as Told}
 use Rattle.epl_syntax.specs.declared.effect.Effect.TheVariants as effect
 use Rattle.epl_syntax.specs.declared.types.Native.{Native}
 use Rattle.epl_syntax.specs.Edentype.{native as of_native}
 use Rattle.epl_syntax.specs.Meaning.{Turned}
 use Rattle.epl_syntax.specs.Simple.{argument, number_in, text_in, items_in}
-use Rattle.epl_syntax.specs.Streams.{Came, an_item, the_end, nothing, came}
 use Rattle.epl_syntax.specs.Pipelines.{IsFront, sifted}
 use Rattle.passive_store.specs.Kept.{Layout}
 use Rattle.passive_store.specs.Layout.{IsLayout}
@@ -58,11 +56,11 @@ abbrev pub item_in : List (List ℕ) → ℤ → Option (List ℕ)
 item_in items (pos i) = slice_get items i
 item_in items (negsuc i) = None
 
--- what came for a position: an item is the one there, and the end comes right behind the last
-abbrev pub IsOf : List (List ℕ) → ℤ → Came → Type 0
-IsOf items p (an_item t) = item_in items p ≡ Some t
-IsOf items p the_end = p ≡ pos (length items)
-IsOf items p nothing = Unit {0}
+-- what the results of a Transfer say for a position: beside code 0 stands the item there, alone; code 1 comes right behind the last item
+abbrev pub IsAnswer : List (List ℕ) → ℤ → List Datum → Type 0
+IsAnswer items p (number (pos zero) ∷ d ∷ more) = IsSomeAnd (item_in items p) (λ t. d ∷ more ≡ text t ∷ [])
+IsAnswer items p (number (pos (suc zero)) ∷ d ∷ more) = p ≡ pos (length items)
+IsAnswer items p _ = Unit {0}
 
 -- the position that a call asks for
 abbrev pub position_of : Call → ℤ
@@ -70,8 +68,8 @@ position_of c = number_in (argument 0 c.args)
 
 -- of each Transfer of the stage u the answer that is on its way
 abbrev pub HandsOut : Traffic → Uid → List (List ℕ) → Type 0
-HandsOut t u items = (k : ℕ) (c : Call) (said : Status) (results : List Datum) → call_at t k ≡ Some c → c.target.uid ≡ u
-    → c.operation ≡ codes "Transfer" → c.place ≡ answered said results → IsOf items (position_of c) (came (Told said results))
+HandsOut t u items = (k : ℕ) (c : Call) (results : List Datum) → call_at t k ≡ Some c → c.target.uid ≡ u
+    → c.operation ≡ codes "Transfer" → c.place ≡ answered status.Ok results → IsAnswer items (position_of c) results
 
 -- of each Pump of the Sink u the answer that is on its way: where it came to the end, all items are held
 abbrev pub PumpsAll : Traffic → Uid → List (List ℕ) → Type 0
@@ -101,9 +99,8 @@ pub record Flows (w : World) (c : Chain) (list : List (List ℕ)) : Type 0 where
 -- 5. The laws
 
 -- So it is with every pipeline in each step of every history of a fit script, over at most eight disks that are handed in as they have to
--- be
--- and a layout that keeps what layouts owe: with each chain whose stages are all created in the history, and are joined in the world behind
--- the step.
+-- be and a layout that keeps what layouts owe: with each chain whose stages are all created in the history, and are joined in the world
+-- behind the step.
 abbrev pub OfEachPipeline : (Chain → Step → Type 0) → Type 0
 OfEachPipeline P = (layout : Layout) (script : Script) (disks : List DiskRun) (history : List Entry) → IsLayout layout
     → AreHandedIn layout disks → length disks ≤ 8 → IsFit script → Begins layout script disks history
@@ -132,6 +129,7 @@ pub record ComesToTheEnd (u : Uid) (s : Step) (t : Turned) (held : ℤ) : Type 0
   pub event_is : s.entry.event ≡ event.Process u process said
   -- the active part of the Sink before it
   pub active : Active
+  -- which it has there
   pub is_active : active_in (eject_at s.world u) ≡ Some active
   -- what the turn comes to
   pub turn : turn_of u active process ≡ Some t
