@@ -46,19 +46,16 @@ use Rattle.stream_laws.specs.Streams.{items_held, items_stored, list_kept, Hands
 use Rattle.epl_syntax.specs.Natives.{native_turn}
 use Rattle.epl_syntax.specs.Meaning.{Turned}
 use Rattle.journal.specs.declared.event.Shown.{Shown}
-use Rattle.journal.specs.World.{site_of}
 use Rattle.journal.specs.Sites.{active_in}
-use Rattle.journal.specs.Step.{AllowsAt}
-use Rattle.history_laws.proofs.EveryNode.{at-its-site}
 use Rattle.history_laws.proofs.Runs.{no-turn}
-use Rattle.stream_laws.proofs.Items.{texts-back, IsOf, answers-so}
+use Rattle.stream_laws.proofs.Items.{if-map, texts-back, IsOf, answers-so}
 use Rattle.stream_laws.proofs.Roles.{TurnEnds}
 use Rattle.stream_laws.proofs.StagedCalls.{own-turn}
 use Rattle.stream_laws.proofs.Roles.{Role, IsLawful, filter_role, filter-lawful, lines_role, lines-lawful, sink_role, sink-lawful}
 use Rattle.stream_laws.proofs.Stage.{IsActive, IsBody, IsChange, IsEject}
 use Rattle.stream_laws.proofs.Stage as stage
 use Rattle.stream_laws.proofs.StagedNodes.{kept_now, own-eject}
-use Rattle.stream_laws.proofs.Staged.{Staged, staged-next, staged-looked_up}
+use Rattle.stream_laws.proofs.Staged.{Staged, turn-allowed, staged-next, staged-looked_up}
 use Rattle.stream_laws.proofs.Instances.{position, HandsOver, Given, around-filter, around-sink, filter-hands, lines-hands}
 use Rattle.stream_laws.proofs.LinesRuns.{Kept, Later, lists-next}
 use Rattle.stream_laws.proofs.Typed.{made-typed, created-typed}
@@ -67,11 +64,6 @@ use Rattle.journal.specs.declared.event.Shown.TheVariants as shown
 use Rattle.journal.specs.LegalRun.{created_by}
 use Rattle.journal.specs.Processes.{turn_of}
 use Rattle.stream_laws.proofs.Readable.{reads-back}
-
-turn-allowed : (w : World) (o : Option Command) (it : Node) (v : Uid) (p : ℕ) (said : Shown) → AllowsEvent w o (event.Process v p said)
-    → node_at w v.node ≡ Some it → AllowsAt (site_of w v.node it) (event.Process v p said)
-turn-allowed w None it v p said a at = at-its-site w v.node (λ s. AllowsAt s (event.Process v p said)) it at a
-turn-allowed w (Some y) it v p said a at = absurd (no-turn w y (event.Process v p said) refl a)
 
 -- 1. What holds of a pipeline in a world
 module _ (A : ℕ → List Datum) where
@@ -381,10 +373,6 @@ module _ (A : ℕ → List Datum) where
       change-front (body bytes) b = bytes-front bytes b
       change-front removal b = tt
 
-      if-map : {X : Type 0} {P Q : X → Type 0} (o : Option X) → ((x : X) → P x → Q x) → IfSome o P → IfSome o Q
-      if-map None f y = tt
-      if-map (Some x) f y = f x y
-
       eject : (nd : Node) (o : Option Eject) → IfSome o (IsEject (sink_role before items) u A (kept_now w u) nd.requests)
           → IfSome o (HoldsFront items)
       eject nd None x = tt
@@ -591,7 +579,10 @@ pub sinks-hold-all : OfNewPipelines (λ c s. (t : Turned) (held : ℤ) → Comes
 sinks-hold-all layout script disks history lays fits rules monitors begins c new =
     each-step Any (λ past w. Inv here c past w) (λ past s. IsPipeline (s ∷ past) s.later.traffic c → (t : Turned) (held : ℤ)
     → ComesToTheEnd c.sink s t held → items_held t.vars ≡ made_by c.filters (list_kept s.later c.lines)) (record {
-      entries = λ past w x e any allowed i. (λ pipe t held h. ends-whole here c past w x e allowed i pipe t held h, entry-inv here c past w x e allowed i);
+      entries = λ past w x e any allowed i. (
+        λ pipe t held h. ends-whole here c past w x e allowed i pipe t held h,
+        entry-inv here c past w x e allowed i,
+      );
       look_ups = λ past w name target path e any allowed plain i. (
         λ pipe t held h. absurd (no-look w name target path c.sink h.process h.said
             (subst (AllowsLookUp w name target path) h.event_is allowed)),

@@ -1,7 +1,8 @@
 -- Lists and fronts of them, positions, and what comes for one.
 use Rattle.std.proofs.Common.{◌≡◌, ℕ, zero, suc, ◌+◌, ℤ, pos, negsuc, Bool, true, false, not, ◌&&◌, ◌||◌, List, [], ◌∷◌}
-use Rattle.std.proofs.Common.{◌++◌, map, length, Option, Some, refl, ap, sym, ◌∙◌, subst, arith, length-append}
-use Rattle.std.specs.Prelude.{slice_get, IsSomeAnd}
+use Rattle.std.proofs.Common.{◌++◌, map, length, cond, Option, None, Some, refl, ap, sym, ◌∙◌, subst, arith, length-append}
+use Rattle.std.specs.Prelude.{slice_get, is_some, IfSome, IsSomeAnd}
+use Rattle.std.specs.List.{find}
 use Rattle.std.specs.Ordering.{int_eq}
 use Rattle.std.specs.Cmp.Lexicographic.{bytes_decides}
 use Rattle.eden_value.specs.Datum.{Datum, number, text}
@@ -70,8 +71,26 @@ item-of-front xs ys (negsuc i) t h is = absurd (cc is)
 pub pos-same : (m n : ℕ) → pos m ≡ pos n → m ≡ n
 pos-same m n e = cc e
 
-pub some-same : {A : Type 0} (x y : A) → Some x ≡ Some y → x ≡ y
-some-same x y e = cc e
+pub same-some : {X : Type 0} {x y : X} → Some x ≡ Some y → x ≡ y
+same-some e = cc e
+
+-- what follows of what is there
+pub if-map : {X : Type 0} {P Q : X → Type 0} (o : Option X) → ((x : X) → P x → Q x) → IfSome o P → IfSome o Q
+if-map None f h = tt
+if-map (Some x) f h = f x h
+
+pub there-some : {X : Type 0} (P : X → Type 0) (o : Option X) → IsSomeAnd o P → is_some o ≡ true
+there-some P None h = absurd h
+there-some P (Some x) h = refl
+
+-- what a search finds passes its test
+pub found-passes : {X : Type 0} (test : X → Bool) (xs : List X) (x : X) → find test xs ≡ Some x → test x ≡ true
+found-passes test [] x is = absurd (cc is)
+found-passes test (y ∷ xs) x is = go (test y) refl (found-passes test xs x) is
+  where
+    go : (b : Bool) → test y ≡ b → (find test xs ≡ Some x → test x ≡ true) → cond b (Some y) (find test xs) ≡ Some x → test x ≡ true
+    go true holds later e = let same : y ≡ x = cc e in ap test (sym same) ∙ holds
+    go false fails later e = later e
 
 pub and-first : (a b : Bool) → (a && b) ≡ true → a ≡ true
 and-first true b e = refl

@@ -1,8 +1,7 @@
 -- The native type of an Eject that a history creates goes by its name in every world of that history.
-use Rattle.std.proofs.Common.{◌≡◌, inl, inr, ℕ, Bool, true, false, cond, List, [], ◌∷◌, Option, None, Some, is_some, refl, ap, sym}
+use Rattle.std.proofs.Common.{◌≡◌, inl, inr, ℕ, Bool, List, [], ◌∷◌, Option, None, Some, is_some, refl, ap, sym}
 use Rattle.std.proofs.Common.{◌∙◌, subst}
 use Rattle.std.specs.Prelude.{IsSomeAnd}
-use Rattle.std.specs.List.{find}
 use Rattle.capability.specs.declared.Uid.{Uid}
 use Rattle.eden_model.specs.Map.{with_item, same_text}
 use Rattle.eden_model.specs.Crew.{Process as Worker, Invocation}
@@ -33,19 +32,11 @@ use Rattle.history_laws.proofs.Runs.{Any, of-any, each-step, no-turn, world-boot
 use Rattle.history_laws.proofs.SiteRuns.{types-next, types-looked_up}
 use Rattle.history_laws.proofs.SeatRuns.{SeatWorld, seat-next, seat-looked_up, seat-opening}
 use Rattle.stream_laws.specs.Chains.{type_at, IsCreatedIn}
-use Rattle.stream_laws.proofs.Items.{same-texts}
+use Rattle.stream_laws.proofs.Items.{same-texts, found-passes}
 use Rattle.stream_laws.proofs.Created.{asks-none}
 use Rattle.stream_laws.proofs.Typed.{made-typed, created-typed}
 
 -- 1. A type that goes by a name goes by its own
-found-passes : {X : Type 0} (test : X → Bool) (xs : List X) (x : X) → find test xs ≡ Some x → test x ≡ true
-found-passes test [] x is = absurd (cc is)
-found-passes test (y ∷ xs) x is = go (test y) refl (found-passes test xs x) is
-  where
-    go : (b : Bool) → test y ≡ b → (find test xs ≡ Some x → test x ≡ true) → cond b (Some y) (find test xs) ≡ Some x → test x ≡ true
-    go true holds later e = let same : y ≡ x = cc e in ap test (sym same) ∙ holds
-    go false fails later e = later e
-
 by-own-name : (types : List Edentype) (name : List ℕ) (t : Edentype) → type_of types name ≡ Some t → type_of types (name_of t) ≡ Some t
 by-own-name types name t is = ap (type_of types) (same-texts (name_of t) name (found-passes (λ x. same_text (name_of x) name) types t is))
     ∙ is

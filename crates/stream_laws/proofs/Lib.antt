@@ -1,4 +1,5 @@
 pub mod Items
+pub mod Sites
 pub mod FilterTurns
 pub mod LinesTurns
 pub mod SinkTurns

@@ -37,7 +37,7 @@ use Rattle.history_laws.proofs.Fits.{times}
 use Rattle.history_laws.proofs.SiteEvents.{startable-there}
 use Rattle.history_laws.proofs.Tasks.{FitsCall, FitsActive}
 use Rattle.history_laws.proofs.SeatRuns.{SeatWorld}
-use Rattle.stream_laws.proofs.Items.{and-first}
+use Rattle.stream_laws.proofs.Items.{and-first, same-some}
 use Rattle.stream_laws.proofs.LinesTurns as of_lines
 use Rattle.stream_laws.proofs.Roles.{LinesVars, lines_role, lines-lawful}
 use Rattle.stream_laws.proofs.Stage.{IsActive, IsBody, IsChange, AreChanges, NoneOf, IsClean, IsEject, IsStage, starts-idle}
@@ -279,9 +279,6 @@ module _ (u : Uid) (A : ℕ → List Datum) where
             → FitsCall (native_type native.Lines) (call_at w.traffic k)
         go None at x = absurd (cc x)
         go (Some nd) at x = eject nd at (value_at uid_cmp u nd.ejects) refl x
-
-    same-some : {X : Type 0} {a b : X} → Some a ≡ Some b → a ≡ b
-    same-some eq = cc eq
 
     pub lists-next : Later w (next w c e) old
     lists-next = go (start-of e.event)

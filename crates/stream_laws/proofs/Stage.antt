@@ -80,6 +80,8 @@ use Rattle.eden_codec.specs.declared.rep.Rep.{Rep}
 use Rattle.epl_syntax.specs.Meaning.{name_of, durable_from, durable_of, is_current, upgraded, started_from, values_from}
 use Rattle.journal.specs.Boots.{booted_node, boot_turn}
 use Rattle.stream_laws.proofs.Roles.{Role, IsLawful, TurnKeeps, TurnEnds, again}
+use Rattle.stream_laws.proofs.Items.{same-some, if-map, there-some, found-passes}
+use Rattle.stream_laws.proofs.Sites.{eject-own, types-on}
 
 -- 1. What holds of it
 module _ (R : Role) (u : Uid) (A : ℕ → List Datum) (was_kept : Bool) where
@@ -331,16 +333,13 @@ module _ (R : Role) (u : Uid) (A : ℕ → List Datum) (was_kept : Bool) where
 
     -- 5. Requests come and go
     eject-requests : (rs new : List StoreRequest) (e : Eject) → (NoneOf rs → NoneOf new) → IsEject rs e → IsEject new e
-    eject-requests rs new e keeps h = record { active = h.active; filled = go e.active h.filled; kept = h.kept; doubt = h.doubt; still = h.still }
+    eject-requests rs new e keeps h =
+        record { active = h.active; filled = go e.active h.filled; kept = h.kept; doubt = h.doubt; still = h.still }
       where
         go : (o : Option Active) → IfSome o (λ it. R.Filled it.vars ⊎ IsClean rs e) → IfSome o (λ it. R.Filled it.vars ⊎ IsClean new e)
         go None x = tt
         go (Some it) (inl x) = inl x
         go (Some it) (inr x) = inr (record { kept = x.kept; doubt = x.doubt; requests = keeps x.requests })
-
-    if-map : {X : Type 0} {P Q : X → Type 0} (o : Option X) → ((x : X) → P x → Q x) → IfSome o P → IfSome o Q
-    if-map None f h = tt
-    if-map (Some x) f h = f x h
 
     stage-requests : (rs new : List StoreRequest) (o : Option Eject) → (AreChanges rs → AreChanges new) → (NoneOf rs → NoneOf new)
         → IsStage rs o → IsStage new o
@@ -670,9 +669,6 @@ module _ (R : Role) (u : Uid) (A : ℕ → List Datum) (was_kept : Bool) where
             fill None y = tt
             fill (Some it) y = inl y
 
-    eject-own : (f : Eject → Eject) (s : Site) → eject_in (on_eject u f s) u ≡ option_map f (eject_in s u)
-    eject-own f s = eject-on_eject u u f s ∙ rw (tied_itself uid_cmp_total u) refl
-
     pub stage-asks : (v : Uid) (p : ℕ) (c : EjectChange) (s : Site)
         → (v ≡ u → IsChange c × MayKeep (eject_in s u)) → StageOn s.node → StageOn (asks_store v p c s).node
     stage-asks v p c s own h = go (eq_by_cmp uid_cmp u v) refl
@@ -696,7 +692,7 @@ module _ (R : Role) (u : Uid) (A : ℕ → List Datum) (was_kept : Bool) where
         go true is = let same : v ≡ u = sym (eq-same uid_cmp uid_cmp-IsAntisymmetric u v is) in
             more-own r mid (own same).0 (subst MayKeep (ap (λ w. eject_in (on_eject w (on_active (on_crew (set_waits p outside))) s) u)
             (sym same))
-            (subst MayKeep (sym (eject-own (on_active (on_crew (set_waits p outside))) s)) (may (eject_in s u) (own same).1)))
+            (subst MayKeep (sym (eject-own u (on_active (on_crew (set_waits p outside))) s)) (may (eject_in s u) (own same).1)))
             (stage-waits v p outside s h)
         go false is = more-other r mid (λ same. clash (subst (λ w. eq_by_cmp uid_cmp u w ≡ false) same is)) (stage-waits v p outside s h)
           where
@@ -875,14 +871,6 @@ module _ (R : Role) (u : Uid) (A : ℕ → List Datum) (was_kept : Bool) where
             (λ e it same at is_it x. may c p e it is opened (by ∙ ap (λ w. Process w p) same) at is_it x) (stage-traffic (received k) s h)
 
     -- 12. A call starts
-    find-passes : {X : Type 0} (test : X → Bool) (xs : List X) (x : X) → find test xs ≡ Some x → test x ≡ true
-    find-passes test [] x is = absurd (cc is)
-    find-passes test (y ∷ xs) x is = go (test y) refl (find-passes test xs x) is
-      where
-        go : (b : Bool) → test y ≡ b → (find test xs ≡ Some x → test x ≡ true) → cond b (Some y) (find test xs) ≡ Some x → test x ≡ true
-        go true holds later e = (let same : y ≡ x = cc e in ap test (sym same) ∙ holds)
-        go false fails later e = later e
-
     abbrev AllFirst : List Operation → Type 0
     AllFirst [] = Unit {0}
     AllFirst (o ∷ os) = (o.class ≡ 0) × AllFirst os
@@ -938,7 +926,7 @@ module _ (R : Role) (u : Uid) (A : ℕ → List Datum) (was_kept : Bool) where
             → cond b (find (may_start it.crew) (map (invocation it.kind t) e.queued)) None ≡ Some (invocation it.kind t k)
             → it.crew.processes ≡ []
         go (inl x) b found = x
-        go (inr y) true found = absurd (busy-full kept it (invocation it.kind t k) h first_one (find-passes (may_start it.crew)
+        go (inr y) true found = absurd (busy-full kept it (invocation it.kind t k) h first_one (found-passes (may_start it.crew)
             (map (invocation it.kind t) e.queued) (invocation it.kind t k) found) y)
         go (inr y) false found = absurd (cc found)
 
@@ -1085,10 +1073,6 @@ module _ (R : Role) (u : Uid) (A : ℕ → List Datum) (was_kept : Bool) where
         go None y = absurd (cc y)
         go (Some old) y = x
 
-    there-some : {X : Type 0} (P : X → Type 0) (o : Option X) → IsSomeAnd o P → is_some o ≡ true
-    there-some P None h = absurd h
-    there-some P (Some x) h = refl
-
     turned-active : (e : Eject) (it : Active) (p : ℕ) (t : Turned) (x : Turn e it p t) → IsActive (is_some e.kept) it
         → R.Task t.vars (A x.busy.call.call) (native_turn R.kind it.vars x.stage x.answer).1 Go → IsActive (is_some e.kept) (turned p t it)
     turned-active e it p t x h task = record {
@@ -1139,9 +1123,6 @@ module _ (R : Role) (u : Uid) (A : ℕ → List Datum) (was_kept : Bool) where
     fills-turned : (e : Eject) (it : Active) (p : ℕ) (t : Turned) → Turn e it p t → R.Filled it.vars → R.Filled t.vars
     fills-turned e it p t x f = subst R.Filled (sym x.vars) (x.keeps.fills f)
 
-    same-some : {X : Type 0} {x y : X} → Some x ≡ Some y → x ≡ y
-    same-some e = cc e
-
     -- what a turn keeps is read back
     abbrev pub ReadsBack : Turned → Type 0
     ReadsBack t = t.effect ≡ effect.Checkpoint
@@ -1166,7 +1147,7 @@ module _ (R : Role) (u : Uid) (A : ℕ → List Datum) (was_kept : Bool) where
           (eject-turns (turned p t) s.node.requests e it some (turned-active e it p t x is-active task) (fills-turned e it p t x) now)) h
 
       may-keep : R.Filled t.vars → MayKeep (eject_in mid u)
-      may-keep f = subst MayKeep (sym (eject-own (on_active (turned p t)) s ∙ ap (option_map (on_active (turned p t))) at))
+      may-keep f = subst MayKeep (sym (eject-own u (on_active (turned p t)) s ∙ ap (option_map (on_active (turned p t))) at))
           (subst (λ o. MayKeep (Some (with_item o (λ it. with_active (Some (turned p t it)) e) e))) (sym some) f)
 
       effect-own : (eff : Effect) → t.effect ≡ eff → TurnEnds R (is_some e.kept) t.vars (A x.busy.call.call)
@@ -1227,10 +1208,6 @@ module _ (R : Role) (u : Uid) (A : ℕ → List Datum) (was_kept : Bool) where
     abbrev pub MayStore : Uid → ℕ → Site → Type 0
     MayStore v p s = (e : Eject) (it : Active) (t : Turned) → v ≡ u → eject_in s u ≡ Some e → e.active ≡ Some it → turn_of u it p ≡ Some t
         → ReadsBack t
-
-    types-on : (v : Uid) (f : Eject → Eject) (s : Site) → (on_eject v f s).types ≡ s.types
-    unfolding on_eject
-    types-on v f s = refl
 
     pub stage-process : (reach : ℕ → Bool) (v : Uid) (p : ℕ) (s : Site) → IsActiveAnd s v (λ e it. is_some (worker_at it p) ≡ true)
         → MayCreate v p s → MayStore v p s → StageOn s.node → StageOn (process_turn reach v p s).node

@@ -4,26 +4,18 @@ use Rattle.std.proofs.Common.{refl, ap, ap₂, sym, ◌∙◌, subst}
 use Rattle.std.specs.Prelude.{codes, IsSomeAnd, IfSome}
 use Rattle.std.specs.Option.{option_map}
 use Rattle.std.specs.Ordering.{nat_cmp, eq_by_cmp}
-use Rattle.std.proofs.lemmas.Cmp.{tied_itself}
 use Rattle.capability.specs.declared.Uid.{Uid}
 use Rattle.capability.specs.declared.Cap.{Cap}
-use Rattle.capability.proofs.Uids.{uid_cmp_total, uid_cmp-IsAntisymmetric}
+use Rattle.capability.proofs.Uids.{uid_cmp-IsAntisymmetric}
 use Rattle.eden_model.proofs.Laws.{eq-same}
 use Rattle.epl_syntax.specs.declared.effect.Effect.TheVariants as effect
 use Rattle.epl_syntax.specs.Meaning.{Turned}
-use Rattle.history_laws.proofs.Frame.{eject-on_eject, eject-on_traffic, node-at_same, after_at}
-use Rattle.journal.specs.declared.event.Key.{Key}
+use Rattle.history_laws.proofs.Frame.{eject-on_traffic, node-at_same, after_at}
 use Rattle.journal.specs.World.{on_eject, reaches}
 use Rattle.journal.specs.Ejects.{on_active}
-use Rattle.journal.specs.Processes.{turn_of, turned, serving, effected, active_turn, turn_taken, process_turn, waits_or_told}
+use Rattle.journal.specs.Processes.{turn_of, turned, serving, effected, process_turn, waits_or_told}
 use Rattle.journal.specs.Processes.{refused_at_once}
-use Rattle.journal.specs.Step.{clocked, counted, key_of, happened, site_turn}
-use Rattle.history_laws.proofs.NoneRolledBack.{with_clock}
-use Rattle.eden_model.specs.Map.{changed_at}
-use Rattle.eden_model.proofs.Laws.{value-changed}
-use Rattle.std.specs.Cmp.{nat_cmp_total}
-use Rattle.std.specs.FinMap.{nat_cmp-IsAntisymmetric}
-use Rattle.std.proofs.Common.{◌==◌}
+use Rattle.journal.specs.Step.{clocked, key_of, happened, site_turn}
 use Rattle.eden_value.specs.Datum.{Datum}
 use Rattle.eden_value.specs.declared.status.Status.{Status}
 use Rattle.eden_model.specs.Map.{with_item, value_at, uid_cmp}
@@ -56,6 +48,8 @@ use Rattle.eden_model.specs.declared.Asker.{Asker}
 use Rattle.history_laws.proofs.VariableRuns.{leaves-entry}
 use Rattle.stream_laws.proofs.StagedNodes.{kept_now, active_now, own-eject, Around, OnNode, AsksOn, node-next}
 use Rattle.stream_laws.proofs.StagedCalls.{SaidOn, NewAnswer, NewCall, IsOwnCall, by-shell, turn-keeps}
+use Rattle.stream_laws.proofs.Items.{same-some, if-map}
+use Rattle.stream_laws.proofs.Sites.{eject-own, turn-is, eject-clocked, eject-counted}
 
 -- 1. What was kept does not matter but where it is kept still
 module _ (R : Role) (u : Uid) (A : ℕ → List Datum) (a b : Bool) where
@@ -65,10 +59,6 @@ module _ (R : Role) (u : Uid) (A : ℕ → List Datum) (a b : Bool) where
   and-map : {X : Type 0} {P Q : X → Type 0} (o : Option X) → ((x : X) → P x → Q x) → IsSomeAnd o P → IsSomeAnd o Q
   and-map None f h = h
   and-map (Some x) f h = f x h
-
-  if-map : {X : Type 0} {P Q : X → Type 0} (o : Option X) → ((x : X) → P x → Q x) → IfSome o P → IfSome o Q
-  if-map None f h = tt
-  if-map (Some x) f h = f x h
 
   busy-as : (kept : Bool) (it : Active) → IsBusy R u A a kept it → IsBusy R u A b kept it
   busy-as kept it h = record {
@@ -136,8 +126,11 @@ module _ (R : Role) (u : Uid) (A : ℕ → List Datum) (a b : Bool) where
       go None s x = tt
       go (Some e) s x = eject-as rs e s x
 
-some-inv : {X : Type 0} {x y : X} → Some x ≡ Some y → x ≡ y
-some-inv e = cc e
+-- what is allowed of a turn is allowed at its site
+pub turn-allowed : (w : World) (o : Option Command) (it : Node) (v : Uid) (p : ℕ) (said : Shown) → AllowsEvent w o (event.Process v p said)
+    → node_at w v.node ≡ Some it → AllowsAt (site_of w v.node it) (event.Process v p said)
+turn-allowed w None it v p said a at = at-its-site w v.node (λ s. AllowsAt s (event.Process v p said)) it at a
+turn-allowed w (Some y) it v p said a at = absurd (no-turn w y (event.Process v p said) refl a)
 
 -- 2. A step
 module _ (R : Role) (L : IsLawful R) (u : Uid) (A : ℕ → List Datum) where
@@ -192,14 +185,9 @@ module _ (R : Role) (L : IsLawful R) (u : Uid) (A : ℕ → List Datum) where
         go (Some y) k = k
 
     -- 3. The calls
-    turn-allowed : (o : Option Command) → (it : Node) (v : Uid) (p : ℕ) (said : Shown) → AllowsEvent w o (event.Process v p said)
-        → node_at w v.node ≡ Some it → AllowsAt (site_of w v.node it) (event.Process v p said)
-    turn-allowed None it v p said a at = at-its-site w v.node (λ s. AllowsAt s (event.Process v p said)) it at a
-    turn-allowed (Some y) it v p said a at = absurd (no-turn w y (event.Process v p said) refl a)
-
     turns-allowed : (it : Node) (v : Uid) (p : ℕ) (said : Shown) → e.event ≡ event.Process v p said → node_at w v.node ≡ Some it
         → AllowsAt (site_of w v.node it) (event.Process v p said)
-    turns-allowed it v p said is at = turn-allowed c it v p said (subst (AllowsEvent w c) is allowed.event) at
+    turns-allowed it v p said is at = turn-allowed w c it v p said (subst (AllowsEvent w c) is allowed.event) at
 
     calls : GoOn (NewAnswer R L u A w e.event) (NewCall R L u A w e.event) w.traffic later.traffic
     calls = keeps-next (NewAnswer R L u A w e.event) (NewCall R L u A w e.event) w c e
@@ -318,7 +306,11 @@ module _ (R : Role) (L : IsLawful R) (u : Uid) (A : ℕ → List Datum) where
       where
         go : (b : Bool) → eq_by_cmp uid_cmp u v ≡ b → cond b (Some q) None ≡ Some p → (z : Shown)
             × (event.Process v q said ≡ event.Process u p z)
-        go true same eq = (said, ap₂ (λ x n. event.Process x n said) (sym (eq-same uid_cmp uid_cmp-IsAntisymmetric u v same)) (some-inv eq))
+        go true same eq = (
+          said,
+          ap₂ (λ x n. event.Process x n said) (sym (eq-same uid_cmp uid_cmp-IsAntisymmetric u v same))
+              (same-some eq),
+        )
         go false same eq = absurd (cc eq)
     own-of _ p is = absurd (cc is)
 
@@ -367,17 +359,6 @@ module _ (R : Role) (L : IsLawful R) (u : Uid) (A : ℕ → List Datum) where
         go (Some it) was waits = by it was waits (whose_turn u e.event) refl (leaves-entry H w c e seat allowed u it now was active)
 
     -- a turn that asks
-    eject-own : (f : Eject → Eject) (s : Site) → eject_in (on_eject u f s) u ≡ option_map f (eject_in s u)
-    eject-own f s = eject-on_eject u u f s ∙ rw (tied_itself uid_cmp_total u) refl
-
-    turn-is : (reach : ℕ → Bool) (p : ℕ) (s : Site) (y : Eject) (a : Active) (t : Turned) → eject_in s u ≡ Some y → y.active ≡ Some a
-        → turn_of u a p ≡ Some t
-        → process_turn reach u p s ≡ effected reach u p (serving a p) a.kind t.vars t.effect (on_eject u (on_active (turned p t)) s)
-    turn-is reach p s y a t is some turns = ap
-        (λ o. with_item o (λ (e : Eject). with_item e.active (λ it. active_turn reach u p it s) s) s) is
-        ∙ ap (λ o. with_item o (λ it. active_turn reach u p it s) s) some
-        ∙ ap (λ o. with_item o (λ t. turn_taken reach u p a t s) s) turns
-
     vars-waits : (p : ℕ) (o : Option Status) (a : Active) → (waits_or_told p o a).vars ≡ a.vars
     vars-waits p None a = refl
     vars-waits p (Some why) a = refl
@@ -390,47 +371,24 @@ module _ (R : Role) (L : IsLawful R) (u : Uid) (A : ℕ → List Datum) where
         let at_once = refused_at_once (reach target.uid.node) args in
         let mid : Site = on_eject u (on_active (turned p t)) s in
         let left : eject_in (process_turn reach u p s) u ≡ Some (on_active (waits_or_told p at_once) (on_active (turned p t) y)) =
-        ap (λ (z : Site). eject_in z u) (turn-is reach p s y a t is some turns)
+        ap (λ (z : Site). eject_in z u) (turn-is reach u p s y a t is some turns)
         ∙ ap (λ eff. eject_in (effected reach u p (serving a p) a.kind t.vars eff mid) u) asks
         ∙ eject-on_traffic u _ (on_eject u (on_active (waits_or_told p at_once)) mid)
-        ∙ eject-own (on_active (waits_or_told p at_once)) mid
-        ∙ ap (option_map (on_active (waits_or_told p at_once))) (eject-own (on_active (turned p t)) s
+        ∙ eject-own u (on_active (waits_or_told p at_once)) mid
+        ∙ ap (option_map (on_active (waits_or_told p at_once))) (eject-own u (on_active (turned p t)) s
         ∙ ap (option_map (on_active (turned p t))) is) in
         let one : Some (waits_or_told p at_once (turned p t a)) ≡ Some now = sym (both at_once) ∙ sym (ap active_in left) ∙ active in
-        ap (λ (z : Active). z.vars) (sym (some-inv one)) ∙ vars-waits p at_once (turned p t a)
+        ap (λ (z : Active). z.vars) (sym (same-some one)) ∙ vars-waits p at_once (turned p t a)
       where
         both : (o : Option Status) → (on_active (waits_or_told p o) (on_active (turned p t) y)).active ≡ Some
             (waits_or_told p o (turned p t a))
         both o = rw some refl
 
-    eject-clocked : (v : World) (n clock : ℕ) → eject_at (clocked n clock v) u ≡ eject_at v u
-    eject-clocked v n clock = go (n == 0)
-      where
-        found : Option Node → Option Eject
-        found o = with_item o (λ (it : Node). value_at uid_cmp u it.ejects) None
-
-        same : (b : Bool) (o : Option Node) → with_item (cond b (option_map (with_clock clock) o) o)
-            (λ (it : Node). value_at uid_cmp u it.ejects) None
-            ≡ with_item o (λ (it : Node). value_at uid_cmp u it.ejects) None
-        same true None = refl
-        same true (Some it) = refl
-        same false o = refl
-
-        go : (b : Bool) → eject_at (record v { nodes = cond b v.nodes (changed_at nat_cmp n (with_clock clock) v.nodes) }) u ≡ eject_at v u
-        go true = refl
-        go false = ap (λ o. with_item o (λ (it : Node). value_at uid_cmp u it.ejects) None)
-            (value-changed nat_cmp nat_cmp_total nat_cmp-IsAntisymmetric u.node n (with_clock clock) v.nodes)
-            ∙ same (eq_by_cmp nat_cmp u.node n) (node_at v u.node)
-
-    eject-counted : (v : World) (o : Option Key) → eject_at (counted o v) u ≡ eject_at v u
-    eject-counted v None = refl
-    eject-counted v (Some k) = refl
-
     -- its own node behind its own turn
     own-later : (p : ℕ) (said : Shown) (nd : Node) → c ≡ None → e.event ≡ event.Process u p said → node_at w u.node ≡ Some nd
         → eject_at later u ≡ eject_in (process_turn (reaches w u.node) u p (site_of w u.node nd)) u
-    own-later p said nd none is at = eject-counted (clocked e.node e.clock (happened w c e.event)) (key_of e.event)
-        ∙ eject-clocked (happened w c e.event) e.node e.clock
+    own-later p said nd none is at = eject-counted u (clocked e.node e.clock (happened w c e.event)) (key_of e.event)
+        ∙ eject-clocked u (happened w c e.event) e.node e.clock
         ∙ ap₂ (λ o ev. eject_at (happened w o ev) u) none is
         ∙ ap (λ o. with_item o (λ (it : Node). value_at uid_cmp u it.ejects) None)
         (node-at_same u.node (site_turn (reaches w u.node) (event.Process u p said)) w

@@ -1,5 +1,5 @@
 -- A stage in the world: what each entry leaves of the calls to it and of those that it made.
-use Rattle.std.proofs.Common.{◌≡◌, ℕ, ◌+◌, ◌≤◌, Bool, true, false, List, [], ◌∷◌, Option, None, Some, is_some}
+use Rattle.std.proofs.Common.{◌≡◌, ℕ, ◌+◌, ◌≤◌, Bool, false, List, [], ◌∷◌, Option, None, Some, is_some}
 use Rattle.std.proofs.Common.{refl, ap, sym, ◌∙◌, subst, arith}
 use Rattle.std.specs.Prelude.{IsSomeAnd, IfSome}
 use Rattle.std.specs.Ordering.{nat_cmp}
@@ -33,6 +33,7 @@ use Rattle.stream_laws.proofs.Stage.{IsActive, IsEject, Turn, turn-of-it}
 use Rattle.value_laws.proofs.AnswerCalls.{MayDo, process_turn-on}
 use Rattle.value_laws.proofs.WorldCalls.{KeepsTurn}
 use Rattle.stream_laws.proofs.StagedNodes.{kept_now, own-eject, OnNode}
+use Rattle.stream_laws.proofs.Items.{same-some, there-some}
 
 module _ (R : Role) (L : IsLawful R) (u : Uid) (A : ℕ → List Datum) where
   -- the answers to calls of it
@@ -85,10 +86,6 @@ module _ (R : Role) (L : IsLawful R) (u : Uid) (A : ℕ → List Datum) where
           (subst (λ o. IsSomeAnd o (λ e. IsSomeAnd e.active (λ a. IsSomeAnd (worker_at a p)
           (λ q. AllowsTurn (site_of w v.node it) v p said a q)))) is allowed)
 
-      there-of : {X : Type 0} (P : X → Type 0) (o : Option X) → IsSomeAnd o P → is_some o ≡ true
-      there-of P None h = absurd h
-      there-of P (Some y) h = refl
-
       -- the turn of a process of it
       pub own-turn : (v : Uid) (p : ℕ) (said : Shown) (it : Node) (e : Eject) (a : Active) (t : Turned) → v ≡ u → node_at w v.node ≡ Some it
           → AllowsAt (site_of w v.node it) (event.Process v p said) → value_at uid_cmp v it.ejects ≡ Some e → e.active ≡ Some a
@@ -97,11 +94,8 @@ module _ (R : Role) (L : IsLawful R) (u : Uid) (A : ℕ → List Datum) where
           (subst (λ o. IfSome o (IsActive R u A (kept_now w u) (is_some e.kept))) some
           (subst (λ o. IfSome o (IsEject R u A (kept_now w u) it.requests)) (ap (λ z. value_at uid_cmp z it.ejects) (sym same) ∙ is)
           (staged v.node it at (ap (λ (z : Uid). z.node) same)).eject).active)
-          (there-of (λ q. AllowsTurn (site_of w v.node it) v p said a q) (worker_at a p) (worker-there v p said it e a allowed is some))
+          (there-some (λ q. AllowsTurn (site_of w v.node it) v p said a q) (worker_at a p) (worker-there v p said it e a allowed is some))
           (ap (λ z. turn_of z a p) (sym same) ∙ turns)
-
-      same-inv : {X : Type 0} {x y : X} → Some x ≡ Some y → x ≡ y
-      same-inv e = cc e
 
       kept-there : (v : Uid) (it : Node) (e : Eject) → v ≡ u → node_at w v.node ≡ Some it → value_at uid_cmp v it.ejects ≡ Some e
           → is_some e.kept ≡ kept_now w u
@@ -121,7 +115,7 @@ module _ (R : Role) (L : IsLawful R) (u : Uid) (A : ℕ → List Datum) where
           answer results returns i serves (Some c) h = λ to_u.
               let same : v ≡ u = sym h.1 ∙ to_u in
               let x = own-turn v p said it e a t same at allowed is some turns in
-              let call : x.busy.call ≡ i = same-inv (sym x.busy.serves ∙ sym (ap (λ o. with_item o (λ (q : Worker). q.serves) None)
+              let call : x.busy.call ≡ i = same-some (sym x.busy.serves ∙ sym (ap (λ o. with_item o (λ (q : Worker). q.serves) None)
               (found x)) ∙ serves) in
               subst (λ (j : Invocation). R.Said (kept_now w u) (A j.call) status.Ok results) call
               (subst (λ b. R.Said b (A x.busy.call.call) status.Ok results) (kept-there v it e same at is)

@@ -1,31 +1,26 @@
 -- An Eject that a command creates is of the type that the command names.
-use Rattle.std.proofs.Common.{◌≡◌, ℕ, ◌==◌, Bool, true, false, cond, List, Option, None, Some, is_some, refl, ap, sym, ◌∙◌, subst}
+use Rattle.std.proofs.Common.{◌≡◌, ℕ, Bool, true, false, cond, List, Option, None, Some, is_some, refl, ap, sym, ◌∙◌, subst}
 use Rattle.std.specs.Prelude.{IsTrue}
 use Rattle.std.specs.Option.{option_map}
-use Rattle.std.specs.Ordering.{nat_cmp, eq_by_cmp}
-use Rattle.std.specs.Cmp.{nat_cmp_total}
-use Rattle.std.specs.FinMap.{nat_cmp-IsAntisymmetric}
+use Rattle.std.specs.Ordering.{eq_by_cmp}
 use Rattle.std.specs.FinMap.Entries.{find-put}
 use Rattle.std.proofs.lemmas.Cmp.{tied_itself}
 use Rattle.capability.specs.declared.Uid.{Uid}
 use Rattle.capability.proofs.Uids.{uid_cmp_total}
 use Rattle.eden_value.specs.declared.status.Status.{Status}
-use Rattle.eden_model.specs.Map.{with_item, value_at, changed_at, uid_cmp}
-use Rattle.eden_model.proofs.Laws.{value-changed}
+use Rattle.eden_model.specs.Map.{with_item, value_at, uid_cmp}
 use Rattle.epl_syntax.specs.Edentype.{Edentype}
 use Rattle.epl_syntax.specs.Meaning.{type_of, first_values}
 use Rattle.journal.specs.declared.command.Command.{Command}
 use Rattle.journal.specs.declared.command.Command.TheVariants as command
-use Rattle.journal.specs.declared.event.Key.{Key}
 use Rattle.journal.specs.declared.event.Event.TheVariants as event
 use Rattle.journal.specs.declared.event.Entry.{Entry}
 use Rattle.journal.specs.World.{World, Site, Node, Eject, Active, node_at, eject_at, site_of, at_node, eject_in, on_node}
 use Rattle.journal.specs.Ejects.{with_active, fresh, newborn, born}
 use Rattle.journal.specs.Commands.{AllowsCommand, type_name_of, born_as}
-use Rattle.journal.specs.Step.{clocked, counted, key_of, happened, next}
+use Rattle.journal.specs.Step.{clocked, key_of, happened, next}
 use Rattle.journal.specs.Sites.{active_in}
 use Rattle.history_laws.proofs.Frame.{node-at_same, after_at}
-use Rattle.history_laws.proofs.NoneRolledBack.{with_clock}
 use Rattle.stream_laws.specs.Chains.{type_at}
 use Rattle.std.proofs.Common.{Result, Ok, Err, ap₂}
 use Rattle.std.specs.Prelude.{IsSomeAnd}
@@ -41,32 +36,13 @@ use Rattle.journal.specs.World.{on_eject, reaches}
 use Rattle.journal.specs.Ejects.{on_active, told, next_uid}
 use Rattle.journal.specs.Processes.{AllowsTurn, CreatesKnown, shown_of, shown_creation, worker_at, turn_of, turned, serving, creates}
 use Rattle.journal.specs.Processes.{effected}
-use Rattle.journal.specs.Processes.{active_turn, turn_taken, process_turn}
+use Rattle.journal.specs.Processes.{process_turn}
 use Rattle.journal.specs.Step.{AllowsAt}
 use Rattle.journal.specs.Sites.{InOrder}
 use Rattle.history_laws.proofs.Frame.{eject-on_eject}
 use Rattle.history_laws.proofs.EveryNode.{next-following}
 use Rattle.history_laws.proofs.Creations.{next-active}
-
-pub eject-clocked : (u : Uid) (v : World) (n clock : ℕ) → eject_at (clocked n clock v) u ≡ eject_at v u
-eject-clocked u v n clock = go (n == 0)
-  where
-    same : (b : Bool) (o : Option Node) → with_item (cond b (option_map (with_clock clock) o) o)
-        (λ (it : Node). value_at uid_cmp u it.ejects) None
-        ≡ with_item o (λ (it : Node). value_at uid_cmp u it.ejects) None
-    same true None = refl
-    same true (Some it) = refl
-    same false o = refl
-
-    go : (b : Bool) → eject_at (record v { nodes = cond b v.nodes (changed_at nat_cmp n (with_clock clock) v.nodes) }) u ≡ eject_at v u
-    go true = refl
-    go false = ap (λ o. with_item o (λ (it : Node). value_at uid_cmp u it.ejects) None)
-        (value-changed nat_cmp nat_cmp_total nat_cmp-IsAntisymmetric u.node n (with_clock clock) v.nodes)
-        ∙ same (eq_by_cmp nat_cmp u.node n) (node_at v u.node)
-
-pub eject-counted : (u : Uid) (v : World) (o : Option Key) → eject_at (counted o v) u ≡ eject_at v u
-eject-counted u v None = refl
-eject-counted u v (Some k) = refl
+use Rattle.stream_laws.proofs.Sites.{eject-clocked, eject-counted, turn-is, types-on}
 
 kind-of : Option Eject → Option Edentype
 kind-of o = with_item (active_in o) (λ (it : Active). Some it.kind) None
@@ -130,18 +106,6 @@ created-kind v p u s (Some t) k known e = ap Some (kind-told (eq_by_cmp uid_cmp 
     (eject-on_eject v u (on_active (told p (Created status.Ok (Some (full u))))) (born u (fresh t (first_values t)) s)
     ∙ ap (λ o. cond (eq_by_cmp uid_cmp u v) (option_map (on_active (told p (Created status.Ok (Some (full u))))) o) o) (born-own u t s)))
     ∙ e))
-
-turn-is : (reach : ℕ → Bool) (v : Uid) (p : ℕ) (s : Site) (y : Eject) (a : Active) (t : Turned) → eject_in s v ≡ Some y → y.active ≡ Some a
-    → turn_of v a p ≡ Some t
-    → process_turn reach v p s ≡ effected reach v p (serving a p) a.kind t.vars t.effect (on_eject v (on_active (turned p t)) s)
-turn-is reach v p s y a t is some turns = ap
-    (λ o. with_item o (λ (e : Eject). with_item e.active (λ it. active_turn reach v p it s) s) s) is
-    ∙ ap (λ o. with_item o (λ it. active_turn reach v p it s) s) some
-    ∙ ap (λ o. with_item o (λ t. turn_taken reach v p a t s) s) turns
-
-types-on : (v : Uid) (f : Eject → Eject) (s : Site) → (on_eject v f s).types ≡ s.types
-unfolding on_eject
-types-on v f s = refl
 
 -- what is shown of a creation tells the uid
 shown-ok : (made : Result Uid Status) (u : Uid) → shown.Created u ≡ shown_creation made → made ≡ Ok u
