@@ -1,7 +1,9 @@
 //! A disk that is a file. It tells nothing of its contents, and is never armed.
 ghost use Rattle.std.specs.Prelude.{◌≡◌, IsTrue, None, [], false, true};
 ghost use Rattle.eden_disk.specs.Calls.{DeviceCall, end_of};
+ghost use Rattle.std.specs.Fd.{file_raw_fd};
 ghost use Rattle.file_disk.specs.Counted.{counts_of, first_counts};
+ghost use Rattle.file_disk.specs.Numbers.{number_of};
 
 use eden_disk::{Arm, Disk, DiskRefusal, ImageMode};
 use std::fs::File;
@@ -24,7 +26,8 @@ pub struct FileDisk {
 impl FileDisk {
     /// A file of this size as a disk, with power and no faults.
     pub(crate) fn new(file: File, size: u32) -> FileDisk
-        ensures { counts_of result ≡ first_counts size }
+        ensures counts { counts_of result ≡ first_counts size }
+        ensures file { number_of result ≡ file_raw_fd file }
     {
         FileDisk {
             file,

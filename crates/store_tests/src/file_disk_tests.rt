@@ -1,6 +1,6 @@
 use crate::disks::{Harm, counts, counts_behind};
 use eden_disk::{Arm, Disk, ImageMode};
-use file_disk::{FileDisk, OpenRefusal, open_disks};
+use file_disk::{Cause, FileDisk, OpenRefusal, open_disks};
 use std::alloc::Global;
 use std::os::unix::fs::symlink;
 use std::{fs, io};
@@ -96,8 +96,8 @@ fn files_keep_what_was_written(rt: HostRuntime) {
 // Whether the files of a folder are refused as disks of one size.
 fn is_refused(rt: &HostRuntime, alloc: Global, folder: &str) -> bool {
     match open_disks(alloc, rt, folder, &[SIZE], SIZE) {
-        Ok(_) => false,
-        Err(refusal) => refusal == OpenRefusal::Cannot,
+        Ok(_) | Err(OpenRefusal::OutOfMemory) => false,
+        Err(OpenRefusal::Folder(_) | OpenRefusal::Disk(..)) => true,
     }
 }
 
@@ -134,14 +134,54 @@ fn another_size_is_refused(rt: HostRuntime) {
 #[test]
 fn files_that_were_made_are_removed_again(rt: HostRuntime) {
     make_folder(&rt, "file_disk_made").expect(&rt, "the folder is made");
-    // nothing is found behind the link, and nothing can be made in its place
-    let linked = symlink(&rt, "nowhere/disk", "file_disk_made/disk5");
-    linked.expect(&rt, "the link is made");
+    // a folder stands where the fifth file is to be made
+    let hindered = fs::create_dir(&rt, "file_disk_made/disk5.new");
+    hindered.expect(&rt, "it is made");
     assert!(rt; is_refused(&rt, rt.alloc(), "file_disk_made"));
     for path in &["file_disk_made/disk1", "file_disk_made/disk4"] {
         assert!(rt; is_absent(&rt, path), "{path}");
     }
     fs::remove_dir_all(&rt, "file_disk_made").expect(&rt, "the folder is removed");
+}
+
+// A link to what is not there is refused, and no file takes its place.
+#[test]
+fn a_link_to_nothing_is_refused(rt: HostRuntime) {
+    make_folder(&rt, "file_disk_link").expect(&rt, "the folder is made");
+    let linked = symlink(&rt, "nowhere/disk", "file_disk_link/disk5");
+    linked.expect(&rt, "the link is made");
+    assert!(rt; is_refused(&rt, rt.alloc(), "file_disk_link"));
+    assert!(rt; is_absent(&rt, "file_disk_link/disk1"));
+    assert!(rt; is_absent(&rt, "file_disk_link/disk5"));
+    fs::remove_dir_all(&rt, "file_disk_link").expect(&rt, "the folder is removed");
+}
+
+// Whether the first file of a folder is found locked.
+fn is_locked(rt: &HostRuntime, alloc: Global, folder: &str) -> bool {
+    match open_disks(alloc, rt, folder, &[SIZE], SIZE) {
+        Err(OpenRefusal::Disk(disk, Cause::IsLocked)) => disk == 1,
+        _ => false,
+    }
+}
+
+// Whether the files of a folder are locked as long as its disks are open.
+fn are_locked(rt: &HostRuntime, alloc: Global, folder: &str) -> bool {
+    match open_disks(alloc, rt, folder, &[SIZE], SIZE) {
+        Ok(mut disks) => is_locked(rt, alloc, folder) && take_in(&mut disks),
+        Err(_) => false,
+    }
+}
+
+// A folder serves one run at a time, and what an ended run left in it is cleared.
+#[test]
+fn one_run_has_the_disks(rt: HostRuntime) {
+    make_folder(&rt, "file_disk_locked").expect(&rt, "the folder is made");
+    let left = fs::write(&rt, "file_disk_locked/disk2.new", b"short".as_slice());
+    left.expect(&rt, "the file is written");
+    assert!(rt; are_locked(&rt, rt.alloc(), "file_disk_locked"));
+    assert!(rt; is_absent(&rt, "file_disk_locked/disk2.new"));
+    assert!(rt; is_kept(&rt, rt.alloc(), "file_disk_locked"));
+    fs::remove_dir_all(&rt, "file_disk_locked").expect(&rt, "the folder is removed");
 }
 
 // Whether of eight disks in two sizes the third is the old one of sevens, and the others are of zeros.
