@@ -1,16 +1,13 @@
 //! A stop in each device call of a run, a power cut behind each turn of another, and what the next run over the same disks finds.
 ghost use Rattle.std.specs.Prelude.{◌≡◌, length};
 
-use crate::fixtures::{blank_disks, sink_of, source_of, words_of};
+use crate::fixtures::{DISK_SIZE, blank_disks, sink_of, source_of, words_of};
 use eden_disk::{Disk, ImageMode, SimDisk};
 use eden_io::{MemSink, MemSource};
 use eden_shell::{Outcome, eden};
 use std::alloc::Global;
 use std::fmt::Write as _;
 use std::process::Abort;
-
-/// How many bytes a disk has: 32 blocks, the least that there may be.
-const DISK_SIZE: u32 = 32_768;
 
 /// How a disk is left, and the words of it in a script.
 const MODES: &[(&str, bool)] = &[("keep", true), ("lose", false), ("garble 225", true)];
