@@ -1,9 +1,10 @@
 //! What tests of a node and of its disk have.
-ghost use Rattle.std.specs.Prelude.{◌≡◌};
+ghost use Rattle.std.specs.Prelude.{◌≡◌, false};
 ghost use Rattle.eden_disk.specs.Calls.{calls_until};
+ghost use Rattle.eden_disk.specs.SimDisk.{due_of};
 
 use capability::Uid;
-use eden_disk::{Arm, ImageMode, SimDisk};
+use eden_disk::{Arm, Disk, DiskRefusal, ImageMode, SimDisk};
 use eden_value::{Txt, texted};
 use passive_store::LogStore;
 use std::alloc::{AllocError, Global};
@@ -48,5 +49,82 @@ pub fn arm_of(stop: Option<ImageMode>, after: u32) -> Arm
     match stop {
         Some(mode) => Arm::Stop { after, mode },
         None => Arm::Fail { after },
+    }
+}
+
+/// A disk that tells nothing, and whose reads show another byte than was written at one place.
+#[derive(Drop)]
+pub struct Changed {
+    pub disk: SimDisk,
+    pub place: u32,
+    pub byte: u8,
+}
+
+impl Changed {
+    /// Shows the other byte among those that were read from a place on.
+    fn change(&self, at: u32, out: &mut [u8]) {
+        if let Some(behind) = self.place.checked_sub(at) {
+            if let Some(shown) = out.get_mut(behind as usize) {
+                *shown = self.byte;
+            }
+        }
+    }
+}
+
+impl Disk for Changed {
+    ghost tells = { false };
+
+    ghost obeys = { false };
+
+    ghost counts = { λ d. d.disk.counts };
+
+    ghost told = { λ d. d.disk.told };
+
+    ghost due = { λ d. due_of d.disk };
+
+    fn size(&self) -> u32 {
+        self.disk.size()
+    }
+
+    fn clock(&self) -> u64 {
+        self.disk.clock()
+    }
+
+    fn faults(&self) -> u64 {
+        self.disk.faults()
+    }
+
+    fn stops(&self) -> u64 {
+        self.disk.stops()
+    }
+
+    fn wants(&self) -> u64 {
+        self.disk.wants()
+    }
+
+    fn read(&mut self, at: u32, out: &mut [u8]) -> Result<(), DiskRefusal> {
+        let read = self.disk.read(at, out);
+        self.change(at, out);
+        read
+    }
+
+    fn write(&mut self, at: u32, bytes: &[u8]) -> Result<(), DiskRefusal> {
+        self.disk.write(at, bytes)
+    }
+
+    fn sync(&mut self) -> Result<(), DiskRefusal> {
+        self.disk.sync()
+    }
+
+    fn cut_power(&mut self, mode: ImageMode) {
+        self.disk.cut_power(mode);
+    }
+
+    fn restart(&mut self) {
+        self.disk.restart();
+    }
+
+    fn arm(&mut self, what: Arm) {
+        self.disk.arm(what);
     }
 }

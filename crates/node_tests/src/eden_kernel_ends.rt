@@ -1,15 +1,13 @@
 //! Every end of a turn of the store, of an activation and of a boot, at each device call, and what the next boot finds.
-ghost use Rattle.std.specs.Prelude.{false};
-ghost use Rattle.eden_disk.specs.SimDisk.{due_of};
 ghost use Rattle.eden_kernel.specs.Stands.{held, IsWhole};
 
 use crate::common::{assert_same, native_types, no_calls};
 use crate::eden_kernel_acts::{
     Act, CELL, DAMAGED, Seen, TurnShown, found, run, run_on, seeded, shown, up,
 };
-use eden_disk::{Arm, Disk, DiskRefusal, ImageMode, SimDisk};
+use eden_disk::ImageMode;
 use eden_kernel::{Node, TurnEnd};
-use history_tests::common::{Log, arm_of, blank};
+use history_tests::common::{Changed, Log, arm_of, blank};
 use journal::{BootEnd, RequestEnd, StartEnd};
 use passive_store::{LogStore, Pick, Store};
 use std::alloc::Global;
@@ -164,83 +162,6 @@ fn each_end_of_a_turn_of_the_store(rt: HostRuntime) {
     }
 }
 
-/// What a Cell is kept as ends with these bytes, and then with that of its number.
-const BEFORE_NUMBER: &[u8] = &[b'l', 0, 1, 1, 1, 0, 0, 0, 0, 0, 0, 0];
-
-/// The number of a Cell is one more, where bytes end with what a Cell is kept as.
-fn change(out: &mut [u8]) {
-    if let Some((last, before)) = out.split_last_mut() {
-        if before.ends_with(BEFORE_NUMBER) {
-            *last = last.wrapping_add(1);
-        }
-    }
-}
-
-/// A disk that tells nothing, and shows another byte than was written: where 5 was the last of what a Cell is kept as, it
-/// shows 6.
-#[derive(Drop)]
-struct Changed {
-    disk: SimDisk,
-}
-
-impl Disk for Changed {
-    ghost tells = { false };
-
-    ghost obeys = { false };
-
-    ghost counts = { λ d. d.disk.counts };
-
-    ghost told = { λ d. d.disk.told };
-
-    ghost due = { λ d. due_of d.disk };
-
-    fn size(&self) -> u32 {
-        self.disk.size()
-    }
-
-    fn clock(&self) -> u64 {
-        self.disk.clock()
-    }
-
-    fn faults(&self) -> u64 {
-        self.disk.faults()
-    }
-
-    fn stops(&self) -> u64 {
-        self.disk.stops()
-    }
-
-    fn wants(&self) -> u64 {
-        self.disk.wants()
-    }
-
-    fn read(&mut self, at: u32, out: &mut [u8]) -> Result<(), DiskRefusal> {
-        let read = self.disk.read(at, out);
-        change(out);
-        read
-    }
-
-    fn write(&mut self, at: u32, bytes: &[u8]) -> Result<(), DiskRefusal> {
-        self.disk.write(at, bytes)
-    }
-
-    fn sync(&mut self) -> Result<(), DiskRefusal> {
-        self.disk.sync()
-    }
-
-    fn cut_power(&mut self, mode: ImageMode) {
-        self.disk.cut_power(mode);
-    }
-
-    fn restart(&mut self) {
-        self.disk.restart();
-    }
-
-    fn arm(&mut self, what: Arm) {
-        self.disk.arm(what);
-    }
-}
-
 /// What is found of a Cell that is kept on a disk.
 fn found_on<St: Store + Drop>(rt: &impl Abort, alloc: Global, disk: St::Device) -> Found
 where
@@ -250,10 +171,18 @@ where
     found::<St>(rt, alloc, disk, None)
 }
 
-/// What is found where a disk shows another byte than was written.
+/// The place of the number in the record of the Cell, which stands behind that of the epoch.
+const NUMBER: u32 = 67;
+
+/// What is found where a disk shows 6 in place of the number 5.
 fn found_changed(rt: &impl Abort, alloc: Global) -> Found {
     let disk = blank(alloc).expect(rt, "memory");
-    found_on::<LogStore<Changed>>(rt, alloc, Changed { disk })
+    let disk = Changed {
+        disk,
+        place: NUMBER,
+        byte: 6,
+    };
+    found_on::<LogStore<Changed>>(rt, alloc, disk)
 }
 
 // An Eject starts from what is read of its disk, and never from a copy.

@@ -2,6 +2,8 @@
 #![tactic(auto)]
 
 #[cfg(test)]
+mod eden_shell_changed;
+#[cfg(test)]
 mod eden_shell_rows;
 #[cfg(test)]
 mod eden_shell_stops;
