@@ -5,7 +5,7 @@ use crate::common::{assert_same, native_types, no_calls};
 use crate::eden_kernel_acts::{
     Act, CELL, DAMAGED, Seen, TurnShown, found, run, run_on, seeded, shown, up,
 };
-use eden_disk::ImageMode;
+use eden_disk::{Disk, ImageMode};
 use eden_kernel::{Node, TurnEnd};
 use history_tests::common::{Changed, Log, arm_of, blank};
 use journal::{BootEnd, RequestEnd, StartEnd};
