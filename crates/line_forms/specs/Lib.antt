@@ -1,0 +1,10 @@
+pub mod Forms
+pub mod Spelling
+pub mod Tests
+pub mod Scripts
+pub mod One
+pub mod Fit
+pub mod Reading
+pub mod View
+pub mod Words
+pub mod Lines

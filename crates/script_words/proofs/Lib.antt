@@ -1,0 +1,15 @@
+pub mod Numbers
+pub mod Rows
+pub mod Turns
+pub mod Padded
+pub mod Lines
+pub mod Pieces
+pub mod Texts
+pub mod Rules
+pub mod ValueLaws
+pub mod Wholes
+pub mod Rows2
+pub mod Calls
+pub mod ModeLaws
+pub mod Lone
+pub mod Cutting

@@ -1,0 +1,9 @@
+pub mod Form
+pub mod Lines
+pub mod Tree
+pub mod Grammar
+pub mod Causes
+pub mod Meaning
+pub mod Alone
+pub mod Reading
+pub mod View
