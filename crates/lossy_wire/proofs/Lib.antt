@@ -1,0 +1,10 @@
+pub mod Keeping
+pub mod Told
+pub mod Sums
+pub mod Slots
+pub mod Worlds
+pub mod Meaning
+pub mod Orderly
+pub mod Few
+pub mod Runs
+pub mod One

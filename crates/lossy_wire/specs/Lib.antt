@@ -1,0 +1,9 @@
+pub mod Wire
+pub mod Commands
+pub mod Texts
+pub mod Laws
+pub mod Held
+pub mod Sums
+pub mod View
+pub mod Packets
+pub mod World
