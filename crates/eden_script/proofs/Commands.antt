@@ -1,16 +1,21 @@
 -- The laws of commands.
 use Rattle.std.proofs.Common.{◌≡◌, ◌∙◌, ap, sym, refl, subst, ℕ, true, List, [], ◌∷◌, ◌++◌, codes, Ok, Err, inl, inr, append-nil}
-use Rattle.eden_script.specs.Form.{is_number, is_lower, is_upper, is_name_byte, number_of}
+use Rattle.script_words.specs.Form.{is_number, is_lower, is_upper, is_name_byte, number_of}
 use Rattle.eden_script.specs.Tree.{WrittenCommand, turn, create}
-use Rattle.eden_script.specs.Grammar.{Number, Command, Holds}
-use Rattle.eden_script.specs.Causes.{Fits, Within}
-use Rattle.eden_script.specs.Reading.{Judged, Reading, ◌>>=◌, read_lower_and_blank, read_digits_and, read_upper, read_end, read_create}
-use Rattle.eden_script.specs.Reading.{read_last_digits, within, read_turn, read_command}
-use Rattle.eden_script.specs.declared.cause.ScriptCause.TheVariants.{BadForm, BadNumber}
-use Rattle.eden_script.proofs.Rules.{Judges, form_then, number_then, only_last_digits, last_takes, last_again, within_yes, within_cases}
-use Rattle.eden_script.proofs.Rules.{within_no, only_lower_and_blank, only_digits_and, only_while, only_end, lower_and_blank_takes}
-use Rattle.eden_script.proofs.Rules.{lower_and_blank_again, digits_and_takes, digits_and_again}
-use Rattle.eden_script.proofs.Pieces.{upper_takes, upper_again, end_takes}
+use Rattle.eden_script.specs.Grammar.{Command, Holds}
+use Rattle.script_words.specs.Grammar.{Number}
+use Rattle.eden_script.specs.Causes.{Fits}
+use Rattle.script_words.specs.Causes.{Within}
+use Rattle.eden_script.specs.Reading.{read_create}
+use Rattle.script_words.specs.Reading.{◌>>=◌}
+use Rattle.script_words.specs.Reading.{Judged, Reading, read_lower_and_blank, read_digits_and, read_upper, read_end}
+use Rattle.eden_script.specs.Reading.{read_turn, read_command}
+use Rattle.script_words.specs.Reading.{read_last_digits, within}
+use Rattle.script_words.specs.declared.cause.ScriptCause.TheVariants.{BadForm, BadNumber}
+use Rattle.script_words.proofs.Rules.{Judges, form_then, number_then, only_last_digits, last_takes, last_again, within_yes, within_cases}
+use Rattle.script_words.proofs.Rules.{within_no, only_lower_and_blank, only_digits_and, only_while, only_end, lower_and_blank_takes}
+use Rattle.script_words.proofs.Rules.{lower_and_blank_again, digits_and_takes, digits_and_again}
+use Rattle.script_words.proofs.Pieces.{upper_takes, upper_again, end_takes}
 
 abbrev pub Spelled : List ℕ → WrittenCommand → Type 0
 Spelled bytes o = Command o bytes × Holds o

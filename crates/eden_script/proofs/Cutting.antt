@@ -1,53 +1,16 @@
 -- How the bytes of a script are cut.
-use Rattle.std.proofs.Common.{◌≡◌, ◌∙◌, ap, sym, refl, ℕ, suc, ◌+◌, ◌-◌, ◌<◌, ◌≤◌, Bool, true, false, cond, not, ◌==◌, ◌⊎◌, List, []}
-use Rattle.std.proofs.Common.{◌∷◌, ◌++◌, length, take, drop, codes, inl, inr, arith, add-one, append_assoc, append-nil, length-append}
-use Rattle.std.proofs.Common.{drop_of_length-le}
+use Rattle.std.proofs.Common.{◌≡◌, ◌∙◌, ap, sym, refl, ℕ, ◌+◌, ◌-◌, ◌<◌, ◌≤◌, Bool, true, false, cond, not, ◌==◌, ◌⊎◌, List, []}
+use Rattle.std.proofs.Common.{◌∷◌, ◌++◌, length, take, codes, inl, inr, arith, append_assoc, append-nil, length-append}
 use Rattle.std.specs.List.{list_all}
-use Rattle.std.proofs.lemmas.Bool.{cases_Bool, and_parts, and_from, eqb-true}
+use Rattle.std.proofs.lemmas.Bool.{and_parts}
 use Rattle.std.proofs.lemmas.List.{take_all, take-append-le, length-take}
 use Rattle.std.proofs.lemmas.Slice.Eq.{bytes_eq-Decides}
-use Rattle.eden_script.specs.Form.{is_no_feed}
-use Rattle.eden_script.specs.Parts.{onto, lines_of, Part, declaration, unclosed, begins_type, ends_type, parts_of, parts_behind}
+use Rattle.script_words.specs.Form.{is_no_feed}
+use Rattle.eden_script.specs.Parts.{declaration, unclosed, begins_type, ends_type, parts_of, parts_behind}
+use Rattle.script_words.specs.Lines.{onto, lines_of}
 use Rattle.eden_script.specs.Parts as parts
-use Rattle.eden_script.specs.Cuts.{IsFirstLine}
-use Rattle.eden_script.proofs.Lines.{front, front_feed, front_more, lines_more, rest_whole, front_taken}
-
--- ## The first line
-
-no_feeds : (bytes : List ℕ) → list_all is_no_feed (front bytes) ≡ true
-no_feeds [] = refl
-no_feeds (b ∷ bytes) =
-    elim (cases_Bool (b == 10)) [
-      | inl h ↦ ap (list_all is_no_feed) (front_feed b bytes h)
-      | inr h ↦ ap (list_all is_no_feed) (front_more b bytes h) ∙ and_from _ _ (ap not h) (no_feeds bytes)
-    ]
-
-front_split : (bytes : List ℕ) → length (front bytes) < length bytes → bytes ≡ front bytes ++ 10 ∷ drop (suc (length (front bytes))) bytes
-front_split [] h = absurd (omega (arith, h))
-front_split (b ∷ bytes) h =
-    elim (cases_Bool (b == 10)) [
-      | inl e ↦ rw (front_feed b bytes e) (ap (λ (c : ℕ). c ∷ bytes) (eqb-true b 10 e))
-      | inr e ↦
-          (let k : length (front (b ∷ bytes)) ≡ suc (length (front bytes)) = ap (λ (l : List ℕ). length l) (front_more b bytes e) in
-          rw (front_more b bytes e) (ap (λ (l : List ℕ). b ∷ l) (front_split bytes (omega (arith, h, k)))))
-    ]
-
-pub first_taken : (bytes : List ℕ) (n : ℕ) → n ≡ length (front bytes) → n < length bytes
-    → IsFirstLine bytes (take n bytes) (take (length bytes - (n + 1)) (drop (n + 1) bytes))
-first_taken bytes n e h =
-    rw (e, front_taken bytes, rest_whole (length (front bytes) + 1) bytes)
-    (record {
-      clean = no_feeds bytes;
-      split = inl
-          (front_split bytes (omega (arith, e, h)) ∙ ap (λ (k : ℕ). front bytes ++ 10 ∷ drop k bytes)
-          (sym (add-one (length (front bytes)))));
-    })
-
-pub first_last : (bytes : List ℕ) (n : ℕ) → n ≡ length (front bytes) → length bytes ≤ n
-    → IsFirstLine bytes bytes (take (length bytes - n) (drop n bytes))
-first_last bytes n e h =
-    let w : front bytes ≡ bytes = sym (front_taken bytes) ∙ take_all (length (front bytes)) bytes (omega (arith, e, h)) in
-    record { clean = ap (list_all is_no_feed) (sym w) ∙ no_feeds bytes; split = inr (refl, rest_whole n bytes ∙ drop_of_length-le bytes h) }
+use Rattle.script_words.specs.Lines.{IsFirstLine}
+use Rattle.script_words.proofs.Lines.{lines_more}
 
 -- ## Lines and what follows them
 
@@ -189,7 +152,3 @@ behind_short bytes first behind f =
       | inl e ↦ omega (arith, ap (λ (l : List ℕ). length l) e, length-append first (10 ∷ behind))
       | inr e ↦ omega (arith, ap (λ (l : List ℕ). length l) e.1)
     ]
-
-pub no_bytes : (bytes : List ℕ) → length bytes ≡ 0 → bytes ≡ []
-no_bytes [] h = refl
-no_bytes (b ∷ bytes) h = absurd (omega (arith, h))

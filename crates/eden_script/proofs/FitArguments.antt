@@ -8,11 +8,11 @@ use Rattle.eden_value.specs.Datum.{Datum, number, truth, text, cap, list}
 use Rattle.journal.specs.Argument.{Argument, Arguments, plain, named, several, no_arguments, argument_and, arguments_in, arguments_of}
 use Rattle.journal.specs.Laws.{written_in, written_in_each}
 use Rattle.journal.specs.Fit.{IsPlain, IsArgument, AreArguments, names_in, names_in_each}
-use Rattle.eden_script.specs.Tree.{Row, size, depth, row_depth, row_of}
-use Rattle.eden_script.specs.Grammar.{Plain, Value, Values, Behind}
-use Rattle.eden_script.specs.Causes as causes
-use Rattle.eden_script.specs.Causes.{ResultFits, IntFits, PlainFits, WrittenFits, RowFits}
-use Rattle.eden_script.specs.Meaning.{result_of, written_arg, row_from}
+use Rattle.script_words.specs.Tree.{Row, and_more, size, depth, row_depth, row_of}
+use Rattle.script_words.specs.Grammar.{Plain, Value, Values, Behind}
+use Rattle.script_words.specs.Causes as causes
+use Rattle.script_words.specs.Causes.{ResultFits, IntFits, PlainFits, WrittenFits, RowFits}
+use Rattle.script_words.specs.Meaning.{result_of, written_arg, row_from}
 
 -- ## Values that are written out
 
@@ -62,7 +62,7 @@ mutual
 
 pub same_row : (gs : List Argument) → row_of (map written_arg gs) ≡ row_from (arguments_of gs)
 same_row [] = refl
-same_row (g ∷ gs) = ap (λ (r : Row). Rattle.eden_script.specs.Tree.and_more (written_arg g) r) (same_row gs)
+same_row (g ∷ gs) = ap (λ (r : Row). and_more (written_arg g) r) (same_row gs)
 
 pub arguments_fit : (gs : List Argument) (bytes : List ℕ) → Values (row_of (map written_arg gs)) bytes
     → RowFits (row_of (map written_arg gs))

@@ -9,11 +9,12 @@ use Rattle.journal.specs.declared.command.Command.TheVariants as command
 use Rattle.journal.specs.declared.command.Script.{Script}
 use Rattle.journal.specs.Run.{joined_to, components}
 use Rattle.journal.specs.Fit.{calls_of}
-use Rattle.eden_script.specs.Form.{quoted}
-use Rattle.eden_script.specs.Parts.{Part, line, declaration, unclosed, onto, begins_type, ends_type, lines_of, parts_of, parts_behind}
+use Rattle.script_words.specs.Form.{quoted}
+use Rattle.eden_script.specs.Parts.{Part, line, declaration, unclosed, begins_type, ends_type, parts_of, parts_behind}
+use Rattle.script_words.specs.Lines.{onto, lines_of}
 use Rattle.eden_script.specs.Tree.{WrittenCommand, Line, idle, nodes, does, declares, unended}
 use Rattle.eden_script.specs.Grammar as grammar
-use Rattle.eden_script.specs.Grammar.{◌⋅◌, Is, Quoted}
+use Rattle.script_words.specs.Grammar.{◌⋅◌, Quoted}
 use Rattle.eden_script.specs.Causes.{Seen, at_first, LineTells, IsSaid}
 use Rattle.eden_script.specs.Meaning.{written_command}
 use Rattle.eden_script.specs.Script.{after, commands_of, Says, IsScript}

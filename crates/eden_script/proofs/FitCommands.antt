@@ -13,12 +13,15 @@ use Rattle.journal.specs.declared.command.Command.{Command}
 use Rattle.journal.specs.declared.command.Command.TheVariants as command
 use Rattle.journal.specs.Fit.{IsWord, ModeFits, introduced, referred, operation_named, type_named, NumbersFit, StationsDiffer, PathFits}
 use Rattle.journal.specs.Fit.{ArgumentsFit, IsFitCommand}
-use Rattle.eden_script.specs.Form.{is_name_byte, starts_with, is_named}
+use Rattle.script_words.specs.Form.{is_name_byte, starts_with, is_named}
 use Rattle.eden_script.specs.Tree.{does}
 use Rattle.eden_script.specs.Grammar as grammar
-use Rattle.eden_script.specs.Grammar.{Lower, Upper, Holds}
-use Rattle.eden_script.specs.Causes.{Fits, HowFits, uses, brings, types}
-use Rattle.eden_script.specs.Meaning.{written_command, written_mode}
+use Rattle.eden_script.specs.Grammar.{Holds}
+use Rattle.script_words.specs.Grammar.{Lower, Upper}
+use Rattle.eden_script.specs.Causes.{Fits, uses, brings, types}
+use Rattle.script_words.specs.Causes.{HowFits}
+use Rattle.eden_script.specs.Meaning.{written_command}
+use Rattle.script_words.specs.Meaning.{written_mode}
 use Rattle.eden_script.proofs.FitArguments.{result_fits, arguments_fit, names_of_arguments, bare_arguments}
 
 -- ## Words

@@ -7,7 +7,12 @@ use Rattle.std.proofs.lemmas.Bool.{both_ways, and_parts, or_cases, or_parts, or_
 use Rattle.std.proofs.lemmas.List.Elements.{All-nil, All-cons, Contains-append_left, Contains-append_right, Contains-append_cases}
 use Rattle.std.proofs.lemmas.List.Elements.{Contains-push, Contains-push_cases}
 use Rattle.std.proofs.lemmas.Slice.Eq.{bytes_eq-Decides}
-use Rattle.eden_script.specs.Form.{is_among}
+use Rattle.std.specs.Cmp.Lexicographic.{slice_cmp}
+use Rattle.std.specs.Ordering.{is_eq, match_ordering, nat_cmp}
+use Rattle.std.specs.declared.cmp.Ordering.{Ordering}
+use Rattle.std.specs.declared.cmp.Ordering.TheVariants.{Less, Equal, Greater}
+use Rattle.std.proofs.lemmas.Map.Text.{is_eq-slice_cmp}
+use Rattle.script_words.specs.Form.{is_among}
 use Rattle.eden_script.specs.Names.{with_name, with_names}
 
 -- ## One name more
@@ -18,22 +23,24 @@ swapped true false c = refl
 swapped false true c = refl
 swapped false false c = refl
 
-appended : (names : List (List ℕ)) (name x : List ℕ) → is_among (names ++ name ∷ []) x ≡ (bytes_eq name x || is_among names x)
-appended [] name x = refl
-appended (k ∷ ks) name x =
-    ap (λ (b : Bool). bytes_eq k x || b) (appended ks name x) ∙ swapped (bytes_eq k x) (bytes_eq name x) (is_among ks x)
-
 one_more : (names : List (List ℕ)) (name x : List ℕ) → is_among (with_name names name) x ≡ (bytes_eq name x || is_among names x)
-one_more names name x = by_name (is_among names name) refl
+one_more [] name x = refl
+one_more (n ∷ names) name x = placed (slice_cmp nat_cmp name n) refl (one_more names name x)
   where
-    there : (b : Bool) → bytes_eq name x ≡ b → is_among names name ≡ true → is_among names x ≡ (b || is_among names x)
-    there true same h = ap (is_among names) (sym ((bytes_eq-Decides name x).0 same)) ∙ h
-    there false other h = refl
+    twice : (b c : Bool) → (b || c) ≡ (b || (b || c))
+    twice true c = refl
+    twice false c = refl
 
-    by_name : (b : Bool) → is_among names name ≡ b
-        → is_among (if b then names else names ++ name ∷ []) x ≡ (bytes_eq name x || is_among names x)
-    by_name true h = there (bytes_eq name x) refl h
-    by_name false h = appended names name x
+    there : slice_cmp nat_cmp name n ≡ Equal → name ≡ n
+    there h = (bytes_eq-Decides name n).0 (sym (is_eq-slice_cmp name n) ∙ ap is_eq h)
+
+    placed : (o : Ordering) → slice_cmp nat_cmp name n ≡ o → is_among (with_name names name) x ≡ (bytes_eq name x || is_among names x)
+        → is_among (match_ordering o (name ∷ n ∷ names) (n ∷ names) (n ∷ with_name names name)) x
+        ≡ (bytes_eq name x || is_among (n ∷ names) x)
+    placed Less h later = refl
+    placed Equal h later =
+        twice (bytes_eq n x) (is_among names x) ∙ ap (λ (m : List ℕ). bytes_eq m x || (bytes_eq n x || is_among names x)) (sym (there h))
+    placed Greater h later = ap (λ (b : Bool). bytes_eq n x || b) later ∙ swapped (bytes_eq n x) (bytes_eq name x) (is_among names x)
 
 -- ## The same names in another order
 

@@ -12,18 +12,20 @@ use Rattle.journal.specs.declared.command.Command.TheVariants as command
 use Rattle.journal.specs.declared.command.Script.{Script}
 use Rattle.journal.specs.Laws.{WriteNone}
 use Rattle.journal.specs.Fit.{Within, introduced, IsFitCommand, NamesFit, EndsOnce, IsFit, DECLARED_LIMIT}
-use Rattle.eden_script.specs.Form.{is_among}
-use Rattle.eden_script.specs.Parts.{Part, line, declaration, unclosed, begins_type, ends_type, lines_of, parts_of, parts_behind}
+use Rattle.script_words.specs.Form.{is_among}
+use Rattle.eden_script.specs.Parts.{Part, line, declaration, unclosed, begins_type, ends_type, parts_of, parts_behind}
+use Rattle.script_words.specs.Lines.{lines_of}
 use Rattle.eden_script.specs.Tree.{WrittenCommand, Line, idle, nodes, does, declares, unended}
 use Rattle.eden_script.specs.Grammar as grammar
 use Rattle.eden_script.specs.Declarations.{Types, type_names}
-use Rattle.eden_script.specs.Causes.{Seen, at_first, first_word, Fits, uses, brings, types, declared_count, LineTells, IsSaid}
+use Rattle.eden_script.specs.Causes.{Seen, at_first, Fits, uses, brings, types, declared_count, LineTells, IsSaid}
+use Rattle.script_words.specs.Causes.{first_word}
 use Rattle.eden_script.specs.Meaning.{written_command}
 use Rattle.eden_script.specs.Names.{with_names}
 use Rattle.eden_script.specs.Script.{is_finish, after, commands_of, Says, IsScript}
-use Rattle.eden_script.specs.Reading.{is_idle}
-use Rattle.eden_script.specs.declared.cause.ScriptCause.TheVariants.{LongLine, AfterEnd, Misplaced, UnknownName, UnknownType}
-use Rattle.eden_script.specs.declared.cause.ScriptCause.TheVariants.{DoubledName, BadEdentype}
+use Rattle.script_words.specs.Reading.{is_idle}
+use Rattle.script_words.specs.declared.cause.ScriptCause.TheVariants.{LongLine, AfterEnd, Misplaced, UnknownName, UnknownType}
+use Rattle.script_words.specs.declared.cause.ScriptCause.TheVariants.{DoubledName, BadEdentype}
 use Rattle.eden_script.proofs.TypeNames.{same_names}
 use Rattle.eden_script.proofs.Verdicts.{both, idle_false, begins_with, first_is_word, no_nodes, word_of}
 use Rattle.eden_script.proofs.Unique.{no_idle, one_line}

@@ -12,14 +12,15 @@ use Rattle.epl_syntax.specs.Rules.OfTypes.{broken_types, NamesDiffer, KeepRules,
 use Rattle.epl_syntax.proofs.KeptTypes.{all_push, distinct_push, native_kept}
 use Rattle.epl_parser.specs.Program.{SpellsType, AreInMonitors}
 use Rattle.journal.specs.declared.command.Script.{Script}
-use Rattle.eden_script.specs.Parts.{Part, line, declaration, unclosed, begins_type, ends_type, lines_of, parts_of, parts_behind}
+use Rattle.eden_script.specs.Parts.{Part, line, declaration, unclosed, begins_type, ends_type, parts_of, parts_behind}
+use Rattle.script_words.specs.Lines.{lines_of}
 use Rattle.eden_script.specs.Parts.{line_of_place}
 use Rattle.eden_script.specs.Tree.{WrittenCommand, Line, idle, nodes, does, declares, unended}
 use Rattle.eden_script.specs.Declarations.{Types, native_alone, with_declared, type_names}
 use Rattle.eden_script.specs.Causes.{Seen, at_first, IsSaid}
 use Rattle.eden_script.specs.Meaning.{written_command}
 use Rattle.eden_script.specs.Script.{after, Says, IsScript}
-use Rattle.eden_script.specs.declared.cause.ScriptCause.TheVariants.{DoubledName}
+use Rattle.script_words.specs.declared.cause.ScriptCause.TheVariants.{DoubledName}
 use Rattle.eden_script.proofs.TypeNames.{same_names, among}
 use Rattle.eden_script.proofs.KeptRules.{Named, begins_more, tree_name}
 
@@ -149,8 +150,8 @@ begin_behind (line bytes) ps h = h
 begin_behind (declaration text) ps h = h.1
 begin_behind (unclosed lines) ps h = h
 
-says_fit : Named → Inside → Valued → (ps : List Part) (seen end : Seen) (orders : List WrittenCommand) → AllBegin ps → Says seen ps orders end
-    → TypesFit seen.types → TypesFit end.types
+says_fit : Named → Inside → Valued → (ps : List Part) (seen end : Seen) (orders : List WrittenCommand) → AllBegin ps
+    → Says seen ps orders end → TypesFit seen.types → TypesFit end.types
 says_fit named inside valued [] seen end orders begin says fit = subst (λ (s : Seen). TypesFit s.types) (sym says.1) fit
 says_fit named inside valued (p ∷ ps) seen end orders begin says fit =
     says_fit named inside valued ps (after seen says.0) end says.1 (begin_behind p ps begin) says.4

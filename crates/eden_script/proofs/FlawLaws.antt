@@ -5,16 +5,18 @@ use Rattle.std.specs.Prelude.{◌||◌, ◌&&◌, nat_lt, nat_le}
 use Rattle.std.specs.List.{list_all}
 use Rattle.std.proofs.lemmas.Bool.{cases_Bool, and_parts, eqb-true, eqb-false, ltb-true, ltb-false, leb-true, leb-false}
 use Rattle.epl_syntax.specs.Tree.{TypeTree}
-use Rattle.eden_script.specs.Form.{is_printable, is_among}
-use Rattle.eden_script.specs.Parts.{Part, declaration, unclosed, lines_of, line_at, line_of_place}
+use Rattle.script_words.specs.Form.{is_printable, is_among}
+use Rattle.eden_script.specs.Parts.{Part, declaration, unclosed, line_at, line_of_place}
+use Rattle.script_words.specs.Lines.{lines_of}
 use Rattle.eden_script.specs.Declarations.{DECLARED_LIMIT, type_names, declared_name, Declares, RefusedAt}
 use Rattle.eden_script.specs.Tree.{declares, unended}
-use Rattle.eden_script.specs.Causes.{Seen, declared_count, Passes, rank, IsCause, IsSaid}
+use Rattle.eden_script.specs.Causes.{Seen, declared_count, Passes, IsCause, IsSaid}
+use Rattle.script_words.specs.Causes.{rank}
 use Rattle.eden_script.specs.Flaws.{Place, line_flaw, place_flaw, name_flaw', name_flaw, is_earlier, earlier, outer_flaw, with_text}
-use Rattle.eden_script.specs.declared.cause.ScriptCause.{ScriptCause}
-use Rattle.eden_script.specs.declared.cause.ScriptCause.TheVariants.{BadByte, LongLine, AfterEnd, NoCommand, Misplaced, BadForm}
-use Rattle.eden_script.specs.declared.cause.ScriptCause.TheVariants.{BadNumber, UnknownName, UnknownType, DoubledName, BadEdentype}
-use Rattle.eden_script.specs.declared.cause.ScriptCause.TheVariants.{NoEnd}
+use Rattle.script_words.specs.declared.cause.ScriptCause.{ScriptCause}
+use Rattle.script_words.specs.declared.cause.ScriptCause.TheVariants.{BadByte, LongLine, AfterEnd, NoCommand, Misplaced, BadForm}
+use Rattle.script_words.specs.declared.cause.ScriptCause.TheVariants.{BadNumber, UnknownName, UnknownType, DoubledName, BadEdentype}
+use Rattle.script_words.specs.declared.cause.ScriptCause.TheVariants.{NoEnd}
 use Rattle.eden_script.proofs.DeclarationLaws.{OneAnswer, one_place, never_both}
 
 both : true ≡ false → ⊥

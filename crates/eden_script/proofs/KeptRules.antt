@@ -12,12 +12,12 @@ use Rattle.epl_syntax.specs.declared.token.TokenKind.{TokenKind}
 use Rattle.epl_syntax.specs.declared.tree.Name.{Name}
 use Rattle.epl_parser.specs.Program.{SpellsType, IsNamed}
 use Rattle.eden_script.specs.Declarations.{types_in, type_names, declared_name}
-use Rattle.eden_script.specs.Form.{is_among}
+use Rattle.script_words.specs.Form.{is_among}
 use Rattle.eden_script.specs.Parts.{Part, line, declaration, unclosed, begins_type, ends_type, parts_of, parts_behind, line_of_place}
 use Rattle.eden_script.specs.Tree.{Line, declares}
 use Rattle.eden_script.specs.Causes.{IsSaid}
 use Rattle.eden_script.specs.View.{KeepsRules, line_of, seen_of}
-use Rattle.eden_script.specs.declared.cause.ScriptCause.TheVariants.{DoubledName}
+use Rattle.script_words.specs.declared.cause.ScriptCause.TheVariants.{DoubledName}
 use Rattle.eden_script.specs.declared.line.Seen.{Seen}
 use Rattle.eden_script.specs.declared.line.Line.{Line as CodeLine}
 use Rattle.eden_script.specs.declared.line.Line.TheVariants as code

@@ -1,18 +1,7 @@
-pub mod Numbers
-pub mod Rows
-pub mod Turns
-pub mod Padded
-pub mod Lines
-pub mod Pieces
-pub mod Texts
 pub mod TypeNames
 pub mod NamePlaces
 pub mod KeptRules
-pub mod Rules
 pub mod Commands
-pub mod Values
-pub mod Wholes
-pub mod Rows2
 pub mod Calls
 pub mod Others
 pub mod Lined
@@ -20,7 +9,6 @@ pub mod Verdicts
 pub mod Unique
 pub mod Meant
 pub mod InOrder
-pub mod Lone
 pub mod Cutting
 pub mod DeclarationLaws
 pub mod FlawLaws

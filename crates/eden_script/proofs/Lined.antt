@@ -3,12 +3,14 @@ use Rattle.std.proofs.Common.{◌≡◌, ◌∙◌, ap, sym, refl, subst, ℕ, s
 use Rattle.std.proofs.Common.{Option, Some, None, Ok, Err, arith, length-append}
 use Rattle.std.specs.Str.{bytes_eq}
 use Rattle.std.proofs.lemmas.Slice.Eq.{bytes_eq-Decides}
-use Rattle.eden_script.specs.Tree.{Row, no_more, and_more, size, WrittenCommand, create, hold, call, restrict, walk, turn, go, crash}
+use Rattle.eden_script.specs.Tree.{WrittenCommand, create, hold, call, restrict, walk, turn, go, crash}
+use Rattle.script_words.specs.Tree.{Row, no_more, and_more, size}
 use Rattle.eden_script.specs.Tree.{restart, cut, join, fail, stop, finish}
-use Rattle.eden_script.specs.Grammar.{◌⋅◌, Values, Behind}
-use Rattle.eden_script.specs.Reading.{Judged, behind, when, read_command}
-use Rattle.eden_script.specs.declared.cause.ScriptCause.TheVariants.{BadForm}
-use Rattle.eden_script.proofs.Pieces.{behind_takes}
+use Rattle.script_words.specs.Grammar.{◌⋅◌, Values, Behind}
+use Rattle.eden_script.specs.Reading.{when, read_command}
+use Rattle.script_words.specs.Reading.{Judged, behind}
+use Rattle.script_words.specs.declared.cause.ScriptCause.TheVariants.{BadForm}
+use Rattle.script_words.proofs.Pieces.{behind_takes}
 use Rattle.eden_script.proofs.Commands.{Spelled, Sound, Whole, turn_sound, turn_whole, create_sound, create_whole}
 use Rattle.eden_script.proofs.Calls.{call_sound, call_whole}
 use Rattle.eden_script.proofs.Others.{go_sound, go_whole, restart_sound, restart_whole, fail_sound, fail_whole, cut_sound, cut_whole}

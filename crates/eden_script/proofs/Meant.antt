@@ -7,10 +7,12 @@ use Rattle.journal.specs.Argument.{Argument, Arguments}
 use Rattle.journal.specs.declared.command.Ref.{Ref}
 use Rattle.journal.specs.declared.command.Command.{Command}
 use Rattle.journal.specs.declared.command.Command.TheVariants as command
-use Rattle.eden_script.specs.Tree.{WrittenRef, WrittenMode, keep, lose, garble, WrittenArg, plain, named, several, Row, no_more}
-use Rattle.eden_script.specs.Tree.{and_more, row_of, WrittenCommand, create, hold, call, restrict, walk, turn, go, crash, restart, cut}
+use Rattle.script_words.specs.Tree.{WrittenRef, WrittenMode, keep, lose, garble, WrittenArg, plain, named, several, Row, no_more}
+use Rattle.eden_script.specs.Tree.{WrittenCommand, create, hold, call, restrict, walk, turn, go, crash, restart, cut}
+use Rattle.script_words.specs.Tree.{and_more, row_of}
 use Rattle.eden_script.specs.Tree.{join, fail, stop, finish}
-use Rattle.eden_script.specs.Meaning.{result_of, reference_of, written_arg, row_from, written_mode, written_command}
+use Rattle.eden_script.specs.Meaning.{written_command}
+use Rattle.script_words.specs.Meaning.{result_of, reference_of, written_arg, row_from, written_mode}
 
 abbrev result_back : Option ℕ → ℕ
 result_back None = 0

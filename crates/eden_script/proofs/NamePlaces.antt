@@ -17,7 +17,7 @@ use Rattle.epl_syntax.specs.declared.token.TokenKind.{TokenKind}
 use Rattle.epl_syntax.specs.declared.token.TokenKind.TheVariants as kind
 use Rattle.epl_syntax.specs.declared.word.Word.{Word}
 use Rattle.epl_syntax.specs.declared.word.Word.TheVariants as word
-use Rattle.eden_script.specs.Form.{starts_with, is_upper}
+use Rattle.script_words.specs.Form.{starts_with, is_upper}
 use Rattle.eden_script.specs.Declarations.{declared_name, name_place, name_at}
 
 -- ## The first elements that pass a test

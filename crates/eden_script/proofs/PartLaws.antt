@@ -5,8 +5,9 @@ use Rattle.std.specs.Prelude.{nat_lt}
 use Rattle.std.specs.List.{list_all, filter}
 use Rattle.std.proofs.lemmas.Bool.{cases_Bool, ltb-true, ltb-false}
 use Rattle.std.proofs.lemmas.List.{length-take}
-use Rattle.eden_script.specs.Form.{is_printable}
-use Rattle.eden_script.specs.Parts.{Part, line, declaration, unclosed, onto, lines_of, parts_of, line_at, line_of_place, begins_type}
+use Rattle.script_words.specs.Form.{is_printable}
+use Rattle.eden_script.specs.Parts.{Part, line, declaration, unclosed, parts_of, line_at, line_of_place, begins_type}
+use Rattle.script_words.specs.Lines.{onto, lines_of}
 use Rattle.eden_script.specs.Tree.{Line}
 use Rattle.eden_script.specs.Causes.{Seen, Passes, IsCause, IsSaid}
 use Rattle.eden_script.specs.Flaws.{FirstFails}
@@ -14,10 +15,10 @@ use Rattle.eden_script.specs.Reading.{judge}
 use Rattle.eden_script.specs.View.{FailsBy}
 use Rattle.eden_script.specs.declared.flaw.Flaw.{Flaw}
 use Rattle.eden_script.specs.declared.flaw.Flaw.TheVariants as flaw
-use Rattle.eden_script.specs.declared.cause.ScriptCause.{ScriptCause}
-use Rattle.eden_script.specs.declared.cause.ScriptCause.TheVariants.{BadByte, LongLine, AfterEnd, NoCommand, Misplaced, BadForm}
-use Rattle.eden_script.specs.declared.cause.ScriptCause.TheVariants.{BadNumber, UnknownName, UnknownType, DoubledName, BadEdentype}
-use Rattle.eden_script.specs.declared.cause.ScriptCause.TheVariants.{NoEnd}
+use Rattle.script_words.specs.declared.cause.ScriptCause.{ScriptCause}
+use Rattle.script_words.specs.declared.cause.ScriptCause.TheVariants.{BadByte, LongLine, AfterEnd, NoCommand, Misplaced, BadForm}
+use Rattle.script_words.specs.declared.cause.ScriptCause.TheVariants.{BadNumber, UnknownName, UnknownType, DoubledName, BadEdentype}
+use Rattle.script_words.specs.declared.cause.ScriptCause.TheVariants.{NoEnd}
 use Rattle.eden_script.proofs.Cutting.{part_line}
 use Rattle.eden_script.proofs.Verdicts.{Verdict, IsLine, IsLineCause, judged}
 

@@ -2,15 +2,16 @@
 use Rattle.std.proofs.Common.{◌≡◌, ◌∙◌, ap, sym, refl, subst, ℕ, ◌+◌, true, false, List, [], ◌∷◌, ◌++◌, length, map, inl, inr, arith}
 use Rattle.std.proofs.Common.{append_assoc, append-nil}
 use Rattle.journal.specs.declared.command.Script.{Script}
-use Rattle.eden_script.specs.Parts.{Part, lines_of, parts_of, lines_in}
+use Rattle.eden_script.specs.Parts.{Part, parts_of, lines_in}
+use Rattle.script_words.specs.Lines.{lines_of}
 use Rattle.eden_script.specs.Tree.{WrittenCommand, Line}
 use Rattle.eden_script.specs.Meaning.{written_command}
 use Rattle.eden_script.specs.Causes.{Seen, at_first}
 use Rattle.eden_script.specs.Declarations.{types_in}
 use Rattle.eden_script.specs.Flaws.{FirstSays, FirstFails}
 use Rattle.eden_script.specs.Script.{after, commands_of, Says, IsScript, IsBadIn, IsBadLine}
-use Rattle.eden_script.specs.declared.cause.ScriptCause.{ScriptCause}
-use Rattle.eden_script.specs.declared.cause.ScriptCause.TheVariants.{NoEnd}
+use Rattle.script_words.specs.declared.cause.ScriptCause.{ScriptCause}
+use Rattle.script_words.specs.declared.cause.ScriptCause.TheVariants.{NoEnd}
 
 -- What the rest says, the whole says behind what was said so far; so it is with the first bad line.
 pub record Run (bytes rest : List ℕ) (orders : List WrittenCommand) (seen : Seen) (lines : ℕ) : Type 0 where

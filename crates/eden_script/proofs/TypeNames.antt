@@ -8,7 +8,7 @@ use Rattle.epl_syntax.specs.Natives.{native_name}
 use Rattle.epl_syntax.specs.Rules.OfTypes.{TypeList, names_of}
 use Rattle.epl_syntax.specs.Tree.{TypeTree, type_tree}
 use Rattle.epl_syntax.specs.declared.tree.Program.{Program}
-use Rattle.eden_script.specs.Form.{is_among}
+use Rattle.script_words.specs.Form.{is_among}
 use Rattle.eden_script.specs.Declarations.{types_in, type_names}
 
 declared_names : (ps : List Program) → map (λ (p : Program). p.name.text) ps ≡ map (λ (t : TypeTree). t.name.text) (map type_tree ps)

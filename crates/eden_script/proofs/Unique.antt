@@ -4,18 +4,20 @@ use Rattle.std.proofs.Common.{inl, inr, arith}
 use Rattle.std.proofs.lemmas.Bool.{cases_order}
 use Rattle.std.proofs.lemmas.Slice.Eq.{bytes_eq-Decides}
 use Rattle.epl_syntax.specs.Tree.{TypeTree}
-use Rattle.eden_script.specs.Parts.{Part, line, declaration, unclosed, lines_of, parts_of, line_count}
+use Rattle.eden_script.specs.Parts.{Part, line, declaration, unclosed, parts_of, line_count}
+use Rattle.script_words.specs.Lines.{lines_of}
 use Rattle.eden_script.specs.Tree.{WrittenCommand, create, hold, call, restrict, walk, turn, go, crash, restart, cut, join, fail, stop}
 use Rattle.eden_script.specs.Tree.{finish, Line, idle, nodes, does, declares, unended}
 use Rattle.eden_script.specs.Grammar.{Command, SpellsLine}
-use Rattle.eden_script.specs.Causes.{Seen, at_first, first_word, LineTells, rank, IsCause, IsSaid}
+use Rattle.eden_script.specs.Causes.{Seen, at_first, LineTells, IsCause, IsSaid}
+use Rattle.script_words.specs.Causes.{first_word, rank}
 use Rattle.eden_script.specs.Script.{after, commands_of, Says, AtMostOne}
-use Rattle.eden_script.specs.Reading.{is_idle}
-use Rattle.eden_script.specs.declared.cause.ScriptCause.{ScriptCause}
-use Rattle.eden_script.specs.declared.cause.ScriptCause.TheVariants.{BadByte, LongLine, AfterEnd, NoCommand, Misplaced, BadForm}
-use Rattle.eden_script.specs.declared.cause.ScriptCause.TheVariants.{BadNumber, UnknownName, UnknownType, DoubledName, BadEdentype}
-use Rattle.eden_script.specs.declared.cause.ScriptCause.TheVariants.{NoEnd}
-use Rattle.eden_script.proofs.Pieces.{same_ok}
+use Rattle.script_words.specs.Reading.{is_idle}
+use Rattle.script_words.specs.declared.cause.ScriptCause.{ScriptCause}
+use Rattle.script_words.specs.declared.cause.ScriptCause.TheVariants.{BadByte, LongLine, AfterEnd, NoCommand, Misplaced, BadForm}
+use Rattle.script_words.specs.declared.cause.ScriptCause.TheVariants.{BadNumber, UnknownName, UnknownType, DoubledName, BadEdentype}
+use Rattle.script_words.specs.declared.cause.ScriptCause.TheVariants.{NoEnd}
+use Rattle.script_words.proofs.Pieces.{same_ok}
 use Rattle.eden_script.specs.Meaning.{written_command}
 use Rattle.eden_script.proofs.DeclarationLaws.{OneAnswer, one_type}
 use Rattle.eden_script.proofs.Meant.{same_commands}

@@ -6,22 +6,26 @@ use Rattle.std.specs.List.{list_all, list_any}
 use Rattle.std.specs.Str.{bytes_eq}
 use Rattle.std.proofs.lemmas.Bool.{eqb-true, eqb-false, ltb-false, ltb-true, or_left, or_right, or_from, false_from_ne_true}
 use Rattle.std.proofs.lemmas.Slice.Eq.{bytes_eq-Decides}
-use Rattle.eden_script.specs.Form.{is_number, is_printable, is_among, number_of}
+use Rattle.script_words.specs.Form.{is_number, is_printable, is_among, number_of}
 use Rattle.eden_script.specs.Tree.{WrittenCommand, create, hold, call, restrict, walk, turn, go, crash, restart, cut, join, fail, stop}
 use Rattle.eden_script.specs.Tree.{finish, Line, idle, nodes, does, declares, unended}
-use Rattle.eden_script.specs.Grammar.{◌⋅◌, Is, Number, Command, Idle, SpellsLine}
+use Rattle.eden_script.specs.Grammar.{Command, SpellsLine}
+use Rattle.script_words.specs.Grammar.{◌⋅◌, Is, Number, Idle}
 use Rattle.eden_script.specs.Declarations.{type_names}
-use Rattle.eden_script.specs.Causes.{Seen, LineFits, first_word, command_words, uses, types, brings, LineTells, LinePasses, rank}
-use Rattle.eden_script.specs.Reading.{Judged, ◌>>=◌, read_word, read_last_digits, within, read_nodes, read_command, is_idle, named_in}
+use Rattle.eden_script.specs.Causes.{Seen, LineFits, command_words, uses, types, brings, LineTells, LinePasses}
+use Rattle.script_words.specs.Causes.{first_word, rank}
+use Rattle.eden_script.specs.Reading.{read_nodes, read_command, named_in}
+use Rattle.script_words.specs.Reading.{◌>>=◌}
+use Rattle.script_words.specs.Reading.{Judged, read_word, read_last_digits, within, is_idle}
 use Rattle.eden_script.specs.Reading.{judge_command, judge_word, judge}
-use Rattle.eden_script.specs.declared.cause.ScriptCause.{ScriptCause}
-use Rattle.eden_script.specs.declared.cause.ScriptCause.TheVariants.{BadByte, LongLine, AfterEnd, NoCommand, Misplaced, BadForm}
-use Rattle.eden_script.specs.declared.cause.ScriptCause.TheVariants.{BadNumber, UnknownName, UnknownType, DoubledName, BadEdentype}
-use Rattle.eden_script.specs.declared.cause.ScriptCause.TheVariants.{NoEnd}
-use Rattle.eden_script.proofs.Pieces.{same_ok, word_takes}
-use Rattle.eden_script.proofs.Rules.{Judges, form_then, number_then, only_word, only_last_digits, last_again, last_takes}
+use Rattle.script_words.specs.declared.cause.ScriptCause.{ScriptCause}
+use Rattle.script_words.specs.declared.cause.ScriptCause.TheVariants.{BadByte, LongLine, AfterEnd, NoCommand, Misplaced, BadForm}
+use Rattle.script_words.specs.declared.cause.ScriptCause.TheVariants.{BadNumber, UnknownName, UnknownType, DoubledName, BadEdentype}
+use Rattle.script_words.specs.declared.cause.ScriptCause.TheVariants.{NoEnd}
+use Rattle.script_words.proofs.Pieces.{same_ok, word_takes}
+use Rattle.script_words.proofs.Rules.{Judges, form_then, number_then, only_word, only_last_digits, last_again, last_takes}
 use Rattle.eden_script.proofs.Commands.{Sound, Whole}
-use Rattle.eden_script.proofs.Calls.{ok_not_form}
+use Rattle.script_words.proofs.Calls.{ok_not_form}
 use Rattle.eden_script.proofs.Others.{number_step, number_fails}
 use Rattle.eden_script.proofs.Lined.{order_sound, order_whole}
 

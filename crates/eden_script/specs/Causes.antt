@@ -1,21 +1,22 @@
 -- Why a line is refused: the tests of a line, in order.
-use Rattle.std.specs.Prelude.{◌≡◌, ◌⊎◌, ◌↔◌, ℕ, ℤ, pos, negsuc, ◌≤◌, ◌<◌, ◌^◌, Bool, true, false, List, [], ◌∷◌, ◌++◌, length, codes}
-use Rattle.std.specs.Prelude.{Option, Some, None}
-use Rattle.std.specs.List.{take_while, list_all, list_any}
+use Rattle.std.specs.Prelude.{◌≡◌, ◌⊎◌, ◌↔◌, ℕ, ◌≤◌, ◌<◌, Bool, true, false, List, [], ◌∷◌, length, codes}
+use Rattle.std.specs.Prelude.{Some}
+use Rattle.std.specs.List.{list_all, list_any}
 use Rattle.epl_syntax.specs.Tree.{TypeTree}
 pub use Rattle.journal.specs.Fit.{Within}
-use Rattle.eden_script.specs.Parts.{Part, line, declaration, unclosed, lines_of, line_at, line_of_place}
+use Rattle.eden_script.specs.Parts.{Part, line, declaration, unclosed, line_at, line_of_place}
+use Rattle.script_words.specs.Lines.{lines_of}
 use Rattle.eden_script.specs.Declarations.{DECLARED_LIMIT, Types, native_alone, type_names, declared_name, Declares, RefusedAt}
-use Rattle.eden_script.specs.Form.{is_printable, is_no_blank, is_among}
-use Rattle.eden_script.specs.Tree.{WrittenMode, keep, lose, garble, WrittenArg, plain, named, several, Row, no_more, and_more}
+use Rattle.script_words.specs.Form.{is_printable, is_among}
 use Rattle.eden_script.specs.Tree.{WrittenCommand, create, hold}
 use Rattle.eden_script.specs.Tree.{call, restrict, walk, turn, go, crash, restart, cut, join, fail, stop, finish, Line, idle, nodes, does}
 use Rattle.eden_script.specs.Tree.{declares, unended}
-use Rattle.eden_value.specs.Datum.{Datum, number, truth, text, cap, list}
-use Rattle.eden_script.specs.Grammar.{Idle, SpellsLine}
-use Rattle.eden_script.specs.declared.cause.ScriptCause.{ScriptCause}
-use Rattle.eden_script.specs.declared.cause.ScriptCause.TheVariants.{BadByte, LongLine, AfterEnd, NoCommand, Misplaced, BadForm, BadNumber}
-use Rattle.eden_script.specs.declared.cause.ScriptCause.TheVariants.{UnknownName, UnknownType, DoubledName, BadEdentype, NoEnd}
+use Rattle.eden_script.specs.Grammar.{SpellsLine}
+use Rattle.script_words.specs.Grammar.{Idle}
+use Rattle.script_words.specs.declared.cause.ScriptCause.{ScriptCause}
+use Rattle.script_words.specs.declared.cause.ScriptCause.TheVariants.{BadByte, LongLine, AfterEnd, NoCommand, Misplaced, BadForm, BadNumber}
+use Rattle.script_words.specs.declared.cause.ScriptCause.TheVariants.{UnknownName, UnknownType, DoubledName, BadEdentype, NoEnd}
+use Rattle.script_words.specs.Causes.{HowFits, ResultFits, RowFits, first_word, names_of, rank}
 
 -- What the parts so far leave: the types; the number of nodes, 0 before `nodes`; the names that were
 -- introduced, in the order in which they came; whether `end` stood.
@@ -31,10 +32,6 @@ at_first = record { types = native_alone; nodes = 0; names = []; ended = false }
 
 -- ## Words
 
--- the bytes before the first blank
-abbrev pub first_word : List ℕ → List ℕ
-first_word bytes = take_while is_no_blank bytes
-
 -- the words with which the commands behind `nodes` begin
 abbrev pub command_words : List (List ℕ)
 command_words =
@@ -42,42 +39,6 @@ command_words =
     ∷ codes "restart" ∷ codes "cut" ∷ codes "join" ∷ codes "fail" ∷ codes "stop" ∷ codes "end" ∷ []
 
 -- ## Numbers
-
--- a result from 1 to 8, or none
-abbrev pub ResultFits : Option ℕ → Type 0
-ResultFits None = Unit {0}
-ResultFits (Some k) = Within 1 8 k
-
--- an integer has 64 bits, one of them the sign
-abbrev pub IntFits : ℤ → Type 0
-IntFits (pos n) = n < 2 ^ 63
-IntFits (negsuc n) = n < 2 ^ 63
-
--- an integer has 64 bits; of other values nothing is asked
-abbrev pub PlainFits : Datum → Type 0
-PlainFits (number n) = IntFits n
-PlainFits (truth b) = Unit {0}
-PlainFits (text t) = Unit {0}
-PlainFits (cap c) = Unit {0}
-PlainFits (list ds) = Unit {0}
-
-abbrev mutual
-  -- each integer of an argument has 64 bits, and each result that it refers to is from 1 to 8
-  pub WrittenFits : WrittenArg → Type 0
-  WrittenFits (plain d) = PlainFits d
-  WrittenFits (named r) = ResultFits r.result
-  WrittenFits (several gs) = RowFits gs
-
-  -- so it is with every argument in a row
-  pub RowFits : Row → Type 0
-  RowFits no_more = Unit {0}
-  RowFits (and_more g gs) = WrittenFits g × RowFits gs
-
--- the byte of `garble` is from 0 to 255
-abbrev pub HowFits : WrittenMode → Type 0
-HowFits keep = Unit {0}
-HowFits lose = Unit {0}
-HowFits (garble b) = Within 0 255 b
 
 -- each number of a command is in its range, where there are so many nodes
 abbrev pub Fits : ℕ → WrittenCommand → Type 0
@@ -105,18 +66,6 @@ LineFits most (declares t) = Unit {0}
 LineFits most unended = Unit {0}
 
 -- ## Names
-
-abbrev mutual
-  -- the names that an argument refers to, from left to right, each as often as it stands there
-  pub names_in : WrittenArg → List (List ℕ)
-  names_in (named r) = r.name ∷ []
-  names_in (several gs) = names_of gs
-  names_in (plain d) = []
-
-  -- those of all arguments in a row, in their order
-  pub names_of : Row → List (List ℕ)
-  names_of no_more = []
-  names_of (and_more g gs) = names_in g ++ names_of gs
 
 -- the names that a line refers to
 abbrev pub uses : Line → List (List ℕ)
@@ -196,21 +145,6 @@ abbrev pub Passes : ScriptCause → Seen → Part → ℕ → Type 0
 Passes c seen (line bytes) i = LinePasses c seen bytes
 Passes c seen (declaration body) i = TypePasses c seen body i
 Passes c seen (unclosed lines) i = UnclosedPasses c lines i
-
--- the order of the tests on a line
-abbrev pub rank : ScriptCause → ℕ
-rank BadByte = 0
-rank LongLine = 1
-rank AfterEnd = 2
-rank NoCommand = 3
-rank Misplaced = 4
-rank BadForm = 5
-rank BadNumber = 6
-rank UnknownName = 7
-rank UnknownType = 8
-rank DoubledName = 9
-rank BadEdentype = 10
-rank NoEnd = 11
 
 -- The first test that a part does not pass: of its lines the first that fails one, and of that line's tests the first.
 pub record IsCause (seen : Seen) (part : Part) (i : ℕ) (cause : ScriptCause) : Type 0 where

@@ -1,14 +1,8 @@
 -- How the bytes of a script are cut.
-use Rattle.std.specs.Prelude.{◌≡◌, ◌⊎◌, ◌≤◌, ◌+◌, ℕ, true, List, [], ◌∷◌, ◌++◌, length, Option, Some, None}
+use Rattle.std.specs.Prelude.{◌≡◌, ◌≤◌, ◌+◌, ℕ, List, [], ◌∷◌, length, Option, Some, None}
 use Rattle.std.specs.Borrow.{Bor}
-use Rattle.std.specs.List.{list_all}
-use Rattle.eden_script.specs.Form.{is_no_feed}
-use Rattle.eden_script.specs.Parts.{lines_of, parts_of, declaration, unclosed}
-
--- a first line with what is behind its line feed, or the last line
-pub record IsFirstLine (bytes line rest : List ℕ) : Type 0 where
-  pub clean : list_all is_no_feed line ≡ true
-  pub split : (bytes ≡ line ++ 10 ∷ rest) ⊎ ((bytes ≡ line) × (rest ≡ []))
+use Rattle.eden_script.specs.Parts.{parts_of, declaration, unclosed}
+use Rattle.script_words.specs.Lines.{lines_of}
 
 -- the first part of the bytes is this Edentype with its end, and these bytes make the other parts; or all are the lines of one without
 abbrev pub IsDeclaration : List ℕ → Option (Bor (List ℕ) × Bor (List ℕ)) → Type 0

@@ -11,7 +11,7 @@ use Rattle.epl_syntax.specs.declared.rule.Rule.{Rule}
 use Rattle.epl_syntax.specs.declared.types.Native.{Native}
 use Rattle.epl_parser.specs.Program.{SpellsType, RefusesType}
 pub use Rattle.journal.specs.Fit.{DECLARED_LIMIT}
-use Rattle.eden_script.specs.Form.{is_name_byte, is_upper}
+use Rattle.script_words.specs.Form.{is_name_byte, is_upper}
 use Rattle.eden_script.specs.declared.declared.Refused.{Refused}
 use Rattle.eden_script.specs.declared.declared.Refused.TheVariants.{At, Memory}
 

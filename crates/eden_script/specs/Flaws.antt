@@ -2,13 +2,15 @@
 use Rattle.std.specs.Prelude.{◌≡◌, ℕ, suc, ◌+◌, ◌<◌, ◌≤◌, ◌==◌, ◌||◌, ◌&&◌, not, nat_lt, nat_le, Bool, List, [], ◌∷◌, length, Option, Some}
 use Rattle.std.specs.Prelude.{None, if◌then◌else◌}
 use Rattle.std.specs.List.{list_all}
-use Rattle.eden_script.specs.Form.{is_printable, is_among}
-use Rattle.eden_script.specs.Parts.{Part, lines_of, parts_of, lines_in, line_of_place}
+use Rattle.script_words.specs.Form.{is_printable, is_among}
+use Rattle.eden_script.specs.Parts.{Part, parts_of, lines_in, line_of_place}
+use Rattle.script_words.specs.Lines.{lines_of}
 use Rattle.eden_script.specs.Declarations.{Types, type_names, declared_name}
 use Rattle.eden_script.specs.Tree.{Line}
-use Rattle.eden_script.specs.Causes.{Seen, rank, IsCause, IsSaid}
-use Rattle.eden_script.specs.declared.cause.ScriptCause.{ScriptCause}
-use Rattle.eden_script.specs.declared.cause.ScriptCause.TheVariants.{BadByte, LongLine, AfterEnd, Misplaced, DoubledName, BadEdentype}
+use Rattle.eden_script.specs.Causes.{Seen, IsCause, IsSaid}
+use Rattle.script_words.specs.Causes.{rank}
+use Rattle.script_words.specs.declared.cause.ScriptCause.{ScriptCause}
+use Rattle.script_words.specs.declared.cause.ScriptCause.TheVariants.{BadByte, LongLine, AfterEnd, Misplaced, DoubledName, BadEdentype}
 
 -- a line of a part, counted from 0, and a test that it fails
 abbrev pub Place : Type 0

@@ -1,4 +1,3 @@
-pub mod Form
 pub mod Names
 pub mod Parts
 pub mod Cuts
@@ -8,7 +7,6 @@ pub mod Grammar
 pub mod Causes
 pub mod Flaws
 pub mod Meaning
-pub mod Alone
 pub mod Script
 pub mod Reading
 pub mod View

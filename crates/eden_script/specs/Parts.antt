@@ -2,16 +2,7 @@
 use Rattle.std.specs.Prelude.{ℕ, zero, suc, ◌+◌, ◌==◌, Bool, List, [], ◌∷◌, ◌++◌, length, take, codes, if◌then◌else◌}
 use Rattle.std.specs.List.{filter}
 use Rattle.std.specs.Str.{bytes_eq}
-
--- a byte in front of the first line; where there is no line, it makes one
-abbrev pub onto : ℕ → List (List ℕ) → List (List ℕ)
-onto b [] = (b ∷ []) ∷ []
-onto b (line ∷ lines) = (b ∷ line) ∷ lines
-
--- the lines of some bytes, each without the line feed that ends it; the last may lack one, and behind one at the end there is no other
-abbrev pub lines_of : List ℕ → List (List ℕ)
-lines_of [] = []
-lines_of (b ∷ bytes) = if b == 10 then [] ∷ lines_of bytes else onto b (lines_of bytes)
+use Rattle.script_words.specs.Lines.{lines_of}
 
 -- A part of a script: a line; the text of an Edentype, from a line that begins with `edentype` to the next line
 -- `endtype`; or the lines from such a beginning on, where no line `endtype` follows.

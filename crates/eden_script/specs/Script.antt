@@ -9,12 +9,13 @@ use Rattle.eden_script.specs.Meaning.{written_command}
 use Rattle.eden_script.specs.Declarations.{Types, types_in, with_declared}
 use Rattle.eden_script.specs.Names.{with_names}
 use Rattle.eden_script.specs.Tree.{WrittenCommand, finish, Line, idle, nodes, does, declares, unended}
-use Rattle.eden_script.specs.Parts.{Part, lines_of, parts_of, line_count}
+use Rattle.eden_script.specs.Parts.{Part, parts_of, line_count}
+use Rattle.script_words.specs.Lines.{lines_of}
 use Rattle.eden_script.specs.Causes.{Seen, at_first, brings, IsCause, IsSaid}
-use Rattle.eden_script.specs.declared.cause.ScriptCause.{ScriptCause}
-use Rattle.eden_script.specs.declared.cause.ScriptRefusal.{ScriptRefusal}
-use Rattle.eden_script.specs.declared.cause.ScriptRefusal.TheVariants.{Bad, OutOfMemory}
-use Rattle.eden_script.specs.declared.cause.ScriptCause.TheVariants.{NoEnd}
+use Rattle.script_words.specs.declared.cause.ScriptCause.{ScriptCause}
+use Rattle.script_words.specs.declared.cause.ScriptRefusal.{ScriptRefusal}
+use Rattle.script_words.specs.declared.cause.ScriptRefusal.TheVariants.{Bad, OutOfMemory}
+use Rattle.script_words.specs.declared.cause.ScriptCause.TheVariants.{NoEnd}
 
 -- the command `end`
 abbrev pub is_finish : WrittenCommand → Bool

@@ -1,71 +1,25 @@
 -- What the code's values are, as they are written.
-use Rattle.std.specs.Prelude.{◌≡◌, ℕ, ◌-◌, false, List, [], map, Option, None, Result, Ok, Err}
+use Rattle.std.specs.Prelude.{◌≡◌, ℕ, ◌-◌, false, List, [], Result, Ok, Err}
 use Rattle.std.specs.List.{list_any}
-use Rattle.std.specs.Option.{option_map}
-use Rattle.std.specs.declared.vec.Vec.{Vec}
-use Rattle.std.specs.declared.alloc.Global.{Global}
 use Rattle.std.specs.Borrow.{Bor}
-use Rattle.eden_value.specs.Datum.{Datum, Data, cap, list, no_data, data_and}
-use Rattle.eden_value.specs.View.{datum}
-use Rattle.eden_value.specs.declared.value.Value.{Value}
 use Rattle.eden_model.specs.Map.{same_text}
-use Rattle.journal.specs.ArgumentView.{given}
-use Rattle.journal.specs.declared.command.Arg.{Arg}
 use Rattle.epl_syntax.specs.Tree.{type_tree}
 use Rattle.epl_syntax.specs.Rules.InItems.{broken_program}
 use Rattle.epl_syntax.specs.Rules.OfTypes.{TypeList, names_of}
 use Rattle.eden_script.specs.Declarations.{DECLARED_LIMIT, types_in}
-use Rattle.eden_script.specs.Tree.{WrittenArg, plain, named, several, Row, no_more, and_more, Line, idle, nodes, does, declares, unended}
-use Rattle.eden_script.specs.Reading.{Judged}
+use Rattle.eden_script.specs.Tree.{Line, idle, nodes, does, declares, unended}
 use Rattle.eden_script.specs.Parts.{Part}
 use Rattle.eden_script.specs.Causes.{Seen as Known, declared_count, IsCause, IsSaid}
 use Rattle.eden_script.specs.Flaws.{Place, FirstSays, FirstFails}
 use Rattle.eden_script.specs.Script.{after}
-use Rattle.eden_script.specs.declared.cause.ScriptCause.{ScriptCause}
+use Rattle.script_words.specs.declared.cause.ScriptCause.{ScriptCause}
 use Rattle.eden_script.specs.declared.flaw.Place.{Place as CodePlace}
 use Rattle.eden_script.specs.declared.flaw.Flaw.{Flaw}
 use Rattle.eden_script.specs.declared.flaw.Flaw.TheVariants as flaw
 use Rattle.eden_script.specs.declared.line.Seen.{Seen}
 use Rattle.eden_script.specs.declared.line.Line.{Line as CodeLine}
 use Rattle.eden_script.specs.declared.line.Line.TheVariants as code
-use Rattle.eden_script.specs.declared.reader.Fault.{Fault}
-use Rattle.eden_script.specs.declared.reader.Fault.TheVariants.{Bad, Memory}
-use Rattle.eden_script.specs.Meaning.{written_arg, written_command}
-
--- it failed for the cause that reading gives, or for want of memory
-abbrev pub Fails : {B : Type 0} → Fault → Judged B → Type 0
-Fails Memory r = Unit {0}
-Fails (Bad cause) r = r ≡ Err cause
-
--- a value that was returned is, by this view, what reading gives; a failure has the cause that reading gives, or is want of memory
-abbrev pub Gives : {X B : Type 0} → (X → B) → Result X Fault → Judged B → Type 0
-Gives view (Ok x) r = r ≡ Ok (view x)
-Gives view (Err e) r = Fails e r
-
--- an argument of the code
-abbrev pub written : Arg → WrittenArg
-written a = written_arg (given a)
-
--- values that were read in a row, or none where one is out of its range
-abbrev pub values_read : Option (Vec Arg Global) → Option (List WrittenArg)
-values_read found = option_map (λ v. map written v.items) found
-
--- a value that is written out
-abbrev pub plainly : Value → WrittenArg
-plainly v = plain (datum v)
-
--- the value that an argument without names is
-abbrev mutual
-  -- of one argument; a name in it counts as the absent capability
-  pub value_in : WrittenArg → Datum
-  value_in (plain d) = d
-  value_in (named r) = cap None
-  value_in (several gs) = list (data_in gs)
-
-  -- the items of a list, each by its value
-  pub data_in : Row → Data
-  data_in no_more = no_data
-  data_in (and_more g gs) = data_and (value_in g) (data_in gs)
+use Rattle.eden_script.specs.Meaning.{written_command}
 
 -- a line of the code
 abbrev pub line_of : CodeLine → Line

@@ -4,20 +4,21 @@ ghost use Rattle.std.specs.Prelude.{◌≡◌, ◌≤◌, ◌<◌, ◌==◌, ◌
 ghost use Rattle.std.specs.List.{list_all};
 ghost use Rattle.std.specs.Option.{option_map};
 ghost use Rattle.std.specs.Str.{bytes_eq};
-ghost use Rattle.eden_script.specs.Form as form;
+ghost use Rattle.script_words.specs.Form as form;
 ghost use Rattle.eden_script.specs.Reading as reading;
-ghost use Rattle.eden_script.specs.Meaning.{written_command, written_mode};
-ghost use Rattle.eden_script.specs.View.{Gives, written};
+ghost use Rattle.script_words.specs.Reading.{in_range};
+ghost use Rattle.eden_script.specs.Meaning.{written_command};
+ghost use Rattle.script_words.specs.Meaning.{written_mode};
+ghost use Rattle.script_words.specs.View.{Gives, written};
 
-use crate::cause::ScriptCause;
-use crate::reader::{
-    Fault, behind, digits, digits_and, end, last_digits, lower_and_blank, two_digits, up_to, upper,
-    within, word,
-};
-use crate::value::{quoted, reference, reference_words, txt, values};
 use capability::{Rights, Uid};
 use eden_disk::ImageMode;
 use journal::{Arg, Args, Command};
+use script_words::{
+    Fault, ScriptCause, behind, crash_mode, digits, digits_and, end, last_digits, lower_and_blank,
+    mode, mode_in_range, quoted, reference, reference_words, same_number, two_digits, txt, upper,
+    values, within, word,
+};
 use std::alloc::Global;
 
 /// What stands behind `create `, where there are `most` nodes.
@@ -56,7 +57,7 @@ pub fn hold(alloc: Global, most: u8, bytes: &[u8]) -> Result<Command, Fault>
 }
 
 fn args_in_range(args: Option<Vec<Arg>>) -> Result<Vec<Arg>, Fault>
-    ensures { Gives (λ v. map written v.items) result (reading.in_range (option_map (λ v. map written v.items) args)) }
+    ensures { Gives (λ v. map written v.items) result (in_range (option_map (λ v. map written v.items) args)) }
 {
     match args {
         Some(args) => Ok(args),
@@ -139,48 +140,6 @@ pub fn go(bytes: &[u8]) -> Result<Command, Fault>
     Ok(Command::Go { n })
 }
 
-/// A mode that is none where its byte is out of its range.
-fn mode(bytes: &[u8]) -> Result<Option<ImageMode>, Fault>
-    ensures { Gives (option_map written_mode) result (reading.read_mode bytes.now) }
-{
-    if bytes == b" keep".as_slice() {
-        return Ok(Some(ImageMode::Keep));
-    }
-    if bytes == b" lose".as_slice() {
-        return Ok(Some(ImageMode::Lose));
-    }
-    let rest = word(bytes, b" garble ")?;
-    let byte = last_digits(rest)?;
-    Ok(garble(byte))
-}
-
-fn garble(digits: &[u8]) -> Option<ImageMode>
-    ensures { option_map written_mode result ≡ reading.garbled (reading.up_to 255 digits.now) }
-{
-    let byte = up_to(255, digits)? as u8;
-    Some(ImageMode::Garble { byte })
-}
-
-fn crash_mode(bytes: &[u8]) -> Result<Option<ImageMode>, Fault>
-    ensures { Gives (option_map written_mode) result (reading.read_crash_mode bytes.now) }
-{
-    if bytes.is_empty() {
-        return Ok(Some(ImageMode::Lose));
-    }
-    mode(bytes)
-}
-
-fn mode_in_range(mode: Option<ImageMode>) -> Result<ImageMode, Fault>
-    ensures { Gives written_mode result (reading.in_range (option_map written_mode mode)) }
-{
-    match mode {
-        Some(mode) => Ok(mode),
-        None => Err(Fault::Bad {
-            cause: ScriptCause::BadNumber,
-        }),
-    }
-}
-
 /// What stands behind `crash `, where there are `most` nodes.
 pub fn crash(most: u8, bytes: &[u8]) -> Result<Command, Fault>
     ensures { Gives written_command result (reading.read_crash most bytes.now) }
@@ -199,43 +158,6 @@ pub fn restart(most: u8, bytes: &[u8]) -> Result<Command, Fault>
     let node = last_digits(bytes)?;
     let node = within(1, most as u64, node)? as u8;
     Ok(Command::Restart { node })
-}
-
-fn all_zeros(digits: &[u8]) -> bool
-    ensures { result ≡ list_all (λ b. b == 48) digits.now }
-{
-    digits.iter().all(|b| *b == b'0')
-}
-
-/// Whether a word is another one behind zeros.
-fn is_padded(short: &[u8], front: &[u8], back: &[u8]) -> bool
-    ensures { result ≡ list_all (λ b. b == 48) front.now && bytes_eq back.now short.now }
-{
-    all_zeros(front) && back == short
-}
-
-/// Whether the shorter word of digits and the longer stand for the same number.
-fn same_padded(short: &[u8], long: &[u8]) -> bool
-    requires few { length short.now ≤ length long.now }
-    requires short { list_all form.is_digit short.now ≡ true }
-    requires long { list_all form.is_digit long.now ≡ true }
-    ensures { result ≡ form.number_of short.now == form.number_of long.now }
-{
-    let extra = long.len() - short.len();
-    is_padded(short, &long[..extra], &long[extra..])
-}
-
-/// Whether two words of digits stand for the same number.
-fn same_number(a: &[u8], b: &[u8]) -> bool
-    requires first { list_all form.is_digit a.now ≡ true }
-    requires second { list_all form.is_digit b.now ≡ true }
-    ensures { result ≡ form.number_of a.now == form.number_of b.now }
-{
-    if a.len() <= b.len() {
-        same_padded(a, b)
-    } else {
-        same_padded(b, a)
-    }
 }
 
 /// Two different stations.

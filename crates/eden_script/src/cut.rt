@@ -2,37 +2,14 @@
 
 ghost use Rattle.std.specs.Prelude.{◌≡◌, ◌⊎◌, ◌<◌, ◌≤◌, ◌^◌, ◌++◌, ◌∷◌, [], length, true, take, Some, None};
 ghost use Rattle.std.specs.List.{list_all, take_while, filter};
-ghost use Rattle.eden_script.specs.Form as form;
+ghost use Rattle.script_words.specs.Form as form;
 ghost use Rattle.eden_script.specs.Parts as parts;
-ghost use Rattle.eden_script.specs.Parts.{Part, lines_of, parts_of, line_of_place, begins_type, ends_type};
-ghost use Rattle.eden_script.specs.Cuts.{IsFirstLine, IsDeclaration};
+ghost use Rattle.eden_script.specs.Parts.{Part, parts_of, line_of_place, begins_type, ends_type};
+ghost use Rattle.script_words.specs.Lines.{lines_of};
+ghost use Rattle.eden_script.specs.Cuts.{IsDeclaration};
+ghost use Rattle.script_words.specs.Lines.{IsFirstLine};
 
-fn is_no_feed(b: u8) -> bool
-    ensures { result ≡ form.is_no_feed b }
-{
-    b != b'\n'
-}
-
-fn line_length(bytes: &[u8]) -> usize
-    ensures { result ≡ length (take_while form.is_no_feed bytes.now) }
-{
-    bytes.iter().take_while(|b| is_no_feed(**b)).count()
-}
-
-/// The first line, and the lines behind it.
-pub fn first_line(bytes: &[u8]) -> (&[u8], &[u8])
-    requires { 0 < length bytes.now }
-    ensures line { lines_of bytes.now ≡ result.0.now ∷ lines_of result.1.now }
-    ensures first { IsFirstLine bytes.now result.0.now result.1.now }
-    ensures shorter { length result.1.now < length bytes.now }
-{
-    let n = line_length(bytes);
-    if n < bytes.len() {
-        (&bytes[..n], &bytes[n + 1..])
-    } else {
-        (bytes, &bytes[n..])
-    }
-}
+use script_words::first_line;
 
 /// How many lines there are.
 pub fn count_lines(bytes: &[u8]) -> u32

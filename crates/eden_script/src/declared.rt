@@ -11,18 +11,17 @@ ghost use Rattle.eden_script.specs.Causes.{declared_count};
 ghost use Rattle.eden_script.specs.Declarations as declarations;
 ghost use Rattle.eden_script.specs.Declarations.{Declares, IsRefused, type_names, types_in};
 ghost use Rattle.eden_script.specs.Flaws as flaws;
-ghost use Rattle.eden_script.specs.Form as form;
+ghost use Rattle.script_words.specs.Form as form;
 ghost use Rattle.eden_script.specs.View.{IsCounted, place_of, seen_of};
 
-use crate::cause::ScriptCause;
 use crate::cut::line_at_place;
 use crate::flaw::Place;
 use crate::line::Seen;
-use crate::reader::{is_upper, name_length};
 use eden_value::{Txt, texted};
 use epl_check::{CheckRefusal, check, resolve};
 use epl_parser::{conditions_are_in_monitors, parse_edentype};
 use epl_syntax::{Checked, ParseRefusal, Types};
+use script_words::{ScriptCause, is_upper, name_length};
 use std::alloc::{AllocError, Global};
 
 /// The greatest number of types that a script may declare.

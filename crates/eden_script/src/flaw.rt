@@ -3,15 +3,14 @@
 ghost use Rattle.std.specs.Prelude.{◌≡◌, ◌<◌, ◌≤◌, ◌^◌, length, Some, None};
 ghost use Rattle.std.specs.List.{list_all};
 ghost use Rattle.std.specs.Option.{option_map};
-ghost use Rattle.eden_script.specs.Causes.{rank};
+ghost use Rattle.script_words.specs.Causes.{rank};
 ghost use Rattle.eden_script.specs.Flaws as flaws;
-ghost use Rattle.eden_script.specs.Form as form;
-ghost use Rattle.eden_script.specs.Parts.{lines_of, line_of_place};
+ghost use Rattle.script_words.specs.Form as form;
+ghost use Rattle.eden_script.specs.Parts.{line_of_place};
+ghost use Rattle.script_words.specs.Lines.{lines_of};
 ghost use Rattle.eden_script.specs.View.{place_of};
 
-use crate::cause::ScriptCause;
-use crate::cut::first_line;
-use eden_value::is_printable;
+use script_words::{ScriptCause, all_printable, first_line};
 use std::alloc::AllocError;
 
 /// A line of a part, counted from 0, and a test that it fails.
@@ -39,13 +38,6 @@ impl From<AllocError> for Flaw {
     fn from(_: AllocError) -> Flaw {
         Flaw::Memory
     }
-}
-
-/// Whether each byte may stand in a line.
-pub fn all_printable(bytes: &[u8]) -> bool
-    ensures { result ≡ list_all form.is_printable bytes.now }
-{
-    bytes.iter().all(|b| is_printable(*b))
 }
 
 /// The first line that has a bad byte or is too long.

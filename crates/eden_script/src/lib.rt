@@ -5,8 +5,6 @@
 //! `specs/Script.antt`.
 #![tactic(auto)]
 
-mod alone;
-mod cause;
 mod command;
 mod cut;
 mod declared;
@@ -16,10 +14,7 @@ mod line;
 mod names;
 mod parse;
 mod part;
-mod reader;
-mod value;
 
-pub use alone::read_value;
-pub use cause::{ScriptCause, ScriptRefusal};
 pub use law::a_script_is_fit;
 pub use parse::{one_reading, parse_script};
+pub use script_words::{ScriptCause, ScriptRefusal, read_value};

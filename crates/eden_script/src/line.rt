@@ -2,23 +2,26 @@
 
 ghost use Rattle.std.specs.Prelude.{◌≡◌, ◌≤◌, ◌<◌, ◌==◌, ◌&&◌, IfOk, OnOk, map, true, length};
 ghost use Rattle.std.specs.List.{list_all, list_any, take_while};
-ghost use Rattle.eden_script.specs.Form as form;
-ghost use Rattle.eden_script.specs.Tree.{does, row_of};
+ghost use Rattle.script_words.specs.Form as form;
+ghost use Rattle.eden_script.specs.Tree.{does};
+ghost use Rattle.script_words.specs.Tree.{row_of};
 ghost use Rattle.eden_script.specs.Causes as causes;
+ghost use Rattle.script_words.specs.Causes.{names_in, names_of};
 ghost use Rattle.eden_script.specs.Script as script;
 ghost use Rattle.eden_script.specs.Reading as reading;
 ghost use Rattle.eden_script.specs.Meaning.{written_command};
 ghost use Rattle.eden_script.specs.Declarations.{type_names, types_in};
-ghost use Rattle.eden_script.specs.View.{Gives, noted, room_after, written, line_of, seen_of};
+ghost use Rattle.eden_script.specs.View.{noted, room_after, line_of, seen_of};
+ghost use Rattle.script_words.specs.View.{Gives, written};
 
-use crate::cause::ScriptCause;
 use crate::command::command;
 use crate::declared::is_type;
-use crate::flaw::all_printable;
 use crate::names::Names;
-use crate::reader::{Fault, last_digits, within, word};
 use epl_syntax::{Checked, Types};
 use journal::{Arg, Command};
+use script_words::{
+    Fault, ScriptCause, all_printable, first_word, is_idle, last_digits, within, word,
+};
 use std::alloc::{AllocError, Global};
 
 /// What the parts so far leave: the types, how many more may be declared, the number of nodes, 0 before `nodes`, the
@@ -47,26 +50,6 @@ pub enum Line {
     Unended,
 }
 
-fn is_no_blank(b: u8) -> bool
-    ensures { result ≡ form.is_no_blank b }
-{
-    b != b' '
-}
-
-fn word_length(bytes: &[u8]) -> usize
-    ensures { result ≡ length (take_while form.is_no_blank bytes.now) }
-{
-    bytes.iter().take_while(|b| is_no_blank(**b)).count()
-}
-
-/// The bytes before the first blank.
-fn first_word(bytes: &[u8]) -> &[u8]
-    ensures { result.now ≡ causes.first_word bytes.now }
-{
-    let n = word_length(bytes);
-    &bytes[..n]
-}
-
 fn is_command_word(word: &[u8]) -> bool
     ensures { result ≡ form.is_among causes.command_words word.now }
 {
@@ -89,7 +72,7 @@ fn is_command_word(word: &[u8]) -> bool
 /// Whether the names in a value are known.
 #[cycle(known)]
 fn value_known(names: &Names, arg: &Arg) -> bool
-    ensures { result ≡ list_all (form.is_among names.now) (causes.names_in (written arg.now)) }
+    ensures { result ≡ list_all (form.is_among names.now) (names_in (written arg.now)) }
 {
     match arg {
         Arg::Plain { .. } => true,
@@ -100,7 +83,7 @@ fn value_known(names: &Names, arg: &Arg) -> bool
 
 #[cycle(known)]
 fn values_known(names: &Names, args: &[Arg]) -> bool
-    ensures { result ≡ list_all (form.is_among names.now) (causes.names_of (row_of (map written args.now))) }
+    ensures { result ≡ list_all (form.is_among names.now) (names_of (row_of (map written args.now))) }
 {
     for arg in args {
         if !value_known(names, arg) {
@@ -224,15 +207,6 @@ fn judge_word(alloc: Global, seen: &Seen, word: &[u8], bytes: &[u8]) -> Result<L
         });
     }
     command_line(alloc, seen, bytes)
-}
-
-fn is_idle(bytes: &[u8]) -> bool
-    ensures { result ≡ reading.is_idle bytes.now }
-{
-    match bytes.first() {
-        Some(b) => *b == b'#',
-        None => true,
-    }
 }
 
 /// What a line says.

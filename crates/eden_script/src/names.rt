@@ -1,17 +1,17 @@
 //! The names that a script has introduced.
 
 ghost use Rattle.std.specs.Prelude.{◌≡◌, [], OnOk};
-ghost use Rattle.eden_script.specs.Form.{is_among};
+ghost use Rattle.script_words.specs.Form.{is_among};
 ghost use Rattle.eden_script.specs.Names.{with_name};
 
-use indexmap::IndexSet;
 use std::alloc::{AllocError, Global};
+use std::collections::BTreeSet;
 use std::marker::Model;
 
-/// Names in the order in which they came.
+/// Names in the order of their bytes, so that no choice of names makes a look-up slow.
 #[derive(Drop)]
 pub struct Names {
-    in_order: IndexSet<Vec<u8>>,
+    in_order: BTreeSet<Vec<u8>>,
 }
 
 impl Model for Names {
@@ -28,7 +28,7 @@ impl Names {
         ensures { result ≡ [] }
     {
         Names {
-            in_order: IndexSet::new(alloc),
+            in_order: BTreeSet::new(alloc),
         }
     }
 

@@ -8,7 +8,6 @@ ghost use Rattle.eden_script.specs.Script.{IsScript, IsRefusal, AtMostOne, comma
 ghost use Rattle.journal.specs.Laws.{WriteNone};
 ghost use Rattle.eden_script.specs.View.{IsCounted, KeepsRules, line_of, seen_of};
 
-use crate::cause::{ScriptCause, ScriptRefusal};
 use crate::declared::DECLARED_LIMIT;
 use crate::flaw::Flaw;
 use crate::line::{Line, Seen, note};
@@ -20,6 +19,7 @@ use epl_parser::{
 };
 use epl_syntax::Types;
 use journal::{Command, Commands, Script};
+use script_words::{ScriptCause, ScriptRefusal};
 use std::alloc::{AllocError, Global};
 
 /// Lines have more bytes on average, so that a list of so many commands seldom grows.

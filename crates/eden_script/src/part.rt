@@ -3,17 +3,16 @@
 ghost use Rattle.std.specs.Prelude.{◌≡◌, ◌<◌, ◌≤◌, ◌^◌, IfOk, length};
 ghost use Rattle.eden_script.specs.Flaws as flaws;
 ghost use Rattle.eden_script.specs.Parts as parts;
-ghost use Rattle.eden_script.specs.Parts.{lines_of};
+ghost use Rattle.script_words.specs.Lines.{lines_of};
 ghost use Rattle.eden_script.specs.View.{PartFinds, FirstFinds, IsCounted, seen_of, place_of};
 ghost use Rattle.std.specs.Option.{option_map};
 
-use crate::cause::ScriptCause;
-use crate::cut::{begins_edentype, count_lines, declaration, first_line, line_at_place};
+use crate::cut::{begins_edentype, count_lines, declaration, line_at_place};
 use crate::declared::{Refused, declared, is_room, name_flaw, place_flaw};
 use crate::flaw::{Flaw, Place, earlier, is_earlier, line_flaw};
 use crate::line::{Line, Seen, judge};
-use crate::reader::Fault;
 use epl_parser::{refusals_are_one, types_are_one};
+use script_words::{Fault, ScriptCause, first_line};
 use std::alloc::{AllocError, Global};
 
 /// What a line says.

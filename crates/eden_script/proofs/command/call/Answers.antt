@@ -1,5 +1,5 @@
 use Rattle.std.proofs.Common.{rules}
-use Rattle.eden_script.proofs.Rows.{written_givens}
+use Rattle.script_words.proofs.Rows.{written_givens}
 use Rattle.eden_script.proofs.command.call.Goals as goal
 
 pub returns : goal.returns

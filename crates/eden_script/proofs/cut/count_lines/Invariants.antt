@@ -1,5 +1,5 @@
 use Rattle.std.proofs.Common.{◌≡◌, ◌≤◌, ◌+◌, length}
-use Rattle.eden_script.specs.Parts.{lines_of}
+use Rattle.script_words.specs.Lines.{lines_of}
 use Rattle.eden_script.proofs.cut.count_lines.Given as goal
 
 abbrev pub invariant-loop-rest : goal.invariant-loop-rest

@@ -1,5 +1,6 @@
 use Rattle.std.proofs.Common.{arith, rules, refl}
-use Rattle.eden_script.proofs.Cutting.{behind_short, cut_first, cut_step, cut_end, cut_found, no_bytes}
+use Rattle.eden_script.proofs.Cutting.{behind_short, cut_first, cut_step, cut_end, cut_found}
+use Rattle.script_words.proofs.Cutting.{no_bytes}
 use Rattle.eden_script.proofs.cut.declaration.Goals as goal
 
 pub loop-rest-init : goal.loop-rest-init

@@ -1,5 +1,5 @@
 use Rattle.std.proofs.Common.{◌≡◌, ◌≤◌, ◌+◌, length}
-use Rattle.eden_script.specs.Parts.{lines_of}
+use Rattle.script_words.specs.Lines.{lines_of}
 use Rattle.eden_script.specs.Flaws.{line_flaw}
 use Rattle.eden_script.proofs.flaw.line_flaw.Given as goal
 

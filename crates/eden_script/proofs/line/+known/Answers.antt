@@ -1,7 +1,7 @@
 use Rattle.std.proofs.Common.{◌∙◌, ap}
 use Rattle.std.specs.List.{list_all}
-use Rattle.eden_script.specs.Form.{is_among}
-use Rattle.eden_script.proofs.Rows.{names_in_list}
+use Rattle.script_words.specs.Form.{is_among}
+use Rattle.script_words.proofs.Rows.{names_in_list}
 use Rattle.eden_script.proofs.line.+known.Goals as goal
 
 pub value_known-returns-in-List : goal.value_known-returns-in-List

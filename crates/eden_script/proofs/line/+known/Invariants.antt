@@ -1,9 +1,9 @@
 use Rattle.std.proofs.Common.{◌≡◌, drop, map}
 use Rattle.std.specs.List.{list_all}
-use Rattle.eden_script.specs.Form.{is_among}
-use Rattle.eden_script.specs.Tree.{row_of}
-use Rattle.eden_script.specs.Causes.{names_of}
-use Rattle.eden_script.specs.View.{written}
+use Rattle.script_words.specs.Form.{is_among}
+use Rattle.script_words.specs.Tree.{row_of}
+use Rattle.script_words.specs.Causes.{names_of}
+use Rattle.script_words.specs.View.{written}
 use Rattle.eden_script.proofs.line.+known.Given as goal
 
 abbrev pub invariant-values_known-loop-arg : goal.invariant-values_known-loop-arg

@@ -1,5 +1,5 @@
 use Rattle.std.proofs.Common.{rules}
-use Rattle.eden_script.proofs.Rows.{args_row}
+use Rattle.script_words.proofs.Rows.{args_row}
 use Rattle.eden_script.proofs.line.uses_known.Goals as goal
 
 pub returns-then-has : goal.returns-then-has

@@ -1,8 +1,8 @@
 use Rattle.std.proofs.Common.{rules, arith, map, refl}
 use Rattle.eden_script.specs.Meaning.{written_command}
-use Rattle.eden_script.specs.Parts.{lines_of}
+use Rattle.script_words.specs.Lines.{lines_of}
 use Rattle.eden_script.specs.View.{seen_of, line_of}
-use Rattle.eden_script.proofs.Cutting.{no_bytes}
+use Rattle.script_words.proofs.Cutting.{no_bytes}
 use Rattle.eden_script.proofs.FitScripts.{script_fits, fit_writes_none}
 use Rattle.eden_script.proofs.KeptRules.{keeps_rules}
 use Rattle.eden_script.proofs.Run.{run_step, run_bad, run_no_end, run_end}

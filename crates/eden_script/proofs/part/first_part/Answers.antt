@@ -2,7 +2,8 @@ use Rattle.std.proofs.Common.{rules, arith}
 use Rattle.eden_script.specs.Causes.{IsCause}
 use Rattle.eden_script.specs.Flaws.{FirstFails}
 use Rattle.eden_script.specs.Parts as parts
-use Rattle.eden_script.specs.Parts.{lines_of, parts_of}
+use Rattle.eden_script.specs.Parts.{parts_of}
+use Rattle.script_words.specs.Lines.{lines_of}
 use Rattle.eden_script.specs.View.{seen_of}
 use Rattle.eden_script.proofs.PartLaws.{pass_on, line_fails, declaration_fails, unclosed_fails, some_lines}
 use Rattle.eden_script.proofs.part.first_part.Goals as goal

@@ -1,5 +1,5 @@
 use Rattle.std.proofs.Common.{rules}
-use Rattle.eden_script.specs.Parts.{lines_of}
+use Rattle.script_words.specs.Lines.{lines_of}
 use Rattle.eden_script.specs.View.{seen_of, place_of}
 use Rattle.eden_script.proofs.FlawLaws.{unclosed_cause, unclosed_said}
 use Rattle.eden_script.proofs.part.unclosed.Goals as goal

@@ -1,5 +1,5 @@
 use Rattle.std.proofs.Common.{◌∙◌, ap}
-use Rattle.eden_script.specs.Form.{is_among}
+use Rattle.script_words.specs.Form.{is_among}
 use Rattle.eden_script.proofs.InOrder.{found_name}
 use Rattle.eden_script.proofs.names.Names.has.Goals as goal
 
