@@ -1,5 +1,5 @@
 -- What was written of a text that is due.
-use Rattle.std.proofs.Common.{◌≡◌, ◌≢◌, ◌≤◌, ℕ, List, length, take, take_all, refl, sym, subst, arith, Option}
+use Rattle.std.proofs.Common.{◌≢◌, ℕ, List, length, take_all, refl, sym, subst, arith, Option}
 use Rattle.std.specs.Prelude.{Result, Ok, Err, OnOk, OnErr}
 use Rattle.std.specs.Io.KnownBytes.{Appends}
 use Rattle.eden_io.specs.Taken.{AppendsPart}

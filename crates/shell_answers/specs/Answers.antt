@@ -11,10 +11,12 @@ use Rattle.journal.specs.Lines.{text_of}
 use Rattle.journal.specs.Standing.{DiskRun}
 use Rattle.journal.specs.Faults.{ShowsEach, ShowsNoMore}
 use Rattle.journal.specs.LegalRun.{IsLegalRun, IsLegalSoFar, AreHandedIn, EachDisk}
-use Rattle.shell_answers.specs.Words.{mode_of}
+use Rattle.shell_answers.specs.Words.{AsksFor, mode_of}
 use Rattle.shell_answers.specs.Outcomes.{line_of}
-use Rattle.shell_answers.specs.Reading.{Reading, IsAsked, Refuses}
+use Rattle.shell_answers.specs.Reading.{Reading, IsAsked, HasWire, Refuses}
 use Rattle.shell_answers.specs.declared.words.Job.{Job}
+use Rattle.shell_answers.specs.declared.words.Task.{Task}
+use Rattle.shell_answers.specs.declared.words.Task.TheVariants.{History, Wire}
 use Rattle.shell_answers.specs.declared.outcome.Outcome.{Outcome}
 use Rattle.shell_answers.specs.declared.outcome.Outcome.TheVariants.{Ran, WriteFault, OutOfMemory}
 
@@ -83,8 +85,7 @@ pub record IsCarriedOut (d : Disks) (script : Script) (history : List Entry) (wh
 -- 4. Outcomes
 
 -- A run came to its end: the history is that of the script that was asked for, no disk wanted memory, and the text is the history's.
-pub record HasRun (c : Call) (history : List Entry) (text : List ℕ) : Type 0 where
-  pub job : Job
+pub record HasRun (c : Call) (job : Job) (history : List Entry) (text : List ℕ) : Type 0 where
   pub script : Script
   pub asked : IsAsked c.words c.source job script
   pub legal : IsLegalOver c.disks script history
@@ -96,6 +97,16 @@ pub record IsNotBegun (c : Call) (history : List Entry) : Type 0 where
   pub nothing : history ≡ []
   pub disks : All IsUntouched c.disks.runs
 
+-- The script of a wire was run, and this is its text. There is no history, and no disk was touched.
+pub record HasWired (c : Call) (history : List Entry) (text : List ℕ) : Type 0 where
+  pub wire : HasWire c.source text
+  pub not_begun : IsNotBegun c history
+
+-- what is due where a task came to its end, task by task
+abbrev pub IsDone : Task → Call → List Entry → List ℕ → Type 0
+IsDone (History job) c history text = HasRun c job history text
+IsDone Wire c history text = HasWired c history text
+
 -- the call was refused with this outcome, for which there is one line
 pub record IsRefused (c : Call) (outcome : Outcome) (history : List Entry) (text : List ℕ) : Type 0 where
   pub refuses : Refuses c.words c.source outcome
@@ -104,7 +115,7 @@ pub record IsRefused (c : Call) (outcome : Outcome) (history : List Entry) (text
 
 -- The outcome that is due, with its history and the text that is to be written. A write that fails, and want of memory, come in its place.
 abbrev pub IsDue : Call → Outcome → List Entry → List ℕ → Type 0
-IsDue c Ran history text = HasRun c history text
+IsDue c Ran history text = (task : Task) × AsksFor c.words task × IsDone task c history text
 IsDue c outcome history text = IsRefused c outcome history text
 
 -- A run began: the history is that of the script, whole or so far, and a part of its text, from the front, was written.

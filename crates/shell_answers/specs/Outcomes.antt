@@ -1,8 +1,8 @@
 -- The exit status of each outcome, and the line that is written for one that comes before a run.
 use Rattle.std.specs.Prelude.{ℕ, List, [], ◌++◌, codes}
 use Rattle.std.specs.Fmt.{decimal}
-use Rattle.eden_script.specs.declared.cause.ScriptCause.{ScriptCause}
-use Rattle.eden_script.specs.declared.cause.ScriptCause.TheVariants as cause
+use Rattle.script_words.specs.declared.cause.ScriptCause.{ScriptCause}
+use Rattle.script_words.specs.declared.cause.ScriptCause.TheVariants as cause
 use Rattle.shell_answers.specs.declared.outcome.Outcome.{Outcome}
 use Rattle.shell_answers.specs.declared.outcome.Outcome.TheVariants.{Ran, BadWords, BadScript, ReadFault, WriteFault, OutOfMemory, TooLong}
 
@@ -37,7 +37,7 @@ bad_script_line line why = codes "bad script line " ++ decimal line ++ codes ": 
 
 -- the line that is written where an outcome comes before a run, with its line feed
 abbrev pub line_of : Outcome → List ℕ
-line_of BadWords = codes "usage: eden run [--trace] | host DIR [--trace] | gen N\n"
+line_of BadWords = codes "usage: eden run [--trace] | host DIR [--trace] | gen N | wire | run --full\n"
 line_of (BadScript line why) = bad_script_line line why
 line_of ReadFault = codes "read fault\n"
 line_of TooLong = codes "script too long\n"

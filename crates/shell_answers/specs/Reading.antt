@@ -1,15 +1,24 @@
 -- What is read before a run: the words, the source, and the script that its bytes spell.
-use Rattle.std.specs.Prelude.{◌≡◌, ◌<◌, ◌≤◌, ℕ, Bool, true, Option, List, length}
+use Rattle.std.specs.Prelude.{◌≡◌, ◌<◌, ◌≤◌, ◌+◌, ℕ, Bool, true, Option, List, length}
 use Rattle.std.specs.Io.KnownBytes.{Consumes, IsAtEnd}
 use Rattle.eden_io.specs.Causes.{Rose}
 use Rattle.journal.specs.declared.command.Script.{Script}
 use Rattle.eden_script.specs.Script.{IsScript, IsBadLine}
 use Rattle.eden_gen.specs.Generated.{script_text}
-use Rattle.shell_answers.specs.Words.{Asks}
+use Rattle.runs.specs.Room.{entries_in}
+use Rattle.lossy_wire.specs.Commands.{wire_kind}
+use Rattle.lossy_wire.specs.Texts.{IsText}
+use Rattle.line_forms.specs.Forms.{Row}
+use Rattle.line_forms.specs.Scripts as lines
+use Rattle.shell_answers.specs.Words.{Asks, AsksFor}
 use Rattle.shell_answers.specs.declared.words.Job.{Job}
 use Rattle.shell_answers.specs.declared.words.Job.TheVariants.{Run, Gen}
+use Rattle.shell_answers.specs.declared.words.Task.{Task}
+use Rattle.shell_answers.specs.declared.words.Task.TheVariants.{History, Wire}
+use Rattle.shell_answers.specs.declared.reading.Asked.{Asked}
+use Rattle.shell_answers.specs.declared.reading.Asked.TheVariants as asked
 use Rattle.shell_answers.specs.declared.outcome.Outcome.{Outcome}
-use Rattle.shell_answers.specs.declared.outcome.Outcome.TheVariants.{BadWords, BadScript, ReadFault, TooLong}
+use Rattle.shell_answers.specs.declared.outcome.Outcome.TheVariants.{Ran, BadWords, BadScript, ReadFault, WriteFault, OutOfMemory, TooLong}
 
 -- 1. The source
 
@@ -59,6 +68,20 @@ abbrev pub HasBytesFrom : Reading → Job → List ℕ → Type 0
 HasBytesFrom s (Run m) bytes = IsRead s bytes
 HasBytesFrom s (Gen number) bytes = IsUnread s × (bytes ≡ script_text number)
 
+-- the bytes of a job spell this script
+abbrev pub HasScript : Reading → Job → Script → Type 0
+HasScript s job script = (bytes : List ℕ) × HasBytesFrom s job bytes × IsScript bytes script
+
+-- what was read is a script of a wire that writes this text
+abbrev pub HasWire : Reading → List ℕ → Type 0
+HasWire s text = (bytes : List ℕ) × IsRead s bytes × IsText bytes text
+
+-- the bytes spell what a task reads: a script of a run, or one of a wire; `gen` reads none
+abbrev pub SpellsFor : Task → List ℕ → Type 0
+SpellsFor (History (Run m)) bytes = (script : Script) × IsScript bytes script
+SpellsFor (History (Gen number)) bytes = ⊥
+SpellsFor Wire bytes = (stations : ℕ) × (rows : List Row) × lines.IsScript wire_kind bytes stations rows
+
 -- The words ask for this job, and its bytes spell this script.
 pub record IsAsked (words : List (List ℕ)) (s : Reading) (job : Job) (script : Script) : Type 0 where
   pub asks : Asks words job
@@ -66,16 +89,50 @@ pub record IsAsked (words : List (List ℕ)) (s : Reading) (job : Job) (script :
   pub has : HasBytesFrom s job bytes
   pub spells : IsScript bytes script
 
+-- The words ask for a wire, and what was read is a script of one that writes this text.
+pub record IsWired (words : List (List ℕ)) (s : Reading) (text : List ℕ) : Type 0 where
+  pub asks : AsksFor words Wire
+  pub wire : HasWire s text
+
+-- what the words ask for, with its script
+abbrev pub IsAskedFor : List (List ℕ) → Reading → Asked → Type 0
+IsAskedFor words s (asked.History job script) = IsAsked words s job script
+IsAskedFor words s (asked.Wire text) = IsWired words s text.items
+
+-- a script of a run is short enough for all that its boots and commands do
+abbrev pub IsShort : Asked → Type 0
+IsShort (asked.History job script) = script.nodes + entries_in script.commands ≤ 1048576
+IsShort (asked.Wire text) = Unit {0}
+
 -- 3. Why there is none
+
+-- why a source cannot be read whole: a read failed, or it has more bytes than a script may have
+abbrev pub HindersRead : Reading → Outcome → Type 0
+HindersRead s ReadFault = Rose s.faults s.faults_after
+HindersRead s TooLong = TookTooMany s
+HindersRead s _ = ⊥
 
 -- why a job has no script
 abbrev pub Hinders : Reading → Job → Outcome → Type 0
 Hinders s job (BadScript line why) = (bytes : List ℕ) × HasBytesFrom s job bytes × IsBadLine bytes line why
-Hinders s (Run m) ReadFault = Rose s.faults s.faults_after
-Hinders s (Run m) TooLong = TookTooMany s
-Hinders s job _ = ⊥
+Hinders s (Run m) outcome = HindersRead s outcome
+Hinders s (Gen number) outcome = ⊥
 
--- why a call ends before a run: the words ask for nothing, or for a job that has no script
+-- why there is no script of a wire
+abbrev pub HindersWire : Reading → Outcome → Type 0
+HindersWire s (BadScript line why) = (bytes : List ℕ) × IsRead s bytes × lines.IsBadLine wire_kind bytes line why
+HindersWire s outcome = HindersRead s outcome
+
+-- why a task has no script
+abbrev pub HindersTask : Reading → Task → Outcome → Type 0
+HindersTask s (History job) outcome = Hinders s job outcome
+HindersTask s Wire outcome = HindersWire s outcome
+
+-- why a call ends before a run: the words ask for nothing, or for a task that has no script
 abbrev pub Refuses : List (List ℕ) → Reading → Outcome → Type 0
-Refuses words s BadWords = ((job : Job) → Asks words job → ⊥) × IsUnread s
-Refuses words s outcome = (job : Job) × Asks words job × Hinders s job outcome
+Refuses words s BadWords = ((task : Task) → AsksFor words task → ⊥) × IsUnread s
+-- these never come before a run
+Refuses words s Ran = ⊥
+Refuses words s WriteFault = ⊥
+Refuses words s OutOfMemory = ⊥
+Refuses words s outcome = (task : Task) × AsksFor words task × HindersTask s task outcome

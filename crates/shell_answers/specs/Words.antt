@@ -5,6 +5,8 @@ use Rattle.journal.specs.declared.event.Mode.{Mode}
 use Rattle.journal.specs.declared.event.Mode.TheVariants as mode
 use Rattle.shell_answers.specs.declared.words.Job.{Job}
 use Rattle.shell_answers.specs.declared.words.Job.TheVariants.{Run, Gen}
+use Rattle.shell_answers.specs.declared.words.Task.{Task}
+use Rattle.shell_answers.specs.declared.words.Task.TheVariants.{History, Wire}
 
 -- a directory: some bytes that do not begin with `-`
 abbrev pub IsDirectory : List ℕ → Type 0
@@ -28,16 +30,22 @@ pub record SpellsNumber (word : List ℕ) (number : ℕ) : Type 0 where
   pub stands_for : number_from 0 word ≡ number
   pub fits : number < 2 ^ 64
 
--- `run` or `host DIR`, and `--trace` behind it for all events. Over which disks a script runs is the caller's choice.
+-- `run` or `host DIR`, and `--trace` behind it for all events; `run --full` for all that the disks decided besides. Over which disks a
+-- script runs is the caller's choice.
 abbrev pub Asks : List (List ℕ) → Job → Type 0
 Asks words (Run mode.Plain) = (words ≡ codes "run" ∷ []) ⊎ ((dir : List ℕ) × IsDirectory dir × (words ≡ codes "host" ∷ dir ∷ []))
 Asks words (Run mode.Trace) = (words ≡ codes "run" ∷ codes "--trace" ∷ [])
     ⊎ ((dir : List ℕ) × IsDirectory dir × (words ≡ codes "host" ∷ dir ∷ codes "--trace" ∷ []))
--- no words ask for these
-Asks words (Run mode.Full) = ⊥
+Asks words (Run mode.Full) = words ≡ codes "run" ∷ codes "--full" ∷ []
+-- no words ask for this
 Asks words (Run mode.Summary) = ⊥
 -- `gen N`
 Asks words (Gen number) = (word : List ℕ) × SpellsNumber word number × (words ≡ codes "gen" ∷ word ∷ [])
+
+-- what the words ask for: a run whose history is written, or `wire`
+abbrev pub AsksFor : List (List ℕ) → Task → Type 0
+AsksFor words (History job) = Asks words job
+AsksFor words Wire = words ≡ codes "wire" ∷ []
 
 -- in which mode the history of a job is written
 abbrev pub mode_of : Job → Mode

@@ -8,5 +8,5 @@ mod writing;
 
 pub use outcome::{Outcome, status};
 pub use reading::{Asked, read_script};
-pub use words::{Job, host_dir, job_of, mode_of};
-pub use writing::{Carried, Report, conclude, refuse};
+pub use words::{Job, Task, host_dir, mode_of, task_of};
+pub use writing::{Carried, Report, conclude, deliver, refuse};

@@ -82,7 +82,9 @@ pub fn add_line(outcome: Outcome, out: &mut Vec<u8>) -> Result<(), AllocError>
 {
     match outcome {
         Outcome::BadWords => {
-            out.extend_from_slice(b"usage: eden run [--trace] | host DIR [--trace] | gen N\n")
+            out.extend_from_slice(
+                b"usage: eden run [--trace] | host DIR [--trace] | gen N | wire | run --full\n",
+            )
         }
         Outcome::BadScript { line, cause } => add_bad_script(line, cause, out),
         Outcome::ReadFault => out.extend_from_slice(b"read fault\n"),

@@ -2,18 +2,28 @@
 ghost use Rattle.std.specs.Prelude.{[], ◌∷◌, codes, ◌≡◌, ◌↔◌, ◌≤◌, ◌^◌, ◌<◌, ◌+◌, ◌*◌, List, ℕ, map, string_bytes, IfSome, IsNone};
 ghost use Rattle.std.specs.Prelude.{IsTrue, Some, length};
 ghost use Rattle.std.specs.List.{All};
-ghost use Rattle.shell_answers.specs.Words.{Asks, IsDigit, IsDirectory, NameDirectory, SpellsNumber, mode_of, number_from};
+ghost use Rattle.shell_answers.specs.Words.{Asks, AsksFor, IsDigit, IsDirectory, NameDirectory, SpellsNumber, mode_of, number_from};
 ghost use Rattle.shell_answers.specs.declared.words.Job.{Job as Work};
+ghost use Rattle.shell_answers.specs.declared.words.Task.{Task as Duty};
 
 use journal::Mode;
 
-/// What the program is to do.
+/// A run over the disks whose history is written.
 #[derive(Clone, Copy, Debug, PartialEq, Eq)]
 pub enum Job {
     /// Runs the script that the source has, and writes its history in this mode.
     Run { mode: Mode },
     /// Runs the script of this number, and writes the summary.
     Gen { number: u64 },
+}
+
+/// What the program is to do. Each task has its own definition of what is due.
+#[derive(Clone, Copy, Debug, PartialEq, Eq)]
+pub enum Task {
+    /// A run over the disks whose history is written.
+    History { job: Job },
+    /// Runs the script of a wire that the source has.
+    Wire,
 }
 
 fn is_directory(word: &[u8]) -> bool
@@ -59,6 +69,8 @@ const PLAIN: Job = Job::Run { mode: Mode::Plain };
 
 const TRACE: Job = Job::Run { mode: Mode::Trace };
 
+const FULL: Job = Job::Run { mode: Mode::Full };
+
 fn is_word(word: &str, wanted: &str) -> bool
     ensures { IsTrue result ↔ (word.now ≡ wanted.now) }
 {
@@ -88,17 +100,27 @@ fn of_number(word: &str) -> Option<Job>
     }
 }
 
-// `run --trace`, `host DIR`, `gen N`
+// `run --trace`, `run --full`
+fn of_mode(word: &str) -> Option<Job>
+    ensures some { IfSome result (Asks (codes "run" ∷ word.now ∷ [])) }
+    ensures none { IsNone result → (j : Work) → Asks (codes "run" ∷ word.now ∷ []) j → ⊥ }
+{
+    if is_word(word, "--trace") {
+        Some(TRACE)
+    } else if is_word(word, "--full") {
+        Some(FULL)
+    } else {
+        None
+    }
+}
+
+// `run --trace`, `run --full`, `host DIR`, `gen N`
 fn of_two(one: &str, two: &str) -> Option<Job>
     ensures some { IfSome result (Asks (one.now ∷ two.now ∷ [])) }
     ensures none { IsNone result → (j : Work) → Asks (one.now ∷ two.now ∷ []) j → ⊥ }
 {
     if is_word(one, "run") {
-        if is_word(two, "--trace") {
-            Some(TRACE)
-        } else {
-            None
-        }
+        of_mode(two)
     } else if is_word(one, "host") {
         if is_directory(two.as_bytes()) {
             Some(PLAIN)
@@ -132,8 +154,8 @@ fn of_three(one: &str, two: &str, three: &str) -> Option<Job>
     }
 }
 
-/// What the words ask for; None where they are no line of words that is known.
-pub fn job_of(words: &Vec<String>) -> Option<Job>
+// What the words of a run ask for; None where they ask for no run.
+fn job_of(words: &Vec<String>) -> Option<Job>
     ensures some { IfSome result (Asks (map string_bytes words.now.items)) }
     ensures none { IsNone result → (j : Work) → Asks (map string_bytes words.now.items) j → ⊥ }
 {
@@ -142,6 +164,30 @@ pub fn job_of(words: &Vec<String>) -> Option<Job>
         [one, two] => of_two(one.as_str(), two.as_str()),
         [one, two, three] => of_three(one.as_str(), two.as_str(), three.as_str()),
         _ => None,
+    }
+}
+
+// `wire`
+fn is_wire(words: &Vec<String>) -> bool
+    ensures { IsTrue result ↔ (map string_bytes words.now.items ≡ codes "wire" ∷ []) }
+{
+    match words.as_slice() {
+        [one] => is_word(one.as_str(), "wire"),
+        _ => false,
+    }
+}
+
+/// What the words ask for; None where they are no line of words that is known.
+pub fn task_of(words: &Vec<String>) -> Option<Task>
+    ensures some { IfSome result (AsksFor (map string_bytes words.now.items)) }
+    ensures none { IsNone result → (task : Duty) → AsksFor (map string_bytes words.now.items) task → ⊥ }
+{
+    if is_wire(words) {
+        return Some(Task::Wire);
+    }
+    match job_of(words) {
+        Some(job) => Some(Task::History { job }),
+        None => None,
     }
 }
 

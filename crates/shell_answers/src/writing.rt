@@ -59,6 +59,24 @@ pub fn refuse<K: Sink>(alloc: Global, due: Outcome, sink: &mut K) -> Report
     }
 }
 
+/// Ends a call whose text is made: writes it. There is no history.
+pub fn deliver<K: Sink>(alloc: Global, text: &[u8], sink: &mut K) -> Report
+    ensures history { result.history ≡ [] }
+    ensures delivers { Delivers (writing K.written K.faults sink.old sink.new) Outcome.Ran text.now result.outcome }
+    ensures memory { result.outcome ≢ Outcome.OutOfMemory }
+{
+    let outcome = match write_all(sink, text) {
+        Ok(()) => Outcome::Ran,
+        Err(_) => Outcome::WriteFault,
+    };
+    Report {
+        outcome,
+        history: History {
+            entries: Vec::new(alloc),
+        },
+    }
+}
+
 /// Ends a call behind a run: writes the text of what was carried out. Where that is not all, memory was wanted.
 pub fn conclude<K: Sink>(alloc: Global, mode: Mode, carried: Carried, sink: &mut K) -> Report
     ensures history { result.history ≡ carried.history }

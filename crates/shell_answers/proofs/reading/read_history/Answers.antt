@@ -1,7 +1,7 @@
 use Rattle.std.proofs.Common.{subst, sym, List, ℕ, length, ◌≤◌}
 use Rattle.eden_script.specs.Script.{IsScript}
 use Rattle.shell_answers.proofs.FewEntries.{few-entries}
-use Rattle.shell_answers.proofs.reading.read_script.Goals as goal
+use Rattle.shell_answers.proofs.reading.read_history.Goals as goal
 
 pub returns-in-Ok-clause-few : goal.returns-in-Ok-clause-few
 returns-in-Ok-clause-few g c =
