@@ -4,14 +4,25 @@ use Rattle.std.specs.Prelude.{◌⊎◌}
 use Rattle.journal.specs.declared.command.Script.{Script}
 use Rattle.journal.specs.declared.event.Entry.{Entry}
 use Rattle.journal.specs.LegalRun.{AreHandedIn, IsLegalRun, IsLegalSoFar}
-use Rattle.shell_answers.specs.Answers.{Call, Answers, IsDue, HasRun, HasBegun, IsLegalOver, IsLegalPartOver}
+use Rattle.shell_answers.specs.Answers.{Call, Answers, IsDue, IsDone, HasRun, HasBegun, IsLegalOver, IsLegalPartOver}
+use Rattle.shell_answers.specs.declared.words.Job.{Job}
+use Rattle.shell_answers.specs.declared.words.Task.{Task}
+use Rattle.shell_answers.specs.declared.words.Task.TheVariants.{History, Wire}
 use Rattle.shell_answers.specs.declared.outcome.Outcome.{Outcome}
 use Rattle.shell_answers.specs.declared.outcome.Outcome.TheVariants.{Ran, BadWords, BadScript, ReadFault, WriteFault, OutOfMemory, TooLong}
-use Rattle.eden_shell.specs.Legally.{HasLegalRun, HasLegalPart, IsLegally}
+use Rattle.eden_shell.specs.Legally.{HasLegalRun, HasLegalPart, IsDoneLegally, IsLegally}
 
 module _ (c : Call) (history : List Entry) (telling : IsTrue c.disks.tells) (handed : AreHandedIn c.disks.layout c.disks.runs) where
-  ran : (text : List _) → HasRun c history text → HasLegalRun c history
-  ran text r = record { job = r.job; script = r.script; asked = r.asked; legal = r.legal.legal telling handed }
+  ran : (job : Job) (text : List _) → HasRun c job history text → HasLegalRun c history
+  ran job text r = record { job = job; script = r.script; asked = r.asked; legal = r.legal.legal telling handed }
+
+  done : (task : Task) (text : List _) → IsDone task c history text → IsDoneLegally task c history
+  done (History job) text r = ran job text r
+  done Wire text r = r.not_begun.nothing
+
+  done-or : (task : Task) (text : List _) → IsDone task c history text → (history ≡ []) ⊎ HasLegalRun c history
+  done-or (History job) text r = inr (ran job text r)
+  done-or Wire text r = inl r.not_begun.nothing
 
   begun : HasBegun c history → HasLegalPart c history
   begun b = record { job = b.job; script = b.script; asked = b.asked; legal = go b.script b.legal }
@@ -22,11 +33,11 @@ module _ (c : Call) (history : List Entry) (telling : IsTrue c.disks.tells) (han
       go script (inr part) = inr (part.legal telling handed)
 
   due : (outcome : Outcome) (text : List _) → IsDue c outcome history text → (history ≡ []) ⊎ HasLegalRun c history
-  due Ran text is = inr (ran text is)
+  due Ran text is = done-or is.0 text is.2
   due _ text is = inl is.not_begun.nothing
 
   pub legally : (outcome : Outcome) → Answers c outcome history → IsLegally c outcome history
-  legally Ran (text, is, written) = ran text is
+  legally Ran (text, is, written) = (is.0, is.1, done is.0 text is.2)
   legally WriteFault (rose, (outcome, text, is, part)) = due outcome text is
   legally OutOfMemory (inl none) = inl none.0.nothing
   legally OutOfMemory (inr b) = inr (begun b)

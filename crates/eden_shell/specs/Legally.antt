@@ -5,7 +5,10 @@ use Rattle.journal.specs.declared.event.Entry.{Entry}
 use Rattle.journal.specs.LegalRun.{IsLegalRun, IsLegalSoFar}
 use Rattle.shell_answers.specs.Answers.{Call}
 use Rattle.shell_answers.specs.Reading.{IsAsked}
+use Rattle.shell_answers.specs.Words.{AsksFor}
 use Rattle.shell_answers.specs.declared.words.Job.{Job}
+use Rattle.shell_answers.specs.declared.words.Task.{Task}
+use Rattle.shell_answers.specs.declared.words.Task.TheVariants.{History, Wire}
 use Rattle.shell_answers.specs.declared.outcome.Outcome.{Outcome}
 use Rattle.shell_answers.specs.declared.outcome.Outcome.TheVariants.{Ran, WriteFault, OutOfMemory}
 
@@ -23,9 +26,14 @@ pub record HasLegalPart (c : Call) (history : List Entry) : Type 0 where
   pub asked : IsAsked c.words c.source job script
   pub legal : IsLegalRun c.disks.layout script c.disks.runs history ⊎ IsLegalSoFar c.disks.layout script c.disks.runs history
 
+-- what is legal where a task came to its end, task by task: of a wire there is no history
+abbrev pub IsDoneLegally : Task → Call → List Entry → Type 0
+IsDoneLegally (History job) c history = HasLegalRun c history
+IsDoneLegally Wire c history = history ≡ []
+
 -- Where a run came to its end it was legal. Where a write failed, or there was no memory, nothing had begun, or it was legal up to there.
 abbrev pub IsLegally : Call → Outcome → List Entry → Type 0
-IsLegally c Ran history = HasLegalRun c history
+IsLegally c Ran history = (task : Task) × AsksFor c.words task × IsDoneLegally task c history
 IsLegally c WriteFault history = (history ≡ []) ⊎ HasLegalRun c history
 IsLegally c OutOfMemory history = (history ≡ []) ⊎ HasLegalPart c history
 IsLegally c outcome history = history ≡ []

@@ -9,4 +9,4 @@ mod shell;
 pub use in_memory::eden_over_blank;
 pub use law::{a_power_cut_hands_on, blank_disks_may_be_handed_in};
 pub use shell::eden;
-pub use shell_answers::{Job, Outcome, Report, host_dir, status};
+pub use shell_answers::{Job, Outcome, Report, Task, host_dir, status};

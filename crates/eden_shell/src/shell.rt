@@ -3,27 +3,26 @@ ghost use Rattle.std.specs.Prelude.{◌≡◌, ◌⊎◌, ◌≤◌, ℕ, List, 
 ghost use Rattle.eden_io.specs.Causes.{Rose};
 ghost use Rattle.passive_blocks.specs.BlockLayout.{block_layout};
 ghost use Rattle.passive_store.specs.Seen.{disk_seen};
-ghost use Rattle.journal.specs.declared.command.Script.{Script};
-ghost use Rattle.journal.specs.declared.event.Mode.{Mode};
-ghost use Rattle.eden_script.specs.Script.{IsScript};
 ghost use Rattle.eden_world.specs.Legal.{disk_runs};
-ghost use Rattle.shell_answers.specs.Words.{Asks};
-ghost use Rattle.shell_answers.specs.Reading.{reading};
+ghost use Rattle.shell_answers.specs.Words.{AsksFor};
+ghost use Rattle.shell_answers.specs.Reading.{SpellsFor, reading};
 ghost use Rattle.shell_answers.specs.Answers.{Answers, writing};
-ghost use Rattle.shell_answers.specs.declared.words.Job.{Job};
+ghost use Rattle.shell_answers.specs.declared.words.Task.{Task};
 
 use crate::carry::carry_script;
 use eden_disk::Disk;
 use eden_io::{Sink, Source};
 use eden_script::{a_script_is_fit, one_reading};
+use lossy_wire::texts_are_one;
 use passive_blocks::{BlockStore, blocks_are_a_layout, blocks_are_read_by_calls};
-use shell_answers::{Asked, Outcome, Report, conclude, mode_of, read_script, refuse};
+use shell_answers::{Asked, Outcome, Report, conclude, deliver, mode_of, read_script, refuse};
 use std::alloc::Global;
 
-/// Reads the words and the source, carries the script out over these disks, and writes the text of its history.
+/// Reads the words and the source, carries the script out over these disks, and writes the text of its history. For a wire it writes what
+/// the script of the wire writes.
 ///
 /// There are eight disks, in the order of their nodes, and they stand there again. The history that is returned is the one
-/// whose text was written.
+/// whose text was written; for a wire it is empty, and no disk is touched.
 pub fn eden<S: Source, K: Sink, D: Disk + Drop>(
     alloc: Global,
     words: &Vec<String>,
@@ -46,22 +45,25 @@ pub fn eden<S: Source, K: Sink, D: Disk + Drop>(
         })
         result.outcome result.history }
     ensures eight { length disks.new.items ≡ 8 }
-    // A text that spells a script runs, where nothing fails and there is memory.
-    ensures complete { (mode : Mode) (bytes : List ℕ) (script : Script) → Asks (map string_bytes words.now.items) (Job.Run mode)
-        → S.left source.old ≡ Some bytes → length bytes ≤ 1048576 → IsScript bytes script
+    // A text that spells what the words ask for runs, where nothing fails and there is memory.
+    ensures complete { (task : Task) (bytes : List ℕ) → AsksFor (map string_bytes words.now.items) task → SpellsFor task bytes
+        → S.left source.old ≡ Some bytes → length bytes ≤ 1048576
         → (Rose (S.faults source.old) (S.faults source.new) → ⊥) → (Rose (K.faults sink.old) (K.faults sink.new) → ⊥)
         → (result.outcome ≡ Outcome.Ran) ⊎ (result.outcome ≡ Outcome.OutOfMemory) }
 {
     one_reading();
-    let Asked { job, script } = match read_script(alloc, words, source) {
-        Ok(asked) => asked,
-        Err(outcome) => return refuse(alloc, outcome, sink),
-    };
-    a_script_is_fit();
-    blocks_are_a_layout();
-    blocks_are_read_by_calls();
-    match carry_script::<BlockStore<D>>(alloc, script, disks) {
-        Ok(carried) => conclude(alloc, mode_of(job), carried, sink),
-        Err(_) => refuse(alloc, Outcome::OutOfMemory, sink),
+    texts_are_one();
+    match read_script(alloc, words, source) {
+        Ok(Asked::History { job, script }) => {
+            a_script_is_fit();
+            blocks_are_a_layout();
+            blocks_are_read_by_calls();
+            match carry_script::<BlockStore<D>>(alloc, script, disks) {
+                Ok(carried) => conclude(alloc, mode_of(job), carried, sink),
+                Err(_) => refuse(alloc, Outcome::OutOfMemory, sink),
+            }
+        }
+        Ok(Asked::Wire { text }) => deliver(alloc, &text, sink),
+        Err(outcome) => refuse(alloc, outcome, sink),
     }
 }
