@@ -3,7 +3,6 @@
 
 mod blank;
 mod messages;
-mod streams;
 
 ghost use Rattle.std.specs.Prelude.{◌≡◌, ◌⊎◌, length, map, string_bytes};
 ghost use Rattle.std.specs.List.{All};
@@ -19,11 +18,11 @@ use eden_io::write_all;
 use eden_shell::{Outcome, Report, eden, eden_over_blank, host_dir, status};
 use file_disk::{OpenRefusal, open_disks};
 use messages::{tell_no_memory, tell_outcome, tell_refusal};
+use standard_streams::{StdSink, StdSource};
 use std::alloc::AllocError;
 use std::io::{self, Stdin, Stdout};
 use std::process::ExitCode;
 use std::{env, mem};
-use streams::{StdSink, StdSource};
 
 // The size of disks as they were made before, which a folder may have too.
 const OLD_SIZE: u32 = 1_048_576;
