@@ -144,7 +144,7 @@ sifted-nothing (skips n) = go (so_many n)
 sifted-nothing (keeps t) = refl
 sifted-nothing numbers = refl
 
-argument-long : (s : Sieve) → length (argument_of s) ≡ length (rule_of s).arg
+pub argument-long : (s : Sieve) → length (argument_of s) ≡ length (rule_of s).arg
 argument-long (takes n) = refl
 argument-long (skips n) = refl
 argument-long (keeps t) = refl

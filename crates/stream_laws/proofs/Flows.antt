@@ -1,6 +1,6 @@
 -- In every world of a history each pipeline flows.
 use Rattle.std.proofs.Common.{◌≡◌, ℕ, ℤ, Bool, true, false, List, [], ◌∷◌, map, drop, Option, None, Some, is_some, refl, ap, sym, ◌∙◌}
-use Rattle.std.proofs.Common.{subst}
+use Rattle.std.proofs.Common.{subst, ◌⊎◌, inl, inr}
 use Rattle.std.specs.Prelude.{IsSomeAnd, IfSome}
 use Rattle.std.specs.Ordering.{nat_cmp}
 use Rattle.capability.specs.declared.Uid.{Uid}
@@ -67,21 +67,21 @@ use Rattle.stream_laws.proofs.Readable.{reads-back}
 
 -- 1. What holds of a pipeline in a world
 module _ (A : ℕ → List Datum) where
-  abbrev FilterOn : World → Uid → List (List ℕ) → Stage → Type 0
+  abbrev pub FilterOn : World → Uid → List (List ℕ) → Stage → Type 0
   FilterOn w before items f = Staged (filter_role before f.sieve items) (filter-lawful before f.sieve items) f.uid A w
 
-  record Rest (c : Chain) (list : List (List ℕ)) (w : World) : Type 0 where
-    filters : EachFilter (FilterOn w) c.lines list c.filters
-    drained : Staged (sink_role (last_of c.lines c.filters) (made_by c.filters list))
+  pub record Rest (c : Chain) (list : List (List ℕ)) (w : World) : Type 0 where
+    pub filters : EachFilter (FilterOn w) c.lines list c.filters
+    pub drained : Staged (sink_role (last_of c.lines c.filters) (made_by c.filters list))
         (sink-lawful (last_of c.lines c.filters) (made_by c.filters list)) c.sink A w
 
-  record Flow (c : Chain) (w : World) : Type 0 where
-    lists : Kept c.lines A w
-    rest : (list : List (List ℕ)) → (kept_now w c.lines ≡ true → lists.texts ≡ list) → Rest c list w
+  pub record Flow (c : Chain) (w : World) : Type 0 where
+    pub lists : Kept c.lines A w
+    pub rest : (list : List (List ℕ)) → (kept_now w c.lines ≡ true → lists.texts ≡ list) → Rest c list w
 
-  record Pre (c : Chain) (past : List Step) (w : World) : Type 0 where
-    args : (k : ℕ) (d : Call) → call_at w.traffic k ≡ Some d → d.args ≡ A k
-    pipe : IsPipeline past w.traffic c
+  pub record Pre (c : Chain) (past : List Step) (w : World) : Type 0 where
+    pub args : (k : ℕ) (d : Call) → call_at w.traffic k ≡ Some d → d.args ≡ A k
+    pub pipe : IsPipeline past w.traffic c
 
   -- the items that a Lines or a Sink has kept
   lines-stored : (vars : List Datum) → lines.values_of (lines.source vars) ≡ vars
@@ -119,7 +119,7 @@ module _ (A : ℕ → List Datum) where
       go (Some nd) at some = eject nd (value_at uid_cmp u nd.ejects) (h.node u.node nd at refl).eject some
 
   -- 2. Back from a later world
-  calls-back : (w later : World) → ((k : ℕ) (a : Call) → call_at w.traffic k ≡ Some a → IsSomeAnd (call_at later.traffic k) (GoesOn a))
+  pub calls-back : (w later : World) → ((k : ℕ) (a : Call) → call_at w.traffic k ≡ Some a → IsSomeAnd (call_at later.traffic k) (GoesOn a))
       → (k : ℕ) (a : Call) → call_at w.traffic k ≡ Some a → (d : Call) × (call_at later.traffic k ≡ Some d) × GoesOn a d
   calls-back w later kept k a at = go (call_at later.traffic k) refl (kept k a at)
     where
@@ -128,12 +128,12 @@ module _ (A : ℕ → List Datum) where
       go None is h = absurd h
       go (Some d) is h = (d, is, h)
 
-  args-back : (w later : World) → ((k : ℕ) (a : Call) → call_at w.traffic k ≡ Some a → IsSomeAnd (call_at later.traffic k) (GoesOn a))
+  pub args-back : (w later : World) → ((k : ℕ) (a : Call) → call_at w.traffic k ≡ Some a → IsSomeAnd (call_at later.traffic k) (GoesOn a))
       → ((k : ℕ) (d : Call) → call_at later.traffic k ≡ Some d → d.args ≡ A k) → (k : ℕ) (a : Call) → call_at w.traffic k ≡ Some a
       → a.args ≡ A k
   args-back w later kept args k a at = let x = calls-back w later kept k a at in sym x.2.args ∙ args k x.0 x.1
 
-  opens-back : (w later : World) → ((k : ℕ) (a : Call) → call_at w.traffic k ≡ Some a → IsSomeAnd (call_at later.traffic k) (GoesOn a))
+  pub opens-back : (w later : World) → ((k : ℕ) (a : Call) → call_at w.traffic k ≡ Some a → IsSomeAnd (call_at later.traffic k) (GoesOn a))
       → (u before : Uid) (arg : List Datum) → OpensOnly later.traffic u before arg → OpensOnly w.traffic u before arg
   opens-back w later kept u before arg opens k a at to op named names = let x = calls-back w later kept k a at in
       let y = opens k x.0 x.1 (ap (λ (z : Cap). z.uid) x.2.target ∙ to) (x.2.operation ∙ op) named
@@ -150,7 +150,7 @@ module _ (A : ℕ → List Datum) where
     filters-back w later kept s past f.uid (sifted f.sieve any) fs h.1,
   )
 
-  pre-back : (c : Chain) (w later : World) → ((k : ℕ) (a : Call) → call_at w.traffic k ≡ Some a
+  pub pre-back : (c : Chain) (w later : World) → ((k : ℕ) (a : Call) → call_at w.traffic k ≡ Some a
       → IsSomeAnd (call_at later.traffic k) (GoesOn a))
       → (s : Step) (past : List Step) → Pre c (s ∷ past) later → Pre c past w
   pre-back c w later kept s past h = record {
@@ -168,16 +168,16 @@ module _ (A : ℕ → List Datum) where
 
   -- 3. A step
   module _ (here : ℕ → Bool) (w : World) (c : Option Command) (e : Entry) (seat : SeatWorld here w) (allowed : Allows w c e) where
-    abbrev after : World
+    abbrev pub after : World
     after = next w c e
 
     now : Step
     now = record { world = w; entry = e; later = after }
 
-    kept-calls : (k : ℕ) (a : Call) → call_at w.traffic k ≡ Some a → IsSomeAnd (call_at after.traffic k) (GoesOn a)
+    pub kept-calls : (k : ℕ) (a : Call) → call_at w.traffic k ≡ Some a → IsSomeAnd (call_at after.traffic k) (GoesOn a)
     kept-calls = (calls-keep w c e (is-known here w seat.site.known) allowed).kept
 
-    given : (R : Role) (L : IsLawful R) (u : Uid) → IsStepOf u R.kind (record { world = w; entry = e; later = after })
+    pub given : (R : Role) (L : IsLawful R) (u : Uid) → IsStepOf u R.kind (record { world = w; entry = e; later = after })
         → ((k : ℕ) (d : Call) → call_at w.traffic k ≡ Some d → d.args ≡ A k) → Given R L u A here w c e.event
     given R L u h args = record {
       site = seat.site;
@@ -307,19 +307,25 @@ module _ (A : ℕ → List Datum) where
           (nodes-looked_up w name target path e)
 
   -- 5. At the opening
-  staged-new : (R : Role) (L : IsLawful R) (u : Uid) (w : World) → w.traffic.calls ≡ [] → ((n : ℕ) (it : Node) → node_at w n ≡ Some it
+  staged-new : (R : Role) (L : IsLawful R) (u : Uid) (w : World) → (R.There → ⊥) → w.traffic.calls ≡ [] → ((n : ℕ) (it : Node)
+      → node_at w n ≡ Some it
       → it.requests ≡ [])
       → eject_at w u ≡ None → Staged R L u A w
-  staged-new R L u w none rests absent = record {
+  staged-new R L u w never none rests absent = record {
     node = λ n it at here. record {
       requests = subst (stage.AreChanges R u A (kept_now w u)) (sym (rests n it at)) tt;
       eject = subst (λ o. IfSome o (IsEject R u A (kept_now w u) it.requests)) (sym (sym (own-eject w n it u at here) ∙ absent)) tt;
-      there = λ k. absurd (let bad : false ≡ true = sym (ap (λ o. with_item o (λ (y : Eject). is_some y.kept) false) absent) ∙ k in cc bad);
+      there = there it;
     };
     said = λ k c st results at to place. absurd (no-call k c at);
     asks = λ k c p it at opened asker active. absurd (no-call k c at);
   }
     where
+      there : (it : Node) → (kept_now w u ≡ true) ⊎ R.There → is_some (value_at uid_cmp u it.ejects) ≡ true
+      there it (inl k) = absurd
+          (let bad : false ≡ true = sym (ap (λ o. with_item o (λ (y : Eject). is_some y.kept) false) absent) ∙ k in cc bad)
+      there it (inr x) = absurd (never x)
+
       no-call : (k : ℕ) (c : Call) → call_at w.traffic k ≡ Some c → ⊥
       no-call k c at = let bad : None ≡ Some c = sym (ap (λ cs. value_at nat_cmp k cs) none) ∙ at in cc bad
 
@@ -327,18 +333,18 @@ module _ (A : ℕ → List Datum) where
       → (before : Uid) (items : List (List ℕ)) (fs : List Stage) → AreNewIn w fs → EachFilter (FilterOn w) before items fs
   filters-new w none rests before items [] h = tt
   filters-new w none rests before items (f ∷ fs) h = (
-    staged-new (filter_role before f.sieve items) (filter-lawful before f.sieve items) f.uid w none rests h.0,
+    staged-new (filter_role before f.sieve items) (filter-lawful before f.sieve items) f.uid w (λ x. x) none rests h.0,
     filters-new w none rests f.uid (sifted f.sieve items) fs h.1,
   )
 
   flow-new : (chain : Chain) (w : World) → w.traffic.calls ≡ [] → ((n : ℕ) (it : Node) → node_at w n ≡ Some it → it.requests ≡ [])
       → IsNewIn w chain → Flow chain w
   flow-new chain w none rests new = record {
-    lists = record { texts = []; lists = staged-new (lines_role []) (lines-lawful []) chain.lines w none rests new.lines };
+    lists = record { texts = []; lists = staged-new (lines_role []) (lines-lawful []) chain.lines w (λ x. x) none rests new.lines };
     rest = λ list same. record {
       filters = filters-new w none rests chain.lines list chain.filters new.filters;
       drained = staged-new (sink_role (last_of chain.lines chain.filters) (made_by chain.filters list))
-          (sink-lawful (last_of chain.lines chain.filters) (made_by chain.filters list)) chain.sink w none rests new.sink;
+          (sink-lawful (last_of chain.lines chain.filters) (made_by chain.filters list)) chain.sink w (λ x. x) none rests new.sink;
     };
   }
 
@@ -404,23 +410,24 @@ module _ (A : ℕ → List Datum) where
       r = f.rest (list_kept w chain.lines) same
 
 -- 7. The law
-arguments_in : Traffic → ℕ → List Datum
+pub arguments_in : Traffic → ℕ → List Datum
 arguments_in t k = with_item (call_at t k) (λ (d : Call). d.args) []
 
-arguments-are : (t : Traffic) (k : ℕ) (d : Call) → call_at t k ≡ Some d → d.args ≡ arguments_in t k
+pub arguments-are : (t : Traffic) (k : ℕ) (d : Call) → call_at t k ≡ Some d → d.args ≡ arguments_in t k
 unfolding arguments_in
 arguments-are t k d at = sym (ap (λ o. with_item o (λ (d : Call). d.args) []) at)
 
-record Inv (here : ℕ → Bool) (c : Chain) (past : List Step) (w : World) : Type 0 where
-  seat : SeatWorld here w
-  flow : (A : ℕ → List Datum) → Pre A c past w → Flow A c w
+pub record Inv (here : ℕ → Bool) (c : Chain) (past : List Step) (w : World) : Type 0 where
+  pub seat : SeatWorld here w
+  pub flow : (A : ℕ → List Datum) → Pre A c past w → Flow A c w
 
 shows : (here : ℕ → Bool) (c : Chain) (past : List Step) (later : World) → Inv here c past later → IsPipeline past later.traffic c
     → Flows later c (list_kept later c.lines)
 shows here c past later i pipe = flows-of (arguments_in later.traffic) c later (arguments-are later.traffic)
     (i.flow (arguments_in later.traffic) (record { args = arguments-are later.traffic; pipe = pipe }))
 
-entry-inv : (here : ℕ → Bool) (c : Chain) (past : List Step) (w : World) (x : Option Command) (e : Entry) → Allows w x e → Inv here c past w
+pub entry-inv : (here : ℕ → Bool) (c : Chain) (past : List Step) (w : World) (x : Option Command) (e : Entry) → Allows w x e
+    → Inv here c past w
     → Inv here c (record { world = w; entry = e; later = next w x e } ∷ past) (next w x e)
 entry-inv here c past w x e allowed i = record {
   seat = seat-next here w x e allowed i.seat;
@@ -428,7 +435,7 @@ entry-inv here c past w x e allowed i = record {
       (calls-keep w x e (is-known here w i.seat.site.known) allowed).kept (record { world = w; entry = e; later = next w x e }) past pre));
 }
 
-look-inv : (here : ℕ → Bool) (c : Chain) (past : List Step) (w : World) (name : List ℕ) (target : Option Cap) (path : List (List ℕ))
+pub look-inv : (here : ℕ → Bool) (c : Chain) (past : List Step) (w : World) (name : List ℕ) (target : Option Cap) (path : List (List ℕ))
     (e : Entry)
     → AllowsLookUp w name target path e.event → Inv here c past w
     → Inv here c (record { world = w; entry = e; later = looked_up w name target path e.event } ∷ past)
@@ -441,7 +448,7 @@ look-inv here c past w name target path e allowed i = record {
 }
 
 -- the opening world
-opening-inv : (layout : Layout) (script : Script) (disks : List DiskRun) → IsLayout layout → AreHandedIn layout disks
+pub opening-inv : (layout : Layout) (script : Script) (disks : List DiskRun) → IsLayout layout → AreHandedIn layout disks
     → KeepRules script.types
     → HaveMonitors script.types → (c : Chain) → IsNewIn (opening_world layout script disks) c
     → Inv (λ n. is_some (node_at (opening_world layout script disks) n)) c [] (opening_world layout script disks)
@@ -471,13 +478,13 @@ looked-stays w u name target path e = ap (λ ns. with_item (with_item (with_item
     (nodes-looked_up w name target path e)
 
 -- so it is with a chain whose stages no image holds, as long as the steps make a pipeline of it
-abbrev pub OfNewPipelines : (Chain → Step → Type 0) → Type 0
+abbrev pub OfNewPipelines : (Chain → List Step → Step → Type 0) → Type 0
 OfNewPipelines P = (layout : Layout) (script : Script) (disks : List DiskRun) (history : List Entry) → IsLayout layout
     → AreHandedIn layout disks → KeepRules script.types → HaveMonitors script.types → Begins layout script disks history
     → (c : Chain) → IsNewIn (opening_world layout script disks) c
-    → EachStep (λ past s. IsPipeline (s ∷ past) s.later.traffic c → P c s) [] (run_over layout script disks history)
+    → EachStep (λ past s. IsPipeline (s ∷ past) s.later.traffic c → P c past s) [] (run_over layout script disks history)
 
-pub pipelines-flow : OfNewPipelines (λ c s. Flows s.later c (list_kept s.later c.lines))
+pub pipelines-flow : OfNewPipelines (λ c past s. Flows s.later c (list_kept s.later c.lines))
 pipelines-flow layout script disks history lays fits rules monitors begins c new =
     each-step Any (λ past w. Inv here c past w) (λ past s. IsPipeline (s ∷ past) s.later.traffic c
     → Flows s.later c (list_kept s.later c.lines)) (record {
@@ -498,7 +505,7 @@ pipelines-flow layout script disks history lays fits rules monitors begins c new
     here : ℕ → Bool
     here n = is_some (node_at w0 n)
 
-pub lists-stay : OfNewPipelines (λ c s. has_kept s.world c.lines ≡ true
+pub lists-stay : OfNewPipelines (λ c past s. has_kept s.world c.lines ≡ true
     → list_kept s.later c.lines ≡ list_kept s.world c.lines)
 lists-stay layout script disks history lays fits rules monitors begins c new =
     each-step Any (λ past w. Inv here c past w) (λ past s. IsPipeline (s ∷ past) s.later.traffic c → has_kept s.world c.lines ≡ true
@@ -519,7 +526,7 @@ lists-stay layout script disks history lays fits rules monitors begins c new =
     here n = is_some (node_at w0 n)
 
 -- 8. Where a Pump comes to the end, the Sink holds all
-no-look : (w : World) (name : List ℕ) (target : Option Cap) (path : List (List ℕ)) (v : Uid) (p : ℕ) (said : Shown)
+pub no-look : (w : World) (name : List ℕ) (target : Option Cap) (path : List (List ℕ)) (v : Uid) (p : ℕ) (said : Shown)
     → AllowsLookUp w name target path (event.Process v p said) → ⊥
 no-look w name None path v p said a = a
 no-look w name (Some target) path v p said a = a
@@ -535,7 +542,8 @@ all-held before items u A here w x e seat allowed staged later t held h = go (no
         → items_held t.vars ≡ items
     part nd at y is some =
         let z = own-turn (sink_role before items)
-        (sink-lawful before items) u A w e.event here seat.site staged.node u h.process h.said nd y h.active t
+        (sink-lawful before items) u A w e.event here seat.site staged.node (λ p said is. tt) u
+        h.process h.said nd y h.active t h.event_is
         refl at (turn-allowed w x nd u h.process h.said (subst (AllowsEvent w x) h.event_is allowed.event) at) is some h.turn in
         let ends = subst (TurnEnds (sink_role before items) (is_some y.kept) (native_turn native.Sink h.active.vars z.stage z.answer).0
         (A z.busy.call.call) (native_turn native.Sink h.active.vars z.stage z.answer).1) (sym z.effect_is ∙ h.answers) z.keeps.ends in
@@ -574,7 +582,7 @@ ends-whole here c past w x e allowed i pipe t held h = all-held (last_of c.lines
     rest : Rest A c list w
     rest = flow.rest list (λ k. list-is A c.lines w flow.lists.texts flow.lists.lists k ∙ sym (stays here c past w x e allowed i pipe k))
 
-pub sinks-hold-all : OfNewPipelines (λ c s. (t : Turned) (held : ℤ) → ComesToTheEnd c.sink s t held
+pub sinks-hold-all : OfNewPipelines (λ c past s. (t : Turned) (held : ℤ) → ComesToTheEnd c.sink s t held
     → items_held t.vars ≡ made_by c.filters (list_kept s.later c.lines))
 sinks-hold-all layout script disks history lays fits rules monitors begins c new =
     each-step Any (λ past w. Inv here c past w) (λ past s. IsPipeline (s ∷ past) s.later.traffic c → (t : Turned) (held : ℤ)

@@ -42,7 +42,7 @@ abbrev pub position : List Datum → ℤ
 position args = number_in (argument 0 args)
 
 -- 1. What begins
-filter-first : (s : Sieve) (op : List ℕ) (args : List Datum) → first_stage (type_of_sieve s) op args ≡ in_filter
+pub filter-first : (s : Sieve) (op : List ℕ) (args : List Datum) → first_stage (type_of_sieve s) op args ≡ in_filter
     (filters.first_stage op args)
 filter-first (takes n) op args = refl
 filter-first (skips n) op args = refl
@@ -110,6 +110,9 @@ pub around-filter : (before : Uid) (s : Sieve) (items : List (List ℕ)) (u : Ui
 around-filter before s items u A H w c ev g hands opens = record {
   site = g.site;
   known = g.known;
+  turns = λ p said is. tt;
+  wakes = λ how p is. tt;
+  is_born = λ none. tt;
   back = g.back;
   made_so = g.made_so;
   created_so = g.created_so;
@@ -126,6 +129,9 @@ pub around-sink : (before : Uid) (items : List (List ℕ)) (u : Uid) (A : ℕ �
 around-sink before items u A H w c ev g hands opens = record {
   site = g.site;
   known = g.known;
+  turns = λ p said is. tt;
+  wakes = λ how p is. tt;
+  is_born = λ none. tt;
   back = g.back;
   made_so = g.made_so;
   created_so = g.created_so;
@@ -144,6 +150,9 @@ pub around-lines : (texts : List (List ℕ)) (u : Uid) (A : ℕ → List Datum) 
 around-lines texts u A H w c ev g fills = record {
   site = g.site;
   known = g.known;
+  turns = λ p said is. tt;
+  wakes = λ how p is. tt;
+  is_born = λ none. tt;
   back = g.back;
   made_so = g.made_so;
   created_so = g.created_so;

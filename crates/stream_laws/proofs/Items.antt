@@ -79,6 +79,10 @@ pub if-map : {X : Type 0} {P Q : X → Type 0} (o : Option X) → ((x : X) → P
 if-map None f h = tt
 if-map (Some x) f h = f x h
 
+pub some-and : {X : Type 0} {P : X → Type 0} (o : Option X) → IsSomeAnd o P → (x : X) × (o ≡ Some x) × P x
+some-and None h = absurd h
+some-and (Some x) h = (x, refl, h)
+
 pub there-some : {X : Type 0} (P : X → Type 0) (o : Option X) → IsSomeAnd o P → is_some o ≡ true
 there-some P None h = absurd h
 there-some P (Some x) h = refl

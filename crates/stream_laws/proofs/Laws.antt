@@ -116,15 +116,15 @@ module _ (layout : Layout) (script : Script) (disks : List DiskRun) (history : L
       go past [] a b d = tt
       go past (s ∷ more) a b d = (record { lines = a.0; filters = b.0; sink = d.0 }, go (s ∷ past) more a.1 b.1 d.1)
 
-pub of-each : (P : Chain → Step → Type 0) → OfNewPipelines P → OfEachPipeline P
+pub of-each : (P : Chain → List Step → Step → Type 0) → OfNewPipelines P → OfEachPipeline P
 of-each P law layout script disks history lays fits few fit begins c made =
     go [] (run_over layout script disks history)
     (law layout script disks history lays fits fit.keep_rules fit.have_monitors begins c
     (is-new layout script disks history lays fits few fit begins c made))
     (steps-of layout script disks history lays fits few fit begins c made)
   where
-    go : (past more : List Step) → EachStep (λ past s. IsPipeline (s ∷ past) s.later.traffic c → P c s) past more
-        → EachStep (λ past s. OfChain c (s ∷ past)) past more → EachStep (λ past s. AreJoined s.later.traffic c → P c s) past more
+    go : (past more : List Step) → EachStep (λ past s. IsPipeline (s ∷ past) s.later.traffic c → P c past s) past more
+        → EachStep (λ past s. OfChain c (s ∷ past)) past more → EachStep (λ past s. AreJoined s.later.traffic c → P c past s) past more
     go past [] a b = tt
     go past (s ∷ more) a b = ((λ opens. a.0 (pipeline c (s ∷ past) s.later.traffic b.0 opens)), go (s ∷ past) more a.1 b.1)
 

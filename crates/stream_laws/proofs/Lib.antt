@@ -20,3 +20,16 @@ pub mod Limits
 pub mod Laws
 pub mod WrongPrograms
 pub mod CrashedPipeline
+pub mod Still
+pub mod States
+pub mod Asking
+pub mod Moves
+pub mod CountTurns
+pub mod SinkCounts
+pub mod Counting
+pub mod CountSteps
+pub mod CountLooks
+pub mod OnceAnswered
+pub mod FirstPump
+pub mod CountLaw
+pub mod CountedPipeline

@@ -105,7 +105,7 @@ module _ (u : Uid) (A : ℕ → List Datum) where
       vars = vars-any kept it.vars empty h.vars;
       limits = h.limits;
       monitors = h.monitors;
-      work = inl idle;
+      work = inl (idle, tt);
     }
 
     clean-of : (rs : List StoreRequest) (y : Eject) (it : Active) → (lines.source it.vars).filled ≡ false

@@ -53,6 +53,16 @@ pub record Role : Type 1 where
   pub Asks : List Datum → Cap → List ℕ → List Datum → Type 0
   -- of the answer to a call that it makes, with these arguments
   pub Comes : List Datum → Status → List Datum → Type 0
+  -- of the values that are kept of it
+  pub Stored : List Datum → Type 0
+  -- where it runs no process
+  pub Idle : Type 0
+  -- where it is there, and stays
+  pub There : Type 0
+  -- what is known where one of its processes takes a turn, where it starts again, and where it is created
+  pub Turns : Type 0
+  pub Wakes : Type 0
+  pub Born : Type 0
 
 -- how a turn may end
 abbrev pub TurnEnds : Role → Bool → List Datum → List Datum → Stage → Effect → Type 0
@@ -72,7 +82,7 @@ again n vars = values_from (of_native n) (durable_of (of_native n) vars)
 
 pub record IsLawful (r : Role) : Type 0 where
   pub kept_later : (vars : List Datum) → r.Vars false vars → r.Vars true vars
-  pub turn : (kept : Bool) (vars args : List Datum) (st : Stage) (a : Answer) → r.Vars kept vars → r.Task vars args st a
+  pub turn : r.Turns → (kept : Bool) (vars args : List Datum) (st : Stage) (a : Answer) → r.Vars kept vars → r.Task vars args st a
       → (is_fine a ≡ true → kept ≡ true) → TurnKeeps r kept vars args (native_turn r.kind vars st a)
   pub told_code : (vars args : List Datum) (st : Stage) (a : Answer) (s : Status) → r.Task vars args st a → r.Task vars args st (Code s)
   pub told_reply : (vars args : List Datum) (st : Stage) (a : Answer) (c : Cap) (op : List ℕ) (given : List Datum) (s : Status)
@@ -82,15 +92,20 @@ pub record IsLawful (r : Role) : Type 0 where
       → r.Task vars args st (Told s [])
   pub said_nothing : (kept : Bool) (args : List Datum) (s : Status) → r.Said kept args s []
   pub said_later : (args : List Datum) (s : Status) (results : List Datum) → r.Said false args s results → r.Said true args s results
-  pub first : r.Vars false (first_values (of_native r.kind))
-  pub starts_again : (vars : List Datum) → r.Vars true vars → r.Filled vars → r.Vars true (again r.kind vars) × r.Filled (again r.kind vars)
+  pub first : r.Born → r.Vars false (first_values (of_native r.kind))
+  pub stored : (vars : List Datum) → r.Vars true vars → r.Stored vars
+  pub starts_again : r.Wakes → (vars : List Datum) → r.Stored vars → r.Filled vars
+      → r.Vars true (again r.kind vars) × r.Filled (again r.kind vars)
+  pub ended : r.Turns → r.Idle
+  pub woken : r.Wakes → r.Idle
+  pub born : r.Born → r.Idle
 
 -- 2. A filter
 
 abbrev position : List Datum → ℤ
 position args = number_in (argument 0 args)
 
-came-nothing : (s : Status) → came (Told s []) ≡ nothing
+pub came-nothing : (s : Status) → came (Told s []) ≡ nothing
 came-nothing status.Ok = refl
 came-nothing _ = refl
 
@@ -121,9 +136,15 @@ filter_role before s items = record {
   Left = λ vars results. Unit {0};
   Asks = FilterAsks before s;
   Comes = λ given st results. IsOf items (position given) (came (Told st results));
+  Stored = λ vars. FilterVars before s items vars;
+  Idle = Unit {0};
+  There = ⊥;
+  Turns = Unit {0};
+  Wakes = Unit {0};
+  Born = Unit {0};
 }
 
-same-rule : (s : Sieve) → rule_for (type_of_sieve s) ≡ rule_of s
+pub same-rule : (s : Sieve) → rule_for (type_of_sieve s) ≡ rule_of s
 same-rule (takes n) = refl
 same-rule (skips n) = refl
 same-rule (keeps t) = refl
@@ -275,14 +296,18 @@ module _ (before : Uid) (s : Sieve) (items : List (List ℕ)) where
   pub filter-lawful : IsLawful (filter_role before s items)
   filter-lawful = record {
     kept_later = λ vars h. h;
-    turn = λ kept vars args st a h task fine. filter-turn kept vars args st a h task;
+    turn = λ t kept vars args st a h task fine. filter-turn kept vars args st a h task;
     told_code = filter-code;
     told_reply = filter-reply;
     told_nothing = filter-nothing;
     said_nothing = λ kept args w. (of-nothing (sifted s items) (position args) w, tt);
     said_later = λ args w results h. h;
-    first = filter-first before s items;
-    starts_again = λ vars h f. (filter-again vars h, tt);
+    first = λ b. filter-first before s items;
+    stored = λ vars h. h;
+    starts_again = λ w vars h f. (filter-again vars h, tt);
+    ended = λ t. tt;
+    woken = λ w. tt;
+    born = λ b. tt;
   }
 
 -- 3. A Lines, of a list
@@ -304,6 +329,12 @@ lines_role texts = record {
   Left = λ vars results. Unit {0};
   Asks = λ vars c op given. ⊥;
   Comes = λ given st results. Unit {0};
+  Stored = λ vars. LinesVars texts true vars;
+  Idle = Unit {0};
+  There = ⊥;
+  Turns = Unit {0};
+  Wakes = Unit {0};
+  Born = Unit {0};
 }
 
 pub lines-vars : (texts : List (List ℕ)) (kept : Bool) (s : Source) → of_lines.Holds kept texts s → LinesVars texts kept (lines.values_of s)
@@ -353,14 +384,18 @@ module _ (texts : List (List ℕ)) where
   pub lines-lawful : IsLawful (lines_role texts)
   lines-lawful = record {
     kept_later = λ vars h. record { form = h.form; holds = record { items = h.holds.items; saved = λ x y. refl } };
-    turn = lines-turn;
+    turn = λ t. lines-turn;
     told_code = λ vars args st a c h. lines-code vars args st a (Code c) h;
     told_reply = λ vars args st a c op given w results h k x. lines-code vars args st a (Told w results) h;
     told_nothing = λ vars args st a w h. lines-code vars args st a (Told w []) h;
     said_nothing = λ kept args w. (subst (of_lines.IsSaid kept texts (position args)) (sym (came-nothing w)) tt, tt);
     said_later = λ args w results h. (said-later args (came (Told w results)) h.0, h.1);
-    first = record { form = refl; holds = record { items = λ x. absurd (cc x); saved = λ x y. absurd (cc x) } };
-    starts_again = lines-again;
+    stored = λ vars h. h;
+    first = λ b. record { form = refl; holds = record { items = λ x. absurd (cc x); saved = λ x y. absurd (cc x) } };
+    starts_again = λ w. lines-again;
+    ended = λ t. tt;
+    woken = λ w. tt;
+    born = λ b. tt;
   }
 
 -- 4. A Sink
@@ -387,6 +422,12 @@ sink_role before items = record {
   Left = λ vars results. (held : ℤ) → results ≡ number (pos 1) ∷ number held ∷ [] → map text_in (drain vars).items ≡ items;
   Asks = SinkAsks before;
   Comes = λ given st results. IsOf items (position given) (came (Told st results));
+  Stored = λ vars. SinkVars before items vars;
+  Idle = Unit {0};
+  There = ⊥;
+  Turns = Unit {0};
+  Wakes = Unit {0};
+  Born = Unit {0};
 }
 
 pub sink-vars : (before : Uid) (items : List (List ℕ)) (s : Drain) → of_sinks.Holds before items s
@@ -473,12 +514,16 @@ module _ (before : Uid) (items : List (List ℕ)) where
   pub sink-lawful : IsLawful (sink_role before items)
   sink-lawful = record {
     kept_later = λ vars h. h;
-    turn = λ kept vars args st a h task fine. sink-turn kept vars args st a h task;
+    turn = λ t kept vars args st a h task fine. sink-turn kept vars args st a h task;
     told_code = sink-code;
     told_reply = sink-reply;
     told_nothing = sink-nothing;
     said_nothing = λ kept args w held fine is. absurd (cc is);
     said_later = λ args w results h. h;
-    first = record { form = refl; holds = record { src = λ c is. absurd (cc is); items = (items, refl) } };
-    starts_again = λ vars h f. (sink-again vars h, tt);
+    stored = λ vars h. h;
+    first = λ b. record { form = refl; holds = record { src = λ c is. absurd (cc is); items = (items, refl) } };
+    starts_again = λ w vars h f. (sink-again vars h, tt);
+    ended = λ t. tt;
+    woken = λ w. tt;
+    born = λ b. tt;
   }

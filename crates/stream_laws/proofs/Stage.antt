@@ -107,12 +107,12 @@ module _ (R : Role) (u : Uid) (A : ℕ → List Datum) (was_kept : Bool) where
     pub vars : R.Vars kept it.vars
     pub limits : it.crew.limits ≡ 1 ∷ []
     pub monitors : it.crew.monitors ≡ []
-    pub work : (it.crew.processes ≡ []) ⊎ IsBusy kept it
+    pub work : ((it.crew.processes ≡ []) × R.Idle) ⊎ IsBusy kept it
 
   -- bytes that are kept of it
   pub record IsBody (bytes : List ℕ) : Type 0 where
     pub values : List Datum
-    pub holds : R.Vars true values
+    pub holds : R.Stored values
     pub filled : R.Filled values
     pub spelled : bytes ≡ spelling (rep_of (native_type R.kind) values)
     pub reads : reading bytes ≡ Some (rep_of (native_type R.kind) values)
@@ -147,16 +147,13 @@ module _ (R : Role) (u : Uid) (A : ℕ → List Datum) (was_kept : Bool) where
   pub record IsStage (rs : List StoreRequest) (o : Option Eject) : Type 0 where
     pub requests : AreChanges rs
     pub eject : IfSome o (IsEject rs)
-    pub there : was_kept ≡ true → is_some o ≡ true
+    -- it is there still
+    pub there : (was_kept ≡ true) ⊎ R.There → is_some o ≡ true
 
   abbrev pub StageOn : Node → Type 0
   StageOn it = IsStage it.requests (value_at uid_cmp u it.ejects)
 
   -- 2. Its active part
-  some-and : {X : Type 0} {P : X → Type 0} (o : Option X) → IsSomeAnd o P → (x : X) × (o ≡ Some x) × P x
-  some-and None h = absurd h
-  some-and (Some x) h = (x, refl, h)
-
   module _ (L : IsLawful R) where
     -- something of it came to be kept
     task-later : (vars args : List Datum) (t : Task) → IsTask false vars args t → IsTask true vars args t
@@ -187,7 +184,7 @@ module _ (R : Role) (u : Uid) (A : ℕ → List Datum) (was_kept : Bool) where
       work = go h.work;
     }
       where
-        go : (it.crew.processes ≡ []) ⊎ IsBusy false it → (it.crew.processes ≡ []) ⊎ IsBusy true it
+        go : ((it.crew.processes ≡ []) × R.Idle) ⊎ IsBusy false it → ((it.crew.processes ≡ []) × R.Idle) ⊎ IsBusy true it
         go (inl x) = inl x
         go (inr x) = inr (busy-later it x)
 
@@ -221,8 +218,9 @@ module _ (R : Role) (u : Uid) (A : ℕ → List Datum) (was_kept : Bool) where
         → IsActive kept (told p a it)
     active-told kept p a it may h = record { kind = h.kind; vars = h.vars; limits = h.limits; monitors = h.monitors; work = go h.work }
       where
-        go : (it.crew.processes ≡ []) ⊎ IsBusy kept it → ((told p a it).crew.processes ≡ []) ⊎ IsBusy kept (told p a it)
-        go (inl x) = inl (ap (map (with_waits p nothing)) x)
+        go : ((it.crew.processes ≡ []) × R.Idle) ⊎ IsBusy kept it → (((told p a it).crew.processes ≡ []) × R.Idle)
+            ⊎ IsBusy kept (told p a it)
+        go (inl x) = inl (ap (map (with_waits p nothing)) x.0, x.1)
         go (inr b) = inr (record {
           number = b.number;
           worker = cond (b.number == p) (record b.worker { waits = nothing }) b.worker;
@@ -614,9 +612,9 @@ module _ (R : Role) (u : Uid) (A : ℕ → List Datum) (was_kept : Bool) where
     pub active-waits : (kept : Bool) (p : ℕ) (w : Waiting) (it : Active) → IsActive kept it → IsActive kept (on_crew (set_waits p w) it)
     active-waits kept p w it h = record { kind = h.kind; vars = h.vars; limits = h.limits; monitors = h.monitors; work = go h.work }
       where
-        go : (it.crew.processes ≡ []) ⊎ IsBusy kept it
-            → ((on_crew (set_waits p w) it).crew.processes ≡ []) ⊎ IsBusy kept (on_crew (set_waits p w) it)
-        go (inl x) = inl (ap (map (with_waits p w)) x)
+        go : ((it.crew.processes ≡ []) × R.Idle) ⊎ IsBusy kept it
+            → (((on_crew (set_waits p w) it).crew.processes ≡ []) × R.Idle) ⊎ IsBusy kept (on_crew (set_waits p w) it)
+        go (inl x) = inl (ap (map (with_waits p w)) x.0, x.1)
         go (inr b) = inr (record {
           number = b.number;
           worker = cond (b.number == p) (record b.worker { waits = w }) b.worker;
@@ -714,7 +712,7 @@ module _ (R : Role) (u : Uid) (A : ℕ → List Datum) (was_kept : Bool) where
     -- what is born is another Eject, or this one, of its type, where there was none
     pub record MayBear (t : Option Edentype) (s : Site) : Type 0 where
       pub own : (new : Uid) → next_uid s ≡ Ok new → new ≡ u
-          → (t ≡ Some (native_type R.kind)) × (eject_in s u ≡ None) × NoneOf s.node.requests
+          → (t ≡ Some (native_type R.kind)) × (eject_in s u ≡ None) × NoneOf s.node.requests × R.Born
 
     fresh-idle : (n : Native) (vars : List Datum) → (fresh (native_type n) vars).crew.processes ≡ []
     fresh-idle native.Cell vars = refl
@@ -746,17 +744,17 @@ module _ (R : Role) (u : Uid) (A : ℕ → List Datum) (was_kept : Bool) where
     fresh-monitors native.Number vars = refl
     fresh-monitors native.Sink vars = refl
 
-    fresh-active : (kept : Bool) (vars : List Datum) → R.Vars kept vars → IsActive kept (fresh (native_type R.kind) vars)
-    fresh-active kept vars h = record {
+    fresh-active : (kept : Bool) (vars : List Datum) → R.Idle → R.Vars kept vars → IsActive kept (fresh (native_type R.kind) vars)
+    fresh-active kept vars idle h = record {
       kind = refl;
       vars = h;
       limits = fresh-limits R.kind vars;
       monitors = fresh-monitors R.kind vars;
-      work = inl (fresh-idle R.kind vars);
+      work = inl (fresh-idle R.kind vars, idle);
     }
 
     pub stage-born : (new : Uid) (t : Edentype) (s : Site)
-        → (new ≡ u → (t ≡ native_type R.kind) × (eject_in s u ≡ None) × NoneOf s.node.requests)
+        → (new ≡ u → (t ≡ native_type R.kind) × (eject_in s u ≡ None) × NoneOf s.node.requests × R.Born)
         → StageOn s.node → StageOn (born new (fresh t (first_values t)) s).node
     stage-born new t s own h = stage-node (λ node. born_in new (fresh t (first_values t)) node (eject_in s new)) s (record {
       requests = h.requests;
@@ -787,11 +785,11 @@ module _ (R : Role) (u : Uid) (A : ℕ → List Datum) (was_kept : Bool) where
             (sym (ap (eject_in s) same ∙ x.1))
             (subst (λ k. IsEject s.node.requests (newborn (fresh k (first_values k)))) (sym x.0)
             (record {
-              active = fresh-active false (first_values (native_type R.kind)) L.first;
+              active = fresh-active false (first_values (native_type R.kind)) (L.born x.3) (L.first x.3);
               filled = inr (record { kept = refl; doubt = refl; requests = x.2 });
               kept = tt;
               doubt = tt;
-              still = λ y. absurd (let bad : is_some {T = Eject} None ≡ true = sym (ap is_some x.1) ∙ h.there y in cc bad);
+              still = λ y. absurd (let bad : is_some {T = Eject} None ≡ true = sym (ap is_some x.1) ∙ h.there (inl y) in cc bad);
             }))
 
     stage-creates : (v : Uid) (p : ℕ) (t : Option Edentype) (s : Site) → (v ≡ u → ⊥) → MayBear t s → StageOn s.node
@@ -804,7 +802,7 @@ module _ (R : Role) (u : Uid) (A : ℕ → List Datum) (was_kept : Bool) where
         go (Ok new) is = stage-tells v p (Created status.Ok (Some (full new))) (born new (fresh t (first_values t)) s)
             (λ e it same at is_it x. absurd (apart same))
             (stage-born new t s (λ same. (let x = may.own new is same in
-            ((let k : Some t ≡ Some (native_type R.kind) = x.0 in cc k), x.1, x.2))) h)
+            ((let k : Some t ≡ Some (native_type R.kind) = x.0 in cc k), x.1, x.2, x.3))) h)
 
     -- the effect of a process of another Eject
     pub stage-effect : (reach : ℕ → Bool) (v : Uid) (p : ℕ) (i : Option Invocation) (t : Edentype) (vars : List Datum) (e : Effect)
@@ -922,10 +920,10 @@ module _ (R : Role) (u : Uid) (A : ℕ → List Datum) (was_kept : Bool) where
         first_one : (invocation it.kind t k).class ≡ 0
         first_one = ap (λ x. (invocation x t k).class) h.kind ∙ invocation-first R.kind t k
 
-        go : (it.crew.processes ≡ []) ⊎ IsBusy kept it → (b : Bool)
+        go : ((it.crew.processes ≡ []) × R.Idle) ⊎ IsBusy kept it → (b : Bool)
             → cond b (find (may_start it.crew) (map (invocation it.kind t) e.queued)) None ≡ Some (invocation it.kind t k)
             → it.crew.processes ≡ []
-        go (inl x) b found = x
+        go (inl x) b found = x.0
         go (inr y) true found = absurd (busy-full kept it (invocation it.kind t k) h first_one (found-passes (may_start it.crew)
             (map (invocation it.kind t) e.queued) (invocation it.kind t k) found) y)
         go (inr y) false found = absurd (cc found)
@@ -1017,14 +1015,20 @@ module _ (R : Role) (u : Uid) (A : ℕ → List Datum) (was_kept : Bool) where
       pub number : p ≡ busy.number
       pub stage : Stage
       pub answer : Answer
+      pub task : Task
+      pub has : value_at nat_cmp p it.tasks ≡ Some task
+      pub rest_was : task.rest ≡ of_native stage
+      pub told_is : task.answer ≡ answer
+      pub keeps_task : R.Task it.vars (A busy.call.call) stage answer
       pub vars : t.vars ≡ (native_turn R.kind it.vars stage answer).0
       pub rest : t.rest ≡ of_native (native_turn R.kind it.vars stage answer).1
       pub effect_is : t.effect ≡ (native_turn R.kind it.vars stage answer).2
       pub keeps : TurnKeeps R (is_some e.kept) it.vars (A busy.call.call) (native_turn R.kind it.vars stage answer)
 
-    pub turn-of-it : (e : Eject) (it : Active) (p : ℕ) (t : Turned) → IsActive (is_some e.kept) it → is_some (worker_at it p) ≡ true
+    pub turn-of-it : R.Turns → (e : Eject) (it : Active) (p : ℕ) (t : Turned) → IsActive (is_some e.kept) it
+        → is_some (worker_at it p) ≡ true
         → turn_of u it p ≡ Some t → Turn e it p t
-    turn-of-it e it p t h there is = go h.work
+    turn-of-it turns e it p t h there is = go h.work
       where
         own : (b : IsBusy (is_some e.kept) it) → p ≡ b.number
         own b = by (eq_by_cmp nat_cmp p b.number) refl (subst (λ ps. is_some (value_at nat_cmp p ps) ≡ true) b.alone there)
@@ -1046,15 +1050,20 @@ module _ (R : Role) (u : Uid) (A : ℕ → List Datum) (was_kept : Bool) where
               number = own b;
               stage = x.stage;
               answer = y.answer;
+              task = y;
+              has = at;
+              rest_was = x.rest;
+              told_is = refl;
+              keeps_task = x.keeps;
               vars = ap (λ (z : Turned). z.vars) (sym plain);
               rest = ap (λ (z : Turned). z.rest) (sym plain);
               effect_is = ap (λ (z : Turned). z.effect) (sym plain);
-              keeps = L.turn (is_some e.kept) it.vars (A b.call.call) x.stage y.answer h.vars x.keeps x.fine;
+              keeps = L.turn turns (is_some e.kept) it.vars (A b.call.call) x.stage y.answer h.vars x.keeps x.fine;
             }
 
-        go : (it.crew.processes ≡ []) ⊎ IsBusy (is_some e.kept) it → Turn e it p t
+        go : ((it.crew.processes ≡ []) × R.Idle) ⊎ IsBusy (is_some e.kept) it → Turn e it p t
         go (inl none) = absurd (let bad : is_some {T = Worker} (value_at nat_cmp p []) ≡ true = subst (λ (ps : List (ℕ × Worker)).
-            is_some (value_at nat_cmp p ps) ≡ true) none there in cc bad)
+            is_some (value_at nat_cmp p ps) ≡ true) none.0 there in cc bad)
         go (inr b) = task b (value_at nat_cmp p it.tasks) refl
             (subst (λ q. IsSomeAnd (value_at nat_cmp q it.tasks) (IsTask (is_some e.kept) it.vars (A b.call.call))) (sym (own b)) b.task) is
 
@@ -1103,22 +1112,27 @@ module _ (R : Role) (u : Uid) (A : ℕ → List Datum) (was_kept : Bool) where
     })
         (ap length none)
 
-    ended-active : (e : Eject) (it : Active) (p : ℕ) (t : Turned) (x : Turn e it p t) → IsActive (is_some e.kept) it
+    pub ended-alone : (e : Eject) (it : Active) (p : ℕ) (t : Turned) → Turn e it p t → IsActive (is_some e.kept) it
+        → (without_process p (turned p t it)).crew.processes ≡ []
+    ended-alone e it p t x h = ap (λ (c : Crew). c.processes) (ended-plain p it.crew h.monitors)
+        ∙ ap (where_key nat_cmp (λ k. not (k == p))) x.busy.alone
+        ∙ ap (λ q. where_key nat_cmp (λ k. not (k == p)) ((q, x.busy.worker) ∷ [])) (sym x.number) ∙ none
+      where
+        none : where_key nat_cmp (λ k. not (k == p)) ((p, x.busy.worker) ∷ []) ≡ []
+        none = rw (eq-eqb p p refl) refl
+
+    ended-active : R.Turns → (e : Eject) (it : Active) (p : ℕ) (t : Turned) (x : Turn e it p t) → IsActive (is_some e.kept) it
         → IsActive (is_some e.kept) (without_process p (turned p t it))
-    ended-active e it p t x h = record {
+    ended-active turns e it p t x h = record {
       kind = h.kind;
       vars = subst (R.Vars (is_some e.kept)) (sym x.vars) x.keeps.holds;
       limits = ap (λ (c : Crew). c.limits) plain ∙ h.limits;
       monitors = ap (λ (c : Crew). c.monitors) plain ∙ h.monitors;
-      work = inl (ap (λ (c : Crew). c.processes) plain ∙ ap (where_key nat_cmp (λ k. not (k == p))) x.busy.alone
-          ∙ ap (λ q. where_key nat_cmp (λ k. not (k == p)) ((q, x.busy.worker) ∷ [])) (sym x.number) ∙ none);
+      work = inl (ended-alone e it p t x h, L.ended turns);
     }
       where
         plain : ended p it.crew ≡ record it.crew { processes = where_key nat_cmp (λ k. not (k == p)) it.crew.processes }
         plain = ended-plain p it.crew h.monitors
-
-        none : where_key nat_cmp (λ k. not (k == p)) ((p, x.busy.worker) ∷ []) ≡ []
-        none = rw (eq-eqb p p refl) refl
 
     fills-turned : (e : Eject) (it : Active) (p : ℕ) (t : Turned) → Turn e it p t → R.Filled it.vars → R.Filled t.vars
     fills-turned e it p t x f = subst R.Filled (sym x.vars) (x.keeps.fills f)
@@ -1129,7 +1143,7 @@ module _ (R : Role) (u : Uid) (A : ℕ → List Datum) (was_kept : Bool) where
         → reading (spelling (rep_of (native_type R.kind) t.vars)) ≡ Some (rep_of (native_type R.kind) t.vars)
 
     module _ (reach : ℕ → Bool) (p : ℕ) (s : Site) (e : Eject) (at : eject_in s u ≡ Some e) (it : Active) (some : e.active ≡ Some it)
-        (t : Turned) (x : Turn e it p t) (back : ReadsBack t) (h : StageOn s.node) where
+        (t : Turned) (x : Turn e it p t) (turns : R.Turns) (back : ReadsBack t) (h : StageOn s.node) where
       now : IsEject s.node.requests e
       now = subst (λ o. IfSome o (IsEject s.node.requests)) at h.eject
 
@@ -1159,7 +1173,7 @@ module _ (R : Role) (u : Uid) (A : ℕ → List Datum) (was_kept : Bool) where
           (stage-eject u (λ d. on_active (without_process p) (on_active (turned p t) d)) s (λ d same is y.
           subst (λ d. IsEject s.node.requests (on_active (without_process p) (on_active (turned p t) d))) (same-some (sym at ∙ is))
           (rw some (record {
-            active = ended-active e it p t x is-active;
+            active = ended-active turns e it p t x is-active;
             filled = fill (subst (λ o. IfSome o (λ it. R.Filled it.vars ⊎ IsClean s.node.requests e)) some now.filled);
             kept = now.kept;
             doubt = now.doubt;
@@ -1173,7 +1187,7 @@ module _ (R : Role) (u : Uid) (A : ℕ → List Datum) (was_kept : Bool) where
       effect-own effect.Checkpoint eq ends = stage-checkpoints u p (spelling (rep_of it.kind t.vars)) mid (λ same. (
         record {
           values = t.vars;
-          holds = later (is_some e.kept) (subst (R.Vars (is_some e.kept)) (sym x.vars) x.keeps.holds);
+          holds = L.stored t.vars (later (is_some e.kept) (subst (R.Vars (is_some e.kept)) (sym x.vars) x.keeps.holds));
           filled = ends.0;
           spelled = ap (λ k. spelling (rep_of k t.vars)) is-active.kind;
           reads = ap (λ k. reading (spelling (rep_of k t.vars))) is-active.kind ∙ back eq;
@@ -1210,8 +1224,8 @@ module _ (R : Role) (u : Uid) (A : ℕ → List Datum) (was_kept : Bool) where
         → ReadsBack t
 
     pub stage-process : (reach : ℕ → Bool) (v : Uid) (p : ℕ) (s : Site) → IsActiveAnd s v (λ e it. is_some (worker_at it p) ≡ true)
-        → MayCreate v p s → MayStore v p s → StageOn s.node → StageOn (process_turn reach v p s).node
-    stage-process reach v p s active may store h = go (eq_by_cmp uid_cmp u v) refl
+        → (v ≡ u → R.Turns) → MayCreate v p s → MayStore v p s → StageOn s.node → StageOn (process_turn reach v p s).node
+    stage-process reach v p s active turns may store h = go (eq_by_cmp uid_cmp u v) refl
       where
         worker : (w : Uid) (e : Eject) (it : Active) → eject_in s w ≡ Some e → e.active ≡ Some it
             → IsActiveAnd s w (λ e it. is_some (worker_at it p) ≡ true) → is_some (worker_at it p) ≡ true
@@ -1221,9 +1235,9 @@ module _ (R : Role) (u : Uid) (A : ℕ → List Datum) (was_kept : Bool) where
         own : v ≡ u → IsActiveAnd s u (λ e it. is_some (worker_at it p) ≡ true) → StageOn (process_turn reach u p s).node
         own same a = stage-item s (eject_in s u) _ h (λ e at. stage-item s e.active _ h (λ it some. stage-item s (turn_of u it p) _ h
             (λ t is.
-            turn-own reach p s e at it some t (turn-of-it e it p t
+            turn-own reach p s e at it some t (turn-of-it (turns same) e it p t
             (subst (λ o. IfSome o (IsActive (is_some e.kept))) some (subst (λ o. IfSome o (IsEject s.node.requests)) at h.eject).active)
-            (worker u e it at some a) is) (store e it t same at some is) h)))
+            (worker u e it at some a) is) (turns same) (store e it t same at some is) h)))
 
         go : (b : Bool) → eq_by_cmp uid_cmp u v ≡ b → StageOn (process_turn reach v p s).node
         go true same = let is_u : v ≡ u = sym (eq-same uid_cmp uid_cmp-IsAntisymmetric u v same) in
@@ -1241,11 +1255,11 @@ module _ (R : Role) (u : Uid) (A : ℕ → List Datum) (was_kept : Bool) where
                 let bad : true ≡ false = sym own ∙ subst (λ w. eq_by_cmp uid_cmp u w ≡ false) is same in cc bad
 
     -- 14. An activation: it starts again from what is kept of it
-    starts-again : (types : List Edentype) (bytes : List ℕ) (begun : Edentype × List Datum)
+    starts-again : R.Wakes → (types : List Edentype) (bytes : List ℕ) (begun : Edentype × List Datum)
         → type_of types (name_of (native_type R.kind)) ≡ Some (native_type R.kind) → IsBody bytes
         → start_of types bytes u ≡ Some begun → IsActive true (fresh begun.0 (values_from begun.0 begun.1))
         × R.Filled (values_from begun.0 begun.1)
-    starts-again types bytes begun known b is = from (durable_from (native_type R.kind) rep u) refl
+    starts-again wakes types bytes begun known b is = from (durable_from (native_type R.kind) rep u) refl
         (subst (λ o. with_item o (λ t. with_item (durable_from t rep u) (λ durable. Some (t, durable)) None) None ≡ Some begun) known
         (subst (λ o. with_item o (λ rep. started_from types rep u) None ≡ Some begun) b.reads is))
       where
@@ -1255,10 +1269,10 @@ module _ (R : Role) (u : Uid) (A : ℕ → List Datum) (was_kept : Bool) where
         done : (durable : List Datum) → durable ≡ durable_of (native_type R.kind) b.values
             → IsActive true (fresh (native_type R.kind) (values_from (native_type R.kind) durable))
             × R.Filled (values_from (native_type R.kind) durable)
-        done durable same = let x = L.starts_again b.values b.holds b.filled in
+        done durable same = let x = L.starts_again wakes b.values b.holds b.filled in
             subst (λ d. IsActive true (fresh (native_type R.kind) (values_from (native_type R.kind) d))
             × R.Filled (values_from (native_type R.kind) d))
-            (sym same) (fresh-active true (again R.kind b.values) x.0, x.1)
+            (sym same) (fresh-active true (again R.kind b.values) (L.woken wakes) x.0, x.1)
 
         from : (o : Option (List Datum)) → durable_from (native_type R.kind) rep u ≡ o
             → with_item o (λ durable. Some (native_type R.kind, durable)) None ≡ Some begun
@@ -1273,9 +1287,9 @@ module _ (R : Role) (u : Uid) (A : ℕ → List Datum) (was_kept : Bool) where
             current true e = sym (same-some e)
             current false e = absurd (cc e)
 
-    pub stage-awake : (v : Uid) (s : Site) → type_of s.types (name_of (native_type R.kind)) ≡ Some (native_type R.kind)
+    pub stage-awake : (v : Uid) (s : Site) → (v ≡ u → R.Wakes) → type_of s.types (name_of (native_type R.kind)) ≡ Some (native_type R.kind)
         → StageOn s.node → StageOn (awake v s).node
-    stage-awake v s known h = stage-item s (eject_in s v) _ h (λ e at. stage-item s e.kept _ h (λ bytes kept.
+    stage-awake v s wakes known h = stage-item s (eject_in s v) _ h (λ e at. stage-item s e.kept _ h (λ bytes kept.
         stage-item s (start_of s.types bytes v) _ h (λ begun is. stage-traffic _ (on_eject v (waking e begun) s)
         (stage-eject v (waking e begun) s (λ d same own x. go e bytes begun d same at kept is own x) h))))
       where
@@ -1291,7 +1305,7 @@ module _ (R : Role) (u : Uid) (A : ℕ → List Datum) (was_kept : Bool) where
         go e bytes begun d same at kept is own x =
             let one : e ≡ d = same-some (sym at ∙ ap (eject_in s) same ∙ own) in
             let kept_d : d.kept ≡ Some bytes = ap (λ (y : Eject). y.kept) (sym one) ∙ kept in
-            let y = starts-again s.types bytes begun known (subst (λ o. IfSome o IsBody) kept_d x.kept)
+            let y = starts-again (wakes same) s.types bytes begun known (subst (λ o. IfSome o IsBody) kept_d x.kept)
             (ap (λ w. start_of s.types bytes w) (sym same) ∙ is) in
             record {
               active = subst (λ k. IsActive (is_some k) (fresh begun.0 (values_from begun.0 begun.1))) (sym kept_d) y.0;
@@ -1301,10 +1315,10 @@ module _ (R : Role) (u : Uid) (A : ℕ → List Datum) (was_kept : Bool) where
               still = x.still;
             }
 
-    pub stage-activated : (v : Uid) (how : StartEnd) (s : Site)
+    pub stage-activated : (v : Uid) (how : StartEnd) (s : Site) → (v ≡ u → R.Wakes)
         → type_of s.types (name_of (native_type R.kind)) ≡ Some (native_type R.kind) → StageOn s.node → StageOn (activated v how s).node
-    stage-activated v start_end.Ok s known h = stage-awake v s known h
-    stage-activated v start_end.Gone s known h = stage-turned_away v status.Gone s h
-    stage-activated v start_end.Fault s known h = stage-turned_away v status.StoreFault s h
-    stage-activated v start_end.Damaged s known h = stage-turned_away v status.Damaged s h
-    stage-activated v start_end.Stop s known h = stage-crashed s h
+    stage-activated v start_end.Ok s wakes known h = stage-awake v s wakes known h
+    stage-activated v start_end.Gone s wakes known h = stage-turned_away v status.Gone s h
+    stage-activated v start_end.Fault s wakes known h = stage-turned_away v status.StoreFault s h
+    stage-activated v start_end.Damaged s wakes known h = stage-turned_away v status.Damaged s h
+    stage-activated v start_end.Stop s wakes known h = stage-crashed s h

@@ -10,12 +10,11 @@ use Rattle.capability.proofs.Uids.{uid_cmp-IsAntisymmetric}
 use Rattle.eden_model.proofs.Laws.{eq-same}
 use Rattle.epl_syntax.specs.declared.effect.Effect.TheVariants as effect
 use Rattle.epl_syntax.specs.Meaning.{Turned}
-use Rattle.history_laws.proofs.Frame.{eject-on_traffic, node-at_same, after_at}
+use Rattle.history_laws.proofs.Frame.{eject-on_traffic}
 use Rattle.journal.specs.World.{on_eject, reaches}
 use Rattle.journal.specs.Ejects.{on_active}
 use Rattle.journal.specs.Processes.{turn_of, turned, serving, effected, process_turn, waits_or_told}
 use Rattle.journal.specs.Processes.{refused_at_once}
-use Rattle.journal.specs.Step.{clocked, key_of, happened, site_turn}
 use Rattle.eden_value.specs.Datum.{Datum}
 use Rattle.eden_value.specs.declared.status.Status.{Status}
 use Rattle.eden_model.specs.Map.{with_item, value_at, uid_cmp}
@@ -49,7 +48,7 @@ use Rattle.history_laws.proofs.VariableRuns.{leaves-entry}
 use Rattle.stream_laws.proofs.StagedNodes.{kept_now, active_now, own-eject, Around, OnNode, AsksOn, node-next}
 use Rattle.stream_laws.proofs.StagedCalls.{SaidOn, NewAnswer, NewCall, IsOwnCall, by-shell, turn-keeps}
 use Rattle.stream_laws.proofs.Items.{same-some, if-map}
-use Rattle.stream_laws.proofs.Sites.{eject-own, turn-is, eject-clocked, eject-counted}
+use Rattle.stream_laws.proofs.Sites.{eject-own, turn-is, own-later}
 
 -- 1. What was kept does not matter but where it is kept still
 module _ (R : Role) (u : Uid) (A : ℕ → List Datum) (a b : Bool) where
@@ -74,7 +73,7 @@ module _ (R : Role) (u : Uid) (A : ℕ → List Datum) (a b : Bool) where
   active-as : (kept : Bool) (it : Active) → IsActive R u A a kept it → IsActive R u A b kept it
   active-as kept it h = record { kind = h.kind; vars = h.vars; limits = h.limits; monitors = h.monitors; work = go h.work }
     where
-      go : (it.crew.processes ≡ []) ⊎ IsBusy R u A a kept it → (it.crew.processes ≡ []) ⊎ IsBusy R u A b kept it
+      go : ((it.crew.processes ≡ []) × R.Idle) ⊎ IsBusy R u A a kept it → ((it.crew.processes ≡ []) × R.Idle) ⊎ IsBusy R u A b kept it
       go (inl x) = inl x
       go (inr x) = inr (busy-as kept it x)
 
@@ -114,12 +113,16 @@ module _ (R : Role) (u : Uid) (A : ℕ → List Datum) (a b : Bool) where
   stage-as rs o still h = record {
     requests = changes-as rs h.requests;
     eject = go o still h.eject;
-    there = λ x. there-of o (still x);
+    there = there;
   }
     where
       there-of : (o : Option Eject) → IsSomeAnd o (λ e. is_some e.kept ≡ true) → is_some o ≡ true
       there-of None x = absurd x
       there-of (Some e) x = refl
+
+      there : (b ≡ true) ⊎ R.There → is_some o ≡ true
+      there (inl x) = there-of o (still x)
+      there (inr x) = h.there (inr x)
 
       go : (o : Option Eject) → (b ≡ true → IsSomeAnd o (λ e. is_some e.kept ≡ true)) → IfSome o (IsEject R u A a rs)
           → IfSome o (IsEject R u A b rs)
@@ -147,7 +150,7 @@ module _ (R : Role) (L : IsLawful R) (u : Uid) (A : ℕ → List Datum) where
     nodes : Everywhere (OnNode R L u A (kept_now w u)) later
     nodes = node-next R L u A H w c e.event x old.asks e refl allowed.event old.node
 
-    here-later : is_some (node_at w u.node) ≡ true → is_some (node_at later u.node) ≡ true
+    pub here-later : is_some (node_at w u.node) ≡ true → is_some (node_at later u.node) ≡ true
     here-later there = (site-next H w c e allowed seat.site).known.sound.place.present u.node
         ∙ sym (seat.site.known.sound.place.present u.node) ∙ there
 
@@ -167,7 +170,7 @@ module _ (R : Role) (L : IsLawful R) (u : Uid) (A : ℕ → List Datum) where
       where
         eject : (rs : List StoreRequest) (o : Option Eject) → IsStage R u A (kept_now w u) rs o
             → with_item o (λ (e : Eject). is_some e.kept) false ≡ true
-        eject rs None h = absurd (cc (h.there k))
+        eject rs None h = absurd (cc (h.there (inl k)))
         eject rs (Some y) h = h.eject.still k
 
         go : (o : Option Node) → node_at later u.node ≡ o → is_some o ≡ true
@@ -191,7 +194,7 @@ module _ (R : Role) (L : IsLawful R) (u : Uid) (A : ℕ → List Datum) where
 
     calls : GoOn (NewAnswer R L u A w e.event) (NewCall R L u A w e.event) w.traffic later.traffic
     calls = keeps-next (NewAnswer R L u A w e.event) (NewCall R L u A w e.event) w c e
-        (turn-keeps R L u A w e.event H seat.site old.node e.event refl turns-allowed) (by c) allowed
+        (turn-keeps R L u A w e.event H seat.site old.node x.turns e.event refl turns-allowed) (by c) allowed
       where
         shell : (x : Command) → ShellAsks (NewAnswer R L u A w e.event) (NewCall R L u A w e.event) w x
         shell (command.Call name target operation args) = λ k x ready. by-shell R L u A w e.event k name x.0 operation x.1
@@ -251,7 +254,7 @@ module _ (R : Role) (L : IsLawful R) (u : Uid) (A : ℕ → List Datum) where
         go (inr h) = news-said k d st results is to (h.answer st results place)
 
     -- who asked an open call waits
-    waiting : (k : ℕ) (a : Call) (p : ℕ) → call_at w.traffic k ≡ Some a → a.open_ ≡ true → a.asker ≡ Process u p
+    pub waiting : (k : ℕ) (a : Call) (p : ℕ) → call_at w.traffic k ≡ Some a → a.open_ ≡ true → a.asker ≡ Process u p
         → is_some (node_at w u.node) ≡ true
         → IsSomeAnd (active_now w u) (λ it. Waits it.crew p outside)
     waiting k a p at opened asker there = go (node_at w u.node) refl there
@@ -263,7 +266,7 @@ module _ (R : Role) (L : IsLawful R) (u : Uid) (A : ℕ → List Datum) where
             (subst (λ o. IsSomeAnd o (λ c. (c.open_ ≡ true) × (c.asker ≡ Process u p))) (sym at) (opened, asker))).0
 
     -- a process of it that takes its turn has no open call
-    none-open : (p q : ℕ) (said : Shown) (it : Node) (y : Eject) (a : Active) → e.event ≡ event.Process u p said
+    pub none-open : (p q : ℕ) (said : Shown) (it : Node) (y : Eject) (a : Active) → e.event ≡ event.Process u p said
         → node_at w u.node ≡ Some it
         → value_at uid_cmp u it.ejects ≡ Some y → y.active ≡ Some a → Waits a.crew q outside → ⊥
     none-open p q said it y a is at is_y some waits = alone (old.node u.node it at refl)
@@ -292,8 +295,8 @@ module _ (R : Role) (L : IsLawful R) (u : Uid) (A : ℕ → List Datum) where
             (value_at nat_cmp q l)
             ≡ Some outside) empty v in cc bad
 
-        work : (a.crew.processes ≡ []) ⊎ IsBusy R u A (kept_now w u) (is_some y.kept) a → ⊥
-        work (inl empty) = none a.crew.processes empty waits
+        work : ((a.crew.processes ≡ []) × R.Idle) ⊎ IsBusy R u A (kept_now w u) (is_some y.kept) a → ⊥
+        work (inl empty) = none a.crew.processes empty.0 waits
         work (inr b) = one a.crew.processes refl b.number b.worker b.alone process waits
 
         alone : IsStage R u A (kept_now w u) it.requests (value_at uid_cmp u it.ejects) → ⊥
@@ -384,16 +387,6 @@ module _ (R : Role) (L : IsLawful R) (u : Uid) (A : ℕ → List Datum) where
             (waits_or_told p o (turned p t a))
         both o = rw some refl
 
-    -- its own node behind its own turn
-    own-later : (p : ℕ) (said : Shown) (nd : Node) → c ≡ None → e.event ≡ event.Process u p said → node_at w u.node ≡ Some nd
-        → eject_at later u ≡ eject_in (process_turn (reaches w u.node) u p (site_of w u.node nd)) u
-    own-later p said nd none is at = eject-counted u (clocked e.node e.clock (happened w c e.event)) (key_of e.event)
-        ∙ eject-clocked u (happened w c e.event) e.node e.clock
-        ∙ ap₂ (λ o ev. eject_at (happened w o ev) u) none is
-        ∙ ap (λ o. with_item o (λ (it : Node). value_at uid_cmp u it.ejects) None)
-        (node-at_same u.node (site_turn (reaches w u.node) (event.Process u p said)) w
-        ∙ ap (option_map (after_at u.node (site_turn (reaches w u.node) (event.Process u p said)) w)) at)
-
     no-command : (o : Option Command) (p : ℕ) (said : Shown) → AllowsEvent w o (event.Process u p said) → o ≡ None
     no-command None p said a = refl
     no-command (Some y) p said a = absurd (no-turn w y (event.Process u p said) refl a)
@@ -410,7 +403,7 @@ module _ (R : Role) (L : IsLawful R) (u : Uid) (A : ℕ → List Datum) where
             (sym (vars-asked (reaches w u.node) own.process
             (site_of w u.node nd) own.eject own.active own.turned d.target d.operation d.args is
             own.some own.turns own.effect_is now
-            (ap active_in (sym (own-later own.process own.said nd
+            (ap active_in (sym (own-later w c e u own.process own.said nd
             (no-command c own.process own.said (subst (AllowsEvent w c) own.is allowed.event)) own.is at)) ∙ active)))
             own.asks)
 

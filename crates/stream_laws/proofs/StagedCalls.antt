@@ -35,6 +35,15 @@ use Rattle.value_laws.proofs.WorldCalls.{KeepsTurn}
 use Rattle.stream_laws.proofs.StagedNodes.{kept_now, own-eject, OnNode}
 use Rattle.stream_laws.proofs.Items.{same-some, there-some}
 
+-- what a process serves is held at its Eject
+pub held-by : (H : ℕ → Bool) (w : World) → SiteWorld H w → (v : Uid) (it : Node) → node_at w v.node ≡ Some it → (e : Eject) (a : Active)
+    → value_at uid_cmp v it.ejects ≡ Some e → e.active ≡ Some a → (p : ℕ) (i : Invocation) → serving a p ≡ Some i
+    → IsHeldAt w.traffic v i.call
+held-by H w site v it at e a is some p i serves = ((site.sites v.node it at).fits v refl).held i.call
+    (subst (λ o. 1 ≤ times i.call (runs_of (active_in o)) + times i.call (with_item o (λ (e : Eject). e.queued) [])) (sym is)
+    (subst (λ o. 1 ≤ times i.call (runs_of o) + times i.call e.queued) (sym some)
+    (omega (arith, runs-served p i a.crew serves))))
+
 module _ (R : Role) (L : IsLawful R) (u : Uid) (A : ℕ → List Datum) where
   -- the answers to calls of it
   abbrev pub SaidOn : World → Type 0
@@ -68,14 +77,8 @@ module _ (R : Role) (L : IsLawful R) (u : Uid) (A : ℕ → List Datum) where
         → NewCall k (Shell name) target operation args
     by-shell k name target operation args q is = absurd (cc is)
 
-    module _ (H : ℕ → Bool) (site : SiteWorld H w) (staged : Everywhere (OnNode R L u A (kept_now w u)) w) where
-      held-by : (v : Uid) (it : Node) → node_at w v.node ≡ Some it → (e : Eject) (a : Active) → value_at uid_cmp v it.ejects ≡ Some e
-          → e.active ≡ Some a → (p : ℕ) (i : Invocation) → serving a p ≡ Some i → IsHeldAt w.traffic v i.call
-      held-by v it at e a is some p i serves = ((site.sites v.node it at).fits v refl).held i.call
-          (subst (λ o. 1 ≤ times i.call (runs_of (active_in o)) + times i.call (with_item o (λ (e : Eject). e.queued) [])) (sym is)
-          (subst (λ o. 1 ≤ times i.call (runs_of o) + times i.call e.queued) (sym some)
-          (omega (arith, runs-served p i a.crew serves))))
-
+    module _ (H : ℕ → Bool) (site : SiteWorld H w) (staged : Everywhere (OnNode R L u A (kept_now w u)) w)
+        (turning : (p : ℕ) (said : Shown) → ev ≡ event.Process u p said → R.Turns) where
       -- the process that takes the turn is there
       worker-there : (v : Uid) (p : ℕ) (said : Shown) (it : Node) (e : Eject) (a : Active)
           → AllowsAt (site_of w v.node it) (event.Process v p said)
@@ -87,10 +90,12 @@ module _ (R : Role) (L : IsLawful R) (u : Uid) (A : ℕ → List Datum) where
           (λ q. AllowsTurn (site_of w v.node it) v p said a q)))) is allowed)
 
       -- the turn of a process of it
-      pub own-turn : (v : Uid) (p : ℕ) (said : Shown) (it : Node) (e : Eject) (a : Active) (t : Turned) → v ≡ u → node_at w v.node ≡ Some it
+      pub own-turn : (v : Uid) (p : ℕ) (said : Shown) (it : Node) (e : Eject) (a : Active) (t : Turned) → ev ≡ event.Process v p said
+          → v ≡ u → node_at w v.node ≡ Some it
           → AllowsAt (site_of w v.node it) (event.Process v p said) → value_at uid_cmp v it.ejects ≡ Some e → e.active ≡ Some a
           → turn_of v a p ≡ Some t → Turn R u A (kept_now w u) L e a p t
-      own-turn v p said it e a t same at allowed is some turns = turn-of-it R u A (kept_now w u) L e a p t
+      own-turn v p said it e a t of same at allowed is some turns = turn-of-it R u A (kept_now w u) L
+          (turning p said (of ∙ ap (λ z. event.Process z p said) same)) e a p t
           (subst (λ o. IfSome o (IsActive R u A (kept_now w u) (is_some e.kept))) some
           (subst (λ o. IfSome o (IsEject R u A (kept_now w u) it.requests)) (ap (λ z. value_at uid_cmp z it.ejects) (sym same) ∙ is)
           (staged v.node it at (ap (λ (z : Uid). z.node) same)).eject).active)
@@ -114,7 +119,7 @@ module _ (R : Role) (L : IsLawful R) (u : Uid) (A : ℕ → List Datum) where
           answer results returns i serves None h = absurd h
           answer results returns i serves (Some c) h = λ to_u.
               let same : v ≡ u = sym h.1 ∙ to_u in
-              let x = own-turn v p said it e a t same at allowed is some turns in
+              let x = own-turn v p said it e a t of same at allowed is some turns in
               let call : x.busy.call ≡ i = same-some (sym x.busy.serves ∙ sym (ap (λ o. with_item o (λ (q : Worker). q.serves) None)
               (found x)) ∙ serves) in
               subst (λ (j : Invocation). R.Said (kept_now w u) (A j.call) status.Ok results) call
@@ -130,13 +135,13 @@ module _ (R : Role) (L : IsLawful R) (u : Uid) (A : ℕ → List Datum) where
               → MayDo NewAnswer NewCall v p o (effect.Return results)
           served results returns None serves = tt
           served results returns (Some i) serves = answer results returns i serves (call_at w.traffic i.call)
-              (held-by v it at e a is some p i serves)
+              (held-by H w site v it at e a is some p i serves)
 
           asked : (target : Cap) (operation : List ℕ) (args : List Datum) → t.effect ≡ effect.Invoke target operation args
               → (k : ℕ) → NewCall k (Process v p) target operation args
           asked target operation args eq k q by =
               let same : v ≡ u = (let e : Process v p ≡ Process u q = by in cc e) in
-              let x = own-turn v p said it e a t same at allowed is some turns in
+              let x = own-turn v p said it e a t of same at allowed is some turns in
               record {
                 process = p;
                 said = said;

@@ -25,6 +25,7 @@ use Rattle.journal.specs.declared.event.Event.{Event}
 use Rattle.journal.specs.declared.event.Event.TheVariants as event
 use Rattle.journal.specs.declared.event.Entry.{Entry}
 use Rattle.journal.specs.declared.event.Shown.{Shown}
+use Rattle.journal.specs.declared.event.StartEnd.{StartEnd}
 use Rattle.journal.specs.declared.event.Shown.TheVariants as shown
 use Rattle.journal.specs.Processes.{shown_of, shown_creation}
 use Rattle.journal.specs.World.{World, Site, Node, Eject, Active, StoreRequest, node_at, eject_at, site_of, eject_in, on_eject, reaches}
@@ -74,6 +75,10 @@ module _ (R : Role) (L : IsLawful R) (u : Uid) (A : ℕ → List Datum) where
   pub record Around (H : ℕ → Bool) (w : World) (c : Option Command) (ev : Event) : Type 0 where
     pub site : SiteWorld H w
     pub known : type_of w.types (name_of (native_type R.kind)) ≡ Some (native_type R.kind)
+    -- what is known where one of its processes takes a turn, where it starts again, and where it is created
+    pub turns : (p : ℕ) (said : Shown) → ev ≡ event.Process u p said → R.Turns
+    pub wakes : (how : StartEnd) (p : Option Pick) → ev ≡ event.Activate u how p → R.Wakes
+    pub is_born : eject_at w u ≡ None → R.Born
     -- what it keeps is read back
     pub back : (p : ℕ) (said : Shown) (it : Active) (t : Turned) → ev ≡ event.Process u p said → active_now w u ≡ Some it
         → turn_of u it p ≡ Some t → ReadsBack R u A (kept_now w u) L t
@@ -187,6 +192,7 @@ module _ (R : Role) (L : IsLawful R) (u : Uid) (A : ℕ → List Datum) where
             none,
             subst (NoneOf R u A k0) (sym (requests-on v (on_active (turned p t)) (site_of w n it)))
                 (sound-there n it at (none-before v (on_active (turned p t)) (site_of w n it) none)),
+            x.is_born (own-eject w n it u at here ∙ none-before v (on_active (turned p t)) (site_of w n it) none),
           ));
     }
       where
@@ -239,13 +245,14 @@ module _ (R : Role) (L : IsLawful R) (u : Uid) (A : ℕ → List Datum) where
         placed None h = h
         placed (Some c) h = h.0
     turn-ok (event.Activate v how p) is n it at allowed f here = stage-activated R u A k0 L v how (start_settled p (site_of w n it))
+        (λ same. x.wakes how p (is ∙ ap (λ z. event.Activate z how p) same))
         (ap (λ ts. type_of ts (name_of (native_type R.kind))) (types-started p (site_of w n it)) ∙ x.known)
         (stage-start_settled R u A k0 L p (site_of w n it) (f here))
     turn-ok (event.Start k v p) is n it at allowed f here = stage-start R u A k0 L v k p (site_of w n it) allowed
         (λ e a same at_e some active starts. begins-ok n it at here k p (is
         ∙ ap (λ z. event.Start k z p) same) e a at_e some active starts) (f here)
     turn-ok (event.Process v p said) is n it at allowed f here = stage-process R u A k0 L (reaches w n) v p (site_of w n it)
-        (has-worker (site_of w n it) v p said allowed)
+        (has-worker (site_of w n it) v p said allowed) (λ same. x.turns p said (is ∙ ap (λ z. event.Process z p said) same))
         (creates-ok n it at here v p said is (of-site (site_of w n it) v _ (x.site.known.sound.nodes n it at) allowed) allowed)
         (λ e a t same at_e some turns. x.back p said a t (is ∙ ap (λ z. event.Process z p said) same)
         (active-own n it at here e a at_e some) turns)
@@ -285,6 +292,7 @@ module _ (R : Role) (L : IsLawful R) (u : Uid) (A : ℕ → List Datum) where
                   ∙ x.made_so y name why at (is ∙ ap (λ z. event.Made name why (Some z)) same) in cc k),
               none,
               sound-there v.node it at_n none,
+              x.is_born (own-eject w v.node it u at_n here ∙ none),
             )))
             (f here)) all
 

@@ -100,16 +100,16 @@ pub record Flows (w : World) (c : Chain) (list : List (List ℕ)) : Type 0 where
 
 -- So it is with every pipeline in each step of every history of a fit script, over at most eight disks that are handed in as they have to
 -- be and a layout that keeps what layouts owe: with each chain whose stages are all created in the history, and are joined in the world
--- behind the step.
-abbrev pub OfEachPipeline : (Chain → Step → Type 0) → Type 0
+-- behind the step. `P` sees the steps before it too.
+abbrev pub OfEachPipeline : (Chain → List Step → Step → Type 0) → Type 0
 OfEachPipeline P = (layout : Layout) (script : Script) (disks : List DiskRun) (history : List Entry) → IsLayout layout
     → AreHandedIn layout disks → length disks ≤ 8 → IsFit script → Begins layout script disks history
     → (c : Chain) → AreCreated (run_over layout script disks history) c
-    → EachStep (λ past s. AreJoined s.later.traffic c → P c s) [] (run_over layout script disks history)
+    → EachStep (λ past s. AreJoined s.later.traffic c → P c past s) [] (run_over layout script disks history)
 
 -- it does what its functions say, of the list that its Lines has kept
 abbrev pub PipelinesFlow : Type 0
-PipelinesFlow = OfEachPipeline (λ c s. Flows s.later c (list_kept s.later c.lines))
+PipelinesFlow = OfEachPipeline (λ c past s. Flows s.later c (list_kept s.later c.lines))
 
 -- whether something is kept of an Eject
 abbrev pub has_kept : World → Uid → Bool
@@ -117,10 +117,10 @@ has_kept w u = with_item (eject_at w u) (λ e. is_some e.kept) false
 
 -- and that list stays, once the Lines has kept one
 abbrev pub ListsStay : Type 0
-ListsStay = OfEachPipeline (λ c s. has_kept s.world c.lines ≡ true → list_kept s.later c.lines ≡ list_kept s.world c.lines)
+ListsStay = OfEachPipeline (λ c past s. has_kept s.world c.lines ≡ true → list_kept s.later c.lines ≡ list_kept s.world c.lines)
 
--- In this step a Pump of the Sink u comes to the end: it answers 1, and how many are held.
-pub record ComesToTheEnd (u : Uid) (s : Step) (t : Turned) (held : ℤ) : Type 0 where
+-- In this step a Pump of the Sink u is answered with this code, and with how many items are held.
+pub record PumpAnswers (u : Uid) (s : Step) (t : Turned) (code held : ℤ) : Type 0 where
   -- the process that serves the Pump
   pub process : ℕ
   -- what the event shows of its turn
@@ -133,12 +133,16 @@ pub record ComesToTheEnd (u : Uid) (s : Step) (t : Turned) (held : ℤ) : Type 0
   pub is_active : active_in (eject_at s.world u) ≡ Some active
   -- what the turn comes to
   pub turn : turn_of u active process ≡ Some t
-  -- its answer
-  pub answers : t.effect ≡ effect.Return (number (pos 1) ∷ number held ∷ [])
+  -- its answer, which no other operation of a Sink has
+  pub answers : t.effect ≡ effect.Return (number code ∷ number held ∷ [])
+
+-- it comes to the end: it answers 1, and how many are held
+abbrev pub ComesToTheEnd : Uid → Step → Turned → ℤ → Type 0
+ComesToTheEnd u s t held = PumpAnswers u s t (pos 1) held
 
 -- and then the Sink holds all that its pipeline makes of the list
 abbrev pub SinksHoldAll : Type 0
-SinksHoldAll = OfEachPipeline (λ c s. (t : Turned) (held : ℤ) → ComesToTheEnd c.sink s t held
+SinksHoldAll = OfEachPipeline (λ c past s. (t : Turned) (held : ℤ) → ComesToTheEnd c.sink s t held
     → items_held t.vars ≡ made_by c.filters (list_kept s.later c.lines))
 
 -- An Eject that is created in a history, of a type, is held by no image, and whatever creates it creates it of that type.
