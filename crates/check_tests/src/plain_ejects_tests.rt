@@ -1,0 +1,82 @@
+use active_part::Part;
+use capability::Body;
+use checkpoint::Wish;
+use eden_value::texted;
+use edentypes::{find, first_values};
+use epl_syntax::Types;
+use passive_store::Pick;
+use plain_ejects::*;
+use std::alloc::Global;
+use std::process::Abort;
+
+/// A new Cell.
+fn cell(rt: &impl Abort, alloc: Global) -> Option<PlainEject> {
+    let types = Types::native(alloc).expect(rt, "memory");
+    let bytes = Vec::from_slice(alloc, b"Cell").expect(rt, "memory");
+    let name = texted(bytes).expect(rt, "memory");
+    let Some(kind) = find(&types, &name) else {
+        return None;
+    };
+    let vars = first_values(alloc, &types, kind).expect(rt, "memory");
+    let part = Part::fresh(alloc, &types, kind, vars).expect(rt, "memory");
+    Some(PlainEject::created(alloc, part))
+}
+
+/// A put of one byte.
+fn put(rt: &impl Abort, alloc: Global) -> Wish {
+    let items = Vec::from_slice(alloc, &[7]).expect(rt, "memory");
+    let body = Body { items };
+    Wish::Put { body }
+}
+
+/// How many calls are turned away, of a passive Eject.
+fn turned_away(alloc: Global, eject: &mut PlainEject) -> usize {
+    if eject.part.is_some() {
+        return 0;
+    }
+    eject.turn_away(alloc).items.len()
+}
+
+/// A new Cell with two calls queued, the second behind the end of its active part.
+fn queue_stays(rt: &impl Abort, alloc: Global) {
+    let Some(mut eject) = cell(rt, alloc) else {
+        assert!(rt; false);
+        return;
+    };
+    eject.enqueue(1, 0).expect(rt, "memory");
+    assert!(rt; eject.is_active());
+    assert!(rt; eject.deactivate().is_some());
+    assert!(rt; !eject.is_there());
+    eject.enqueue(2, 0).expect(rt, "memory");
+    assert!(rt; turned_away(alloc, &mut eject) == 2);
+    assert!(rt; turned_away(alloc, &mut eject) == 0);
+}
+
+#[test]
+fn a_queue_stays_behind_the_active_part(rt: HostRuntime) {
+    queue_stays(&rt, rt.alloc());
+}
+
+/// A new Cell that falls with a put in doubt, which was not made; and then with one that was.
+fn doubt_is_settled(rt: &impl Abort, alloc: Global) {
+    let Some(mut eject) = cell(rt, alloc) else {
+        assert!(rt; false);
+        return;
+    };
+    eject.leave_in_doubt(put(rt, alloc));
+    eject.fall(alloc);
+    assert!(rt; !eject.is_active());
+    assert!(rt; eject.is_there());
+    eject.settle(Pick::Old);
+    assert!(rt; !eject.is_there());
+    eject.leave_in_doubt(put(rt, alloc));
+    eject.settle(Pick::New);
+    assert!(rt; eject.is_there());
+    eject.keep(Wish::Delete);
+    assert!(rt; !eject.is_there());
+}
+
+#[test]
+fn a_change_in_doubt_is_settled(rt: HostRuntime) {
+    doubt_is_settled(&rt, rt.alloc());
+}

@@ -1,0 +1,32 @@
+use Rattle.std.proofs.Common.{◌≡◌, ◌∙◌, ℕ, List, Option, None, Some, ap, subst}
+use Rattle.std.specs.Prelude.{IfSome}
+use Rattle.std.specs.Option.{option_map}
+use Rattle.eden_model.specs.Crew.{serving_pairs}
+use Rattle.epl_syntax.specs.Rules.OfTypes.{TypeList}
+use Rattle.journal.specs.Ejects.{with_active}
+use Rattle.journal.specs.World.{Eject}
+use Rattle.active_part.specs.Body.{active_of, calls_of}
+use Rattle.active_part.specs.View.{body_of}
+use Rattle.active_part.specs.declared.part.Part.{Part}
+use Rattle.plain_ejects.specs.declared.PlainEject.{PlainEject}
+use Rattle.plain_ejects.specs.View.{eject_of, change_of, queue_of}
+use Rattle.plain_ejects.proofs.PlainEject.deactivate.Goals as goal
+
+-- the Eject with no active part and this queue
+abbrev asleep : PlainEject → List ℕ → Eject
+asleep e queued = record { active = None; queued = queued; kept = e.kept; doubt = option_map change_of e.doubt }
+
+deactivated-as : (ts : TypeList) (e : PlainEject) (p : Part) (new : Option Part) (queued : List ℕ) → Some p ≡ e.part → new ≡ None
+    → queued ≡ calls_of (body_of ts p).crew.queued
+    → eject_of ts (record e { part = new; waiting = queued }) ≡ with_active None (eject_of ts e)
+deactivated-as ts e p new queued is gone left = ap (λ n. eject_of ts (record e { part = n; waiting = queued })) gone
+    ∙ (ap (asleep e) left ∙ ap (λ o. asleep e (queue_of ts o e.waiting)) is)
+
+pub returns-in-Some-clause-running : goal.returns-in-Some-clause-running
+returns-in-Some-clause-running c ts = subst (λ o. IfSome (option_map (λ (p : Part). active_of (body_of ts p)) o)
+    (λ it. c.taken_apart-queued.result.1 ≡ serving_pairs it.crew.processes)) c.in-Some.ensures.value
+    (c.taken_apart-queued.ensures.running ts)
+
+pub returns-in-Some-clause-after : goal.returns-in-Some-clause-after
+returns-in-Some-clause-after c ts = deactivated-as ts c.args.self.now c.in-Some.part c.replace.new.dest c.taken_apart-queued.result.0
+    c.in-Some.ensures.value c.in-Some.ensures.after (c.taken_apart-queued.ensures.queued ts)
