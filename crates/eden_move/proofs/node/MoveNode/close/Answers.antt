@@ -1,0 +1,9 @@
+use Rattle.eden_move.proofs.Calling.{closed-went}
+use Rattle.eden_move.proofs.node.MoveNode.close.Goals.{in-Ok, in-Err}
+use Rattle.eden_move.proofs.node.MoveNode.close.Goals as goal
+
+pub returns-clause-carries : goal.returns-clause-carries
+returns-clause-carries g c tells to fits x up s = elim c.match-carry.branch [
+  | in-Ok w ↦ rw w.result-is (closed-went _ _ _ x _ _ _ _ (w.in-Ok.ensures.carries tells fits x up s))
+  | in-Err w ↦ rw w.result-is (w.in-Err.ensures.carries tells fits x up s)
+]

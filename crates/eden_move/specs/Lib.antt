@@ -1,0 +1,4 @@
+pub mod Records
+pub mod Minds
+pub mod Calls
+pub mod Shown
