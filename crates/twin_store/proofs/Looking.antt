@@ -1,0 +1,188 @@
+-- A look at what a pair of disks keeps.
+use Rattle.std.specs.Prelude.{◌≡◌, ◌⊎◌, ℕ, Bool, true, false, IsTrue, List, Option, None, Some, Result, Ok, Err, IfErr, OnOk, OnErr}
+use Rattle.std.proofs.Common.{refl, sym, ap, subst, ◌∙◌, inl, inr}
+use Rattle.std.specs.FinMap as map
+use Rattle.capability.specs.declared.Uid.{Uid}
+use Rattle.passive_store.specs.Kept.{Layout, IsEject}
+use Rattle.twin_store.specs.declared.served.TwinRefusal.{TwinRefusal}
+use Rattle.twin_store.specs.declared.served.TwinRefusal.TheVariants.{Lost}
+use Rattle.twin_store.specs.Vouched.{Bodies}
+use Rattle.twin_store.specs.Serving.{IfFound}
+use Rattle.twin_store.specs.Sides.{SideSeen, is_in_use, disk_of, bodies_on, SideServes}
+use Rattle.twin_store.specs.Twins.{TwinSeen, pair, IsTwinReady, Holds, TwinGoes, TwinChanges, ChangesFirst, ChangesSecond, LooksFirst}
+use Rattle.twin_store.specs.Twins.{TwinGets, Raises}
+use Rattle.twin_store.proofs.Vouching.{one_of}
+use Rattle.twin_store.proofs.Going.{both_ways, goes_none, goes_on, used_or_not}
+use Rattle.twin_store.proofs.Changing.{vouched_as, leaves_none, call_may}
+use Rattle.twin_store.proofs.Changing as change
+
+-- a change of nothing
+first_changes : {U : Type 0} (tells : Bool) (layout : Layout) (r : Result U TwinRefusal) (a b : TwinSeen)
+    → ChangesFirst {T = U} tells layout None r a b → TwinChanges {T = U} tells layout None r a b
+first_changes tells layout r a b f = record { goes = f.goes; held = f.held; sure = f.sure; vouched = f.vouched }
+
+second_changes : {U : Type 0} (tells : Bool) (layout : Layout) (r : Result U TwinRefusal) (a b : TwinSeen)
+    → ChangesSecond {T = U} tells layout None r a b → TwinChanges {T = U} tells layout None r a b
+second_changes tells layout r a b f = record { goes = f.goes; held = f.held; sure = f.sure; vouched = f.vouched }
+
+module _ (tells : Bool) (layout : Layout) (uid : Uid) (node generation : ℕ) where
+  -- 1. The first disk
+
+  pub first_out : (first second : SideSeen) → IsTwinReady (pair node generation first second) → is_in_use first ≡ false
+      → LooksFirst tells layout uid (Ok None) (pair node generation first second) (pair node generation first second)
+  first_out first second ready off = record {
+    changes = first_changes tells layout _ _ _ (change.first_out tells layout None node generation tt None first second ready off);
+    gone = off;
+    found = λ so held h. tt;
+  }
+
+  pub first_refused : (e : TwinRefusal) (old new second : SideSeen) → is_in_use old ≡ true
+      → SideServes {T = Option (List ℕ)} tells layout node None (Err e) old new
+      → LooksFirst tells layout uid (Err e) (pair node generation old second) (pair node generation new second)
+  first_refused e old new second on s = record {
+    changes = first_changes tells layout _ _ _ (change.first_refused tells layout None node generation tt e old new second on s);
+    gone = tt;
+    found = λ so held h. tt;
+  }
+
+  pub first_found : (body : Option (List ℕ)) (old new second : SideSeen) → IsTwinReady (pair node generation old second) → IsEject node uid
+      → is_in_use old ≡ true → SideServes {T = Option (List ℕ)} tells layout node None (Ok (Some body)) old new
+      → (IsTrue tells → is_in_use old ≡ true → body ≡ map.get (bodies_on old) uid)
+      → LooksFirst tells layout uid (Ok (Some body)) (pair node generation old second) (pair node generation new second)
+  first_found body old new second ready own on s found = record {
+    changes = first_changes tells layout _ _ _
+        (change.first_done tells layout None node generation tt body (Some body) old new second ready s);
+    gone = tt;
+    found = λ so held h. found so on ∙ (h.first on).same uid own;
+  }
+
+  pub raise_failed : (e : TwinRefusal) (old new second behind : SideSeen) → is_in_use old ≡ true
+      → SideServes {T = Option (List ℕ)} tells layout node None (Ok None) old new
+      → Raises tells layout node generation (Err e) second behind
+      → LooksFirst tells layout uid (Err e) (pair node generation old second) (pair node generation new behind)
+  raise_failed e old new second behind on s r = record {
+    changes = first_changes tells layout _ _ _ (change.first_spent tells layout None node generation tt e old new second behind on s r);
+    gone = tt;
+    found = λ so held h. tt;
+  }
+
+  pub first_left : (n : ℕ) (old new second behind : SideSeen) → IsTwinReady (pair node generation old second) → is_in_use old ≡ true
+      → SideServes {T = Option (List ℕ)} tells layout node None (Ok None) old new → Raises tells layout node generation (Ok n) second behind
+      → LooksFirst tells layout uid (Ok None) (pair node generation old second) (pair node n new behind)
+  first_left n old new second behind ready on s r = record {
+    changes = first_changes tells layout _ _ _
+        (change.first_left tells layout None node generation tt n None old new second behind ready on s r);
+    gone = s.used;
+    found = λ so held h. tt;
+  }
+
+  -- 2. The second disk
+
+  pub second_refused : (e : TwinRefusal) (first old new : SideSeen) → is_in_use old ≡ true
+      → SideServes {T = Option (List ℕ)} tells layout node None (Err e) old new
+      → TwinGets tells layout uid (Err e) (pair node generation first old) (pair node generation first new)
+  second_refused e first old new on s = record {
+    changes = second_changes tells layout _ _ _ (change.second_refused tells layout None node generation tt e first old new on s);
+    found = λ so. tt;
+  }
+
+  pub second_found : (body : Option (List ℕ)) (first old new : SideSeen) → IsTwinReady (pair node generation first old) → IsEject node uid
+      → SideServes {T = Option (List ℕ)} tells layout node None (Ok (Some body)) old new
+      → (IsTrue tells → is_in_use old ≡ true → body ≡ map.get (bodies_on old) uid)
+      → TwinGets tells layout uid (Ok body) (pair node generation first old) (pair node generation first new)
+  second_found body first old new ready own s found = record {
+    changes = second_changes tells layout _ _ _ (change.second_done tells layout None node generation tt body body first old new ready s);
+    found = λ so held h. let on : is_in_use old ≡ true = s.goes.left s.used in found so on ∙ (h.second on).same uid own;
+  }
+
+  pub second_lost : (first old new : SideSeen) → is_in_use first ≡ false → is_in_use old ≡ true
+      → SideServes {T = Option (List ℕ)} tells layout node None (Ok None) old new
+      → TwinGets tells layout uid (Err Lost) (pair node generation first old) (pair node generation first new)
+  second_lost first old new off on s = record {
+    changes = record {
+      goes = record { node = refl; first = goes_none first; second = s.goes; ready = tt; lost = λ is. (off, s.used) };
+      held = λ so. tt;
+      sure = λ so. tt;
+      vouched = λ so held h sure.
+          vouched_as layout node held None false false (is_in_use first) (is_in_use new) (disk_of first).told (disk_of new).told off s.used
+          (leaves_none layout node held None _ _ (disk_of first).told (disk_of new).told (sure.first off)
+          (call_may {T = Option (List ℕ)} tells layout node generation held None (Ok None) old new s so tt on (h.second on)));
+    };
+    found = λ so. tt;
+  }
+
+-- 3. Both
+
+pub got_first : (tells : Bool) (layout : Layout) (uid : Uid) (body : Option (List ℕ)) (a b : TwinSeen)
+    → LooksFirst tells layout uid (Ok (Some body)) a b → TwinGets tells layout uid (Ok body) a b
+got_first tells layout uid body a b l = record {
+  changes = record {
+    goes = record {
+      node = l.changes.goes.node;
+      first = l.changes.goes.first;
+      second = l.changes.goes.second;
+      ready = l.changes.goes.ready;
+      lost = tt;
+    };
+    held = l.changes.held;
+    sure = l.changes.sure;
+    vouched = λ so. tt;
+  };
+  found = l.found;
+}
+
+pub got_none : (tells : Bool) (layout : Layout) (uid : Uid) (e : TwinRefusal) (a b : TwinSeen) → LooksFirst tells layout uid (Err e) a b
+    → TwinGets tells layout uid (Err e) a b
+got_none tells layout uid e a b l = record {
+  changes = record {
+    goes = record {
+      node = l.changes.goes.node;
+      first = l.changes.goes.first;
+      second = l.changes.goes.second;
+      ready = tt;
+      lost = l.changes.goes.lost;
+    };
+    held = λ so. tt;
+    sure = λ so. tt;
+    vouched = l.changes.vouched;
+  };
+  found = λ so. tt;
+}
+
+pub got_second : (tells : Bool) (layout : Layout) (uid : Uid) (r : Result (Option (List ℕ)) TwinRefusal) (a b c : TwinSeen)
+    → LooksFirst tells layout uid (Ok None) a b → TwinGets tells layout uid r b c → TwinGets tells layout uid r a c
+got_second tells layout uid (Ok body) a b c l g = record {
+  changes = record {
+    goes = record {
+      node = g.changes.goes.node
+          ∙ l.changes.goes.node;
+      first = goes_on a.first b.first c.first l.changes.goes.first g.changes.goes.first;
+      second = goes_on a.second b.second c.second l.changes.goes.second g.changes.goes.second;
+      ready = g.changes.goes.ready;
+      lost = tt;
+    };
+    held = λ so held h. g.changes.held so held (l.changes.held so held h);
+    sure = λ so held h sure. g.changes.sure so held (l.changes.held so held h) (l.changes.sure so held h sure);
+    vouched = λ so. tt;
+  };
+  found = λ so held h. g.found so held (l.changes.held so held h);
+}
+got_second tells layout uid (Err e) a b c l g = record {
+  changes = record {
+    goes = record {
+      node = g.changes.goes.node
+          ∙ l.changes.goes.node;
+      first = goes_on a.first b.first c.first l.changes.goes.first g.changes.goes.first;
+      second = goes_on a.second b.second c.second l.changes.goes.second g.changes.goes.second;
+      ready = tt;
+      lost = g.changes.goes.lost;
+    };
+    held = λ so. tt;
+    sure = λ so. tt;
+    vouched = λ so held h sure. g.changes.vouched so held (l.changes.held so held h) (l.changes.sure so held h sure);
+  };
+  found = λ so. tt;
+}
+
+pub second_in_use : (t : TwinSeen) → IsTwinReady t → is_in_use t.first ≡ false → is_in_use t.second ≡ true
+second_in_use t ready off = one_of ready.some (λ on. absurd (both_ways (is_in_use t.first) on off)) (λ on. on)

@@ -1,0 +1,14 @@
+use Rattle.std.proofs.Common.{subst}
+use Rattle.std.specs.Prelude.{Some, None, Ok}
+use Rattle.passive_store.specs.Seen.{disk_seen}
+use Rattle.twin_store.specs.Twins.{LooksFirst, twin_seen}
+use Rattle.twin_store.proofs.Looking.{got_second}
+use Rattle.twin_store.proofs.twin.TwinStore.get.Goals as goal
+
+pub returns-in-None : goal.returns-in-None
+returns-in-None g c =
+    let of = twin_seen g.St.Store.seen (disk_seen g.St.Device.Disk.counts g.St.Device.Disk.told g.St.Device.Disk.due) in
+    got_second _ g.St.Store.layout _ _ (of c.args.self.now) (of c.get_first.new.self) (of c.get_second.new.self)
+    (subst (λ r. LooksFirst g.St.Device.Disk.tells g.St.Store.layout c.args.uid (Ok r) (of c.args.self.now) (of c.get_first.new.self))
+    c.in-None.is c.in_ok-found.ensures)
+    c.get_second.ensures

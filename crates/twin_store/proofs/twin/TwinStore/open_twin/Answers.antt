@@ -1,0 +1,39 @@
+use Rattle.passive_store.specs.Seen.{disk_seen}
+use Rattle.twin_store.specs.Sides.{side_seen}
+use Rattle.twin_store.specs.Twins.{twin_seen}
+use Rattle.twin_store.proofs.Openings.{first_unopened, second_refused, opened_twin, closed_vouched}
+use Rattle.twin_store.proofs.twin.TwinStore.open_twin.Goals as goal
+
+pub returns-in-Err-clause-vouched : goal.returns-in-Err-clause-vouched
+returns-in-Err-clause-vouched g c = λ so l v k own h.
+    let look = disk_seen g.St.Device.Disk.counts g.St.Device.Disk.told g.St.Device.Disk.due in
+    let of = side_seen g.St.Store.seen look in
+    first_unopened g.St.Store.layout c.args.node (look c.args.first) (look c.in-Err.disk) (look c.args.second) v k
+    (c.in-Err.ensures.stands so) h
+
+pub returns-in-Err-open-clause-vouched : goal.returns-in-Err-open-clause-vouched
+returns-in-Err-open-clause-vouched g c =
+    let look = disk_seen g.St.Device.Disk.counts g.St.Device.Disk.told g.St.Device.Disk.due in
+    let of = side_seen g.St.Store.seen look in
+    second_refused g.St.Device.Disk.tells g.St.Store.layout c.args.node (look c.args.first) (look c.args.second) (look c.in-Err-open.disk)
+    (look c.close.result)
+    (of c.in-Ok.side) c.close.ensures c.in-Ok.ensures.opened c.in-Err-open.ensures.stands
+
+pub returns-in-Ok-agree-clause-opened : goal.returns-in-Ok-agree-clause-opened
+returns-in-Ok-agree-clause-opened g c =
+    let look = disk_seen g.St.Device.Disk.counts g.St.Device.Disk.told g.St.Device.Disk.due in
+    let of = side_seen g.St.Store.seen look in
+    opened_twin g.St.Device.Disk.tells g.St.Store.layout c.args.node 0 (look c.args.first) (look c.args.second) (of c.in-Ok.side)
+    (of c.in-Ok-open.side)
+    c.in-Ok.ensures.opened c.in-Ok-open.ensures.opened (twin_seen g.St.Store.seen look c.agree.new.self)
+    c.in-Ok-agree.ensures.moves c.in-Ok-agree.ensures.agrees
+
+pub returns-in-Err-agree-clause-vouched : goal.returns-in-Err-agree-clause-vouched
+returns-in-Err-agree-clause-vouched g c =
+    let look = disk_seen g.St.Device.Disk.counts g.St.Device.Disk.told g.St.Device.Disk.due in
+    let of = side_seen g.St.Store.seen look in
+    closed_vouched g.St.Device.Disk.tells g.St.Store.layout c.args.node 0 (look c.args.first) (look c.args.second) (of c.in-Ok.side)
+    (of c.in-Ok-open.side)
+    c.in-Ok.ensures.opened c.in-Ok-open.ensures.opened (twin_seen g.St.Store.seen look c.agree.new.self) c.in-Err-agree.refusal
+    (look c.close-first.result.0) (look c.close-first.result.1) c.close-first.ensures.0 c.close-first.ensures.1
+    c.in-Err-agree.ensures.moves c.in-Err-agree.ensures.agrees

@@ -1,0 +1,9 @@
+pub mod Copies
+pub mod Footings
+pub mod LegalTwin
+pub mod Ranks
+pub mod Serving
+pub mod Sides
+pub mod Twins
+pub mod Vouched
+pub mod VouchedLaws
