@@ -1,0 +1,2 @@
+-- What a store has to be between two commands.
+pub mod Ready
