@@ -7,6 +7,8 @@ ghost use Rattle.epl_syntax.specs.Rules.InItems as rules;
 ghost use Rattle.epl_check.specs.Refusals.{Refuses, refusal_of};
 ghost use Rattle.epl_check.specs.Bodies.{broken_bodies};
 
+use crate::difference::Difference;
+use crate::first::{First, broken_first, unbroken};
 use crate::index::index;
 use crate::item::{
     check_classes, check_operations, check_processes, check_upgrades, check_vars, check_version,
@@ -49,21 +51,21 @@ fn refusal_of(b: Broken) -> CheckRefusal
     }
 }
 
-fn check_var_count(vars: &[VarDecl], first: &mut Option<Broken>)
+fn check_var_count(vars: &[VarDecl], first: &mut First)
     ensures { first.new ≡ least first.old
         (rules.too_many 64 (rules.places_of (rules.names_of_vars (map tree.variable vars.now)))) }
 {
     check_count(64, vars, first);
 }
 
-fn check_operation_count(operations: &[OpDecl], first: &mut Option<Broken>)
+fn check_operation_count(operations: &[OpDecl], first: &mut First)
     ensures { first.new ≡ least first.old
         (rules.too_many 32 (rules.places_of (rules.names_of_operations (map tree.operation operations.now)))) }
 {
     check_count(32, operations, first);
 }
 
-fn check_process_count(processes: &[ProcDecl], first: &mut Option<Broken>)
+fn check_process_count(processes: &[ProcDecl], first: &mut First)
     ensures { first.new ≡ least first.old
         (rules.too_many 8 (rules.places_of (rules.names_of_processes (map tree.process processes.now)))) }
 {
@@ -71,7 +73,7 @@ fn check_process_count(processes: &[ProcDecl], first: &mut Option<Broken>)
 }
 
 #[tactic(auto, using(crate::proofs::Least::least_append))]
-fn check_counts(program: &Program, first: &mut Option<Broken>)
+fn check_counts(program: &Program, first: &mut First)
     ensures { first.new ≡ least first.old (rules.broken_counts (tree.type_tree program.now)) }
 {
     check_var_count(&program.vars, first);
@@ -83,7 +85,7 @@ fn check_counts(program: &Program, first: &mut Option<Broken>)
 }
 
 /// Names that begin with a small letter.
-fn check_small_names(program: &Program, first: &mut Option<Broken>)
+fn check_small_names(program: &Program, first: &mut First)
     ensures { first.new ≡ least first.old (rules.broken_small_names (tree.type_tree program.now)) }
 {
     let none: &[Name] = &[];
@@ -96,7 +98,7 @@ fn check_small_names(program: &Program, first: &mut Option<Broken>)
 }
 
 /// Names that begin with a great letter.
-fn check_great_names(program: &Program, first: &mut Option<Broken>)
+fn check_great_names(program: &Program, first: &mut First)
     ensures { first.new ≡ least first.old (rules.broken_great_names (tree.type_tree program.now)) }
 {
     let none: &[Name] = &[];
@@ -111,7 +113,7 @@ fn check_great_names(program: &Program, first: &mut Option<Broken>)
 fn check_upgrade_numbers(
     alloc: Global,
     program: &Program,
-    first: &mut Option<Broken>,
+    first: &mut First,
 ) -> Result<(), AllocError>
     ensures { OnOk result (first.new ≡ least first.old (rules.broken_numbers (tree.type_tree program.now))) }
 {
@@ -120,7 +122,7 @@ fn check_upgrade_numbers(
 
 /// What the operations, the processes and the upgrades of a type break, whose names are numbered.
 #[tactic(auto, using(crate::proofs::Least::least_append))]
-fn check_each_body(around: &Surroundings<'_>, first: &mut Option<Broken>) -> Result<(), AllocError>
+fn check_each_body(around: &Surroundings<'_>, first: &mut First) -> Result<(), AllocError>
     ensures { OnOk result (first.new ≡ least first.old
         (broken_bodies (names_of around.now.earlier.now) (tree.type_tree around.now.program.now))) }
 {
@@ -134,7 +136,7 @@ fn check_bodies(
     alloc: Global,
     program: &Program,
     earlier: &Types,
-    first: &mut Option<Broken>,
+    first: &mut First,
 ) -> Result<(), AllocError>
     ensures { OnOk result (first.new ≡ least first.old (broken_bodies (names_of earlier.now) (tree.type_tree program.now))) }
 {
@@ -161,7 +163,7 @@ fn check_program(
     alloc: Global,
     program: &Program,
     earlier: &Types,
-    first: &mut Option<Broken>,
+    first: &mut First,
 ) -> Result<(), AllocError>
     ensures { OnOk result (first.new ≡ least first.old
         (rules.broken_program (names_of earlier.now) (tree.type_tree program.now))) }
@@ -186,12 +188,23 @@ pub fn check(alloc: Global, program: &Program, earlier: &Types) -> Result<(), Ch
     ensures ok { IfOk result (λ _. rules.broken_program (names_of earlier.now) (tree.type_tree program.now) ≡ []) }
     ensures refused { IfErr result (Refuses (rules.broken_program (names_of earlier.now) (tree.type_tree program.now))) }
 {
-    let mut first = None;
+    let mut first = unbroken();
     if check_program(alloc, program, earlier, &mut first).is_err() {
         return Err(CheckRefusal::OutOfMemory);
     }
-    match first {
+    match broken_first(&first) {
         None => Ok(()),
         Some(b) => Err(refusal_of(b)),
     }
+}
+
+/// How kinds, or numbers of values, differ at the place that `check` answers, where it answers `KindDiffers`.
+pub fn kind_difference(
+    alloc: Global,
+    program: &Program,
+    earlier: &Types,
+) -> Result<Option<Difference>, AllocError> {
+    let mut first = unbroken();
+    check_program(alloc, program, earlier, &mut first)?;
+    Ok(first.difference)
 }

@@ -9,7 +9,8 @@ ghost use Rattle.epl_syntax.specs.Rules.InStatements as statements;
 ghost use Rattle.eden_value.specs.Shape.{ints, shape};
 ghost use Rattle.epl_check.specs.View.{found, first_of, seen, seen_of};
 
-use crate::first::tell_if;
+use crate::difference::Difference;
+use crate::first::{First, tell_difference, tell_if};
 use crate::fit::{
     Operand, arity, check_constant, fit, fit_argument, fit_known, fit_list, kind_of_application,
     kind_of_prefix, operated,
@@ -17,7 +18,7 @@ use crate::fit::{
 use crate::kinds::{copy_of, if_listed, item_of};
 use crate::scope::{Scope, Variable};
 use eden_value::Kind;
-use epl_syntax::{Broken, Builtin, Expr, Name, Prefix, Rule};
+use epl_syntax::{Builtin, Expr, Name, Prefix, Rule};
 use std::alloc::{AllocError, Global};
 
 /// The place of an expression's first token.
@@ -68,12 +69,7 @@ fn kind_of_variable(
     }
 }
 
-fn check_use_of(
-    held: Option<usize>,
-    variable: Option<Variable<'_>>,
-    place: u32,
-    first: &mut Option<Broken>,
-)
+fn check_use_of(held: Option<usize>, variable: Option<Variable<'_>>, place: u32, first: &mut First)
     ensures { first.new ≡ least first.old (rules.broken_use_of held (seen_of variable.entry) place) }
 {
     match variable {
@@ -92,7 +88,7 @@ pub(crate) fn check_use(
     scope: &Scope<'_>,
     held: Option<usize>,
     name: &Name,
-    first: &mut Option<Broken>,
+    first: &mut First,
 ) -> Result<Option<Kind>, AllocError>
     ensures kind { IfOk result (λ k. found k ≡ kinds.kind_named (seen scope.now) name.now.text) }
     ensures told { first.new ≡ least first.old (rules.broken_use (seen scope.now) held name.now) }
@@ -124,7 +120,7 @@ pub(crate) fn check_expression(
     scope: &Scope<'_>,
     held: Option<usize>,
     e: &Expr,
-    first: &mut Option<Broken>,
+    first: &mut First,
 ) -> Result<Option<Kind>, AllocError>
     ensures kind { IfOk result (λ k. found k ≡ kinds.kind_of (seen scope.now) (tree.expression e.now)) }
     ensures told { OnOk result (first.new ≡ least first.old
@@ -177,7 +173,7 @@ fn check_prefixed(
     held: Option<usize>,
     prefix: Prefix,
     of: &Expr,
-    first: &mut Option<Broken>,
+    first: &mut First,
 ) -> Result<Option<Kind>, AllocError>
     ensures kind { IfOk result (λ k. found k ≡ Some (kinds.kind_of_prefix prefix)) }
     ensures told { OnOk result (first.new ≡ least first.old
@@ -196,7 +192,7 @@ fn check_list(
     scope: &Scope<'_>,
     held: Option<usize>,
     e: &Expr,
-    first: &mut Option<Broken>,
+    first: &mut First,
 ) -> Result<Option<Kind>, AllocError>
     ensures kind { IfOk result (λ k. found k ≡ kinds.kind_of (seen scope.now) (tree.expression e.now)) }
     ensures told { OnOk result (first.new ≡ least first.old
@@ -216,7 +212,7 @@ fn check_number(
     scope: &Scope<'_>,
     held: Option<usize>,
     e: &Expr,
-    first: &mut Option<Broken>,
+    first: &mut First,
 ) -> Result<(), AllocError>
     ensures { OnOk result (first.new ≡ least first.old
         (statements.broken_as ints (seen scope.now) held (tree.expression e.now))) }
@@ -235,7 +231,7 @@ fn check_application(
     builtin: Builtin,
     args: &[Expr],
     place: u32,
-    first: &mut Option<Broken>,
+    first: &mut First,
 ) -> Result<Option<Kind>, AllocError>
     ensures kind { IfOk result (λ k. found k ≡ kinds.kind_of_application builtin
         (kinds.kind_of_first (seen scope.now) (tree.expressions args.now))) }
@@ -244,12 +240,11 @@ fn check_application(
         ++ rules.broken_arguments (seen scope.now) held
         (kinds.argument_tests builtin (kinds.kind_of_first (seen scope.now) (tree.expressions args.now))) (tree.expressions args.now))) }
 {
-    tell_if(
-        args.len() != arity(builtin),
-        Rule::KindDiffers,
-        place,
-        first,
-    );
+    let difference = Difference::Count {
+        wanted: arity(builtin),
+        found: args.len(),
+    };
+    tell_difference(args.len() != arity(builtin), difference, place, first);
     let of_first = check_arguments(scope, held, builtin, args, first)?;
     Ok(kind_of_application(builtin, of_first))
 }
@@ -261,7 +256,7 @@ fn check_items(
     scope: &Scope<'_>,
     held: Option<usize>,
     items: &[Expr],
-    first: &mut Option<Broken>,
+    first: &mut First,
 ) -> Result<Option<Kind>, AllocError>
     ensures kind { IfOk result (λ k. found k ≡ kinds.kind_of_first (seen scope.now) (tree.expressions items.now)) }
     ensures told { OnOk result (first.new ≡ least first.old
@@ -287,7 +282,7 @@ fn check_arguments(
     held: Option<usize>,
     builtin: Builtin,
     args: &[Expr],
-    first: &mut Option<Broken>,
+    first: &mut First,
 ) -> Result<Option<Kind>, AllocError>
     ensures kind { IfOk result (λ k. found k ≡ kinds.kind_of_first (seen scope.now) (tree.expressions args.now)) }
     ensures told { OnOk result (first.new ≡ least first.old

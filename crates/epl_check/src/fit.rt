@@ -7,31 +7,31 @@ ghost use Rattle.epl_syntax.specs.Rules.KindsOf as kinds;
 ghost use Rattle.epl_syntax.specs.Rules.InExpressions as rules;
 ghost use Rattle.epl_check.specs.View.{found, passes_at, at_place};
 
-use crate::first::tell_if;
+use crate::difference::{Difference, shape_of};
+use crate::first::{First, tell_difference, tell_if};
 use crate::kinds::{copy_of, has_size, if_list, if_sized, is_list, is_within, list_of, same};
 use eden_value::Kind;
-use epl_syntax::{Broken, Builtin, Const, Operator, Prefix, Rule, WrittenKind};
+use epl_syntax::{Builtin, Const, Operator, Prefix, Rule, WrittenKind};
 use std::alloc::{AllocError, Global};
 
 /// A kind that is written is at most so many lists deep.
 const DEPTH_LIMIT: u8 = 4;
 
 /// Tells where one kind stands for another.
-pub(crate) fn fit(wanted: &Kind, kind: &Option<Kind>, place: u32, first: &mut Option<Broken>)
+pub(crate) fn fit(wanted: &Kind, kind: &Option<Kind>, place: u32, first: &mut First)
     ensures { first.new ≡ least first.old (rules.misfit (shape wanted.now) (found kind.now) place) }
 {
     if let Some(kind) = kind {
-        tell_if(!same(wanted, kind), Rule::KindDiffers, place, first);
+        let difference = Difference::Kind {
+            wanted: shape_of(wanted),
+            found: shape_of(kind),
+        };
+        tell_difference(!same(wanted, kind), difference, place, first);
     }
 }
 
 /// The same, where the wanted kind may be unknown.
-pub(crate) fn fit_known(
-    wanted: &Option<Kind>,
-    kind: &Option<Kind>,
-    place: u32,
-    first: &mut Option<Broken>,
-)
+pub(crate) fn fit_known(wanted: &Option<Kind>, kind: &Option<Kind>, place: u32, first: &mut First)
     ensures { first.new ≡ least first.old (rules.misfit_known (found wanted.now) (found kind.now) place) }
 {
     if let Some(wanted) = wanted {
@@ -40,25 +40,27 @@ pub(crate) fn fit_known(
 }
 
 /// Tells where a kind is not one of lists.
-pub(crate) fn fit_list(kind: &Option<Kind>, place: u32, first: &mut Option<Broken>)
+pub(crate) fn fit_list(kind: &Option<Kind>, place: u32, first: &mut First)
     ensures { first.new ≡ least first.old (rules.failing kinds.is_list (found kind.now) place) }
 {
     if let Some(kind) = kind {
-        tell_if(!is_list(kind), Rule::KindDiffers, place, first);
+        let found = shape_of(kind);
+        tell_difference(!is_list(kind), Difference::List { found }, place, first);
     }
 }
 
 /// Tells where a kind is neither text nor one of lists.
-fn fit_sized(kind: &Option<Kind>, place: u32, first: &mut Option<Broken>)
+fn fit_sized(kind: &Option<Kind>, place: u32, first: &mut First)
     ensures { first.new ≡ least first.old (rules.failing kinds.has_size (found kind.now) place) }
 {
     if let Some(kind) = kind {
-        tell_if(!has_size(kind), Rule::KindDiffers, place, first);
+        let found = shape_of(kind);
+        tell_difference(!has_size(kind), Difference::Sized { found }, place, first);
     }
 }
 
 /// Tells where the right operand of `&` does not fit the left one.
-fn fit_joined(left: &Option<Kind>, right: &Option<Kind>, place: u32, first: &mut Option<Broken>)
+fn fit_joined(left: &Option<Kind>, right: &Option<Kind>, place: u32, first: &mut First)
     ensures { first.new ≡ least first.old (rules.misjoined (kinds.sized_kind (found left.now)) (found right.now) place) }
 {
     match left {
@@ -77,7 +79,7 @@ pub(crate) struct Operand<'a> {
 }
 
 #[tactic(auto, using(crate::proofs::Least::least_append))]
-fn fit_both(wanted: &Kind, left: Operand<'_>, right: Operand<'_>, first: &mut Option<Broken>)
+fn fit_both(wanted: &Kind, left: Operand<'_>, right: Operand<'_>, first: &mut First)
     ensures { first.new ≡ least first.old
         (rules.two_of (shape wanted.now) (found left.entry.kind.now) left.entry.place (found right.entry.kind.now) right.entry.place) }
 {
@@ -87,12 +89,7 @@ fn fit_both(wanted: &Kind, left: Operand<'_>, right: Operand<'_>, first: &mut Op
 
 /// Tells which operands of an operator do not fit.
 #[tactic(auto, using(crate::proofs::Least::least_append))]
-fn fit_operands(
-    operator: Operator,
-    left: Operand<'_>,
-    right: Operand<'_>,
-    first: &mut Option<Broken>,
-)
+fn fit_operands(operator: Operator, left: Operand<'_>, right: Operand<'_>, first: &mut First)
     ensures { first.new ≡ least first.old
         (rules.misfit_operands operator (found left.entry.kind.now) left.entry.place (found right.entry.kind.now) right.entry.place) }
 {
@@ -155,7 +152,7 @@ pub(crate) fn operated(
     left: Option<Kind>,
     left_place: u32,
     right: Operand<'_>,
-    first: &mut Option<Broken>,
+    first: &mut First,
 ) -> Option<Kind>
     ensures kind { found result ≡ kinds.kind_of_operation operator (found left) }
     ensures told { first.new ≡ least first.old
@@ -231,7 +228,7 @@ fn argument_fits(builtin: Builtin, i: usize, of_first: &Option<Kind>, kind: &Kin
 }
 
 /// Tells where a written kind is too deep.
-pub(crate) fn check_kind(kind: &WrittenKind, first: &mut Option<Broken>)
+pub(crate) fn check_kind(kind: &WrittenKind, first: &mut First)
     ensures { first.new ≡ least first.old (rules.broken_kind (written kind.now)) }
 {
     tell_if(
@@ -246,7 +243,7 @@ pub(crate) fn check_kind(kind: &WrittenKind, first: &mut Option<Broken>)
 pub(crate) fn check_constant(
     alloc: Global,
     value: &Const,
-    first: &mut Option<Broken>,
+    first: &mut First,
 ) -> Result<Kind, AllocError>
     ensures kind { IfOk result (λ k. shape k ≡ kinds.kind_of_constant (constant value.now)) }
     ensures told { first.new ≡ least first.old (rules.broken_constant (constant value.now)) }
@@ -264,6 +261,25 @@ pub(crate) fn check_constant(
     }
 }
 
+/// What differs at an argument that does not fit its place.
+fn argument_difference(
+    builtin: Builtin,
+    i: usize,
+    of_first: &Option<Kind>,
+    kind: &Kind,
+) -> Difference {
+    let found = shape_of(kind);
+    let wanted = match (builtin, i, of_first) {
+        (Builtin::Size, _, _) => return Difference::Sized { found },
+        (Builtin::Put | Builtin::Cut, 0, _) => return Difference::List { found },
+        (Builtin::Put, 2, Some(Kind::List { of })) => shape_of(of),
+        (Builtin::Part, 0, _) => shape_of(&Kind::Text),
+        (Builtin::Restrict, 0, _) => shape_of(&Kind::Cap),
+        _ => shape_of(&Kind::Int),
+    };
+    Difference::Kind { wanted, found }
+}
+
 /// Tells where an argument is not as its place wants it.
 pub(crate) fn fit_argument(
     builtin: Builtin,
@@ -271,15 +287,16 @@ pub(crate) fn fit_argument(
     of_first: &Option<Kind>,
     kind: &Option<Kind>,
     place: u32,
-    first: &mut Option<Broken>,
+    first: &mut First,
 )
     ensures { first.new ≡ least first.old
         (rules.failing (passes_at (kinds.argument_tests builtin (found of_first.now)) i) (found kind.now) place) }
 {
     if let Some(kind) = kind {
-        tell_if(
+        let difference = argument_difference(builtin, i, of_first, kind);
+        tell_difference(
             !argument_fits(builtin, i, of_first, kind),
-            Rule::KindDiffers,
+            difference,
             place,
             first,
         );

@@ -10,7 +10,7 @@ ghost use Rattle.epl_check.specs.Numbered.{IsIndex};
 ghost use Rattle.epl_check.specs.View.{found, kind_found, results_of, seen, types_seen};
 
 use crate::expression::{check_expression, place_of};
-use crate::first::tell_if;
+use crate::first::{First, tell_if};
 use crate::fit::{check_constant, check_kind, fit};
 use crate::index::{Listed, Numbers, index};
 use crate::names::{check_among, check_as_variables, check_count, check_doubled, is_past};
@@ -18,13 +18,13 @@ use crate::scope::{Scope, Surroundings};
 use crate::statement::check_block;
 use eden_value::{Kind, Txt};
 use epl_syntax::{
-    Assignment, Broken, ClassDecl, LocalDecl, Name, Number, OpDecl, ParDecl, ProcDecl, Rule, Start,
-    Stmt, UpgradeDecl, VarDecl, WrittenKind, same_text,
+    Assignment, ClassDecl, LocalDecl, Name, Number, OpDecl, ParDecl, ProcDecl, Rule, Start, Stmt,
+    UpgradeDecl, VarDecl, WrittenKind, same_text,
 };
 use std::alloc::{AllocError, Global};
 
 /// Tells where a number is outside its limits.
-pub(crate) fn check_number(low: u64, high: u64, number: &Number, first: &mut Option<Broken>)
+pub(crate) fn check_number(low: u64, high: u64, number: &Number, first: &mut First)
     ensures { first.new ≡ least first.old (rules.outside low high number.now) }
 {
     tell_if(
@@ -40,7 +40,7 @@ fn check_start(
     alloc: Global,
     kind: &WrittenKind,
     start: &Start,
-    first: &mut Option<Broken>,
+    first: &mut First,
 ) -> Result<(), AllocError>
     ensures { OnOk result (first.new ≡ least first.old
         (rules.broken_start (tree.written kind.now) (tree.beginning start.now))) }
@@ -51,7 +51,7 @@ fn check_start(
 }
 
 #[tactic(auto, using(crate::proofs::Least::least_append))]
-fn check_var(alloc: Global, v: &VarDecl, first: &mut Option<Broken>) -> Result<(), AllocError>
+fn check_var(alloc: Global, v: &VarDecl, first: &mut First) -> Result<(), AllocError>
     ensures { OnOk result (first.new ≡ least first.old (rules.broken_var (tree.variable v.now))) }
 {
     check_kind(&v.kind, first);
@@ -61,7 +61,7 @@ fn check_var(alloc: Global, v: &VarDecl, first: &mut Option<Broken>) -> Result<(
 pub(crate) fn check_vars(
     alloc: Global,
     vars: &[VarDecl],
-    first: &mut Option<Broken>,
+    first: &mut First,
 ) -> Result<(), AllocError>
     ensures { OnOk result (first.new ≡ least first.old (flat_map rules.broken_var (map tree.variable vars.now))) }
 {
@@ -72,18 +72,14 @@ pub(crate) fn check_vars(
 }
 
 #[tactic(auto, using(crate::proofs::Least::least_append))]
-fn check_local(alloc: Global, v: &LocalDecl, first: &mut Option<Broken>) -> Result<(), AllocError>
+fn check_local(alloc: Global, v: &LocalDecl, first: &mut First) -> Result<(), AllocError>
     ensures { OnOk result (first.new ≡ least first.old (rules.broken_local (tree.local_of v.now))) }
 {
     check_kind(&v.kind, first);
     check_start(alloc, &v.kind, &v.start, first)
 }
 
-fn check_locals(
-    alloc: Global,
-    locals: &[LocalDecl],
-    first: &mut Option<Broken>,
-) -> Result<(), AllocError>
+fn check_locals(alloc: Global, locals: &[LocalDecl], first: &mut First) -> Result<(), AllocError>
     ensures { OnOk result (first.new ≡ least first.old (flat_map rules.broken_local (map tree.local_of locals.now))) }
 {
     for v in locals {
@@ -92,7 +88,7 @@ fn check_locals(
     Ok(())
 }
 
-pub(crate) fn check_params(params: &[ParDecl], first: &mut Option<Broken>)
+pub(crate) fn check_params(params: &[ParDecl], first: &mut First)
     ensures { first.new ≡ least first.old (flat_map rules.broken_param (map tree.parameter params.now)) }
 {
     for p in params {
@@ -100,7 +96,7 @@ pub(crate) fn check_params(params: &[ParDecl], first: &mut Option<Broken>)
     }
 }
 
-fn check_kinds(kinds: &[WrittenKind], first: &mut Option<Broken>)
+fn check_kinds(kinds: &[WrittenKind], first: &mut First)
     ensures { first.new ≡ least first.old (flat_map expressions.broken_kind (map tree.written kinds.now)) }
 {
     for kind in kinds {
@@ -108,7 +104,7 @@ fn check_kinds(kinds: &[WrittenKind], first: &mut Option<Broken>)
     }
 }
 
-pub(crate) fn check_classes(classes: &[ClassDecl], first: &mut Option<Broken>)
+pub(crate) fn check_classes(classes: &[ClassDecl], first: &mut First)
     ensures { first.new ≡ least first.old (flat_map rules.broken_class classes.now) }
 {
     for c in classes {
@@ -121,7 +117,7 @@ fn check_names(
     vars: Listed<'_, VarDecl>,
     params: &[ParDecl],
     locals: &[LocalDecl],
-    first: &mut Option<Broken>,
+    first: &mut First,
 )
     requires { IsIndex vars.numbers.now (map (λ v. v.name) vars.items.now) }
     ensures { first.new ≡ least first.old (rules.broken_names (rules.names_of_vars (map tree.variable vars.entry.items.now))
@@ -135,7 +131,7 @@ fn check_names(
 }
 
 /// Tells where an operation has more than so many results.
-fn check_result_count(results: &[WrittenKind], first: &mut Option<Broken>)
+fn check_result_count(results: &[WrittenKind], first: &mut First)
     ensures { first.new ≡ least first.old (rules.too_many 8 (map (λ k. k.place) (map tree.written results.now))) }
 {
     if let Some(kind) = results.get(8) {
@@ -144,7 +140,7 @@ fn check_result_count(results: &[WrittenKind], first: &mut Option<Broken>)
 }
 
 /// Tells where a body has more than so many variables.
-fn check_local_count(locals: &[LocalDecl], first: &mut Option<Broken>)
+fn check_local_count(locals: &[LocalDecl], first: &mut First)
     ensures { first.new ≡ least first.old
         (rules.too_many 32 (rules.places_of (rules.names_of_locals (map tree.local_of locals.now)))) }
 {
@@ -153,7 +149,7 @@ fn check_local_count(locals: &[LocalDecl], first: &mut Option<Broken>)
 
 /// What stands before the body of an operation.
 #[tactic(auto, using(crate::proofs::Least::least_append))]
-fn check_head(classes: &[ClassDecl], o: &OpDecl, first: &mut Option<Broken>)
+fn check_head(classes: &[ClassDecl], o: &OpDecl, first: &mut First)
     ensures { first.new ≡ least first.old (rules.broken_head (map (λ c. c.name) classes.now) (tree.operation o.now)) }
 {
     check_number(0, 65_535, &o.needs, first);
@@ -221,7 +217,7 @@ fn body_scope<'a>(
 
 /// The declarations of a body.
 #[tactic(auto, using(crate::proofs::Least::least_append))]
-fn check_declared(alloc: Global, o: &OpDecl, first: &mut Option<Broken>) -> Result<(), AllocError>
+fn check_declared(alloc: Global, o: &OpDecl, first: &mut First) -> Result<(), AllocError>
     ensures { OnOk result (first.new ≡ least first.old (rules.broken_declared (tree.operation o.now))) }
 {
     check_params(&o.params, first);
@@ -236,7 +232,7 @@ fn check_body<'a>(
     locals: &'a [LocalDecl],
     results: Option<&'a [WrittenKind]>,
     body: &'a [Stmt],
-    first: &mut Option<Broken>,
+    first: &mut First,
 ) -> Result<(), AllocError>
     ensures { OnOk result (first.new ≡ least first.old (statements.broken_block
         (rules.scope_in (tree.type_tree around.now.program.now)
@@ -261,7 +257,7 @@ fn check_body<'a>(
 fn check_operation<'a>(
     around: &Surroundings<'a>,
     o: &'a OpDecl,
-    first: &mut Option<Broken>,
+    first: &mut First,
 ) -> Result<(), AllocError>
     ensures { OnOk result (first.new ≡ least first.old
         (rules.broken_operation (tree.type_tree around.now.program.now)
@@ -284,7 +280,7 @@ fn check_operation<'a>(
 fn check_process<'a>(
     around: &Surroundings<'a>,
     p: &'a ProcDecl,
-    first: &mut Option<Broken>,
+    first: &mut First,
 ) -> Result<(), AllocError>
     ensures { OnOk result (first.new ≡ least first.old
         (rules.broken_process (tree.type_tree around.now.program.now)
@@ -299,7 +295,7 @@ fn check_process<'a>(
 /// The operations of the type.
 pub(crate) fn check_operations(
     around: &Surroundings<'_>,
-    first: &mut Option<Broken>,
+    first: &mut First,
 ) -> Result<(), AllocError>
     ensures { OnOk result (first.new ≡ least first.old
         (flat_map (rules.broken_operation (tree.type_tree around.now.program.now)
@@ -315,7 +311,7 @@ pub(crate) fn check_operations(
 /// The processes of the type.
 pub(crate) fn check_processes(
     around: &Surroundings<'_>,
-    first: &mut Option<Broken>,
+    first: &mut First,
 ) -> Result<(), AllocError>
     ensures { OnOk result (first.new ≡ least first.old
         (flat_map (rules.broken_process (tree.type_tree around.now.program.now)
@@ -341,12 +337,7 @@ fn durable_named<'a>(vars: &'a [VarDecl], text: &Txt) -> Option<&'a WrittenKind>
 }
 
 /// Tells where a kind stands for one that is written, if one is.
-fn fit_written(
-    wanted: Option<&WrittenKind>,
-    kind: &Option<Kind>,
-    place: u32,
-    first: &mut Option<Broken>,
-)
+fn fit_written(wanted: Option<&WrittenKind>, kind: &Option<Kind>, place: u32, first: &mut First)
     ensures { first.new ≡ least first.old (expressions.misfit_known (kind_found wanted.entry) (found kind.now) place) }
 {
     if let Some(wanted) = wanted {
@@ -360,7 +351,7 @@ fn check_change(
     scope: &Scope<'_>,
     vars: &[VarDecl],
     change: &Assignment,
-    first: &mut Option<Broken>,
+    first: &mut First,
 ) -> Result<(), AllocError>
     ensures { OnOk result (first.new ≡ least first.old
         (rules.broken_change (seen scope.now) (map tree.variable vars.now) (tree.change change.now))) }
@@ -387,7 +378,7 @@ fn check_changes(
     scope: &Scope<'_>,
     vars: &[VarDecl],
     changes: &[Assignment],
-    first: &mut Option<Broken>,
+    first: &mut First,
 ) -> Result<(), AllocError>
     ensures { OnOk result (first.new ≡ least first.old
         (flat_map (rules.broken_change (seen scope.now) (map tree.variable vars.now)) (map tree.change changes.now))) }
@@ -399,7 +390,7 @@ fn check_changes(
 }
 
 /// Tells where an upgrade has more than so many assignments.
-fn check_change_count(changes: &[Assignment], first: &mut Option<Broken>)
+fn check_change_count(changes: &[Assignment], first: &mut First)
     ensures { first.new ≡ least first.old
         (rules.too_many 64 (rules.places_of (rules.names_of_changes (map tree.change changes.now)))) }
 {
@@ -407,7 +398,7 @@ fn check_change_count(changes: &[Assignment], first: &mut Option<Broken>)
 }
 
 /// The names of an upgrade.
-fn check_param_names(vars: Listed<'_, VarDecl>, params: &[ParDecl], first: &mut Option<Broken>)
+fn check_param_names(vars: Listed<'_, VarDecl>, params: &[ParDecl], first: &mut First)
     requires { IsIndex vars.numbers.now (map (λ v. v.name) vars.items.now) }
     ensures { first.new ≡ least first.old (rules.broken_names (rules.names_of_vars (map tree.variable vars.entry.items.now))
         (rules.names_of_params (map tree.parameter params.now))) }
@@ -416,7 +407,7 @@ fn check_param_names(vars: Listed<'_, VarDecl>, params: &[ParDecl], first: &mut 
 }
 
 /// Tells where an upgrade has more than so many parameters.
-fn check_param_count(params: &[ParDecl], first: &mut Option<Broken>)
+fn check_param_count(params: &[ParDecl], first: &mut First)
     ensures { first.new ≡ least first.old
         (rules.too_many 64 (rules.places_of (rules.names_of_params (map tree.parameter params.now)))) }
 {
@@ -433,7 +424,7 @@ fn version_number(version: &Option<Number>) -> u64
     }
 }
 
-pub(crate) fn check_version(version: &Option<Number>, first: &mut Option<Broken>)
+pub(crate) fn check_version(version: &Option<Number>, first: &mut First)
     ensures { first.new ≡ least first.old (rules.broken_version version.now) }
 {
     if let Some(number) = version {
@@ -466,7 +457,7 @@ fn upgrade_scope<'a>(around: &Surroundings<'a>, params: Listed<'a, ParDecl>) -> 
 fn check_upgrade_body<'a>(
     around: &Surroundings<'a>,
     u: &'a UpgradeDecl,
-    first: &mut Option<Broken>,
+    first: &mut First,
 ) -> Result<(), AllocError>
     ensures { OnOk result (first.new ≡ least first.old
         (flat_map (rules.broken_change (rules.scope_of_upgrade (types_seen around.now.program.now.name around.now.earlier.now)
@@ -486,7 +477,7 @@ fn check_upgrade_body<'a>(
 fn check_upgrade<'a>(
     around: &Surroundings<'a>,
     u: &'a UpgradeDecl,
-    first: &mut Option<Broken>,
+    first: &mut First,
 ) -> Result<(), AllocError>
     ensures { OnOk result (first.new ≡ least first.old
         (rules.broken_upgrade (tree.type_tree around.now.program.now)
@@ -502,10 +493,7 @@ fn check_upgrade<'a>(
 }
 
 /// The upgrades of the type.
-pub(crate) fn check_upgrades(
-    around: &Surroundings<'_>,
-    first: &mut Option<Broken>,
-) -> Result<(), AllocError>
+pub(crate) fn check_upgrades(around: &Surroundings<'_>, first: &mut First) -> Result<(), AllocError>
     ensures { OnOk result (first.new ≡ least first.old
         (flat_map (rules.broken_upgrade (tree.type_tree around.now.program.now)
         (types_seen around.now.program.now.name around.now.earlier.now))

@@ -2,6 +2,7 @@
 #![tactic(auto)]
 
 mod checker;
+mod difference;
 mod expression;
 mod first;
 mod fit;
@@ -16,5 +17,6 @@ mod sight;
 mod statement;
 mod walk;
 
-pub use checker::{CheckRefusal, check};
+pub use checker::{CheckRefusal, check, kind_difference};
+pub use difference::{Difference, Plain, Shape};
 pub use resolver::resolve;

@@ -10,12 +10,12 @@ ghost use Rattle.epl_check.specs.Numbered.{IsIndex};
 ghost use Rattle.epl_check.specs.Numbered.{least_with, told_among};
 ghost use Rattle.epl_check.specs.View.{doubled_before, is_past};
 
-use crate::first::tell_if;
+use crate::first::{First, tell_if};
 use crate::index::{Listed, has};
 use eden_value::Txt;
 use epl_syntax::{
-    Assignment, Broken, ClassDecl, CondDecl, LocalDecl, Name, Number, OpDecl, ParDecl, ProcDecl,
-    Rule, UpgradeDecl, VarDecl, same_text,
+    Assignment, ClassDecl, CondDecl, LocalDecl, Name, Number, OpDecl, ParDecl, ProcDecl, Rule,
+    UpgradeDecl, VarDecl, same_text,
 };
 use std::alloc::{AllocError, Global};
 use std::collections::BTreeMap;
@@ -103,7 +103,7 @@ impl Named for Assignment {
 }
 
 /// Tells the first of what is declared past a limit.
-pub(crate) fn check_count<T: Named>(limit: usize, items: &[T], first: &mut Option<Broken>)
+pub(crate) fn check_count<T: Named>(limit: usize, items: &[T], first: &mut First)
     ensures { first.new ≡ least first.old (too_many limit (places_of (map T.named items.now))) }
 {
     if let Some(item) = items.get(limit) {
@@ -124,7 +124,7 @@ fn is_among<T: Named>(items: &[T], text: &Txt) -> bool
 }
 
 /// Tells where a name is not among these.
-pub(crate) fn check_among<T: Named>(items: &[T], name: &Name, first: &mut Option<Broken>)
+pub(crate) fn check_among<T: Named>(items: &[T], name: &Name, first: &mut First)
     ensures { first.new ≡ least first.old
         (broken_if (not (scopes.is_among (map T.named items.now) name.now.text)) UnknownName name.now.place) }
 {
@@ -140,17 +140,17 @@ pub(crate) fn check_among<T: Named>(items: &[T], name: &Name, first: &mut Option
 }
 
 /// Whether something before a place is told already.
-pub(crate) fn is_past(first: &Option<Broken>, place: u32) -> bool
+pub(crate) fn is_past(first: &First, place: u32) -> bool
     ensures { result ≡ is_past first.now place }
 {
-    match first {
+    match first.broken {
         None => false,
         Some(b) => b.place < place,
     }
 }
 
 /// Tells which of these have a name, at the later of both places.
-fn check_clashes<T: Named>(name: &Name, others: &[T], first: &mut Option<Broken>)
+fn check_clashes<T: Named>(name: &Name, others: &[T], first: &mut First)
     ensures { first.new ≡ least first.old (scopes.clashes name.now (map T.named others.now)) }
 {
     if is_past(first, name.place) {
@@ -172,7 +172,7 @@ pub(crate) fn check_doubled<A: Named, B: Named, C: Named>(
     a: &[A],
     b: &[B],
     c: &[C],
-    first: &mut Option<Broken>,
+    first: &mut First,
 )
     ensures { first.new ≡ least first.old (doubled_before (map A.named a.now) (map B.named b.now ++ map C.named c.now)) }
 {
@@ -185,7 +185,7 @@ pub(crate) fn check_doubled<A: Named, B: Named, C: Named>(
 }
 
 /// Tells where a variable of the type has the name, too.
-fn check_as_variable(vars: Listed<'_, VarDecl>, name: &Name, first: &mut Option<Broken>)
+fn check_as_variable(vars: Listed<'_, VarDecl>, name: &Name, first: &mut First)
     requires { IsIndex vars.numbers.now (map (λ v. v.name) vars.items.now) }
     ensures { first.new ≡ least first.old (scopes.as_variable (map (λ v. v.name) vars.entry.items.now) name.now) }
 {
@@ -196,7 +196,7 @@ fn check_as_variable(vars: Listed<'_, VarDecl>, name: &Name, first: &mut Option<
 pub(crate) fn check_as_variables<T: Named>(
     vars: Listed<'_, VarDecl>,
     items: &[T],
-    first: &mut Option<Broken>,
+    first: &mut First,
 )
     requires { IsIndex vars.numbers.now (map (λ v. v.name) vars.items.now) }
     ensures { first.new ≡ least first.old (scopes.as_variables (map (λ v. v.name) vars.entry.items.now) (map T.named items.now)) }
@@ -213,7 +213,7 @@ pub(crate) type Places = BTreeMap<u64, u32>;
 fn check_same_number(
     number: Number,
     places: &mut Places,
-    first: &mut Option<Broken>,
+    first: &mut First,
 ) -> Result<(), AllocError>
     ensures told { OnOk result (first.new ≡ least first.old (told_among number (get nat_cmp places.old number.n))) }
     ensures placed { OnOk result (Updates nat_cmp places.old places.new number.n
@@ -232,7 +232,7 @@ fn check_same_number(
 pub(crate) fn check_doubled_numbers(
     alloc: Global,
     upgrades: &[UpgradeDecl],
-    first: &mut Option<Broken>,
+    first: &mut First,
 ) -> Result<(), AllocError>
     ensures { OnOk result (first.new ≡ least first.old (scopes.doubled_numbers (map (λ u. u.from) upgrades.now))) }
 {

@@ -8,12 +8,13 @@ ghost use Rattle.epl_syntax.specs.Rules.InStatements as rules;
 ghost use Rattle.eden_value.specs.Shape.{shape, truths};
 ghost use Rattle.epl_check.specs.View.{results_of, seen, broken_value, kind_wanted};
 
+use crate::difference::Difference;
 use crate::expression::{check_expression, check_use, place_of, stands_in};
-use crate::first::tell_if;
+use crate::first::{First, tell_difference, tell_if};
 use crate::fit::{fit, fit_known};
 use crate::scope::Scope;
 use eden_value::Kind;
-use epl_syntax::{Broken, Expr, Name, Rule, Stmt, Target, WrittenKind};
+use epl_syntax::{Expr, Name, Rule, Stmt, Target, WrittenKind};
 use std::alloc::AllocError;
 
 /// An expression that stands for a kind.
@@ -23,7 +24,7 @@ fn check_as(
     scope: &Scope<'_>,
     held: Option<usize>,
     e: &Expr,
-    first: &mut Option<Broken>,
+    first: &mut First,
 ) -> Result<(), AllocError>
     ensures { OnOk result (first.new ≡ least first.old
         (rules.broken_as (shape wanted.now) (seen scope.now) held (tree.expression e.now))) }
@@ -40,7 +41,7 @@ fn check_variable(
     scope: &Scope<'_>,
     held: Option<usize>,
     name: &Name,
-    first: &mut Option<Broken>,
+    first: &mut First,
 ) -> Result<(), AllocError>
     ensures { OnOk result (first.new ≡ least first.old
         (rules.broken_variable (shape wanted.now) (seen scope.now) held name.now)) }
@@ -56,7 +57,7 @@ fn check_assignment(
     held: Option<usize>,
     name: &Name,
     value: &Expr,
-    first: &mut Option<Broken>,
+    first: &mut First,
 ) -> Result<(), AllocError>
     ensures { OnOk result (first.new ≡ least first.old
         (rules.broken_assignment (seen scope.now) held name.now (tree.expression value.now))) }
@@ -71,7 +72,7 @@ fn check_target(
     scope: &Scope<'_>,
     held: Option<usize>,
     target: &Target,
-    first: &mut Option<Broken>,
+    first: &mut First,
 ) -> Result<(), AllocError>
     ensures { OnOk result (first.new ≡ least first.old (rules.broken_target (seen scope.now) held target.now)) }
 {
@@ -85,7 +86,7 @@ fn check_expressions(
     scope: &Scope<'_>,
     held: Option<usize>,
     es: &[Expr],
-    first: &mut Option<Broken>,
+    first: &mut First,
 ) -> Result<(), AllocError>
     ensures { OnOk result (first.new ≡ least first.old
         (flat_map (λ e. expressions.broken_expression (seen scope.now) held (tree.expression e)) es.now)) }
@@ -100,7 +101,7 @@ fn check_uses(
     scope: &Scope<'_>,
     held: Option<usize>,
     names: &[Name],
-    first: &mut Option<Broken>,
+    first: &mut First,
 ) -> Result<(), AllocError>
     ensures { OnOk result (first.new ≡ least first.old (rules.broken_uses (seen scope.now) held names.now)) }
 {
@@ -110,7 +111,7 @@ fn check_uses(
     Ok(())
 }
 
-fn check_type(scope: &Scope<'_>, name: &Name, first: &mut Option<Broken>)
+fn check_type(scope: &Scope<'_>, name: &Name, first: &mut First)
     ensures { first.new ≡ least first.old (rules.broken_type (seen scope.now) name.now) }
 {
     tell_if(
@@ -126,7 +127,7 @@ fn check_condition(
     held: Option<usize>,
     condition: &Name,
     place: u32,
-    first: &mut Option<Broken>,
+    first: &mut First,
 )
     ensures { first.new ≡ least first.old (rules.broken_condition (seen scope.now) held condition.now place) }
 {
@@ -138,13 +139,7 @@ fn check_condition(
 
 /// The head of a `with`.
 #[tactic(auto, using(crate::proofs::Least::least_append))]
-fn check_with(
-    scope: &Scope<'_>,
-    held: Option<usize>,
-    monitor: &Name,
-    place: u32,
-    first: &mut Option<Broken>,
-)
+fn check_with(scope: &Scope<'_>, held: Option<usize>, monitor: &Name, place: u32, first: &mut First)
     ensures { first.new ≡ least first.old (rules.broken_with (seen scope.now) held monitor.now place) }
 {
     tell_if(held.is_some(), Rule::Nested, place, first);
@@ -170,7 +165,7 @@ fn check_value(
     held: Option<usize>,
     wanted: Option<&WrittenKind>,
     e: &Expr,
-    first: &mut Option<Broken>,
+    first: &mut First,
 ) -> Result<(), AllocError>
     ensures { OnOk result (first.new ≡ least first.old
         (broken_value (seen scope.now) held (kind_wanted wanted.entry) (tree.expression e.now))) }
@@ -189,7 +184,7 @@ fn check_values(
     held: Option<usize>,
     wanted: &[WrittenKind],
     values: &[Expr],
-    first: &mut Option<Broken>,
+    first: &mut First,
 ) -> Result<(), AllocError>
     ensures { OnOk result (first.new ≡ least first.old
         (rules.broken_values (seen scope.now) held (map tree.written wanted.now) (map tree.expression values.now))) }
@@ -206,23 +201,22 @@ fn check_return(
     held: Option<usize>,
     values: &[Expr],
     place: u32,
-    first: &mut Option<Broken>,
+    first: &mut First,
 ) -> Result<(), AllocError>
     ensures { OnOk result (first.new ≡ least first.old
         (rules.broken_return (seen scope.now) held (map tree.expression values.now) place)) }
 {
     match scope.results() {
         None => {
-            tell_if(true, Rule::KindDiffers, place, first);
+            tell_difference(true, Difference::Return, place, first);
             check_values(scope, held, &[], values, first)
         }
         Some(wanted) => {
-            tell_if(
-                values.len() != wanted.len(),
-                Rule::KindDiffers,
-                place,
-                first,
-            );
+            let difference = Difference::Count {
+                wanted: wanted.len(),
+                found: values.len(),
+            };
+            tell_difference(values.len() != wanted.len(), difference, place, first);
             check_values(scope, held, wanted, values, first)
         }
     }
@@ -235,7 +229,7 @@ fn check_create(
     type_name: &Name,
     status: &Name,
     gives: &Name,
-    first: &mut Option<Broken>,
+    first: &mut First,
 ) -> Result<(), AllocError>
     ensures { OnOk result (first.new ≡ least first.old
         (rules.broken_create (seen scope.now) held type_name.now status.now gives.now)) }
@@ -253,7 +247,7 @@ fn check_invoke(
     args: &[Expr],
     status: &Name,
     gives: &[Name],
-    first: &mut Option<Broken>,
+    first: &mut First,
 ) -> Result<(), AllocError>
     ensures { OnOk result (first.new ≡ least first.old
         (rules.broken_invoke (seen scope.now) held target.now (map tree.expression args.now) status.now gives.now)) }
@@ -272,7 +266,7 @@ fn check_statement(
     scope: &Scope<'_>,
     held: Option<usize>,
     s: &Stmt,
-    first: &mut Option<Broken>,
+    first: &mut First,
 ) -> Result<(), AllocError>
     ensures { OnOk result (first.new ≡ least first.old (rules.broken_statement (seen scope.now) held (tree.statement s.now))) }
 {
@@ -333,7 +327,7 @@ fn check_tested(
     held: Option<usize>,
     body: &[Stmt],
     asked: &Expr,
-    first: &mut Option<Broken>,
+    first: &mut First,
 ) -> Result<(), AllocError>
     ensures { OnOk result (first.new ≡ least first.old (rules.broken_as truths (seen scope.now) held (tree.expression asked.now)
         ++ rules.broken_block (seen scope.now) held (tree.statements body.now))) }
@@ -348,7 +342,7 @@ pub(crate) fn check_block(
     scope: &Scope<'_>,
     held: Option<usize>,
     statements: &[Stmt],
-    first: &mut Option<Broken>,
+    first: &mut First,
 ) -> Result<(), AllocError>
     ensures { OnOk result (first.new ≡ least first.old (rules.broken_block (seen scope.now) held (tree.statements statements.now))) }
 {
