@@ -1,0 +1,3 @@
+pub mod BadTypes
+pub mod Sifting
+pub mod TypeParts

@@ -1,0 +1,5 @@
+pub mod TypePlaces
+pub mod Wanted
+pub mod Columns
+pub mod Answers
+pub mod Words
