@@ -37,7 +37,7 @@ fn call_of(
     }
 }
 
-const USAGE: &str = "usage: eden run [--trace] | host DIR [--trace] | gen N\n";
+const USAGE: &str = "usage: eden run [--trace] | host DIR [--trace] | gen N | wire | run --full\n";
 
 const NO_COMMAND: Outcome = Outcome::BadScript {
     line: 1,
@@ -45,6 +45,18 @@ const NO_COMMAND: Outcome = Outcome::BadScript {
 };
 
 const BOOTS: &str = "nodes 1\nend\n";
+
+/// A script of a wire whose second packet comes first, and what it writes.
+const REORDERS: &str =
+    "stations 2\nsend 1 2 \"a\"\nsend 1 2 \"b\"\ncarry 1 2 2\ncarry 1 2 1\ncarry 1 2 1\n\
+    carry 1 2 2\ncarry 2 1 4\nend\n";
+
+const REORDERED: &str = "2 from 1 \"a\"\n2 from 1 \"b\"\n1 2 sent 2 known 2 delivered 2\n";
+
+/// One that sends a value again, and what it writes.
+const AGAIN: &str = "stations 2\nagain 1 2\nsend 1 2 7\nagain 1 2\ncarry 1 2 2\ncarry 1 2 3\nend\n";
+
+const SENT_AGAIN: &str = "nothing\n2 from 1 7\nno packet\n1 2 sent 1 known 0 delivered 1\n";
 
 /// The words, the script and its size, the outcome and its status, and what is written.
 const CALLS: &[(&[&str], (&str, usize), Outcome, u8, &str)] = &[
@@ -57,6 +69,16 @@ const CALLS: &[(&[&str], (&str, usize), Outcome, u8, &str)] = &[
         "bad script line 1: no command\n",
     ),
     (&["walk"], (SCRIPT, 0), Outcome::BadWords, 2, USAGE),
+    (&[], (SCRIPT, 0), Outcome::BadWords, 2, USAGE),
+    (&["wire"], (REORDERS, 0), Outcome::Ran, 0, REORDERED),
+    (&["wire"], (AGAIN, 0), Outcome::Ran, 0, SENT_AGAIN),
+    (
+        &["wire"],
+        (SCRIPT, 0),
+        NO_COMMAND,
+        3,
+        "bad script line 1: no command\n",
+    ),
     (
         &["host", "d"],
         (BOOTS, 0),
@@ -105,6 +127,9 @@ const ENDS: &[(&[&str], &str, (&[u32], &[u32]), Outcome, usize, usize)] = &[
     (&["gen", "7"], SCRIPT, (&[], &[]), Outcome::Ran, 1, 1),
     (&["run"], BOOTS, (&[1], &[]), Outcome::ReadFault, 0, 0),
     (&["run"], BOOTS, (&[], &[1]), Outcome::WriteFault, 1, 0),
+    (&["wire"], AGAIN, (&[], &[]), Outcome::Ran, 0, 1),
+    (&["wire"], AGAIN, (&[1], &[]), Outcome::ReadFault, 0, 0),
+    (&["wire"], AGAIN, (&[], &[1]), Outcome::WriteFault, 0, 0),
 ];
 
 /// Whether the call ended so, with so many entries and bytes or more.

@@ -3,7 +3,7 @@ ghost use Rattle.eden_world.specs.Listed.{HasTurn};
 ghost use Rattle.eden_world.specs.Seated.{FitsTogether};
 
 use crate::fixtures::{blank_disks, by, txt};
-use crate::script_words::{FIRST, Word, carry};
+use crate::script_steps::{FIRST, Word, carry};
 use capability::mint;
 use eden_disk::SimDisk;
 use eden_world::{Seat, World};

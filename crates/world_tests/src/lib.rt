@@ -16,7 +16,7 @@ mod fixtures;
 #[cfg(test)]
 mod runs_tests;
 #[cfg(test)]
-mod script_words;
+mod script_steps;
 #[cfg(test)]
 mod shell_answers_tests;
 #[cfg(test)]

@@ -5,7 +5,7 @@ ghost use Rattle.journal.specs.Run.{Step};
 ghost use Rattle.runs.specs.Room.{is_single};
 ghost use Rattle.std.specs.Prelude.{ℕ, ◌≤◌};
 
-use crate::script_words::{Word, carry};
+use crate::script_steps::{Word, carry};
 use capability::{Cap, Uid, mint};
 use eden_value::Txt;
 use journal::{Command, Entry, Event, Key, Names, Ref, Shown};

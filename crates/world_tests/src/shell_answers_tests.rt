@@ -13,39 +13,56 @@ const PLAIN: Job = Job::Run { mode: Mode::Plain };
 
 const TRACE: Job = Job::Run { mode: Mode::Trace };
 
+const RUN_PLAIN: Option<Task> = Some(Task::History { job: PLAIN });
+
+const RUN_TRACE: Option<Task> = Some(Task::History { job: TRACE });
+
+const RUN_FULL: Option<Task> = Some(Task::History {
+    job: Job::Run { mode: Mode::Full },
+});
+
+const GEN_LEAST: Option<Task> = Some(Task::History {
+    job: Job::Gen { number: 0 },
+});
+
+const GEN_MOST: Option<Task> = Some(Task::History {
+    job: Job::Gen { number: u64::MAX },
+});
+
 /// Words, what they ask for, and the directory that they name.
-const WORDS: &[(&[&str], Option<Job>, Option<&str>)] = &[
+const WORDS: &[(&[&str], Option<Task>, Option<&str>)] = &[
     (&[], None, None),
-    (&["run"], Some(PLAIN), None),
-    (&["run", "--trace"], Some(TRACE), None),
+    (&["run"], RUN_PLAIN, None),
+    (&["run", "--trace"], RUN_TRACE, None),
+    (&["run", "--full"], RUN_FULL, None),
+    (&["run", "--full", "--trace"], None, None),
     (&["run", "--help"], None, None),
-    (&["host", "d"], Some(PLAIN), Some("d")),
-    (&["host", "d", "--trace"], Some(TRACE), Some("d")),
+    (&["host", "d"], RUN_PLAIN, Some("d")),
+    (&["host", "d", "--trace"], RUN_TRACE, Some("d")),
+    (&["host", "d", "--full"], None, None),
     (&["host", ""], None, None),
     (&["host", "-d"], None, None),
     (&["host", "--trace"], None, None),
-    (&["gen", "0"], Some(Job::Gen { number: 0 }), None),
-    (
-        &["gen", "18446744073709551615"],
-        Some(Job::Gen { number: u64::MAX }),
-        None,
-    ),
+    (&["gen", "0"], GEN_LEAST, None),
+    (&["gen", "18446744073709551615"], GEN_MOST, None),
     (&["gen", "18446744073709551616"], None, None),
     (&["gen", ""], None, None),
+    (&["wire"], Some(Task::Wire), None),
+    (&["wire", "--trace"], None, None),
     (&["--version"], None, None),
 ];
 
-/// Whether the words ask for this job, and name this directory.
-fn ask_for(words: &Vec<String>, job: Option<Job>, dir: Option<&str>) -> bool {
-    job_of(words) == job && host_dir(words).map(|dir| dir.as_str()) == dir
+/// Whether the words ask for this task, and name this directory.
+fn ask_for(words: &Vec<String>, task: Option<Task>, dir: Option<&str>) -> bool {
+    task_of(words) == task && host_dir(words).map(|dir| dir.as_str()) == dir
 }
 
 #[test]
-fn words_ask_for_jobs(rt: HostRuntime) {
+fn words_ask_for_tasks(rt: HostRuntime) {
     let alloc = rt.alloc();
-    for (place, &(words, job, dir)) in WORDS.iter().enumerate() {
+    for (place, &(words, task, dir)) in WORDS.iter().enumerate() {
         let words = words_of(&rt, alloc, words);
-        assert!(rt; ask_for(&words, job, dir), "{place}");
+        assert!(rt; ask_for(&words, task, dir), "{place}");
     }
 }
 
@@ -54,6 +71,8 @@ fn words_ask_for_jobs(rt: HostRuntime) {
 enum Read<'a> {
     /// A job, and the number of nodes of its script.
     Script(Job, u8),
+    /// What the script of a wire writes.
+    Wire(&'a str),
     /// No script: why, the outcome of the call and its status, and what is written.
     Refused(Outcome, Outcome, u8, &'a str),
 }
@@ -70,9 +89,12 @@ fn nothing(alloc: Global) -> Carried {
 
 /// Whether the words ask for this.
 fn is_asked(asked: Asked, wanted: Read) -> bool {
-    match wanted {
-        Read::Script(job, nodes) => asked.job == job && asked.script.nodes == nodes,
-        Read::Refused(_, _, _, _) => false,
+    match (asked, wanted) {
+        (Asked::History { job, script }, Read::Script(other, nodes)) => {
+            job == other && script.nodes == nodes
+        }
+        (Asked::Wire { text }, Read::Wire(other)) => text.as_slice() == other.as_bytes(),
+        _ => false,
     }
 }
 
@@ -141,6 +163,18 @@ const READINGS: &[Reading<'static>] = &[
     (
         &["run"],
         "nodes 1\n",
+        (&[], &[]),
+        Read::Refused(NO_END, NO_END, 3, "bad script line 2: no end\n"),
+    ),
+    (
+        &["wire"],
+        "stations 2\nagain 1 2\nend\n",
+        (&[], &[]),
+        Read::Wire("nothing\n"),
+    ),
+    (
+        &["wire"],
+        "stations 2\n",
         (&[], &[]),
         Read::Refused(NO_END, NO_END, 3, "bad script line 2: no end\n"),
     ),
