@@ -1,5 +1,6 @@
 -- The definitions at a value of the code that is a list.
-use Rattle.std.proofs.Common.{◌≡◌, ◌↔◌, Bool as Truth, true, false, ℕ, suc, ◌+◌, ◌-◌, ◌<◌, ◌++◌, min, nat_le, nat_lt, List, [], ◌∷◌, refl, ap, sym, ◌∙◌}
+use Rattle.std.proofs.Common.{◌≡◌, ◌↔◌, Bool as Truth, true, false, ℕ, suc, ◌+◌, ◌-◌, ◌<◌, min, nat_le, nat_lt, ap, refl, sym, ◌∙◌}
+use Rattle.std.proofs.Common.{List, [], ◌∷◌, ◌++◌}
 use Rattle.std.proofs.Common.{arith}
 use Rattle.std.proofs.lemmas.Bool.Decides.{nat_tests}
 use Rattle.eden_value.specs.Datum.{Datum, list, data_of}

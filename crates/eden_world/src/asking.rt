@@ -7,7 +7,6 @@ ghost use Rattle.eden_world.specs.Carried.{CallsBy, CarriesBy, EndsStill, LooksU
 ghost use Rattle.eden_world.specs.Seated.{EachShows, FitsTogether, KeepsDisks, heeds};
 
 use crate::World;
-use crate::breaks::copy_name;
 use crate::entries::entry_of_none;
 use capability::Cap;
 use eden_model::Asker;
@@ -25,7 +24,7 @@ fn look_up_of(alloc: Global, component: &Txt) -> Result<(Txt, Items), AllocError
     let mut values = Vec::new(alloc);
     values.reserve(1)?;
     values.push_reserved(Value::Text {
-        text: copy_name(alloc, component)?,
+        text: component.share()?,
     });
     Ok((operation, Items { values }))
 }
@@ -60,7 +59,7 @@ where
             return Err(AllocError);
         }
         let asker = Asker::Shell {
-            name: copy_name(alloc, name)?,
+            name: name.share()?,
         };
         let Asked { call, at_once } = self
             .calls
@@ -92,11 +91,11 @@ where
     {
         match self.names.ready(alloc, target, args)? {
             Some((cap, items)) => {
-                let operation = copy_name(alloc, operation)?;
+                let operation = operation.share()?;
                 self.ask(alloc, name, cap, operation, items)
             }
             None => {
-                let name = copy_name(alloc, name)?;
+                let name = name.share()?;
                 Ok(entry_of_none(alloc, Event::Void { name }))
             }
         }
@@ -127,7 +126,7 @@ where
                 self.ask(alloc, name, cap, operation, args)
             }
             None => {
-                let name = copy_name(alloc, name)?;
+                let name = name.share()?;
                 Ok(entry_of_none(alloc, Event::Void { name }))
             }
         }

@@ -18,13 +18,6 @@ use journal::Names;
 use passive_store::Store;
 use std::alloc::{AllocError, Global};
 
-// A copy of a name.
-pub(crate) fn copy_name(_alloc: Global, name: &Txt) -> Result<Txt, AllocError>
-    ensures { IfOk result (λ copied. copied ≡ name.now) }
-{
-    name.share()
-}
-
 // Who waited for a call.
 #[derive(Drop)]
 enum Waiter {
@@ -34,13 +27,13 @@ enum Waiter {
 }
 
 // Who waited for a call of this number.
-fn who_waits(alloc: Global, calls: &Calls, number: u32) -> Result<Waiter, AllocError>
+fn who_waits(calls: &Calls, number: u32) -> Result<Waiter, AllocError>
     ensures { IfOk result (λ found. found ≡ waiter_at calls.now number) }
 {
     match calls.call(number) {
         Some(call) => match &call.asker {
             Asker::Shell { name } => Ok(Waiter::Shell {
-                name: copy_name(alloc, name)?,
+                name: name.share()?,
             }),
             Asker::Eject { uid, process } => Ok(Waiter::Process {
                 uid: *uid,
@@ -52,14 +45,10 @@ fn who_waits(alloc: Global, calls: &Calls, number: u32) -> Result<Waiter, AllocE
 }
 
 // The name under which the shell asked a call, if it did.
-pub(crate) fn name_of_call(
-    alloc: Global,
-    calls: &Calls,
-    number: u32,
-) -> Result<Option<Txt>, AllocError>
+pub(crate) fn name_of_call(calls: &Calls, number: u32) -> Result<Option<Txt>, AllocError>
     ensures { IfOk result (λ found. found ≡ name_by (waiter_at calls.now number)) }
 {
-    match who_waits(alloc, calls, number)? {
+    match who_waits(calls, number)? {
         Waiter::Shell { name } => Ok(Some(name)),
         Waiter::Process { .. } | Waiter::Nobody => Ok(None),
     }
@@ -123,7 +112,7 @@ where
             (disk_seen St.Device.counts St.Device.told St.Device.due) (waiter_at self.old.calls number) names.old.items names.new.items
             self.old self.new) }
     {
-        match who_waits(alloc, &self.calls, number)? {
+        match who_waits(&self.calls, number)? {
             Waiter::Shell { name } => match names.push(name) {
                 Ok(()) => Ok(()),
                 Err(_) => Err(AllocError),

@@ -15,7 +15,6 @@ ghost use Rattle.eden_world.specs.Seated.{EachShows, FitsTogether, KeepsDisks, h
 ghost use Rattle.eden_world.specs.Unanswered.{open_names};
 ghost use Rattle.eden_world.specs.declared.seats.Seat.TheVariants as place;
 
-use crate::breaks::copy_name;
 use crate::entries::{entry, entry_of_none};
 use crate::{Seat, World};
 use eden_disk::{Arm, Disk, ImageMode};
@@ -50,7 +49,7 @@ where
 }
 
 // The name under which the shell asked a call joins the names, if the call is still open.
-fn list_if_open(alloc: Global, call: &Call, names: &mut Vec<Txt>) -> Result<(), AllocError>
+fn list_if_open(call: &Call, names: &mut Vec<Txt>) -> Result<(), AllocError>
     ensures { IfOk result (λ _. names.new.items ≡ names.old.items ++ open_names (call.now ∷ [])) }
 {
     if call.closed {
@@ -58,7 +57,7 @@ fn list_if_open(alloc: Global, call: &Call, names: &mut Vec<Txt>) -> Result<(), 
     }
     match &call.asker {
         Asker::Shell { name } => {
-            names.push(copy_name(alloc, name)?)?;
+            names.push(name.share()?)?;
             Ok(())
         }
         Asker::Eject { .. } => Ok(()),
@@ -170,7 +169,7 @@ where
         let mut names = Vec::new(alloc);
         let calls = self.calls.all();
         for asked in calls {
-            list_if_open(alloc, asked, &mut names)?;
+            list_if_open(asked, &mut names)?;
         }
         Ok(Names { items: names })
     }

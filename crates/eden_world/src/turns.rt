@@ -107,7 +107,7 @@ where
         let Some(message) = self.calls.first(from, 0) else {
             unreachable!()
         };
-        let Some(name) = name_of_call(alloc, &self.calls, message.number())? else {
+        let Some(name) = name_of_call(&self.calls, message.number())? else {
             unreachable!()
         };
         match self.calls.deliver(from, 0) {

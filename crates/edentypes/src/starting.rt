@@ -109,11 +109,10 @@ fn version_of(types: &Types, kind: Kind) -> u16
 fn name_in(alloc: Global, types: &Types, kind: Kind) -> Result<Txt, AllocError>
     ensures { IfOk result (λ name. name ≡ meaning.name_of (kind_in types.now kind)) }
 {
-    let bytes = match form_at(types, kind) {
-        Form::Native { native } => Vec::from_slice(alloc, name_of(native))?,
-        Form::Declared { program } => Vec::from_slice(alloc, program.name.text.as_slice())?,
-    };
-    texted(bytes)
+    match form_at(types, kind) {
+        Form::Native { native } => texted(Vec::from_slice(alloc, name_of(native))?),
+        Form::Declared { program } => program.name.text.share(),
+    }
 }
 
 /// What is kept of an Eject with these values.

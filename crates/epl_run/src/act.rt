@@ -1,5 +1,5 @@
 //! What a step does.
-ghost use Rattle.std.specs.Prelude.{◌≡◌, List, IfOk, map, true};
+ghost use Rattle.std.specs.Prelude.{◌≡◌, List, map, true};
 ghost use Rattle.std.specs.List.{list_all};
 ghost use Rattle.eden_value.specs.View.{datum};
 ghost use Rattle.epl_syntax.specs.Tree as tree;
@@ -24,7 +24,7 @@ use capability::{Cap, mint};
 use eden_value::{Items, Txt, Value};
 use epl_syntax::{Effect, Expr, FaultCause, Program, Stmt, Target};
 use epl_values::{Stop, Variables, assign, value_named, value_of, values_of};
-use std::alloc::{AllocError, Global};
+use std::alloc::Global;
 
 /// What comes of a step: the next one; a branch first, and then this step again or the next one; or an
 /// effect, which of a `with` is the lock of its monitor, with its branch before the rest.
@@ -74,12 +74,6 @@ fn target_of(program: &Program, vars: &Variables, target: &Target) -> Result<Cap
     }
 }
 
-fn copy_text(_alloc: Global, text: &Txt) -> Result<Txt, AllocError>
-    ensures { IfOk result (λ copied. copied ≡ text.now) }
-{
-    text.share()
-}
-
 /// An invocation: its target is looked at first, then its arguments.
 #[tactic(auto, using(crate::proofs::Found::row_given))]
 fn invoked(
@@ -99,7 +93,7 @@ fn invoked(
     let values = values_of(alloc, program, vars, args)?;
     Ok(Effect::Invoke {
         target,
-        operation: copy_text(alloc, operation)?,
+        operation: operation.share()?,
         args: Items { values },
     })
 }
@@ -147,7 +141,7 @@ fn awaiting(alloc: Global, program: &Program, vars: &Variables, s: &Stmt) -> Res
         Stmt::Checkpoint { .. } => Ok(ends(Effect::Checkpoint)),
         Stmt::Destroy { .. } => Ok(ends(Effect::Destroy)),
         Stmt::Create { type_name, .. } => Ok(ends(Effect::Create {
-            type_name: copy_text(alloc, &type_name.text)?,
+            type_name: type_name.text.share()?,
         })),
         Stmt::Invoke {
             target,

@@ -10,17 +10,18 @@ ghost use Rattle.shell_names.specs.Names.{meaning, meanings, NamesStand, Binds, 
 use crate::meant::{Meant, cap_in, first_is_zero, value_in};
 use capability::Cap;
 use eden_value::{Items, Txt, Value};
-use indexmap::IndexMap;
 use journal::Ref;
 use std::alloc::{AllocError, Global};
+use std::collections::BTreeMap;
 use std::marker::Model;
 
 /// The names of a script that were bound, and what each stands for.
 ///
-/// Contracts see it as the names in a row, each with its meaning; `meanings` says what a name stands for.
+/// Contracts see it as the names in a row, each with its meaning; `meanings` says what a name stands for. They stand in
+/// order, so that no choice of names makes a look-up slow.
 #[derive(Drop)]
 pub struct ShellNames {
-    names: IndexMap<Vec<u8>, Meant>,
+    names: BTreeMap<Vec<u8>, Meant>,
 }
 
 impl Model for ShellNames {
@@ -45,7 +46,7 @@ impl ShellNames {
         ensures stands { (w : World) → w.names ≡ [] → NamesStand result w }
     {
         ShellNames {
-            names: IndexMap::new(alloc),
+            names: BTreeMap::new(alloc),
         }
     }
 

@@ -10,4 +10,5 @@ has_kind-returns-in-List-List t c =
     c.have_kind.ensures
     ∙ ap (λ k. have_shape (datums c.as_slice.result.now) (shape k)) c.deref-in-List-List.ensures
     ∙ value_shape c.args.value.now c.in-List-List.items c.as_slice.result.now c.in-List-List.is-0
-    (ap datums (c.as_slice.ensures.value ∙ ap (λ v. v.items) c.deref.ensures) ∙ c.items.view_is) (shape c.in-List-List.of.value) (shape c.args.kind.now) e
+    (ap datums (c.as_slice.ensures.value ∙ ap (λ v. v.items) c.deref.ensures) ∙ c.items.view_is)
+    (shape c.in-List-List.of.value) (shape c.args.kind.now) e

@@ -10,8 +10,8 @@ pub returns-then-not-may_ask-clause-starved : goal.returns-then-not-may_ask-clau
 returns-then-not-may_ask-clause-starved g c = ends-still g.St.Device.Disk.tells g.St.Store.layout g.St.Store.seen
     (disk_seen g.St.Device.Disk.counts g.St.Device.Disk.told g.St.Device.Disk.due) c.args.self.now c.args.self.now (λ n. refl)
 
-pub returns-in_err-copy_name-clause-starved : goal.returns-in_err-copy_name-clause-starved
-returns-in_err-copy_name-clause-starved g c = any-err c.from_residual.result _
+pub returns-in_err-share-clause-starved : goal.returns-in_err-share-clause-starved
+returns-in_err-share-clause-starved g c = any-err c.from_residual.result _
     (ends-still g.St.Device.Disk.tells g.St.Store.layout g.St.Store.seen
     (disk_seen g.St.Device.Disk.counts g.St.Device.Disk.told g.St.Device.Disk.due) c.args.self.now c.args.self.now (λ n. refl))
 
@@ -30,10 +30,10 @@ returns-in_err-event-clause-starved g c = any-err c.from_residual-in_err-event.r
 pub returns-clause-called : goal.returns-clause-called
 returns-clause-called g c = ask-calls g.St.Device.Disk.tells g.St.Store.layout g.St.Store.seen
     (disk_seen g.St.Device.Disk.counts g.St.Device.Disk.told g.St.Device.Disk.due) c.args.self.now c.ask.new.self
-    c.ask-2.new.self c.args.name.now c.in_ok-copy_name.field-0 c.args.target c.args.operation c.args.args
+    c.ask-2.new.self c.args.name.now c.in_ok-share.field-0 c.args.target c.args.operation c.args.args
     c.in_ok-call.field-0
     c.entry_of_none.result (record {
-      copy = c.in_ok-copy_name.ensures;
+      copy = c.in_ok-share.ensures;
       asks = c.in_ok-call.ensures.cases;
       carries = c.in_ok-call.ensures.model;
       stands = c.in_ok-event.ensures.asked;
@@ -44,10 +44,10 @@ returns-clause-called g c = ask-calls g.St.Device.Disk.tells g.St.Store.layout g
 pub returns-clause-walked : goal.returns-clause-walked
 returns-clause-walked g c = ask-walks g.St.Device.Disk.tells g.St.Store.layout g.St.Store.seen
     (disk_seen g.St.Device.Disk.counts g.St.Device.Disk.told g.St.Device.Disk.due) c.args.self.now c.ask.new.self
-    c.ask-2.new.self c.args.name.now c.in_ok-copy_name.field-0 c.args.target c.args.operation c.args.args
+    c.ask-2.new.self c.args.name.now c.in_ok-share.field-0 c.args.target c.args.operation c.args.args
     c.in_ok-call.field-0
     c.entry_of_none.result (record {
-      copy = c.in_ok-copy_name.ensures;
+      copy = c.in_ok-share.ensures;
       asks = c.in_ok-call.ensures.cases;
       carries = c.in_ok-call.ensures.model;
       stands = c.in_ok-event.ensures.asked;
@@ -60,8 +60,8 @@ returns-then-not-may_ask-clause-leaves g c = still-keeps g.St.Store.seen
     (disk_seen g.St.Device.Disk.counts g.St.Device.Disk.told g.St.Device.Disk.due)
     c.args.self.now c.args.self.now c.requires refl refl
 
-pub returns-in_err-copy_name-clause-leaves : goal.returns-in_err-copy_name-clause-leaves
-returns-in_err-copy_name-clause-leaves g c = any-err c.from_residual.result _ (still-keeps g.St.Store.seen
+pub returns-in_err-share-clause-leaves : goal.returns-in_err-share-clause-leaves
+returns-in_err-share-clause-leaves g c = any-err c.from_residual.result _ (still-keeps g.St.Store.seen
     (disk_seen g.St.Device.Disk.counts g.St.Device.Disk.told g.St.Device.Disk.due) c.args.self.now c.args.self.now c.requires refl refl)
 
 pub returns-in_err-call-clause-leaves : goal.returns-in_err-call-clause-leaves
