@@ -25,7 +25,7 @@ ghost use Rattle.active_part.specs.View.{IsEncoded};
 ghost use Rattle.active_part.specs.View.{body_of, coordination_of, stepped, MayTake, IsStarted, StartsNext};
 
 use capability::{Body, Uid};
-use coordinator::{Coordinator, Parts, Started};
+use coordinator::{Coordinator, OfferRefusal, Parts, Started};
 use eden_codec::{EncodeRefusal, encode_rep};
 use eden_value::{Items, Status};
 use edentypes::{Kind, Rest, Values, begin, rep};
@@ -75,16 +75,17 @@ impl Part {
         self.crew.is_full()
     }
 
-    /// The invocation joins the queue, unless that is full or there is no memory for it. A refusal changes nothing.
+    /// The invocation joins the queue, unless there is no memory for it. A refusal changes nothing.
     pub fn offer(&mut self, call: u32, class: u8) -> Result<(), AllocError>
+        requires room { length (coordination_of self.old).queued < 64 }
         ensures after { OnOk result ((ts : TypeList) → body_of ts self.new
             ≡ joined_body (record { call = call; class = class }) (body_of ts self.old)) }
-        ensures room { OnOk result ((ts : TypeList) → length (body_of ts self.old).crew.queued < 64) }
         ensures unchanged { OnErr result ((ts : TypeList) → body_of ts self.new ≡ body_of ts self.old) }
     {
         match self.crew.offer(call, class) {
             Ok(()) => Ok(()),
-            Err(_) => Err(AllocError),
+            Err(OfferRefusal::OutOfMemory) => Err(AllocError),
+            Err(OfferRefusal::Busy) => unreachable!(),
         }
     }
 

@@ -29,6 +29,12 @@ fn put(rt: &impl Abort, alloc: Global) -> Wish {
     Wish::Put { body }
 }
 
+/// A call joins the queue, where there is a place for it.
+fn queue(rt: &impl Abort, eject: &mut PlainEject, call: u32) {
+    assert!(rt; !eject.is_full());
+    eject.enqueue(call, 0).expect(rt, "memory");
+}
+
 /// How many calls are turned away, of a passive Eject.
 fn turned_away(alloc: Global, eject: &mut PlainEject) -> usize {
     if eject.part.is_some() {
@@ -43,11 +49,11 @@ fn queue_stays(rt: &impl Abort, alloc: Global) {
         assert!(rt; false);
         return;
     };
-    eject.enqueue(1, 0).expect(rt, "memory");
+    queue(rt, &mut eject, 1);
     assert!(rt; eject.is_active());
     assert!(rt; eject.deactivate().is_some());
     assert!(rt; !eject.is_there());
-    eject.enqueue(2, 0).expect(rt, "memory");
+    queue(rt, &mut eject, 2);
     assert!(rt; turned_away(alloc, &mut eject) == 2);
     assert!(rt; turned_away(alloc, &mut eject) == 0);
 }

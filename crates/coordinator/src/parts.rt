@@ -1,5 +1,5 @@
 //! What a coordinator is made of, and what is left of it.
-ghost use Rattle.std.specs.Prelude.{◌≡◌};
+ghost use Rattle.std.specs.Prelude.{◌≡◌, ◌≤◌, length};
 
 use arrayvec::ArrayVec;
 use capability::{CallNumbers, Seq};
@@ -50,6 +50,7 @@ pub struct Parts {
     pub running: Pairs,
     /// The calls that are queued, in order.
     pub queued: CallNumbers,
+    pub ghost few: { length queued ≤ 64 },
 }
 
 /// Why `offer` refuses an invocation.

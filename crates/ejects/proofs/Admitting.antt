@@ -2,6 +2,8 @@
 use Rattle.std.proofs.Common.{◌≡◌, ◌≤◌, ◌<◌, ℕ, nat_lt, Bool, true, false, cond, not, length, Option, None, Some, refl, sym, ◌∙◌, ap}
 use Rattle.std.proofs.Common.{subst, arith}
 use Rattle.std.specs.Prelude.{is_some, IsSomeAnd, Result, Ok, Err}
+use Rattle.std.specs.FinMap.{get}
+use Rattle.std.specs.Option.{option_map}
 use Rattle.std.proofs.lemmas.List.{length-map}
 use Rattle.std.proofs.lemmas.Bool.Decides.{nat_tests}
 use Rattle.capability.specs.Rights.{is_within}
@@ -13,15 +15,19 @@ use Rattle.eden_model.specs.Traffic.{Call, asked}
 use Rattle.epl_syntax.specs.Edentype.{Edentype}
 use Rattle.epl_syntax.specs.Kinds.{have_shapes}
 use Rattle.epl_syntax.specs.Meaning.{Operation, operation_of}
+use Rattle.epl_syntax.specs.Rules.OfTypes.{TypeList}
 use Rattle.edentypes.specs.View.{fit_of, fit_in}
-use Rattle.eject_table.specs.Table.{standing_of}
+use Rattle.eject_table.specs.Table.{standing_of, active_in}
 use Rattle.eject_table.specs.declared.EjectStanding.TheVariants as standing
 use Rattle.journal.specs.Deliveries.{misfit}
 use Rattle.journal.specs.Processes.{class_of}
 use Rattle.active_part.specs.Body.{Body}
+use Rattle.active_part.specs.View.{body_of, coordination_of}
+use Rattle.active_part.specs.declared.part.Part.{Part}
 use Rattle.ejects.specs.Parts.{Parts, body_at, queue_in, held_of}
 use Rattle.ejects.specs.Refusals.{refusal_of}
-use Rattle.ejects.specs.View.{IsAdmission, IsAdmissionAt, call_at_place}
+use Rattle.ejects.specs.View.{IsAdmission, IsAdmissionAt, call_at_place, parts_of, part_at}
+use Rattle.ejects.specs.declared.Ejects.{Ejects}
 use Rattle.ejects.specs.declared.requests.Admission.{Admission}
 use Rattle.ejects.specs.declared.requests.Admission.TheVariants.{Active, Passive, Refused}
 use Rattle.invocation.specs.declared.call.Call.{Call as Asked}
@@ -103,3 +109,41 @@ admitted-active n x b (Active class) is h =
     (refused, subst (λ o. IsSomeAnd o (λ y. class ≡ class_of y.kind c)) (sym is) h.2)
 admitted-active n x b Passive is h = absurd h
 admitted-active n x b (Refused why) is h = refusal-active n x.target.uid b (call_at_place asked x) is ∙ h
+
+-- 3. There is a place for what is admitted
+
+-- a queue at which a call is not refused has a place for it
+few-of : (len : ℕ) (others : Option Status) → cond (not (nat_lt len 64)) (Some status.Busy) others ≡ None → len < 64
+few-of len others h = go (nat_lt len 64) refl h
+  where
+    go : (x : Bool) → nat_lt len 64 ≡ x → cond (not x) (Some status.Busy) others ≡ None → len < 64
+    go true e h = grind (arith, nat_tests, e)
+    go false e h = absurd (let bad : Some status.Busy ≡ None = h in cc bad)
+
+-- one that is to join an active part has a place there
+pub room-active : (n : Parts) (x : Asked) (class : ℕ) (b : Body) → body_at n x.target.uid ≡ Some b → IsAdmission n x (Active class)
+    → length b.crew.queued < 64
+room-active n x class b is h = let c = call_at_place asked x in
+    few-of (length b.crew.queued) (misfit b.kind c) (sym (refusal-active n x.target.uid b c is) ∙ h.0)
+
+-- and one that is to join the queue of a passive Eject has one there
+pub room-passive : (n : Parts) (x : Asked) → IsAdmission n x Passive → length (queue_in (value_at uid_cmp x.target.uid n.waiting)) < 64
+room-passive n x h = let c = call_at_place asked x in
+    few-of (length (queue_in (value_at uid_cmp x.target.uid n.waiting))) None (sym (refusal-passive n x.target.uid c h.1 h.2) ∙ h.0)
+
+-- the same of the active part that is looked up
+pub room-at : (ts : TypeList) (n : Ejects) (x : Asked) (class : ℕ) → IsAdmission (parts_of ts n) x (Active class)
+    → IsSomeAnd (part_at n x.target.uid) (λ a. length (coordination_of a).queued < 64)
+room-at ts n x class h = go (get n.table.standings x.target.uid) refl
+  where
+    there : (o : Option (Option Part)) → get n.table.standings x.target.uid ≡ o
+        → IsSomeAnd (active_in (option_map (option_map (body_of ts)) o)) (λ b. class ≡ class_of b.kind (call_at_place asked x))
+    there o is = subst (λ o. IsSomeAnd (active_in (option_map (option_map (body_of ts)) o)) (λ b. class ≡ class_of b.kind (call_at_place
+        asked x))) is h.1
+
+    go : (o : Option (Option Part)) → get n.table.standings x.target.uid ≡ o
+        → IsSomeAnd (active_in (get n.table.standings x.target.uid)) (λ a. length (coordination_of a).queued < 64)
+    go None is = absurd (there None is)
+    go (Some None) is = absurd (there (Some None) is)
+    go (Some (Some a)) is = subst (λ o. IsSomeAnd (active_in o) (λ a. length (coordination_of a).queued < 64)) (sym is)
+        (room-active (parts_of ts n) x class (body_of ts a) (ap (λ o. active_in (option_map (option_map (body_of ts)) o)) is) h)

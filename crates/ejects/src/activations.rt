@@ -1,5 +1,5 @@
 //! Passive Ejects are activated.
-ghost use Rattle.std.specs.Prelude.{◌≡◌, ◌∷◌, [], ℕ, Bool};
+ghost use Rattle.std.specs.Prelude.{◌≡◌, ◌<◌, ◌≤◌, ◌+◌, ◌∷◌, [], ℕ, Bool, length};
 ghost use Rattle.std.specs.Prelude.{OnOk, None, Some};
 ghost use Rattle.epl_syntax.specs.Rules.OfTypes.{TypeList};
 ghost use Rattle.passive_store.specs.declared.store.Pick.{Pick};
@@ -13,7 +13,7 @@ ghost use Rattle.journal.specs.Sites.{IsSoundSite};
 ghost use Rattle.journal.specs.Starts.{start_settled};
 ghost use Rattle.journal.specs.Step.{AllowsAt, site_turn};
 ghost use Rattle.checkpoint.specs.Starting.{StartsWith};
-ghost use Rattle.active_part.specs.View.{body_of};
+ghost use Rattle.active_part.specs.View.{body_of, coordination_of};
 ghost use Rattle.ejects.specs.Activations.{JoinsAll, answer_of};
 ghost use Rattle.ejects.specs.Parts.{IsAt, body_at};
 ghost use Rattle.ejects.specs.View.{parts_of, with_body};
@@ -36,7 +36,9 @@ fn join_or_answer(
     part: &mut Part,
     number: u32,
 ) -> Result<(), AllocError>
-    ensures { OnOk result (JoinsAll (body_of types.now part.old) (body_of types.now part.new) (number ∷ []) calls.old calls.new) }
+    requires { length (coordination_of part.old).queued < 64 }
+    ensures joins { OnOk result (JoinsAll (body_of types.now part.old) (body_of types.now part.new) (number ∷ []) calls.old calls.new) }
+    ensures one { OnOk result (length (coordination_of part.new).queued ≤ length (coordination_of part.old).queued + 1) }
 {
     let Some(asked) = calls.call(number) else {
         return Ok(());
@@ -63,6 +65,7 @@ fn join_all(
     part: &mut Part,
     numbers: &CallNumbers,
 ) -> Result<(), AllocError>
+    requires { length (coordination_of part.old).queued + length numbers.now ≤ 64 }
     ensures { OnOk result (JoinsAll (body_of types.now part.old) (body_of types.now part.new) numbers.now calls.old calls.new) }
 {
     for number in &numbers.items {

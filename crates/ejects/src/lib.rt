@@ -13,13 +13,15 @@ mod replies;
 mod requests;
 mod starts;
 mod stores;
+mod waiting;
 
-ghost use Rattle.std.specs.Prelude.{◌≡◌, ◌<◌};
+ghost use Rattle.std.specs.Prelude.{◌≡◌, ◌<◌, ◌≤◌, length};
 ghost use Rattle.std.specs.Prelude.{OnOk, Some, None, cond};
 ghost use Rattle.eden_model.specs.Map.{value_at, uid_cmp};
 ghost use Rattle.std.specs.Ordering.{eq_by_cmp};
 ghost use Rattle.ejects.specs.Parts.{queue_in};
 
+use crate::waiting::Waiting;
 use active_part::Part;
 use capability::{CallNumbers, Seq, Uid};
 use eject_table::EjectTable;
@@ -32,17 +34,18 @@ use std::collections::BTreeMap;
 #[derive(Drop)]
 pub struct Ejects {
     table: EjectTable<Part>,
-    waiting: BTreeMap<Uid, CallNumbers>,
+    waiting: BTreeMap<Uid, Waiting>,
 }
 
 // The queue of a passive Eject leaves the node.
-fn take_waiting(alloc: Global, waiting: &mut BTreeMap<Uid, CallNumbers>, uid: Uid) -> CallNumbers
+fn take_waiting(alloc: Global, waiting: &mut BTreeMap<Uid, Waiting>, uid: Uid) -> CallNumbers
     ensures calls { result ≡ queue_in (value_at uid_cmp uid waiting.old.entries) }
     ensures at { (q : Uid) → value_at uid_cmp q waiting.new.entries
         ≡ cond (eq_by_cmp uid_cmp uid q) None (value_at uid_cmp q waiting.old.entries) }
+    ensures few { length result ≤ 64 }
 {
     match waiting.remove(&uid) {
-        Some(calls) => calls,
+        Some(calls) => calls.into_calls(),
         None => Seq {
             items: Vec::new(alloc),
         },
@@ -51,14 +54,15 @@ fn take_waiting(alloc: Global, waiting: &mut BTreeMap<Uid, CallNumbers>, uid: Ui
 
 // The queue of a passive Eject is this one.
 fn put_waiting(
-    waiting: &mut BTreeMap<Uid, CallNumbers>,
+    waiting: &mut BTreeMap<Uid, Waiting>,
     uid: Uid,
     calls: CallNumbers,
 ) -> Result<(), AllocError>
+    requires { length calls ≤ 64 }
     ensures { OnOk result ((q : Uid) → value_at uid_cmp q waiting.new.entries
         ≡ cond (eq_by_cmp uid_cmp uid q) (Some calls) (value_at uid_cmp q waiting.old.entries)) }
 {
-    match waiting.insert(uid, calls) {
+    match waiting.insert(uid, Waiting::of(calls)) {
         Ok(_) => Ok(()),
         Err(_) => Err(AllocError),
     }

@@ -1,5 +1,5 @@
 //! Requests that are delivered join the queue of their Eject, or are refused.
-ghost use Rattle.std.specs.Prelude.{◌≡◌, ◌<◌, ℕ, Bool, IsSome};
+ghost use Rattle.std.specs.Prelude.{◌≡◌, ◌<◌, ℕ, Bool, IsSomeAnd};
 ghost use Rattle.std.specs.Prelude.{IfOk, OnOk, Some, None, length};
 ghost use Rattle.invocation.specs.Carries.{CarriesDelivery};
 ghost use Rattle.invocation.specs.Mail.{IsGiven};
@@ -11,7 +11,7 @@ ghost use Rattle.epl_syntax.specs.Rules.OfTypes.{TypeList};
 ghost use Rattle.active_part.specs.Body.{Body};
 ghost use Rattle.ejects.specs.Events.{IsDelivery};
 ghost use Rattle.ejects.specs.Parts.{body_at, queue_in, Stands, IsStep};
-ghost use Rattle.active_part.specs.View.{body_of};
+ghost use Rattle.active_part.specs.View.{body_of, coordination_of};
 ghost use Rattle.active_part.specs.Bodies.{joined_body};
 ghost use Rattle.ejects.specs.View.{part_at, parts_of, number_of, IsAdmission, IsAdmissionAt, with_body, JoinsPassive};
 
@@ -65,7 +65,7 @@ impl Ejects {
         ensures { result ≡ length (queue_in (value_at uid_cmp uid self.now.waiting.entries)) }
     {
         match self.waiting.get(&uid) {
-            Some(calls) => calls.items.len(),
+            Some(calls) => calls.len(),
             None => 0,
         }
     }
@@ -97,7 +97,7 @@ impl Ejects {
 
     // The invocation joins the queue of an active part that has a place for it.
     fn join_active(&mut self, uid: Uid, call: u32, class: u8) -> Result<(), AllocError>
-        requires { IsSome (part_at self.old uid) }
+        requires { IsSomeAnd (part_at self.old uid) (λ a. length (coordination_of a).queued < 64) }
         ensures { OnOk result ((ts : TypeList) (b : Body) → body_at (parts_of ts self.old) uid ≡ Some b
             → parts_of ts self.new ≡ with_body uid (joined_body (record { call = call; class = class }) b) (parts_of ts self.old)) }
     {
@@ -112,6 +112,7 @@ impl Ejects {
 
     // The call joins the queue of a passive Eject.
     fn join_passive(&mut self, alloc: Global, uid: Uid, call: u32) -> Result<(), AllocError>
+        requires { length (queue_in (value_at uid_cmp uid self.old.waiting.entries)) < 64 }
         ensures { OnOk result ((ts : TypeList) → JoinsPassive uid call (parts_of ts self.old) (parts_of ts self.new)) }
     {
         let mut calls = take_waiting(alloc, &mut self.waiting, uid);

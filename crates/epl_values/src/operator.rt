@@ -22,7 +22,8 @@ pub(crate) fn list_of(values: Vec<Value>) -> Result<Value, Stop>
         Err(ValueRefusal::TooDeep) => Err(Stop::Fault {
             cause: FaultCause::TooDeep,
         }),
-        Err(_) => Err(Stop::Memory),
+        Err(ValueRefusal::OutOfMemory) => Err(Stop::Memory),
+        Err(ValueRefusal::BadByte) => unreachable!(),
     }
 }
 

@@ -6,13 +6,13 @@
 mod processes;
 mod storage;
 
-ghost use Rattle.std.specs.Prelude.{◌≡◌, ◌++◌, ◌∷◌, [], None, IfSome, OnOk, is_some};
+ghost use Rattle.std.specs.Prelude.{◌≡◌, ◌<◌, ◌++◌, ◌∷◌, [], false, None, IfSome, OnOk, is_some, length};
 ghost use Rattle.eden_model.specs.Crew.{serving_pairs};
 ghost use Rattle.epl_syntax.specs.Rules.OfTypes.{TypeList};
 ghost use Rattle.journal.specs.Crashes.{fallen};
 ghost use Rattle.journal.specs.Ejects.{is_there, newborn, with_active, with_queued};
 ghost use Rattle.active_part.specs.Body.{active_of, calls_of};
-ghost use Rattle.active_part.specs.View.{body_of};
+ghost use Rattle.active_part.specs.View.{body_of, coordination_of};
 ghost use Rattle.plain_ejects.specs.View.{eject_of, active_in};
 
 use active_part::Part;
@@ -80,8 +80,19 @@ impl PlainEject {
         self.part.is_some() || (self.kept.is_some() || self.doubt.is_some())
     }
 
+    /// Whether 64 calls are queued in its active part, so that there is no place for one more.
+    pub fn is_full(&self) -> bool
+        ensures { result ≡ false → IfSome self.now.part (λ it. length (coordination_of it).queued < 64) }
+    {
+        match &self.part {
+            Some(part) => part.is_full(),
+            None => false,
+        }
+    }
+
     /// A call joins the queue. Its class counts where the Eject is active.
     pub fn enqueue(&mut self, call: u32, class: u8) -> Result<(), AllocError>
+        requires room { IfSome self.old.part (λ it. length (coordination_of it).queued < 64) }
         ensures { OnOk result ((ts : TypeList) → eject_of ts self.new
             ≡ with_queued ((eject_of ts self.old).queued ++ call ∷ []) (eject_of ts self.old)) }
     {

@@ -76,7 +76,7 @@ abbrev pub sink_stage : SinkStage → sink.Stage
 sink_stage (of_sink.Opens src) = sink.opens src
 sink_stage of_sink.OpenSaved = sink.open_saved
 sink_stage (of_sink.Pumps wanted) = sink.pumps wanted
-sink_stage (of_sink.Asked wanted taken) = sink.asked wanted taken
+sink_stage (of_sink.Asked pump) = sink.asked pump.wanted pump.taken
 sink_stage (of_sink.ItemSaved wanted taken) = sink.item_saved wanted taken
 sink_stage of_sink.Reads = sink.reads
 

@@ -6,6 +6,7 @@
 mod effects;
 mod filter;
 mod lines;
+mod pump;
 mod rule;
 mod sink;
 mod stored;
@@ -14,6 +15,7 @@ mod values;
 
 pub use filter::FilterStage;
 pub use lines::LinesStage;
+pub use pump::Pump;
 pub use sink::SinkStage;
 pub use stored::{native_durable, native_restart, native_start};
 pub use stream::{Stage, Stream, native_begin, native_turn, native_values};

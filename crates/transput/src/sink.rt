@@ -1,5 +1,5 @@
 //! Sink: the last stage of a stream, which keeps the items of the stage before.
-ghost use Rattle.std.specs.Prelude.{◌≡◌, IfOk, pos, int_le, length, true, [], ◌∷◌};
+ghost use Rattle.std.specs.Prelude.{◌≡◌, ◌<◌, ◌^◌, IfOk, pos, int_le, length, true, false, [], ◌∷◌};
 ghost use Rattle.epl_syntax.specs.declared.effect.Answer.TheVariants as answer;
 ghost use Rattle.epl_syntax.specs.declared.effect.Effect.TheVariants.{Return};
 ghost use Rattle.epl_syntax.specs.Outline.{starts};
@@ -13,6 +13,7 @@ use crate::effects::{
     END, Heard, ITEM, NOT_OPENED, OPENED, OUT_OF_REACH, TROUBLE, asks_for, came, is_fine,
     returns_code,
 };
+use crate::pump::Pump;
 use crate::values::{cap_at, no_items, number_at, take_items, truth_at};
 use capability::Cap;
 use eden_value::{Items, LIST_LIMIT, Txt, Value, copy, listed};
@@ -29,7 +30,7 @@ pub enum SinkStage {
     /// It takes so many items.
     Pumps { wanted: i64 },
     /// The answer of the stage before is told, where so many items were taken.
-    Asked { wanted: i64, taken: u64 },
+    Asked { pump: Pump },
     /// The save of the last item is told.
     ItemSaved { wanted: i64, taken: u64 },
     /// It returns the items.
@@ -131,7 +132,8 @@ fn saves(drain: Drain, stage: SinkStage) -> Pumped
 
 /// Whether no more than so many were wanted.
 fn is_enough(wanted: i64, taken: u64) -> bool
-    ensures { result ≡ int_le wanted (pos taken) }
+    ensures exact { result ≡ int_le wanted (pos taken) }
+    ensures fewer { result ≡ false → taken < 2 ^ 63 }
 {
     wanted < 0 || wanted as u64 <= taken
 }
@@ -144,6 +146,7 @@ fn asks(
     wanted: i64,
     taken: u64,
 ) -> Result<Pumped, AllocError>
+    requires { taken < 2 ^ 63 }
     ensures { IfOk result (λ p. pumped_of p
         ≡ (sink.values_of (drain_of drain), sink.asked wanted taken, asks_for src (pos (length drain.items)))) }
 {
@@ -151,7 +154,9 @@ fn asks(
     let effect = asks_for(alloc, src, held)?;
     Ok(Pumped {
         drain,
-        stage: SinkStage::Asked { wanted, taken },
+        stage: SinkStage::Asked {
+            pump: Pump { wanted, taken },
+        },
         effect,
     })
 }
@@ -176,26 +181,16 @@ fn goes_on(alloc: Global, drain: Drain, wanted: i64, taken: u64) -> Result<Pumpe
     }
 }
 
-/// What the stage before answered is taken: an item is added last, and not saved yet. A Sink takes no more than
-/// `LIST_LIMIT` items, so their number never leaves 64 bits.
-fn after_asking(
-    alloc: Global,
-    drain: Drain,
-    wanted: i64,
-    taken: u64,
-    heard: Heard,
-) -> Result<Pumped, AllocError>
-    ensures { IfOk result (λ p. pumped_of p ≡ sink.after_asking (drain_of drain) wanted taken (came_of heard)) }
+/// What the stage before answered is taken: an item is added last, and not saved yet.
+fn after_asking(alloc: Global, drain: Drain, pump: Pump, heard: Heard) -> Result<Pumped, AllocError>
+    ensures { IfOk result (λ p. pumped_of p ≡ sink.after_asking (drain_of drain) pump.wanted pump.taken (came_of heard)) }
 {
     match heard {
         Heard::Item { text } => {
-            let Some(taken) = taken.checked_add(1) else {
-                return Err(AllocError);
-            };
             let mut drain = drain;
             drain.items.values.push(Value::Text { text })?;
             drain.saved = false;
-            goes_on(alloc, drain, wanted, taken)
+            goes_on(alloc, drain, pump.wanted, pump.taken + 1)
         }
         Heard::End => counts(alloc, drain, END),
         Heard::Nothing => counts(alloc, drain, TROUBLE),
@@ -310,9 +305,9 @@ pub fn sink_turn(
         SinkStage::Opens { src } => opens(alloc, vars, src),
         SinkStage::OpenSaved => open_saved(alloc, vars, &answer),
         SinkStage::Pumps { wanted } => pumps(alloc, vars, wanted),
-        SinkStage::Asked { wanted, taken } => {
+        SinkStage::Asked { pump } => {
             let drain = Drain::of(alloc, vars)?;
-            let after = after_asking(alloc, drain, wanted, taken, came(answer))?;
+            let after = after_asking(alloc, drain, pump, came(answer))?;
             ends(alloc, vars, after)
         }
         SinkStage::ItemSaved { wanted, taken } => item_saved(alloc, vars, wanted, taken, &answer),

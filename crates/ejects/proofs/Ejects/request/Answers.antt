@@ -4,8 +4,21 @@ use Rattle.invocation.specs.Carries.{Carries}
 use Rattle.journal.specs.declared.event.Event.TheVariants as event
 use Rattle.ejects.specs.Parts.{IsStep}
 use Rattle.ejects.specs.View.{parts_of, IsAdmission}
+use Rattle.ejects.proofs.Admitting.{room-at, room-passive}
 use Rattle.ejects.proofs.Requested.{request-refused, request-joined, request-passive}
 use Rattle.ejects.proofs.Ejects.request.Goals as goal
+
+pub join_active-requires : goal.join_active-requires
+join_active-requires c =
+    let x = c.in-Some.asked.now in
+    room-at c.args.types.now c.args.self.now x c.in-Active.class
+    (subst (IsAdmission (parts_of c.args.types.now c.args.self.now) x) c.in-Active.is c.admission.ensures)
+
+pub join_passive-requires : goal.join_passive-requires
+join_passive-requires c =
+    let x = c.in-Some.asked.now in
+    room-passive (parts_of c.args.types.now c.args.self.now) x
+    (subst (IsAdmission (parts_of c.args.types.now c.args.self.now) x) c.in-Passive.is c.admission.ensures)
 
 pub returns-in_ok-join_active-in-Active-clause-steps : goal.returns-in_ok-join_active-in-Active-clause-steps
 returns-in_ok-join_active-in-Active-clause-steps c reach s stands came =

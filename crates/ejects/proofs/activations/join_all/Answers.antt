@@ -1,8 +1,13 @@
-use Rattle.std.proofs.Common.{◌≡◌, suc, [], ◌∷◌, ◌∙◌, subst, drop, get_or, drop-cons}
+use Rattle.std.proofs.Common.{◌≡◌, suc, [], ◌∷◌, ◌∙◌, ap, subst, drop, get_or, drop-cons, length, arith}
 use Rattle.std.proofs.lemmas.List.{drop_all}
 use Rattle.active_part.specs.View.{body_of}
 use Rattle.ejects.proofs.Joining.{IsJoining, joining-at, joining-end}
 use Rattle.ejects.proofs.activations.join_all.Goals as goal
+
+pub join_or_answer-requires : goal.join_or_answer-requires
+join_or_answer-requires c =
+    let same = c.deref-number-items.ensures.value ∙ c.numbers.view_is in
+    omega (arith, ap length same, c.loop-number.invariant.room, c.loop-number-test.true)
 
 pub loop-number-preserved : goal.loop-number-preserved
 loop-number-preserved c =
@@ -11,10 +16,11 @@ loop-number-preserved c =
     let k = get_or items i 0 in
     let same = c.deref-number-items.ensures.value ∙ c.numbers.view_is in
     let ts = c.args.types.now in
-    joining-at c.args.calls.now c.loop-number.calls c.join_or_answer.new.calls (body_of ts c.args.part.now) (body_of ts c.loop-number.part)
+    let joining = joining-at c.args.calls.now c.loop-number.calls c.join_or_answer.new.calls (body_of ts c.args.part.now) (body_of ts c.loop-number.part)
     (body_of ts c.join_or_answer.new.part) c.args.numbers.now i k
-    (subst (λ l. drop i l ≡ k ∷ drop (suc i) l) same (drop-cons items i 0 c.loop-number-test.true)) c.loop-number.invariant
-    c.in_ok-join_or_answer.ensures
+    (subst (λ l. drop i l ≡ k ∷ drop (suc i) l) same (drop-cons items i 0 c.loop-number-test.true)) c.loop-number.invariant.joining
+    c.in_ok-join_or_answer.ensures.joins in
+    record { joining = joining; room = omega (arith, c.loop-number.invariant.room, c.in_ok-join_or_answer.ensures.one) }
 
 pub returns : goal.returns
 returns c =
@@ -26,4 +32,4 @@ returns c =
     let first = body_of ts c.args.part.now in
     let later = body_of ts c.loop-number.part in
     joining-end c.args.calls.now c.loop-number.calls first later c.args.numbers.now
-    (subst (IsJoining c.args.calls.now c.loop-number.calls first later c.args.numbers.now) none c.loop-number.invariant)
+    (subst (IsJoining c.args.calls.now c.loop-number.calls first later c.args.numbers.now) none c.loop-number.invariant.joining)

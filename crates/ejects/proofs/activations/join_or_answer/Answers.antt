@@ -1,13 +1,14 @@
-use Rattle.std.proofs.Common.{◌∙◌, sym, ap, subst}
+use Rattle.std.proofs.Common.{◌∙◌, ◌∷◌, [], sym, ap, subst, length, length-append, arith}
 use Rattle.edentypes.specs.View.{fit_in, result_of}
 use Rattle.eden_model.specs.Traffic.{replied}
 use Rattle.invocation.specs.Carries.{Carries}
+use Rattle.active_part.specs.Body.{Body}
 use Rattle.active_part.specs.View.{body_of}
 use Rattle.ejects.proofs.Joining.{joins-fit, joins-misfit, joins-unasked}
 use Rattle.ejects.proofs.activations.join_or_answer.Goals as goal
 
-pub returns-in_ok-offer-in-Fits : goal.returns-in_ok-offer-in-Fits
-returns-in_ok-offer-in-Fits c =
+pub returns-in_ok-offer-in-Fits-clause-joins : goal.returns-in_ok-offer-in-Fits-clause-joins
+returns-in_ok-offer-in-Fits-clause-joins c =
     let ts = c.args.types.now in
     let x = c.in-Some.asked.now in
     let fits = ap result_of (sym c.in-Fits.is) ∙ c.fit_call-fit.ensures ∙ ap (λ k. fit_in k x.target.rights x.operation x.args)
@@ -15,8 +16,8 @@ returns-in_ok-offer-in-Fits c =
     joins-fit (body_of ts c.args.part.now) c.args.number x c.args.calls.now (sym c.in-Some.ensures) (body_of ts c.offer.new.self)
     c.in-Fits.class fits (c.in_ok-offer-in-Fits.ensures.after ts)
 
-pub returns-in_ok-reply-in-Misfits : goal.returns-in_ok-reply-in-Misfits
-returns-in_ok-reply-in-Misfits c =
+pub returns-in_ok-reply-in-Misfits-clause-joins : goal.returns-in_ok-reply-in-Misfits-clause-joins
+returns-in_ok-reply-in-Misfits-clause-joins c =
     let ts = c.args.types.now in
     let x = c.in-Some.asked.now in
     let misfits = ap result_of (sym c.in-Misfits.is) ∙ c.fit_call-fit.ensures ∙ ap (λ k. fit_in k x.target.rights x.operation x.args)
@@ -25,5 +26,12 @@ returns-in_ok-reply-in-Misfits c =
     misfits (λ t carries out. subst (λ rs. Carries c.reply.new.calls (replied c.in-Misfits.status rs c.args.number t)) c.no_items.ensures
     (c.in_ok-reply-in-Misfits.ensures t carries out))
 
-pub returns-in_default : goal.returns-in_default
-returns-in_default c = joins-unasked (body_of c.args.types.now c.args.part.now) c.args.number c.args.calls.now c.in_default.ensures
+pub returns-in_default-clause-joins : goal.returns-in_default-clause-joins
+returns-in_default-clause-joins c = joins-unasked (body_of c.args.types.now c.args.part.now) c.args.number c.args.calls.now c.in_default.ensures
+
+pub returns-in_ok-offer-in-Fits-clause-one : goal.returns-in_ok-offer-in-Fits-clause-one
+returns-in_ok-offer-in-Fits-clause-one c =
+    let ts = c.args.types.now in
+    let old = (body_of ts c.args.part.now).crew.queued in
+    let more = ap (λ (b : Body). length b.crew.queued) (c.in_ok-offer-in-Fits.ensures.after ts) in
+    omega (arith, more, length-append old (record { call = c.args.number; class = c.in-Fits.class } ∷ []))
