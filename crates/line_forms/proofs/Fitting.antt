@@ -109,7 +109,7 @@ both e = cc
 
 module _ (kind : Kind) (plain : IsPlain kind) (seen : Seen) (bytes : List ℕ) where
   -- a line that begins with a word of the kind is no blank one
-  placed : (l : Line) → IsSaid kind seen bytes l → (w : Which) → which kind (first_word bytes) ≡ w → (w ≡ unknown → ⊥)
+  pub placed : (l : Line) → IsSaid kind seen bytes l → (w : Which) → which kind (first_word bytes) ≡ w → (w ≡ unknown → ⊥)
       → (w ≡ the_first → seen.begun ≡ false) × (seen.begun ≡ false → w ≡ the_first)
   placed l said w e known =
       elim (said.passes Misplaced) [
@@ -117,7 +117,7 @@ module _ (kind : Kind) (plain : IsPlain kind) (seen : Seen) (bytes : List ℕ) w
         | inr x ↦ ((λ h. x.0 (e ∙ h)), (λ h. sym e ∙ x.1 h))
       ]
 
-  behind_first : (l : Line) → IsSaid kind seen bytes l → (w : Which) → which kind (first_word bytes) ≡ w → (w ≡ unknown → ⊥)
+  pub behind_first : (l : Line) → IsSaid kind seen bytes l → (w : Which) → which kind (first_word bytes) ≡ w → (w ≡ unknown → ⊥)
       → (w ≡ the_first → ⊥) → seen.begun ≡ true
   behind_first l said w e known later =
       elim (cases_Bool seen.begun) [ inl h ↦ h | inr h ↦ absurd (later ((placed l said w e known).1 h)) ]

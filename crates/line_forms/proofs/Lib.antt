@@ -6,3 +6,4 @@ pub mod Verdicts
 pub mod Run
 pub mod Unique
 pub mod Fitting
+pub mod Spots

@@ -22,7 +22,7 @@ one_told : (most : ℕ) (f : Form) (bytes : List ℕ) (r q : Told) → read_form
 one_told most f bytes r q h g = same_ok r q (sym h ∙ g)
 
 -- a line says one thing
-one_line : (kind : Kind) → IsPlain kind → (seen : Seen) (bytes : List ℕ) (l k : Line) → LineTells kind seen bytes l
+pub one_line : (kind : Kind) → IsPlain kind → (seen : Seen) (bytes : List ℕ) (l k : Line) → LineTells kind seen bytes l
     → LineTells kind seen bytes k → l ≡ k
 one_line kind plain seen bytes idle idle t u = refl
 one_line kind plain seen bytes idle (begins ns e) t u = absurd (first_unknown (sym u.0.0 ∙ plain bytes t.0))
@@ -66,7 +66,7 @@ same_says kind plain (bytes ∷ lines) seen a b s t x y =
     same_says kind plain lines (after seen x.0) x.1 y.1 s t x.4 (subst (λ l. Says kind (after seen l) lines y.1 t) (sym e) y.4) in
     (x.3 ∙ ap (λ l. rows_of l ++ x.1) e ∙ ap (λ (l : List Row). rows_of y.0 ++ l) r.0 ∙ sym y.3, r.1)
 
-no_cause : (kind : Kind) (seen : Seen) (bytes : List ℕ) (l : Line) (c : ScriptCause) → IsSaid kind seen bytes l → IsCause kind seen bytes c → ⊥
+pub no_cause : (kind : Kind) (seen : Seen) (bytes : List ℕ) (l : Line) (c : ScriptCause) → IsSaid kind seen bytes l → IsCause kind seen bytes c → ⊥
 no_cause kind seen bytes l c x y = y.fails (x.passes c)
 
 abbrev ranked : ℕ → ScriptCause

@@ -2,6 +2,7 @@ pub mod Forms
 pub mod Spelling
 pub mod Tests
 pub mod Scripts
+pub mod Spots
 pub mod One
 pub mod Fit
 pub mod Reading

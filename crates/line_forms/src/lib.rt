@@ -14,4 +14,4 @@ mod script;
 
 pub use form::{Bound, Ending, Form, Kind, Last, Mark, Place, Row};
 pub use law::{rows_are_fit, scripts_are_one};
-pub use script::{Rows, read_rows};
+pub use script::{Rows, read_rows, row_at};

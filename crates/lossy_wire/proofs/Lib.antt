@@ -1,7 +1,7 @@
 pub mod Keeping
-pub mod Told
 pub mod Sums
 pub mod Slots
+pub mod Values
 pub mod Worlds
 pub mod Meaning
 pub mod Orderly

@@ -271,3 +271,8 @@ pub orderly : WiresAreOrderly
 orderly cs a b r h g =
     let own = (good_after quiet good_quiet cs r).own (slot a b) in
     record { front = own.front; known = own.known }
+
+-- a value on the wire is the one that was sent with its number
+pub sound_after : (cs : List Command) → AllInReach cs → (a b i n : ℕ) (v : Datum) → packet_at (wire_after quiet cs) a b i ≡ Some (carried n v)
+    → (1 ≤ n) × (slice_get (pair_at (wire_after quiet cs) a b).sent (n - 1) ≡ Some v)
+sound_after cs r a b i n v is = ((good_after quiet good_quiet cs r).own (slot a b)).sound (i - 1) (carried n v) is

@@ -1,22 +1,25 @@
 -- The slots of pairs of stations.
-use Rattle.std.proofs.Common.{◌≡◌, ◌∙◌, ap, sym, refl, ℕ, zero, suc, ◌+◌, ◌<◌, List, [], ◌∷◌, ◌++◌, map, length, slice_set, get_or, Ok, Err, Vec, Global}
+use Rattle.std.proofs.Common.{◌≡◌, ◌∙◌, ap, sym, refl, ℕ, ◌+◌, ◌<◌, List, [], ◌∷◌, ◌++◌, map, length, slice_set, get_or, Ok, Err, Vec, Global, Option, Some, None}
 use Rattle.std.proofs.Common.{arith}
-use Rattle.std.specs.Prelude.{Result, OnOk, OnErr, IfOk, replicate}
+use Rattle.std.specs.Prelude.{Result, OnOk, IfOk, replicate}
 use Rattle.std.proofs.lemmas.List.{map-set, map-append, get_or-map, replicate-append-replicate}
-use Rattle.lossy_wire.specs.Wire.{Packet, slot}
+use Rattle.lossy_wire.specs.Wire.{slot}
 use Rattle.lossy_wire.specs.Held.{Held, fresh, held_at, with_held}
-use Rattle.lossy_wire.specs.Packets.{packets_at, packets_with}
-use Rattle.lossy_wire.specs.View.{held_of, packet_of, packets_of}
+use Rattle.lossy_wire.specs.Lists.{items_at, with_item}
+use Rattle.lossy_wire.specs.View.{held_of}
 use Rattle.lossy_wire.specs.declared.end.End.{End}
-use Rattle.lossy_wire.specs.declared.packet.Packet.{Packet as CodePacket}
 
 pub on_ok : {A E : Type 0} (r : Result A E) (P Q : Type 0) → (P → Q) → OnOk r P → OnOk r Q
 on_ok (Ok x) P Q f h = f h
 on_ok (Err e) P Q f h = tt
 
-pub on_err : {A E : Type 0} (r : Result A E) (P Q : Type 0) → (P → Q) → OnErr r P → OnErr r Q
-on_err (Ok x) P Q f h = tt
-on_err (Err e) P Q f h = f h
+pub all_ok : {A E : Type 0} (r : Result A E) (P : Type 0) → P → OnOk r P
+all_ok (Ok x) P h = h
+all_ok (Err e) P h = tt
+
+pub none_of : {A : Type 0} (o : Option A) → ((x : A) → o ≡ Some x → ⊥) → None ≡ o
+none_of None h = refl
+none_of (Some x) h = absurd (h x refl)
 
 pub if_ok : {A E : Type 0} (r : Result A E) (P Q : A → Type 0) → ((x : A) → P x → Q x) → IfOk r P → IfOk r Q
 if_ok (Ok x) P Q f h = f x h
@@ -41,21 +44,16 @@ same_more ends old e k items same is =
     ap (map held_of) items ∙ map-append held_of old (e ∷ []) ∙ ap (λ (l : List Held). l ++ held_of e ∷ []) same
     ∙ ap (λ (h : Held). replicate k fresh ++ h ∷ []) is ∙ replicate-append-replicate k 1 fresh
 
--- what is there, put there again
-pub set_back : (es : List Held) (k : ℕ) → slice_set es k (get_or es k fresh) ≡ es
-set_back [] k = refl
-set_back (h ∷ es) zero = refl
-set_back (h ∷ es) (suc k) = ap (λ (l : List Held). h ∷ l) (set_back es k)
+-- the items of a list of the code
+abbrev pub items : {T : Type 0} → Vec T Global → List T
+items v = v.items
 
-pub put_slot : (ps : List (Vec CodePacket Global)) (a b i : ℕ) (d u v : Vec CodePacket Global) (p : CodePacket) → i ≡ slot a b → i < 64
-    → length ps ≡ 64 → u ≡ get_or ps i d → v.items ≡ u.items ++ p ∷ []
-    → map packets_of (slice_set ps i v) ≡ packets_with (map packets_of ps) a b (packet_of p)
-put_slot ps a b i d u v p place within full same more =
-    let old : packets_of u ≡ packets_at (map packets_of ps) a b =
-    ap packets_of same ∙ sym (get_or-map packets_of ps i d [] (omega (arith, within, full)))
-    ∙ ap (λ (j : ℕ). get_or (map packets_of ps) j []) place in
-    let now : packets_of v ≡ packets_at (map packets_of ps) a b ++ packet_of p ∷ [] =
-    ap (λ (l : List CodePacket). map packet_of l) more ∙ map-append packet_of u.items (p ∷ [])
-    ∙ ap (λ (l : List Packet). l ++ packet_of p ∷ []) old in
-    map-set packets_of ps i v ∙ ap (λ (j : ℕ). slice_set (map packets_of ps) j (packets_of v)) place
-    ∙ ap (λ (l : List Packet). slice_set (map packets_of ps) (slot a b) l) now
+pub put_slot : {T : Type 0} (ls : List (Vec T Global)) (a b i : ℕ) (d u v : Vec T Global) (x : T) → i ≡ slot a b → i < 64
+    → length ls ≡ 64 → u ≡ get_or ls i d → v.items ≡ u.items ++ x ∷ []
+    → map items (slice_set ls i v) ≡ with_item (map items ls) a b x
+put_slot ls a b i d u v x place within full same more =
+    let old : items u ≡ items_at (map items ls) a b =
+    ap items same ∙ sym (get_or-map items ls i d [] (omega (arith, within, full))) ∙ ap (λ (j : ℕ). get_or (map items ls) j []) place in
+    let now : items v ≡ items_at (map items ls) a b ++ x ∷ [] = more ∙ ap (λ l. l ++ x ∷ []) old in
+    map-set items ls i v ∙ ap (λ (j : ℕ). slice_set (map items ls) j (items v)) place
+    ∙ ap (λ l. slice_set (map items ls) (slot a b) l) now

@@ -1,13 +1,10 @@
 -- The last lines, pair by pair.
 use Rattle.std.proofs.Common.{◌≡◌, ◌∙◌, ap, sym, refl, ℕ, suc, ◌+◌, ◌<◌, ◌≤◌, List, [], ◌∷◌, ◌++◌, map, length, drop, drop-cons, append_assoc}
 use Rattle.std.proofs.Common.{append-nil, drop_of_length-le, add-one}
-use Rattle.std.specs.List.{All}
-use Rattle.std.proofs.lemmas.List.Elements.{All-head, All-tail}
-use Rattle.lossy_wire.specs.Held.{Held, fresh, held, IsLimited, Keeps}
+use Rattle.lossy_wire.specs.Held.{Held, fresh, held, Keeps}
 use Rattle.lossy_wire.specs.Sums.{held_in, held_sum, held_sums}
-use Rattle.lossy_wire.specs.Texts.{sum_line, sum_of, sums}
+use Rattle.lossy_wire.specs.Texts.{sum_of, sums}
 use Rattle.lossy_wire.specs.Wire.{Wire}
-use Rattle.lossy_wire.proofs.Keeping.{count_held}
 
 pub sums_step : (out now base : List ℕ) (k : ℕ) (es : List Held) → k < length es → now ≡ out ++ held_sum k (held_in es k)
     → out ++ held_sums k (drop k es) ≡ base → now ++ held_sums (k + 1) (drop (k + 1) es) ≡ base
@@ -21,11 +18,9 @@ pub sums_end : (out base : List ℕ) (k : ℕ) (es : List Held) → length es �
 sums_end out base k es past so_far =
     sym (append-nil out) ∙ ap (λ (hs : List Held). out ++ held_sums k hs) (sym (drop_of_length-le es past)) ∙ so_far
 
-sums_by : (k : ℕ) (w : Wire) → All IsLimited w → held_sums k (map held w) ≡ sums k w
-sums_by k [] h = refl
-sums_by k (p ∷ w) h =
-    ap (λ (n : ℕ). sum_line k n p.known (length p.delivered) ++ held_sums (suc k) (map held w)) (count_held p (All-head IsLimited p w h))
-    ∙ ap (λ (l : List ℕ). sum_of k p ++ l) (sums_by (suc k) w (All-tail IsLimited p w h))
+sums_by : (k : ℕ) (w : Wire) → held_sums k (map held w) ≡ sums k w
+sums_by k [] = refl
+sums_by k (p ∷ w) = ap (λ (l : List ℕ). sum_of k p ++ l) (sums_by (suc k) w)
 
 pub sums_same : (es : List Held) (w : Wire) → Keeps es w → held_sums 0 es ≡ sums 0 w
-sums_same es w k = ap (held_sums 0) k.same ∙ sums_by 0 w k.limited
+sums_same es w k = ap (held_sums 0) k ∙ sums_by 0 w

@@ -5,5 +5,6 @@ pub mod Laws
 pub mod Held
 pub mod Sums
 pub mod View
-pub mod Packets
+pub mod Lists
+pub mod Spots
 pub mod World

@@ -1,21 +1,30 @@
 //! The commands of a script of a wire.
 
 ghost use Rattle.std.specs.Prelude.{◌≡◌, ◌≤◌, ◌<◌, ◌^◌, length, map, Some, IfOk, IfErr};
-ghost use Rattle.std.specs.List.{All};
+ghost use Rattle.eden_value.specs.Datum.{Datum};
 ghost use Rattle.eden_value.specs.View.{datum};
 ghost use Rattle.line_forms.specs.Forms as forms;
-ghost use Rattle.line_forms.specs.View.{row_of};
-ghost use Rattle.line_forms.specs.Scripts.{IsScript, IsRefusal};
+ghost use Rattle.line_forms.specs.Scripts.{IsRefusal};
+ghost use Rattle.line_forms.specs.Spots.{IsRowAt};
+ghost use Rattle.line_forms.specs.View.{kind_of, row_of};
 ghost use Rattle.lossy_wire.specs.Commands as spec;
 ghost use Rattle.lossy_wire.specs.Commands.{IsInReach, IsMeant, HasMeaning};
+ghost use Rattle.lossy_wire.specs.Spots.{IsReadAs, IsValueAt};
 ghost use Rattle.lossy_wire.specs.View.{meant};
 
 use eden_value::Value;
 use line_forms::{
-    Bound, Ending, Form, Kind, Last, Mark, Place, Row, Rows, read_rows, rows_are_fit,
+    Bound, Ending, Form, Kind, Last, Mark, Place, Row, Rows, read_rows, row_at, rows_are_fit,
 };
 use script_words::ScriptRefusal;
-use std::alloc::Global;
+use std::alloc::{AllocError, Global};
+
+/// The bytes of a script, and the number of its stations.
+#[derive(Clone, Copy)]
+pub struct Script<'a> {
+    pub bytes: &'a [u8],
+    pub stations: u32,
+}
 
 /// What a line asks for.
 #[derive(Drop)]
@@ -28,56 +37,90 @@ pub enum WireCommand {
     Carry { a: u8, b: u8, i: u32 },
 }
 
-/// The script of a wire: the number of stations, and its rows, each of which has a command.
+const STATION: Place = Place {
+    mark: Mark::Blank,
+    low: 1,
+    high: Bound::Station,
+};
+
+const NUMBER: Place = Place {
+    mark: Mark::Blank,
+    low: 1,
+    high: Bound::UpTo { most: 4294967295 },
+};
+
+const COUNT: Place = Place {
+    mark: Mark::Blank,
+    low: 2,
+    high: Bound::UpTo { most: 8 },
+};
+
+const STATIONS: Form<'static> = Form {
+    word: b"stations",
+    places: &[COUNT],
+    ending: Ending::Nothing,
+};
+
+const SEND: Form<'static> = Form {
+    word: b"send",
+    places: &[STATION, STATION],
+    ending: Ending::Value,
+};
+
+const AGAIN: Form<'static> = Form {
+    word: b"again",
+    places: &[STATION, STATION],
+    ending: Ending::Nothing,
+};
+
+const CARRY: Form<'static> = Form {
+    word: b"carry",
+    places: &[STATION, STATION, NUMBER],
+    ending: Ending::Nothing,
+};
+
+/// The lines of a script of a wire.
+const WIRE: Kind<'static> = Kind {
+    first: STATIONS,
+    others: &[SEND, AGAIN, CARRY],
+};
+
+fn wire_kind() -> Kind<'static>
+    ensures { kind_of result ≡ spec.wire_kind }
+{
+    WIRE
+}
+
+/// The script of a wire: the number of stations, and where its rows begin, each of which has a command.
 pub fn read_script(alloc: Global, bytes: &[u8]) -> Result<Rows, ScriptRefusal>
     requires { length bytes.now < 2 ^ 31 }
-    ensures script { IfOk result (λ s. IsScript spec.wire_kind bytes.now s.most (map row_of s.rows.items)) }
+    ensures script { IfOk result (λ s. IsReadAs bytes.now s.most s.spots.items) }
     ensures stations { IfOk result (λ s. (2 ≤ s.most) × (s.most ≤ 8)) }
-    ensures meaning { IfOk result (λ s. All HasMeaning (map row_of s.rows.items)) }
-    ensures few { IfOk result (λ s. length s.rows.items ≤ length bytes.now) }
     ensures bad { IfErr result (IsRefusal spec.wire_kind bytes.now) }
 {
     rows_are_fit();
-    let station = Place {
-        mark: Mark::Blank,
-        low: 1,
-        high: Bound::Station,
-    };
-    let number = Place {
-        mark: Mark::Blank,
-        low: 1,
-        high: Bound::UpTo { most: 4294967295 },
-    };
-    let count = Place {
-        mark: Mark::Blank,
-        low: 2,
-        high: Bound::UpTo { most: 8 },
-    };
-    let send = Form {
-        word: b"send",
-        places: &[station, station],
-        ending: Ending::Value,
-    };
-    let again = Form {
-        word: b"again",
-        places: &[station, station],
-        ending: Ending::Nothing,
-    };
-    let carry = Form {
-        word: b"carry",
-        places: &[station, station, number],
-        ending: Ending::Nothing,
-    };
-    let first = Form {
-        word: b"stations",
-        places: &[count],
-        ending: Ending::Nothing,
-    };
-    let kind = Kind {
-        first,
-        others: &[send, again, carry],
-    };
-    read_rows(alloc, &kind, bytes)
+    read_rows(alloc, &wire_kind(), bytes)
+}
+
+/// The row that begins at a spot, read again.
+pub fn row(alloc: Global, script: Script, spot: u32) -> Result<Row, AllocError>
+    requires { (r : forms.Row) × IsRowAt spec.wire_kind script.bytes.now script.stations spot r }
+    ensures { IfOk result (λ row. (r : forms.Row)
+        → IsRowAt spec.wire_kind script.entry.bytes.now script.entry.stations spot r → r ≡ row_of row) }
+{
+    row_at(alloc, &wire_kind(), script.stations, script.bytes, spot)
+}
+
+/// The value of the row that begins at a spot, read again.
+pub fn value_at(alloc: Global, script: Script, spot: u32) -> Result<Value, AllocError>
+    requires { (d : Datum) × IsValueAt script spot d }
+    ensures { IfOk result (λ value. (d : Datum) → IsValueAt script.entry spot d → datum value ≡ d) }
+{
+    let Row { last, .. } = row(alloc, script, spot)?;
+    match last {
+        Last::Datum { value } => Ok(value),
+        _ => unreachable!(),
+    }
 }
 
 /// The command of a form that ends with a value.

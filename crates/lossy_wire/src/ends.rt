@@ -1,42 +1,42 @@
 //! The ends of all pairs of stations.
 
-ghost use Rattle.std.specs.Prelude.{◌≡◌, ◌≤◌, ◌<◌, ◌+◌, ◌-◌, ◌^◌, length, IfOk, OnOk, OnErr};
+ghost use Rattle.std.specs.Prelude.{◌≡◌, ◌≤◌, ◌<◌, ◌+◌, ◌-◌, ◌^◌, is_some, length, IfOk};
 ghost use Rattle.std.specs.Option.{option_map};
-ghost use Rattle.eden_value.specs.View.{datum};
+ghost use Rattle.eden_value.specs.Datum.{Datum};
 ghost use Rattle.lossy_wire.specs.Wire as wire;
 ghost use Rattle.lossy_wire.specs.Wire.{IsStation, carried, heard, pair_at};
 ghost use Rattle.lossy_wire.specs.Held as held;
-ghost use Rattle.lossy_wire.specs.Held.{Keeps, OfWire, held_at, sent_count};
-ghost use Rattle.lossy_wire.specs.View.{packet_of, held_of};
+ghost use Rattle.lossy_wire.specs.Held.{Keeps, OfWire, held_at};
+ghost use Rattle.lossy_wire.specs.View.{header, with_value};
 
 use crate::end;
 use crate::end::End;
-use crate::packet::Packet;
-use eden_value::Value;
+use crate::packet::Header;
 use std::alloc::{AllocError, Global};
 use std::marker::Model;
 
 /// What a packet brings.
-#[derive(Drop)]
+#[derive(Clone, Copy, Debug, PartialEq, Eq)]
 pub struct Taken {
-    /// The value that it delivers, if it delivers one.
-    pub value: Option<Value>,
-    /// The packet that answers it, which goes back.
-    pub reply: Option<Packet>,
+    /// Whether its value is delivered.
+    pub delivers: bool,
+    /// The header of the packet that answers it, which goes back.
+    pub reply: Option<Header>,
 }
 
-/// What the stations keep, for each ordered pair of them: of values only those that are not known to be delivered.
+/// What the stations keep, for each ordered pair of them: three numbers. The values stay with whoever sends them, who knows each by its
+/// number among those of its pair.
 ///
-/// Contracts see it as the list of what is kept of each pair of eight stations, and say what becomes of whichever wire these are the ends of.
+/// Contracts see it as the list of what is kept of each pair of eight stations, and say what becomes of whichever wire these are the ends
+/// of, whatever the values in its packets.
 #[derive(Drop)]
 pub struct Ends {
     ends: Vec<End>,
 }
 
 impl Model for Ends {
-    ghost use Rattle.std.specs.Prelude.{◌≡◌, ◌<◌, ◌^◌, List, map, length};
-    ghost use Rattle.std.specs.List.{All};
-    ghost use Rattle.lossy_wire.specs.Held.{Held, coded_ends, sent_count};
+    ghost use Rattle.std.specs.Prelude.{◌≡◌, List, map, length};
+    ghost use Rattle.lossy_wire.specs.Held.{Held, coded_ends};
     ghost use Rattle.lossy_wire.specs.View.{held_of};
 
     ghost Value = { List Held };
@@ -45,7 +45,7 @@ impl Model for Ends {
 
     ghost view = { λ e. map held_of e.ends.items };
 
-    ghost invariant = { λ e. (length e.ends.items ≡ 64) × All (λ h. sent_count (held_of h) < 2 ^ 32) e.ends.items };
+    ghost invariant = { λ e. length e.ends.items ≡ 64 };
 }
 
 /// The place of a pair of stations.
@@ -67,7 +67,7 @@ impl Ends {
         let mut ends = Vec::with_capacity(alloc, 64)?;
         for i in 0..64 {
             let _i: usize = i;
-            ends.push(end::fresh(alloc))?;
+            ends.push(end::fresh())?;
         }
         Ok(Ends { ends })
     }
@@ -84,9 +84,9 @@ impl Ends {
     pub fn sent(&self, a: u8, b: u8) -> u32
         requires first { IsStation a }
         requires second { IsStation b }
-        ensures { result ≡ sent_count (held_at self.now a b) }
+        ensures { result ≡ (held_at self.now a b).sent }
     {
-        end::sent(&self.ends[slot(a, b)])
+        self.ends[slot(a, b)].sent
     }
 
     /// How many of them station a knows to be delivered.
@@ -107,69 +107,66 @@ impl Ends {
         self.ends[slot(a, b)].delivered
     }
 
-    /// Sends a value from station a to station b, and gives its packet. Without memory nothing is sent.
-    pub fn send(&mut self, a: u8, b: u8, value: Value) -> Result<Packet, AllocError>
+    /// Sends a value from station a to station b, and gives the header of its packet.
+    pub fn send(&mut self, a: u8, b: u8) -> Header
         requires first { IsStation a }
         requires second { IsStation b }
-        requires room { sent_count (held_at self.old a b) < 2 ^ 32 - 1 }
-        ensures sent { OnOk result (OfWire self.old (λ w. Keeps self.new (wire.send w a b (datum value)))) }
-        ensures packet { IfOk result (λ p. OfWire self.old (λ w. packet_of p ≡ carried (length (pair_at w a b).sent + 1) (datum value))) }
-        ensures failed { OnErr result (self.new ≡ self.old) }
+        requires room { (held_at self.old a b).sent < 2 ^ 32 - 1 }
+        ensures sent { OfWire self.old (λ w. (d : Datum) → Keeps self.new (wire.send w a b d)) }
+        ensures packet { OfWire self.old (λ w. (d : Datum) → result ≡ header (carried (length (pair_at w a b).sent + 1) d)) }
     {
-        end::send(&mut self.ends[slot(a, b)], value)
+        end::send(&mut self.ends[slot(a, b)])
     }
 
-    /// The packet of the first value that station a does not know to be delivered at station b, if there is one.
-    pub fn again(&self, a: u8, b: u8) -> Result<Option<Packet>, AllocError>
+    /// The header of the packet with the first value that station a does not know to be delivered at station b, if there is one.
+    pub fn again(&self, a: u8, b: u8) -> Option<Header>
         requires first { IsStation a }
         requires second { IsStation b }
-        ensures { IfOk result (λ o. OfWire self.now (λ w. option_map packet_of o ≡ wire.due (pair_at w a b))) }
+        ensures { OfWire self.now (λ w. result ≡ option_map header (wire.due (pair_at w a b))) }
     {
         end::due(&self.ends[slot(a, b)])
     }
 
-    /// Takes a packet from station a at station b: the value that it delivers, and its answer. Without memory nothing is taken.
-    pub fn take(&mut self, a: u8, b: u8, packet: &Packet) -> Result<Taken, AllocError>
+    /// Takes a packet with this header from station a at station b, whatever the value in it: whether the value is delivered, and the
+    /// header of its answer.
+    pub fn take(&mut self, a: u8, b: u8, packet: Header) -> Taken
         requires first { IsStation a }
         requires second { IsStation b }
-        ensures taken { OnOk result (OfWire self.old (λ w. Keeps self.new (wire.taken w a b (packet_of packet.now)))) }
-        ensures value { IfOk result (λ t. OfWire self.old (λ w.
-            option_map datum t.value ≡ wire.arriving (pair_at w a b) (packet_of packet.now))) }
-        ensures reply { IfOk result (λ t. OfWire self.old (λ w.
-            option_map packet_of t.reply ≡ wire.reply_to (pair_at w a b) (packet_of packet.now))) }
-        ensures failed { OnErr result (self.new ≡ self.old) }
+        ensures taken { OfWire self.old (λ w. (d : Datum) → Keeps self.new (wire.taken w a b (with_value d packet))) }
+        ensures delivers { OfWire self.old (λ w. (d : Datum) →
+            result.delivers ≡ is_some (wire.arriving (pair_at w a b) (with_value d packet))) }
+        ensures reply { OfWire self.old (λ w. (d : Datum) →
+            result.reply ≡ option_map header (wire.reply_to (pair_at w a b) (with_value d packet))) }
     {
         match packet {
-            Packet::Carried { number, value } => self.take_value(a, b, *number, value),
-            Packet::Known { upto } => {
-                self.take_number(a, b, *upto);
-                Ok(Taken {
-                    value: None,
+            Header::Carried { number } => self.take_value(a, b, number),
+            Header::Known { upto } => {
+                self.take_number(a, b, upto);
+                Taken {
+                    delivers: false,
                     reply: None,
-                })
+                }
             }
         }
     }
 
     /// Takes a value with its number.
-    fn take_value(&mut self, a: u8, b: u8, number: u32, value: &Value) -> Result<Taken, AllocError>
+    fn take_value(&mut self, a: u8, b: u8, number: u32) -> Taken
         requires first { IsStation a }
         requires second { IsStation b }
-        ensures taken { OnOk result (OfWire self.old (λ w. Keeps self.new (wire.taken w a b (carried number (datum value.now))))) }
-        ensures value { IfOk result (λ t. OfWire self.old (λ w.
-            option_map datum t.value ≡ wire.arriving (pair_at w a b) (carried number (datum value.now)))) }
-        ensures reply { IfOk result (λ t. OfWire self.old (λ w.
-            option_map packet_of t.reply ≡ wire.reply_to (pair_at w a b) (carried number (datum value.now)))) }
-        ensures failed { OnErr result (self.new ≡ self.old) }
+        ensures taken { OfWire self.old (λ w. (d : Datum) → Keeps self.new (wire.taken w a b (carried number d))) }
+        ensures delivers { OfWire self.old (λ w. (d : Datum) →
+            result.delivers ≡ is_some (wire.arriving (pair_at w a b) (carried number d))) }
+        ensures reply { OfWire self.old (λ w. (d : Datum) →
+            result.reply ≡ option_map header (wire.reply_to (pair_at w a b) (carried number d))) }
     {
         let end = &mut self.ends[slot(a, b)];
-        let value = end::arriving(end, number, value)?;
-        end::deliver(end, number);
+        let delivers = end::deliver(end, number);
         let upto = end.delivered;
-        Ok(Taken {
-            value,
-            reply: Some(Packet::Known { upto }),
-        })
+        Taken {
+            delivers,
+            reply: Some(Header::Known { upto }),
+        }
     }
 
     /// Takes a number of delivered values.

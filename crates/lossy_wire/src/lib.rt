@@ -7,12 +7,12 @@ mod commands;
 mod end;
 mod ends;
 mod law;
+mod lists;
 mod packet;
-mod packets;
 mod run;
 mod text;
 
 pub use ends::{Ends, Taken};
 pub use law::{texts_are_one, wires_are_orderly};
-pub use packet::Packet;
+pub use packet::Header;
 pub use run::run_wire;

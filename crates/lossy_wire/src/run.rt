@@ -1,57 +1,63 @@
 //! A run of a script of a wire.
 
 ghost use Rattle.std.specs.Prelude.{◌≡◌, ◌≤◌, ◌<◌, ◌-◌, ◌++◌, ◌^◌, length, IfOk, IfErr, OnOk};
-ghost use Rattle.std.specs.Option.{option_map};
-ghost use Rattle.eden_value.specs.View.{datum};
+ghost use Rattle.eden_value.specs.Datum.{Datum};
 ghost use Rattle.line_forms.specs.Scripts.{IsRefusal};
 ghost use Rattle.lossy_wire.specs.Commands as spec;
 ghost use Rattle.lossy_wire.specs.Commands.{IsInReach};
-ghost use Rattle.lossy_wire.specs.Held.{held_at, sent_count};
+ghost use Rattle.lossy_wire.specs.Held.{held_at};
+ghost use Rattle.lossy_wire.specs.Spots.{IsCommandAt};
 ghost use Rattle.lossy_wire.specs.Sums.{held_sum, held_sums, held_in};
-ghost use Rattle.lossy_wire.specs.Texts.{IsText, again_line, delivery_by, lines, next};
-ghost use Rattle.lossy_wire.specs.View.{meant, packet_of};
+ghost use Rattle.lossy_wire.specs.Texts.{IsText, lines, next};
+ghost use Rattle.lossy_wire.specs.View.{meant};
 ghost use Rattle.lossy_wire.specs.Wire.{IsStation, quiet};
-ghost use Rattle.lossy_wire.specs.World.{HasRoom, IsOf, OfAny};
+ghost use Rattle.lossy_wire.specs.World.{HasRoom, HasValue, IsHeld, IsOf, OfAny, Shows, again_text, no_packet, number_by};
+ghost use Rattle.lossy_wire.specs.declared.commands.Script.{Script};
 
-use crate::commands::{WireCommand, command, read_script};
+use crate::commands::{Script, WireCommand, command, read_script, row, value_at};
 use crate::ends::{Ends, Taken};
-use crate::packet::Packet;
-use crate::packets::Packets;
+use crate::lists::Lists;
+use crate::packet::Header;
 use crate::text::{add_delivery, add_sum};
-use eden_value::Value;
+use line_forms::Rows;
 use script_words::ScriptRefusal;
 use std::alloc::{AllocError, Global};
 
-/// The ends of all pairs of stations, and the wire between them.
+/// The ends of all pairs of stations, and the wire between them. Of the values that were sent there is where in the script they begin.
 #[derive(Drop)]
 pub struct World {
     pub ends: Ends,
-    pub packets: Packets,
+    pub sent: Lists<u32>,
+    pub packets: Lists<Header>,
 }
 
 fn new_world(alloc: Global, stations: u8) -> Result<World, AllocError>
     requires { (2 ≤ stations) × (stations ≤ 8) }
-    ensures { IfOk result (λ world. IsOf world quiet) }
+    ensures { IfOk result (λ world. (s : Script) → IsOf s world quiet) }
 {
     Ok(World {
         ends: Ends::new(alloc, stations)?,
-        packets: Packets::new(alloc)?,
+        sent: Lists::new(alloc)?,
+        packets: Lists::new(alloc)?,
     })
 }
 
-fn send(world: &mut World, a: u8, b: u8, value: Value) -> Result<(), AllocError>
+/// Sends the value of the row that begins at a spot.
+fn send(world: &mut World, a: u8, b: u8, spot: u32) -> Result<(), AllocError>
     requires first { IsStation a }
     requires second { IsStation b }
-    requires room { sent_count (held_at world.old.ends a b) < 2 ^ 32 - 1 }
-    ensures { OnOk result (OfAny world.old (λ w. IsOf world.new (next w (spec.sends a b (datum value))))) }
+    requires room { (held_at world.old.ends a b).sent < 2 ^ 32 - 1 }
+    ensures { OnOk result ((s : Script) (d : Datum) → IsCommandAt s spot (spec.sends a b d)
+        → OfAny s world.old (λ w. IsOf s world.new (next w (spec.sends a b d)))) }
 {
-    let packet = world.ends.send(a, b, value)?;
-    world.packets.put(a, b, packet)
+    let packet = world.ends.send(a, b);
+    world.sent.push(a, b, spot)?;
+    world.packets.push(a, b, packet)
 }
 
 /// The line of what is sent again, if nothing is.
-fn add_again(packet: &Option<Packet>, out: &mut Vec<u8>) -> Result<(), AllocError>
-    ensures { OnOk result (out.new.items ≡ out.old.items ++ again_line (option_map packet_of packet.now)) }
+fn add_again(packet: Option<Header>, out: &mut Vec<u8>) -> Result<(), AllocError>
+    ensures { OnOk result (out.new.items ≡ out.old.items ++ again_text packet) }
 {
     if packet.is_none() {
         out.extend_from_slice(b"nothing\n")?;
@@ -62,32 +68,59 @@ fn add_again(packet: &Option<Packet>, out: &mut Vec<u8>) -> Result<(), AllocErro
 fn again(world: &mut World, a: u8, b: u8, out: &mut Vec<u8>) -> Result<(), AllocError>
     requires first { IsStation a }
     requires second { IsStation b }
-    ensures world { OnOk result (OfAny world.old (λ w. IsOf world.new (next w (spec.repeats a b)))) }
-    ensures text { OnOk result (OfAny world.old (λ w. out.new.items ≡ out.old.items ++ lines w (spec.repeats a b))) }
+    ensures world { OnOk result ((s : Script) → OfAny s world.old (λ w. IsOf s world.new (next w (spec.repeats a b)))) }
+    ensures text { OnOk result ((s : Script) → OfAny s world.old (λ w. out.new.items ≡ out.old.items ++ lines w (spec.repeats a b))) }
 {
-    let packet = world.ends.again(a, b)?;
-    add_again(&packet, out)?;
-    world.packets.put_by(a, b, packet)
+    let packet = world.ends.again(a, b);
+    add_again(packet, out)?;
+    world.packets.push_by(a, b, packet)
 }
 
-/// The line of a value that is delivered, if one is.
+/// The number of the value behind a header, if it is delivered.
+fn delivered(packet: Header, delivers: bool) -> Option<u32>
+    ensures { result ≡ number_by packet delivers }
+{
+    match packet {
+        Header::Carried { number } if delivers => Some(number),
+        _ => None,
+    }
+}
+
+/// The line of the value with a number, which is delivered, if one is.
 fn add_value(
     alloc: Global,
+    script: Script,
+    sent: &Lists<u32>,
     a: u8,
     b: u8,
-    value: &Option<Value>,
+    number: Option<u32>,
     out: &mut Vec<u8>,
 ) -> Result<(), AllocError>
-    ensures { OnOk result (out.new.items ≡ out.old.items ++ delivery_by (option_map datum value.now) a b) }
+    requires first { IsStation a }
+    requires second { IsStation b }
+    requires value { HasValue script sent.now a b number }
+    ensures { OnOk result (Shows script.entry sent.now a b number out.old.items out.new.items) }
 {
-    match value {
-        Some(value) => add_delivery(alloc, a, b, value, out),
-        None => Ok(()),
-    }
+    let Some(number) = number else {
+        return Ok(());
+    };
+    let Some(spot) = sent.at(a, b, number) else {
+        unreachable!();
+    };
+    let value = value_at(alloc, script, spot)?;
+    add_delivery(alloc, a, b, &value, out)
+}
+
+/// The line of a packet that is not there.
+fn add_missing(out: &mut Vec<u8>) -> Result<(), AllocError>
+    ensures { OnOk result (out.new.items ≡ out.old.items ++ no_packet) }
+{
+    out.extend_from_slice(b"no packet\n")
 }
 
 fn carry(
     alloc: Global,
+    script: Script,
     world: &mut World,
     a: u8,
     b: u8,
@@ -97,33 +130,60 @@ fn carry(
     requires first { IsStation a }
     requires second { IsStation b }
     requires number { 1 ≤ i }
-    ensures world { OnOk result (OfAny world.old (λ w. IsOf world.new (next w (spec.carries a b i)))) }
-    ensures text { OnOk result (OfAny world.old (λ w. out.new.items ≡ out.old.items ++ lines w (spec.carries a b i))) }
+    requires held { IsHeld script world.old }
+    ensures world { OnOk result (OfAny script.entry world.old (λ w. IsOf script.entry world.new (next w (spec.carries a b i)))) }
+    ensures text { OnOk result (OfAny script.entry world.old (λ w. out.new.items ≡ out.old.items ++ lines w (spec.carries a b i))) }
 {
-    let Some(packet) = world.packets.at(a, b, i)? else {
-        return out.extend_from_slice(b"no packet\n");
+    let Some(packet) = world.packets.at(a, b, i) else {
+        return add_missing(out);
     };
-    let Taken { value, reply } = world.ends.take(a, b, &packet)?;
-    add_value(alloc, a, b, &value, out)?;
-    world.packets.put_by(b, a, reply)
+    let Taken { delivers, reply } = world.ends.take(a, b, packet);
+    let number = delivered(packet, delivers);
+    add_value(alloc, script, &world.sent, a, b, number, out)?;
+    world.packets.push_by(b, a, reply)
 }
 
+fn act(
+    alloc: Global,
+    script: Script,
+    world: &mut World,
+    spot: u32,
+    command: &WireCommand,
+    out: &mut Vec<u8>,
+) -> Result<(), AllocError>
+    requires reach { IsInReach (meant command.now) }
+    requires there { IsCommandAt script spot (meant command.now) }
+    requires held { IsHeld script world.old }
+    requires room { HasRoom world.old }
+    ensures world { OnOk result (OfAny script.entry world.old (λ w. IsOf script.entry world.new (next w (meant command.now)))) }
+    ensures text { OnOk result (OfAny script.entry world.old (λ w. out.new.items ≡ out.old.items ++ lines w (meant command.now))) }
+{
+    match command {
+        WireCommand::Send { a, b, .. } => send(world, *a, *b, spot),
+        WireCommand::Again { a, b } => again(world, *a, *b, out),
+        WireCommand::Carry { a, b, i } => carry(alloc, script, world, *a, *b, *i, out),
+    }
+}
+
+/// Carries a command out, whose row begins at a spot, and lets it go.
 fn step(
     alloc: Global,
+    script: Script,
     world: &mut World,
+    spot: u32,
     command: WireCommand,
     out: &mut Vec<u8>,
 ) -> Result<(), AllocError>
     requires reach { IsInReach (meant command) }
+    requires there { IsCommandAt script spot (meant command) }
+    requires held { IsHeld script world.old }
     requires room { HasRoom world.old }
-    ensures world { OnOk result (OfAny world.old (λ w. IsOf world.new (next w (meant command)))) }
-    ensures text { OnOk result (OfAny world.old (λ w. out.new.items ≡ out.old.items ++ lines w (meant command))) }
+    ensures world { OnOk result (OfAny script.entry world.old (λ w. IsOf script.entry world.new (next w (meant command)))) }
+    ensures text { OnOk result (OfAny script.entry world.old (λ w. out.new.items ≡ out.old.items ++ lines w (meant command))) }
 {
-    match command {
-        WireCommand::Send { a, b, value } => send(world, a, b, value),
-        WireCommand::Again { a, b } => again(world, a, b, out),
-        WireCommand::Carry { a, b, i } => carry(alloc, world, a, b, i, out),
-    }
+    let done = act(alloc, script, world, spot, &command, out);
+    drop(command);
+    done
 }
 
 fn add_sum_of(ends: &Ends, k: usize, out: &mut Vec<u8>) -> Result<(), AllocError>
@@ -158,11 +218,16 @@ pub fn run_wire(alloc: Global, bytes: &[u8]) -> Result<Vec<u8>, ScriptRefusal>
     ensures text { IfOk result (λ text. IsText bytes.now text.items) }
     ensures bad { IfErr result (IsRefusal spec.wire_kind bytes.now) }
 {
-    let script = read_script(alloc, bytes)?;
-    let mut world = new_world(alloc, script.most as u8)?;
+    let Rows { most, spots } = read_script(alloc, bytes)?;
+    let script = Script {
+        bytes,
+        stations: most,
+    };
+    let mut world = new_world(alloc, most as u8)?;
     let mut text = Vec::new(alloc);
-    for row in script.rows {
-        step(alloc, &mut world, command(row), &mut text)?;
+    for spot in spots {
+        let row = row(alloc, script, spot)?;
+        step(alloc, script, &mut world, spot, command(row), &mut text)?;
     }
     add_sums(&world.ends, &mut text)?;
     Ok(text)

@@ -1,82 +1,45 @@
 //! The calls of `Ends`, and scripts of a wire with what they write.
 
 use eden_script::{ScriptCause, ScriptRefusal};
-use eden_value::Value;
-use lossy_wire::{Ends, Packet, Taken, run_wire};
+use lossy_wire::{Ends, Header, Taken, run_wire};
 use std::alloc::Global;
 use std::process::Abort;
 
-/// What a step does at the ends of three stations; a value is a number.
+/// What a step does at the ends of three stations.
 #[derive(Clone, Copy)]
 enum Step {
     /// A value is sent, and goes with this number.
-    Send(u8, u8, i64, u32),
+    Send(u8, u8, u32),
     /// A value is sent again with its number, if there is one.
-    Again(u8, u8, Option<(u32, i64)>),
+    Again(u8, u8, Option<u32>),
     /// A value comes with its number: whether it is delivered, and how many are.
-    Value(u8, u8, (u32, i64), bool, u32),
+    Value(u8, u8, u32, bool, u32),
     /// So many are said to be delivered.
     Known(u8, u8, u32),
     /// How many values were sent, known and delivered.
     Sum(u8, u8, (u32, u32, u32)),
 }
 
-fn number_of(value: &Value) -> Option<i64> {
-    match value {
-        Value::Int { n } => Some(*n),
-        _ => None,
-    }
-}
-
-/// The number of a packet, and its value.
-fn carried(packet: &Packet) -> Option<(u32, i64)> {
-    match packet {
-        Packet::Carried { number, value } => Some((*number, number_of(value)?)),
-        Packet::Known { .. } => None,
-    }
-}
-
-/// How many values a packet says to be delivered.
-fn known(packet: &Packet) -> Option<u32> {
-    match packet {
-        Packet::Carried { .. } => None,
-        Packet::Known { upto } => Some(*upto),
-    }
-}
-
-/// Whether a value that came was delivered as wanted, and answered by how many are.
-fn is_taken(taken: &Taken, value: i64, delivered: bool, count: u32) -> bool {
-    let found = taken.value.as_ref().and_then(|value| number_of(value));
-    let wanted = if delivered { Some(value) } else { None };
-    found == wanted && taken.reply.as_ref().and_then(|reply| known(reply)) == Some(count)
-}
-
 /// Whether a step at the ends is as it says.
 fn is_so(rt: &impl Abort, ends: &mut Ends, step: Step) -> bool {
     match step {
-        Step::Send(a, b, n, number) => {
+        Step::Send(a, b, number) => {
             assert!(rt; 1 <= a && a <= 8 && 1 <= b && b <= 8 && ends.sent(a, b) < 1000);
-            let packet = ends.send(a, b, Value::Int { n }).expect(rt, "memory");
-            carried(&packet) == Some((number, n))
+            ends.send(a, b) == Header::Carried { number }
         }
         Step::Again(a, b, wanted) => {
             assert!(rt; 1 <= a && a <= 8 && 1 <= b && b <= 8);
-            let packet = ends.again(a, b).expect(rt, "memory");
-            packet.as_ref().and_then(|packet| carried(packet)) == wanted
+            ends.again(a, b) == wanted.map(|number| Header::Carried { number })
         }
-        Step::Value(a, b, (number, n), delivered, count) => {
+        Step::Value(a, b, number, delivers, upto) => {
             assert!(rt; 1 <= a && a <= 8 && 1 <= b && b <= 8);
-            let value = Value::Int { n };
-            let packet = Packet::Carried { number, value };
-            let taken = ends.take(a, b, &packet).expect(rt, "memory");
-            is_taken(&taken, n, delivered, count)
+            let reply = Some(Header::Known { upto });
+            ends.take(a, b, Header::Carried { number }) == Taken { delivers, reply }
         }
         Step::Known(a, b, upto) => {
             assert!(rt; 1 <= a && a <= 8 && 1 <= b && b <= 8);
-            let taken = ends
-                .take(a, b, &Packet::Known { upto })
-                .expect(rt, "memory");
-            taken.value.is_none() && taken.reply.is_none()
+            let taken = ends.take(a, b, Header::Known { upto });
+            !taken.delivers && taken.reply.is_none()
         }
         Step::Sum(a, b, wanted) => {
             assert!(rt; 1 <= a && a <= 8 && 1 <= b && b <= 8);
@@ -88,27 +51,27 @@ fn is_so(rt: &impl Abort, ends: &mut Ends, step: Step) -> bool {
 /// Steps at the ends of three stations, one behind the other.
 const STEPS: &[Step] = &[
     Step::Again(1, 2, None),
-    Step::Send(1, 2, 10, 1),
-    Step::Send(1, 2, 11, 2),
-    Step::Send(3, 2, 12, 1),
-    Step::Again(1, 2, Some((1, 10))),
+    Step::Send(1, 2, 1),
+    Step::Send(1, 2, 2),
+    Step::Send(3, 2, 1),
+    Step::Again(1, 2, Some(1)),
     // a value that is not the next one, then the next one, then both again
-    Step::Value(1, 2, (2, 11), false, 0),
-    Step::Value(1, 2, (1, 10), true, 1),
-    Step::Value(1, 2, (1, 10), false, 1),
-    Step::Value(1, 2, (2, 11), true, 2),
-    Step::Value(1, 2, (0, 10), false, 2),
+    Step::Value(1, 2, 2, false, 0),
+    Step::Value(1, 2, 1, true, 1),
+    Step::Value(1, 2, 1, false, 1),
+    Step::Value(1, 2, 2, true, 2),
+    Step::Value(1, 2, 0, false, 2),
     // more than was sent, then what was delivered, then an old number
     Step::Known(2, 1, 3),
     Step::Sum(1, 2, (2, 0, 2)),
     Step::Known(2, 1, 1),
-    Step::Again(1, 2, Some((2, 11))),
+    Step::Again(1, 2, Some(2)),
     Step::Known(2, 1, 0),
     Step::Sum(1, 2, (2, 1, 2)),
     Step::Known(2, 1, 2),
     Step::Again(1, 2, None),
-    Step::Send(1, 2, 13, 3),
-    Step::Again(1, 2, Some((3, 13))),
+    Step::Send(1, 2, 3),
+    Step::Again(1, 2, Some(3)),
     Step::Sum(1, 2, (3, 2, 2)),
     Step::Sum(3, 2, (1, 0, 0)),
     Step::Sum(2, 1, (0, 0, 0)),
@@ -146,6 +109,11 @@ const WRITTEN: &[Row<'static>] = &[
     (
         "# a comment\n\nstations 3\nsend 3 1 [1, \"x\"]\ncarry 3 1 1\ncarry 1 3 1\nend\n\n# so\n",
         Ok("1 from 3 [1, \"x\"]\n3 1 sent 1 known 1 delivered 1\n"),
+    ),
+    // values come in another order than they were sent, between comments
+    (
+        "stations 2\nsend 1 2 \"a\"\n# b\nsend 1 2 [2, 3]\nagain 1 2\ncarry 1 2 2\ncarry 1 2 3\n\ncarry 1 2 2\nend\n",
+        Ok("2 from 1 \"a\"\n2 from 1 [2, 3]\n1 2 sent 2 known 0 delivered 2\n"),
     ),
     (
         "stations 8\nsend 8 7 none\nsend 1 2 -0\ncarry 7 8 1\nend\n",

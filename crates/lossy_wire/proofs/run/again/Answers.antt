@@ -1,11 +1,15 @@
 use Rattle.std.proofs.Common.{rules, refl}
-use Rattle.std.specs.Option.{option_map}
-use Rattle.lossy_wire.specs.View.{packet_of}
 use Rattle.lossy_wire.proofs.Slots.{on_ok}
-use Rattle.lossy_wire.proofs.Worlds.{is_again}
+use Rattle.lossy_wire.proofs.Worlds.{is_again, is_again_text}
 use Rattle.lossy_wire.proofs.run.again.Goals as goal
 
 pub returns-clause-world : goal.returns-clause-world
 returns-clause-world c =
-    on_ok c.put_by.result _ _ (λ h. is_again c.args.world.now (record { ends = c.args.world.now.ends; packets = c.put_by.new.self })
-    c.args.a c.args.b (option_map packet_of c.in_ok-packet.packet) refl (search rules) h) c.put_by.ensures
+    let old = c.args.world.now in
+    on_ok c.push_by.result _ _ (λ h. is_again old (record { ends = old.ends; sent = old.sent; packets = c.push_by.new.self })
+    c.args.a c.args.b c.again-packet.result c.requires.first c.requires.second refl refl c.again-packet.ensures h) c.push_by.ensures
+
+pub returns-clause-text : goal.returns-clause-text
+returns-clause-text c =
+    on_ok c.push_by.result _ _ (λ h. is_again_text c.args.world.now c.args.a c.args.b c.again-packet.result c.args.out.now.items
+    c.add_again.new.out.items c.again-packet.ensures (search rules)) c.push_by.ensures

@@ -1,11 +1,10 @@
 use Rattle.std.proofs.Common.{rules}
-use Rattle.eden_value.specs.View.{datum}
-use Rattle.lossy_wire.specs.View.{packet_of}
 use Rattle.lossy_wire.proofs.Slots.{on_ok}
 use Rattle.lossy_wire.proofs.Worlds.{is_sent}
 use Rattle.lossy_wire.proofs.run.send.Goals as goal
 
 pub returns : goal.returns
 returns c =
-    on_ok c.put.result _ _ (λ h. is_sent c.args.world.now (record { ends = c.send.new.self; packets = c.put.new.self }) c.args.a c.args.b
-    (datum c.args.value) (packet_of c.in_ok-packet.packet) (search rules) (search rules) h) c.put.ensures
+    on_ok c.push-2.result _ _ (λ h. is_sent c.args.world.now
+    (record { ends = c.send-packet.new.self; sent = c.push.new.self; packets = c.push-2.new.self }) c.args.a c.args.b c.args.spot c.send-packet.result
+    c.requires.first c.requires.second c.send-packet.ensures.sent c.send-packet.ensures.packet (search rules) h) c.push-2.ensures

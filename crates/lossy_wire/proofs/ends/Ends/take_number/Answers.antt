@@ -15,4 +15,4 @@ returns c =
     λ w k. subst (λ (l : List Held). Keeps l (taken w a b (heard n)))
     (sym (set_slot es ends b a c.slot.result c.hear.new.end (held_told (held_at es b a) n) (search rules) c.slot.ensures.place
     (c.hear.ensures ∙ ap (λ x. held_told x n) (at_slot es ends b a c.slot.result _ _ (search rules) c.slot.ensures.place
-    c.slot.ensures.within c.self.invariant.0 c.index_mut.ensures.value)))) (keeps_told es w k a b n)
+    c.slot.ensures.within c.self.invariant c.index_mut.ensures.value)))) (keeps_told es w k a b n)

@@ -1,8 +1,9 @@
-use Rattle.std.proofs.Common.{rules, ◌∙◌, ap, sym, subst, List, Some}
-use Rattle.eden_value.specs.View.{datum}
-use Rattle.lossy_wire.specs.Wire.{carried, heard, taken}
-use Rattle.lossy_wire.specs.Held.{Held, Keeps, held_at, held_arriving, held_delivered}
-use Rattle.lossy_wire.proofs.Keeping.{keeps_delivered, arriving_same, reply_same}
+use Rattle.std.proofs.Common.{rules, ◌∙◌, ap, sym, subst, List, Option, Some}
+use Rattle.lossy_wire.specs.Wire.{carried, taken}
+use Rattle.lossy_wire.specs.Held.{Held, Keeps, held_at, held_next, held_delivered}
+use Rattle.lossy_wire.specs.declared.packet.Header.{Header}
+use Rattle.lossy_wire.specs.declared.packet.Header.TheVariants as code
+use Rattle.lossy_wire.proofs.Keeping.{keeps_delivered, next_same, reply_same}
 use Rattle.lossy_wire.proofs.Slots.{set_slot, at_slot}
 use Rattle.lossy_wire.proofs.ends.Ends.take_value.Goals as goal
 
@@ -13,22 +14,21 @@ returns-clause-taken c =
     let a = c.args.a in
     let b = c.args.b in
     let n = c.args.number in
-    let d = datum c.args.value.now in
-    λ w k. subst (λ (l : List Held). Keeps l (taken w a b (carried n d)))
-    (sym (set_slot es ends a b c.slot.result c.deliver.new.end (held_delivered (held_at es a b) n) (search rules) c.slot.ensures.place
-    (c.deliver.ensures ∙ ap (λ x. held_delivered x n) (at_slot es ends a b c.slot.result _ _ (search rules) c.slot.ensures.place
-    c.slot.ensures.within c.self.invariant.0 c.index_mut-end.ensures.value)))) (keeps_delivered es w k a b n d)
+    λ w k d. subst (λ (l : List Held). Keeps l (taken w a b (carried n d)))
+    (sym (set_slot es ends a b c.slot.result c.deliver-delivers.new.end (held_delivered (held_at es a b) n) (search rules) c.slot.ensures.place
+    (c.deliver-delivers.ensures.end ∙ ap (λ x. held_delivered x n) (at_slot es ends a b c.slot.result _ _ (search rules) c.slot.ensures.place
+    c.slot.ensures.within c.self.invariant c.index_mut-end.ensures.value)))) (keeps_delivered es w k a b n d)
 
-pub returns-clause-value : goal.returns-clause-value
-returns-clause-value c =
+pub returns-clause-delivers : goal.returns-clause-delivers
+returns-clause-delivers c =
     let ends = c.self.inside.ends.items in
     let es = c.args.self.now in
     let a = c.args.a in
     let b = c.args.b in
     let n = c.args.number in
-    let d = datum c.args.value.now in
-    λ w k. c.in_ok-value.ensures ∙ ap (λ x. held_arriving x n d) (at_slot es ends a b c.slot.result _ _ (search rules) c.slot.ensures.place
-    c.slot.ensures.within c.self.invariant.0 c.index_mut-end.ensures.value) ∙ arriving_same es w k a b n d
+    λ w k d. c.deliver-delivers.ensures.delivers ∙ ap (λ x. held_next x n) (at_slot es ends a b c.slot.result _ _ (search rules) c.slot.ensures.place
+    c.slot.ensures.within c.self.invariant c.index_mut-end.ensures.value)
+    ∙ next_same es w k a b n d
 
 pub returns-clause-reply : goal.returns-clause-reply
 returns-clause-reply c =
@@ -37,7 +37,6 @@ returns-clause-reply c =
     let a = c.args.a in
     let b = c.args.b in
     let n = c.args.number in
-    let d = datum c.args.value.now in
-    λ w k. ap (λ (h : Held). Some (heard h.delivered)) (c.deliver.ensures ∙ ap (λ x. held_delivered x n)
-    (at_slot es ends a b c.slot.result _ _ (search rules) c.slot.ensures.place c.slot.ensures.within c.self.invariant.0
-    c.index_mut-end.ensures.value)) ∙ reply_same es w k a b n d
+    λ w k d. ap {B = Option Header} (λ (h : Held). Some (code.Known h.delivered)) (c.deliver-delivers.ensures.end ∙ ap (λ x. held_delivered x n)
+    (at_slot es ends a b c.slot.result _ _ (search rules) c.slot.ensures.place
+    c.slot.ensures.within c.self.invariant c.index_mut-end.ensures.value)) ∙ reply_same es w k a b n d
