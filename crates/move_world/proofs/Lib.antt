@@ -1,0 +1,9 @@
+pub mod Posted
+pub mod Positive
+pub mod Running
+pub mod Opening
+pub mod Bridging
+pub mod Hearing
+pub mod Seating
+pub mod Placing
+pub mod Runs

@@ -1,0 +1,28 @@
+use Rattle.std.proofs.Common.{◌-◌, ap}
+use Rattle.passive_store.specs.Seen.{disk_seen}
+use Rattle.script_words.specs.Meaning.{written_mode}
+use Rattle.move_world.specs.Kept.{rows}
+use Rattle.move_world.specs.View.{answer_of}
+use Rattle.move_world.proofs.Placing.{place-sound, place-stands, place-world, place-crashed}
+use Rattle.move_world.proofs.world.MoveWorld.crash.Goals as goal
+
+pub returns-clause-world : goal.returns-clause-world
+returns-clause-world g c =
+    place-world g.St.Store.seen (disk_seen g.St.Device.Disk.counts g.St.Device.Disk.told g.St.Device.Disk.due) c.args.self.now.seats.items
+    (rows c.args.self.now.letters) c.args.n (c.from.result - 1) _ c.index_mut.result.now c.crash_at.new.seat
+    (ap (λ k. k - 1) c.from.ensures) c.requires.node c.requires.world.seats c.index_mut.ensures.value c.requires.world
+    (c.crash_at.ensures.sound c.args.n (place-sound g.St.Store.seen (disk_seen g.St.Device.Disk.counts g.St.Device.Disk.told
+    g.St.Device.Disk.due) c.args.self.now.seats.items
+    (rows c.args.self.now.letters) c.args.n (c.from.result - 1) _ c.index_mut.result.now c.crash_at.new.seat
+    (ap (λ k. k - 1) c.from.ensures) c.requires.node c.requires.world.seats c.index_mut.ensures.value c.requires.world))
+
+pub returns-clause-steps : goal.returns-clause-steps
+returns-clause-steps g c = λ so w of.
+    place-crashed g.St.Store.seen (disk_seen g.St.Device.Disk.counts g.St.Device.Disk.told g.St.Device.Disk.due) c.args.self.now.seats.items
+    (rows c.args.self.now.letters) c.args.n (c.from.result - 1) _ c.index_mut.result.now c.crash_at.new.seat
+    (ap (λ k. k - 1) c.from.ensures) c.requires.node c.requires.world.seats c.index_mut.ensures.value g.St.Store.layout (written_mode
+    c.args.mode) (answer_of c.crash_at.result) w of
+    (c.crash_at.ensures.crashed so c.args.n w (place-stands g.St.Store.seen (disk_seen g.St.Device.Disk.counts g.St.Device.Disk.told
+    g.St.Device.Disk.due) c.args.self.now.seats.items
+    (rows c.args.self.now.letters) c.args.n (c.from.result - 1) _ c.index_mut.result.now c.crash_at.new.seat
+    (ap (λ k. k - 1) c.from.ensures) c.requires.node c.requires.world.seats c.index_mut.ensures.value g.St.Store.layout w of))

@@ -1,0 +1,10 @@
+pub mod Commands
+pub mod Logs
+pub mod Texts
+pub mod Laws
+pub mod InHand
+pub mod View
+pub mod Asking
+pub mod Kept
+pub mod Seats
+pub mod Worlds
