@@ -28,6 +28,7 @@ const BLANK: BootFacts = BootFacts {
     doubted: false,
     stored: None,
     room: true,
+    untold: false,
 };
 
 /// Epoch 1 is stored.
@@ -38,6 +39,7 @@ const SECOND: BootFacts = BootFacts {
     doubted: false,
     stored: Some(1),
     room: true,
+    untold: false,
 };
 
 /// The last epoch is stored.
@@ -48,6 +50,7 @@ const LAST: BootFacts = BootFacts {
     doubted: false,
     stored: Some(4_294_967_295),
     room: true,
+    untold: false,
 };
 
 /// A blank disk with its first damaged place.
@@ -58,6 +61,7 @@ const DAMAGED: BootFacts = BootFacts {
     doubted: false,
     stored: None,
     room: true,
+    untold: false,
 };
 
 /// The put of epoch 1 is in doubt, and a settling finds it made.
@@ -68,6 +72,7 @@ const DOUBTED: BootFacts = BootFacts {
     doubted: true,
     stored: Some(1),
     room: true,
+    untold: false,
 };
 
 /// There is no room for an epoch.
@@ -78,6 +83,18 @@ const CROWDED: BootFacts = BootFacts {
     doubted: false,
     stored: None,
     room: false,
+    untold: false,
+};
+
+/// What is kept leaves room for an epoch, and the last sequence is used.
+const LAST_SEQUENCE: BootFacts = BootFacts {
+    damaged: None,
+    overfull: false,
+    allowed: true,
+    doubted: false,
+    stored: Some(1),
+    room: true,
+    untold: true,
 };
 
 /// Whether it may be.
@@ -131,6 +148,22 @@ const BOOTS: &[(Choice, bool)] = &[
     ),
     (Choice::Boot(CROWDED, 0, BootEnd::Full, None, false), true),
     (Choice::Boot(CROWDED, 1, BootEnd::Up, None, true), false),
+    (
+        Choice::Boot(LAST_SEQUENCE, 0, BootEnd::Full, None, false),
+        true,
+    ),
+    (
+        Choice::Boot(LAST_SEQUENCE, 2, BootEnd::Up, None, true),
+        false,
+    ),
+    (
+        Choice::Boot(LAST_SEQUENCE, 2, BootEnd::DiskFault, None, true),
+        false,
+    ),
+    (
+        Choice::Boot(LAST_SEQUENCE, 0, BootEnd::DiskFault, None, false),
+        true,
+    ),
 ];
 
 #[test]

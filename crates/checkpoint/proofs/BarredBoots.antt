@@ -162,12 +162,15 @@ falls-barred O layout n s bar told counts refusal.Full new after law h r = stays
 falls-barred O layout n s bar told counts (refusal.Damaged place) new after law h r =
     stays-barred O layout n s bar told counts (refusal.Damaged place) new after h r (end.Damaged place) tt
     (damaged-bar layout n s bar (contents told).now place h.known (h.stands (contents told).now r.whole) (r.damaged place refl))
-falls-barred O layout n s bar told counts refusal.OutOfMemory new after law h r = record {
-  timed = r.timed;
-  moments = λ put. moments_weaker (IsBarred bar layout n) (Stands layout n (with_changes put (state_of n s.node))) told new
-      (λ image is. bar-stands layout n s bar put image h.known is)
-      (bar-moments O layout n s bar told counts refusal.OutOfMemory new after h r);
-}
+falls-barred O layout n s bar told counts refusal.OutOfMemory new after law h r =
+    let moments = bar-moments O layout n s bar told counts refusal.OutOfMemory new after h r in (
+      record {
+        timed = r.timed;
+        moments = λ put. moments_weaker (IsBarred bar layout n) (Stands layout n (with_changes put (state_of n s.node))) told new
+            (λ image is. bar-stands layout n s bar put image h.known is) moments;
+      },
+      last-moment (IsBarred bar layout n) told new moments,
+    )
 
 -- it is not opened
 pub not-barred : (layout : Layout) (n : ℕ) (bar : Bar) (image : List ℕ) (kept : Kept) → IsBarred bar layout n image

@@ -57,6 +57,7 @@ pub map-shift : (n : ℕ) (g : Uid → Facts → Facts) (f : List StoreRequest �
     → later.ledger ≡ kept.ledger → Wrote s.layout d → MapStands n t later d
 map-shift n g f s t kept later c d shift m each body_of in_doubt same wrote = record {
   undamaged = ap (λ (it : Node). it.damaged) shift.rest_of ∙ m.undamaged;
+  not_untold = ap (λ (it : Node). it.untold) shift.rest_of ∙ m.not_untold;
   ordered = ordered-shift n g f s t shift m.ordered;
   facts = λ u apart. shift.facts u ∙ ap (g u) (m.facts u apart) ∙ each u apart;
   epoch = body_of ∙ m.epoch ∙ ap (λ (it : Node). bytes_of_epoch it.epoch) (sym shift.rest_of);
@@ -76,6 +77,7 @@ pub map-synced : (n : ℕ) (b : Bool) (s : Site) (kept : Kept) (c : Option Store
 unfolding on_node
 map-synced n b s kept c m = record {
   undamaged = m.undamaged;
+  not_untold = m.not_untold;
   ordered = m.ordered;
   facts = m.facts;
   epoch = m.epoch;
@@ -89,6 +91,7 @@ pub map-clock : (n k : ℕ) (s : Site) (kept : Kept) (c : Option StoreChange) �
 unfolding on_node
 map-clock n k s kept c m = record {
   undamaged = m.undamaged;
+  not_untold = m.not_untold;
   ordered = m.ordered;
   facts = m.facts;
   epoch = m.epoch;
@@ -102,6 +105,7 @@ map-ledger : (n : ℕ) (f : List ℕ → List ℕ) (s : Site) (kept : Kept) (c :
 unfolding on_node
 map-ledger n f s kept c m = record {
   undamaged = m.undamaged;
+  not_untold = m.not_untold;
   ordered = m.ordered;
   facts = m.facts;
   epoch = m.epoch;
@@ -203,6 +207,7 @@ pub map-settled : (n : ℕ) (p : Pick) (c : StoreChange) (s : Site) (kept : Kept
 unfolding on_node
 map-settled n p c s kept number m = record {
   undamaged = m.undamaged;
+  not_untold = m.not_untold;
   ordered = ordered-shift n (λ u x. picked_facts p x) same_requests s _ shift m.ordered;
   facts = λ u apart. shift.facts u ∙ ap (picked_facts p) (m.facts u apart) ∙ each p u;
   epoch = epoch_is p;

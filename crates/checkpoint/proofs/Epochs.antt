@@ -148,6 +148,7 @@ pub map-up : (n : ℕ) (s : Site) (p : Option Pick) (e : ℕ) (mark : ℕ) (kept
 unfolding on_node
 map-up n s p e mark kept m = record {
   undamaged = m.undamaged;
+  not_untold = m.not_untold;
   ordered = m.ordered;
   facts = λ u h. m.facts u h ∙ ap (λ b. (b, None))
       (sym (bodies-after (epoch_uid n) u (Some (epoch_bytes e)) kept.bodies
@@ -164,6 +165,7 @@ pub map-in-doubt : (n : ℕ) (s : Site) (p : Option Pick) (e : ℕ) (mark : ℕ)
 unfolding on_node
 map-in-doubt n s p e mark kept m = record {
   undamaged = m.undamaged;
+  not_untold = m.not_untold;
   ordered = m.ordered;
   facts = λ u h. m.facts u h ∙ ap (λ t. (finite.get kept.bodies u, cond t (Some (body (epoch_bytes e))) None))
       (sym (apart u (epoch_uid n) h));

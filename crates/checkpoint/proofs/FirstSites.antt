@@ -1,6 +1,6 @@
 -- The node of a disk that is handed in stands for its image.
-use Rattle.std.proofs.Common.{◌≡◌, ◌≢◌, inl, inr, ◌⊎◌, ◌==◌, ℕ, ◌/◌, ◌%◌, ◌≤◌, ◌<◌, Bool, true, false, cond, T, List, [], ◌∷◌, length}
-use Rattle.std.proofs.Common.{Option, None, Some, Ok, Err, is_some, refl, sym, ap, subst, ◌∙◌, arith}
+use Rattle.std.proofs.Common.{◌≡◌, ◌≢◌, inl, inr, ◌⊎◌, ◌==◌, ℕ, ◌/◌, ◌%◌, ◌≤◌, ◌<◌, Bool, true, false, not, ◌&&◌, cond, T, List, []}
+use Rattle.std.proofs.Common.{◌∷◌, length, Option, None, Some, Ok, Err, is_some, refl, sym, ap, subst, ◌∙◌, arith}
 use Rattle.std.specs.Prelude.{IfSome}
 use Rattle.std.specs.List.{filter_map}
 use Rattle.std.specs.FinMap as finite
@@ -18,7 +18,8 @@ use Rattle.passive_store.specs.Kept.{Stands as StandsKept}
 use Rattle.passive_store.specs.Layout.{IsLayout}
 use Rattle.journal.specs.World.{Site, Node, Eject}
 use Rattle.journal.specs.Settling.{epoch_uid, epoch_bytes}
-use Rattle.journal.specs.Opening.{passive, passive_entry, number_from, epoch_in, node_from, entries_of, ledger_of}
+use Rattle.journal.specs.Opening.{passive, passive_entry, number_from, epoch_in, node_from, entries_of, ledger_of, found_in}
+use Rattle.journal.specs.Opening.{has_epoch_first, is_untold}
 use Rattle.checkpoint.specs.Changes.{facts_of}
 use Rattle.checkpoint.specs.StoreStands.{bytes_of_epoch, change_of_epoch, MapStands}
 use Rattle.checkpoint.specs.Turns.{RestStands}
@@ -26,6 +27,7 @@ use Rattle.checkpoint.specs.HandedIn.{IsAtHand}
 use Rattle.checkpoint.specs.BarredBoots.{Bar, damaged, overfull, IsBarred, KnowsBar, BarStands, IsBarredAtHand}
 use Rattle.history_laws.proofs.Ordered.{order-passive}
 use Rattle.std.proofs.lemmas.Bool.{eqb-true}
+use Rattle.std.proofs.lemmas.Bool.Decides.{nat_tests}
 
 -- 1. The Ejects of an image
 
@@ -45,14 +47,14 @@ value-passive q (e ∷ es) = go (eq_by_cmp uid_cmp q e.0) refl (e.0.serial == 0)
         (with_item (value_at uid_cmp q es) (λ b. Some (passive b)) None)
         → value_at uid_cmp q (filter_map passive_entry (e ∷ es)) ≡ cond (q.serial == 0) None
         (with_item (value_at uid_cmp q (e ∷ es)) (λ b. Some (passive b)) None)
-    go true tie true zero later = let same : q ≡ e.0 = eq-same uid_cmp uid_cmp-IsAntisymmetric q e.0 tie in
-        let its : (q.serial == 0) ≡ true = ap (λ (u : Uid). u.serial == 0) same ∙ zero in
-        rw (zero, later, its) refl
-    go true tie false zero later = let same : q ≡ e.0 = eq-same uid_cmp uid_cmp-IsAntisymmetric q e.0 tie in
-        let its : (q.serial == 0) ≡ false = ap (λ (u : Uid). u.serial == 0) same ∙ zero in
-        rw (zero, tie, its) refl
-    go false tie true zero later = rw (zero, tie) later
-    go false tie false zero later = rw (zero, tie) later
+    go true tie true none later = let same : q ≡ e.0 = eq-same uid_cmp uid_cmp-IsAntisymmetric q e.0 tie in
+        let its : (q.serial == 0) ≡ true = ap (λ (u : Uid). u.serial == 0) same ∙ none in
+        rw (none, later, its) refl
+    go true tie false none later = let same : q ≡ e.0 = eq-same uid_cmp uid_cmp-IsAntisymmetric q e.0 tie in
+        let its : (q.serial == 0) ≡ false = ap (λ (u : Uid). u.serial == 0) same ∙ none in
+        rw (none, tie, its) refl
+    go false tie true none later = rw (none, tie) later
+    go false tie false none later = rw (none, tie) later
 
 kept-of : (b : Bool) (o : Option (List ℕ)) → (b ≡ true → o ≡ None)
     → facts_of (cond b None (with_item o (λ x. Some (passive x)) None)) ≡ (o, None)
@@ -67,11 +69,31 @@ some-kept false (Some x) is = refl
 
 -- 2. The map of the image
 
+-- the room of an image is told where it is told for a change, and where too much is kept it is not asked
+told-for : (layout : Layout) (n : ℕ) (image : List ℕ) → 1 ≤ layout.changes_told n image → is_untold layout n image ≡ false
+told-for layout n image some = some-change (layout.changes_told n image) (not (layout.is_overfull n image)
+    && has_epoch_first n (found_in layout n image)) some
+  where
+    some-change : (c : ℕ) (b : Bool) → 1 ≤ c → ((c == 0) && b) ≡ false
+    some-change c b is = let not_none : (c == 0) ≡ false = grind (arith, nat_tests, is) in ap (λ t. t && b) not_none
+
+told-of-overfull : (layout : Layout) (n : ℕ) (image : List ℕ) → layout.is_overfull n image ≡ true → is_untold layout n image ≡ false
+told-of-overfull layout n image full =
+    not-asked (layout.changes_told n image == 0) (layout.is_overfull n image) (has_epoch_first n (found_in layout n image)) full
+  where
+    not-asked : (a b c : Bool) → b ≡ true → (a && (not b && c)) ≡ false
+    not-asked true b c is = ap (λ x. not x && c) is
+    not-asked false b c is = refl
+
 at-first : (layout : Layout) (n : ℕ) (s : Site) (kept : Kept) (told : Told) → IsAtHand layout n s kept told
-    → s.node ≡ node_from n (length (contents told).now) (Ok (finite.entries kept.bodies)) false kept.ledger
+    → s.node ≡ node_from n (length (contents told).now) (Ok (finite.entries kept.bodies)) false false kept.ledger
 at-first layout n s kept told h = h.node
-    ∙ ap (λ f. node_from n (length (contents told).now) (entries_of f) (layout.is_overfull n (contents told).now) (ledger_of f)) h.map
-    ∙ ap (λ b. node_from n (length (contents told).now) (Ok (finite.entries kept.bodies)) b kept.ledger) h.small
+    ∙ ap (λ f. node_from n (length now) (entries_of f) (layout.is_overfull n now) (is_untold layout n now) (ledger_of f)) h.map
+    ∙ ap (λ b. node_from n (length now) (Ok (finite.entries kept.bodies)) b (is_untold layout n now) kept.ledger) h.small
+    ∙ ap (λ u. node_from n (length now) (Ok (finite.entries kept.bodies)) false u kept.ledger) (told-for layout n now h.is_told)
+  where
+    now : List ℕ
+    now = (contents told).now
 
 -- each uid under which an image keeps bytes is that of an Eject of its node, or the reserved one with the bytes of an epoch
 record IsOwnMap (n : ℕ) (kept : Kept) : Type 0 where
@@ -119,9 +141,10 @@ own-map layout n image kept law map small = record {
     sized bytes (node, inr none) = none.2
 
 map-first : (n size : ℕ) (full : Bool) (kept : Kept) (s : Site) → IsOwnMap n kept
-    → s.node ≡ node_from n size (Ok (finite.entries kept.bodies)) full kept.ledger → MapStands n s kept None
+    → s.node ≡ node_from n size (Ok (finite.entries kept.bodies)) full false kept.ledger → MapStands n s kept None
 map-first n size full kept s own is = record {
   undamaged = ap (λ (it : Node). it.damaged) is;
+  not_untold = ap (λ (it : Node). it.untold) is;
   ordered = record {
     in_order = subst (λ (it : Node). T (is_sorted uid_cmp it.ejects)) (sym is)
         (order-passive (finite.entries kept.bodies) (finite.entries_sorted kept.bodies));
@@ -222,8 +245,8 @@ barred-first layout n s bar told size clock law h its_size = record {
     known : (b : Bar) → IsBarred b layout n (contents told).now
         → (s.node.up ≡ false) × (s.node.requests ≡ []) × (s.node.size ≡ length (contents told).now) × (s.node.clock ≡ None) × KnowsBar b n s
     known (damaged place) is =
-        let at : s.node ≡ node_from n (length now) (Err place) (layout.is_overfull n now) [] =
-        h.node ∙ ap (λ f. node_from n (length now) (entries_of f) (layout.is_overfull n now) (ledger_of f)) is in (
+        let at : s.node ≡ node_from n (length now) (Err place) (layout.is_overfull n now) (is_untold layout n now) [] =
+        h.node ∙ ap (λ f. node_from n (length now) (entries_of f) (layout.is_overfull n now) (is_untold layout n now) (ledger_of f)) is in (
           ap (λ (it : Node). it.up) at,
           ap (λ (it : Node). it.requests) at,
           ap (λ (it : Node). it.size) at,
@@ -231,9 +254,10 @@ barred-first layout n s bar told size clock law h its_size = record {
           ap (λ (it : Node). it.damaged) at,
         )
     known (overfull kept) is =
-        let at : s.node ≡ node_from n (length now) (Ok (finite.entries kept.bodies)) true kept.ledger =
-        h.node ∙ ap (λ f. node_from n (length now) (entries_of f) (layout.is_overfull n now) (ledger_of f)) is.0
-        ∙ ap (λ b. node_from n (length now) (Ok (finite.entries kept.bodies)) b kept.ledger) is.1 in (
+        let at : s.node ≡ node_from n (length now) (Ok (finite.entries kept.bodies)) true false kept.ledger =
+        h.node ∙ ap (λ f. node_from n (length now) (entries_of f) (layout.is_overfull n now) (is_untold layout n now) (ledger_of f)) is.0
+        ∙ ap (λ b. node_from n (length now) (Ok (finite.entries kept.bodies)) b (is_untold layout n now) kept.ledger) is.1
+        ∙ ap (λ u. node_from n (length now) (Ok (finite.entries kept.bodies)) true u kept.ledger) (told-of-overfull layout n now is.1) in (
           ap (λ (it : Node). it.up) at,
           ap (λ (it : Node). it.requests) at,
           ap (λ (it : Node). it.size) at,

@@ -28,3 +28,4 @@ pub mod FirstSites
 pub mod WorldTurns
 pub mod Touching
 pub mod Placing
+pub mod Rooms

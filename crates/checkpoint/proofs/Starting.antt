@@ -468,6 +468,7 @@ read-down layout n t requests x y h g = record {
     keeps : MapStands n t y.kept (doubt_in y.work)
     keeps = record {
       undamaged = k.undamaged;
+      not_untold = k.not_untold;
       ordered = k.ordered;
       facts = k.facts;
       epoch = k.epoch;

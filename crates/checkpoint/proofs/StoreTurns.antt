@@ -321,6 +321,7 @@ pub map-crashed : (n : ℕ) (s : Site) (kept : Kept) (c : Option StoreChange) �
 unfolding on_node on_traffic
 map-crashed n s kept c m = record {
   undamaged = m.undamaged;
+  not_untold = m.not_untold;
   ordered = ordered-shift n (λ u x. x) same_requests s _ shift m.ordered;
   facts = λ u apart. shift.facts u ∙ m.facts u apart;
   epoch = m.epoch;

@@ -1,6 +1,6 @@
 -- The ends of a boot.
-use Rattle.std.proofs.Common.{◌≡◌, ◌⊎◌, inl, inr, ℕ, ◌+◌, ◌<◌, ◌≤◌, nat_lt, Bool, true, false, cond, [], ◌∷◌, Option, None, Some, Result}
-use Rattle.std.proofs.Common.{Ok, Err, is_some, refl, sym, ap, subst, ◌∙◌, arith}
+use Rattle.std.proofs.Common.{◌≡◌, ◌⊎◌, inl, inr, ℕ, ◌+◌, ◌<◌, ◌≤◌, nat_lt, Bool, true, false, not, ◌&&◌, cond, [], ◌∷◌, Option, None, Some}
+use Rattle.std.proofs.Common.{Result, Ok, Err, is_some, refl, sym, ap, subst, ◌∙◌, arith}
 use Rattle.std.specs.Prelude.{IsTrue, IfSome, IfOk, IfErr}
 use Rattle.std.proofs.lemmas.Bool.Decides.{nat_tests}
 use Rattle.std.proofs.lemmas.Bool.{cases_lt}
@@ -20,8 +20,9 @@ use Rattle.journal.specs.declared.event.BootEnd.TheVariants as end
 use Rattle.journal.specs.World.{Site, on_node}
 use Rattle.journal.specs.Ejects.{stored_epoch}
 use Rattle.journal.specs.Settling.{epoch_uid, epoch_bytes, settled, finds_room}
-use Rattle.journal.specs.Boots.{last_epoch, Opened, BeganNothing, BeganNext, BootsSo, boot_turn, epoch_has_room}
+use Rattle.journal.specs.Boots.{last_epoch, Opened, BeganNothing, BeganNext, BootsSo, boot_turn, epoch_fits, epoch_has_room}
 use Rattle.checkpoint.specs.StoreStands.{NodeOnDisk, MapStands, RequestsStand, change_of_epoch}
+use Rattle.checkpoint.specs.Room.{KeepsRoom}
 use Rattle.checkpoint.specs.Turns.{with_clock, RestStands}
 use Rattle.passive_store.specs.Seen.{Seen}
 use Rattle.journal.specs.Sites.{HasEpochs}
@@ -29,6 +30,7 @@ use Rattle.checkpoint.specs.Asked.{noted_in}
 use Rattle.checkpoint.specs.Booting.{OpensTo, RefusedTo, epoch_entry, IsPut, IsPutInDoubt, PutsTo}
 use Rattle.checkpoint.specs.Boots.{end_of_boot, put_after, BootsUp, BootsDown, BootsNot, FallsTo, IsDownSite}
 use Rattle.checkpoint.specs.declared.up.BootNote.{BootNote}
+use Rattle.checkpoint.proofs.Rooms.{kept-room}
 use Rattle.checkpoint.proofs.Changed.{map-clock}
 use Rattle.checkpoint.proofs.Epochs.{settled-number, settled-layout, settled-size}
 
@@ -44,6 +46,7 @@ down-site layout n more s noted size clock told h fits = record {
   unsynced = h.unsynced;
   not_overfull = h.not_overfull;
   undamaged = h.keeps.undamaged;
+  not_untold = h.keeps.not_untold;
   epochs = fits;
 }
 
@@ -68,6 +71,11 @@ settled-overfull : (p : Option Pick) (s : Site) → (settled p s).node.overfull 
 unfolding on_node
 settled-overfull None s = refl
 settled-overfull (Some k) s = refl
+
+settled-untold : (p : Option Pick) (s : Site) → (settled p s).node.untold ≡ s.node.untold
+unfolding on_node
+settled-untold None s = refl
+settled-untold (Some k) s = refl
 
 settled-synced : (p : Option Pick) (s : Site) → s.node.synced ≡ false → (settled p s).node.synced ≡ false
 unfolding on_node
@@ -136,6 +144,10 @@ boots-not : (layout : Layout) (n more : ℕ) (s : Site) (old : Told) (before : �
     → OpensTo layout n more s old before p y → BootsNot layout n s old before y.disk.told y.disk.counts.clock
 boots-not layout n more s old before p y o = record { timed = (o.disk []).timed; moments = λ put. (o.disk put).moments }
 
+boots-room : (layout : Layout) (n more : ℕ) (s : Site) (old : Told) (before : ℕ) (p : Option Pick) (y : Seen)
+    → OpensTo layout n more s old before p y → KeepsRoom layout n more y.disk.told
+boots-room layout n more s old before p y o = kept-room layout n more y.more y.kept _ y.disk.told (omega (arith, o.told)) o.stands
+
 -- the store was not opened
 pub falls-unopened : (layout : Layout) (n more : ℕ) (s : Site) (noted : Option Doubt) (old : Told) (before : ℕ) (e : StoreRefusal)
     (new : Told) (after : Counts) → IsDownSite layout n s → RefusedTo layout n more s noted old before e new after
@@ -180,8 +192,10 @@ falls-unopened layout n more s noted old before refusal.Stopped new after d r = 
 )
 falls-unopened layout n more s noted old before refusal.Full new after d r = absurd r
 falls-unopened layout n more s noted old before (refusal.Damaged place) new after d r = absurd r
-falls-unopened layout n more s noted old before refusal.OutOfMemory new after d r =
-    record { timed = (r.disk []).timed; moments = λ put. (r.disk put).moments }
+falls-unopened layout n more s noted old before refusal.OutOfMemory new after d r = (
+  record { timed = (r.disk []).timed; moments = λ put. (r.disk put).moments },
+  kept-room layout n more more r.rests.kept _ new (omega arith) r.rests.stands,
+)
 
 -- the epoch was not read
 pub falls-unread : (layout : Layout) (n more : ℕ) (s : Site) (old : Told) (before : ℕ) (p : Option Pick) (y : Seen) (e : StoreRefusal)
@@ -196,7 +210,8 @@ falls-unread layout n more s old before p y refusal.Full only d o stored = absur
     (elim only [ inl a ↦ elim a [ inl bad ↦ cc bad | inr bad ↦ cc bad ] | inr bad ↦ cc bad ])
 falls-unread layout n more s old before p y (refusal.Damaged place) only d o stored = absurd
     (elim only [ inl a ↦ elim a [ inl bad ↦ cc bad | inr bad ↦ cc bad ] | inr bad ↦ cc bad ])
-falls-unread layout n more s old before p y refusal.OutOfMemory only d o stored = boots-not layout n more s old before p y o
+falls-unread layout n more s old before p y refusal.OutOfMemory only d o stored =
+    (boots-not layout n more s old before p y o, boots-room layout n more s old before p y o)
 
 -- no epoch is left
 pub falls-spent : (layout : Layout) (n more : ℕ) (s : Site) (old : Told) (before : ℕ) (p : Option Pick) (y : Seen) → IsDownSite layout n s
@@ -216,8 +231,15 @@ put-next n s p e next below =
 
 room-there : (layout : Layout) (n more : ℕ) (s : Site) (p : Option Pick) (e : ℕ) (b : Bool) → IsDownSite layout n s
     → finds_room (epoch_uid n) (body (epoch_bytes e)) (settled p s) ≡ b → epoch_has_room (settled p s) e ≡ b
-room-there layout n more s p e b d is = ap (λ k. finds_room (epoch_uid k) (body (epoch_bytes e)) (settled p s))
-    (settled-number p s ∙ d.number) ∙ is
+room-there layout n more s p e b d is =
+    ap (λ f. f && not (settled p s).node.untold) fits ∙ ap (λ u. b && not u) (settled-untold p s ∙ d.not_untold) ∙ alone b
+  where
+    fits : epoch_fits (settled p s) e ≡ b
+    fits = ap (λ k. finds_room (epoch_uid k) (body (epoch_bytes e)) (settled p s)) (settled-number p s ∙ d.number) ∙ is
+
+    alone : (b : Bool) → (b && true) ≡ b
+    alone true = refl
+    alone false = refl
 
 began-next : (layout : Layout) (n more : ℕ) (s : Site) (p : Option Pick) (e : ℕ) → IsDownSite layout n s → Opened s p
     → e ≡ stored_epoch (settled p s).node + 1 → stored_epoch (settled p s).node < last_epoch
@@ -359,14 +381,15 @@ pub falls-unmade : (layout : Layout) (n more : ℕ) (s : Site) (old : Told) (bef
     → PutsTo layout n more s old before p e x (Err refusal.OutOfMemory) y
     → FallsTo layout n more s old before None note noted y.disk.told y.disk.counts
 falls-unmade layout n more s old before p e x y note noted o u =
-    subst (λ t. BootsNot layout n s old before t y.disk.counts.clock) (sym u.told)
-    (subst (λ (k : Counts). BootsNot layout n s old before x.disk.told k.clock) (sym u.counts)
-    (boots-not layout n more s old before p x o))
+    subst (λ t. BootsNot layout n s old before t y.disk.counts.clock × KeepsRoom layout n more t) (sym u.told)
+    (subst (λ (k : Counts). BootsNot layout n s old before x.disk.told k.clock × KeepsRoom layout n more x.disk.told) (sym u.counts)
+    (boots-not layout n more s old before p x o, boots-room layout n more s old before p x o))
 
 pub falls-ended : (layout : Layout) (n more : ℕ) (s : Site) (old : Told) (before : ℕ) (p : Option Pick) (x : Seen) (note : BootNote)
     (noted : Option Doubt) → OpensTo layout n more s old before p x
     → FallsTo layout n more s old before None note noted x.disk.told x.disk.counts
-falls-ended layout n more s old before p x note noted o = boots-not layout n more s old before p x o
+falls-ended layout n more s old before p x note noted o =
+    (boots-not layout n more s old before p x o, boots-room layout n more s old before p x o)
 
 -- 4. The same in the words of what was handed back
 

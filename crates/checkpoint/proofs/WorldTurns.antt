@@ -174,6 +174,7 @@ unclocked : (n k : ℕ) (s : Site) (kept : Kept) (c : Option StoreChange) → Ma
 unfolding on_node
 unclocked n k s kept c m = record {
   undamaged = m.undamaged;
+  not_untold = m.not_untold;
   ordered = m.ordered;
   facts = m.facts;
   epoch = m.epoch;
@@ -213,6 +214,7 @@ renode : (n : ℕ) (s t : Site) (kept : Kept) (c : Option StoreChange) → t.nod
     → MapStands n t kept c
 renode n s t kept c same its_layout m = record {
   undamaged = ap (λ (it : Node). it.damaged) same ∙ m.undamaged;
+  not_untold = ap (λ (it : Node). it.untold) same ∙ m.not_untold;
   ordered = subst (λ (it : Node). IsOrdered n it.ejects) (sym same) m.ordered;
   facts = λ u apart. ap (λ (it : Node). facts_of (value_at uid_cmp u it.ejects)) same ∙ m.facts u apart;
   epoch = m.epoch ∙ ap (λ (it : Node). bytes_of_epoch it.epoch) (sym same);

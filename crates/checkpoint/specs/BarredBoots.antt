@@ -57,7 +57,8 @@ pub record StaysBarred (layout : Layout) (n : ℕ) (s : Site) (bar : Bar) (old :
 
 -- how a boot of it ended, or that there was no memory
 abbrev pub FallsBarred : Layout → ℕ → Site → Bar → Told → ℕ → Option BootEnd → BootNote → Told → Counts → Type 0
-FallsBarred layout n s bar old before None note new after = BootsNot layout n s old before new after.clock
+FallsBarred layout n s bar old before None note new after =
+    BootsNot layout n s old before new after.clock × LeavesOnly (IsBarred bar layout n) (contents new)
 FallsBarred layout n s bar old before (Some how) note new after = StaysBarred layout n s bar old before how note new after
 
 -- 3. Before the first boot

@@ -18,6 +18,7 @@ use Rattle.journal.specs.Settling.{settled}
 use Rattle.journal.specs.Boots.{AllowsBoot, boot_turn}
 use Rattle.journal.specs.Standing.{Stands, put_behind, with_changes}
 use Rattle.checkpoint.specs.StoreStands.{state_of, NodeOnDisk}
+use Rattle.checkpoint.specs.Room.{KeepsRoom}
 use Rattle.checkpoint.specs.Turns.{with_clock, RestStands}
 use Rattle.passive_store.specs.Seen.{Seen}
 use Rattle.journal.specs.Sites.{HasEpochs}
@@ -62,7 +63,7 @@ pub record BootsNot (layout : Layout) (n : ℕ) (s : Site) (old : Told) (before 
 
 -- how a boot ended that did not bring its node up, and for how many more changes the room is told then
 abbrev pub FallsTo : Layout → ℕ → ℕ → Site → Told → ℕ → Option BootEnd → BootNote → Option Doubt → Told → Counts → Type 0
-FallsTo layout n more s old before None note noted new after = BootsNot layout n s old before new after.clock
+FallsTo layout n more s old before None note noted new after = BootsNot layout n s old before new after.clock × KeepsRoom layout n more new
 FallsTo layout n more s old before (Some how) note noted new after =
     (left : ℕ) × BootsDown layout n more s old before how note noted left new after
 
@@ -75,4 +76,5 @@ pub record IsDownSite (layout : Layout) (n : ℕ) (s : Site) : Type 0 where
   pub unsynced : s.node.synced ≡ false
   pub not_overfull : s.node.overfull ≡ false
   pub undamaged : s.node.damaged ≡ None
+  pub not_untold : s.node.untold ≡ false
   pub epochs : HasEpochs s.node

@@ -14,3 +14,4 @@ pub mod Boots
 pub mod HandedIn
 pub mod BarredBoots
 pub mod Touches
+pub mod Room

@@ -60,6 +60,8 @@ Wrote layout c = IfSome c (λ c. c.wrote ≡ layout.grows c.body)
 -- a node keeps this, with this change in doubt
 pub record MapStands (n : ℕ) (s : Site) (kept : Kept) (c : Option StoreChange) : Type 0 where
   pub undamaged : s.node.damaged ≡ None
+  -- the room of the image that was handed in was told for a change
+  pub not_untold : s.node.untold ≡ false
   pub ordered : IsOrdered n s.node.ejects
   pub facts : (u : Uid) → u ≢ epoch_uid n → facts_in s u ≡ (finite.get kept.bodies u, doubt_of c u)
   pub epoch : finite.get kept.bodies (epoch_uid n) ≡ bytes_of_epoch s.node.epoch

@@ -233,7 +233,7 @@ reaches-last n first began past (s ∷ run) old new r (mid, e, more) =
     reaches-last n first began (s ∷ past) run mid new (reaches-next n first began past s old mid r e) more
 
 pub left-armed : RunsLeaveArmed
-left-armed n p history d last shows back = λ obeys. sym back
+left-armed n p history d last shows back = λ obeys. sym (back obeys)
     ∙ go (reaches-last n d.due d.first.clock [] (steps p history) (handed_in d) last
     (record { clock = refl; since = omega arith; failure = refl; stop = refl })
     (subst (λ b. RunShows b n (steps p history) (handed_in d) last) obeys shows))

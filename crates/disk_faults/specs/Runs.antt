@@ -46,7 +46,9 @@ abbrev pub RunsShowClocks : Type 0
 RunsShowClocks = (n : ℕ) (p : Position) (history : List Entry) (d : DiskRun) (last : DiskSeen)
     → RunShows d.obeys n (steps p history) (handed_in d) last → EachShowsClockBefore (steps p history) n d
 
--- A disk given back as it is behind the last entry is armed as the entries asked.
+-- A disk that is given back with what was to fall due behind the last entry is armed as the entries asked; of one that does not obey
+-- nothing is asked.
 abbrev pub RunsLeaveArmed : Type 0
 RunsLeaveArmed = (n : ℕ) (p : Position) (history : List Entry) (d : DiskRun) (last : DiskSeen)
-    → RunShows d.obeys n (steps p history) (handed_in d) last → last.due ≡ d.left → IsLeftArmed (steps p history) n d
+    → RunShows d.obeys n (steps p history) (handed_in d) last → (IsTrue d.obeys → last.due ≡ d.left)
+    → IsLeftArmed (steps p history) n d

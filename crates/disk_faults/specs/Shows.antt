@@ -50,3 +50,8 @@ pub record NoneFalls (before after : Counts) : Type 0 where
   pub faults : before.faults ≤ after.faults
   pub stops : before.stops ≤ after.stops
   pub wants : before.wants ≤ after.wants
+
+-- What is left of a disk where there was no memory for a turn of its node: no count fell, and if it obeys it is armed as before.
+pub record IsLeftOf (obeys : Bool) (old new : DiskSeen) : Type 0 where
+  pub counts : NoneFalls old.counts new.counts
+  pub due : IsTrue obeys → new.due ≡ old.due

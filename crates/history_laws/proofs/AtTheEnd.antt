@@ -12,7 +12,9 @@ use Rattle.passive_store.specs.Kept.{Layout}
 use Rattle.journal.specs.Run.{Step}
 use Rattle.journal.specs.World.{World}
 use Rattle.journal.specs.Standing.{DiskRun, Stands, StandsThroughout, ShowsItsClock, state, state_before, at, from_past, is_past}
-use Rattle.journal.specs.Standing.{nothing_added, with_changes}
+use Rattle.capability.specs.declared.Uid.{Uid}
+use Rattle.journal.specs.EjectChange.{EjectChange}
+use Rattle.journal.specs.Standing.{Added, nothing_added, with_changes}
 use Rattle.journal.specs.LegalRun.{opening_world, last_world, run_of}
 use Rattle.journal.specs.Laws.{DisksStandAtTheEnd, LeavesItsState}
 
@@ -51,19 +53,26 @@ rises c before after (Wrote k at bytes ∷ acts) o = omega (arith, o.0, rises c 
 rises c before after (Synced k ∷ acts) o = omega (arith, o.0, rises c before (k - 1) acts o.2)
 rises c before after (Cut k image ∷ acts) o = omega (arith, o.0, rises c before k acts o.2)
 
-stands-last : (layout : Layout) (n : ℕ) (last : World) (steps : List Step) (image : List ℕ) → steps ≡ []
-    → Stands layout n (with_changes [] (state_before n last steps)) image → Stands layout n (state last n) image
-stands-last layout n last [] image e there =
-    subst (λ cs. Stands layout n (record (state last n) { changes = cs }) image) (append-nil (state last n).changes) there
-stands-last layout n last (s ∷ steps) image e there = absurd cc
+stands-last : (layout : Layout) (n : ℕ) (last : World) (cs : List (Uid × EjectChange)) (steps : List Step) (image : List ℕ) → steps ≡ []
+    → Stands layout n (with_changes cs (state_before n last steps)) image → Stands layout n (with_changes cs (state last n)) image
+stands-last layout n last cs [] image e there = there
+stands-last layout n last cs (s ∷ steps) image e there = absurd cc
+
+-- with what is added under way at the last clock
+pub left-stands-with : (layout : Layout) (last : World) (run : List Step) (added : Added) (n : ℕ) (d : DiskRun)
+    → StandsThroughout layout last run added n d → (image : List ℕ) → Left (contents d.after) image
+    → Stands layout n (with_changes (added n d.last.clock) (state last n)) image
+left-stands-with layout last run added n d stands image left =
+    stands-last layout n last (added n d.last.clock) (from_past n d.last.clock run) image (none-past n d run stands.clocks)
+    (stands.behind d.last.clock image (rises (contents d.before) d.first.clock d.last.clock stands.same.acts stands.same.order)
+    (omega arith)
+    (left-last d.first.clock d.last.clock d.before d.after image stands.same left))
 
 pub left-stands : (layout : Layout) (last : World) (run : List Step) (n : ℕ) (d : DiskRun)
     → StandsThroughout layout last run nothing_added n d → LeavesItsState layout last n d.after
 left-stands layout last run n d stands image left =
-    stands-last layout n last (from_past n d.last.clock run) image (none-past n d run stands.clocks)
-    (stands.behind d.last.clock image (rises (contents d.before) d.first.clock d.last.clock stands.same.acts stands.same.order)
-    (omega arith)
-    (left-last d.first.clock d.last.clock d.before d.after image stands.same left))
+    subst (λ cs. Stands layout n (record (state last n) { changes = cs }) image) (append-nil (state last n).changes)
+    (left-stands-with layout last run nothing_added n d stands image left)
 
 pub at-the-end : DisksStandAtTheEnd
 at-the-end layout script disks history legal n d is =

@@ -22,7 +22,8 @@ use Rattle.passive_store.specs.Kept.{Layout, Kept, IsOwn}
 use Rattle.passive_store.specs.Layout.{IsLayout}
 use Rattle.journal.specs.World.{Node}
 use Rattle.journal.specs.Settling.{epoch_uid, epoch_bytes, epoch_entries, doubts, doubt_entry, kept_map, kept_entry}
-use Rattle.journal.specs.Opening.{entries_of, epoch_in, found_in, ledger_of, node_of, node_from, number_from, passive, passive_entry}
+use Rattle.journal.specs.Opening.{entries_of, epoch_in, found_in, is_untold, ledger_of, node_of, node_from, number_from, passive}
+use Rattle.journal.specs.Opening.{passive_entry}
 use Rattle.journal.specs.Standing.{DiskRun, Stands, StandsFor, kept_of_node, nothing_stands}
 use Rattle.journal.specs.LegalRun.{IsHandedIn, images, numbered}
 use Rattle.journal.specs.Laws.{DisksStandAtTheOpening}
@@ -200,7 +201,7 @@ stands-found layout n d lays handed = go (layout.map_of n image) refl
     image = (contents d.before).now
 
     node : Result Kept ℕ → Node
-    node r = node_from n (length image) (entries_of r) (layout.is_overfull n image) (ledger_of r)
+    node r = node_from n (length image) (entries_of r) (layout.is_overfull n image) (is_untold layout n image) (ledger_of r)
 
     go : (r : Result Kept ℕ) → layout.map_of n image ≡ r → StandsFor (kept_of_node n (node r)) (doubts n (node r)) (entries_of r)
     go (Err place) at = tt

@@ -345,10 +345,10 @@ idle-passive u e (x ∷ xs) is = go (x.0.serial == 0) (idle-passive u e xs) is
     go true later is = later is
     go false later is = found (eq_by_cmp uid_cmp u x.0) later is
 
-pub rest-node : (n size : ℕ) (found : Result (List (Uid × List ℕ)) ℕ) (overfull : Bool) (ledger : List ℕ)
-    → Rests (node_from n size found overfull ledger)
-rest-node n size (Ok kept) overfull ledger = record { no_request = refl; idle = λ u e is. idle-passive u e kept is }
-rest-node n size (Err place) overfull ledger = record { no_request = refl; idle = λ u e is. absurd (cc is) }
+pub rest-node : (n size : ℕ) (found : Result (List (Uid × List ℕ)) ℕ) (overfull untold : Bool) (ledger : List ℕ)
+    → Rests (node_from n size found overfull untold ledger)
+rest-node n size (Ok kept) overfull untold ledger = record { no_request = refl; idle = λ u e is. idle-passive u e kept is }
+rest-node n size (Err place) overfull untold ledger = record { no_request = refl; idle = λ u e is. absurd (cc is) }
 
 pub calm-opening : (layout : Layout) (images : List (ℕ × List ℕ)) (n : ℕ) (it : Node)
     → value_at nat_cmp n (map (λ d. (d.0, node_of layout d)) images) ≡ Some it → Calm it
@@ -357,5 +357,5 @@ calm-opening layout (d ∷ ds) n it is = go (eq_by_cmp nat_cmp n d.0) (calm-open
   where
     go : (b : Bool) → (value_at nat_cmp n (map (λ d. (d.0, node_of layout d)) ds) ≡ Some it → Calm it)
         → cond b (Some (node_of layout d)) (value_at nat_cmp n (map (λ d. (d.0, node_of layout d)) ds)) ≡ Some it → Calm it
-    go true later e = subst (λ o. IfSome o Calm) e (inr (rest-node d.0 _ (found_in layout d.0 d.1) _ _))
+    go true later e = subst (λ o. IfSome o Calm) e (inr (rest-node d.0 _ (found_in layout d.0 d.1) _ _ _))
     go false later e = later e

@@ -38,10 +38,10 @@ manned-passive u e (x ∷ xs) is = go (x.0.serial == 0) (manned-passive u e xs) 
     go true later is = later is
     go false later is = found (eq_by_cmp uid_cmp u x.0) later is
 
-sound-node : (n size : ℕ) (found : Result (List (Uid × List ℕ)) ℕ) (overfull : Bool) (ledger : List ℕ)
+sound-node : (n size : ℕ) (found : Result (List (Uid × List ℕ)) ℕ) (overfull untold : Bool) (ledger : List ℕ)
     → ((kept : List (Uid × List ℕ)) → found ≡ Ok kept → IsOwnMap n kept × T (is_sorted uid_cmp kept))
-    → Sound n (node_from n size found overfull ledger)
-sound-node n size (Ok kept) overfull ledger fits = let x = fits kept refl in record {
+    → Sound n (node_from n size found overfull untold ledger)
+sound-node n size (Ok kept) overfull untold ledger fits = let x = fits kept refl in record {
   in_order = order-passive kept x.1;
   of_node = λ u there. x.0.of_node u (kept-there u kept there);
   manned = λ u e is. manned-passive u e kept is;
@@ -49,7 +49,7 @@ sound-node n size (Ok kept) overfull ledger fits = let x = fits kept refl in rec
   unmade = tt;
   call_left = tt;
 }
-sound-node n size (Err place) overfull ledger fits =
+sound-node n size (Err place) overfull untold ledger fits =
     record {
       in_order = tt;
       of_node = λ u there. absurd (cc there);
@@ -67,7 +67,7 @@ sound-opening layout disks lays fits n it is = go (value_at nat_cmp n disks) ref
     go : (o : Option DiskRun) → value_at nat_cmp n disks ≡ o → IsSomeAnd o (λ d. node_of layout (n, (contents d.before).now) ≡ it)
         → Sound n it
     go None at x = absurd x
-    go (Some d) at x = subst (Sound n) x (sound-node n _ (found_in layout n (contents d.before).now) _ _
+    go (Some d) at x = subst (Sound n) x (sound-node n _ (found_in layout n (contents d.before).now) _ _ _
         (λ kept found. (own-map layout n d lays (fits n d at) kept found, in-order layout n (contents d.before).now kept found)))
 
 -- nodes are numbered upward

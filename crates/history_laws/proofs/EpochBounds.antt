@@ -268,11 +268,11 @@ image-epoch layout n d lays handed kept found = go (layout.map_of n image) refl 
         (subst (λ o. IfSome (with_item o (λ bytes. Some (number_from 0 bytes)) None) (λ e. e ≤ last_epoch))
         (finite.get-entries k.bodies (epoch_uid n)) (body k at (finite.get k.bodies (epoch_uid n)) refl))
 
-pub node-epochs : (n size : ℕ) (found : Result (List (Uid × List ℕ)) ℕ) (overfull : Bool) (ledger : List ℕ)
+pub node-epochs : (n size : ℕ) (found : Result (List (Uid × List ℕ)) ℕ) (overfull untold : Bool) (ledger : List ℕ)
     → ((kept : List (Uid × List ℕ)) → found ≡ Ok kept → IfSome (epoch_in n kept) (λ e. e ≤ last_epoch))
-    → HasEpochs (node_from n size found overfull ledger)
-node-epochs n size (Ok kept) overfull ledger fits = record { stored = fits kept refl; doubted = tt }
-node-epochs n size (Err place) overfull ledger fits = record { stored = tt; doubted = tt }
+    → HasEpochs (node_from n size found overfull untold ledger)
+node-epochs n size (Ok kept) overfull untold ledger fits = record { stored = fits kept refl; doubted = tt }
+node-epochs n size (Err place) overfull untold ledger fits = record { stored = tt; doubted = tt }
 
 pub opening-epochs : (layout : Layout) (disks : List (ℕ × DiskRun)) → IsLayout layout
     → ((n : ℕ) (d : DiskRun) → value_at nat_cmp n disks ≡ Some d → IsHandedIn layout n d)
@@ -282,7 +282,7 @@ opening-epochs layout disks lays fits n it is = go (value_at nat_cmp n disks) re
     go : (o : Option DiskRun) → value_at nat_cmp n disks ≡ o → IsSomeAnd o (λ d. node_of layout (n, (contents d.before).now) ≡ it)
         → HasEpochs it
     go None at x = absurd x
-    go (Some d) at x = subst HasEpochs x (node-epochs n _ (found_in layout n (contents d.before).now) _ _
+    go (Some d) at x = subst HasEpochs x (node-epochs n _ (found_in layout n (contents d.before).now) _ _ _
         (image-epoch layout n d lays (fits n d at)))
 
 -- 7. The law

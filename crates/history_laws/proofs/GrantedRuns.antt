@@ -512,14 +512,14 @@ passive-has u D (e ∷ es) = go (e.0.serial == 0) (passive-has u D es)
     go true h = h
     go false h = found (eq_by_cmp uid_cmp u e.0) h
 
-nothing-held : (n m size : ℕ) (D : Uid → List Cap) (found : Result (List (Uid × List ℕ)) ℕ) (overfull : Bool) (ledger : List ℕ)
+nothing-held : (n m size : ℕ) (D : Uid → List Cap) (found : Result (List (Uid × List ℕ)) ℕ) (overfull untold : Bool) (ledger : List ℕ)
     → ((kept : List (Uid × List ℕ)) → found ≡ Ok kept → T (is_sorted uid_cmp kept))
-    → Holds m D (node_from n size found overfull ledger).ejects
-nothing-held n m size D (Ok kept) overfull ledger sorted = record {
+    → Holds m D (node_from n size found overfull untold ledger).ejects
+nothing-held n m size D (Ok kept) overfull untold ledger sorted = record {
   in_order = order-passive kept (sorted kept refl);
   at = λ u number. passive-has u (D u) kept;
 }
-nothing-held n m size D (Err place) overfull ledger sorted = record { in_order = tt; at = λ u number. tt }
+nothing-held n m size D (Err place) overfull untold ledger sorted = record { in_order = tt; at = λ u number. tt }
 
 opening-holds : (layout : Layout) (D : Uid → List Cap) (images : List (ℕ × List ℕ)) (n : ℕ) (it : Node)
     → value_at nat_cmp n (map (λ d. (d.0, node_of layout d)) images) ≡ Some it → Holds n D it.ejects
@@ -529,7 +529,7 @@ opening-holds layout D (d ∷ ds) n it is = go (eq_by_cmp nat_cmp n d.0) (openin
     go : (b : Bool) → (value_at nat_cmp n (map (λ d. (d.0, node_of layout d)) ds) ≡ Some it → Holds n D it.ejects)
         → cond b (Some (node_of layout d)) (value_at nat_cmp n (map (λ d. (d.0, node_of layout d)) ds)) ≡ Some it → Holds n D it.ejects
     go true later e = subst (λ o. IfSome o (λ (x : Node). Holds n D x.ejects)) e
-        (nothing-held d.0 n _ D (found_in layout d.0 d.1) _ _ (in-order layout d.0 d.1))
+        (nothing-held d.0 n _ D (found_in layout d.0 d.1) _ _ _ (in-order layout d.0 d.1))
     go false later e = later e
 
 each-none : (cs : List Command) → WriteNone cs → EachOf WritesNone cs

@@ -1,27 +1,29 @@
 -- What a legal run leaves of a disk keeps nothing of an epoch past the one it keeps; so the next run may begin over it.
-use Rattle.std.proofs.Common.{◌≡◌, ◌⊎◌, inl, inr, ℕ, ◌≤◌, ◌<◌, Bool, true, false, cond, not, List, [], ◌∷◌, ◌++◌, Option, None, Some, Ok}
+use Rattle.std.proofs.Common.{◌≡◌, ◌⊎◌, inl, inr, ℕ, ◌+◌, ◌≤◌, ◌<◌, Bool, true, false, cond, not, List, [], ◌∷◌, ◌++◌, Option, None, Some, Ok}
 use Rattle.std.proofs.Common.{is_some, refl, sym, ◌∙◌, ap, subst, arith}
-use Rattle.std.specs.Prelude.{IfSome, IsSomeAnd}
+use Rattle.std.specs.Prelude.{IfSome, IsSomeAnd, nat_lt}
+use Rattle.std.proofs.lemmas.Bool.Decides.{nat_tests}
 use Rattle.std.specs.List.{filter_map, cons_option}
 use Rattle.std.specs.Ordering.{nat_cmp, eq_by_cmp}
 use Rattle.std.specs.FinMap.Entries.{find-put, find-where_key}
 use Rattle.std.specs.Cmp.{eq_by_cmp_equiv}
 use Rattle.capability.specs.declared.Uid.{Uid}
 use Rattle.capability.proofs.Uids.{uid_cmp_total, uid_cmp-IsAntisymmetric}
-use Rattle.eden_model.specs.Map.{uid_cmp, value_at, put_at, with_item, same_uid}
+use Rattle.eden_model.specs.Map.{uid_cmp, value_at, put_at, with_item, same_uid, first}
 use Rattle.eden_model.proofs.Laws.{eq-same}
 use Rattle.eden_disk.specs.Told.{contents}
 use Rattle.passive_store.specs.Kept.{Layout}
 use Rattle.journal.specs.EjectChange.{EjectChange, body, removal}
-use Rattle.journal.specs.World.{World, Node, Eject, node_at}
+use Rattle.journal.specs.World.{World, Node, Eject, StoreRequest, node_at}
 use Rattle.journal.specs.Ejects.{epoch_or_zero}
 use Rattle.journal.specs.Boots.{last_epoch}
 use Rattle.journal.specs.Settling.{epoch_uid, epoch_bytes, epoch_entries, epoch_doubts, kept_entry, doubt_entry, kept_map, doubts}
 use Rattle.journal.specs.Opening.{number_from, epoch_in, found_in}
-use Rattle.journal.specs.Standing.{DiskRun, IsAnyOf, Stands, StandsFor, changed_map, kept_of_node, nothing_stands, state}
+use Rattle.journal.specs.Standing.{DiskRun, IsAnyOf, Stands, StandsFor, changed_map, kept_of_node, nothing_stands, state, with_changes}
+use Rattle.journal.specs.Standing.{request_changes, put_behind, highest_epoch, unfinished_at, unfinished, is_past_last}
 use Rattle.journal.specs.LegalRun.{IsHandedInFor, IsHandedOn, numbered}
 use Rattle.journal.specs.Laws.{DisksMayBeHandedOn}
-use Rattle.journal.specs.Sites.{HasEpochs}
+use Rattle.journal.specs.Sites.{HasEpochs, AllThere}
 use Rattle.history_laws.proofs.Uids.{Fit}
 
 -- 1. A change of what is kept
@@ -40,7 +42,7 @@ PutsPast bound removal = ⊥
 abbrev IsChangeWithin : ℕ → ℕ → Uid × EjectChange → Type 0
 IsChangeWithin n bound c = ((1 ≤ c.0.serial) × (c.0.epoch ≤ bound)) ⊎ ((c.0 ≡ epoch_uid n) × PutsPast bound c.1)
 
-abbrev AllWithin : ℕ → ℕ → List (Uid × EjectChange) → Type 0
+abbrev pub AllWithin : ℕ → ℕ → List (Uid × EjectChange) → Type 0
 AllWithin n bound [] = Unit {0}
 AllWithin n bound (c ∷ cs) = IsChangeWithin n bound c × AllWithin n bound cs
 
@@ -201,10 +203,17 @@ doubts-within n bound None es next behind = ejects-within n bound es behind
 doubts-within n bound (Some e) es next behind =
     (inr (refl, let more : bound ≤ e = next.0 in omega (arith, more, spelled e next.1)), ejects-within n bound es behind)
 
-node-within : (G : Uid → Type 0) (n : ℕ) (it : Node) (found : List (Uid × List ℕ)) → Fit G it → HasEpochs it
-    → IsAnyOf (kept_map n it) (doubts n it) (Ok found) → IsWithin n (epoch_or_zero it.epoch) found
-node-within G n it found fit bounds is = any-within n (epoch_or_zero it.epoch) (doubts n it) (kept_map n it) found
-    (doubts-within n (epoch_or_zero it.epoch) it.epoch_doubt it.ejects (next it.epoch_doubt fit.doubt_is_next bounds.doubted) behind)
+join-within : (n bound : ℕ) (cs ds : List (Uid × EjectChange)) → AllWithin n bound cs → AllWithin n bound ds → AllWithin n bound (cs ++ ds)
+join-within n bound [] ds first second = second
+join-within n bound (c ∷ cs) ds first second = (first.0, join-within n bound cs ds first.1 second)
+
+node-within : (G : Uid → Type 0) (n : ℕ) (it : Node) (cs : List (Uid × EjectChange)) (found : List (Uid × List ℕ)) → Fit G it
+    → HasEpochs it → AllWithin n (epoch_or_zero it.epoch) cs → IsAnyOf (kept_map n it) (doubts n it ++ cs) (Ok found)
+    → IsWithin n (epoch_or_zero it.epoch) found
+node-within G n it cs found fit bounds more is =
+    any-within n (epoch_or_zero it.epoch) (doubts n it ++ cs) (kept_map n it) found
+    (join-within n (epoch_or_zero it.epoch) (doubts n it) cs
+    (doubts-within n (epoch_or_zero it.epoch) it.epoch_doubt it.ejects (next it.epoch_doubt fit.doubt_is_next bounds.doubted) behind) more)
     (kept-within n it.epoch it.ejects bounds.stored behind) is
   where
     behind : AreBehind (epoch_or_zero it.epoch) it.ejects
@@ -215,29 +224,69 @@ node-within G n it found fit bounds is = any-within n (epoch_or_zero it.epoch) (
     next None past most = tt
     next (Some e) past most = (omega (arith, past), most)
 
--- 3. An image that stands for the state of its node
+-- 3. What was under way where memory was wanting
+
+request-within : (n bound : ℕ) (rs : List StoreRequest) (es : List (Uid × Eject)) → AreBehind bound es → AllThere rs es
+    → AllWithin n bound (request_changes (first rs))
+request-within n bound [] es behind all = tt
+request-within n bound (r ∷ rs) es behind all = (inl (behind r.uid all.0), tt)
+
+put-within : (n bound e : ℕ) → bound ≤ e → AllWithin n bound (put_behind n e)
+put-within n bound e less = go (nat_lt e last_epoch) refl
+  where
+    go : (b : Bool) → nat_lt e last_epoch ≡ b → AllWithin n bound (cond b ((epoch_uid n, body (epoch_bytes (e + 1))) ∷ []) [])
+    go false is = tt
+    go true is = let most : e + 1 ≤ last_epoch = grind (arith, nat_tests, is) in
+        (inr (refl, omega (arith, less, spelled (e + 1) most)), tt)
+
+unfinished-within : (G : Uid → Type 0) (n : ℕ) (it : Node) → Fit G it → AllThere it.requests it.ejects
+    → AllWithin n (epoch_or_zero it.epoch) (unfinished_at n it)
+unfinished-within G n it fit all =
+    join-within n (epoch_or_zero it.epoch) (request_changes (first it.requests)) (put_behind n (highest_epoch it))
+    (request-within n (epoch_or_zero it.epoch) it.requests it.ejects
+    (λ u there. let b = fit.behind u there in (b.serial_counts, b.epoch_given)) all)
+    (put-within n (epoch_or_zero it.epoch) (highest_epoch it) (highest it.epoch_doubt fit.doubt_is_next))
+  where
+    highest : (o : Option ℕ) → IfSome o (λ e. epoch_or_zero it.epoch < e)
+        → epoch_or_zero it.epoch ≤ with_item o (λ e. e) (epoch_or_zero it.epoch)
+    highest None past = omega arith
+    highest (Some e) past = omega (arith, past)
+
+-- at this moment
+pub added-within : (G : Uid → Type 0) (n m : ℕ) (w : World) (it : Node) → node_at w n ≡ Some it → Fit G it
+    → AllThere it.requests it.ejects → AllWithin n (epoch_or_zero it.epoch) (unfinished w n m)
+added-within G n m w it at fit all =
+    subst (λ o. AllWithin n (epoch_or_zero it.epoch) (with_item o (λ x. cond (is_past_last x m) (unfinished_at n x) []) [])) (sym at)
+    (go (is_past_last it m))
+  where
+    go : (b : Bool) → AllWithin n (epoch_or_zero it.epoch) (cond b (unfinished_at n it) [])
+    go true = unfinished-within G n it fit all
+    go false = tt
+
+-- 4. An image that stands for the state of its node
 
 -- each uid that is found there is of an epoch up to the one that is found
-pub epochs-left : (G : Uid → Type 0) (layout : Layout) (n : ℕ) (w : World) (image : List ℕ)
-    → ((it : Node) → node_at w n ≡ Some it → Fit G it × HasEpochs it) → Stands layout n (state w n) image
+pub epochs-left : (G : Uid → Type 0) (layout : Layout) (n : ℕ) (w : World) (cs : List (Uid × EjectChange)) (image : List ℕ)
+    → ((it : Node) → node_at w n ≡ Some it → Fit G it × HasEpochs it × AllWithin n (epoch_or_zero it.epoch) cs)
+    → Stands layout n (with_changes cs (state w n)) image
     → (kept : List (Uid × List ℕ)) → found_in layout n image ≡ Ok kept → (u : Uid) → is_some (value_at uid_cmp u kept) ≡ true
     → u.epoch ≤ epoch_or_zero (epoch_in n kept)
-epochs-left G layout n w image known stands kept found u there =
-    go (node_at w n) known (subst (λ r. StandsFor (state w n).kept (state w n).changes r) found stands)
+epochs-left G layout n w cs image known stands kept found u there =
+    go (node_at w n) known (subst (λ r. StandsFor (state w n).kept ((state w n).changes ++ cs) r) found stands)
   where
-    mapped : (it : Node) → Fit G it × HasEpochs it → (b : Bool)
-        → StandsFor (cond b None (Some (kept_map n it))) (doubts n it) (Ok kept) → u.epoch ≤ epoch_or_zero (epoch_in n kept)
+    mapped : (it : Node) → Fit G it × HasEpochs it × AllWithin n (epoch_or_zero it.epoch) cs → (b : Bool)
+        → StandsFor (cond b None (Some (kept_map n it))) (doubts n it ++ cs) (Ok kept) → u.epoch ≤ epoch_or_zero (epoch_in n kept)
     mapped it fits true is = absurd is
-    mapped it fits false is = let w = node-within G n it kept fits.0 fits.1 is in omega (arith, w.below u there, w.stored)
+    mapped it fits false is = let w = node-within G n it cs kept fits.0 fits.1 fits.2 is in omega (arith, w.below u there, w.stored)
 
-    go : (o : Option Node) → ((it : Node) → o ≡ Some it → Fit G it × HasEpochs it)
+    go : (o : Option Node) → ((it : Node) → o ≡ Some it → Fit G it × HasEpochs it × AllWithin n (epoch_or_zero it.epoch) cs)
         → StandsFor (with_item o (λ it. record { kept = kept_of_node n it; changes = doubts n it }) nothing_stands).kept
-        (with_item o (λ it. record { kept = kept_of_node n it; changes = doubts n it }) nothing_stands).changes (Ok kept)
+        ((with_item o (λ it. record { kept = kept_of_node n it; changes = doubts n it }) nothing_stands).changes ++ cs) (Ok kept)
         → u.epoch ≤ epoch_or_zero (epoch_in n kept)
     go None known is = absurd is
     go (Some it) known is = mapped it (known it refl) (is_some it.damaged) is
 
--- 4. From run to run
+-- 5. From run to run
 
 pub handed-on : DisksMayBeHandedOn
 handed-on layout script disks next history more handed legal on n e there =
@@ -250,5 +299,8 @@ handed-on layout script disks next history more handed legal on n e there =
       nothing_unsynced = x.nothing_unsynced;
       same = x.same;
       bytes = x.bytes;
-      fit = legal.fit more (λ m c is. (handed m c is).fit.room_is_told) n d at (contents e.before).now x.left;
+      fit = elim legal [
+        | inl whole ↦ whole.fit more (λ m c is. (handed m c is).fit.room_is_told) n d at (contents e.before).now x.left
+        | inr part ↦ part.fit more (λ m c is. (handed m c is).fit.room_is_told) n d at (contents e.before).now x.left
+      ];
     }

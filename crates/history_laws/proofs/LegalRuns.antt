@@ -1,18 +1,24 @@
 -- A run is legal once its history follows and its disks stand: the rest are laws.
-use Rattle.std.proofs.Common.{List, []}
+use Rattle.std.proofs.Common.{◌≡◌, ℕ, ◌≤◌, true, List, [], Some, Ok, is_some}
+use Rattle.capability.specs.declared.Uid.{Uid}
+use Rattle.eden_model.specs.Map.{uid_cmp, value_at}
+use Rattle.eden_disk.specs.Told.{contents, Left}
 use Rattle.passive_store.specs.Kept.{Layout}
 use Rattle.passive_store.specs.Layout.{IsLayout}
 use Rattle.journal.specs.declared.command.Script.{Script}
 use Rattle.journal.specs.declared.event.Entry.{Entry}
-use Rattle.journal.specs.World.{World}
-use Rattle.journal.specs.Standing.{DiskRun, Added, nothing_added, unfinished}
+use Rattle.journal.specs.Ejects.{epoch_or_zero}
+use Rattle.journal.specs.Opening.{epoch_in, found_in}
+use Rattle.journal.specs.Sites.{AllThere}
+use Rattle.journal.specs.World.{World, Node, node_at}
+use Rattle.journal.specs.Standing.{DiskRun, Added, StandsThroughout, nothing_added, unfinished}
 use Rattle.journal.specs.LegalRun.{IsSafeRun, numbered, AreHandedIn, opening_world, last_world, run_of}
 use Rattle.journal.specs.Laws.{Begins, WriteNone, EachDiskStands, RunsAreLegal, RunsAreLegalSoFar}
-use Rattle.history_laws.proofs.AtTheEnd.{left-stands}
+use Rattle.history_laws.proofs.AtTheEnd.{left-stands-with}
 use Rattle.history_laws.proofs.EpochBounds.{epochs-are-bounded}
-use Rattle.history_laws.proofs.LeftFit.{epochs-left}
-use Rattle.history_laws.proofs.SiteRuns.{worlds-are-known}
-use Rattle.history_laws.proofs.Uids.{CreatedIn, OfNode}
+use Rattle.history_laws.proofs.LeftFit.{AllWithin, added-within, epochs-left}
+use Rattle.history_laws.proofs.SiteRuns.{KnownWorld, worlds-are-known}
+use Rattle.history_laws.proofs.Uids.{CreatedIn, Fit, OfNode}
 use Rattle.history_laws.proofs.SafeRuns.{each-none-rolled-back}
 use Rattle.history_laws.proofs.StartsWholeLaw.{starts-are-whole}
 use Rattle.history_laws.proofs.NoUidTwice.{no-uid-twice}
@@ -32,6 +38,28 @@ is-safe layout script disks history added lays fits none begins stands = record 
   each_disk_stands = stands;
 }
 
+-- nothing past the kept epoch is left, with what is added under way at the end
+left-epochs : (layout : Layout) (script : Script) (disks : List DiskRun) (history : List Entry) (added : Added) (n : ℕ) (d : DiskRun)
+    → IsLayout layout → AreHandedIn layout disks → Begins layout script disks history
+    → StandsThroughout layout (last_world (opening_world layout script disks) script history)
+    (run_of (opening_world layout script disks) script history) added n d
+    → ((it : Node) → node_at (last_world (opening_world layout script disks) script history) n ≡ Some it → Fit (OfNode (CreatedIn []) n) it
+    → AllThere it.requests it.ejects → AllWithin n (epoch_or_zero it.epoch) (added n d.last.clock))
+    → (image : List ℕ) → Left (contents d.after) image
+    → (kept : List (Uid × List ℕ)) → found_in layout n image ≡ Ok kept → (u : Uid) → is_some (value_at uid_cmp u kept) ≡ true
+    → u.epoch ≤ epoch_or_zero (epoch_in n kept)
+left-epochs layout script disks history added n d lays fits begins stands within image left =
+    epochs-left (OfNode (CreatedIn []) n) layout n last (added n d.last.clock) image
+    (λ it at. let fit = known.fit n it at in
+    (fit, epochs-are-bounded layout script disks history lays fits begins n it at, within it at fit (known.sound.nodes n it at).there))
+    (left-stands-with layout last (run_of (opening_world layout script disks) script history) added n d stands image left)
+  where
+    last : World
+    last = last_world (opening_world layout script disks) script history
+
+    known : KnownWorld (λ m. is_some (node_at (opening_world layout script disks) m)) last
+    known = worlds-are-known layout script disks history lays fits begins
+
 pub runs-are-legal : RunsAreLegal
 runs-are-legal layout script disks history lays fits none follows stands ends faults commands counted armed room = record {
   follows = follows;
@@ -42,25 +70,26 @@ runs-are-legal layout script disks history lays fits none follows stands ends fa
   counted = counted;
   armed = armed;
   fit = λ more told n d there image left. record {
-    epochs = epochs-left (OfNode (CreatedIn []) n) layout n last image
-        (λ it at. (
-          (worlds-are-known layout script disks history lays fits follows.leads).fit n it at,
-          epochs-are-bounded layout script disks history lays fits follows.leads n it at,
-        ))
-        (left-stands layout last (run_of (opening_world layout script disks) script history) n d (stands n d there) image left);
+    epochs = left-epochs layout script disks history nothing_added n d lays fits follows.leads (stands n d there)
+        (λ it at fit all. tt) image left;
+    room_is_told = room more told n d there image left;
+  };
+}
+
+pub runs-are-legal-so-far : RunsAreLegalSoFar
+runs-are-legal-so-far layout script disks history lays fits none begins stands faults commands counted armed room = record {
+  begins = begins;
+  safe = is-safe layout script disks history (unfinished last) lays fits none begins stands;
+  faults = faults;
+  commands = commands;
+  counted = counted;
+  armed = armed;
+  fit = λ more told n d there image left. record {
+    epochs = left-epochs layout script disks history (unfinished last) n d lays fits begins (stands n d there)
+        (added-within (OfNode (CreatedIn []) n) n d.last.clock last) image left;
     room_is_told = room more told n d there image left;
   };
 }
   where
     last : World
     last = last_world (opening_world layout script disks) script history
-
-pub runs-are-legal-so-far : RunsAreLegalSoFar
-runs-are-legal-so-far layout script disks history lays fits none begins stands faults commands counted = record {
-  begins = begins;
-  safe = is-safe layout script disks history
-      (unfinished (last_world (opening_world layout script disks) script history)) lays fits none begins stands;
-  faults = faults;
-  commands = commands;
-  counted = counted;
-}

@@ -79,10 +79,10 @@ in-order layout n image kept is = go (layout.map_of n image) is
         subst (λ es. T (is_sorted uid_cmp es)) e (finite.entries_sorted k.bodies)
     go (Err place) same = absurd (cc same)
 
-fit-node : (n size : ℕ) (found : Result (List (Uid × List ℕ)) ℕ) (overfull : Bool) (ledger : List ℕ)
+fit-node : (n size : ℕ) (found : Result (List (Uid × List ℕ)) ℕ) (overfull untold : Bool) (ledger : List ℕ)
     → ((kept : List (Uid × List ℕ)) → found ≡ Ok kept → IsOwnMap n kept × T (is_sorted uid_cmp kept))
-    → Fit (OfNode (CreatedIn []) n) (node_from n size found overfull ledger)
-fit-node n size (Ok kept) overfull ledger fits = let x = fits kept refl in let fit : IsOwnMap n kept = x.0 in record {
+    → Fit (OfNode (CreatedIn []) n) (node_from n size found overfull untold ledger)
+fit-node n size (Ok kept) overfull untold ledger fits = let x = fits kept refl in let fit : IsOwnMap n kept = x.0 in record {
   up_keeps = λ is. absurd (cc is);
   doubt_is_next = tt;
   in_order = order-passive kept x.1;
@@ -94,7 +94,7 @@ fit-node n size (Ok kept) overfull ledger fits = let x = fits kept refl in let f
   };
   all_given = λ u g. absurd g.1;
 }
-fit-node n size (Err place) overfull ledger fits = record {
+fit-node n size (Err place) overfull untold ledger fits = record {
   up_keeps = λ is. absurd (cc is);
   doubt_is_next = tt;
   in_order = tt;
@@ -133,7 +133,7 @@ fit-opening layout disks lays fits n it is = go (value_at nat_cmp n disks) refl 
     go : (o : Option DiskRun) → value_at nat_cmp n disks ≡ o → IsSomeAnd o (λ d. node_of layout (n, (contents d.before).now) ≡ it)
         → Fit (OfNode (CreatedIn []) n) it
     go None at x = absurd x
-    go (Some d) at x = subst (Fit (OfNode (CreatedIn []) n)) x (fit-node n _ (found_in layout n (contents d.before).now) _ _
+    go (Some d) at x = subst (Fit (OfNode (CreatedIn []) n)) x (fit-node n _ (found_in layout n (contents d.before).now) _ _ _
         (λ kept found. (own-map layout n d lays (fits n d at) kept found, in-order layout n (contents d.before).now kept found)))
 
 -- 2. Every history of every script

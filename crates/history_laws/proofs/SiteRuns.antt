@@ -705,7 +705,7 @@ rests-opening layout (d ∷ ds) n it is = go (eq_by_cmp nat_cmp n d.0) (rests-op
   where
     go : (b : Bool) → (value_at nat_cmp n (map (λ d. (d.0, node_of layout d)) ds) ≡ Some it → Rests it)
         → cond b (Some (node_of layout d)) (value_at nat_cmp n (map (λ d. (d.0, node_of layout d)) ds)) ≡ Some it → Rests it
-    go true later e = subst (λ o. IfSome o Rests) e (rest-node d.0 _ (found_in layout d.0 d.1) _ _)
+    go true later e = subst (λ o. IfSome o Rests) e (rest-node d.0 _ (found_in layout d.0 d.1) _ _ _)
     go false later e = later e
 
 pub known-opening : (layout : Layout) (script : Script) (disks : List DiskRun) → IsLayout layout → AreHandedIn layout disks

@@ -37,10 +37,10 @@ no-doubt u (e ∷ es) = go (e.0.serial == 0) (no-doubt u es)
     go true h = h
     go false h = found (eq_by_cmp uid_cmp u e.0) (value_at uid_cmp u (filter_map passive_entry es)) h
 
-rests : (n size : ℕ) (found : Result (List (Uid × List ℕ)) ℕ) (overfull : Bool) (ledger : List ℕ)
-    → IsAtRest (node_from n size found overfull ledger)
-rests n size (Ok kept) overfull ledger = record { no_doubt = λ u. no-doubt u kept; no_request = refl }
-rests n size (Err place) overfull ledger = record { no_doubt = λ u. refl; no_request = refl }
+rests : (n size : ℕ) (found : Result (List (Uid × List ℕ)) ℕ) (overfull untold : Bool) (ledger : List ℕ)
+    → IsAtRest (node_from n size found overfull untold ledger)
+rests n size (Ok kept) overfull untold ledger = record { no_doubt = λ u. no-doubt u kept; no_request = refl }
+rests n size (Err place) overfull untold ledger = record { no_doubt = λ u. refl; no_request = refl }
 
 all-rest : (layout : Layout) (disks : List (ℕ × List ℕ)) (n : ℕ) (it : Node)
     → value_at nat_cmp n (map (λ d. (d.0, node_of layout d)) disks) ≡ Some it → IsAtRest it
@@ -51,7 +51,7 @@ all-rest layout (d ∷ ds) n it is = go (eq_by_cmp nat_cmp n d.0) refl (all-rest
         → IsAtRest it
     go true b later = let here : Some (node_of layout d) ≡ Some it = subst
         (λ c. cond c (Some (node_of layout d)) (value_at nat_cmp n (map (λ d. (d.0, node_of layout d)) ds)) ≡ Some it) b is in
-        subst (λ o. IfSome o IsAtRest) here (rests d.0 _ (found_in layout d.0 d.1) _ _)
+        subst (λ o. IfSome o IsAtRest) here (rests d.0 _ (found_in layout d.0 d.1) _ _ _)
     go false b later = later (subst (λ c. cond c (Some (node_of layout d)) (value_at nat_cmp n (map (λ d. (d.0, node_of layout d)) ds))
         ≡ Some it) b is)
 

@@ -33,6 +33,7 @@ blank_node_of size = record {
   size = size;
   damaged = None;
   overfull = false;
+  untold = false;
   up = false;
   epoch = None;
   epoch_doubt = None;
@@ -66,7 +67,7 @@ blank_world n = blank_world_of (types_in native_only) n
 
 -- a node that is down, whose disk keeps what this one's keeps; nothing is in doubt there
 abbrev pub asleep : ℕ × Node → ℕ × Node
-asleep p = (p.0, node_from p.0 p.1.size (Ok (kept_map p.0 p.1)) false p.1.ledger)
+asleep p = (p.0, node_from p.0 p.1.size (Ok (kept_map p.0 p.1)) false false p.1.ledger)
 
 abbrev pub one_node : World
 one_node = blank_world 1

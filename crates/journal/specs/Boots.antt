@@ -1,5 +1,5 @@
 -- A node boots: the store is opened, the doubt is settled, the epoch is read and the next one put.
-use Rattle.std.specs.Prelude.{◌≡◌, ◌⊎◌, ℕ, ◌+◌, ◌<◌, Bool, true, false, cond, [], Option, None, Some, is_some, IsTrue}
+use Rattle.std.specs.Prelude.{◌≡◌, ◌⊎◌, ℕ, ◌+◌, ◌<◌, ◌&&◌, not, Bool, true, false, cond, [], Option, None, Some, is_some, IsTrue}
 use Rattle.passive_store.specs.declared.store.Pick.{Pick}
 use Rattle.journal.specs.EjectChange.{body}
 use Rattle.journal.specs.declared.event.BootEnd.{BootEnd}
@@ -14,9 +14,13 @@ use Rattle.journal.specs.Settling.{epoch_uid, epoch_bytes, in_doubt, settled, wr
 abbrev pub last_epoch : ℕ
 last_epoch = 4294967295
 
--- a put of this epoch finds room on the node's disk
+-- what is kept leaves room for a put of this epoch
+abbrev pub epoch_fits : Site → ℕ → Bool
+epoch_fits s e = finds_room (epoch_uid s.number) (body (epoch_bytes e)) s
+
+-- a put of this epoch finds room on the node's disk: what is kept leaves room, and the opening image is not untold
 abbrev pub epoch_has_room : Site → ℕ → Bool
-epoch_has_room s e = finds_room (epoch_uid s.number) (body (epoch_bytes e)) s
+epoch_has_room s e = epoch_fits s e && not s.node.untold
 
 -- the boot shows nothing past the opening of the store: no pick, no epoch, and no put as begun
 pub record OpenedNothing (e : ℕ) (p : Option Pick) (began : Bool) : Type 0 where

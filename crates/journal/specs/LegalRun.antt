@@ -173,6 +173,10 @@ pub record IsLegalSoFar (layout : Layout) (script : Script) (disks : List DiskRu
   pub commands : EachDisk disks (EachHasItsCommand (run_over layout script disks history))
   -- a power cut and an arming show the clock that the disk has then
   pub counted : EachDisk disks (EachShowsClockBefore (run_over layout script disks history))
+  -- and each `fail` and each `stop` of these entries is asked of its disk, and nothing else is
+  pub armed : EachDisk disks (IsLeftArmed (run_over layout script disks history))
+  -- every image that may be left is fit, for as many changes as the room was told for besides
+  pub fit : StayFit layout disks
 
 -- What is taken for granted of the disk that is handed in for node n, for so many changes. What a layout owes of every image is no part of
 -- it (IsLayout).

@@ -1,6 +1,6 @@
 -- The world before the first event: what the images hold; all Ejects passive, all nodes down, all links joined.
-use Rattle.std.specs.Prelude.{ℕ, ◌+◌, ◌*◌, ◌==◌, ◌≤◌, ◌≡◌, Bool, false, cond, is_some, IsTrue, List, [], ◌∷◌, map, length, Option, None}
-use Rattle.std.specs.Prelude.{Some, Result, Ok, Err}
+use Rattle.std.specs.Prelude.{ℕ, ◌+◌, ◌*◌, ◌==◌, ◌≤◌, ◌≡◌, Bool, true, false, not, ◌&&◌, cond, is_some, IsTrue, List, [], ◌∷◌, map, length}
+use Rattle.std.specs.Prelude.{Option, None, Some, Result, Ok, Err}
 use Rattle.std.specs.List.{filter_map}
 use Rattle.capability.specs.declared.Uid.{Uid}
 use Rattle.eden_model.specs.Map.{with_item, value_at, uid_cmp}
@@ -33,12 +33,14 @@ epoch_in n kept = with_item (value_at uid_cmp (epoch_uid n) kept) (λ bytes. Som
 abbrev pub last_serial_of_all : ℕ
 last_serial_of_all = 4294967295
 
--- a node by its number, the size of its disk, what the image keeps or its first damaged place, whether it is overfull, and the ledger
-abbrev pub node_from : ℕ → ℕ → Result (List (Uid × List ℕ)) ℕ → Bool → List ℕ → Node
-node_from n size (Ok kept) overfull ledger = record {
+-- a node by its number, the size of its disk, what the image keeps or its first damaged place, whether it is overfull and whether it is
+-- untold, and the ledger
+abbrev pub node_from : ℕ → ℕ → Result (List (Uid × List ℕ)) ℕ → Bool → Bool → List ℕ → Node
+node_from n size (Ok kept) overfull untold ledger = record {
   size = size;
   damaged = None;
   overfull = overfull;
+  untold = untold;
   up = false;
   epoch = epoch_in n kept;
   epoch_doubt = None;
@@ -49,10 +51,11 @@ node_from n size (Ok kept) overfull ledger = record {
   ledger = ledger;
   ejects = filter_map passive_entry kept;
 }
-node_from n size (Err place) overfull ledger = record {
+node_from n size (Err place) overfull untold ledger = record {
   size = size;
   damaged = Some place;
   overfull = overfull;
+  untold = untold;
   up = false;
   epoch = None;
   epoch_doubt = None;
@@ -77,6 +80,19 @@ ledger_of (Err place) = []
 -- what an image of node n keeps, or its first damaged place
 abbrev pub found_in : Layout → ℕ → List ℕ → Result (List (Uid × List ℕ)) ℕ
 found_in layout n image = entries_of (layout.map_of n image)
+
+-- what was found is nothing at all, or an epoch is there
+abbrev pub has_epoch_first : ℕ → Result (List (Uid × List ℕ)) ℕ → Bool
+has_epoch_first n (Ok []) = true
+has_epoch_first n (Ok (e ∷ kept)) = is_some (epoch_in n (e ∷ kept))
+has_epoch_first n (Err place) = false
+
+-- An image that can be opened, of which the room is told for no change more. Over blocks the last sequence is used there, or no head or no
+-- block is free, so that no put finds room, not even that of an epoch. It is not asked of an image that keeps Ejects and no epoch, of
+-- which blocks tell the room for no change on that ground alone.
+abbrev pub is_untold : Layout → ℕ → List ℕ → Bool
+is_untold layout n image =
+    (layout.changes_told n image == 0) && (not (layout.is_overfull n image) && has_epoch_first n (found_in layout n image))
 
 -- A run makes fewer changes on a disk than this: each entry makes at most one; a script of at most 1,048,576 bytes has fewer commands
 -- than that, with the boots of its nodes, and all else are turns.
@@ -103,7 +119,8 @@ IsFitImage layout n image = IsFitFor layout n most_changes image
 
 -- the node with this number and this image on its disk, before the first event: down, and with what the image keeps
 abbrev pub node_of : Layout → ℕ × List ℕ → Node
-node_of layout d = node_from d.0 (length d.1) (found_in layout d.0 d.1) (layout.is_overfull d.0 d.1) (ledger_of (layout.map_of d.0 d.1))
+node_of layout d = node_from d.0 (length d.1) (found_in layout d.0 d.1) (layout.is_overfull d.0 d.1) (is_untold layout d.0 d.1)
+    (ledger_of (layout.map_of d.0 d.1))
 
 -- the world of these nodes, whether they will be booted or not
 abbrev pub opening_of : List Edentype → Layout → List (ℕ × Node) → World

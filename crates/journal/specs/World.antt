@@ -67,6 +67,8 @@ pub record Node : Type 0 where
   pub damaged : Option ℕ
   -- whether the opening image keeps too much to be opened
   pub overfull : Bool
+  -- whether of the opening image, though it can be opened, the room is told for no change more, so that not even an epoch finds room
+  pub untold : Bool
   -- whether a boot brought it up and it has not crashed since
   pub up : Bool
   -- the stored epoch; None where none is stored

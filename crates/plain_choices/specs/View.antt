@@ -8,7 +8,7 @@ use Rattle.journal.specs.World.{Site, eject_in}
 use Rattle.journal.specs.Ejects.{stored_epoch}
 use Rattle.journal.specs.Settling.{in_doubt, settled, to_settle}
 use Rattle.journal.specs.Starts.{start_of}
-use Rattle.journal.specs.Boots.{epoch_has_room}
+use Rattle.journal.specs.Boots.{epoch_fits}
 use Rattle.journal.specs.Stores as stores
 use Rattle.plain_choices.specs.declared.boots.BootFacts.{BootFacts}
 use Rattle.plain_choices.specs.declared.starts.Found.{Found}
@@ -65,8 +65,10 @@ pub record IsBootOf (f : BootFacts) (s : Site) (p : Option Pick) : Type 0 where
   pub doubted : f.doubted ≡ in_doubt s.number s.node
   -- the epoch that is stored behind the pick
   pub stored : f.stored ≡ (settled p s).node.epoch
-  -- whether the next one finds room then
-  pub room : f.room ≡ epoch_has_room (settled p s) (stored_epoch (settled p s).node + 1)
+  -- whether what is kept then leaves room for the next one
+  pub room : f.room ≡ epoch_fits (settled p s) (stored_epoch (settled p s).node + 1)
+  -- whether of the opening image the room is told for no change more
+  pub untold : f.untold ≡ (settled p s).node.untold
 
 -- 4. Clocks
 

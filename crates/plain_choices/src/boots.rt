@@ -1,11 +1,11 @@
 //! Boots.
-ghost use Rattle.std.specs.Prelude.{◌≡◌, ◌↔◌, IsTrue, Option};
+ghost use Rattle.std.specs.Prelude.{◌≡◌, ◌↔◌, ◌+◌, IsTrue, Option};
 ghost use Rattle.journal.specs.Ejects.{stored_epoch};
 ghost use Rattle.journal.specs.Settling.{settled};
 ghost use Rattle.passive_store.specs.declared.store.Pick.{Pick as PickOf};
 ghost use Rattle.journal.specs.World.{Site};
 ghost use Rattle.journal.specs.Boots.{BootsSo, OpenedNothing, Opened, BeganNothing, BeganNext, ReadsEpoch, OpensStore, Failed};
-ghost use Rattle.journal.specs.Boots.{IsDamaged, IsOverfull, IsSpent, HasNoRoom};
+ghost use Rattle.journal.specs.Boots.{IsDamaged, IsOverfull, IsSpent, HasNoRoom, epoch_has_room};
 ghost use Rattle.plain_choices.specs.View.{IsBootOf};
 
 use journal::BootEnd;
@@ -24,8 +24,10 @@ pub struct BootFacts {
     pub doubted: bool,
     /// The epoch that is stored behind the pick.
     pub stored: Option<u32>,
-    /// Whether the next one finds room then.
+    /// Whether what is kept then leaves room for the next one.
     pub room: bool,
+    /// Whether of its opening image the room is told for no change more.
+    pub untold: bool,
 }
 
 /// Whether the boot shows nothing past the opening.
@@ -52,6 +54,14 @@ fn is_opened(facts: &BootFacts, pick: Option<Pick>) -> bool
     facts.damaged.is_none() && !facts.overfull && pick.is_some() == facts.doubted
 }
 
+/// Whether the next epoch finds room.
+fn has_room(facts: &BootFacts) -> bool
+    ensures { (s : Site) (p : Option PickOf) → IsBootOf facts.now s p
+        → result ≡ epoch_has_room (settled p s) (stored_epoch (settled p s).node + 1) }
+{
+    facts.room && !facts.untold
+}
+
 /// Whether the put of the next epoch was not begun.
 fn began_nothing(facts: &BootFacts, epoch: u32, pick: Option<Pick>, began: bool) -> bool
     ensures { (s : Site) → IsBootOf facts.now s pick → IsTrue result ↔ BeganNothing s epoch pick began }
@@ -64,7 +74,7 @@ fn began_next(facts: &BootFacts, epoch: u32, pick: Option<Pick>, began: bool) ->
     ensures { (s : Site) → IsBootOf facts.now s pick → IsTrue result ↔ BeganNext s epoch pick began }
 {
     let stored = stored_or_zero(facts);
-    is_opened(facts, pick) && stored < u32::MAX && epoch == stored + 1 && facts.room && began
+    is_opened(facts, pick) && stored < u32::MAX && epoch == stored + 1 && has_room(facts) && began
 }
 
 /// Whether the epoch was to be read.
@@ -114,7 +124,7 @@ pub fn may_boot(
             facts.damaged.is_none() && facts.overfull && opened_nothing(epoch, pick, began)
                 || began_nothing(facts, epoch, pick, began)
                     && stored_or_zero(facts) < u32::MAX
-                    && !facts.room
+                    && !has_room(facts)
         }
     }
 }

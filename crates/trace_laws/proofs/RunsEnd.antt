@@ -32,10 +32,10 @@ use Rattle.trace_laws.proofs.CanEnd.{IsFitOver, FitsIn, AllFit, runs-can-end}
 
 -- 1. No disk has a clock yet
 
-new-low : (n size : ℕ) (found : Result (List (Uid × List ℕ)) ℕ) (overfull : Bool) (ledger : List ℕ)
-    → IfSome (node_from n size found overfull ledger).clock (λ b. b < 2 ^ 64)
-new-low n size (Ok kept) overfull ledger = tt
-new-low n size (Err place) overfull ledger = tt
+new-low : (n size : ℕ) (found : Result (List (Uid × List ℕ)) ℕ) (overfull untold : Bool) (ledger : List ℕ)
+    → IfSome (node_from n size found overfull untold ledger).clock (λ b. b < 2 ^ 64)
+new-low n size (Ok kept) overfull untold ledger = tt
+new-low n size (Err place) overfull untold ledger = tt
 
 low-opening : (layout : Layout) (images : List (ℕ × List ℕ)) (n : ℕ)
     → IfSome (with_item (value_at nat_cmp n (map (λ d. (d.0, node_of layout d)) images)) (λ it. it.clock) None) (λ b. b < 2 ^ 64)
@@ -47,7 +47,7 @@ low-opening layout (d ∷ ds) n = go (eq_by_cmp nat_cmp n d.0) (low-opening layo
 
     go : (b : Bool) → IfSome (with_item (value_at nat_cmp n later) (λ it. it.clock) None) (λ b. b < 2 ^ 64)
         → IfSome (with_item (cond b (Some (node_of layout d)) (value_at nat_cmp n later)) (λ it. it.clock) None) (λ b. b < 2 ^ 64)
-    go true h = new-low d.0 _ (found_in layout d.0 d.1) _ _
+    go true h = new-low d.0 _ (found_in layout d.0 d.1) _ _ _
     go false h = h
 
 -- 2. Fit commands

@@ -218,11 +218,11 @@ numbers layout m n it (d ∷ disks) is = go (eq_by_cmp nat_cmp m n) refl is (num
     go false same e later = let x = later e in (omega (arith, x.0), omega (arith, x.1))
 
 -- the serials of its Ejects have four bytes
-serials : (n size : ℕ) (found : Result (List (Uid × List ℕ)) ℕ) (overfull : Bool) (ledger : List ℕ)
+serials : (n size : ℕ) (found : Result (List (Uid × List ℕ)) ℕ) (overfull untold : Bool) (ledger : List ℕ)
     → ((kept : List (Uid × List ℕ)) → found ≡ Ok kept → IsOwnMap n kept) → (u : Uid)
-    → is_some (value_at uid_cmp u (node_from n size found overfull ledger).ejects) ≡ true → u.serial ≤ 4294967295
-serials n size (Ok kept) overfull ledger own u there = (own kept refl).serials u (kept-there u kept there)
-serials n size (Err place) overfull ledger own u there = absurd (cc there)
+    → is_some (value_at uid_cmp u (node_from n size found overfull untold ledger).ejects) ≡ true → u.serial ≤ 4294967295
+serials n size (Ok kept) overfull untold ledger own u there = (own kept refl).serials u (kept-there u kept there)
+serials n size (Err place) overfull untold ledger own u there = absurd (cc there)
 
 opening-serials : (layout : Layout) (disks : List DiskRun) → IsLayout layout → AreHandedIn layout disks → (n : ℕ) (it : Node)
     → value_at nat_cmp n (map (λ d. (d.0, node_of layout d)) (images (numbered disks))) ≡ Some it → (u : Uid)
@@ -233,7 +233,7 @@ opening-serials layout disks lays handed n it is u there = go (value_at nat_cmp 
     go : (o : Option DiskRun) → value_at nat_cmp n (numbered disks) ≡ o
         → IsSomeAnd o (λ d. node_of layout (n, (contents d.before).now) ≡ it) → u.serial ≤ 4294967295
     go None at x = absurd x
-    go (Some d) at x = serials n _ (found_in layout n (contents d.before).now) _ _
+    go (Some d) at x = serials n _ (found_in layout n (contents d.before).now) _ _ _
         (λ kept found. own-map layout n d lays (handed n d at) kept found) u
         (ap (λ (y : Node). is_some (value_at uid_cmp u y.ejects)) x ∙ there)
 
