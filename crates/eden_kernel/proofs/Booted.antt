@@ -28,6 +28,8 @@ use Rattle.journal.specs.Ejects.{stored_epoch}
 use Rattle.epl_syntax.specs.Meaning.{types_in}
 use Rattle.journal.specs.Settling.{epoch_uid, settled, settled_eject}
 use Rattle.history_laws.proofs.KeptTurns.{value-each}
+use Rattle.checkpoint.specs.Room.{KeepsRoom}
+use Rattle.checkpoint.proofs.Rooms.{kept-room}
 use Rattle.checkpoint.specs.Asked.{StandsNow, requests_of}
 use Rattle.checkpoint.specs.Boots.{BootsUp, put_after}
 use Rattle.checkpoint.specs.Changes.{Facts, facts_of}
@@ -218,9 +220,10 @@ node-boots layout ts k more s old before note ejects w y m types node idle empty
 pub boots-put : (layout : Layout) (k more : ℕ) (s : Site) (old : Told) (before : ℕ) (note : BootNote) (y : Seen) (counts : Counts) (told
     : Told)
     → told ≡ y.disk.told → counts.clock ≡ y.disk.counts.clock → BootsUp layout k more s old before note y
-    → BootsPut layout k s old before note told counts.clock
+    → BootsPut layout k more s old before note told counts.clock
 boots-put layout k more s old before note y counts told same clock b = record {
   timed = subst (λ c. Timed before old c told) (sym clock) (subst (λ t. Timed before old y.disk.counts.clock t) (sym same) b.disk.timed);
   moments = subst (λ t. EachMoment (Stands layout k (with_changes (put_after k s note.pick) (state_of k s.node))) old t) (sym same)
       b.disk.moments;
+  room = subst (KeepsRoom layout k more) (sym same) (kept-room layout k more y.more y.kept _ y.disk.told b.told b.stands.stands);
 }

@@ -121,6 +121,7 @@ module _ (n : ℕ) (v : Uid) (it : Active) (s : Site) (own : v.node ≡ n) (some
     up = h.up;
     keeps = record {
       undamaged = h.keeps.undamaged;
+      not_untold = h.keeps.not_untold;
       ordered = ordered-born h.keeps.ordered;
       facts = λ u apart. facts-born u ∙ h.keeps.facts u apart;
       epoch = h.keeps.epoch;

@@ -25,8 +25,8 @@ use Rattle.checkpoint.specs.Starting.{call_of_start}
 use Rattle.checkpoint.specs.Touches.{ObeyedIn, RaisesClock}
 use Rattle.checkpoint.specs.declared.up.BootNote.{BootNote}
 use Rattle.checkpoint.specs.declared.worker.Request.{Request}
-use Rattle.eden_kernel.specs.DiskTurns.{call_of_request, IsFirstAsked}
-use Rattle.disk_faults.specs.Shows.{count_behind, due_behind, HasFallen, ShowsCounts, NoneFalls}
+use Rattle.eden_kernel.specs.DiskTurns.{call_of_request, IsFirstAsked, StopsBy, behind_start, stops_behind}
+use Rattle.disk_faults.specs.Shows.{count_behind, due_behind, HasFallen, IsLeftOf, ShowsCounts, NoneFalls}
 use Rattle.eden_kernel.specs.Shows.{boot_event, FallShows}
 
 -- 1. By how the device calls ended
@@ -138,6 +138,17 @@ start-stop n u start_end.Fault p own = refl
 start-stop n u start_end.Damaged p own = refl
 start-stop n u start_end.Stop p own = own-node u.node n own
 
+stops-started : (how : StartEnd) (n : ℕ) → stops_after (call_of_start how) n ≡ stops_behind (behind_start how) n
+stops-started start_end.Ok n = refl
+stops-started start_end.Gone n = refl
+stops-started start_end.Fault n = refl
+stops-started start_end.Damaged n = refl
+stops-started start_end.Stop n = refl
+
+pub stops-start : (how : StartEnd) (before after : Counts) → MakesCalls before after (call_of_start how)
+    → StopsBy (behind_start how) before after
+stops-start how before after d = d.counts.stops ∙ stops-started how before.stops
+
 pub shows-start : (obeys : Bool) (n : ℕ) (u : Uid) (how : StartEnd) (p : Option Pick) (old new : DiskSeen) → u.node ≡ n
     → MakesCalls old.counts new.counts (call_of_start how)
     → ObeyedIn obeys old new (call_of_start how) → RaisesClock (call_of_start how) old.counts.clock new.counts.clock
@@ -176,6 +187,39 @@ unpowered made before after end d = record {
   counted = d.counted;
 }
 
+pub none-falls : (made : ℕ) (before after : Counts) (end : End) → DeviceCalls made before after end → NoneFalls before after
+none-falls made before after end d = record {
+  clock = omega (arith, d.clock);
+  faults = go end d.faults;
+  stops = stop end d.stops;
+  wants = wants_rise before.wants after.wants end d.wants;
+}
+  where
+    go : (k : End) → after.faults ≡ faults_after k before.faults → before.faults ≤ after.faults
+    go Fine is = omega (arith, is)
+    go AtFault is = omega (arith, is)
+    go AtStop is = omega (arith, is)
+
+    stop : (k : End) → after.stops ≡ stops_after k before.stops → before.stops ≤ after.stops
+    stop Fine is = omega (arith, is)
+    stop AtFault is = omega (arith, is)
+    stop AtStop is = omega (arith, is)
+
+-- by device calls, none of which changes what is armed
+pub left-behind : (obeys : Bool) (made : ℕ) (old new : DiskSeen) (end : End) → DeviceCalls made old.counts new.counts end
+    → ObeyedIn obeys old new end → IsLeftOf obeys old new
+left-behind obeys made old new end calls obeyed = record {
+  counts = none-falls made old.counts new.counts end calls;
+  due = λ does. (obeyed does).kept;
+}
+
+-- by none
+pub left-still : (obeys : Bool) (old new : DiskSeen) → new ≡ old → IsLeftOf obeys old new
+left-still obeys old new same = subst (IsLeftOf obeys old) (sym same) (record {
+  counts = record { clock = omega arith; faults = omega arith; stops = omega arith; wants = omega arith };
+  due = λ does. refl;
+})
+
 pub shows-boot : (obeys : Bool) (n : ℕ) (how : BootEnd) (note : BootNote) (old new : DiskSeen)
     → MakesCalls (powered old.counts) new.counts (call_of_fall (Some how))
     → ObeyedIn obeys old new (call_of_fall (Some how)) → RaisesClock (call_of_fall (Some how)) old.counts.clock new.counts.clock
@@ -188,7 +232,8 @@ pub shows-fall : (obeys : Bool) (n : ℕ) (how : Option BootEnd) (note : BootNot
     → MakesCalls (powered old.counts) new.counts (call_of_fall how)
     → ObeyedIn obeys old new (call_of_fall how) → RaisesClock (call_of_fall how) old.counts.clock new.counts.clock
     → FallShows obeys n how note old new
-shows-fall obeys n None note old new d o rises = tt
+shows-fall obeys n None note old new d o rises =
+    left-behind obeys d.made old new (call_of_fall None) (unpowered d.made old.counts new.counts (call_of_fall None) d.counts) o
 shows-fall obeys n (Some how) note old new d o rises = shows-boot obeys n how note old new d o rises
 
 -- 5. What makes no device call
@@ -219,27 +264,3 @@ shows-armed obeys n what old new counts due = shows-none obeys n (event.Armed n 
     (ap (λ (k : Counts). k.faults) counts) (ap (λ (k : Counts). k.stops) counts)
     (ap (λ (k : Counts). k.clock) counts) (ap (λ (k : Counts). k.wants) counts)
     (λ does. due does ∙ ap (λ b. cond b (armed what old.counts.clock old.due) old.due) (sym (own-node n n refl)))
-
--- 6. Where there was no memory
-
-pub none-falls : (made : ℕ) (before after : Counts) (end : End) → DeviceCalls made before after end → NoneFalls before after
-none-falls made before after end d = record {
-  clock = omega (arith, d.clock);
-  faults = go end d.faults;
-  stops = stop end d.stops;
-  wants = wants_rise before.wants after.wants end d.wants;
-}
-  where
-    go : (k : End) → after.faults ≡ faults_after k before.faults → before.faults ≤ after.faults
-    go Fine is = omega (arith, is)
-    go AtFault is = omega (arith, is)
-    go AtStop is = omega (arith, is)
-
-    stop : (k : End) → after.stops ≡ stops_after k before.stops → before.stops ≤ after.stops
-    stop Fine is = omega (arith, is)
-    stop AtFault is = omega (arith, is)
-    stop AtStop is = omega (arith, is)
-
-pub none-fell : (before after : Counts) → after ≡ before → NoneFalls before after
-none-fell before after same = subst (NoneFalls before) (sym same)
-    (record { clock = omega arith; faults = omega arith; stops = omega arith; wants = omega arith })

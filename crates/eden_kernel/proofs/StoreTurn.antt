@@ -6,7 +6,7 @@ use Rattle.std.specs.Option.{option_map}
 use Rattle.std.proofs.lemmas.Cmp.{tied_itself}
 use Rattle.capability.specs.declared.Uid.{Uid}
 use Rattle.capability.proofs.Uids.{uid_cmp_total}
-use Rattle.eden_disk.specs.Calls.{Counts, DeviceCalls}
+use Rattle.eden_disk.specs.Calls.{Counts, DeviceCalls, stops_after}
 use Rattle.eden_model.specs.Map.{with_item, first, rest, same_uid}
 use Rattle.epl_syntax.specs.Rules.OfTypes.{TypeList}
 use Rattle.invocation.specs.Mail.{Mail}
@@ -52,6 +52,8 @@ use Rattle.eden_kernel.specs.Boots.{IsAsleep}
 use Rattle.eden_kernel.specs.Stands.{NodeStands}
 use Rattle.eden_kernel.specs.Turns.{Turns}
 use Rattle.eden_kernel.specs.DiskTurns.{Stops, OneCallEnds, call_of_request, shown_as, goes_on, asks_removal, IsFirstAsked, left_behind}
+use Rattle.eden_kernel.specs.DiskTurns.{StopsBy}
+use Rattle.eden_kernel.specs.declared.stores.TurnEnd.TheVariants as turn_end
 use Rattle.eden_kernel.proofs.Booted.{asleep-crashed}
 use Rattle.eden_kernel.proofs.StoreLeaves.{leaves-store, requests-go, removal-leaves, rest-requests, dropped-requests}
 use Rattle.eden_kernel.proofs.StoreLeaves.{turns-store}
@@ -264,6 +266,21 @@ stops-shown store_end.Done is = absurd (cc is)
 stops-shown store_end.Full is = absurd (cc is)
 stops-shown store_end.Fault is = absurd (cc is)
 stops-shown store_end.Stopped is = refl
+
+-- one with which it goes on is no stop
+none-stopped : (e : StoreEnd) (n : ℕ) → goes_on e ≡ true → stops_after (call_end e) n ≡ n
+none-stopped store_end.Done n is = refl
+none-stopped store_end.Full n is = refl
+none-stopped store_end.Fault n is = refl
+none-stopped store_end.Stopped n is = absurd (cc is)
+
+pub stops-not : (before after : Counts) (q : Request) (e : StoreEnd) → goes_on e ≡ true → OneCall before after (Ended q e)
+    → StopsBy turn_end.Up before after
+stops-not before after q e is one = one.counts.stops ∙ none-stopped e before.stops is
+
+pub stops-once : (before after : Counts) (q : Request) (e : StoreEnd) → goes_on e ≡ false → OneCall before after (Ended q e)
+    → StopsBy turn_end.Down before after
+stops-once before after q e is one = one.counts.stops ∙ ap (λ k. stops_after k before.stops) (stops-shown e is)
 
 pub one-ended : (before after : Counts) (q : Request) (e : StoreEnd) → OneCall before after (Ended q e)
     → OneCallEnds before after (call_of_request (shown_as e))

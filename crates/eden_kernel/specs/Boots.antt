@@ -14,6 +14,7 @@ use Rattle.journal.specs.Settling.{epoch_uid}
 use Rattle.journal.specs.Boots.{AllowsBoot, boot_turn}
 use Rattle.journal.specs.Standing.{Stands, with_changes}
 use Rattle.journal.specs.declared.event.BootEnd.TheVariants as end
+use Rattle.checkpoint.specs.Room.{KeepsRoom}
 use Rattle.checkpoint.specs.Boots.{put_after}
 use Rattle.checkpoint.specs.StoreStands.{NodeOnDisk, state_of}
 use Rattle.checkpoint.specs.Turns.{with_clock}
@@ -71,7 +72,8 @@ pub record NodeBoots (layout : Layout) (ts : TypeList) (n more : ℕ) (s : Site)
       new.seen.disk.told (clock_of new)
 
 -- There was no memory for the Ejects behind the put of the epoch: at each moment what stood goes on standing, with the epoch put.
-pub record BootsPut (layout : Layout) (n : ℕ) (s : Site) (old : Told) (before : ℕ) (note : BootNote) (new : Told) (after : ℕ)
+pub record BootsPut (layout : Layout) (n more : ℕ) (s : Site) (old : Told) (before : ℕ) (note : BootNote) (new : Told) (after : ℕ)
     : Type 0 where
   pub timed : Timed before old after new
   pub moments : EachMoment (Stands layout n (with_changes (put_after n s note.pick) (state_of n s.node))) old new
+  pub room : KeepsRoom layout n more new

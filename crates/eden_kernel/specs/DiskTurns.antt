@@ -1,7 +1,7 @@
 -- Turns in which a node calls its disk: it goes on, or the disk stopped and the node is down.
 use Rattle.std.specs.Prelude.{◌≡◌, ◌≤◌, ℕ, Bool, true, false, List, [], IsSomeAnd}
 use Rattle.capability.specs.declared.Uid.{Uid}
-use Rattle.eden_disk.specs.Calls.{Counts, DeviceCalls, End, Fine, AtFault, AtStop}
+use Rattle.eden_disk.specs.Calls.{Counts, DeviceCalls, End, Fine, AtFault, AtStop, one_more}
 use Rattle.eden_value.specs.Datum.{Datum}
 use Rattle.edentypes.specs.View.{kind_in}
 use Rattle.epl_syntax.specs.Edentype.{Edentype}
@@ -25,6 +25,7 @@ use Rattle.journal.specs.Step.{AllowsAt, site_turn}
 use Rattle.checkpoint.specs.Asked.{noted_in}
 use Rattle.checkpoint.specs.Calls.{MakesCalls}
 use Rattle.checkpoint.specs.Queues.{left_in}
+use Rattle.checkpoint.specs.Room.{KeepsRoom}
 use Rattle.checkpoint.specs.Starting.{call_of_start}
 use Rattle.checkpoint.specs.Turns.{with_clock}
 use Rattle.checkpoint.specs.declared.worker.Request.{Request}
@@ -59,10 +60,21 @@ abbrev pub IsWholeBehind : TurnEnd → Held → Type 0
 IsWholeBehind Up h = IsWhole h
 IsWholeBehind Down h = Unit {0}
 
--- There was no memory in the turn: a crash leaves at each moment of it what stood at the site before it.
+-- The count of the disk's stops behind a turn: one more where the node is down, and else as it was. At the greatest number it stands still.
+abbrev pub stops_behind : TurnEnd → ℕ → ℕ
+stops_behind Up n = n
+stops_behind Down n = one_more n
+
+-- The disk stopped in the turn exactly where the node is down behind it.
+abbrev pub StopsBy : TurnEnd → Counts → Counts → Type 0
+StopsBy how before after = after.stops ≡ stops_behind how before.stops
+
+-- There was no memory in the turn: a crash leaves at each moment of it what stood at the site before it, and behind it there is room for
+-- all but one of the changes for which it was told.
 pub record Starves (layout : Layout) (s : Site) (old new : Seen) : Type 0 where
   pub timed : Timed old.disk.counts.clock old.disk.told new.disk.counts.clock new.disk.told
   pub moments : EachMoment (Stands layout old.node (with_changes [] (state_of old.node s.node))) old.disk.told new.disk.told
+  pub room : KeepsRoom layout old.node old.more new.disk.told
 
 -- 2. A request of the store
 

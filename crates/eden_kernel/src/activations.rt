@@ -18,10 +18,10 @@ ghost use Rattle.checkpoint.specs.Touches.{Touches, ReadsByCalls};
 ghost use Rattle.ejects.specs.Parts.{IsAt, Stands, body_at as part_at};
 ghost use Rattle.ejects.specs.StoreEnds.{SettlesAt};
 ghost use Rattle.ejects.specs.View.{parts_of};
-ghost use Rattle.eden_kernel.specs.DiskTurns.{EndsTurn, IsWholeBehind, IsActivation, Starves, behind_start, begun_as};
+ghost use Rattle.eden_kernel.specs.DiskTurns.{EndsTurn, IsWholeBehind, IsActivation, Starves, StopsBy, behind_start, begun_as};
 ghost use Rattle.eden_kernel.specs.Enabled.{MayActivate};
 ghost use Rattle.disk_faults.specs.Elsewhere.{shown_of};
-ghost use Rattle.disk_faults.specs.Shows.{ShowsCounts, NoneFalls};
+ghost use Rattle.disk_faults.specs.Shows.{IsLeftOf, ShowsCounts};
 ghost use Rattle.eden_kernel.specs.Shows.{call_of_event};
 ghost use Rattle.eden_kernel.specs.Stands.{held, IsWhole, NodeStands};
 ghost use Rattle.eden_kernel.specs.declared.stores.TurnEnd.TheVariants.{Up, Down};
@@ -146,6 +146,9 @@ impl<St: Store> Node<St> {
             IsActivation uid (St.seen self.old.store).disk.counts (St.seen self.new.store).disk.counts r.0) }
         ensures of_node { IfOk result (λ r. shown_of r.0 ≡ self.old.number) }
 
+        // Down comes exactly where the disk's count of stops rose, whatever the disk tells.
+        ensures stops { IfOk result (λ r. StopsBy r.1 (St.seen self.old.store).disk.counts (St.seen self.new.store).disk.counts) }
+
         // It makes device calls exactly where the activation of the node does.
         ensures touches { IsTrue St.Device.tells → ReadsByCalls St.layout → IfOk result (λ r. (s : Site)
             → NodeStands St.layout types.now (held St.seen self.old) calls.old s
@@ -154,7 +157,7 @@ impl<St: Store> Node<St> {
         // What it shows of the disk was due, where that obeys.
         ensures shows { IfOk result (λ r.
             ShowsCounts St.Device.obeys self.old.number r.0 (St.seen self.old.store).disk (St.seen self.new.store).disk) }
-        ensures counts { OnErr result (NoneFalls (St.seen self.old.store).disk.counts (St.seen self.new.store).disk.counts) }
+        ensures left { OnErr result (IsLeftOf St.Device.obeys (St.seen self.old.store).disk (St.seen self.new.store).disk) }
 
         // The room is told for as many changes as before.
         ensures more { (St.seen self.new.store).more ≡ (St.seen self.old.store).more }

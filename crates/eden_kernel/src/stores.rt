@@ -17,10 +17,10 @@ ghost use Rattle.ejects.specs.Parts.{body_at as part_at};
 ghost use Rattle.ejects.specs.StoreEnds.{IsShownAs, IsFirstOf, IsFirst, SettlesAt, takes_eject};
 ghost use Rattle.ejects.specs.View.{parts_of};
 ghost use Rattle.eden_kernel.specs.DiskTurns.{EndsTurn, IsWholeBehind, IsStoreTurn, shown_as, goes_on, asks_removal, IsFirstAsked};
-ghost use Rattle.eden_kernel.specs.DiskTurns.{left_behind, Starves};
+ghost use Rattle.eden_kernel.specs.DiskTurns.{left_behind, Starves, StopsBy};
 ghost use Rattle.eden_kernel.specs.Enabled.{HasRequest};
 ghost use Rattle.disk_faults.specs.Elsewhere.{shown_of};
-ghost use Rattle.disk_faults.specs.Shows.{ShowsCounts, NoneFalls};
+ghost use Rattle.disk_faults.specs.Shows.{IsLeftOf, ShowsCounts};
 ghost use Rattle.eden_kernel.specs.Shows.{call_of_event};
 ghost use Rattle.eden_kernel.specs.declared.stores.TurnEnd.TheVariants.{Down};
 ghost use Rattle.eden_kernel.specs.Stands.{held, IsWhole, NodeStands};
@@ -196,6 +196,9 @@ impl<St: Store> Node<St> {
             IsStoreTurn (St.seen self.old.store).disk.counts (St.seen self.new.store).disk.counts r.0) }
         ensures of_node { IfOk result (λ r. shown_of r.0 ≡ self.old.number) }
 
+        // Down comes exactly where the disk's count of stops rose, whatever the disk tells.
+        ensures stops { IfOk result (λ r. StopsBy r.1 (St.seen self.old.store).disk.counts (St.seen self.new.store).disk.counts) }
+
         // It makes its device call exactly where the turn of the node's store does.
         ensures touches { IsTrue St.Device.tells → IfOk result (λ r. (ts : TypeList) (s : Site) → 1 ≤ (St.seen self.old.store).more
             → NodeStands St.layout ts (held St.seen self.old) calls.old s
@@ -204,7 +207,7 @@ impl<St: Store> Node<St> {
         // What it shows of the disk was due, where that obeys.
         ensures shows { IfOk result (λ r.
             ShowsCounts St.Device.obeys self.old.number r.0 (St.seen self.old.store).disk (St.seen self.new.store).disk) }
-        ensures counts { OnErr result (NoneFalls (St.seen self.old.store).disk.counts (St.seen self.new.store).disk.counts) }
+        ensures left { OnErr result (IsLeftOf St.Device.obeys (St.seen self.old.store).disk (St.seen self.new.store).disk) }
         ensures more { IsTrue St.Device.tells → IfOk result (λ r. (ts : TypeList) (s : Site) → 1 ≤ (St.seen self.old.store).more
             → NodeStands St.layout ts (held St.seen self.old) calls.old s
             → (St.seen self.old.store).more ≤ (St.seen self.new.store).more + 1) }

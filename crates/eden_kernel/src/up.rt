@@ -102,7 +102,7 @@ impl<St: Store> Node<St> {
             → RestStands St.layout number more s doubt (St.Device.counts disk).size (St.Device.counts disk).clock (St.Device.told disk)
             → FallsTo St.layout number more s (St.Device.told disk) (St.Device.counts disk).clock r.1.end r.1.note r.1.doubt
             (St.Device.told r.0) (St.Device.counts r.0)
-            ⊎ ((r.1.end ≡ None) × BootsPut St.layout number s (St.Device.told disk) (St.Device.counts disk).clock r.1.note
+            ⊎ ((r.1.end ≡ None) × BootsPut St.layout number more s (St.Device.told disk) (St.Device.counts disk).clock r.1.note
             (St.Device.told r.0) (St.Device.counts r.0).clock)) }
 
         // One whose disk cannot be opened does not come up.

@@ -99,7 +99,7 @@ module _ {T D : Type 0} (tells obeys : Bool) (layout : Layout) (seen : T → See
   -- want of memory ended it
   pub carried-short : (whole : Bool) → (whole ≡ true → ⊥)
       → CarriesPart (Stands tells layout seen look) (Did layout seen look) (Ends layout seen look) old new script.nodes script.commands
-      → KeepsShownSoFar (EachShows (heeds tells obeys) seen look) (FitsTogether seen) (KeepsDisks seen look) old new
+      → KeepsShownSoFar (EachShows (heeds tells obeys) seen look) (FitsTogether seen) (KeepsDisks (heeds tells obeys) seen look) old new
       → IsCarriedOut (disks_over tells obeys layout look before after) script new.history.items whole
   carried-short whole short carries shows = record {
     legal = inr (record {
@@ -118,7 +118,7 @@ module _ {T D : Type 0} (tells obeys : Bool) (layout : Layout) (seen : T → See
       → OnErr r (CarriesPart (Stands tells layout seen look) (Did layout seen look) (Ends layout seen look) old new script.nodes
       script.commands)
       → OnOk r (KeepsShown (EachShows (heeds tells obeys) seen look) old new)
-      → OnErr r (KeepsShownSoFar (EachShows (heeds tells obeys) seen look) (FitsTogether seen) (KeepsDisks seen look) old new)
+      → OnErr r (KeepsShownSoFar (EachShows (heeds tells obeys) seen look) (FitsTogether seen) (KeepsDisks (heeds tells obeys) seen look) old new)
       → IsCarriedOut (disks_over tells obeys layout look before after) script new.history.items whole
   carried-by (Ok x) whole same all part shown shown_part = carried-whole whole all shown (λ is. (same is).1)
   carried-by (Err e) whole same all part shown shown_part =
@@ -127,6 +127,6 @@ module _ {T D : Type 0} (tells obeys : Bool) (layout : Layout) (seen : T → See
 -- each disk is at its place then
 pub seated-by : {T D X E : Type 0} (shown : Bool) (seen : T → Seen) (look : D → DiskSeen) (old new : Run (Program T D)) (r : Result X E)
     → old.history.items ≡ [] → OnOk r (FitsTogether seen new.machine)
-    → OnErr r (KeepsShownSoFar (EachShows shown seen look) (FitsTogether seen) (KeepsDisks seen look) old new) → IsSeated new.machine
+    → OnErr r (KeepsShownSoFar (EachShows shown seen look) (FitsTogether seen) (KeepsDisks shown seen look) old new) → IsSeated new.machine
 seated-by shown seen look old new (Ok x) none whole part = whole-seated seen new.machine whole
 seated-by shown seen look old new (Err e) none whole part = carried-seated shown seen look old new none part

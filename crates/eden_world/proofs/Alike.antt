@@ -33,6 +33,7 @@ pub record Alike (s t : Site) : Type 0 where
 map-alike : (n : ℕ) (s t : Site) (kept : Kept) (c : Option StoreChange) → Alike s t → MapStands n s kept c → MapStands n t kept c
 map-alike n s t kept c a m = record {
   undamaged = ap (λ (it : Node). it.damaged) a.node ∙ m.undamaged;
+  not_untold = ap (λ (it : Node). it.untold) a.node ∙ m.not_untold;
   ordered = subst (λ (it : Node). IsOrdered n it.ejects) (sym a.node) m.ordered;
   facts = λ u apart. ap (λ (it : Node). facts_of (value_at uid_cmp u it.ejects)) a.node ∙ m.facts u apart;
   epoch = m.epoch ∙ ap (λ (it : Node). bytes_of_epoch it.epoch) (sym a.node);

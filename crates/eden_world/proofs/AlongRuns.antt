@@ -11,7 +11,7 @@ use Rattle.journal.specs.Standing.{StandsThroughout, nothing_added, unfinished}
 use Rattle.checkpoint.specs.Throughout.{EndsOnDisk, RunOnDisk, StandsFirst, StepOnDisk}
 use Rattle.checkpoint.proofs.Lifts.{ends-whole, lift-elsewhere}
 use Rattle.checkpoint.proofs.Throughout.{runs-stand}
-use Rattle.runs.specs.Machines.{Did, DidAll, DidPart, Starved, is_idle}
+use Rattle.runs.specs.Machines.{Did, DidAll, DidPart, Stands, Starved, is_idle}
 use Rattle.eden_world.specs.Legal.{disk_run}
 use Rattle.eden_world.proofs.IdleSteps.{IsStill, StillIfIdle}
 
@@ -106,19 +106,21 @@ run-there layout n run (Some a) (Some b) on = refl
 
 -- want of memory ended the run
 abbrev pub EachEndsOn : {M : Type 0} → Layout → ℕ → Starved M → (M → Option DiskSeen) → Type 0
-EachEndsOn layout n starved disk = (old new : _) (w : World) → starved old w new → EndsOn layout n w (disk old) (disk new)
+EachEndsOn layout n starved disk = (old new : _) (more : ℕ) (w : World) → starved old more w new → EndsOn layout n w (disk old) (disk new)
 
-pub throughout-part : {M : Type 0} (layout : Layout) (n : ℕ) (did : Did M) (starved : Starved M) (disk : M → Option DiskSeen)
+pub throughout-part : {M : Type 0} (layout : Layout) (n least : ℕ) (stands : Stands M) (did : Did M) (starved : Starved M)
+    (disk : M → Option DiskSeen)
     (p : Position) (history : List Entry) (first last : M) (obeys : Bool) (x y : DiskSeen) → (0 == n) ≡ false
     → EachOn layout n did disk → EachEndsOn layout n starved disk → EachStep (λ past s. StillIfIdle s) [] (steps p history)
     → StandsFirst layout n p.world x.told → disk first ≡ Some x → disk last ≡ Some y
-    → DidPart did starved first (steps p history) (end_of p history).world last
+    → DidPart stands did starved least first (steps p history) (end_of p history).world last
     → StandsThroughout layout (end_of p history).world (steps p history) (unfinished (end_of p history).world) n (disk_run obeys x y)
-throughout-part layout n did starved disk p history first last obeys x y some each ends still stands was is (between, all, rest) =
+throughout-part layout n least stood did starved disk p history first last obeys x y some each ends still stands was is
+    (between, all, stays, rest) =
     throughout-ends layout n p history obeys x y (disk between) stands
     (subst (λ o. RunOn layout n (steps p history) o (disk between)) was on)
     (subst (λ o. EndsOn layout n (end_of p history).world (disk between) o) is (elim rest [
-      | inl begun ↦ ends between last (end_of p history).world begun
+      | inl begun ↦ ends between last begun.0 (end_of p history).world begun.2
       | inr same ↦ ends-level layout n (end_of p history).world (disk between) (disk last)
           (run-there layout n (steps p history) (disk first) (disk between) on) (ap disk same)
     ]))

@@ -148,6 +148,7 @@ map-clocked : (n k : ℕ) (s : Site) (kept : Kept) (c : Option StoreChange) → 
     → MapStands n (record s { node = clocked_as k s.node }) kept c
 map-clocked n k s kept c m = record {
   undamaged = m.undamaged;
+  not_untold = m.not_untold;
   ordered = m.ordered;
   facts = m.facts;
   epoch = m.epoch;

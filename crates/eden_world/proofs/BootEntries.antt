@@ -57,6 +57,8 @@ use Rattle.eden_world.proofs.Reseating.{Renodes, renodes-turn, with_time, traffi
 use Rattle.eden_world.proofs.Falls.{alike-timed, up-timed, some-number, node-of, clock-fits, disks-besides, ends-besides, apart}
 use Rattle.eden_world.proofs.States.{state-shown}
 use Rattle.eden_world.proofs.Starving.{put-starves}
+use Rattle.eden_world.specs.Steps.{DiskEnds}
+use Rattle.eden_world.proofs.SeatRoom.{barred-room, kept-less}
 
 -- 1. The site behind a boot
 
@@ -261,7 +263,7 @@ abbrev pub FallsSo : Layout → ℕ → Option Doubt → DiskSeen → Option Boo
 FallsSo layout n noted d how note left y = (s : Site) → IsLayout layout → HasEpochs s.node → (more : ℕ) → 1 ≤ more
     → RestStands layout n more s noted d.counts.size d.counts.clock d.told
     → FallsTo layout n more s d.told d.counts.clock how note left y.told y.counts
-    ⊎ ((how ≡ None) × BootsPut layout n s d.told d.counts.clock note y.told y.counts.clock)
+    ⊎ ((how ≡ None) × BootsPut layout n more s d.told d.counts.clock note y.told y.counts.clock)
 
 abbrev pub BarsSo : Layout → ℕ → Option Doubt → DiskSeen → Option BootEnd → BootNote → Option Doubt → DiskSeen → Type 0
 BarsSo layout n noted d how note left y = (s : Site) → IsLayout layout → (bar : Bar)
@@ -366,21 +368,29 @@ falls-goes-at layout more old new w n it e how note noted left d y is at epochs 
 boot-starves-at : (layout : Layout) (more : ℕ) (old : InHand) (w : World) (n : ℕ) (it : Node) (note : BootNote)
     (noted left : Option Doubt) (d y : DiskSeen) → WorldStands layout (suc more) old w → node_at w n ≡ Some it → HasEpochs it
     → NextInDoubt it → IsLayout layout → old.seats n ≡ Some (down noted d) → FallsSo layout n noted d None note left y
-    → BarsSo layout n noted d None note left y
-    → EndsOnDisk layout n w (unfinished w) d.told d.counts.clock y.told y.counts.clock
+    → BarsSo layout n noted d None note left y → DiskEnds layout more n w d y
 boot-starves-at layout more old w n it note noted left d y is at epochs next lays was kernel bars =
     go (down-at layout (suc more) old w n it noted d is at was)
   where
     s : Site
     s = site_of w n it
 
-    go : DownStands layout (suc more) s noted d → EndsOnDisk layout n w (unfinished w) d.told d.counts.clock y.told y.counts.clock
+    go : DownStands layout (suc more) s noted d → DiskEnds layout more n w d y
     go x = elim x.disk [
       | inl r ↦ elim (kernel s lays epochs r.0 (omega (arith, r.1)) r.2) [
-        | inl f ↦ ends-boot layout n w it d.told y.told d.counts.clock y.counts.clock at r.2.its_clock f
-        | inr p ↦ put-starves layout r.0 n w it noted d y note at next r.2 p.1
+        | inl f ↦ record {
+          ends = ends-boot layout n w it d.told y.told d.counts.clock y.counts.clock at r.2.its_clock f.0;
+          room = kept-less layout n r.0 more y.told (omega (arith, r.1)) f.1;
+        }
+        | inr p ↦ record {
+          ends = put-starves layout r.0 n w it noted d y note at next r.2 p.1;
+          room = kept-less layout n r.0 more y.told (omega (arith, r.1)) p.1.room;
+        }
       ]
-      | inr b ↦ ends-boot layout n w it d.told y.told d.counts.clock y.counts.clock at b.2.its_clock (bars s lays b.0 b.2).1
+      | inr b ↦ let f = (bars s lays b.0 b.2).1 in record {
+        ends = ends-boot layout n w it d.told y.told d.counts.clock y.counts.clock at b.2.its_clock f.0;
+        room = λ image left. barred-room layout n more b.0 image (f.1 image left);
+      }
     ]
 
 -- 6. The same of the node of a number, in a world that a history reaches
@@ -410,9 +420,9 @@ falls-goes layout more old new w n e how note noted left d y is number epochs la
 pub boot-starves : (layout : Layout) (more : ℕ) (old new : InHand) (w : World) (n : ℕ) (note : BootNote) (noted left : Option Doubt)
     (d y : DiskSeen) → WorldStands layout (suc more) old w → IsNumber n → Everywhere (λ m it. HasEpochs it) w
     → Everywhere (λ m it. NextInDoubt it) w → IsLayout layout → old.seats n ≡ Some (down noted d) → Reseats n (down left y) old new
-    → FallsSo layout n noted d None note left y → BarsSo layout n noted d None note left y → EachEnds layout w old new
+    → FallsSo layout n noted d None note left y → BarsSo layout n noted d None note left y → EachEnds layout more w old new
 boot-starves layout more old new w n note noted left d y is number epochs nexts lays was seats kernel bars =
     let x = node-of layout (suc more) old w n is number in
-    ends-besides layout (suc more) n old new w d y is (ap (option_map disk_of) was) (ap (option_map disk_of) seats.here)
+    ends-besides layout (suc more) more n old new w d y (omega arith) is (ap (option_map disk_of) was) (ap (option_map disk_of) seats.here)
     (boot-starves-at layout more old w n x.0 note noted left d y is x.1 (epochs n x.0 x.1) (nexts n x.0 x.1) lays was kernel bars)
     (λ m other. ap (option_map disk_of) (seats.others m other))

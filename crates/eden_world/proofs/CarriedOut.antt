@@ -66,7 +66,8 @@ use Rattle.eden_world.proofs.Named.{void-look-up-goes, left-goes}
 
 pub ends-still : {T D : Type 0} (tells : Bool) (layout : Layout) (seen : T → Seen) (disk : D → DiskSeen) (old new : Program T D)
     → ((n : ℕ) → place_at new n ≡ place_at old n) → EndsStill tells layout seen disk old new
-ends-still tells layout seen disk old new same more w h = ends-level layout more (in_hand seen disk old) (in_hand seen disk new) w h.world
+ends-still tells layout seen disk old new same more w h =
+    ends-level layout (suc more) more (in_hand seen disk old) (in_hand seen disk new) w (omega arith) h.world
     (λ m. ap (λ o. option_map disk_of (seen_at seen disk o)) (same m))
 
 -- 2. What the names tell
@@ -299,14 +300,14 @@ cut-carried tells layout seen disk old new a b names e cuts is shows more w reac
 
 pub cut-starved : {T D : Type 0} (tells : Bool) (layout : Layout) (seen : T → Seen) (disk : D → DiskSeen) (old new : Program T D)
     (c : Command) → SameDisks (in_hand seen disk old) (in_hand seen disk new) → Starves tells layout seen disk old new c
-cut-starved tells layout seen disk old new c same more w reached h fit = ends-level layout (suc more) (in_hand seen disk old)
-    (in_hand seen disk new) w h.world same
+cut-starved tells layout seen disk old new c same more w reached h fit = ends-level layout (suc more) more (in_hand seen disk old)
+    (in_hand seen disk new) w (omega arith) h.world same
 
 -- 8. What starves a command
 
 pub still-starves : {T D : Type 0} (tells : Bool) (layout : Layout) (seen : T → Seen) (disk : D → DiskSeen) (old new : Program T D)
     (c : Command) → EndsStill tells layout seen disk old new → Starves tells layout seen disk old new c
-still-starves tells layout seen disk old new c still more w reached h fit = still (suc more) w h
+still-starves tells layout seen disk old new c still more w reached h fit = still more w h
 
 pub starves-so : {T D : Type 0} (tells : Bool) (layout : Layout) (seen : T → Seen) (disk : D → DiskSeen) (old new : Program T D)
     (c : Command) → Starves tells layout seen disk old new c → Starves tells layout seen disk old new c

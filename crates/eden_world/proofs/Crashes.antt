@@ -53,6 +53,12 @@ use Rattle.eden_world.specs.Worlds.{up, down, InHand, IsNumber, WorldStands, UpS
 use Rattle.eden_world.specs.Steps.{disk_of, CallsSo, CallsAsDue, Goes, EachEnds}
 use Rattle.eden_world.specs.Told.{Reseats, Fell, EntryShows, name_at, SameDisks, IsTelling}
 use Rattle.eden_world.proofs.Falls.{up-timed, node-of, up-at, its-node, fall-begins, fall-ends, ends-besides}
+use Rattle.eden_disk.specs.Told.{LeavesOnly, contents}
+use Rattle.journal.specs.Opening.{IsToldFor}
+use Rattle.checkpoint.specs.Throughout.{EndsOnDisk}
+use Rattle.journal.specs.Standing.{unfinished}
+use Rattle.checkpoint.proofs.Rooms.{kept-room}
+use Rattle.eden_world.proofs.SeatRoom.{kept-less}
 
 -- 1. A crash by command
 
@@ -95,35 +101,43 @@ crash-goes layout more old mid new w n mode e a noted d numbers is sound number 
     (subst (λ ev. IsTelling layout more (key_of ev) n d.counts.clock (stopped_at w n ev) new []) (sym its_event) telling)
 
 -- There was no memory behind the fall of the node: the run ends.
-fallen-ends : (layout : Layout) (more n : ℕ) (old new : InHand) (w : World) (it later : Node) (a : Held) (y : DiskSeen)
-    → WorldStands layout more old w → node_at w n ≡ Some it → it.clock ≡ Some (clock_of a) → old.seats n ≡ Some (up a)
+fallen-ends : (layout : Layout) (more least n : ℕ) (old new : InHand) (w : World) (it later : Node) (a : Held) (y : DiskSeen)
+    → least ≤ more → WorldStands layout more old w → node_at w n ≡ Some it → it.clock ≡ Some (clock_of a) → old.seats n ≡ Some (up a)
     → NodeOnDisk layout n it [] later a.seen.disk.told (clock_of a) y.told y.counts.clock
-    → option_map disk_of (new.seats n) ≡ Some y
-    → ((m : ℕ) → (m == n) ≡ false → option_map disk_of (new.seats m) ≡ option_map disk_of (old.seats m)) → EachEnds layout w old new
-fallen-ends layout more n old new w it later a y is at its_clock was on_disk now same =
-    ends-besides layout more n old new w a.seen.disk y is (ap (option_map disk_of) was) now
-    (ends-unfinished layout n w it a.seen.disk.told y.told (clock_of a) y.counts.clock at
-    (λ m h. past-last it (clock_of a) m (subst (λ o. IfSome o (λ c. c ≡ clock_of a)) (sym its_clock) refl) h) on_disk.timed
-    (moments_weaker (Stands layout n (with_changes [] (state_of n it)))
-    (Stands layout n (with_changes (unfinished_at n it) (state_of n it)))
-    a.seen.disk.told y.told
-    (λ image stood. stands-more layout n (unfinished_at n it) (state_of n it) image (none-added layout n (state_of n it) image stood))
-    on_disk.moments)) same
+    → LeavesOnly (IsToldFor layout n least) (contents y.told) → option_map disk_of (new.seats n) ≡ Some y
+    → ((m : ℕ) → (m == n) ≡ false → option_map disk_of (new.seats m) ≡ option_map disk_of (old.seats m)) → EachEnds layout least w old new
+fallen-ends layout more least n old new w it later a y less is at its_clock was on_disk room now same =
+    ends-besides layout more least n old new w a.seen.disk y less is (ap (option_map disk_of) was) now (record { ends = ends; room = room })
+    same
   where
     none-added : (layout : Layout) (n : ℕ) (st : Standing) (image : List ℕ) → Stands layout n (with_changes [] st) image
         → Stands layout n st image
     none-added layout n st image = subst (λ cs. Stands layout n (record st { changes = cs }) image) (append-nil st.changes)
 
+    ends : EndsOnDisk layout n w (unfinished w) a.seen.disk.told (clock_of a) y.told y.counts.clock
+    ends = ends-unfinished layout n w it a.seen.disk.told y.told (clock_of a) y.counts.clock at
+        (λ m h. past-last it (clock_of a) m (subst (λ o. IfSome o (λ c. c ≡ clock_of a)) (sym its_clock) refl) h) on_disk.timed
+        (moments_weaker (Stands layout n (with_changes [] (state_of n it)))
+        (Stands layout n (with_changes (unfinished_at n it) (state_of n it)))
+        a.seen.disk.told y.told
+        (λ image stood. stands-more layout n (unfinished_at n it) (state_of n it) image (none-added layout n (state_of n it) image stood))
+        on_disk.moments)
+
 pub crash-starves : (layout : Layout) (more : ℕ) (old mid new : InHand) (w : World) (n : ℕ) (a : Held) (noted : Option Doubt) (d : DiskSeen)
     → WorldStands layout (suc more) old w → IsNumber n → old.seats n ≡ Some (up a) → CrashesSo layout a noted d
-    → Reseats n (down noted d) old mid → SameDisks mid new → EachEnds layout w old new
+    → Reseats n (down noted d) old mid → SameDisks mid new → EachEnds layout more w old new
 crash-starves layout more old mid new w n a noted d is number was kernel seats same =
     let y = node-of layout (suc more) old w n is number in
     let here : UpStands layout old.types old.mail (suc more) (site_of w n y.0) a = up-at layout (suc more) old w n y.0 a is y.1 was in
     let x : Crashes layout a (site_of w n y.0) noted d.counts d.told = kernel old.types old.mail (site_of w n y.0) here.stands in
-    fallen-ends layout (suc more) n old new w y.0 (crashed (site_of w n y.0)).node a d is y.1 here.stands.disk.its_clock was
+    fallen-ends layout (suc more) more n old new w y.0 (crashed (site_of w n y.0)).node a d (omega arith) is y.1
+    here.stands.disk.its_clock was
     (subst (λ k. NodeOnDisk layout k y.0 [] (crashed (site_of w n y.0)).node a.seen.disk.told (clock_of a) d.told d.counts.clock)
     (its-node layout (suc more) n old w y.0 a here) x.falls.disk)
+    (subst (λ k. LeavesOnly (IsToldFor layout k more) (contents d.told)) (its-node layout (suc more) n old w y.0 a here)
+    (kept-less layout a.seen.node (suc more) more d.told (omega arith)
+    (kept-room layout a.seen.node (suc more) a.seen.more x.falls.rests.kept _ d.told
+    (let enough : suc more ≤ a.seen.more = here.told in omega (arith, enough)) x.falls.rests.stands)))
     (same n ∙ ap (option_map disk_of) seats.here) (λ m other. same m ∙ ap (option_map disk_of) (seats.others m other))
 
 -- 2. A turn that stops
@@ -386,15 +400,19 @@ start-stops layout more old mid new w n entry u how p a b numbers is sound numbe
 pub stop-starves : (layout : Layout) (more : ℕ) (old mid new : InHand) (w : World) (n : ℕ) (e : Event) (a b : Held)
     → WorldStands layout (suc more) old w → AllSound w → IsNumber n → old.seats n ≡ Some (up a) → StopsSo layout old.types old.mail w n a
     b e
-    → Reseats n (down (noted_of b) b.seen.disk) old mid → SameDisks mid new → EachEnds layout w old new
+    → Reseats n (down (noted_of b) b.seen.disk) old mid → SameDisks mid new → EachEnds layout more w old new
 stop-starves layout more old mid new w n e a b is sound number was kernel seats same =
     let y = node-of layout (suc more) old w n is number in
     let here : UpStands layout old.types old.mail (suc more) (site_of w n y.0) a = up-at layout (suc more) old w n y.0 a is y.1 was in
-    let x : Stops layout b (reaches w n) a (site_of w n y.0) e =
-    (kernel y.0 y.1 (sound n y.0 y.1) (omega (arith, here.told)) here.stands).0 in
-    fallen-ends layout (suc more) n old new w y.0 (site_turn (reaches w n) e (site_of w n y.0)).node a b.seen.disk is y.1
+    let both = kernel y.0 y.1 (sound n y.0 y.1) (omega (arith, here.told)) here.stands in
+    let x : Stops layout b (reaches w n) a (site_of w n y.0) e = both.0 in
+    fallen-ends layout (suc more) more n old new w y.0 (site_turn (reaches w n) e (site_of w n y.0)).node a b.seen.disk (omega arith) is y.1
     here.stands.disk.its_clock was
     (subst (λ k. NodeOnDisk layout k y.0 [] (site_turn (reaches w n) e (site_of w n y.0)).node a.seen.disk.told (clock_of a)
     b.seen.disk.told
     b.seen.disk.counts.clock) (its-node layout (suc more) n old w y.0 a here) x.falls.disk)
+    (subst (λ k. LeavesOnly (IsToldFor layout k more) (contents b.seen.disk.told)) (its-node layout (suc more) n old w y.0 a here)
+    (kept-less layout a.seen.node (suc more) more b.seen.disk.told (omega arith)
+    (kept-room layout a.seen.node (suc more) b.seen.more x.falls.rests.kept _ b.seen.disk.told
+    (let enough : suc more ≤ a.seen.more = here.told in omega (arith, enough, both.1)) x.falls.rests.stands)))
     (same n ∙ ap (option_map disk_of) seats.here) (λ m other. same m ∙ ap (option_map disk_of) (seats.others m other))

@@ -12,7 +12,7 @@ use Rattle.journal.specs.declared.event.Entry.{Entry}
 use Rattle.journal.specs.declared.event.Event.TheVariants as event
 use Rattle.disk_faults.specs.Elsewhere.{shown_of}
 use Rattle.disk_faults.specs.Runs.{EntryShows}
-use Rattle.disk_faults.specs.Shows.{NoneFalls, ShowsCounts}
+use Rattle.disk_faults.specs.Shows.{IsLeftOf, NoneFalls, ShowsCounts}
 use Rattle.disk_faults.proofs.Entries.{entry-here}
 use Rattle.eden_kernel.specs.Stands.{Held, held}
 use Rattle.eden_kernel.proofs.Showing.{shows-crash}
@@ -27,7 +27,7 @@ use Rattle.eden_world.specs.declared.seats.Seat.TheVariants as place
 use Rattle.eden_world.proofs.CarriedOut.{clock-of-seat, up-here}
 use Rattle.eden_world.proofs.Falls.{apart}
 use Rattle.eden_world.proofs.TellingAll.{node-up, number-of}
-use Rattle.eden_world.proofs.Untouched.{FallsNone, ShowsOf, elsewhere-shows, level-counts, none-fall}
+use Rattle.eden_world.proofs.Untouched.{AreLeft, ShowsOf, elsewhere-shows, left-same, level-left}
 
 -- 1. A node that is up
 
@@ -69,24 +69,27 @@ vacated-seated tells obeys layout seen look mode n old new seated down idle othe
     go true is = here (station_at old n) refl (ap (place_at new) (sym (eqb-true m n is)) ∙ at)
     go false other = seated m (sym (others m other) ∙ at)
 
--- 3. No count falls
+-- 3. Its disk is left
 
-pub left-falls-none : (tells obeys : Bool) (layout : Layout) (mode : Option ImageMode) (h : Held) (noted : Option Doubt) (d : DiskSeen)
-    → IsLeft tells obeys layout mode h noted d → NoneFalls h.seen.disk.counts d.counts
-left-falls-none tells obeys layout None h noted d x = subst (λ (y : DiskSeen). NoneFalls h.seen.disk.counts y.counts) (sym x.disk)
-    (none-fall h.seen.disk.counts)
-left-falls-none tells obeys layout (Some mode) h noted d x = subst (λ (k : Counts). NoneFalls h.seen.disk.counts k) (sym x.counts)
-    (record { clock = omega arith; faults = omega arith; stops = omega arith; wants = omega arith })
+pub left-disk : (tells obeys : Bool) (layout : Layout) (mode : Option ImageMode) (h : Held) (noted : Option Doubt) (d : DiskSeen)
+    → IsLeft tells obeys layout mode h noted d → (heeding : Bool) → IsLeftOf heeding h.seen.disk d
+left-disk tells obeys layout None h noted d x heeding = subst (IsLeftOf heeding h.seen.disk) (sym x.disk)
+    (left-same heeding h.seen.disk)
+left-disk tells obeys layout (Some mode) h noted d x heeding = record {
+  counts = subst (λ (k : Counts). NoneFalls h.seen.disk.counts k) (sym x.counts)
+      (record { clock = omega arith; faults = omega arith; stops = omega arith; wants = omega arith });
+  due = λ does. x.due;
+}
 
-counts-there : (o p : Option Seat) (a : Seat) (d : DiskSeen) → o ≡ Some a → option_map disk_of p ≡ Some d
-    → NoneFalls (disk_of a).counts d.counts → FallsNone o p
-counts-there None p a d was is none = tt
-counts-there (Some x) None a d was is none = tt
-counts-there (Some x) (Some y) a d was is none =
+left-there : (heeding : Bool) (o p : Option Seat) (a : Seat) (d : DiskSeen) → o ≡ Some a → option_map disk_of p ≡ Some d
+    → IsLeftOf heeding (disk_of a) d → AreLeft heeding o p
+left-there heeding None p a d was is left = tt
+left-there heeding (Some x) None a d was is left = tt
+left-there heeding (Some x) (Some y) a d was is left =
     let before : x ≡ a = cc was in
     let after : disk_of y ≡ d = cc is in
-    subst (λ (z : Seat). NoneFalls (disk_of z).counts (disk_of y).counts) (sym before)
-    (subst (λ (z : DiskSeen). NoneFalls (disk_of a).counts z.counts) (sym after) none)
+    subst (λ (z : Seat). IsLeftOf heeding (disk_of z) (disk_of y)) (sym before)
+    (subst (λ (z : DiskSeen). IsLeftOf heeding (disk_of a) z) (sym after) left)
 
 pub shown-there : (obeys : Bool) (n : ℕ) (e : Entry) (o p : Option Seat) (a : Seat) (d : DiskSeen) → o ≡ Some a → option_map disk_of p
     ≡ Some d
@@ -112,18 +115,20 @@ module _ {T D : Type 0} (tells obeys : Bool) (layout : Layout) (seen : T → See
       → option_map disk_of (seen_at seen look (place_at new m)) ≡ option_map disk_of (seen_at seen look (place_at old m))
   others-level m other = l.disks m ∙ ap (option_map disk_of) (l.seats.others m other)
 
-  pub left-counts : (m : ℕ) → FallsNone (seen_at seen look (place_at old m)) (seen_at seen look (place_at new m))
-  left-counts m = go (m == n) refl
+  left-at : (heeding : Bool) (m : ℕ) → AreLeft heeding (seen_at seen look (place_at old m)) (seen_at seen look (place_at new m))
+  left-at heeding m = go (m == n) refl
     where
-      go : (b : Bool) → (m == n) ≡ b → FallsNone (seen_at seen look (place_at old m)) (seen_at seen look (place_at new m))
-      go false other = level-counts (seen_at seen look (place_at old m)) (seen_at seen look (place_at new m)) (others-level m other)
-      go true is = subst (λ j. FallsNone (seen_at seen look (place_at old j)) (seen_at seen look (place_at new j))) (sym (eqb-true m n is))
-          (counts-there (seen_at seen look (place_at old n)) (seen_at seen look (place_at new n)) (up (held seen s.node)) l.disk before
+      go : (b : Bool) → (m == n) ≡ b → AreLeft heeding (seen_at seen look (place_at old m)) (seen_at seen look (place_at new m))
+      go false other =
+          level-left heeding (seen_at seen look (place_at old m)) (seen_at seen look (place_at new m)) (others-level m other)
+      go true is = subst (λ j. AreLeft heeding (seen_at seen look (place_at old j)) (seen_at seen look (place_at new j)))
+          (sym (eqb-true m n is))
+          (left-there heeding (seen_at seen look (place_at old n)) (seen_at seen look (place_at new n)) (up (held seen s.node)) l.disk before
           behind
-          (left-falls-none tells obeys layout mode (held seen s.node) l.noted l.disk l.left))
+          (left-disk tells obeys layout mode (held seen s.node) l.noted l.disk l.left heeding))
 
-  pub left-keeps : IsSeated new → KeepsDisks seen look old new
-  left-keeps seated = record { eight = seated.eight; seated = seated.seated; counts = λ m number. left-counts m }
+  pub left-keeps : (heeding : Bool) → IsSeated new → KeepsDisks heeding seen look old new
+  left-keeps heeding seated = record { eight = seated.eight; seated = seated.seated; left = λ m number. left-at heeding m }
 
 -- 4. The entry of a crash
 

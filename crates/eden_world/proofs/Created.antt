@@ -76,8 +76,8 @@ node-level seen look old mid new n before after was out again store =
 -- so it did what the end of a run may do, and no more
 pub level-ends : {T D : Type 0} (tells : Bool) (layout : Layout) (seen : T → Seen) (look : D → DiskSeen) (old new : Program T D)
     → SameDisks (in_hand seen look old) (in_hand seen look new) → EndsStill tells layout seen look old new
-level-ends tells layout seen look old new same more w h = ends-level layout more (in_hand seen look old) (in_hand seen look new) w h.world
-    same
+level-ends tells layout seen look old new same more w h =
+    ends-level layout (suc more) more (in_hand seen look old) (in_hand seen look new) w (omega arith) h.world same
 
 pub node-fits : {T D : Type 0} (seen : T → Seen) (old mid new : Program T D) (n : ℕ) (before after : ScheduledNode T D)
     → place_at old n ≡ Some (place.Up before) → TakesPlace n place.Moving old mid → TakesPlace n (place.Up after) mid new
@@ -122,11 +122,11 @@ pub any-on-err : {A E : Type 0} (r : Result A E) (P : Type 0) → P → OnErr r 
 any-on-err (Ok a) P p = tt
 any-on-err (Err e) P p = p
 
-pub node-keeps : {T D : Type 0} (seen : T → Seen) (look : D → DiskSeen) (old mid new : Program T D) (n : ℕ)
+pub node-keeps : {T D : Type 0} (obeys : Bool) (seen : T → Seen) (look : D → DiskSeen) (old mid new : Program T D) (n : ℕ)
     (before after : ScheduledNode T D) → place_at old n ≡ Some (place.Up before) → TakesPlace n place.Moving old mid
     → TakesPlace n (place.Up after) mid new → seen after.node.store ≡ seen before.node.store → FitsTogether seen old
-    → KeepsDisks seen look old new
-node-keeps seen look old mid new n before after was out again store fits = keeps-level seen look old new
+    → KeepsDisks obeys seen look old new
+node-keeps obeys seen look old mid new n before after was out again store fits = keeps-level obeys seen look old new
     (eight-behind old new (set-again old mid new n (place.Up after) out again).rest fits.eight)
     (set-seated old new n (place.Up after) (set-again old mid new n (place.Up after) out again) (λ is. cc is) fits.seated)
     (node-level seen look old mid new n before after was out again store)

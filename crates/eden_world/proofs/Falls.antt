@@ -40,8 +40,9 @@ use Rattle.eden_kernel.specs.Boots.{IsAsleep}
 use Rattle.eden_kernel.specs.Stands.{Held}
 use Rattle.eden_kernel.specs.Turns.{Falls}
 use Rattle.eden_world.specs.Worlds.{Seat, up, down, InHand, IsNumber, WorldStands, SeatStands, UpStands}
-use Rattle.eden_world.specs.Steps.{disk_of, step_by, SeatStep, EachDisk, Goes, SeatEnds, EachEnds}
+use Rattle.eden_world.specs.Steps.{disk_of, step_by, SeatStep, EachDisk, Goes, DiskEnds, SeatEnds, EachEnds}
 use Rattle.eden_world.specs.Told.{Fell, EntryShows, SameDisks, waiting_at, name_at, CanBeTold, marked, IsTelling}
+use Rattle.eden_world.proofs.SeatRoom.{told-less, world-room}
 use Rattle.eden_world.proofs.Alike.{Alike, rest-alike, asleep-alike}
 use Rattle.eden_world.proofs.Broken.{broken-names, broken-processes, askers-without_node, can-fall}
 use Rattle.eden_world.proofs.EightKeys.{number-of, node-there, keys-at_node}
@@ -218,36 +219,42 @@ disks-besides layout more n old new w c e x y is was now step same others m numb
         seat-step layout m w c e (old.seats m) (new.seats m) z.0 z.0 z.1 (same m other ∙ z.1)
         (lift-elsewhere layout m (step_by w c e) z.0.told z.0.counts.clock o.0 o.1)
 
+-- a disk that was not touched
+left-whole : (layout : Layout) (more least : ℕ) (old : InHand) (w : World) (m : ℕ) (d : DiskSeen) → least ≤ more
+    → WorldStands layout more old w → IsNumber m → option_map disk_of (old.seats m) ≡ Some d → DiskEnds layout least m w d d
+left-whole layout more least old w m d less is number there = record {
+  ends = ends-whole layout m w (unfinished w) d.told d.counts.clock;
+  room = let it = node-of layout more old w m is number in
+      told-less layout m more least d.told less (world-room layout more old w m it.0 d is it.1 there);
+}
+
 -- There was no memory: what the disk of one node did is all that was done.
-pub ends-besides : (layout : Layout) (more n : ℕ) (old new : InHand) (w : World) (x y : DiskSeen)
+pub ends-besides : (layout : Layout) (more least n : ℕ) (old new : InHand) (w : World) (x y : DiskSeen) → least ≤ more
     → WorldStands layout more old w → option_map disk_of (old.seats n) ≡ Some x → option_map disk_of (new.seats n) ≡ Some y
-    → EndsOnDisk layout n w (unfinished w) x.told x.counts.clock y.told y.counts.clock
-    → ((m : ℕ) → (m == n) ≡ false → option_map disk_of (new.seats m) ≡ option_map disk_of (old.seats m)) → EachEnds layout w old new
-ends-besides layout more n old new w x y is was now ends same m number = go (m == n) refl
+    → DiskEnds layout least n w x y
+    → ((m : ℕ) → (m == n) ≡ false → option_map disk_of (new.seats m) ≡ option_map disk_of (old.seats m)) → EachEnds layout least w old new
+ends-besides layout more least n old new w x y less is was now ends same m number = go (m == n) refl
   where
     both : (k : ℕ) (o p : Option Seat) (a b : DiskSeen) → option_map disk_of o ≡ Some a → option_map disk_of p ≡ Some b
-        → EndsOnDisk layout k w (unfinished w) a.told a.counts.clock b.told b.counts.clock → SeatEnds layout k w o p
+        → DiskEnds layout least k w a b → SeatEnds layout least k w o p
     both k None p a b at bt h = absurd (cc at)
     both k (Some s) None a b at bt h = absurd (cc bt)
     both k (Some s) (Some t) a b at bt h =
         let here : disk_of s ≡ a = cc at in
         let there : disk_of t ≡ b = cc bt in
-        subst (λ (z : DiskSeen). EndsOnDisk layout k w (unfinished w) z.told z.counts.clock (disk_of t).told (disk_of t).counts.clock)
-        (sym here)
-        (subst (λ (z : DiskSeen). EndsOnDisk layout k w (unfinished w) a.told a.counts.clock z.told z.counts.clock) (sym there) h)
+        subst (λ (z : DiskSeen). DiskEnds layout least k w z (disk_of t)) (sym here) (subst (DiskEnds layout least k w a) (sym there) h)
 
-    go : (b : Bool) → (m == n) ≡ b → SeatEnds layout m w (old.seats m) (new.seats m)
+    go : (b : Bool) → (m == n) ≡ b → SeatEnds layout least m w (old.seats m) (new.seats m)
     go true here = let at : m ≡ n = eqb-true m n here in
-        subst (λ j. SeatEnds layout j w (old.seats j) (new.seats j)) (sym at) (both n (old.seats n) (new.seats n) x y was now ends)
+        subst (λ j. SeatEnds layout least j w (old.seats j) (new.seats j)) (sym at) (both n (old.seats n) (new.seats n) x y was now ends)
     go false other = let z = disk-there layout more old w m is number in
-        both m (old.seats m) (new.seats m) z.0 z.0 z.1 (same m other ∙ z.1)
-        (ends-whole layout m w (unfinished w) z.0.told z.0.counts.clock)
+        both m (old.seats m) (new.seats m) z.0 z.0 z.1 (same m other ∙ z.1) (left-whole layout more least old w m z.0 less is number z.1)
 
 -- and where no disk was touched
-pub ends-level : (layout : Layout) (more : ℕ) (old new : InHand) (w : World) → WorldStands layout more old w → SameDisks old new
-    → EachEnds layout w old new
-ends-level layout more old new w is same m number = let z = disk-there layout more old w m is number in
-    ends-besides layout more m old new w z.0 z.0 is z.1 (same m ∙ z.1) (ends-whole layout m w (unfinished w) z.0.told z.0.counts.clock)
+pub ends-level : (layout : Layout) (more least : ℕ) (old new : InHand) (w : World) → least ≤ more → WorldStands layout more old w
+    → SameDisks old new → EachEnds layout least w old new
+ends-level layout more least old new w less is same m number = let z = disk-there layout more old w m is number in
+    ends-besides layout more least m old new w z.0 z.0 less is z.1 (same m ∙ z.1) (left-whole layout more least old w m z.0 less is number z.1)
     (λ k other. same k) m number
 
 pub apart : (m n : ℕ) → (m == n) ≡ false → (n == m) ≡ false

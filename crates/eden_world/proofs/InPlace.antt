@@ -1,5 +1,5 @@
 -- A node takes its turn in its place: what stands there then, and what is left where there was no memory.
-use Rattle.std.proofs.Common.{◌≡◌, ◌==◌, ◌<◌, ℕ, zero, suc, Bool, true, false, length, Some, None, refl, sym, ◌∙◌, ap, subst, get_or}
+use Rattle.std.proofs.Common.{◌≡◌, ◌==◌, ◌<◌, ℕ, zero, suc, Bool, true, false, length, Some, None, refl, sym, ◌∙◌, ap, subst, get_or, arith}
 use Rattle.std.specs.Prelude.{◌≤◌, IsTrue, slice_get}
 use Rattle.std.specs.Option.{option_map}
 use Rattle.std.proofs.lemmas.Bool.{eqb-true}
@@ -12,12 +12,12 @@ use Rattle.passive_store.specs.Seen.{Seen, DiskSeen}
 use Rattle.journal.specs.declared.event.Key.{Key}
 use Rattle.journal.specs.Sites.{IsSoundSite}
 use Rattle.journal.specs.World.{Site}
-use Rattle.disk_faults.specs.Shows.{NoneFalls}
+use Rattle.disk_faults.specs.Shows.{IsLeftOf}
 use Rattle.eden_kernel.specs.DiskTurns.{Starves}
 use Rattle.eden_kernel.specs.Stands.{held, NodeStands}
 use Rattle.scheduled_node.specs.declared.ScheduledNode.{ScheduledNode}
 use Rattle.eden_world.specs.InHand.{place_at, seen_at, in_hand}
-use Rattle.eden_world.specs.Seated.{FitsTogether, HasEight, KeepsDisks, TakesPlace, instead}
+use Rattle.eden_world.specs.Seated.{FitsTogether, HasEight, KeepsDisks, TakesPlace, heeds, instead}
 use Rattle.eden_world.specs.Steps.{disk_of}
 use Rattle.eden_world.specs.Taken.{StarvesAtEach}
 use Rattle.eden_world.specs.Told.{SameDisks}
@@ -29,22 +29,22 @@ use Rattle.eden_world.specs.declared.turns.TurnTaken.{TurnTaken}
 use Rattle.eden_world.proofs.Falls.{ends-level}
 use Rattle.eden_world.proofs.Placing.{same-places, seated-behind}
 use Rattle.eden_world.proofs.Seating.{with-seat, seat-taken}
-use Rattle.eden_world.proofs.ShownDisks.{keeps-level}
+use Rattle.eden_world.proofs.ShownDisks.{heeded-left, keeps-level}
 use Rattle.eden_world.proofs.Turned.{turned-keeps, turned-starves}
 
 -- 1. There was no memory for the turn of the node that was up
 
-pub starves-up : {T D : Type 0} (tells : Bool) (layout : Layout) (seen : T → Seen) (ts : TypeList) (m : Mail) (s t : ScheduledNode T D)
-    → NoneFalls (seen s.node.store).disk.counts (seen t.node.store).disk.counts
+pub starves-up : {T D : Type 0} (tells obeys : Bool) (layout : Layout) (seen : T → Seen) (ts : TypeList) (m : Mail) (s t : ScheduledNode T D)
+    → IsLeftOf obeys (seen s.node.store).disk (seen t.node.store).disk
     → (IsTrue tells → IsLayout layout → (site : Site) → IsSoundSite site → 1 ≤ (seen s.node.store).more
     → NodeStands layout ts (held seen s.node) m site → Starves layout site (seen s.node.store) (seen t.node.store))
-    → StarvesThere tells layout seen ts m (place.Up s) (place.Up t)
-starves-up tells layout seen ts m s t counts starves = record {
+    → StarvesThere tells obeys layout seen ts m (place.Up s) (place.Up t)
+starves-up tells obeys layout seen ts m s t left starves = record {
   up = λ r is. let same : s ≡ r = cc is in
-      subst (λ q. StarvesUp tells layout seen ts m q (place.Up t)) same (record {
+      subst (λ q. StarvesUp tells obeys layout seen ts m q (place.Up t)) same (record {
         now = t;
         stands = refl;
-        counts = counts;
+        left = left;
         starves = starves;
       });
   idle = λ none. absurd (let bad : Some s ≡ None = none in cc bad);
@@ -110,8 +110,8 @@ turns-here tells obeys layout seen key i taken a b later old is inside was x = r
   turned = x.turned;
 }
 
-module _ {T D : Type 0} (tells : Bool) (layout : Layout) (seen : T → Seen) (look : D → DiskSeen) (key : Key) (i : ℕ) (later : Mail)
-    (old : Program T D) (is : key.station ≡ suc i) (inside : i < old.seats.len) (fits : FitsTogether seen old) where
+module _ {T D : Type 0} (tells obeys : Bool) (layout : Layout) (seen : T → Seen) (look : D → DiskSeen) (key : Key) (i : ℕ)
+    (later : Mail) (old : Program T D) (is : key.station ≡ suc i) (inside : i < old.seats.len) (fits : FitsTogether seen old) where
   abbrev new : Place T D → Program T D
   new b = record (with-seat old i b) { calls = later }
 
@@ -129,14 +129,16 @@ module _ {T D : Type 0} (tells : Bool) (layout : Layout) (seen : T → Seen) (lo
 
   idle-starves : (a b : Place T D) → place_at old key.station ≡ Some a → b ≡ a → StarvesAtEach tells layout seen look old (new b) key
   idle-starves a b was stays = subst (λ q. StarvesAtEach tells layout seen look old (new q) key) (sym stays)
-      (λ more w reached stood there. ends-level layout (suc more) (in_hand seen look old) (in_hand seen look (new a)) w stood.world
+      (λ more w reached stood there. ends-level layout (suc more) more (in_hand seen look old) (in_hand seen look (new a)) w (omega arith)
+      stood.world
       (level-disks a was))
 
-  idle-keeps : (a b : Place T D) → place_at old key.station ≡ Some a → b ≡ a → KeepsDisks seen look old (new b)
-  idle-keeps a b was stays = subst (λ q. KeepsDisks seen look old (new q)) (sym stays) (keeps-level seen look old (new a) (eight a a was)
+  idle-keeps : (heeding : Bool) (a b : Place T D) → place_at old key.station ≡ Some a → b ≡ a → KeepsDisks heeding seen look old (new b)
+  idle-keeps heeding a b was stays = subst (λ q. KeepsDisks heeding seen look old (new q)) (sym stays)
+      (keeps-level seen look old (new a) heeding (eight a a was)
       (λ m at. fits.seated m (sym (same a was m) ∙ at)) (level-disks a was))
 
-  pub starves-here : (a b : Place T D) → place_at old key.station ≡ Some a → StarvesThere tells layout seen old.types old.calls a b
+  pub starves-here : (a b : Place T D) → place_at old key.station ≡ Some a → StarvesThere tells obeys layout seen old.types old.calls a b
       → StarvesAtEach tells layout seen look old (new b) key
   starves-here (place.Up s) b was x = let y = x.up s refl in
       subst (λ q. StarvesAtEach tells layout seen look old (new q) key) (sym y.stands)
@@ -145,13 +147,14 @@ module _ {T D : Type 0} (tells : Bool) (layout : Layout) (seen : T → Seen) (lo
   starves-here (place.Down d doubt) b was x = idle-starves (place.Down d doubt) b was (x.idle refl)
   starves-here place.Moving b was x = idle-starves place.Moving b was (x.idle refl)
 
-  pub keeps-here : (a b : Place T D) → place_at old key.station ≡ Some a → StarvesThere tells layout seen old.types old.calls a b
-      → KeepsDisks seen look old (new b)
+  pub keeps-here : (a b : Place T D) → place_at old key.station ≡ Some a → StarvesThere tells obeys layout seen old.types old.calls a b
+      → KeepsDisks (heeds tells obeys) seen look old (new b)
   keeps-here (place.Up s) b was x = let y = x.up s refl in
       let at = swapped (place.Up s) (place.Up y.now) was in
-      subst (λ q. KeepsDisks seen look old (new q)) (sym y.stands)
+      subst (λ q. KeepsDisks (heeds tells obeys) seen look old (new q)) (sym y.stands)
       (turned-keeps seen look key.station s (place.Up y.now) (seen y.now.node.store).disk later old (new (place.Up y.now))
-      (new (place.Up y.now)) at fits refl (λ m. refl) (eight (place.Up s) (place.Up y.now) was)
-      (seated-behind key.station (place.Up s) (place.Up y.now) later old (new (place.Up y.now)) at fits.seated (λ bad. cc bad)) y.counts)
-  keeps-here (place.Down d doubt) b was x = idle-keeps (place.Down d doubt) b was (x.idle refl)
-  keeps-here place.Moving b was x = idle-keeps place.Moving b was (x.idle refl)
+      (new (place.Up y.now)) at fits refl (λ m. refl) (heeds tells obeys) (eight (place.Up s) (place.Up y.now) was)
+      (seated-behind key.station (place.Up s) (place.Up y.now) later old (new (place.Up y.now)) at fits.seated (λ bad. cc bad))
+      (heeded-left tells obeys _ _ y.left))
+  keeps-here (place.Down d doubt) b was x = idle-keeps (heeds tells obeys) (place.Down d doubt) b was (x.idle refl)
+  keeps-here place.Moving b was x = idle-keeps (heeds tells obeys) place.Moving b was (x.idle refl)

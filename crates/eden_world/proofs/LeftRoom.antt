@@ -1,55 +1,26 @@
 -- The room of the disk at each place: what a crash may leave there has its room told for as many changes as the program stands with.
-use Rattle.std.proofs.Common.{◌≡◌, inl, inr, ◌≤◌, ℕ, Bool, true, false, List, length, Option, None, Some, sym, ◌∙◌, subst}
-use Rattle.std.proofs.Common.{arith}
-use Rattle.std.specs.Prelude.{IsSomeAnd}
+use Rattle.std.proofs.Common.{◌≡◌, inl, inr, ◌≤◌, ℕ, Bool, List, length, Option, None, Some, sym, ◌∙◌, ap, subst, arith}
 use Rattle.std.specs.Option.{option_map}
 use Rattle.eden_disk.specs.Told.{contents, Left, LeavesOnly}
 use Rattle.epl_syntax.specs.Rules.OfTypes.{TypeList}
-use Rattle.invocation.specs.Mail.{Mail}
 use Rattle.passive_store.specs.Kept.{Layout}
 use Rattle.passive_store.specs.Seen.{Seen, DiskSeen}
-use Rattle.journal.specs.World.{World, Site, Node, node_at, site_of}
+use Rattle.journal.specs.World.{World}
 use Rattle.journal.specs.LegalRun.{EachDisk}
 use Rattle.journal.specs.Opening.{IsToldFor}
 use Rattle.journal.specs.Standing.{DiskRun}
-use Rattle.checkpoint.specs.BarredBoots.{Bar, IsBarred, damaged, overfull}
-use Rattle.eden_world.specs.InHand.{Stands, in_hand}
+use Rattle.runs.specs.Machines.{Failed, StandsWith}
+use Rattle.eden_world.specs.InHand.{Ends, Stands, in_hand, place_at, seen_at}
 use Rattle.eden_world.specs.Legal.{disk_runs}
 use Rattle.eden_world.specs.Seated.{AreGiven, Begins}
-use Rattle.eden_world.specs.Steps.{disk_of}
-use Rattle.eden_world.specs.Worlds.{Seat, up, down, InHand, SeatStands, WorldStands}
+use Rattle.eden_world.specs.Steps.{SeatEnds, disk_of}
+use Rattle.eden_world.specs.Worlds.{Seat}
 use Rattle.eden_world.specs.declared.World.{World as Program}
 use Rattle.eden_world.proofs.Falls.{node-of}
-use Rattle.eden_world.proofs.LegalDisks.{at-place}
+use Rattle.eden_world.proofs.LegalDisks.{IsAtPlace, at-place, disk_at}
+use Rattle.eden_world.proofs.SeatRoom.{told-less, world-room}
 
--- 1. One place
-
-barred-room : (layout : Layout) (n more : ℕ) (bar : Bar) (image : List ℕ) → IsBarred bar layout n image → IsToldFor layout n more image
-barred-room layout n more (damaged place) image is kept map opens = absurd (cc (sym map ∙ is))
-barred-room layout n more (overfull found) image is kept map opens =
-    absurd (let bad : true ≡ false = sym is.1 ∙ opens in cc bad)
-
-seat-room : (layout : Layout) (ts : TypeList) (m : Mail) (more : ℕ) (s : Site) (seat : Seat) → SeatStands layout ts m more s seat
-    → LeavesOnly (IsToldFor layout s.number more) (contents (disk_of seat).told)
-seat-room layout ts m more s (up h) x image left = subst (λ n. IsToldFor layout n more image) (sym x.stands.disk.number)
-    (λ kept map opens. let enough : more ≤ h.seen.more = x.told in omega (arith, enough, (x.stands.disk.stands image left).told))
-seat-room layout ts m more s (down noted d) x image left = elim x.disk [
-  | inl r ↦ λ kept map opens. omega (arith, r.1, (r.2.stands image left).told)
-  | inr b ↦ barred-room layout s.number more b.0 image (b.2.stands image left)
-]
-
-world-room : (layout : Layout) (more : ℕ) (h : InHand) (w : World) (n : ℕ) (it : Node) (y : DiskSeen) → WorldStands layout more h w
-    → node_at w n ≡ Some it → option_map disk_of (h.seats n) ≡ Some y → LeavesOnly (IsToldFor layout n more) (contents y.told)
-world-room layout more h w n it y is at there = go (h.seats n) (is.nodes n it at) there
-  where
-    go : (o : Option Seat) → IsSomeAnd o (SeatStands layout h.types h.mail more (site_of w n it)) → option_map disk_of o ≡ Some y
-        → LeavesOnly (IsToldFor layout n more) (contents y.told)
-    go None x there = absurd x
-    go (Some seat) x there = let same : disk_of seat ≡ y = cc there in
-        subst (λ (z : DiskSeen). LeavesOnly (IsToldFor layout n more) (contents z.told)) same
-        (seat-room layout h.types h.mail more (site_of w n it) seat x)
-
--- 2. All of them, as they are given back
+-- 1. A run that came to its end: all of them, as they are given back
 
 pub leave-room : {T D : Type 0} (tells obeys : Bool) (layout : Layout) (seen : T → Seen) (look : D → DiskSeen) (types : TypeList)
     (before after : List D) (first last : Program T D) (w : World) (least more : ℕ) → length before ≤ 8 → Begins types before first
@@ -61,3 +32,31 @@ leave-room tells obeys layout seen look types before after first last w least mo
     let room : IsToldFor layout n more image = world-room layout more (in_hand seen look last) w n it.0 x.new stands.world it.1 x.is image
     (subst (λ (z : DiskRun). Left (contents z.after) image) x.run left) in
     λ kept map opens. omega (arith, enough, room kept map opens)
+
+-- 2. One that want of memory ended
+
+seat-left-room : (layout : Layout) (more n : ℕ) (w : World) (o p : Option Seat) (y : DiskSeen) → SeatEnds layout more n w o p
+    → option_map disk_of p ≡ Some y → LeavesOnly (IsToldFor layout n more) (contents y.told)
+seat-left-room layout more n w None p y ends there = absurd ends
+seat-left-room layout more n w (Some a) None y ends there = absurd ends
+seat-left-room layout more n w (Some a) (Some b) y ends there =
+    let same : disk_of b ≡ y = cc there in
+    subst (λ (z : DiskSeen). LeavesOnly (IsToldFor layout n more) (contents z.told)) same ends.room
+
+pub leave-room-part : {T D : Type 0} (tells obeys : Bool) (layout : Layout) (seen : T → Seen) (look : D → DiskSeen) (types : TypeList)
+    (before after : List D) (first between last : Program T D) (w : World) (least : ℕ) → length before ≤ 8 → Begins types before first
+    → AreGiven seen look last after → StandsWith (Stands tells layout seen look) between least w
+    → Failed (Ends layout seen look) least between last w
+    → EachDisk (disk_runs obeys look before after) (λ n d. LeavesOnly (IsToldFor layout n least) (contents d.after))
+leave-room-part tells obeys layout seen look types before after first between last w least few begins given stood failed n d there =
+    subst (λ (z : DiskRun). LeavesOnly (IsToldFor layout n least) (contents z.after)) (sym x.run) (elim failed [
+      | inl begun ↦ told-less layout n begun.0 least x.new.told begun.1
+          (seat-left-room layout begun.0 n w (seen_at seen look (place_at between n)) (seen_at seen look (place_at last n)) x.new
+          (begun.2 n x.number) x.is)
+      | inr same ↦ let it = node-of layout stood.0 (in_hand seen look between) w n stood.2.world x.number in
+          told-less layout n stood.0 least x.new.told stood.1
+          (world-room layout stood.0 (in_hand seen look between) w n it.0 x.new stood.2.world it.1 (ap (disk_at seen look n) (sym same) ∙ x.is))
+    ])
+  where
+    x : IsAtPlace obeys seen look first last n d
+    x = at-place obeys seen look types before after first last n d few begins given there

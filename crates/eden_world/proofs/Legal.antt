@@ -54,13 +54,13 @@ faults-shown obeys told seen look types before after first last history few begi
 pub faults-shown_so_far : {T D : Type 0} (obeys told : Bool) (seen : T → Seen) (look : D → DiskSeen) (types : TypeList)
     (before after : List D) (first last : Program T D) (history : List Entry) → length before ≤ 8 → Begins types before first
     → AreGiven seen look last after
-    → ShowsPart (EachShows obeys seen look) (FitsTogether seen) (KeepsDisks seen look) first history last
+    → ShowsPart (EachShows obeys seen look) (FitsTogether seen) (KeepsDisks obeys seen look) first history last
     → EachDisk (disk_runs told look before after) (ShowsNoMore history)
 faults-shown_so_far obeys told seen look types before after first last history few begins given shows n d there =
     let x = at-place told seen look types before after first last n d few begins given there in
     subst (λ (y : DiskRun). ShowsNoMore history n y) (sym x.run)
-    (shows-no_more obeys told n (EachShows obeys seen look) (FitsTogether seen) (KeepsDisks seen look) (disk_at seen look n)
-    (shown-on obeys seen look n x.number) (left-on seen look n x.number) history first last x.old x.new x.was x.is shows)
+    (shows-no_more obeys told n (EachShows obeys seen look) (FitsTogether seen) (KeepsDisks obeys seen look) (disk_at seen look n)
+    (shown-on obeys seen look n x.number) (left-on obeys seen look n x.number) history first last x.old x.new x.was x.is shows)
 
 -- 2. Where the run begins
 
@@ -182,16 +182,16 @@ legal-run tells obeys layout seen look script types before after first run lays 
 
 -- 4. One that want of memory ended
 
-pub legal-part : {T D : Type 0} (obeys : Bool) (layout : Layout) (seen : T → Seen) (look : D → DiskSeen) (script : Script)
+pub legal-part : {T D : Type 0} (tells obeys : Bool) (layout : Layout) (seen : T → Seen) (look : D → DiskSeen) (script : Script)
     (types : TypeList) (before after : List D) (first : Program T D) (run : Run (Program T D))
     → IsLayout layout → IsFit script → AreHandedIn layout (disk_runs obeys look before after) → length before ≡ 8
     → Begins types before first
-    → IsCutShort (Did layout seen look) (Ends layout seen look) first run
-    (opening_world layout script (disk_runs obeys look before after)) script.nodes script.commands
-    → ShowsPart (EachShows obeys seen look) (FitsTogether seen) (KeepsDisks seen look) first run.history.items run.machine
-    → AreGiven seen look run.machine after
+    → IsCutShort (Stands tells layout seen look) (Did layout seen look) (Ends layout seen look) first run
+    (opening_world layout script (disk_runs obeys look before after)) script.nodes script.commands 0
+    → ShowsPart (EachShows obeys seen look) (FitsTogether seen) (KeepsDisks obeys seen look) first run.history.items run.machine
+    → AreGiven seen look run.machine after → LeaveRoom layout (disk_runs obeys look before after)
     → IsLegalSoFar layout script (disk_runs obeys look before after) run.history.items
-legal-part obeys layout seen look script types before after first run lays fit handed eight begins cut shows given =
+legal-part tells obeys layout seen look script types before after first run lays fit handed eight begins cut shows given room =
     runs-are-legal-so-far layout script runs history lays handed
     (write-none (names_of script.types) script.nodes script.commands fit.commands) cut.begins stand
     (faults-shown_so_far obeys obeys seen look types before after first run.machine history (omega (arith, eight)) begins given shows)
@@ -199,6 +199,9 @@ legal-part obeys layout seen look script types before after first run lays fit h
     subst (λ (z : DiskRun). EachHasItsCommand run_is n z) (sym x.run) (part n d x).commands)
     (λ n d there. let x = at n d there in
     subst (λ (z : DiskRun). EachShowsClockBefore run_is n z) (sym x.run) (part n d x).counted)
+    (λ n d there. let x = at n d there in
+    subst (λ (z : DiskRun). IsLeftArmed run_is n z) (sym x.run) (part n d x).armed)
+    room
   where
     runs : List DiskRun
     runs = disk_runs obeys look before after
@@ -218,13 +221,13 @@ legal-part obeys layout seen look script types before after first run lays fit h
     stand : EachDiskStands layout last run_is (unfinished last) runs
     stand n d there = let x = at n d there in
         subst (λ (z : DiskRun). StandsThroughout layout last run_is (unfinished last) n z) (sym x.run)
-        (throughout-part layout n (Did layout seen look) (Ends layout seen look) (disk_at seen look n) (start layout script runs) history
+        (throughout-part layout n 0 (Stands tells layout seen look) (Did layout seen look) (Ends layout seen look) (disk_at seen look n) (start layout script runs) history
         first run.machine obeys x.old x.new (not-zero n x.number) (did-on layout seen look n x.number) (ends-on layout seen look n x.number)
         (still layout script runs history cut.begins) (first-state layout script runs n obeys d x.old x.new lays handed there x.run)
         x.was x.is cut.came)
 
     part : (n : ℕ) (d : DiskRun) → (x : IsAtPlace obeys seen look first run.machine n d)
         → PartShows (start layout script runs) history n (disk_run obeys x.old x.new)
-    part n d x = part-shown obeys n (EachShows obeys seen look) (FitsTogether seen) (KeepsDisks seen look) (disk_at seen look n)
-        (not-zero n x.number) (shown-on obeys seen look n x.number) (left-on seen look n x.number) (start layout script runs) history first
+    part n d x = part-shown obeys n (EachShows obeys seen look) (FitsTogether seen) (KeepsDisks obeys seen look) (disk_at seen look n)
+        (not-zero n x.number) (shown-on obeys seen look n x.number) (left-on obeys seen look n x.number) (start layout script runs) history first
         run.machine x.old x.new x.was x.is (still layout script runs history cut.begins) shows

@@ -12,7 +12,7 @@ use Rattle.journal.specs.Opening.{most_changes}
 use Rattle.journal.specs.Standing.{DiskRun}
 use Rattle.runs.specs.Machines.{IsLeft, ShowsAll}
 use Rattle.runs.specs.Room.{most_entries}
-use Rattle.runs.specs.Runs.{CarriesAll, CarriesPart, IsDone, KeepsShown, KeepsShownSoFar, MayBegin}
+use Rattle.runs.specs.Runs.{CarriesAll, CarriesPart, IsCutShort, IsDone, KeepsShown, KeepsShownSoFar, MayBegin}
 use Rattle.runs.specs.declared.run.Run.{Run}
 use Rattle.runs.proofs.Reaching.{may-begin}
 use Rattle.eden_world.specs.InHand.{Did, Ends, Stands}
@@ -22,7 +22,7 @@ use Rattle.eden_world.specs.Seated.{AreGiven, EachShows, FitsTogether, IsSeated,
 use Rattle.eden_world.specs.declared.World.{World as Program}
 use Rattle.eden_world.proofs.Beginnings.{begins-stands}
 use Rattle.eden_world.proofs.Legal.{faults-shown, faults-shown_so_far, legal-part, legal-run}
-use Rattle.eden_world.proofs.LeftRoom.{leave-room}
+use Rattle.eden_world.proofs.LeftRoom.{leave-room, leave-room-part}
 use Rattle.eden_world.proofs.OpenedRuns.{opened-runs}
 
 -- 1. The run may begin
@@ -114,36 +114,44 @@ pub carried-part : {T D : Type 0} (tells obeys : Bool) (layout : Layout) (seen :
     (before after : List D) (old new : Run (Program T D)) → IsInOrder tells obeys layout look script before after
     → IsAtStart script before old
     → CarriesPart (Stands tells layout seen look) (Did layout seen look) (Ends layout seen look) old new script.nodes script.commands
-    → KeepsShownSoFar (EachShows (heeds tells obeys) seen look) (FitsTogether seen) (KeepsDisks seen look) old new
+    → KeepsShownSoFar (EachShows (heeds tells obeys) seen look) (FitsTogether seen) (KeepsDisks (heeds tells obeys) seen look) old new
     → AreGiven seen look new.machine after → IsLegalSoFar layout script (disk_runs obeys look before after) new.history.items
 carried-part tells obeys layout seen look script before after old new order first carries shows given =
-    legal-part obeys layout seen look script script.types before after old.machine new order.its_layout order.fit order.handed_in
-    order.eight first.begins
-    (carries (opening_world layout script (disk_runs obeys look before after)) (names_of script.types) 0
-    (may-carry tells obeys layout seen look script before after old 0 order first
-    (told-enough tells obeys layout look script before after order)))
-    (subst (λ b. KeepsShownSoFar (EachShows b seen look) (FitsTogether seen) (KeepsDisks seen look) old new)
+    legal-part tells obeys layout seen look script script.types before after old.machine new order.its_layout order.fit order.handed_in
+    order.eight first.begins (cut 0 (told-enough tells obeys layout look script before after order))
+    (subst (λ b. KeepsShownSoFar (EachShows b seen look) (FitsTogether seen) (KeepsDisks b seen look) old new)
     (heeds-telling tells obeys order.telling) shows old.machine (none-shown obeys seen look old first.history)) given
+    (λ more told. let (between, all, stood, failed) =
+    (cut more (told-besides tells obeys layout look script before after more order told)).came in
+    leave-room-part tells obeys layout seen look script.types before after old.machine between new.machine
+    (end_over layout script (disk_runs obeys look before after) new.history.items) more (let eight = order.eight in omega (arith, eight))
+    first.begins given stood failed)
+  where
+    cut : (spare : ℕ) → AreToldFor layout (most_entries script.nodes script.commands + spare) (disk_runs obeys look before after)
+        → IsCutShort (Stands tells layout seen look) (Did layout seen look) (Ends layout seen look) old.machine new
+        (opening_world layout script (disk_runs obeys look before after)) script.nodes script.commands spare
+    cut spare told = carries (opening_world layout script (disk_runs obeys look before after)) (names_of script.types) spare
+        (may-carry tells obeys layout seen look script before after old spare order first told)
 
 pub carried-shows_so_far : {T D : Type 0} (obeys told : Bool) (seen : T → Seen) (look : D → DiskSeen) (script : Script)
     (before after : List D) (old new : Run (Program T D)) → length before ≡ 8 → IsAtStart script before old
-    → KeepsShownSoFar (EachShows obeys seen look) (FitsTogether seen) (KeepsDisks seen look) old new
+    → KeepsShownSoFar (EachShows obeys seen look) (FitsTogether seen) (KeepsDisks obeys seen look) old new
     → AreGiven seen look new.machine after → EachDisk (disk_runs told look before after) (ShowsNoMore new.history.items)
 carried-shows_so_far obeys told seen look script before after old new eight first shows given =
     faults-shown_so_far obeys told seen look script.types before after old.machine new.machine new.history.items (omega (arith, eight))
     first.begins given (shows old.machine (none-shown obeys seen look old first.history))
 
 -- each disk is at its place then, so that they can be given back
-left-seated : {T D : Type 0} (seen : T → Seen) (look : D → DiskSeen) (old new : Program T D)
-    → IsLeft (FitsTogether seen) (KeepsDisks seen look) old new → IsSeated new
-left-seated seen look old new (inl left) = record { eight = left.eight; seated = left.seated }
-left-seated seen look old new (inr same) = record { eight = same.1.eight; seated = same.1.seated }
+left-seated : {T D : Type 0} (obeys : Bool) (seen : T → Seen) (look : D → DiskSeen) (old new : Program T D)
+    → IsLeft (FitsTogether seen) (KeepsDisks obeys seen look) old new → IsSeated new
+left-seated obeys seen look old new (inl left) = record { eight = left.eight; seated = left.seated }
+left-seated obeys seen look old new (inr same) = record { eight = same.1.eight; seated = same.1.seated }
 
 pub carried-seated : {T D : Type 0} (obeys : Bool) (seen : T → Seen) (look : D → DiskSeen) (old new : Run (Program T D))
-    → old.history.items ≡ [] → KeepsShownSoFar (EachShows obeys seen look) (FitsTogether seen) (KeepsDisks seen look) old new
+    → old.history.items ≡ [] → KeepsShownSoFar (EachShows obeys seen look) (FitsTogether seen) (KeepsDisks obeys seen look) old new
     → IsSeated new.machine
 carried-seated obeys seen look old new none shows =
-    let part = shows old.machine (none-shown obeys seen look old none) in left-seated seen look part.0 new.machine part.2
+    let part = shows old.machine (none-shown obeys seen look old none) in left-seated obeys seen look part.0 new.machine part.2
 
 -- and so it is where the run came to its end
 pub whole-seated : {T D : Type 0} (seen : T → Seen) (p : Program T D) → FitsTogether seen p → IsSeated p

@@ -14,7 +14,7 @@ use Rattle.journal.specs.Run.{Step}
 use Rattle.journal.specs.Standing.{DiskRun}
 use Rattle.journal.specs.World.{World, Node, node_at, site_of}
 use Rattle.disk_faults.specs.Runs.{EntryShows}
-use Rattle.disk_faults.specs.Shows.{NoneFalls}
+use Rattle.disk_faults.specs.Shows.{IsLeftOf}
 use Rattle.eden_world.specs.InHand.{Did, Ends, place_at, seen_at}
 use Rattle.eden_world.specs.Legal.{disk_run, disk_runs}
 use Rattle.eden_world.specs.Seated.{AreGiven, Begins, EachShows, KeepsDisks}
@@ -25,6 +25,7 @@ use Rattle.eden_world.proofs.AlongRuns.{EachEndsOn, EachOn, EndsOn, StepOn}
 use Rattle.eden_world.proofs.Closing.{seat-of}
 use Rattle.eden_world.proofs.DiskPairs.{paired}
 use Rattle.eden_world.proofs.ShownRuns.{EachLeft, EachShown}
+use Rattle.eden_world.proofs.Untouched.{AreLeft}
 
 abbrev pub disk_at : {T D : Type 0} → (T → Seen) → (D → DiskSeen) → ℕ → Program T D → Option DiskSeen
 disk_at seen look n p = option_map disk_of (seen_at seen look (place_at p n))
@@ -37,11 +38,11 @@ seat-steps layout n s None p one = absurd one
 seat-steps layout n s (Some a) None one = absurd one
 seat-steps layout n s (Some a) (Some b) one = one
 
-seat-ends : (layout : Layout) (n : ℕ) (w : World) (o p : Option Seat) → SeatEnds layout n w o p
+seat-ends : (layout : Layout) (more n : ℕ) (w : World) (o p : Option Seat) → SeatEnds layout more n w o p
     → EndsOn layout n w (option_map disk_of o) (option_map disk_of p)
-seat-ends layout n w None p one = absurd one
-seat-ends layout n w (Some a) None one = absurd one
-seat-ends layout n w (Some a) (Some b) one = one
+seat-ends layout more n w None p one = absurd one
+seat-ends layout more n w (Some a) None one = absurd one
+seat-ends layout more n w (Some a) (Some b) one = one.ends
 
 seat-shows : (obeys : Bool) (n : ℕ) (e : Entry) (o p : Option Seat)
     → IfSome o (λ a. IsSomeAnd p (λ b. EntryShows obeys n e (disk_of a) (disk_of b)))
@@ -50,11 +51,11 @@ seat-shows obeys n e None p one = tt
 seat-shows obeys n e (Some a) None one = absurd one
 seat-shows obeys n e (Some a) (Some b) one = one
 
-seat-left : (o p : Option Seat) → IfSome o (λ a. IfSome p (λ b. NoneFalls (disk_of a).counts (disk_of b).counts))
-    → IfSome (option_map disk_of o) (λ a. IfSome (option_map disk_of p) (λ b. NoneFalls a.counts b.counts))
-seat-left None p one = tt
-seat-left (Some a) None one = tt
-seat-left (Some a) (Some b) one = one
+seat-left : (obeys : Bool) (o p : Option Seat) → AreLeft obeys o p
+    → IfSome (option_map disk_of o) (λ a. IfSome (option_map disk_of p) (IsLeftOf obeys a))
+seat-left obeys None p one = tt
+seat-left obeys (Some a) None one = tt
+seat-left obeys (Some a) (Some b) one = one
 
 pub did-on : {T D : Type 0} (layout : Layout) (seen : T → Seen) (look : D → DiskSeen) (n : ℕ) → IsNumber n
     → EachOn {M = Program T D} layout n (Did layout seen look) (disk_at seen look n)
@@ -63,18 +64,18 @@ did-on layout seen look n number old new s did =
 
 pub ends-on : {T D : Type 0} (layout : Layout) (seen : T → Seen) (look : D → DiskSeen) (n : ℕ) → IsNumber n
     → EachEndsOn {M = Program T D} layout n (Ends layout seen look) (disk_at seen look n)
-ends-on layout seen look n number old new w ends =
-    seat-ends layout n w (seen_at seen look (place_at old n)) (seen_at seen look (place_at new n)) (ends n number)
+ends-on layout seen look n number old new more w ends =
+    seat-ends layout more n w (seen_at seen look (place_at old n)) (seen_at seen look (place_at new n)) (ends n number)
 
 pub shown-on : {T D : Type 0} (obeys : Bool) (seen : T → Seen) (look : D → DiskSeen) (n : ℕ) → IsNumber n
     → EachShown {M = Program T D} obeys n (EachShows obeys seen look) (disk_at seen look n)
 shown-on obeys seen look n number old new e shows =
     seat-shows obeys n e (seen_at seen look (place_at old n)) (seen_at seen look (place_at new n)) (shows n number)
 
-pub left-on : {T D : Type 0} (seen : T → Seen) (look : D → DiskSeen) (n : ℕ) → IsNumber n
-    → EachLeft {M = Program T D} (KeepsDisks seen look) (disk_at seen look n)
-left-on seen look n number old new left =
-    seat-left (seen_at seen look (place_at old n)) (seen_at seen look (place_at new n)) (left.counts n number)
+pub left-on : {T D : Type 0} (obeys : Bool) (seen : T → Seen) (look : D → DiskSeen) (n : ℕ) → IsNumber n
+    → EachLeft {M = Program T D} obeys (KeepsDisks obeys seen look) (disk_at seen look n)
+left-on obeys seen look n number old new left =
+    seat-left obeys (seen_at seen look (place_at old n)) (seen_at seen look (place_at new n)) (left.left n number)
 
 -- 2. Before the first event, and at the end
 

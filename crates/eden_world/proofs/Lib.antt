@@ -52,6 +52,7 @@ pub mod ShownRuns
 pub mod DiskPairs
 pub mod LegalDisks
 pub mod LeftRoom
+pub mod SeatRoom
 pub mod Legal
 pub mod OpenedRuns
 pub mod LegalCarried

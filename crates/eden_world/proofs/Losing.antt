@@ -1,5 +1,5 @@
 -- A node goes down, or a link is cut, in a program: what is in hand before and after all are told.
-use Rattle.std.proofs.Common.{◌≡◌, ◌==◌, ℕ, suc, Bool, false, List, Option, Some, ◌∙◌, ap, subst}
+use Rattle.std.proofs.Common.{◌≡◌, ◌==◌, ℕ, suc, Bool, false, List, Option, Some, ◌∙◌, ap, subst, arith}
 use Rattle.std.specs.Option.{option_map}
 use Rattle.eden_disk.specs.declared.disk.ImageMode.{ImageMode}
 use Rattle.eden_model.specs.Traffic.{Traffic, numbers_of, broken_by_node, without_node}
@@ -77,5 +77,5 @@ pub still-starves : {T D : Type 0} (tells : Bool) (layout : Layout) (seen : T �
     (old new : Program T D)
     → new.seats ≡ old.seats → StarvesAtEach tells layout seen look old new key
 still-starves tells layout seen look key old new same more w reached stood there =
-    ends-level layout (suc more) (in_hand seen look old) (in_hand seen look new) w stood.world
+    ends-level layout (suc more) more (in_hand seen look old) (in_hand seen look new) w (omega arith) stood.world
     (λ m. ap (λ o. option_map disk_of (seen_at seen look o)) (same-places new old same m))

@@ -30,6 +30,7 @@ map-other : (n : ℕ) (s : Site) (t : Traffic) (kept : Kept) (c : Option StoreCh
     → MapStands n (carrying t s) kept c
 map-other n s t kept c m = record {
   undamaged = m.undamaged;
+  not_untold = m.not_untold;
   ordered = m.ordered;
   facts = m.facts;
   epoch = m.epoch;

@@ -1,5 +1,5 @@
 -- Before the first entry: over disks that are handed in as they have to be what is in hand stands for the opening world.
-use Rattle.std.proofs.Common.{◌≡◌, inl, inr, ◌==◌, ℕ, Bool, true, false, cond, not, ◌&&◌, List, [], ◌∷◌, length, map}
+use Rattle.std.proofs.Common.{◌≡◌, ◌≤◌, inl, inr, ◌==◌, ℕ, Bool, true, false, cond, not, ◌&&◌, List, [], ◌∷◌, length, map}
 use Rattle.std.proofs.Common.{Option, None}
 use Rattle.std.proofs.Common.{Some, Result, Ok, Err, refl, sym, ◌∙◌, ap, subst, arith}
 use Rattle.std.specs.Prelude.{IsSomeAnd}
@@ -16,7 +16,7 @@ use Rattle.passive_store.specs.Kept.{Layout, Kept}
 use Rattle.passive_store.specs.Layout.{IsLayout}
 use Rattle.journal.specs.declared.command.Script.{Script}
 use Rattle.journal.specs.World.{World, Node, Site, Eject, site_of}
-use Rattle.journal.specs.Opening.{IsToldFor, node_of, node_from, entries_of, ledger_of, passive, passive_entry}
+use Rattle.journal.specs.Opening.{IsToldFor, most_changes, is_untold, node_of, node_from, entries_of, ledger_of, passive, passive_entry}
 use Rattle.journal.specs.Standing.{DiskRun}
 use Rattle.journal.specs.LegalRun.{AreHandedIn, AreToldFor, EachDisk, IsHandedIn, images, numbered, opening_world}
 use Rattle.history_laws.proofs.AtTheOpening.{at-the-opening}
@@ -44,14 +44,14 @@ idle-passive (x ∷ es) u e is = go (x.0.serial == 0) is (idle-passive es u e)
     go false at later = here (eq_by_cmp uid_cmp u x.0) at later
 
 -- what is found decides the rest
-asleep-from : (n size : ℕ) (r : Result Kept ℕ) (full : Bool) (u : Uid) (e : Eject)
-    → value_at uid_cmp u (node_from n size (entries_of r) full (ledger_of r)).ejects ≡ Some e → IsIdle e
-asleep-from n size (Ok kept) full u e is = idle-passive (finite.entries kept.bodies) u e is
-asleep-from n size (Err place) full u e is = absurd (cc is)
+asleep-from : (n size : ℕ) (r : Result Kept ℕ) (full untold : Bool) (u : Uid) (e : Eject)
+    → value_at uid_cmp u (node_from n size (entries_of r) full untold (ledger_of r)).ejects ≡ Some e → IsIdle e
+asleep-from n size (Ok kept) full untold u e is = idle-passive (finite.entries kept.bodies) u e is
+asleep-from n size (Err place) full untold u e is = absurd (cc is)
 
-down-from : (n size : ℕ) (r : Result Kept ℕ) (full : Bool) → (node_from n size (entries_of r) full (ledger_of r)).up ≡ false
-down-from n size (Ok kept) full = refl
-down-from n size (Err place) full = refl
+down-from : (n size : ℕ) (r : Result Kept ℕ) (full untold : Bool) → (node_from n size (entries_of r) full untold (ledger_of r)).up ≡ false
+down-from n size (Ok kept) full untold = refl
+down-from n size (Err place) full untold = refl
 
 abbrev image_of : DiskRun → List ℕ
 image_of d = (contents d.before).now
@@ -61,7 +61,8 @@ first-seat : (layout : Layout) (more n : ℕ) (w : World) (d : DiskRun) → IsLa
     → w.layout ≡ layout → IsHandedIn layout n d → length (image_of d) ≡ d.first.size
     → DownStands layout more (site_of w n (node_of layout (n, image_of d))) None (first_seen d)
 first-seat layout more n w d lays told its_layout handed sized = record {
-  asleep = λ u e is. asleep-from n (length (image_of d)) (layout.map_of n (image_of d)) (layout.is_overfull n (image_of d)) u e is;
+  asleep = λ u e is. asleep-from n (length (image_of d)) (layout.map_of n (image_of d)) (layout.is_overfull n (image_of d))
+      (is_untold layout n (image_of d)) u e is;
   disk = go (layout.map_of n (image_of d)) refl (layout.is_overfull n (image_of d)) refl;
 }
   where
@@ -110,6 +111,8 @@ first-seat layout more n w d lays told its_layout handed sized = record {
         of_bytes = handed.bytes;
         map = map;
         small = small;
+        is_told = let many : most_changes ≤ layout.changes_told n (image_of d) = handed.fit.room_is_told kept map small in
+            omega (arith, many);
       }) sized,
     )
 
@@ -170,6 +173,7 @@ opens layout more script disks h lays handed told long first = record {
     off : (n : ℕ) (o : Option DiskRun) → with_item (node_by layout n o) (λ (x : Node). x.up) false ≡ false
     off n None = refl
     off n (Some d) = down-from n (length (image_of d)) (layout.map_of n (image_of d)) (layout.is_overfull n (image_of d))
+        (is_untold layout n (image_of d))
 
     by_disk : (n : ℕ) (it : Node) (o : Option DiskRun) → value_at nat_cmp n (numbered disks) ≡ o → node_by layout n o ≡ Some it
         → IsSomeAnd (h.seats n) (SeatStands layout h.types h.mail more (site_of (opening_world layout script disks) n it))

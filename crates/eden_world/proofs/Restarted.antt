@@ -50,7 +50,7 @@ use Rattle.eden_world.proofs.CarriedOut.{restart-still}
 use Rattle.eden_world.proofs.Falls.{ends-level, node-of}
 use Rattle.eden_world.proofs.Seating.{agendas-behind, agendas-without, eight-behind}
 use Rattle.eden_world.proofs.Setting.{places-level, places-seated, set-again, set-back, set-fits}
-use Rattle.eden_world.proofs.Shown.{boot-counts, boot-falls, entry-on, keeps-level, keeps-one, one-shows}
+use Rattle.eden_world.proofs.Shown.{boot-counts, boot-left, entry-on, keeps-level, keeps-one, one-shows}
 use Rattle.eden_world.proofs.Vacating.{back, others-stay, rest-stays}
 
 -- what a boot says of the node that came up
@@ -245,15 +245,18 @@ restart-falls-shows tells obeys seen disk old mid last n d y doubt left note how
     there : place_at last n ≡ Some (place.Down y left)
     there = back old mid last n (place.Down y left) out again ∙ ap (instead (place.Down y left)) was
 
-pub restart-leaves : {T D : Type 0} (seen : T → Seen) (disk : D → DiskSeen) (old mid last : Program T D) (n : ℕ) (d y : D)
-    (doubt left : Option Doubt) (ended : Option BootEnd) → place_at old n ≡ Some (place.Down d doubt) → TakesPlace n place.Moving old mid
+pub restart-leaves : {T D : Type 0} (tells obeys : Bool) (seen : T → Seen) (disk : D → DiskSeen) (old mid last : Program T D) (n : ℕ)
+    (d y : D) (doubt left : Option Doubt) (note : BootNote) (ended : Option BootEnd) → ended ≡ None → place_at old n ≡ Some (place.Down d doubt) → TakesPlace n place.Moving old mid
     → TakesPlace n (place.Down y left) mid last → MakesCalls (powered (disk d).counts) (disk y).counts (call_of_fall ended)
-    → FitsTogether seen old → KeepsDisks seen disk old last
-restart-leaves seen disk old mid last n d y doubt left ended was out again calls fits =
-    keeps-one seen disk old last n (disk d) (disk y) now.eight now.seated (ap (λ o. option_map disk_of (seen_at seen disk o)) was)
+    → (IsTrue tells → FallShows obeys n ended note (disk d) (disk y)) → FitsTogether seen old
+    → KeepsDisks (heeds tells obeys) seen disk old last
+restart-leaves tells obeys seen disk old mid last n d y doubt left note ended is_none was out again calls shows fits =
+    keeps-one (heeds tells obeys) seen disk old last n (disk d) (disk y) now.eight now.seated (ap (λ o. option_map disk_of (seen_at seen disk o)) was)
     (ap (λ o. option_map disk_of (seen_at seen disk o)) (back old mid last n (place.Down y left) out again
     ∙ ap (instead (place.Down y left)) was)) (others-stay old mid last n place.Moving (place.Down y left) out again)
-    (boot-falls ended (disk d) (disk y) calls)
+    (boot-left tells obeys (disk d) (disk y)
+    (subst (λ o. MakesCalls (powered (disk d).counts) (disk y).counts (call_of_fall o)) is_none calls)
+    (λ so. subst (λ o. FallShows obeys n o note (disk d) (disk y)) is_none (shows so)))
   where
     now : FitsTogether seen last
     now = whole-down seen old mid last n y left out again fits
@@ -264,13 +267,13 @@ pub idle-starves : {T D : Type 0} (tells : Bool) (layout : Layout) (seen : T →
     (n : ℕ) (taken : Place T D) → taken ≡ unwrap_or (place_at old n) place.Moving → TakesPlace n place.Moving old mid
     → TakesPlace n taken mid last → Starves tells layout seen disk old last (command.Restart n)
 idle-starves tells layout seen disk old mid last n taken is out again more w reached h fit =
-    ends-level layout (suc more) (in_hand seen disk old) (in_hand seen disk last) w h.world
+    ends-level layout (suc more) more (in_hand seen disk old) (in_hand seen disk last) w (omega arith) h.world
     (places-level seen disk old last (set-back old mid last n taken is out again))
 
-pub idle-leaves : {T D : Type 0} (seen : T → Seen) (disk : D → DiskSeen) (old mid last : Program T D) (n : ℕ) (taken : Place T D)
+pub idle-leaves : {T D : Type 0} (obeys : Bool) (seen : T → Seen) (disk : D → DiskSeen) (old mid last : Program T D) (n : ℕ) (taken : Place T D)
     → taken ≡ unwrap_or (place_at old n) place.Moving → TakesPlace n place.Moving old mid → TakesPlace n taken mid last
-    → FitsTogether seen old → KeepsDisks seen disk old last
-idle-leaves seen disk old mid last n taken is out again fits = keeps-level seen disk old last
+    → FitsTogether seen old → KeepsDisks obeys seen disk old last
+idle-leaves obeys seen disk old mid last n taken is out again fits = keeps-level obeys seen disk old last
     (eight-behind old last (rest-stays old mid last out.rest again.rest) fits.eight)
     (places-seated old last (set-back old mid last n taken is out again) fits.seated)
     (places-level seen disk old last (set-back old mid last n taken is out again))

@@ -16,10 +16,10 @@ use Rattle.checkpoint.specs.Calls.{MakesCalls, call_of_fall, powered}
 use Rattle.checkpoint.specs.declared.up.BootNote.{BootNote}
 use Rattle.disk_faults.specs.Elsewhere.{shown_of}
 use Rattle.disk_faults.specs.Runs.{EntryShows}
-use Rattle.disk_faults.specs.Shows.{NoneFalls, ShowsCounts, count_behind}
+use Rattle.disk_faults.specs.Shows.{IsLeftOf, NoneFalls, ShowsCounts, count_behind}
 use Rattle.disk_faults.proofs.Entries.{entry-elsewhere}
 use Rattle.eden_kernel.specs.Shows.{boot_event}
-use Rattle.eden_kernel.proofs.Showing.{none-falls, none-fell}
+use Rattle.eden_kernel.proofs.Showing.{none-falls}
 use Rattle.eden_world.specs.InHand.{in_hand, place_at, seen_at}
 use Rattle.eden_world.specs.Seated.{AreSeated, EachShows, HasEight, KeepsDisks, heeds}
 use Rattle.eden_world.specs.Steps.{disk_of}
@@ -27,6 +27,7 @@ use Rattle.eden_world.specs.Told.{SameDisks}
 use Rattle.eden_world.specs.Worlds.{Seat, IsNumber}
 use Rattle.eden_world.specs.declared.World.{World as Program}
 use Rattle.eden_world.proofs.Numbers.{not-zero}
+use Rattle.eden_world.proofs.Untouched.{AreLeft, level-keeps, level-left}
 
 -- 1. The counts of a disk behind a boot
 
@@ -53,6 +54,15 @@ pub boot-falls : (how : Option BootEnd) (a b : DiskSeen) → MakesCalls (powered
     → NoneFalls a.counts b.counts
 boot-falls how a b calls = let fell = none-falls calls.made (powered a.counts) b.counts (call_of_fall how) calls.counts in
     record { clock = fell.clock; faults = fell.faults; stops = fell.stops; wants = fell.wants }
+
+-- where there was no memory the disk is left, by what its boot shows where it tells
+pub boot-left : (tells obeys : Bool) (a b : DiskSeen) → MakesCalls (powered a.counts) b.counts (call_of_fall None)
+    → (IsTrue tells → IsLeftOf obeys a b) → IsLeftOf (heeds tells obeys) a b
+boot-left true obeys a b calls left = left refl
+boot-left false obeys a b calls left = record {
+  counts = boot-falls None a b calls;
+  due = λ does. absurd (let bad : false ≡ true = does in cc bad);
+}
 
 -- of a disk that does not heed, nothing is said of what was due
 unheeded : (n : ℕ) (how : BootEnd) (note : BootNote) (a b : DiskSeen) → MakesCalls (powered a.counts) b.counts (call_of_fall (Some how))
@@ -142,46 +152,33 @@ level-shows obeys seen look old new e same its_event node n number =
 
 -- 4. There was no memory
 
-none-of : (o p : Option Seat) (a b : DiskSeen) → option_map disk_of o ≡ Some a → option_map disk_of p ≡ Some b
-    → NoneFalls a.counts b.counts → IfSome o (λ x. IfSome p (λ y. NoneFalls (disk_of x).counts (disk_of y).counts))
-none-of None p a b was now falls = tt
-none-of (Some x) None a b was now falls = tt
-none-of (Some x) (Some y) a b was now falls =
+left-of : (obeys : Bool) (o p : Option Seat) (a b : DiskSeen) → option_map disk_of o ≡ Some a → option_map disk_of p ≡ Some b
+    → IsLeftOf obeys a b → AreLeft obeys o p
+left-of obeys None p a b was now left = tt
+left-of obeys (Some x) None a b was now left = tt
+left-of obeys (Some x) (Some y) a b was now left =
     let before : disk_of x ≡ a = cc was in
     let after : disk_of y ≡ b = cc now in
-    subst (λ (d : DiskSeen). NoneFalls d.counts (disk_of y).counts) (sym before)
-    (subst (λ (d : DiskSeen). NoneFalls a.counts d.counts) (sym after) falls)
+    subst (λ (d : DiskSeen). IsLeftOf obeys d (disk_of y)) (sym before) (subst (IsLeftOf obeys a) (sym after) left)
 
-none-same : (o p : Option Seat) → option_map disk_of p ≡ option_map disk_of o
-    → IfSome o (λ x. IfSome p (λ y. NoneFalls (disk_of x).counts (disk_of y).counts))
-none-same None p same = tt
-none-same (Some x) None same = tt
-none-same (Some x) (Some y) same = let one : disk_of y ≡ disk_of x = cc same in
-    none-fell (disk_of x).counts (disk_of y).counts (ap (λ (d : DiskSeen). d.counts) one)
+pub keeps-level : {T D : Type 0} (obeys : Bool) (seen : T → Seen) (look : D → DiskSeen) (old new : Program T D) → HasEight new
+    → AreSeated new → SameDisks (in_hand seen look old) (in_hand seen look new) → KeepsDisks obeys seen look old new
+keeps-level obeys seen look old new eight seated same =
+    level-keeps obeys seen look old new (record { eight = eight; seated = seated }) same
 
-pub keeps-level : {T D : Type 0} (seen : T → Seen) (look : D → DiskSeen) (old new : Program T D) → HasEight new → AreSeated new
-    → SameDisks (in_hand seen look old) (in_hand seen look new) → KeepsDisks seen look old new
-keeps-level seen look old new eight seated same = record {
-  eight = eight;
-  seated = seated;
-  counts = λ n number. none-same (seen_at seen look (place_at old n)) (seen_at seen look (place_at new n)) (same n);
-}
-
-pub keeps-one : {T D : Type 0} (seen : T → Seen) (look : D → DiskSeen) (old new : Program T D) (n : ℕ) (a b : DiskSeen) → HasEight new
-    → AreSeated new → option_map disk_of (seen_at seen look (place_at old n)) ≡ Some a
+pub keeps-one : {T D : Type 0} (obeys : Bool) (seen : T → Seen) (look : D → DiskSeen) (old new : Program T D) (n : ℕ) (a b : DiskSeen)
+    → HasEight new → AreSeated new → option_map disk_of (seen_at seen look (place_at old n)) ≡ Some a
     → option_map disk_of (seen_at seen look (place_at new n)) ≡ Some b
-    → ((m : ℕ) → (m == n) ≡ false → place_at new m ≡ place_at old m) → NoneFalls a.counts b.counts → KeepsDisks seen look old new
-keeps-one seen look old new n a b eight seated was now others falls = record {
+    → ((m : ℕ) → (m == n) ≡ false → place_at new m ≡ place_at old m) → IsLeftOf obeys a b → KeepsDisks obeys seen look old new
+keeps-one obeys seen look old new n a b eight seated was now others left = record {
   eight = eight;
   seated = seated;
-  counts = λ m number. go m (m == n) refl;
+  left = λ m number. go m (m == n) refl;
 }
   where
-    go : (m : ℕ) (c : Bool) → (m == n) ≡ c → IfSome (seen_at seen look (place_at old m)) (λ x.
-        IfSome (seen_at seen look (place_at new m)) (λ y. NoneFalls (disk_of x).counts (disk_of y).counts))
+    go : (m : ℕ) (c : Bool) → (m == n) ≡ c → AreLeft obeys (seen_at seen look (place_at old m)) (seen_at seen look (place_at new m))
     go m true same = let at : m ≡ n = eqb-true m n same in
-        subst (λ j. IfSome (seen_at seen look (place_at old j)) (λ x.
-        IfSome (seen_at seen look (place_at new j)) (λ y. NoneFalls (disk_of x).counts (disk_of y).counts))) (sym at)
-        (none-of (seen_at seen look (place_at old n)) (seen_at seen look (place_at new n)) a b was now falls)
-    go m false other = none-same (seen_at seen look (place_at old m)) (seen_at seen look (place_at new m))
+        subst (λ j. AreLeft obeys (seen_at seen look (place_at old j)) (seen_at seen look (place_at new j))) (sym at)
+        (left-of obeys (seen_at seen look (place_at old n)) (seen_at seen look (place_at new n)) a b was now left)
+    go m false other = level-left obeys (seen_at seen look (place_at old m)) (seen_at seen look (place_at new m))
         (ap (λ o. option_map disk_of (seen_at seen look o)) (others m other))

@@ -5,7 +5,7 @@ use Rattle.std.specs.Prelude.{IfSome, IsSomeAnd, IsTrue}
 use Rattle.std.specs.Option.{option_map}
 use Rattle.std.proofs.lemmas.Bool.{eqb-true, eq-eqb}
 use Rattle.std.proofs.lemmas.Bool.Decides.{nat_tests}
-use Rattle.eden_disk.specs.Calls.{Counts}
+use Rattle.eden_disk.specs.Calls.{Due}
 use Rattle.passive_store.specs.Seen.{Seen, DiskSeen}
 use Rattle.journal.specs.declared.event.Entry.{Entry}
 use Rattle.journal.specs.declared.event.Event.{Event}
@@ -13,7 +13,7 @@ use Rattle.journal.specs.declared.event.Event.TheVariants as event
 use Rattle.journal.specs.Faults.{makes_no_call}
 use Rattle.disk_faults.specs.Elsewhere.{shown_of}
 use Rattle.disk_faults.specs.Runs.{EntryShows}
-use Rattle.disk_faults.specs.Shows.{ShowsCounts, NoneFalls, count_behind}
+use Rattle.disk_faults.specs.Shows.{IsLeftOf, ShowsCounts, NoneFalls, count_behind, due_behind}
 use Rattle.disk_faults.proofs.Entries.{entry-here, entry-elsewhere}
 use Rattle.scheduled_node.specs.Touched.{IsNodeTurn}
 use Rattle.eden_world.specs.InHand.{place_at, seen_at, in_hand}
@@ -22,6 +22,7 @@ use Rattle.eden_world.specs.Steps.{ShowsIf, disk_of, turn_touches, event_touches
 use Rattle.eden_world.specs.Told.{SameDisks}
 use Rattle.eden_world.specs.Worlds.{Seat, IsNumber}
 use Rattle.eden_world.specs.declared.World.{World as Program}
+use Rattle.eden_world.proofs.Untouched.{AreLeft, level-keeps, level-left}
 
 -- 1. Disks that tell and obey
 
@@ -47,7 +48,7 @@ more-behind : (b : Bool) (n : ℕ) → n ≤ count_behind b n
 more-behind true n = grind (arith, nat_tests)
 more-behind false n = omega arith
 
-pub none-falls : (obeys : Bool) (n : ℕ) (v : Event) (old new : DiskSeen) → ShowsCounts obeys n v old new → NoneFalls old.counts new.counts
+none-falls : (obeys : Bool) (n : ℕ) (v : Event) (old new : DiskSeen) → ShowsCounts obeys n v old new → NoneFalls old.counts new.counts
 none-falls obeys n v old new s = record {
   clock = s.clock;
   faults = subst (λ k. old.counts.faults ≤ k) (sym s.faults) (more-behind _ old.counts.faults);
@@ -55,8 +56,9 @@ none-falls obeys n v old new s = record {
   wants = s.wants;
 }
 
-none-fell : (c : Counts) → NoneFalls c c
-none-fell c = record { clock = omega arith; faults = omega arith; stops = omega arith; wants = omega arith }
+-- what is left of a disk that obeys is left of one that tells besides
+pub heeded-left : (tells obeys : Bool) (old new : DiskSeen) → IsLeftOf obeys old new → IsLeftOf (heeds tells obeys) old new
+heeded-left tells obeys old new l = record { counts = l.counts; due = λ both. l.due (heeds-obeys tells obeys both) }
 
 -- 2. The entry of a node's turn
 
@@ -68,6 +70,23 @@ may-call m n (event.Process u p said) is = refl
 may-call m n (event.Activate u how p) is = refl
 may-call m n (event.Store u clock how p) is = refl
 may-call m n _ is = absurd is
+
+arms-nothing : (n m : ℕ) (v : Event) (clock : ℕ) (due : Due) → IsNodeTurn m v → due_behind n v clock due ≡ due
+arms-nothing n m (event.Request k a b refused) clock due is = refl
+arms-nothing n m (event.Reply k a b name why values) clock due is = refl
+arms-nothing n m (event.Start k u p) clock due is = refl
+arms-nothing n m (event.Process u p said) clock due is = refl
+arms-nothing n m (event.Activate u how p) clock due is = refl
+arms-nothing n m (event.Store u c how p) clock due is = refl
+arms-nothing n m _ clock due is = absurd is
+
+-- the disk is left by what the turn shows of it
+pub shown-left : (obeys : Bool) (n m : ℕ) (v : Event) (old new : DiskSeen) → IsNodeTurn m v → ShowsCounts obeys n v old new
+    → IsLeftOf obeys old new
+shown-left obeys n m v old new turn s = record {
+  counts = none-falls obeys n v old new s;
+  due = λ does. s.due does ∙ arms-nothing n m v old.counts.clock old.due turn;
+}
 
 not-true : {A : Type 0} (b : Bool) → b ≡ false → IsTrue b → A
 not-true b off on = absurd (let bad : false ≡ true = sym off ∙ on in cc bad)
@@ -176,26 +195,19 @@ module _ {T D : Type 0} (seen : T → Seen) (look : D → DiskSeen) (old new : P
           (subst (λ k. EntryShows obeys k e x y) (sym at) here)
       go false is = same-place (EntryShows obeys m e) _ _ (same m is) (λ d. others m d number is)
 
-  pub keeps-besides : (n : ℕ) (x y : DiskSeen) → HasEight new → AreSeated new → before n ≡ Some x → behind n ≡ Some y
-      → NoneFalls x.counts y.counts → ((m : ℕ) → (m == n) ≡ false → behind m ≡ before m) → KeepsDisks seen look old new
-  keeps-besides n x y eight seated was now here same = record { eight = eight; seated = seated; counts = each }
+  pub keeps-besides : (obeys : Bool) (n : ℕ) (x y : DiskSeen) → HasEight new → AreSeated new → before n ≡ Some x → behind n ≡ Some y
+      → IsLeftOf obeys x y → ((m : ℕ) → (m == n) ≡ false → behind m ≡ before m) → KeepsDisks obeys seen look old new
+  keeps-besides obeys n x y eight seated was now here same = record { eight = eight; seated = seated; left = each }
     where
-      each : (m : ℕ) → IsNumber m → IfSome (seen_at seen look (place_at old m)) (λ a.
-          IfSome (seen_at seen look (place_at new m)) (λ b. NoneFalls (disk_of a).counts (disk_of b).counts))
-      each m number = each-if (λ a b. NoneFalls (disk_of a).counts (disk_of b).counts) (seen_at seen look (place_at old m))
-          (seen_at seen look (place_at new m)) (go (m == n) refl)
+      each : (m : ℕ) → IsNumber m → AreLeft obeys (seen_at seen look (place_at old m)) (seen_at seen look (place_at new m))
+      each m number = go (m == n) refl
         where
-          go : (b : Bool) → (m == n) ≡ b → IfSome (seen_at seen look (place_at old m)) (λ a.
-              IsSomeAnd (seen_at seen look (place_at new m)) (λ b. NoneFalls (disk_of a).counts (disk_of b).counts))
+          go : (b : Bool) → (m == n) ≡ b → AreLeft obeys (seen_at seen look (place_at old m)) (seen_at seen look (place_at new m))
           go true is = let at : m ≡ n = eqb-true m n is in
-              of-place m (λ d e. NoneFalls d.counts e.counts) _ _ x y (ap before at ∙ was) (ap behind at ∙ now) here
-          go false is = same-place (λ d e. NoneFalls d.counts e.counts) _ _ (same m is) (λ d. none-fell d.counts)
+              each-if (λ a b. IsLeftOf obeys (disk_of a) (disk_of b)) (seen_at seen look (place_at old m))
+              (seen_at seen look (place_at new m)) (of-place m (IsLeftOf obeys) _ _ x y (ap before at ∙ was) (ap behind at ∙ now) here)
+          go false is = level-left obeys (seen_at seen look (place_at old m)) (seen_at seen look (place_at new m)) (same m is)
 
-  pub keeps-level : HasEight new → AreSeated new → SameDisks (in_hand seen look old) (in_hand seen look new) → KeepsDisks seen look old new
-  keeps-level eight seated same = record {
-    eight = eight;
-    seated = seated;
-    counts = λ m number. each-if (λ a b. NoneFalls (disk_of a).counts (disk_of b).counts) (seen_at seen look (place_at old m))
-        (seen_at seen look (place_at new m))
-        (same-place (λ d e. NoneFalls d.counts e.counts) _ _ (same m) (λ d. none-fell d.counts));
-  }
+  pub keeps-level : (obeys : Bool) → HasEight new → AreSeated new → SameDisks (in_hand seen look old) (in_hand seen look new)
+      → KeepsDisks obeys seen look old new
+  keeps-level obeys eight seated same = level-keeps obeys seen look old new (record { eight = eight; seated = seated }) same

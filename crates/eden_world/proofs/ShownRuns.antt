@@ -10,12 +10,13 @@ use Rattle.journal.specs.Faults.{number_of, shows_fault, shows_stop}
 use Rattle.journal.specs.Standing.{DiskRun}
 use Rattle.journal.specs.Run.{Position, Step, EachStep, lead, steps}
 use Rattle.disk_faults.specs.Runs.{EntryShows, RunShows}
-use Rattle.disk_faults.specs.Shows.{NoneFalls, count_behind}
+use Rattle.disk_faults.specs.Shows.{IsLeftOf, NoneFalls, count_behind}
 use Rattle.disk_faults.proofs.Commands.{has-commands, left-armed, shows-clocks}
 use Rattle.disk_faults.proofs.Entries.{entry-elsewhere}
 use Rattle.disk_faults.proofs.Sums.{entry-level, falls-none, level}
 use Rattle.runs.specs.Machines.{IsLeft, Leaves, Shows, ShowsAll, ShowsOne, ShowsPart, Whole, is_idle}
 use Rattle.eden_world.specs.Legal.{disk_run}
+use Rattle.eden_world.proofs.Untouched.{left-same}
 use Rattle.eden_world.proofs.IdleSteps.{IsStill, StillIfIdle, idle-no_fault, idle-no_stop, idle-shows_none}
 
 -- 1. What is seen of the disk of node n before it and behind it: where it is there before, it is there behind
@@ -25,9 +26,9 @@ abbrev pub EachShown : {M : Type 0} → Bool → ℕ → Shows M → (M → Opti
 EachShown obeys n shows disk = (old new : _) (e : Entry) → shows old e new
     → IfSome (disk old) (λ a. IsSomeAnd (disk new) (λ b. EntryShows obeys n e a b))
 
--- and no count of it falls where no memory was found
-abbrev pub EachLeft : {M : Type 0} → Leaves M → (M → Option DiskSeen) → Type 0
-EachLeft leaves disk = (old new : _) → leaves old new → IfSome (disk old) (λ a. IfSome (disk new) (λ b. NoneFalls a.counts b.counts))
+-- and it is left where no memory was found
+abbrev pub EachLeft : {M : Type 0} → Bool → Leaves M → (M → Option DiskSeen) → Type 0
+EachLeft obeys leaves disk = (old new : _) → leaves old new → IfSome (disk old) (λ a. IfSome (disk new) (IsLeftOf obeys a))
 
 -- 2. Its counts of faults and stops, whatever the entries touched
 
@@ -157,22 +158,23 @@ shows-each obeys told n shows disk each history first last x y was is all =
     (rose-all obeys n shows disk each history first last (ap is_some was) all) in
     record { faults = rose.faults; stops = rose.stops }
 
--- behind the last entry no count fell
-not-fallen : {M : Type 0} (whole : Whole M) (leaves : Leaves M) (disk : M → Option DiskSeen) → EachLeft leaves disk → (old new : M)
-    (a b : DiskSeen) → disk old ≡ Some a → disk new ≡ Some b → IsLeft whole leaves old new → NoneFalls a.counts b.counts
-not-fallen whole leaves disk each old new a b was is (inl left) =
-    subst (λ (q : Option DiskSeen). IfSome q (λ d. NoneFalls a.counts d.counts)) is
-    (subst (λ (q : Option DiskSeen). IfSome q (λ c. IfSome (disk new) (λ d. NoneFalls c.counts d.counts))) was (each old new left))
-not-fallen whole leaves disk each old new a b was is (inr same) =
-    level a.counts b.counts (ap (λ (d : DiskSeen). d.counts)
-    (let equal : Some b ≡ Some a = sym is ∙ ap disk same.0 ∙ was in let these : b ≡ a = cc equal in these))
+-- behind the last entry the disk is left
+is-left : {M : Type 0} (obeys : Bool) (whole : Whole M) (leaves : Leaves M) (disk : M → Option DiskSeen) → EachLeft obeys leaves disk
+    → (old new : M) (a b : DiskSeen) → disk old ≡ Some a → disk new ≡ Some b → IsLeft whole leaves old new → IsLeftOf obeys a b
+is-left obeys whole leaves disk each old new a b was is (inl left) =
+    subst (λ (q : Option DiskSeen). IfSome q (IsLeftOf obeys a)) is
+    (subst (λ (q : Option DiskSeen). IfSome q (λ c. IfSome (disk new) (IsLeftOf obeys c))) was (each old new left))
+is-left obeys whole leaves disk each old new a b was is (inr same) =
+    let equal : Some b ≡ Some a = sym is ∙ ap disk same.0 ∙ was in
+    let these : b ≡ a = cc equal in
+    subst (IsLeftOf obeys a) (sym these) (left-same obeys a)
 
 at-least : (shown before mid after : ℕ) → RoseBy shown before mid → mid ≤ after → after < 2 ^ 64 - 1 → before + shown ≤ after
 at-least shown before mid after rose low below = let is : mid ≡ before + shown = rose (omega (arith, low, below)) in omega (arith, is, low)
 
 -- none is made up
 pub shows-no_more : {M : Type 0} (obeys told : Bool) (n : ℕ) (shows : Shows M) (whole : Whole M) (leaves : Leaves M)
-    (disk : M → Option DiskSeen) → EachShown obeys n shows disk → EachLeft leaves disk → (history : List Entry) (first last : M)
+    (disk : M → Option DiskSeen) → EachShown obeys n shows disk → EachLeft obeys leaves disk → (history : List Entry) (first last : M)
     (x y : DiskSeen) → disk first ≡ Some x → disk last ≡ Some y → ShowsPart shows whole leaves first history last
     → ShowsNoMore history n (disk_run told x y)
 shows-no_more obeys told n shows whole leaves disk each left history first last x y was is (between, all, rest) =
@@ -184,7 +186,7 @@ shows-no_more obeys told n shows whole leaves disk each left history first last 
         ∙ both-there (RoseAll history n) (disk first) (disk between) both in cc bad)
     go (Some m) there both =
         let rose = both-at (RoseAll history n) (disk first) (disk between) x m was there both in
-        let falls = not-fallen whole leaves disk left between last m y there is rest in
+        let falls = (is-left obeys whole leaves disk left between last m y there is rest).counts in
         record {
           faults = λ below. at-least (number_of (shows_fault n) history) x.counts.faults m.counts.faults y.counts.faults rose.faults
               falls.faults below;
@@ -252,12 +254,14 @@ pub armed-shown : {M : Type 0} (obeys : Bool) (n : ℕ) (shows : Shows M) (disk 
     → disk first ≡ Some x → disk last ≡ Some y → EachStep (λ past s. StillIfIdle s) [] (steps p history)
     → ShowsAll shows first history last → IsLeftArmed (steps p history) n (disk_run obeys x y)
 armed-shown obeys n shows disk some each p history first last x y was is still all =
-    left-armed n p history (disk_run obeys x y) y (run-to obeys n shows disk some each p history first last x y was is still all) refl
+    left-armed n p history (disk_run obeys x y) y (run-to obeys n shows disk some each p history first last x y was is still all)
+    (λ does. refl)
 
--- and where no memory was found behind them, each has its command all the same, and the clocks are as they were
+-- and where no memory was found behind them, each has its command all the same, the clocks are as they were, and it is armed as they asked
 pub record PartShows (p : Position) (history : List Entry) (n : ℕ) (d : DiskRun) : Type 0 where
   pub commands : EachHasItsCommand (steps p history) n d
   pub counted : EachShowsClockBefore (steps p history) n d
+  pub armed : IsLeftArmed (steps p history) n d
 
 pub clocks-shown : {M : Type 0} (obeys : Bool) (n : ℕ) (shows : Shows M) (disk : M → Option DiskSeen) → (0 == n) ≡ false
     → EachShown obeys n shows disk → (p : Position) (history : List Entry) (first last : M) (x y : DiskSeen)
@@ -267,7 +271,7 @@ clocks-shown obeys n shows disk some each p history first last x y was is still 
     shows-clocks n p history (disk_run obeys x y) y (run-to obeys n shows disk some each p history first last x y was is still all)
 
 pub part-shown : {M : Type 0} (obeys : Bool) (n : ℕ) (shows : Shows M) (whole : Whole M) (leaves : Leaves M) (disk : M → Option DiskSeen)
-    → (0 == n) ≡ false → EachShown obeys n shows disk → EachLeft leaves disk → (p : Position) (history : List Entry) (first last : M)
+    → (0 == n) ≡ false → EachShown obeys n shows disk → EachLeft obeys leaves disk → (p : Position) (history : List Entry) (first last : M)
     (x y : DiskSeen) → disk first ≡ Some x → disk last ≡ Some y → EachStep (λ past s. StillIfIdle s) [] (steps p history)
     → ShowsPart shows whole leaves first history last → PartShows p history n (disk_run obeys x y)
 part-shown obeys n shows whole leaves disk some each left p history first last x y was is still (between, all, rest) =
@@ -281,8 +285,9 @@ part-shown obeys n shows whole leaves disk some each left p history first last x
         ∙ both-there (RunShows obeys n (steps p history)) (disk first) (disk between) both in cc bad)
     go (Some m) there =
         let run = both-at (RunShows obeys n (steps p history)) (disk first) (disk between) x m was there both in
+        let behind = is-left obeys whole leaves disk left between last m y there is rest in
         record {
-          commands = has-commands (steps p history) n (disk_run obeys x y) m run
-              (not-fallen whole leaves disk left between last m y there is rest);
+          commands = has-commands (steps p history) n (disk_run obeys x y) m run behind.counts;
           counted = shows-clocks n p history (disk_run obeys x y) m run;
+          armed = left-armed n p history (disk_run obeys x y) m run (λ does. sym (behind.due does));
         }

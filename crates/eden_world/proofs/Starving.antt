@@ -119,7 +119,7 @@ module _ (layout : Layout) (n told : ℕ) (s : Site) (noted : Option Doubt) (d :
 pub put-starves : (layout : Layout) (told n : ℕ) (w : World) (it : Node) (noted : Option Doubt) (d y : DiskSeen) (note : BootNote)
     → node_at w n ≡ Some it → NextInDoubt it
     → RestStands layout n told (site_of w n it) noted d.counts.size d.counts.clock d.told
-    → BootsPut layout n (site_of w n it) d.told d.counts.clock note y.told y.counts.clock
+    → BootsPut layout n told (site_of w n it) d.told d.counts.clock note y.told y.counts.clock
     → EndsOnDisk layout n w (unfinished w) d.told d.counts.clock y.told y.counts.clock
 put-starves layout told n w it noted d y note at next rests b = ends-unfinished layout n w it d.told y.told d.counts.clock y.counts.clock at
     (λ m h. past-last it d.counts.clock m rests.its_clock h) b.timed

@@ -72,6 +72,6 @@ looks-up tells layout seen look old new name directory component (Ok e) looked =
 pub looks-starved : {T D E : Type 0} (tells : Bool) (layout : Layout) (seen : T → Seen) (look : D → DiskSeen) (old new : Program T D)
     (directory : Option Cap) (component : List ℕ) (r : Result Entry E) → IfErr r (λ _. EndsStill tells layout seen look old new)
     → IfErr r (λ _. (more : ℕ) (w : World) → IsReached w → Stands tells layout seen look old (suc more) w → IfSome directory (IsNamed w)
-    → IsText component → Ends layout seen look old w new)
+    → IsText component → Ends layout seen look old more w new)
 looks-starved tells layout seen look old new directory component (Ok e) still = tt
-looks-starved tells layout seen look old new directory component (Err why) still = λ more w reached h named text. still (suc more) w h
+looks-starved tells layout seen look old new directory component (Err why) still = λ more w reached h named text. still more w h

@@ -142,7 +142,7 @@ module _ {T D : Type 0} (tells : Bool) (layout : Layout) (seen : T → Seen) (lo
     }
 
     -- where there was no memory behind it
-    pub stop-ends : Ends layout seen look old w new
+    pub stop-ends : Ends layout seen look old more w new
     stop-ends = stop-starves layout more (hand old) (hand mid) (hand new) w n ev a b stood.world reached.sites number
         (ap (seen_at seen look) x.was) stops reseated same
 

@@ -24,7 +24,7 @@ use Rattle.eden_world.specs.declared.seats.Seat.{Seat as Place}
 use Rattle.eden_world.specs.declared.seats.Seat.TheVariants as place
 use Rattle.eden_world.specs.declared.turns.TurnTaken.{TurnTaken}
 use Rattle.eden_world.proofs.Placing.{swaps-again, whole-behind}
-use Rattle.eden_world.proofs.ShownDisks.{none-falls, still-shown}
+use Rattle.eden_world.proofs.ShownDisks.{heeded-left, shown-left, still-shown}
 use Rattle.eden_world.proofs.Stopping.{stop-ends, stop-takes}
 use Rattle.eden_world.proofs.TakingTurns.{takes-up}
 use Rattle.eden_world.proofs.Turned.{turned-keeps, turned-shows, turned-whole}
@@ -89,9 +89,10 @@ module _ {T D : Type 0} (tells obeys : Bool) (layout : Layout) (seen : T → See
       stops-starved more w reached stood there = stop-ends tells layout seen look key.station key x.was x.now left.disk left.noted old mid
           last new.calls taken.event gone fits (says-so turn_end.Down stopped) refl left.left same more w reached stood there
 
-      pub stops-keeps : HasEight last → AreSeated last → KeepsDisks seen look old last
+      pub stops-keeps : HasEight last → AreSeated last → KeepsDisks (heeds tells obeys) seen look old last
       stops-keeps eight seated = turned-keeps seen look key.station x.was seat (seen x.now.node.store).disk old.calls old mid last gone fits
-          (ap (λ d. Some d) left.left.disk) same eight seated (none-falls obeys _ taken.event _ _ x.turned.shows)
+          (ap (λ d. Some d) left.left.disk) same (heeds tells obeys) eight seated
+          (heeded-left tells obeys _ _ (shown-left obeys _ _ taken.event _ _ x.turned.event x.turned.shows))
 
       module _ (names : List (List ℕ)) (e : Entry) (is : e.event ≡ taken.event)
           (shows : ShowsIf (turn_touches taken.event taken.before taken.after) key.station taken.after e) where

@@ -12,7 +12,7 @@ use Rattle.journal.specs.declared.event.Event.{Event}
 use Rattle.journal.specs.declared.event.Key.{Key}
 use Rattle.journal.specs.Sites.{IsSoundSite}
 use Rattle.journal.specs.World.{Site, site_of}
-use Rattle.disk_faults.specs.Shows.{ShowsCounts, NoneFalls}
+use Rattle.disk_faults.specs.Shows.{IsLeftOf, ShowsCounts}
 use Rattle.eden_kernel.specs.DiskTurns.{Starves}
 use Rattle.eden_kernel.specs.Stands.{held, IsWhole, NodeStands}
 use Rattle.scheduled_node.specs.Touched.{IsNodeTurn}
@@ -74,8 +74,9 @@ module _ {T D : Type 0} (seen : T → Seen) (look : D → DiskSeen) (n : ℕ) (s
       turn_here : IsNodeTurn n v
       turn_here = subst (λ k. IsNodeTurn k v) its_number turn
 
-  pub turned-keeps : HasEight new → AreSeated new → NoneFalls disk.counts y.counts → KeepsDisks seen look old new
-  turned-keeps eight seated fell = keeps-besides seen look old new n disk y eight seated (ap shown x.was) now_is fell others_same
+  pub turned-keeps : (obeys : Bool) → HasEight new → AreSeated new → IsLeftOf obeys disk y → KeepsDisks obeys seen look old new
+  turned-keeps obeys eight seated left =
+      keeps-besides seen look old new obeys n disk y eight seated (ap shown x.was) now_is left others_same
 
 -- 3. There was no memory for it
 

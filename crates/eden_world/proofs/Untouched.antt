@@ -1,5 +1,5 @@
 -- What a call leaves of the disks, and what its entry shows of them, where it touched none.
-use Rattle.std.proofs.Common.{◌≡◌, ◌==◌, ℕ, Bool, false, length, Option, None, Some, sym, ◌∙◌, ap, subst, arith}
+use Rattle.std.proofs.Common.{◌≡◌, ◌==◌, ℕ, Bool, false, length, Option, None, Some, refl, sym, ◌∙◌, ap, subst, arith}
 use Rattle.std.specs.Prelude.{IfSome, IsSomeAnd}
 use Rattle.std.specs.Option.{option_map}
 use Rattle.eden_disk.specs.Calls.{Counts}
@@ -8,7 +8,7 @@ use Rattle.journal.specs.declared.event.Entry.{Entry}
 use Rattle.journal.specs.declared.event.Event.{Event}
 use Rattle.disk_faults.specs.Elsewhere.{shown_of}
 use Rattle.disk_faults.specs.Runs.{EntryShows}
-use Rattle.disk_faults.specs.Shows.{NoneFalls}
+use Rattle.disk_faults.specs.Shows.{IsLeftOf, NoneFalls}
 use Rattle.disk_faults.proofs.Entries.{entry-elsewhere}
 use Rattle.eden_world.specs.InHand.{in_hand, place_at, seen_at}
 use Rattle.eden_world.specs.Seated.{EachShows, FitsTogether, IsSeated, KeepsDisks}
@@ -19,27 +19,30 @@ use Rattle.eden_world.specs.declared.World.{World as Program}
 use Rattle.eden_world.proofs.Numbers.{not-zero}
 use Rattle.eden_world.proofs.Placing.{same-places}
 
--- 1. The counts
+-- 1. What is left
 
 pub none-fall : (k : Counts) → NoneFalls k k
 none-fall k = record { clock = omega arith; faults = omega arith; stops = omega arith; wants = omega arith }
 
+pub left-same : (obeys : Bool) (d : DiskSeen) → IsLeftOf obeys d d
+left-same obeys d = record { counts = none-fall d.counts; due = λ does. refl }
+
 -- of the disks of a place before and behind it
-abbrev pub FallsNone : Option Seat → Option Seat → Type 0
-FallsNone o p = IfSome o (λ a. IfSome p (λ b. NoneFalls (disk_of a).counts (disk_of b).counts))
+abbrev pub AreLeft : Bool → Option Seat → Option Seat → Type 0
+AreLeft obeys o p = IfSome o (λ a. IfSome p (λ b. IsLeftOf obeys (disk_of a) (disk_of b)))
 
-pub level-counts : (o p : Option Seat) → option_map disk_of p ≡ option_map disk_of o → FallsNone o p
-level-counts None p same = tt
-level-counts (Some a) None same = tt
-level-counts (Some a) (Some b) same = let is : disk_of b ≡ disk_of a = cc same in
-    subst (λ (d : DiskSeen). NoneFalls (disk_of a).counts d.counts) (sym is) (none-fall (disk_of a).counts)
+pub level-left : (obeys : Bool) (o p : Option Seat) → option_map disk_of p ≡ option_map disk_of o → AreLeft obeys o p
+level-left obeys None p same = tt
+level-left obeys (Some a) None same = tt
+level-left obeys (Some a) (Some b) same = let is : disk_of b ≡ disk_of a = cc same in
+    subst (IsLeftOf obeys (disk_of a)) (sym is) (left-same obeys (disk_of a))
 
-pub level-keeps : {T D : Type 0} (seen : T → Seen) (look : D → DiskSeen) (old new : Program T D) → IsSeated new
-    → SameDisks (in_hand seen look old) (in_hand seen look new) → KeepsDisks seen look old new
-level-keeps seen look old new seated same = record {
+pub level-keeps : {T D : Type 0} (obeys : Bool) (seen : T → Seen) (look : D → DiskSeen) (old new : Program T D) → IsSeated new
+    → SameDisks (in_hand seen look old) (in_hand seen look new) → KeepsDisks obeys seen look old new
+level-keeps obeys seen look old new seated same = record {
   eight = seated.eight;
   seated = seated.seated;
-  counts = λ n number. level-counts (seen_at seen look (place_at old n)) (seen_at seen look (place_at new n)) (same n);
+  left = λ n number. level-left obeys (seen_at seen look (place_at old n)) (seen_at seen look (place_at new n)) (same n);
 }
 
 -- 2. What is shown
@@ -80,10 +83,10 @@ still-seated seen old new fits same nodes = record {
   seated = λ n at. fits.seated n (sym (same-places new old same n) ∙ at);
 }
 
-pub still-keeps : {T D : Type 0} (seen : T → Seen) (look : D → DiskSeen) (old new : Program T D) → FitsTogether seen old
-    → new.seats ≡ old.seats → new.places.nodes ≡ old.places.nodes → KeepsDisks seen look old new
-still-keeps seen look old new fits same nodes =
-    level-keeps seen look old new (still-seated seen old new fits same nodes) (same-disks seen look old new same)
+pub still-keeps : {T D : Type 0} (obeys : Bool) (seen : T → Seen) (look : D → DiskSeen) (old new : Program T D) → FitsTogether seen old
+    → new.seats ≡ old.seats → new.places.nodes ≡ old.places.nodes → KeepsDisks obeys seen look old new
+still-keeps obeys seen look old new fits same nodes =
+    level-keeps obeys seen look old new (still-seated seen old new fits same nodes) (same-disks seen look old new same)
 
 pub still-shows : {T D : Type 0} (obeys : Bool) (seen : T → Seen) (look : D → DiskSeen) (old new : Program T D) (e : Entry) (v : Event)
     → new.seats ≡ old.seats → e.event ≡ v → shown_of v ≡ 0 → TouchesNone e → EachShows obeys seen look old e new

@@ -46,7 +46,7 @@ CarriesBy tells layout seen disk old new c e = (more : ℕ) (w : World) → IsRe
 -- There was no memory for it: each disk did what the end of a run may do.
 abbrev pub Starves : {T D : Type 0} → Bool → Layout → (T → Seen) → (D → DiskSeen) → Program T D → Program T D → Command → Type 0
 Starves tells layout seen disk old new c = (more : ℕ) (w : World) → IsReached w → Stands tells layout seen disk old (suc more) w
-    → IsFitIn w c → Ends layout seen disk old w new
+    → IsFitIn w c → Ends layout seen disk old more w new
 
 -- 2. Calls of the shell
 
@@ -80,8 +80,8 @@ LooksUpBy tells layout seen disk old new name directory component e = (more : �
 
 -- no disk was touched, and the run ends: whatever was to be done in this world
 abbrev pub EndsStill : {T D : Type 0} → Bool → Layout → (T → Seen) → (D → DiskSeen) → Program T D → Program T D → Type 0
-EndsStill tells layout seen disk old new = (more : ℕ) (w : World) → Stands tells layout seen disk old more w → Ends layout seen disk old w
-    new
+EndsStill tells layout seen disk old new = (more : ℕ) (w : World) → Stands tells layout seen disk old (suc more) w
+    → Ends layout seen disk old more w new
 
 -- 3. Commands of one node
 

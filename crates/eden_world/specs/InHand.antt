@@ -73,6 +73,6 @@ pub record Stands {T D : Type 0} (tells : Bool) (layout : Layout) (seen : T → 
 abbrev pub Did : {T D : Type 0} → Layout → (T → Seen) → (D → DiskSeen) → Program T D → Step → Program T D → Type 0
 Did layout seen disk old s new = EachDisk layout s (in_hand seen disk old) (in_hand seen disk new)
 
--- and behind the last entry, where memory was wanting
-abbrev pub Ends : {T D : Type 0} → Layout → (T → Seen) → (D → DiskSeen) → Program T D → World → Program T D → Type 0
-Ends layout seen disk old w new = EachEnds layout w (in_hand seen disk old) (in_hand seen disk new)
+-- and behind the last entry, where memory was wanting; the room of what is left is told for so many changes
+abbrev pub Ends : {T D : Type 0} → Layout → (T → Seen) → (D → DiskSeen) → Program T D → ℕ → World → Program T D → Type 0
+Ends layout seen disk old more w new = EachEnds layout more w (in_hand seen disk old) (in_hand seen disk new)

@@ -15,7 +15,7 @@ use Rattle.journal.specs.World.{Site}
 use Rattle.journal.specs.declared.event.Entry.{Entry}
 use Rattle.journal.specs.declared.event.Event.TheVariants as event
 use Rattle.checkpoint.specs.Asked.{noted_in}
-use Rattle.disk_faults.specs.Shows.{ShowsCounts, NoneFalls}
+use Rattle.disk_faults.specs.Shows.{IsLeftOf, ShowsCounts}
 use Rattle.disk_faults.specs.Runs.{EntryShows}
 use Rattle.eden_kernel.specs.Stands.{Held, held, NodeStands}
 use Rattle.eden_kernel.specs.Turns.{Crashes}
@@ -141,12 +141,12 @@ pub record IsSeated {T D : Type 0} (p : Program T D) : Type 0 where
   pub eight : HasEight p
   pub seated : AreSeated p
 
--- No memory was found: each disk is at its place, and no count of it fell.
-pub record KeepsDisks {T D : Type 0} (seen : T → Seen) (look : D → DiskSeen) (old new : Program T D) : Type 0 where
+-- No memory was found: each disk is at its place, no count of it fell, and if it obeys it is armed as before.
+pub record KeepsDisks {T D : Type 0} (obeys : Bool) (seen : T → Seen) (look : D → DiskSeen) (old new : Program T D) : Type 0 where
   pub eight : HasEight new
   pub seated : AreSeated new
-  pub counts : (n : ℕ) → IsNumber n → IfSome (seen_at seen look (place_at old n)) (λ a.
-      IfSome (seen_at seen look (place_at new n)) (λ b. NoneFalls (disk_of a).counts (disk_of b).counts))
+  pub left : (n : ℕ) → IsNumber n → IfSome (seen_at seen look (place_at old n)) (λ a.
+      IfSome (seen_at seen look (place_at new n)) (λ b. IsLeftOf obeys (disk_of a) (disk_of b)))
 
 -- what is shown of a disk was due, if it tells and obeys
 abbrev pub heeds : Bool → Bool → Bool

@@ -3,6 +3,7 @@ use Rattle.std.specs.Prelude.{◌≡◌, ◌⊎◌, ◌≤◌, ◌==◌, ◌+◌
 use Rattle.std.specs.Prelude.{Option, None, Some, is_some, IsSomeAnd}
 use Rattle.capability.specs.declared.Cap.{Cap}
 use Rattle.eden_disk.specs.Calls.{Counts, DeviceCalls}
+use Rattle.eden_disk.specs.Told.{contents, LeavesOnly}
 use Rattle.eden_model.specs.Map.{same_text}
 use Rattle.invocation.specs.Mail.{Mail}
 use Rattle.passive_store.specs.Kept.{Layout}
@@ -20,6 +21,7 @@ use Rattle.journal.specs.World.{World, Site, Node, Meaning, node_at, site_of, re
 use Rattle.journal.specs.Sites.{AllSound, IsSoundSite}
 use Rattle.journal.specs.Step.{Allows, StoreClock, next, touched, touches_store}
 use Rattle.journal.specs.Run.{Step, AllowsLookUp, IsPlain, looked_up}
+use Rattle.journal.specs.Opening.{IsToldFor}
 use Rattle.journal.specs.Standing.{unfinished}
 use Rattle.checkpoint.specs.Throughout.{StepOnDisk, EndsOnDisk}
 use Rattle.eden_kernel.specs.DiskTurns.{call_of_request}
@@ -191,11 +193,15 @@ TurnsGo = (layout : Layout) (more : ℕ) (old new : InHand) (w : World) (n : ℕ
 
 -- 5. Want of memory: there is no entry, and the run ends
 
--- what the disk of a place did behind the last entry
-abbrev pub SeatEnds : Layout → ℕ → World → Option Seat → Option Seat → Type 0
-SeatEnds layout n last old new = IsSomeAnd old (λ a. IsSomeAnd new (λ b.
-    EndsOnDisk layout n last (unfinished last) (disk_of a).told (disk_of a).counts.clock (disk_of b).told (disk_of b).counts.clock))
+-- what the disk of node n did behind the last entry, and the room of what a crash leaves of it, which is told for so many changes
+pub record DiskEnds (layout : Layout) (more n : ℕ) (last : World) (old new : DiskSeen) : Type 0 where
+  pub ends : EndsOnDisk layout n last (unfinished last) old.told old.counts.clock new.told new.counts.clock
+  pub room : LeavesOnly (IsToldFor layout n more) (contents new.told)
+
+-- the disk of a place
+abbrev pub SeatEnds : Layout → ℕ → ℕ → World → Option Seat → Option Seat → Type 0
+SeatEnds layout more n last old new = IsSomeAnd old (λ a. IsSomeAnd new (λ b. DiskEnds layout more n last (disk_of a) (disk_of b)))
 
 -- each of the eight
-abbrev pub EachEnds : Layout → World → InHand → InHand → Type 0
-EachEnds layout last old new = (n : ℕ) → IsNumber n → SeatEnds layout n last (old.seats n) (new.seats n)
+abbrev pub EachEnds : Layout → ℕ → World → InHand → InHand → Type 0
+EachEnds layout more last old new = (n : ℕ) → IsNumber n → SeatEnds layout more n last (old.seats n) (new.seats n)

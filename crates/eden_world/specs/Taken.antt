@@ -33,4 +33,4 @@ TakesAtEach tells layout seen look old new key e = AtEach tells layout seen look
 
 -- where memory was wanting each disk did what it may behind the last entry
 abbrev pub StarvesAtEach : {T D : Type 0} → Bool → Layout → (T → Seen) → (D → DiskSeen) → Program T D → Program T D → Key → Type 0
-StarvesAtEach tells layout seen look old new key = AtEach tells layout seen look old key (λ more w. Ends layout seen look old w new)
+StarvesAtEach tells layout seen look old new key = AtEach tells layout seen look old key (λ more w. Ends layout seen look old more w new)

@@ -11,7 +11,7 @@ use Rattle.journal.specs.declared.event.Key.{Key}
 use Rattle.journal.specs.Sites.{IsSoundSite}
 use Rattle.journal.specs.World.{Site}
 use Rattle.checkpoint.specs.Touches.{ReadsByCalls}
-use Rattle.disk_faults.specs.Shows.{ShowsCounts, NoneFalls}
+use Rattle.disk_faults.specs.Shows.{IsLeftOf, ShowsCounts}
 use Rattle.ejects.specs.Creations.{MayTurn}
 use Rattle.ejects.specs.Replies.{Reaches}
 use Rattle.eden_kernel.specs.DiskTurns.{IsWholeBehind, Starves}
@@ -71,19 +71,19 @@ pub record TurnsThere {T D : Type 0} (tells obeys : Bool) (layout : Layout) (see
   pub stands : new ≡ place.Up now
   pub turned : NodeTurned tells obeys layout seen was now ts m places later key taken
 
--- there was no memory for the turn of the node that was up there: it stands there, with a disk of which no count fell
-pub record StarvesUp {T D : Type 0} (tells : Bool) (layout : Layout) (seen : T → Seen) (ts : TypeList) (m : Mail) (s : ScheduledNode T D)
+-- there was no memory for the turn of the node that was up there: it stands there, and its disk is left
+pub record StarvesUp {T D : Type 0} (tells obeys : Bool) (layout : Layout) (seen : T → Seen) (ts : TypeList) (m : Mail) (s : ScheduledNode T D)
     (new : Place T D) : Type 0 where
   pub now : ScheduledNode T D
   pub stands : new ≡ place.Up now
-  pub counts : NoneFalls (seen s.node.store).disk.counts (seen now.node.store).disk.counts
+  pub left : IsLeftOf obeys (seen s.node.store).disk (seen now.node.store).disk
   pub starves : IsTrue tells → IsLayout layout → (site : Site) → IsSoundSite site → 1 ≤ (seen s.node.store).more
       → NodeStands layout ts (held seen s.node) m site → Starves layout site (seen s.node.store) (seen now.node.store)
 
 -- or no node was up there, and nothing changed
-pub record StarvesThere {T D : Type 0} (tells : Bool) (layout : Layout) (seen : T → Seen) (ts : TypeList) (m : Mail)
+pub record StarvesThere {T D : Type 0} (tells obeys : Bool) (layout : Layout) (seen : T → Seen) (ts : TypeList) (m : Mail)
     (old new : Place T D) : Type 0 where
-  pub up : (s : ScheduledNode T D) → old ≡ place.Up s → StarvesUp tells layout seen ts m s new
+  pub up : (s : ScheduledNode T D) → old ≡ place.Up s → StarvesUp tells obeys layout seen ts m s new
   pub idle : station_in (Some old) ≡ None → new ≡ old
 
 -- 3. In a program

@@ -79,7 +79,7 @@ where
         ensures shows { let look = disk_seen St.Device.counts St.Device.told St.Device.due in
             IfOk result (λ e. EachShows (heeds St.Device.tells St.Device.obeys) St.seen look self.old e self.new) }
         ensures leaves { let look = disk_seen St.Device.counts St.Device.told St.Device.due in
-            OnErr result (KeepsDisks St.seen look self.old self.new) }
+            OnErr result (KeepsDisks (heeds St.Device.tells St.Device.obeys) St.seen look self.old self.new) }
     {
         if !self.is_up(node) {
             return Ok(entry_of_none(alloc, Event::Still { node, up: false }));
@@ -107,7 +107,7 @@ where
         ensures shows { let look = disk_seen St.Device.counts St.Device.told St.Device.due in
             IfOk result (λ e. EachShows (heeds St.Device.tells St.Device.obeys) St.seen look self.old e self.new) }
         ensures leaves { let look = disk_seen St.Device.counts St.Device.told St.Device.due in
-            OnErr result (KeepsDisks St.seen look self.old self.new) }
+            OnErr result (KeepsDisks (heeds St.Device.tells St.Device.obeys) St.seen look self.old self.new) }
     {
         let broken = self.cut(alloc, a, b)?;
         Ok(Entry {
@@ -135,7 +135,7 @@ where
         ensures shows { let look = disk_seen St.Device.counts St.Device.told St.Device.due in
             IfOk result (λ e. EachShows (heeds St.Device.tells St.Device.obeys) St.seen look self.old e self.new) }
         ensures leaves { let look = disk_seen St.Device.counts St.Device.told St.Device.due in
-            OnErr result (KeepsDisks St.seen look self.old self.new) }
+            OnErr result (KeepsDisks (heeds St.Device.tells St.Device.obeys) St.seen look self.old self.new) }
     {
         self.places.set_link(a, b, true);
         let event = Event::Link { a, b, joined: true };
@@ -154,7 +154,7 @@ where
         ensures shows { let look = disk_seen St.Device.counts St.Device.told St.Device.due in
             IfOk result (λ e. EachShows (heeds St.Device.tells St.Device.obeys) St.seen look self.old e self.new) }
         ensures leaves { let look = disk_seen St.Device.counts St.Device.told St.Device.due in
-            OnErr result (KeepsDisks St.seen look self.old self.new) }
+            OnErr result (KeepsDisks (heeds St.Device.tells St.Device.obeys) St.seen look self.old self.new) }
     {
         let seat = armed(self.unseat(node), what);
         self.set_seat(node, seat);
@@ -201,7 +201,7 @@ where
         ensures shows { let look = disk_seen St.Device.counts St.Device.told St.Device.due in
             IfOk result (λ e. EachShows (heeds St.Device.tells St.Device.obeys) St.seen look self.old e self.new) }
         ensures leaves { let look = disk_seen St.Device.counts St.Device.told St.Device.due in
-            OnErr result (KeepsDisks St.seen look self.old self.new) }
+            OnErr result (KeepsDisks (heeds St.Device.tells St.Device.obeys) St.seen look self.old self.new) }
     {
         match command {
             Command::Create {

@@ -48,7 +48,7 @@ where
         ensures starved { let look = disk_seen St.Device.counts St.Device.told St.Device.due in
             IfErr result (λ _. EndsStill St.Device.tells St.layout St.seen look self.old self.new) }
         ensures leaves { let look = disk_seen St.Device.counts St.Device.told St.Device.due in
-            OnErr result (KeepsDisks St.seen look self.old self.new) }
+            OnErr result (KeepsDisks (heeds St.Device.tells St.Device.obeys) St.seen look self.old self.new) }
     {
         match self.unseat(node) {
             Seat::Up { mut station } => {
@@ -75,7 +75,7 @@ where
         ensures starved { let look = disk_seen St.Device.counts St.Device.told St.Device.due in
             IfErr result (λ _. EndsStill St.Device.tells St.layout St.seen look self.old self.new) }
         ensures leaves { let look = disk_seen St.Device.counts St.Device.told St.Device.due in
-            OnErr result (KeepsDisks St.seen look self.old self.new) }
+            OnErr result (KeepsDisks (heeds St.Device.tells St.Device.obeys) St.seen look self.old self.new) }
     {
         match edentypes::find(&self.types, type_name) {
             Some(kind) if self.places.reach(0, node) && self.is_up(node) => {
@@ -102,7 +102,7 @@ where
         ensures shows { let look = disk_seen St.Device.counts St.Device.told St.Device.due in
             IfOk result (λ e. EachShows (heeds St.Device.tells St.Device.obeys) St.seen look self.old e self.new) }
         ensures leaves { let look = disk_seen St.Device.counts St.Device.told St.Device.due in
-            OnErr result (KeepsDisks St.seen look self.old self.new) }
+            OnErr result (KeepsDisks (heeds St.Device.tells St.Device.obeys) St.seen look self.old self.new) }
     {
         let made = self.create_reached(alloc, node, type_name)?;
         let (status, uid) = ended(made);

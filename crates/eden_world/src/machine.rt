@@ -29,7 +29,7 @@ where
 
     ghost enables = { HasTurn St.seen };
 
-    ghost leaves = { KeepsDisks St.seen (disk_seen St.Device.counts St.Device.told St.Device.due) };
+    ghost leaves = { KeepsDisks (heeds St.Device.tells St.Device.obeys) St.seen (disk_seen St.Device.counts St.Device.told St.Device.due) };
 
     fn following(&self, last: Option<Key>) -> Option<Key> {
         self.key_following(last)

@@ -28,7 +28,7 @@ where
         ensures shows { let look = disk_seen St.Device.counts St.Device.told St.Device.due in
             IfOk result (λ e. EachShows (heeds St.Device.tells St.Device.obeys) St.seen look self.old e self.new) }
         ensures leaves { let look = disk_seen St.Device.counts St.Device.told St.Device.due in
-            OnErr result (KeepsDisks St.seen look self.old self.new) }
+            OnErr result (KeepsDisks (heeds St.Device.tells St.Device.obeys) St.seen look self.old self.new) }
     {
         let event = self.names.hold(alloc, name, uid)?;
         Ok(entry_of_none(alloc, event))
@@ -51,7 +51,7 @@ where
         ensures shows { let look = disk_seen St.Device.counts St.Device.told St.Device.due in
             IfOk result (λ e. EachShows (heeds St.Device.tells St.Device.obeys) St.seen look self.old e self.new) }
         ensures leaves { let look = disk_seen St.Device.counts St.Device.told St.Device.due in
-            OnErr result (KeepsDisks St.seen look self.old self.new) }
+            OnErr result (KeepsDisks (heeds St.Device.tells St.Device.obeys) St.seen look self.old self.new) }
     {
         let event = self.names.restrict(alloc, name, target, mask)?;
         Ok(entry_of_none(alloc, event))

@@ -59,7 +59,7 @@ where
     requires has { IsSomeAnd (station_in (Some seat.old)) (λ s. NodeHasTurn types.now (held St.seen s.node) calls.old key) }
     ensures turns { IfOk result (λ t. TurnsThere St.Device.tells St.Device.obeys St.layout St.seen types.now places.now key
         t seat.old calls.old seat.new calls.new) }
-    ensures starves { IfErr result (λ e. StarvesThere St.Device.tells St.layout St.seen types.now calls.old seat.old seat.new) }
+    ensures starves { IfErr result (λ e. StarvesThere St.Device.tells St.Device.obeys St.layout St.seen types.now calls.old seat.old seat.new) }
 {
     match seat {
         Seat::Up { station } => {
@@ -102,7 +102,7 @@ where
         ensures shows { IfOk result (λ e. EachShows (heeds St.Device.tells St.Device.obeys) St.seen
             (disk_seen St.Device.counts St.Device.told St.Device.due) self.old e self.new) }
         ensures leaves { let look = disk_seen St.Device.counts St.Device.told St.Device.due in
-            OnErr result (KeepsDisks St.seen look self.old self.new) }
+            OnErr result (KeepsDisks (heeds St.Device.tells St.Device.obeys) St.seen look self.old self.new) }
     {
         let Some(message) = self.calls.first(from, 0) else {
             unreachable!()
@@ -146,7 +146,7 @@ where
         ensures starved { IfErr result (λ e. StarvesAtEach St.Device.tells St.layout St.seen
             (disk_seen St.Device.counts St.Device.told St.Device.due) self.old self.new key) }
         ensures leaves { let look = disk_seen St.Device.counts St.Device.told St.Device.due in
-            OnErr result (KeepsDisks St.seen look self.old self.new) }
+            OnErr result (KeepsDisks (heeds St.Device.tells St.Device.obeys) St.seen look self.old self.new) }
     {
         match self.seats.get_mut(usize::from(key.station) - 1) {
             Some(seat) => turn_in(seat, alloc, &self.types, &mut self.calls, &self.places, key),
@@ -168,7 +168,7 @@ where
         ensures shows { IfOk result (λ e. EachShows (heeds St.Device.tells St.Device.obeys) St.seen
             (disk_seen St.Device.counts St.Device.told St.Device.due) self.old e self.new) }
         ensures leaves { let look = disk_seen St.Device.counts St.Device.told St.Device.due in
-            OnErr result (KeepsDisks St.seen look self.old self.new) }
+            OnErr result (KeepsDisks (heeds St.Device.tells St.Device.obeys) St.seen look self.old self.new) }
     {
         if !self.may_ask() {
             return Err(AllocError);
@@ -204,7 +204,7 @@ where
         ensures shows { IfOk result (λ e. EachShows (heeds St.Device.tells St.Device.obeys) St.seen
             (disk_seen St.Device.counts St.Device.told St.Device.due) self.old e self.new) }
         ensures leaves { let look = disk_seen St.Device.counts St.Device.told St.Device.due in
-            OnErr result (KeepsDisks St.seen look self.old self.new) }
+            OnErr result (KeepsDisks (heeds St.Device.tells St.Device.obeys) St.seen look self.old self.new) }
     {
         if key.station == 0 {
             return self.hear(alloc, key.sender);

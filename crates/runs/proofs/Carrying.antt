@@ -1,5 +1,5 @@
 -- Commands where they are due, all boots, and then all commands.
-use Rattle.std.proofs.Common.{◌≡◌, ◌<◌, ℕ, suc, ◌+◌, ◌-◌, true, false, List, [], ◌∷◌, length, get_or, drop, drop-cons, add-one, Some}
+use Rattle.std.proofs.Common.{◌≡◌, ◌<◌, ◌≤◌, ℕ, suc, ◌+◌, ◌-◌, true, false, List, [], ◌∷◌, length, get_or, drop, drop-cons, add-one, Some}
 use Rattle.std.proofs.Common.{refl, sym, ◌∙◌, ap, subst, arith}
 use Rattle.std.specs.List.{All}
 use Rattle.std.proofs.lemmas.List.Elements.{All-nil}
@@ -19,7 +19,7 @@ use Rattle.runs.specs.Runs.{Origin, IsOn, due_in, TookCommand, TakesCommand, Com
 use Rattle.runs.specs.Runs.{MayBegin}
 use Rattle.runs.specs.Runs.{IsCutShort, CarriesAll, CarriesPart}
 use Rattle.runs.specs.declared.run.Run.{Run}
-use Rattle.runs.proofs.Leading.{on-push, ends-short}
+use Rattle.runs.proofs.Leading.{on-push, ends-short, short-less}
 
 -- 1. Commands of one entry
 
@@ -69,7 +69,7 @@ module _ {M : Type 0} (stands : Stands M) (did : Did M) where
     fails-single starved fails same o others w cs fit on =
         let at = single-on o others w cs on in
         let here = due_in w (command_is c) cs in
-        ends-short stands did o starved (suc others) old new here at same (fails o others here fit at)
+        ends-short stands did o starved (suc others) others old new here at (omega arith) same (fails o others here fit at)
 
 -- 2. All boots, and all commands
 
@@ -153,9 +153,12 @@ module _ {M : Type 0} (stands : Stands M) (did : Did M) (starved : Starved M) (o
       )
 
   -- memory was wanting
-  cut-short : (new : Run M) (opening : World) (types : List (List ℕ)) → EndsShort did starved (origin opening types) new
-      → IsCutShort did starved old.machine new opening nodes cs
-  cut-short new opening types short = record { begins = short.leads; came = short.came }
+  cut-short : (new : Run M) (opening : World) (types : List (List ℕ)) (others spare : ℕ) → spare ≤ others
+      → EndsShort stands did starved (origin opening types) others new
+      → IsCutShort stands did starved old.machine new opening nodes cs spare
+  cut-short new opening types others spare enough short =
+      let less = short-less stands did starved (origin opening types) others spare new enough short in
+      record { begins = less.leads; came = less.came }
 
   pub booting-fails : (mid new : Run M) (done : ℕ) → done < nodes → IsBooting mid done
       → CommandFails stands did starved mid new (command.Restart (done + 1))
@@ -166,8 +169,8 @@ module _ {M : Type 0} (stands : Stands M) (did : Did M) (starved : Starved M) (o
       let others = (nodes - (done + 1)) + (entries_in cs + spare) in
       let here = due_in r.0 (boots (done + 1) (nodes - (done + 1))) cs in
       let on = boot-on mid done o r.0 spare lt r.1 in
-      cut-short new opening types (ends-short stands did o starved (suc others) mid new here on same (fails o others here
-      (restart-fits types done lt) on))
+      cut-short new opening types others spare (omega arith) (ends-short stands did o starved (suc others) others mid new here on (omega arith)
+      same (fails o others here (restart-fits types done lt) on))
 
   pub carrying-start : (now : Run M) → IsBooting now nodes → IsCarrying now cs
   carrying-start now b opening types spare at = let r = b opening types spare at in (
@@ -202,7 +205,8 @@ module _ {M : Type 0} (stands : Stands M) (did : Did M) (starved : Starved M) (o
       → ((types : List (List ℕ)) → All (IsFitCommand types nodes) cs → IsFitCommand types nodes c)
       → IsCarrying mid (c ∷ left) → PartOfCommand stands did starved mid new c → CarriesPart stands did starved old new nodes cs
   carrying-part mid new c left fit k part opening types spare at = let r = k opening types spare at in
-      cut-short new opening types (part (origin opening types) (entries_in left + spare) r.0 left (fit types at.commands)
+      cut-short new opening types (entries_in left + spare) spare (omega arith)
+      (part (origin opening types) (entries_in left + spare) r.0 left (fit types at.commands)
       (room-on mid (origin opening types) c left spare (at_commands r.0 (c ∷ left)) r.1))
 
   fit-at : (i : ℕ) (c : Command) → i < length cs → c ≡ get_or cs i c → (types : List (List ℕ)) → All (IsFitCommand types nodes) cs

@@ -228,10 +228,10 @@ kept-next w e = record {
 
 -- 6. Before the first event nothing is in doubt
 
-node-next : (n size : ℕ) (found : Result (List (Uid × List ℕ)) ℕ) (overfull : Bool) (ledger : List ℕ)
-    → NextInDoubt (node_from n size found overfull ledger)
-node-next n size (Ok kept) overfull ledger = tt
-node-next n size (Err place) overfull ledger = tt
+node-next : (n size : ℕ) (found : Result (List (Uid × List ℕ)) ℕ) (overfull untold : Bool) (ledger : List ℕ)
+    → NextInDoubt (node_from n size found overfull untold ledger)
+node-next n size (Ok kept) overfull untold ledger = tt
+node-next n size (Err place) overfull untold ledger = tt
 
 opening-next : (layout : Layout) (disks : List (ℕ × DiskRun)) (n : ℕ) (it : Node)
     → value_at nat_cmp n (map (λ d. (d.0, node_of layout d)) (images disks)) ≡ Some it → NextInDoubt it
@@ -240,7 +240,7 @@ opening-next layout disks n it is = go (value_at nat_cmp n disks) refl (disk-nod
     go : (o : Option DiskRun) → value_at nat_cmp n disks ≡ o → IsSomeAnd o (λ d. node_of layout (n, (contents d.before).now) ≡ it)
         → NextInDoubt it
     go None at x = absurd x
-    go (Some d) at x = subst NextInDoubt x (node-next n _ (found_in layout n (contents d.before).now) _ _)
+    go (Some d) at x = subst NextInDoubt x (node-next n _ (found_in layout n (contents d.before).now) _ _ _)
 
 -- 7. The law
 

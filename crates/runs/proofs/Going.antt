@@ -92,7 +92,7 @@ module _ {M : Type 0} (stands : Stands M) (did : Did M) (old : Run M) (n : ℕ) 
   going-fails starved mid new left g fails same o others w cs on =
       let r = g o others w cs on in
       let here = due_in r.0 (turns (suc left)) cs in
-      ends-short stands did o starved others mid new here r.1 same (fails o others here r.1)
+      ends-short stands did o starved others others mid new here r.1 (omega arith) same (fails o others here r.1)
 
 -- 3. The turn of the key at a place
 
@@ -104,7 +104,8 @@ module _ {M : Type 0} (stands : Stands M) (did : Did M) (old new : Run M) (i : �
 
   pub turn-fails : (starved : Starved M) → TurnFails stands did starved old new → new.history.items ≡ old.history.items
       → PartOfDue stands did starved old new (turn_is i)
-  turn-fails starved fails same o others w cs on = ends-short stands did o starved others old new (due_in w (turn_is i) cs) on same
+  turn-fails starved fails same o others w cs on =
+      ends-short stands did o starved others others old new (due_in w (turn_is i) cs) on (omega arith) same
       (fails o others (due_in w (turn_is i) cs) on)
 
 -- 4. As commands: they need no room besides that of turns

@@ -1,7 +1,7 @@
 -- One more entry of a run: a turn or a command.
 use Rattle.std.proofs.Common.{◌≡◌, ◌≤◌, ◌<◌, ℕ, zero, suc, ◌+◌, ◌-◌, Bool, true, false, cond, List, [], ◌∷◌, ◌++◌, length, Option, None}
 use Rattle.std.proofs.Common.{Some}
-use Rattle.std.proofs.Common.{refl, sym, ◌∙◌, ap, subst, arith, inl}
+use Rattle.std.proofs.Common.{refl, sym, ◌∙◌, ap, subst, arith, inl, inr}
 use Rattle.std.specs.Prelude.{is_some, slice_get, ◌%◌, Result, Ok, Err, OnOk, OnErr, IsTrue}
 use Rattle.std.proofs.lemmas.Bool.Decides.{nat_tests}
 use Rattle.std.specs.List.{Contains, find, filter_map}
@@ -19,8 +19,9 @@ use Rattle.journal.specs.Fit.{IsFitCommand}
 use Rattle.journal.specs.Run.{Position, Step, IdleIf, idle, IsDue, Leads, end_of, lead, steps, is_spent, taken_key, most_turns}
 use Rattle.runs.specs.Reached.{IsReached, IsFitIn}
 use Rattle.runs.specs.Machines.{Stands, Did, Starved, Shows, Whole, Leaves}
-use Rattle.runs.specs.Machines.{step, plain, TakesKey, CarriesOut, StandsWith, DidStep, DidAll, DidPart, ShowsOne, ShowsAll, IsLeft}
-use Rattle.runs.specs.Runs.{Origin, room, IsOn, Repeats, chosen_by, Took, TookCommand, Failed, EndsShort, KeepsShown, KeepsShownSoFar}
+use Rattle.runs.specs.Machines.{step, plain, TakesKey, CarriesOut, StandsWith, DidStep, DidAll, DidPart, Failed, ShowsOne, ShowsAll}
+use Rattle.runs.specs.Machines.{IsLeft}
+use Rattle.runs.specs.Runs.{Origin, room, IsOn, Repeats, chosen_by, Took, TookCommand, EndsShort, KeepsShown, KeepsShownSoFar}
 use Rattle.runs.specs.declared.run.Choice.{Choice}
 use Rattle.runs.specs.declared.run.Choice.TheVariants.{Following, Item}
 use Rattle.runs.specs.declared.run.Run.{Run}
@@ -165,12 +166,18 @@ module _ {M : Type 0} (stands : Stands M) (did : Did M) (o : Origin M) where
   }
 
   -- memory was wanting before the entry
-  pub ends-short : (starved : Starved M) (others : ℕ) (old new : Run M) (p : Position) → IsOn stands did o others old p
-      → new.history.items ≡ old.history.items → Failed starved old.machine new.machine p.world → EndsShort did starved o new
-  ends-short starved others old new p on same failed = record {
+  pub ends-short : (starved : Starved M) (others least : ℕ) (old new : Run M) (p : Position) → IsOn stands did o others old p
+      → least ≤ others → new.history.items ≡ old.history.items → Failed starved least old.machine new.machine p.world
+      → EndsShort stands did starved o least new
+  ends-short starved others least old new p on enough same failed = record {
     leads = subst (Leads o.start) (sym same) on.leads;
-    came = subst (λ h. DidPart did starved o.first (steps o.start h) (end_of o.start h).world new.machine) (sym same)
-        (old.machine, on.came, subst (λ (x : Position). Failed starved old.machine new.machine x.world) (sym on.at) failed);
+    came = subst (λ h. DidPart stands did starved least o.first (steps o.start h) (end_of o.start h).world new.machine) (sym same) (
+      old.machine,
+      on.came,
+      subst (λ (x : Position). StandsWith stands old.machine least x.world) (sym on.at)
+          (on.machine.0, omega (arith, enough, on.machine.1), on.machine.2),
+      subst (λ (x : Position). Failed starved least old.machine new.machine x.world) (sym on.at) failed,
+    );
   }
 
 -- 5. One turn
@@ -303,15 +310,37 @@ module _ {M : Type 0} (stands : Stands M) (did : Did M) (o : Origin M) (others :
 module _ {M : Type 0} (stands : Stands M) (did : Did M) (starved : Starved M) (o : Origin M) (others : ℕ)
     (old : Run M) (new : M) (p : Position) where
   pub turn-starved : IsOn stands did o others old p → old.turns < 100000
-      → ((more : ℕ) → stands old.machine (suc more) p.world → starved old.machine p.world new) → Failed starved old.machine new p.world
+      → ((more : ℕ) → stands old.machine (suc more) p.world → starved old.machine more p.world new)
+      → Failed starved others old.machine new p.world
   turn-starved on few begun = less-room stands old.machine ((most_turns - (old.turns + 1)) + others) p.world
-      (Failed starved old.machine new p.world)
-      (on.machine.0, omega (arith, few, on.machine.1), on.machine.2) (λ more le at. inl (begun more at))
+      (Failed starved others old.machine new p.world)
+      (on.machine.0, omega (arith, few, on.machine.1), on.machine.2) (λ more le at. inl (more, omega (arith, le), begun more at))
 
   pub begun-starved : IsOn stands did o (suc others) old p
-      → ((more : ℕ) → stands old.machine (suc more) p.world → starved old.machine p.world new) → Failed starved old.machine new p.world
-  begun-starved on begun = less-room stands old.machine (room old others) p.world (Failed starved old.machine new p.world)
-      (on.machine.0, omega (arith, on.machine.1), on.machine.2) (λ more le at. inl (begun more at))
+      → ((more : ℕ) → stands old.machine (suc more) p.world → starved old.machine more p.world new)
+      → Failed starved others old.machine new p.world
+  begun-starved on begun = less-room stands old.machine (room old others) p.world (Failed starved others old.machine new p.world)
+      (on.machine.0, omega (arith, on.machine.1), on.machine.2) (λ more le at. inl (more, omega (arith, le), begun more at))
+
+-- with room for fewer
+pub failed-less : {M : Type 0} (starved : Starved M) (least fewer : ℕ) (old new : M) (w : World) → fewer ≤ least
+    → Failed starved least old new w → Failed starved fewer old new w
+failed-less starved least fewer old new w less (inl begun) = inl (begun.0, omega (arith, less, begun.1), begun.2)
+failed-less starved least fewer old new w less (inr same) = inr same
+
+pub short-less : {M : Type 0} (stands : Stands M) (did : Did M) (starved : Starved M) (o : Origin M) (least fewer : ℕ) (run : Run M)
+    → fewer ≤ least → EndsShort stands did starved o least run → EndsShort stands did starved o fewer run
+short-less stands did starved o least fewer run less short =
+    let (between, all, stood, failed) = short.came in
+    record {
+      leads = short.leads;
+      came = (
+        between,
+        all,
+        (stood.0, omega (arith, less, stood.1), stood.2),
+        failed-less starved least fewer between run.machine (end_of o.start run.history.items).world less failed,
+      );
+    }
 
 -- 8. What entries show
 

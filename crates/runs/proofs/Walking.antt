@@ -31,7 +31,7 @@ use Rattle.runs.specs.Walks.{looking, sent, asking, Asks, AskFails, Waits, PartO
 use Rattle.runs.specs.declared.run.Choice.TheVariants.{Following}
 use Rattle.runs.specs.declared.run.Run.{Run}
 use Rattle.runs.proofs.Counted.{look-up-kept}
-use Rattle.runs.proofs.Leading.{less-room, on-push, on-less, on-reached, ends-short}
+use Rattle.runs.proofs.Leading.{less-room, on-push, on-less, on-reached, ends-short, failed-less, short-less}
 use Rattle.runs.proofs.Going.{on-took}
 use Rattle.runs.proofs.Parts.{one-component}
 
@@ -197,7 +197,7 @@ module _ {M : Type 0} (stands : Stands M) (did : Did M) (old : Run M) (name : Li
   waiting-fails starved mid new waits fails same o others w more cs on =
       let r = waits o others w more cs on in
       let here = due_in r.0 (waits_for name call more) cs in
-      ends-short stands did o starved others mid new here r.1 same (fails o others here r.1)
+      ends-short stands did o starved others others mid new here r.1 (omega arith) same (fails o others here r.1)
 
 -- 3. The walk
 
@@ -262,8 +262,9 @@ module _ {M : Type 0} (stands : Stands M) (did : Did M) (starved : Starved M) (o
         → PartOfCommand stands did starved old new (command.Walk name target path)
     looking-fails new fails same o others w cs fit on =
         let r = next-asked o others w cs fit on in
-        ends-short stands did o starved (suc (length left + others)) mid new _ r.2 same
-        (fails o (length left + others) r.0 left cs r.1 (its-text o fit) r.2)
+        ends-short stands did o starved (suc (length left + others)) others mid new _ r.2 (omega arith) same
+        (failed-less starved (length left + others) others mid.machine new.machine r.0 (omega arith)
+        (fails o (length left + others) r.0 left cs r.1 (its-text o fit) r.2))
 
     pub looking-over : (new : Run M) → Asks stands did mid new name directory c None
         → CarriesCommand stands did old new (command.Walk name target path)
@@ -285,7 +286,8 @@ module _ {M : Type 0} (stands : Stands M) (did : Did M) (starved : Starved M) (o
           → PartOfCommand stands did starved old new (command.Walk name target path)
       waits-part new part o others w cs fit on =
           let r = call-sent o others w cs fit on in
-          part o (length left + others) r.0 left cs r.1
+          short-less stands did starved o (length left + others) others new (omega arith)
+          (part o (length left + others) r.0 left cs r.1)
 
       pub waits-over : (new : Run M) → Waits stands did sent_ new name call false
           → CarriesCommand stands did old new (command.Walk name target path)

@@ -20,9 +20,9 @@ Stands M = M → ℕ → World → Type 0
 abbrev pub Did : Type 0 → Type 1
 Did M = M → Step → M → Type 0
 
--- what was begun of a step in this world that want of memory ended
+-- what was begun of a step in this world that want of memory ended, with room for so many more entries behind it
 abbrev pub Starved : Type 0 → Type 1
-Starved M = M → World → M → Type 0
+Starved M = M → ℕ → World → M → Type 0
 
 -- what an entry shows of it
 abbrev pub Shows : Type 0 → Type 1
@@ -90,9 +90,15 @@ abbrev pub DidAll : {M : Type 0} → Did M → M → List Step → M → Type 0
 DidAll did first [] last = last ≡ first
 DidAll did first (s ∷ run) last = (between : _) × DidStep did first s between × DidAll did between run last
 
--- and where want of memory ended the run in this world: by each step up to there, and then by what was begun, if anything was
-abbrev pub DidPart : {M : Type 0} → Did M → Starved M → M → List Step → World → M → Type 0
-DidPart did starved first run w last = (between : _) × DidAll did first run between × (starved between w last ⊎ (last ≡ between))
+-- something was begun in this world, with room for so many more entries at least, or nothing was
+abbrev pub Failed : {M : Type 0} → Starved M → ℕ → M → M → World → Type 0
+Failed starved least old new w = ((more : ℕ) × (least ≤ more) × starved old more w new) ⊎ (new ≡ old)
+
+-- And where want of memory ended the run in this world: by each step up to there, where it stood for the world with room for so many more
+-- entries at least, and then by what was begun, if anything was.
+abbrev pub DidPart : {M : Type 0} → Stands M → Did M → Starved M → ℕ → M → List Step → World → M → Type 0
+DidPart stands did starved least first run w last =
+    (between : _) × DidAll did first run between × StandsWith stands between least w × Failed starved least between last w
 
 -- 4. What entries show of a machine, with no world
 

@@ -16,7 +16,7 @@ use Rattle.journal.specs.Run.{Position, Due, turns, Leads, end_of, steps, at_com
 use Rattle.journal.specs.Run.{most_turns, world_after}
 use Rattle.runs.specs.Reached.{IsReached, Offers}
 use Rattle.runs.specs.Machines.{Stands, Did, Starved, Shows, Whole, Leaves}
-use Rattle.runs.specs.Machines.{step, StandsWith, DidStep, DidAll, DidPart, ShowsAll, ShowsPart}
+use Rattle.runs.specs.Machines.{step, Failed, StandsWith, DidStep, DidAll, DidPart, ShowsAll, ShowsPart}
 use Rattle.runs.specs.Room.{entries_of, most_entries}
 use Rattle.runs.specs.declared.run.Run.{Run}
 use Rattle.runs.specs.declared.run.Choice.{Choice}
@@ -104,19 +104,15 @@ abbrev pub TakesCommand : {M : Type 0} → Stands M → Did M → Run M → Run 
 TakesCommand stands did old new c = (o : Origin _) (others : ℕ) (p : Position) → IsFitCommand o.types o.nodes c
     → IsOn stands did o (suc others) old p → (e : Entry) × TookCommand stands did others old new p.world c e
 
--- memory was wanting: there is no entry, and nothing became of the machine but what was begun
-abbrev pub Failed : {M : Type 0} → Starved M → M → M → World → Type 0
-Failed starved old new w = starved old w new ⊎ (new ≡ old)
-
 -- memory was wanting in a turn: wherever the old run stands, nothing became of its machine but what was begun
 abbrev pub TurnFails : {M : Type 0} → Stands M → Did M → Starved M → Run M → Run M → Type 0
 TurnFails stands did starved old new = (o : Origin _) (others : ℕ) (p : Position) → IsOn stands did o others old p
-    → Failed starved old.machine new.machine p.world
+    → Failed starved others old.machine new.machine p.world
 
 -- the same of this command where it is fit, and the old run stands with room for one entry more
 abbrev pub CommandFails : {M : Type 0} → Stands M → Did M → Starved M → Run M → Run M → Command → Type 0
 CommandFails stands did starved old new c = (o : Origin _) (others : ℕ) (p : Position) → IsFitCommand o.types o.nodes c
-    → IsOn stands did o (suc others) old p → Failed starved old.machine new.machine p.world
+    → IsOn stands did o (suc others) old p → Failed starved others old.machine new.machine p.world
 
 -- 3. What is due
 
@@ -126,10 +122,13 @@ gone_on true zero w cs = at_commands w cs
 gone_on true (suc n) w cs = due_in w (turns (suc n)) cs
 gone_on false n w cs = at_commands w cs
 
--- where memory was wanting the history leads on from the start, and the machine came to what it is by its steps and what was begun
-pub record EndsShort {M : Type 0} (did : Did M) (starved : Starved M) (o : Origin M) (run : Run M) : Type 0 where
+-- where memory was wanting the history leads on from the start, and the machine came to what it is by its steps and what was begun, with
+-- room for so many other entries
+pub record EndsShort {M : Type 0} (stands : Stands M) (did : Did M) (starved : Starved M) (o : Origin M) (others : ℕ) (run : Run M)
+    : Type 0 where
   pub leads : Leads o.start run.history.items
-  pub came : DidPart did starved o.first (steps o.start run.history.items) (end_of o.start run.history.items).world run.machine
+  pub came : DidPart stands did starved others o.first (steps o.start run.history.items) (end_of o.start run.history.items).world
+      run.machine
 
 -- all that is due here was carried out, and the next command is to be begun
 abbrev pub DoesDue : {M : Type 0} → Stands M → Did M → Run M → Run M → Due → Type 0
@@ -140,7 +139,7 @@ DoesDue stands did old new due = (o : Origin _) (others : ℕ) (w : World) (cs :
 -- what is due here was carried out up to where memory was wanting
 abbrev pub PartOfDue : {M : Type 0} → Stands M → Did M → Starved M → Run M → Run M → Due → Type 0
 PartOfDue stands did starved old new due = (o : Origin _) (others : ℕ) (w : World) (cs : List Command)
-    → IsOn stands did o others old (due_in w due cs) → EndsShort did starved o new
+    → IsOn stands did o others old (due_in w due cs) → EndsShort stands did starved o others new
 
 -- 4. Commands
 
@@ -153,7 +152,7 @@ CarriesCommand stands did old new c = (o : Origin _) (others : ℕ) (w : World) 
 -- the next command, where it is fit, was carried out up to where memory was wanting
 abbrev pub PartOfCommand : {M : Type 0} → Stands M → Did M → Starved M → Run M → Run M → Command → Type 0
 PartOfCommand stands did starved old new c = (o : Origin _) (others : ℕ) (w : World) (cs : List Command) → IsFitCommand o.types o.nodes c
-    → IsOn stands did o (entries_of c + others) old (at_commands w (c ∷ cs)) → EndsShort did starved o new
+    → IsOn stands did o (entries_of c + others) old (at_commands w (c ∷ cs)) → EndsShort stands did starved o others new
 
 -- 5. What entries show, whatever world the machine stands for
 
@@ -189,11 +188,12 @@ pub record IsDone {M : Type 0} (stands : Stands M) (did : Did M) (first : M) (ru
   pub came : DidAll did first (steps (beginning opening nodes cs) run.history.items) run.machine
   pub stays : StandsWith stands run.machine spare (world_after opening nodes cs run.history.items)
 
--- The history follows the script so far. The machine came to what it is by its steps, and what was begun when memory was wanting.
-pub record IsCutShort {M : Type 0} (did : Did M) (starved : Starved M) (first : M) (run : Run M) (opening : World) (nodes : ℕ)
-    (cs : List Command) : Type 0 where
+-- The history follows the script so far. The machine came to what it is by its steps, and what was begun when memory was wanting, with room
+-- for what was to spare.
+pub record IsCutShort {M : Type 0} (stands : Stands M) (did : Did M) (starved : Starved M) (first : M) (run : Run M) (opening : World)
+    (nodes : ℕ) (cs : List Command) (spare : ℕ) : Type 0 where
   pub begins : FollowsSoFar opening nodes cs run.history.items
-  pub came : DidPart did starved first (steps (beginning opening nodes cs) run.history.items)
+  pub came : DidPart stands did starved spare first (steps (beginning opening nodes cs) run.history.items)
       (world_after opening nodes cs run.history.items) run.machine
 
 -- over whatever opening world the old run may begin with these commands, the new one is done with them
@@ -204,4 +204,4 @@ CarriesAll stands did old new nodes cs = (opening : World) (types : List (List �
 -- over whatever opening world the old run may begin with these commands, the new one was cut short for want of memory
 abbrev pub CarriesPart : {M : Type 0} → Stands M → Did M → Starved M → Run M → Run M → ℕ → List Command → Type 0
 CarriesPart stands did starved old new nodes cs = (opening : World) (types : List (List ℕ)) (spare : ℕ)
-    → MayBegin stands old opening types nodes cs spare → IsCutShort did starved old.machine new opening nodes cs
+    → MayBegin stands old opening types nodes cs spare → IsCutShort stands did starved old.machine new opening nodes cs spare

@@ -8,9 +8,9 @@ use Rattle.journal.specs.declared.event.Event.TheVariants as event
 use Rattle.journal.specs.World.{World}
 use Rattle.journal.specs.Run.{Position, looks_up, waits_for, at_commands, walked}
 use Rattle.runs.specs.Reached.{IsNamed}
-use Rattle.runs.specs.Runs.{Origin, IsOn, Failed, EndsShort, due_in}
+use Rattle.runs.specs.Runs.{Origin, IsOn, EndsShort, due_in}
 use Rattle.runs.specs.declared.run.Run.{Run}
-use Rattle.runs.specs.Machines.{Stands, Did, Starved}
+use Rattle.runs.specs.Machines.{Stands, Did, Starved, Failed}
 
 -- a walk that has these components left to look up, or none
 abbrev pub looking : World → List ℕ → Option Cap → List (List ℕ) → List Command → Position
@@ -39,7 +39,7 @@ Asks stands did old new name directory c call = (o : Origin _) (others : ℕ) (w
 abbrev pub AskFails : {M : Type 0} → Stands M → Did M → Starved M → Run M → Run M → List ℕ → Option Cap → List ℕ → Type 0
 AskFails stands did starved old new name directory c = (o : Origin _) (others : ℕ) (w : World) (more : List (List ℕ)) (cs : List Command)
     → IfSome directory (IsNamed w) → IsText c → IsOn stands did o (suc others) old (due_in w (looks_up name directory (c ∷ more)) cs)
-    → Failed starved old.machine new.machine w
+    → Failed starved others old.machine new.machine w
 
 -- 2. The answer is waited for
 
@@ -57,4 +57,4 @@ Waits stands did old new name call came = (o : Origin _) (others : ℕ) (w : Wor
 -- where the old run waits for this call, the new one took turns up to where memory was wanting
 abbrev pub PartOfWait : {M : Type 0} → Stands M → Did M → Starved M → Run M → Run M → List ℕ → ℕ → Type 0
 PartOfWait stands did starved old new name call = (o : Origin _) (others : ℕ) (w : World) (more : List (List ℕ)) (cs : List Command)
-    → IsOn stands did o others old (due_in w (waits_for name call more) cs) → EndsShort did starved o new
+    → IsOn stands did o others old (due_in w (waits_for name call more) cs) → EndsShort stands did starved o others new

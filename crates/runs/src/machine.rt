@@ -30,8 +30,8 @@ pub trait Machine {
     /// What a step did to it besides, from one state to the next.
     ghost did: { Self → Step → Self → Type 0 };
 
-    /// What was begun of a step in this world that want of memory ended: there is no entry.
-    ghost starved: { Self → World → Self → Type 0 };
+    /// What was begun of a step in this world that want of memory ended, with room for so many more entries behind it: there is no entry.
+    ghost starved: { Self → ℕ → World → Self → Type 0 };
 
     /// What an entry shows of it, for whatever world it stands or for none.
     ghost shows: { Self → Entry → Self → Type 0 };
@@ -66,7 +66,7 @@ pub trait Machine {
         ensures taken { IfOk result (λ e. (more : ℕ) (w : World) → IsReached w → stands self.old (suc more) w
             → Contains (enabled w) key → TakesKey stands did self.old self.new more w key e) }
         ensures starved { IfErr result (λ e. (more : ℕ) (w : World) → IsReached w → stands self.old (suc more) w
-            → Contains (enabled w) key → starved self.old w self.new) }
+            → Contains (enabled w) key → starved self.old more w self.new) }
         ensures shows { IfOk result (λ e. shows self.old e self.new) }
         ensures leaves { OnErr result (leaves self.old self.new) }
         ensures whole { OnOk result (whole self.new) };
@@ -79,7 +79,7 @@ pub trait Machine {
         ensures carried { IfOk result (λ e. (more : ℕ) (w : World) → IsReached w → stands self.old (suc more) w
             → IsFitIn w command.now → CarriesOut stands did self.old self.new more w command.now e) }
         ensures starved { IfErr result (λ e. (more : ℕ) (w : World) → IsReached w → stands self.old (suc more) w
-            → IsFitIn w command.now → starved self.old w self.new) }
+            → IsFitIn w command.now → starved self.old more w self.new) }
         ensures shows { IfOk result (λ e. shows self.old e self.new) }
         ensures leaves { OnErr result (leaves self.old self.new) }
         ensures whole { OnOk result (whole self.new) };
@@ -97,7 +97,7 @@ pub trait Machine {
             → IfSome directory (IsNamed w) → IsText component.now
             → LooksUp stands did self.old self.new more w name.now directory component.now e) }
         ensures starved { IfErr result (λ e. (more : ℕ) (w : World) → IsReached w → stands self.old (suc more) w
-            → IfSome directory (IsNamed w) → IsText component.now → starved self.old w self.new) }
+            → IfSome directory (IsNamed w) → IsText component.now → starved self.old more w self.new) }
         ensures shows { IfOk result (λ e. shows self.old e self.new) }
         ensures leaves { OnErr result (leaves self.old self.new) }
         ensures whole { OnOk result (whole self.new) };

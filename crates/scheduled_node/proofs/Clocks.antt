@@ -19,6 +19,11 @@ pub either-way : {X E : Type 0} (r : Result X E) (P : Type 0) (Q : X → Type 0)
 either-way (Ok x) P Q R ok err f g = f x ok
 either-way (Err e) P Q R ok err f g = g e err
 
+-- what holds of an answer in two ways
+pub both-ways : {X E : Type 0} (r : Result X E) (P Q : X → Type 0) → IfOk r P → IfOk r Q → IfOk r (λ x. P x × Q x)
+both-ways (Ok x) P Q p q = (p, q)
+both-ways (Err e) P Q p q = tt
+
 pub clock-delivered : (from n now : ℕ) (e : Event) → IsDelivery from n e → ShowsClock e now
 clock-delivered from n now (event.Request k a b refused) is = tt
 clock-delivered from n now (event.Reply k a b name why values) is = tt

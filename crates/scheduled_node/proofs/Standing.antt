@@ -1,5 +1,5 @@
 -- The agenda stands behind each turn, once the Ejects are noted that it was about.
-use Rattle.std.proofs.Common.{◌≡◌, ℕ, Bool, false, [], Option, None, Some, Result, Ok, Err, refl, sym, ◌∙◌, subst}
+use Rattle.std.proofs.Common.{◌≡◌, ◌≤◌, ◌+◌, ℕ, Bool, false, [], Option, None, Some, Result, Ok, Err, refl, sym, ◌∙◌, subst}
 use Rattle.std.specs.Prelude.{◌↔◌, IsTrue}
 use Rattle.capability.specs.declared.Uid.{Uid}
 use Rattle.eden_disk.specs.Told.{Told}
@@ -29,8 +29,10 @@ use Rattle.agenda.specs.Keys.{Indices, IsAgenda}
 use Rattle.agenda.specs.Marks.{MayBut}
 use Rattle.eden_kernel.specs.Boots.{IsAsleep, NodeBoots}
 use Rattle.eden_kernel.specs.Creations.{NodeCreates}
-use Rattle.eden_kernel.specs.DiskTurns.{EndsTurn, Starves}
-use Rattle.eden_kernel.specs.Stands.{Held, NodeStands}
+use Rattle.checkpoint.specs.Room.{KeepsRoom}
+use Rattle.checkpoint.proofs.Rooms.{kept-room}
+use Rattle.eden_kernel.specs.DiskTurns.{EndsTurn, IsWholeBehind, Starves}
+use Rattle.eden_kernel.specs.Stands.{Held, IsWhole, NodeStands}
 use Rattle.eden_kernel.specs.Turns.{Turns, clock_of, told_broken}
 use Rattle.eden_kernel.specs.declared.stores.TurnEnd.{TurnEnd}
 use Rattle.eden_kernel.specs.declared.stores.TurnEnd.TheVariants.{Up, Down}
@@ -147,6 +149,17 @@ allowed-by Down layout ts new later reach old s e turn = turn.allowed
 
 pub starves-behind : (how : TurnEnd) (layout : Layout) (ts : TypeList) (new : Held) (later : Mail) (reach : ℕ → Bool) (old : Held)
     (s : Site)
-    (e : Event) → EndsTurn how layout ts new later reach old s e → Starves layout s old.seen new.seen
-starves-behind Up layout ts new later reach old s e turn = record { timed = turn.disk.timed; moments = turn.disk.moments }
-starves-behind Down layout ts new later reach old s e turn = record { timed = turn.falls.disk.timed; moments = turn.falls.disk.moments }
+    (e : Event) → IsWholeBehind how new → IsWhole old → new.number ≡ old.number → old.seen.more ≤ new.seen.more + 1
+    → EndsTurn how layout ts new later reach old s e → Starves layout s old.seen new.seen
+starves-behind Up layout ts new later reach old s e whole was number enough turn = record {
+  timed = turn.disk.timed;
+  moments = turn.disk.moments;
+  room = subst (λ n. KeepsRoom layout n old.seen.more new.seen.disk.told) (sym whole.number ∙ number ∙ was.number)
+      (kept-room layout new.seen.node old.seen.more new.seen.more new.seen.kept _ new.seen.disk.told enough turn.stands.disk.stands);
+}
+starves-behind Down layout ts new later reach old s e whole was number enough turn = record {
+  timed = turn.falls.disk.timed;
+  moments = turn.falls.disk.moments;
+  room = kept-room layout old.seen.node old.seen.more new.seen.more turn.falls.rests.kept _ new.seen.disk.told enough
+      turn.falls.rests.stands;
+}

@@ -5,10 +5,10 @@ ghost use Rattle.passive_store.specs.Layout.{IsLayout};
 ghost use Rattle.journal.specs.Sites.{IsSoundSite};
 ghost use Rattle.journal.specs.World.{Site};
 ghost use Rattle.checkpoint.specs.Touches.{ReadsByCalls};
-ghost use Rattle.disk_faults.specs.Shows.{NoneFalls, ShowsCounts};
+ghost use Rattle.disk_faults.specs.Shows.{IsLeftOf, ShowsCounts};
 ghost use Rattle.ejects.specs.Creations.{MayTurn};
 ghost use Rattle.ejects.specs.Replies.{Reaches};
-ghost use Rattle.eden_kernel.specs.DiskTurns.{IsWholeBehind, Starves};
+ghost use Rattle.eden_kernel.specs.DiskTurns.{IsWholeBehind, Starves, StopsBy};
 ghost use Rattle.eden_kernel.specs.Stands.{held, IsWhole, NodeStands};
 ghost use Rattle.eden_kernel.specs.declared.stores.TurnEnd.TheVariants.{Down};
 ghost use Rattle.scheduled_node.specs.Keys.{HasTurn, IsKeyOf};
@@ -44,14 +44,14 @@ fn key_turn<St: Store>(
     ensures number { node.new.number ≡ node.old.number }
     ensures event { IfOk result (λ r. IsNodeTurn node.old.number r.0) }
     ensures calls { IfOk result (λ r. r.1 ≡ Down → calls.new ≡ calls.old) }
+    ensures stops { IfOk result (λ r. StopsBy r.1 (St.seen node.old.store).disk.counts (St.seen node.new.store).disk.counts) }
     ensures touches { IsTrue St.Device.tells → ReadsByCalls St.layout → IfOk result (λ r. (s : Site)
         → 1 ≤ (St.seen node.old.store).more → NodeStands St.layout types.now (held St.seen node.old) calls.old s
         → TurnTouches s r.0 (St.seen node.old.store).disk (St.seen node.new.store).disk) }
     ensures clock { IfOk result (λ r. ShowsClock r.0 (St.seen node.new.store).disk.counts.clock) }
     ensures shows { IfOk result (λ r. ShowsCounts St.Device.obeys node.old.number r.0
         (St.seen node.old.store).disk (St.seen node.new.store).disk) }
-    ensures counts { OnErr result
-        (NoneFalls (St.seen node.old.store).disk.counts (St.seen node.new.store).disk.counts) }
+    ensures left { OnErr result (IsLeftOf St.Device.obeys (St.seen node.old.store).disk (St.seen node.new.store).disk) }
     ensures more { IsTrue St.Device.tells → IfOk result (λ r. (s : Site) → 1 ≤ (St.seen node.old.store).more
         → NodeStands St.layout types.now (held St.seen node.old) calls.old s
         → (St.seen node.old.store).more ≤ (St.seen node.new.store).more + 1) }
@@ -123,6 +123,9 @@ impl<St: Store> ScheduledNode<St> {
         // No call knows yet of a disk that stopped.
         ensures calls { IfOk result (λ r. r.1 ≡ Down → calls.new ≡ calls.old) }
 
+        // Down comes exactly where the disk's count of stops rose, whatever the disk tells.
+        ensures stops { IfOk result (λ r. StopsBy r.1 (St.seen self.old.node.store).disk.counts (St.seen self.new.node.store).disk.counts) }
+
         // It makes device calls exactly where that turn of the node does.
         ensures touches { IsTrue St.Device.tells → ReadsByCalls St.layout → IfOk result (λ r. (s : Site)
             → 1 ≤ (St.seen self.old.node.store).more → NodeStands St.layout types.now (held St.seen self.old.node) calls.old s
@@ -133,8 +136,7 @@ impl<St: Store> ScheduledNode<St> {
         // What it shows of the disk was due, where that obeys.
         ensures shows { IfOk result (λ r. ShowsCounts St.Device.obeys self.old.node.number r.0
             (St.seen self.old.node.store).disk (St.seen self.new.node.store).disk) }
-        ensures counts { OnErr result
-            (NoneFalls (St.seen self.old.node.store).disk.counts (St.seen self.new.node.store).disk.counts) }
+        ensures left { OnErr result (IsLeftOf St.Device.obeys (St.seen self.old.node.store).disk (St.seen self.new.node.store).disk) }
 
         // Of the changes for which the room is told it takes one at most.
         ensures more { IsTrue St.Device.tells → IfOk result (λ r. (s : Site) → 1 ≤ (St.seen self.old.node.store).more

@@ -1,4 +1,4 @@
-use Rattle.std.proofs.Common.{List, Option, sym, subst, ◌∙◌}
+use Rattle.std.proofs.Common.{List, Option, sym, subst, ◌∙◌, arith}
 use Rattle.std.specs.Prelude.{is_some}
 use Rattle.eden_value.specs.Datum.{Datum}
 use Rattle.epl_syntax.specs.Edentype.{Edentype}
@@ -10,16 +10,16 @@ use Rattle.checkpoint.specs.Asked.{requests_of, pick_of}
 use Rattle.checkpoint.specs.Starting.{StartsTo, end_of_start, values_of}
 use Rattle.checkpoint.proofs.Activations.{any-err}
 use Rattle.ejects.specs.StoreEnds.{SettlesAt}
-use Rattle.eden_kernel.specs.DiskTurns.{EndsTurn, begun_as}
+use Rattle.eden_kernel.specs.DiskTurns.{EndsTurn, StopsBy, begun_as}
 use Rattle.eden_kernel.proofs.Activating.{apart-of, turn-activates}
 use Rattle.eden_kernel.proofs.Asleep.{asleep-for}
 use Rattle.eden_kernel.proofs.StoreTurn.{told-of}
-use Rattle.eden_kernel.proofs.Starving.{starves-started}
+use Rattle.eden_kernel.proofs.Starving.{starves-started, starves-unread}
 use Rattle.journal.specs.Step.{touches_start}
 use Rattle.checkpoint.specs.Calls.{MakesCalls}
 use Rattle.checkpoint.specs.Starting.{call_of_start}
 use Rattle.checkpoint.specs.Touches.{Touches, ObeyedIn, RaisesClock}
-use Rattle.eden_kernel.proofs.Showing.{shows-start, none-falls}
+use Rattle.eden_kernel.proofs.Showing.{left-behind, shows-start, stops-start}
 use Rattle.eden_kernel.proofs.Node.activate.Goals as goal
 
 pub returns-clause-turn : goal.returns-clause-turn
@@ -65,6 +65,15 @@ returns-clause-shows g c =
     (subst (λ e. RaisesClock (call_of_start e) x.disk.counts.clock y.disk.counts.clock) (sym c.in_ok-end.ensures.how)
     c.in_ok-start.ensures.raises)
 
+-- whether its disk stopped
+pub returns-clause-stops : goal.returns-clause-stops
+returns-clause-stops g c =
+    let x : Seen = g.St.Store.seen c.args.self.now.store in
+    let y : Seen = g.St.Store.seen c.start_from.new.store in
+    subst (λ b. StopsBy b x.disk.counts y.disk.counts) (sym c.end_behind.ensures)
+    (stops-start c.in_ok-end.end x.disk.counts y.disk.counts
+    (subst (λ e. MakesCalls x.disk.counts y.disk.counts (call_of_start e)) (sym c.in_ok-end.ensures.how) c.in_ok-start.ensures.calls))
+
 -- its event is of the node
 pub returns-clause-of_node : goal.returns-clause-of_node
 returns-clause-of_node g c = c.requires.may.own.0
@@ -79,15 +88,25 @@ returns-clause-touches g c = λ so law s h.
     (requests_of x.work n.worker.requests.items) h.disk)
 
 -- where there was no memory
-pub returns-in_err-start-clause-counts : goal.returns-in_err-start-clause-counts
-returns-in_err-start-clause-counts g c = any-err c.from_residual.result _
-    (let m = c.start_from.ensures.calls in none-falls m.made (g.St.Store.seen c.args.self.now.store).disk.counts
-    (g.St.Store.seen c.start_from.new.store).disk.counts _ m.counts)
+pub returns-in_err-start-clause-left : goal.returns-in_err-start-clause-left
+returns-in_err-start-clause-left g c = any-err c.from_residual.result _
+    (let m = c.start_from.ensures.calls in left-behind g.St.Device.Disk.obeys m.made (g.St.Store.seen c.args.self.now.store).disk
+    (g.St.Store.seen c.start_from.new.store).disk _ m.counts c.start_from.ensures.obeyed)
 
-pub returns-in_err-end-clause-counts : goal.returns-in_err-end-clause-counts
-returns-in_err-end-clause-counts g c = any-err c.from_residual-in_err-end.result _
-    (let m = c.start_from.ensures.calls in none-falls m.made (g.St.Store.seen c.args.self.now.store).disk.counts
-    (g.St.Store.seen c.start_from.new.store).disk.counts _ m.counts)
+pub returns-in_err-end-clause-left : goal.returns-in_err-end-clause-left
+returns-in_err-end-clause-left g c = any-err c.from_residual-in_err-end.result _
+    (let m = c.start_from.ensures.calls in left-behind g.St.Device.Disk.obeys m.made (g.St.Store.seen c.args.self.now.store).disk
+    (g.St.Store.seen c.start_from.new.store).disk _ m.counts c.start_from.ensures.obeyed)
+
+pub returns-in_err-start-clause-starves : goal.returns-in_err-start-clause-starves
+returns-in_err-start-clause-starves g c = λ so law.
+    let n = c.args.self.now in
+    let x : Seen = g.St.Store.seen n.store in
+    let y : Seen = g.St.Store.seen c.start_from.new.store in
+    let rs : List StoreRequest = requests_of x.work n.worker.requests.items in
+    any-err c.from_residual.result _ (λ s h. starves-unread g.St.Store.layout s rs x y
+    (c.in_err-start.ensures.none so (apart-of n.number x.node c.args.uid c.requires.may.own) s rs h.disk)
+    (omega (arith, c.start_from.ensures.more)))
 
 pub returns-in_err-end-clause-starves : goal.returns-in_err-end-clause-starves
 returns-in_err-end-clause-starves g c = λ so law.
@@ -100,7 +119,7 @@ returns-in_err-end-clause-starves g c = λ so law.
     any-err c.from_residual-in_err-end.result _ (λ s h.
     starves-started g.St.Store.layout s rs c.args.uid x y (end_of_start c.in_ok-start.start) (values_of (begun_as ts) c.in_ok-start.start) p
     (c.in_ok-start.ensures.starts so law (apart-of n.number x.node c.args.uid c.requires.may.own) s rs
-    h.calls.parts.types h.disk))
+    h.calls.parts.types h.disk) (omega (arith, c.start_from.ensures.more)))
 
 -- it is not active
 pub activation_ends-requires : goal.activation_ends-requires

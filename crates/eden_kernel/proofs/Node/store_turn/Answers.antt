@@ -22,8 +22,8 @@ use Rattle.disk_faults.specs.Elsewhere.{shown_of}
 use Rattle.disk_faults.specs.Shows.{ShowsCounts}
 use Rattle.eden_kernel.specs.DiskTurns.{shown_as, call_of_request}
 use Rattle.eden_kernel.specs.Shows.{call_of_event}
-use Rattle.eden_kernel.proofs.StoreTurn.{call-shown, stops-shown}
-use Rattle.eden_kernel.proofs.Showing.{shows-store, first-own, ended-own, none-falls, none-fell}
+use Rattle.eden_kernel.proofs.StoreTurn.{call-shown, stops-shown, stops-not, stops-once}
+use Rattle.eden_kernel.proofs.Showing.{shows-store, first-own, ended-own, left-behind, left-still}
 use Rattle.eden_kernel.proofs.Node.store_turn.Goals as goal
 
 pub returns-then-not-is_up_behind-clause-turn : goal.returns-then-not-is_up_behind-clause-turn
@@ -146,7 +146,7 @@ returns-in_err-request_ends-in-Ended-clause-starves g c = λ so.
     let y : Seen = g.St.Store.seen c.step.new.store in
     any-err c.from_residual-in_err-request_ends-in-Ended.result _ (λ ts s more h.
     starves-stepped g.St.Store.layout s n.worker.requests.items c.step.new.self.requests.items x y c.in-Some.uid c.in_ok-settled.field-0
-    c.in-Some.ensures.first (c.in_ok-settled.ensures.steps so s more h.disk).0)
+    c.in-Some.ensures.first (c.in_ok-settled.ensures.steps so s more h.disk).0 (c.in_ok-settled.ensures.steps so s more h.disk).1)
 
 -- its event is of the node
 pub returns-in-Going-clause-of_node : goal.returns-in-Going-clause-of_node
@@ -226,6 +226,28 @@ returns-in_ok-request_ends-in-Ended-clause-shows g c =
     (subst (λ k. RaisesClock k x.disk.counts.clock y.disk.counts.clock) shown
     (subst (λ r. RaisesClock (end_of_step r) x.disk.counts.clock y.disk.counts.clock) c.in-Ended.is c.in_ok-settled.ensures.raises)))
 
+-- whether its disk stopped
+pub returns-in-Going-clause-stops : goal.returns-in-Going-clause-stops
+returns-in-Going-clause-stops g c =
+    let x : Seen = g.St.Store.seen c.args.self.now.store in
+    let y : Seen = g.St.Store.seen c.step.new.store in
+    let one = subst (λ r. OneCall x.disk.counts y.disk.counts r) c.in-Going.is c.in_ok-settled.ensures.calls in
+    one.counts.stops
+
+pub returns-then-not-is_up_behind-clause-stops : goal.returns-then-not-is_up_behind-clause-stops
+returns-then-not-is_up_behind-clause-stops g c =
+    let x : Seen = g.St.Store.seen c.args.self.now.store in
+    let y : Seen = g.St.Store.seen c.step.new.store in
+    stops-once x.disk.counts y.disk.counts c.in-Ended.request c.in-Ended.end (sym c.is_up_behind.ensures ∙ c.if-not-is_up_behind.true)
+    (subst (λ r. OneCall x.disk.counts y.disk.counts r) c.in-Ended.is c.in_ok-settled.ensures.calls)
+
+pub returns-in_ok-request_ends-in-Ended-clause-stops : goal.returns-in_ok-request_ends-in-Ended-clause-stops
+returns-in_ok-request_ends-in-Ended-clause-stops g c =
+    let x : Seen = g.St.Store.seen c.args.self.now.store in
+    let y : Seen = g.St.Store.seen c.step.new.store in
+    stops-not x.disk.counts y.disk.counts c.in-Ended.request c.in-Ended.end (sym c.is_up_behind.ensures ∙ c.if-not-is_up_behind.false)
+    (subst (λ r. OneCall x.disk.counts y.disk.counts r) c.in-Ended.is c.in_ok-settled.ensures.calls)
+
 -- where it makes its device call
 pub returns-in-Going-clause-touches : goal.returns-in-Going-clause-touches
 returns-in-Going-clause-touches g c = λ so ts s more h.
@@ -263,11 +285,11 @@ returns-in_ok-request_ends-in-Ended-clause-touches g c = λ so ts s more h.
     (c.in_ok-settled.ensures.touches so s more h.disk)))
 
 -- where there was no memory
-pub returns-in_err-settled-clause-counts : goal.returns-in_err-settled-clause-counts
-returns-in_err-settled-clause-counts g c = any-err c.from_residual.result _ (none-fell (g.St.Store.seen c.args.self.now.store).disk.counts
-    (g.St.Store.seen c.step.new.store).disk.counts (ap (λ (d : DiskSeen). d.counts) c.in_err-settled.ensures.unchanged.1.disk))
+pub returns-in_err-settled-clause-left : goal.returns-in_err-settled-clause-left
+returns-in_err-settled-clause-left g c = any-err c.from_residual.result _ (left-still g.St.Device.Disk.obeys
+    (g.St.Store.seen c.args.self.now.store).disk (g.St.Store.seen c.step.new.store).disk c.in_err-settled.ensures.unchanged.1.disk)
 
-pub returns-in_err-request_ends-in-Ended-clause-counts : goal.returns-in_err-request_ends-in-Ended-clause-counts
-returns-in_err-request_ends-in-Ended-clause-counts g c = any-err c.from_residual-in_err-request_ends-in-Ended.result _
-    (let one = c.in_ok-settled.ensures.calls in none-falls one.made (g.St.Store.seen c.args.self.now.store).disk.counts
-    (g.St.Store.seen c.step.new.store).disk.counts _ one.counts)
+pub returns-in_err-request_ends-in-Ended-clause-left : goal.returns-in_err-request_ends-in-Ended-clause-left
+returns-in_err-request_ends-in-Ended-clause-left g c = any-err c.from_residual-in_err-request_ends-in-Ended.result _
+    (let one = c.in_ok-settled.ensures.calls in left-behind g.St.Device.Disk.obeys one.made (g.St.Store.seen c.args.self.now.store).disk
+    (g.St.Store.seen c.step.new.store).disk _ one.counts c.in_ok-settled.ensures.obeyed)

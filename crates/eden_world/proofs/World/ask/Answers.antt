@@ -56,21 +56,21 @@ returns-clause-walked g c = ask-walks g.St.Device.Disk.tells g.St.Store.layout g
     })
 
 pub returns-then-not-may_ask-clause-leaves : goal.returns-then-not-may_ask-clause-leaves
-returns-then-not-may_ask-clause-leaves g c = still-keeps g.St.Store.seen
+returns-then-not-may_ask-clause-leaves g c = still-keeps (heeds g.St.Device.Disk.tells g.St.Device.Disk.obeys) g.St.Store.seen
     (disk_seen g.St.Device.Disk.counts g.St.Device.Disk.told g.St.Device.Disk.due)
     c.args.self.now c.args.self.now c.requires refl refl
 
 pub returns-in_err-share-clause-leaves : goal.returns-in_err-share-clause-leaves
-returns-in_err-share-clause-leaves g c = any-err c.from_residual.result _ (still-keeps g.St.Store.seen
+returns-in_err-share-clause-leaves g c = any-err c.from_residual.result _ (still-keeps (heeds g.St.Device.Disk.tells g.St.Device.Disk.obeys) g.St.Store.seen
     (disk_seen g.St.Device.Disk.counts g.St.Device.Disk.told g.St.Device.Disk.due) c.args.self.now c.args.self.now c.requires refl refl)
 
 pub returns-in_err-call-clause-leaves : goal.returns-in_err-call-clause-leaves
-returns-in_err-call-clause-leaves g c = any-err c.from_residual-in_err-call.result _ (still-keeps g.St.Store.seen
+returns-in_err-call-clause-leaves g c = any-err c.from_residual-in_err-call.result _ (still-keeps (heeds g.St.Device.Disk.tells g.St.Device.Disk.obeys) g.St.Store.seen
     (disk_seen g.St.Device.Disk.counts g.St.Device.Disk.told g.St.Device.Disk.due) c.args.self.now
     (record c.args.self.now { calls = c.ask.new.self }) c.requires refl refl)
 
 pub returns-in_err-event-clause-leaves : goal.returns-in_err-event-clause-leaves
-returns-in_err-event-clause-leaves g c = any-err c.from_residual-in_err-event.result _ (still-keeps g.St.Store.seen
+returns-in_err-event-clause-leaves g c = any-err c.from_residual-in_err-event.result _ (still-keeps (heeds g.St.Device.Disk.tells g.St.Device.Disk.obeys) g.St.Store.seen
     (disk_seen g.St.Device.Disk.counts g.St.Device.Disk.told g.St.Device.Disk.due) c.args.self.now
     (record c.args.self.now { calls = c.ask.new.self; names = c.ask-2.new.self }) c.requires refl refl)
 

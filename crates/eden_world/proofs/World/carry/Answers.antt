@@ -4,6 +4,7 @@ use Rattle.passive_store.specs.Seen.{disk_seen}
 use Rattle.journal.specs.declared.command.Command.TheVariants as commands
 use Rattle.checkpoint.proofs.Activations.{any-err}
 use Rattle.eden_world.specs.Carried.{Starves}
+use Rattle.eden_world.specs.Seated.{heeds}
 use Rattle.eden_world.proofs.CarriedOut.{err-so, starves-so, still-starves}
 use Rattle.eden_world.proofs.Untouched.{still-keeps}
 use Rattle.journal.specs.Fit.{NumbersFit}
@@ -106,6 +107,6 @@ returns-in-Restart-clause-starved g c = subst (λ k. IfErr c.restart.result
     c.restart.ensures.starved
 
 pub returns-in-End-clause-leaves : goal.returns-in-End-clause-leaves
-returns-in-End-clause-leaves g c = any-err c.end.result _ (still-keeps g.St.Store.seen
+returns-in-End-clause-leaves g c = any-err c.end.result _ (still-keeps (heeds g.St.Device.Disk.tells g.St.Device.Disk.obeys) g.St.Store.seen
     (disk_seen g.St.Device.Disk.counts g.St.Device.Disk.told g.St.Device.Disk.due) c.args.self.now c.args.self.now c.requires.whole refl
     refl)

@@ -40,7 +40,7 @@ returns-in_err-broken-clause-leaves g c =
     let u = up-at g.St.Store.seen c.args.self.now c.args.node c.requires (sym c.is_up.ensures ∙ c.if-not-is_up.false) in
     any-err c.from_residual.result _ (left-keeps g.St.Device.Disk.tells g.St.Device.Disk.obeys g.St.Store.layout g.St.Store.seen
     (disk_seen g.St.Device.Disk.counts g.St.Device.Disk.told g.St.Device.Disk.due) _ c.args.node u.node c.args.self.now c.fall.new.self u.is
-    (c.in_err-broken.ensures.leaves u.node u.is) c.in_err-broken.ensures.seated)
+    (c.in_err-broken.ensures.leaves u.node u.is) (heeds g.St.Device.Disk.tells g.St.Device.Disk.obeys) c.in_err-broken.ensures.seated)
 
 pub returns-clause-carried : goal.returns-clause-carried
 returns-clause-carried g c =

@@ -1,6 +1,7 @@
 use Rattle.std.proofs.lemmas.Result.{on_ok_weaker}
 use Rattle.passive_store.specs.Seen.{disk_seen}
 use Rattle.checkpoint.proofs.Activations.{any-err}
+use Rattle.eden_world.specs.Seated.{heeds}
 use Rattle.eden_world.specs.InHand.{place_at}
 use Rattle.eden_world.proofs.Created.{any-on-err, creates-in-ok, level-ends, node-fits, node-keeps, node-level, taken-up}
 use Rattle.eden_world.proofs.World.create_at.Goals as goal
@@ -35,7 +36,7 @@ returns-clause-starved g c = any-err c.create-made.result _ (level-ends g.St.Dev
     c.create-made.ensures.store))
 
 pub returns-clause-leaves : goal.returns-clause-leaves
-returns-clause-leaves g c = any-on-err c.create-made.result _ (node-keeps g.St.Store.seen
+returns-clause-leaves g c = any-on-err c.create-made.result _ (node-keeps (heeds g.St.Device.Disk.tells g.St.Device.Disk.obeys) g.St.Store.seen
     (disk_seen g.St.Device.Disk.counts g.St.Device.Disk.told g.St.Device.Disk.due) c.args.self.now c.unseat.new.self
     c.set_seat.new.self c.args.node c.in-Up.station c.create-made.new.self
     (taken-up (place_at c.args.self.now c.args.node) c.unseat.result c.in-Up.station c.unseat.ensures.old c.in-Up.is)

@@ -13,7 +13,7 @@ returns-in_err-broken-clause-starved g c = any-err c.from_residual.result _
     c.in_err-broken.ensures.disks)
 
 pub returns-in_err-broken-clause-leaves : goal.returns-in_err-broken-clause-leaves
-returns-in_err-broken-clause-leaves g c = any-err c.from_residual.result _ (level-keeps g.St.Store.seen
+returns-in_err-broken-clause-leaves g c = any-err c.from_residual.result _ (level-keeps (heeds g.St.Device.Disk.tells g.St.Device.Disk.obeys) g.St.Store.seen
     (disk_seen g.St.Device.Disk.counts g.St.Device.Disk.told g.St.Device.Disk.due) c.args.self.now c.cut.new.self
     c.in_err-broken.ensures.seated
     c.in_err-broken.ensures.disks)

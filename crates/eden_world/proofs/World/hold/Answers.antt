@@ -28,6 +28,6 @@ returns-clause-shows g c = still-shows (heeds g.St.Device.Disk.tells g.St.Device
     c.entry_of_none.ensures.none
 
 pub returns-in_err-event-clause-leaves : goal.returns-in_err-event-clause-leaves
-returns-in_err-event-clause-leaves g c = any-err c.from_residual.result _ (still-keeps g.St.Store.seen
+returns-in_err-event-clause-leaves g c = any-err c.from_residual.result _ (still-keeps (heeds g.St.Device.Disk.tells g.St.Device.Disk.obeys) g.St.Store.seen
     (disk_seen g.St.Device.Disk.counts g.St.Device.Disk.told g.St.Device.Disk.due) c.args.self.now
     (record c.args.self.now { names = c.hold.new.self }) c.requires refl refl)

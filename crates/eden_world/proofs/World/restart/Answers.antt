@@ -85,12 +85,13 @@ returns-in-None-clause-starved g c = restart-starves g.St.Device.Disk.tells g.St
     (λ so. c.in-Err.ensures.barred so)
 
 pub returns-in-None-clause-leaves : goal.returns-in-None-clause-leaves
-returns-in-None-clause-leaves g c = restart-leaves g.St.Store.seen
+returns-in-None-clause-leaves g c = restart-leaves g.St.Device.Disk.tells g.St.Device.Disk.obeys g.St.Store.seen
     (disk_seen g.St.Device.Disk.counts g.St.Device.Disk.told g.St.Device.Disk.due) c.args.self.now c.unseat.new.self
-    c.set_seat-in-Err.new.self c.args.number c.in-Down.disk c.in-Err.disk c.in-Down.doubt c.in-Err.fall.doubt c.in-Err.fall.end
+    c.set_seat-in-Err.new.self c.args.number c.in-Down.disk c.in-Err.disk c.in-Down.doubt c.in-Err.fall.doubt c.in-Err.fall.note
+    c.in-Err.fall.end c.in-None.is
     (was-down (place_at c.args.self.now c.args.number) c.unseat.result c.in-Down.disk c.in-Down.doubt
     c.unseat.ensures.old c.in-Down.is)
-    c.unseat.ensures.takes c.set_seat-in-Err.ensures.takes c.in-Err.ensures.calls c.requires.whole
+    c.unseat.ensures.takes c.set_seat-in-Err.ensures.takes c.in-Err.ensures.calls (λ so. c.in-Err.ensures.shows so) c.requires.whole
 
 -- 4. A node is up there, or none stands there
 

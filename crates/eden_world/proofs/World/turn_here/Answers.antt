@@ -38,7 +38,7 @@ returns-clause-starved g c =
     let number : c.args.key.station ≡ suc (c.from.result - 1) = omega (arith, c.requires.node, c.from.ensures) in
     let was = was-there c.args.self.now c.args.key.station (c.from.result - 1) c.in-Some.seat.now number
     (c.in-Some.ensures.variant.0 refl) c.in-Some.ensures.value in
-    on_err_weaker c.turn_in.result (starves-here g.St.Device.Disk.tells g.St.Store.layout g.St.Store.seen look c.args.key
+    on_err_weaker c.turn_in.result (starves-here g.St.Device.Disk.tells g.St.Device.Disk.obeys g.St.Store.layout g.St.Store.seen look c.args.key
     (c.from.result - 1) c.turn_in.new.calls c.args.self.now number (c.in-Some.ensures.variant.0 refl) c.requires.whole
     c.in-Some.seat.now c.turn_in.new.seat was) c.turn_in.ensures.starves
 
@@ -48,6 +48,6 @@ returns-clause-leaves g c =
     let number : c.args.key.station ≡ suc (c.from.result - 1) = omega (arith, c.requires.node, c.from.ensures) in
     let was = was-there c.args.self.now c.args.key.station (c.from.result - 1) c.in-Some.seat.now number
     (c.in-Some.ensures.variant.0 refl) c.in-Some.ensures.value in
-    on_err_weaker c.turn_in.result (keeps-here g.St.Device.Disk.tells g.St.Store.layout g.St.Store.seen look c.args.key
+    on_err_weaker c.turn_in.result (keeps-here g.St.Device.Disk.tells g.St.Device.Disk.obeys g.St.Store.layout g.St.Store.seen look c.args.key
     (c.from.result - 1) c.turn_in.new.calls c.args.self.now number (c.in-Some.ensures.variant.0 refl) c.requires.whole
     c.in-Some.seat.now c.turn_in.new.seat was) c.turn_in.ensures.starves

@@ -31,11 +31,11 @@ returns-in_ok-name-in-None-clause-looked g c = void-walked g.St.Device.Disk.tell
     c.entry_of_none.ensures.none
 
 pub returns-in_err-operation-in-Some-clause-leaves : goal.returns-in_err-operation-in-Some-clause-leaves
-returns-in_err-operation-in-Some-clause-leaves g c = any-err c.from_residual.result _ (still-keeps g.St.Store.seen
+returns-in_err-operation-in-Some-clause-leaves g c = any-err c.from_residual.result _ (still-keeps (heeds g.St.Device.Disk.tells g.St.Device.Disk.obeys) g.St.Store.seen
     (disk_seen g.St.Device.Disk.counts g.St.Device.Disk.told g.St.Device.Disk.due) c.args.self.now c.args.self.now c.requires refl refl)
 
 pub returns-in_err-name-in-None-clause-leaves : goal.returns-in_err-name-in-None-clause-leaves
-returns-in_err-name-in-None-clause-leaves g c = any-err c.from_residual-in_err-name-in-None.result _ (still-keeps g.St.Store.seen
+returns-in_err-name-in-None-clause-leaves g c = any-err c.from_residual-in_err-name-in-None.result _ (still-keeps (heeds g.St.Device.Disk.tells g.St.Device.Disk.obeys) g.St.Store.seen
     (disk_seen g.St.Device.Disk.counts g.St.Device.Disk.told g.St.Device.Disk.due) c.args.self.now c.args.self.now c.requires refl refl)
 
 pub returns-in_ok-name-in-None-clause-shows : goal.returns-in_ok-name-in-None-clause-shows

@@ -7,9 +7,9 @@ use Rattle.eden_world.proofs.turns.turn_in.Goals as goal
 
 pub returns-in_err-event-in-Up-clause-starves : goal.returns-in_err-event-in-Up-clause-starves
 returns-in_err-event-in-Up-clause-starves g c = any-err c.from_residual.result _
-    (subst (λ p. StarvesThere g.St.Device.Disk.tells g.St.Store.layout g.St.Store.seen c.args.types.now c.args.calls.now p
-    (place.Up c.turn.new.self)) (sym c.in-Up.is) (starves-up g.St.Device.Disk.tells g.St.Store.layout g.St.Store.seen c.args.types.now
-    c.args.calls.now c.in-Up.station c.turn.new.self c.in_err-event-in-Up.ensures.counts c.in_err-event-in-Up.ensures.starves))
+    (subst (λ p. StarvesThere g.St.Device.Disk.tells g.St.Device.Disk.obeys g.St.Store.layout g.St.Store.seen c.args.types.now c.args.calls.now p
+    (place.Up c.turn.new.self)) (sym c.in-Up.is) (starves-up g.St.Device.Disk.tells g.St.Device.Disk.obeys g.St.Store.layout g.St.Store.seen c.args.types.now
+    c.args.calls.now c.in-Up.station c.turn.new.self c.in_err-event-in-Up.ensures.left c.in_err-event-in-Up.ensures.starves))
 
 pub returns-clause-turns : goal.returns-clause-turns
 returns-clause-turns g c =

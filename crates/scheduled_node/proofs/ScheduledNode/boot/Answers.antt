@@ -1,4 +1,5 @@
 use Rattle.std.proofs.Common.{sym, subst}
+use Rattle.std.proofs.lemmas.Result.{err_from_is_err_and}
 use Rattle.ejects.specs.View.{parts_of}
 use Rattle.agenda.specs.Keys.{IsAgenda}
 use Rattle.eden_kernel.specs.Stands.{held}
@@ -13,3 +14,9 @@ returns-clause-up g c = λ so ts m s law epochs more some types asleep carries r
           (scheduled-boots g.St.Store.layout ts c.args.number more s (g.St.Device.Disk.told c.args.disk)
           (g.St.Device.Disk.counts c.args.disk).clock c.in_ok-node.note (held g.St.Store.seen c.in_ok-node.node) m asleep up),
     )
+
+-- one that did not come up
+pub returns-in_err-node-clause-falls : goal.returns-in_err-node-clause-falls
+returns-in_err-node-clause-falls g c = λ so.
+    let p = err_from_is_err_and c.from_residual.result c.from_residual.ensures.1 in
+    rw (p.1, p.2) (c.in_err-node.ensures.falls so)

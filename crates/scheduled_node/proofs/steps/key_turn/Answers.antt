@@ -1,9 +1,10 @@
-use Rattle.std.proofs.Common.{sym, subst, arith, true}
+use Rattle.std.proofs.Common.{sym, subst, ap, arith, true}
+use Rattle.passive_store.specs.Seen.{Seen}
 use Rattle.ejects.specs.Events.{IsDelivery}
 use Rattle.ejects.specs.Replies.{Reaches}
 use Rattle.eden_kernel.specs.Stands.{held}
 use Rattle.eden_kernel.proofs.Outcomes.{both-ok}
-use Rattle.scheduled_node.proofs.Clocks.{any-ok, either-way, clock-delivered, clock-started, clock-turned, clock-activated, clock-stored}
+use Rattle.scheduled_node.proofs.Clocks.{any-ok, both-ways, either-way, clock-delivered, clock-started, clock-turned, clock-activated, clock-stored}
 use Rattle.scheduled_node.proofs.NodeEvents.{turn-delivered, turn-started, turn-of-process, turn-activated, turn-stored}
 use Rattle.scheduled_node.proofs.KeysOf.{key-delivered, key-activated, key-started, key-turned, key-stored, node-of}
 use Rattle.scheduled_node.proofs.Standing.{allowed-by, starves-behind}
@@ -83,16 +84,21 @@ returns-in_err-event-in-4-clause-starves g c = λ so law s sound some h.
 
 pub returns-in-2-clause-starves : goal.returns-in-2-clause-starves
 returns-in-2-clause-starves g c = λ so law s sound some h.
-    either-way c.activate.result _ _ _ (c.activate.ensures.turn so law) (c.activate.ensures.starves so law) (λ r turn.
-    starves-behind r.1 g.St.Store.layout c.args.types.now (held g.St.Store.seen c.activate.new.self) c.activate.new.calls (λ n. true)
-    (held g.St.Store.seen c.args.node.now) s r.0 (turn (λ n. true) s sound h)) (λ e starves. starves s h)
+    either-way c.activate.result _ _ _
+    (both-ways c.activate.result _ _ c.activate.ensures.whole (c.activate.ensures.turn so law)) (c.activate.ensures.starves so law)
+    (λ r both. starves-behind r.1 g.St.Store.layout c.args.types.now (held g.St.Store.seen c.activate.new.self) c.activate.new.calls
+    (λ n. true) (held g.St.Store.seen c.args.node.now) s r.0 both.0 c.requires.whole c.activate.ensures.number
+    (omega (arith, c.activate.ensures.more)) (both.1 (λ n. true) s sound h)) (λ e starves. starves s h)
 
 pub returns-in-5-clause-starves : goal.returns-in-5-clause-starves
 returns-in-5-clause-starves g c = λ so law s sound some h.
     let ts = c.args.types.now in
-    either-way c.store_turn.result _ _ _ (c.store_turn.ensures.turn so) (c.store_turn.ensures.starves so) (λ r turn.
-    starves-behind r.1 g.St.Store.layout ts (held g.St.Store.seen c.store_turn.new.self) c.store_turn.new.calls (λ n. true)
-    (held g.St.Store.seen c.args.node.now) s r.0 (turn ts (λ n. true) s sound some h)) (λ e starves. starves ts s some h)
+    either-way c.store_turn.result _ _ _
+    (both-ways c.store_turn.result _ _ (both-ways c.store_turn.result _ _ c.store_turn.ensures.whole (c.store_turn.ensures.more so))
+    (c.store_turn.ensures.turn so)) (c.store_turn.ensures.starves so)
+    (λ r both. starves-behind r.1 g.St.Store.layout ts (held g.St.Store.seen c.store_turn.new.self) c.store_turn.new.calls (λ n. true)
+    (held g.St.Store.seen c.args.node.now) s r.0 both.0.0 c.requires.whole c.store_turn.ensures.number (both.0.1 ts s some h)
+    (both.1 ts (λ n. true) s sound some h)) (λ e starves. starves ts s some h)
 
 pub returns-in-5-clause-touches : goal.returns-in-5-clause-touches
 returns-in-5-clause-touches g c = λ so reads.
@@ -114,6 +120,22 @@ returns-in_ok-event-in-4-clause-clock g c = clock-turned _ _ _ c.in_ok-event-in-
 
 pub returns-in-5-clause-clock : goal.returns-in-5-clause-clock
 returns-in-5-clause-clock g c = any-ok c.store_turn.result _ _ (λ r is. clock-stored _ _ r.0 is) c.store_turn.ensures.event
+
+-- whether the disk stopped
+pub returns-in_ok-event-in-1-clause-stops : goal.returns-in_ok-event-in-1-clause-stops
+returns-in_ok-event-in-1-clause-stops g c = ap (λ (x : Seen). x.disk.counts.stops) c.deliver.ensures.store
+
+pub returns-in-2-clause-stops : goal.returns-in-2-clause-stops
+returns-in-2-clause-stops g c = c.activate.ensures.stops
+
+pub returns-in_ok-event-in-3-clause-stops : goal.returns-in_ok-event-in-3-clause-stops
+returns-in_ok-event-in-3-clause-stops g c = ap (λ (x : Seen). x.disk.counts.stops) c.start.ensures.store
+
+pub returns-in_ok-event-in-4-clause-stops : goal.returns-in_ok-event-in-4-clause-stops
+returns-in_ok-event-in-4-clause-stops g c = ap (λ (x : Seen). x.disk.counts.stops) c.process.ensures.store
+
+pub returns-in-5-clause-stops : goal.returns-in-5-clause-stops
+returns-in-5-clause-stops g c = c.store_turn.ensures.stops
 
 pub returns-in_ok-event-in-1-clause-event : goal.returns-in_ok-event-in-1-clause-event
 returns-in_ok-event-in-1-clause-event g c = turn-delivered _ _ _ c.in_ok-event-in-1.event c.in_ok-event-in-1.ensures.event
