@@ -55,7 +55,7 @@ impl Machine for Keys {
 
     ghost did = { λ m s n. Unit {0} };
 
-    ghost starved = { λ m w n. Unit {0} };
+    ghost starved = { λ m more w n. Unit {0} };
 
     ghost shows = { λ m e n. Unit {0} };
 
