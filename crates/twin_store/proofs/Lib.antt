@@ -1,11 +1,11 @@
 mod Agreeing
 mod Bringing
 mod Carrying
-mod Changing
+pub mod Changing
 mod Choosing
 mod Clearing
 mod Filling
-mod Finding
+pub mod Finding
 mod Going
 mod Levelling
 mod Looking
@@ -16,5 +16,5 @@ mod Reading
 mod Serving
 mod Sided
 mod Siding
-mod Vouching
+pub mod Vouching
 mod Walking

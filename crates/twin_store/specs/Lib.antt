@@ -1,6 +1,5 @@
 pub mod Copies
 pub mod Footings
-pub mod LegalTwin
 pub mod Ranks
 pub mod Serving
 pub mod Sides

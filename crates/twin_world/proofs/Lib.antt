@@ -1,0 +1,4 @@
+pub mod Sparing
+pub mod Bridging
+pub mod Opening
+pub mod Asking
