@@ -29,6 +29,7 @@ use passive_store::{Store, StoreRefusal};
 use std::alloc::Global;
 
 /// A node: a store of records, and what is known in memory.
+#[derive(Drop)]
 pub struct MoveNode<St: Store> {
     /// The store of its disk.
     pub store: St,

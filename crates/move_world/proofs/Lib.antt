@@ -7,3 +7,7 @@ pub mod Hearing
 pub mod Seating
 pub mod Placing
 pub mod Runs
+pub mod Spelled
+pub mod Meaning
+pub mod Scripted
+pub mod Beginning

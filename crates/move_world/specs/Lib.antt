@@ -8,3 +8,5 @@ pub mod Asking
 pub mod Kept
 pub mod Seats
 pub mod Worlds
+pub mod Disks
+pub mod Scripts

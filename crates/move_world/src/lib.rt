@@ -4,14 +4,19 @@
 mod answer;
 mod ask;
 mod commands;
+mod disks;
 mod law;
 mod letters;
+mod reading;
 mod run;
 mod seat;
+mod text;
 mod world;
 
 pub use answer::{Answer, Ended, Entry, Log};
 pub use commands::MoveCommand;
 pub use law::ejects_are_held_once;
+pub use reading::{MoveScript, read_script};
 pub use run::run_moves;
+pub use text::text_of;
 pub use world::MoveWorld;

@@ -68,6 +68,8 @@ where
         (rows world.old.letters) }
     requires nodes { nodes ≤ 8 }
     requires reach { AreInReach (map meant commands.items) }
+    ensures world { OnOk result (IsWorld
+        (standings St.seen (disk_seen St.Device.counts St.Device.told St.Device.due) world.new.seats.items) (rows world.new.letters)) }
     ensures nodes { IfOk result (λ log. log.nodes ≡ nodes) }
     ensures all { IfOk result (λ log. commands_of (map entry_of log.entries.items) ≡ map meant commands.items) }
     ensures legal { let look = disk_seen St.Device.counts St.Device.told St.Device.due in IsTrue St.Device.tells

@@ -1,5 +1,6 @@
 //! The places of nodes.
 ghost use Rattle.std.specs.Prelude.{◌≡◌, ◌≢◌, ◌≤◌, ◌⊎◌, ℕ, Bool, IsTrue, IfOk, OnOk, Option, Result};
+ghost use Rattle.std.specs.Option.{option_map};
 ghost use Rattle.eden_value.specs.Datum.{Datum};
 ghost use Rattle.eden_disk.specs.Calls.{calls_until};
 ghost use Rattle.eden_disk.specs.Told.{contents, Left};
@@ -7,6 +8,7 @@ ghost use Rattle.passive_store.specs.Seen.{disk_seen};
 ghost use Rattle.move_laws.specs.World.{World as AnyWorld, Ended as AnyEnded, Refused, Stopped};
 ghost use Rattle.eden_move.specs.Shown.{IsFitCall, IsWanderer, IsOpen};
 ghost use Rattle.move_world.specs.Commands.{IsNode};
+ghost use Rattle.move_world.specs.Disks.{disk_at};
 ghost use Rattle.move_world.specs.InHand.{ArePostsFit};
 ghost use Rattle.move_world.specs.View.{answer_of, how_of};
 ghost use Rattle.passive_store.specs.declared.store.StoreRefusal.TheVariants.{OutOfMemory};
@@ -25,6 +27,7 @@ use std::alloc::{AllocError, Global};
 use std::mem;
 
 /// What stands at the place of a node.
+#[derive(Drop)]
 pub enum Seat<St: Store> {
     /// A node whose disk was opened. It is up until its disk stops.
     Opened { node: MoveNode<St>, up: bool },
@@ -190,7 +193,10 @@ pub fn arm_seat<St: Store>(seat: &mut Seat<St>, what: Arm) -> Answer
 }
 
 /// The disk of a place.
-pub fn disk_in<St: Store>(seat: Seat<St>) -> Option<St::Device> {
+pub fn disk_in<St: Store>(seat: Seat<St>) -> Option<St::Device>
+    ensures { let look = disk_seen St.Device.counts St.Device.told St.Device.due in
+        option_map look result ≡ disk_at (standing St.seen look seat) }
+{
     match seat {
         Seat::Opened { node, up: _ } => Some(node.crash()),
         Seat::Shut { disk } => Some(disk),

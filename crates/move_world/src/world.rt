@@ -28,6 +28,7 @@ use passive_store::Store;
 use std::alloc::{AllocError, Global};
 
 /// The places of eight nodes, and all letters that were sent.
+#[derive(Drop)]
 pub struct MoveWorld<St: Store> {
     /// What stands at the place of each node.
     pub seats: Vec<Seat<St>>,
