@@ -11,7 +11,6 @@ use Rattle.eden_model.specs.Map.{with_item, is_none, same_text}
 use Rattle.epl_syntax.specs.declared.effect.Answer.{Answer}
 use Rattle.epl_syntax.specs.declared.effect.Answer.TheVariants.{Code}
 use Rattle.epl_syntax.specs.declared.effect.Effect.{Effect}
-use Rattle.epl_syntax.specs.Operators.{greatest}
 use Rattle.epl_syntax.specs.Simple.{argument, number_in, text_in, cap_in, items_in, returns_code, is_fine}
 use Rattle.epl_syntax.specs.Streams.{item_code, end_code, out_of_reach, trouble, returns_item, returns_none, asks_for, an_item, the_end}
 use Rattle.epl_syntax.specs.Streams.{nothing, came}
@@ -190,7 +189,7 @@ last_owned : (held : List Cap) (f : filters.Filter) → FilterOwned held f → A
 last_owned held f h = owned_caps held (number (pos item_code) ∷ f.last ∷ []) (tt, (h.last, tt))
 
 asks_owned : (held : List Cap) (f : filters.Filter) → FilterOwned held f → InFilter held (filters.asks f)
-asks_owned held f h = either (InFilter held) (int_eq f.got greatest) (filters.answers f (returns_none trouble))
+asks_owned held f h = either (InFilter held) (filters.is_spent f.got) (filters.answers f (returns_none trouble))
     (with_item f.src (λ c. (filters.values_of f, filters.asked, asks_for c f.got)) (filters.answers f (returns_none trouble)))
     (answers_owned held f (returns_none trouble) h tt) (go f.src h.src)
   where
@@ -221,11 +220,15 @@ saved_so_owned held f a otherwise go h k x =
 takes_owned : (held : List Cap) (r : filters.Rule) (f : filters.Filter) (item : List ℕ) → FilterOwned held f
     → InFilter held (filters.takes r f item)
 takes_owned held r f item h =
-    either (InFilter held) (r.passes f item) (filters.saves (filters.handed_on r item f) (filters.item_saved true))
+    either (InFilter held) (filters.is_spent f.got || filters.is_spent f.made) (filters.answers f (returns_none trouble))
+    (cond (r.passes f item) (filters.saves (filters.handed_on r item f) (filters.item_saved true))
+    (filters.saves (record f { got = f.got +ℤ pos 1 }) (filters.item_saved false)))
+    (answers_owned held f (returns_none trouble) h tt)
+    (either (InFilter held) (r.passes f item) (filters.saves (filters.handed_on r item f) (filters.item_saved true))
     (filters.saves (record f { got = f.got +ℤ pos 1 }) (filters.item_saved false))
     (filter_saves held (filters.handed_on r item f) (filters.item_saved true) (record { src = h.src; arg = h.arg; last = tt }) tt)
     (filter_saves held (record f { got = f.got +ℤ pos 1 }) (filters.item_saved false)
-    (record { src = h.src; arg = h.arg; last = h.last }) tt)
+    (record { src = h.src; arg = h.arg; last = h.last }) tt))
 
 after_owned : (held : List Cap) (r : filters.Rule) (f : filters.Filter) (c : streams.Came) → FilterOwned held f
     → InFilter held (filters.after_asking r f c)

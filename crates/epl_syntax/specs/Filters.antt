@@ -156,9 +156,13 @@ saves f then_ = (values_of (record f { saved = false }), then_, Checkpoint)
 abbrev pub saved_so : Filter → Answer → Effect → (Filter → Moved) → Moved
 saved_so f answer otherwise go = cond (is_fine answer) (go (record f { saved = true })) (answers f otherwise)
 
+-- a count that cannot be counted on: no number of 64 bits is greater
+abbrev pub is_spent : ℤ → Bool
+is_spent count = int_le greatest count
+
 -- the stage before is asked for the next item; trouble where there is none, or where as many were taken in as a number can tell
 abbrev pub asks : Filter → Moved
-asks f = cond (int_eq f.got greatest) (answers f (returns_none trouble))
+asks f = cond (is_spent f.got) (answers f (returns_none trouble))
     (with_item f.src (λ c. (values_of f, asked, asks_for c f.got)) (answers f (returns_none trouble)))
 
 -- the item at a position: the last one again, or the next one
@@ -176,9 +180,11 @@ handed_on r item f = record f { got = f.got +ℤ pos 1; made = f.made +ℤ pos 1
 abbrev pub passed_over : Filter → Filter
 passed_over f = record f { got = f.got +ℤ pos 1 }
 
--- an item is taken in, and saved before it is answered
+-- an item is taken in, and saved before it is answered; trouble where no number could tell how many there are then, which no filter
+-- comes to that asked for the item and handed on no more than it took in
 abbrev pub takes : Rule → Filter → List ℕ → Moved
-takes r f item = cond (r.passes f item) (saves (handed_on r item f) (item_saved true)) (saves (passed_over f) (item_saved false))
+takes r f item = cond (is_spent f.got || is_spent f.made) (answers f (returns_none trouble))
+    (cond (r.passes f item) (saves (handed_on r item f) (item_saved true)) (saves (passed_over f) (item_saved false)))
 
 -- what the stage before answered is taken
 abbrev pub after_asking : Rule → Filter → Came → Moved

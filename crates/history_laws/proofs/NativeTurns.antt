@@ -11,7 +11,6 @@ use Rattle.epl_syntax.specs.declared.effect.Effect.{Effect}
 use Rattle.epl_syntax.specs.declared.effect.Effect.TheVariants as effect
 use Rattle.epl_syntax.specs.declared.types.Native.{Native}
 use Rattle.epl_syntax.specs.Simple.{argument, is_fine, cap_in}
-use Rattle.epl_syntax.specs.Operators.{greatest}
 use Rattle.epl_syntax.specs.Streams.{end_code, out_of_reach, returns_item, returns_none, Came, an_item, the_end, nothing, came}
 use Rattle.epl_syntax.specs.Cell as cell
 use Rattle.epl_syntax.specs.Directory as directory
@@ -71,14 +70,15 @@ plain-lines vars (lines.transfers p) answer = let s = lines.source vars in
 plain-lines vars (lines.transfer_saved p) answer = plain-cond (is_fine answer) _ _ (plain-line (lines.source vars).items p) tt
 
 plain-asks : (f : filters.Filter) → IsPlain (filters.asks f).2
-plain-asks f = plain-cond (int_eq f.got greatest) _ _ tt (plain-item f.src _ _ (λ c. tt) tt)
+plain-asks f = plain-cond (filters.is_spent f.got) _ _ tt (plain-item f.src _ _ (λ c. tt) tt)
 
 plain-gives : (r : filters.Rule) (f : filters.Filter) (p : ℤ) → IsPlain (filters.gives r f p).2
 plain-gives r f p = plain-cond (int_le (pos 1) f.made && int_eq p (f.made -ℤ pos 1)) _ _ tt
     (plain-cond (not (int_eq p f.made)) _ _ tt (plain-cond (r.is_over f) _ _ tt (plain-asks f)))
 
 plain-after : (r : filters.Rule) (f : filters.Filter) (c : Came) → IsPlain (filters.after_asking r f c).2
-plain-after r f (an_item item) = plain-cond (r.passes f item) _ _ tt tt
+plain-after r f (an_item item) = plain-cond (filters.is_spent f.got || filters.is_spent f.made) _ _ tt
+    (plain-cond (r.passes f item) _ _ tt tt)
 plain-after r f the_end = tt
 plain-after r f nothing = tt
 

@@ -713,7 +713,7 @@ module _ (A : ℕ → List Datum) (H : ℕ → Bool) (w : World) (c : Option Com
         (left.0 ∙ ap (λ j. position (A j)) h.0 ∙ ap position (sym (args k a at)) ∙ (asks_for a at).1)) h.2 h.3 of_before none_open
     own-at call asked answer vars holds left ends only_so of_before none_open h =
         let y = filter_turn (rule_of f.sieve) vars asked answer in own-taking call y.0 y.1 y.2 ends only_so h.0 (came answer)
-        (taking-turn f.sieve vars m answer facts.0.plain holds.arg h.1) h.2 h.3
+        (taking-turn (source fs) f.sieve facts.0.items vars m answer facts.0.plain holds left.3 h.1) h.2 h.3
     own-at call (item_saved true) answer vars holds left ends only_so of_before none_open h =
         let y = filter_turn (rule_of f.sieve) vars (item_saved true) answer in own-handing call y.0 y.1 y.2 ends only_so h.0
         (handing-turn f.sieve vars (m + 1) answer holds.arg h.1) h.2 h.3

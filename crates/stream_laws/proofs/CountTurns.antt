@@ -2,7 +2,8 @@
 use Rattle.std.proofs.Common.{◌≡◌, ◌⊎◌, inl, inr, ℕ, zero, suc, ◌+◌, ◌≤◌, ℤ, pos, Bool, true, false, cond, not, ◌&&◌, ◌||◌, List, [], ◌∷◌}
 use Rattle.std.proofs.Common.{take}
 use Rattle.std.proofs.Common.{length, drop, Option, None, Some, is_some, refl, ap, sym, ◌∙◌, arith}
-use Rattle.std.specs.Prelude.{◌+ℤ◌, ◌-ℤ◌, int_le, codes}
+use Rattle.std.specs.Prelude.{◌+ℤ◌, ◌-ℤ◌, int_le, nat_le, codes}
+use Rattle.std.proofs.lemmas.Bool.Decides.{nat_tests}
 use Rattle.std.specs.Ordering.{int_eq}
 use Rattle.capability.specs.declared.Uid.{Uid}
 use Rattle.capability.specs.declared.Cap.{Cap}
@@ -15,11 +16,10 @@ use Rattle.epl_syntax.specs.declared.effect.Effect.{Effect}
 use Rattle.epl_syntax.specs.declared.effect.Effect.TheVariants as effect
 use Rattle.epl_syntax.specs.Edentype.{native as native_type}
 use Rattle.epl_syntax.specs.Meaning.{first_values}
-use Rattle.epl_syntax.specs.Operators.{greatest}
 use Rattle.epl_syntax.specs.Simple.{argument, cap_in, number_in, is_fine}
-use Rattle.epl_syntax.specs.Streams.{Came, an_item, the_end, nothing, came}
+use Rattle.epl_syntax.specs.Streams.{Came, an_item, the_end, nothing, came, returns_none, trouble}
 use Rattle.epl_syntax.specs.Filters.{Filter, Stage as FilterStage, opens, open_saved, transfers, transfer_saved, asked, item_saved, filter}
-use Rattle.epl_syntax.specs.Filters.{values_of, Moved, asks, gives, after_asking, handed_on, filter_turn}
+use Rattle.epl_syntax.specs.Filters.{values_of, Moved, answers, saves, asks, gives, after_asking, handed_on, filter_turn, is_spent}
 use Rattle.epl_syntax.specs.Pipelines.{Sieve, takes as a_take, skips, keeps, numbers, sifted, so_many, numbered_from, rule_of}
 use Rattle.stream_laws.specs.Chains.{type_of_sieve}
 use Rattle.stream_laws.specs.Counts.{IsTakeOrNumber}
@@ -146,7 +146,7 @@ no-last m n h same = grind (arith, same, h)
 
 asks-so : (s : Sieve) (f : Filter) (m : ℕ) → length f.arg ≡ length (rule_of s).arg → f.got ≡ pos m
     → AskingEnds s m (asks f).0 (asks f).1 (asks f).2
-asks-so s f m h got = go (int_eq f.got greatest) f.src
+asks-so s f m h got = go (is_spent f.got) f.src
   where
     go : (b : Bool) (o : Option Cap)
         → let x = cond {A = Moved} b (values_of f, asked, effect.Return (number (pos 3) ∷ text [] ∷ []))
@@ -212,26 +212,50 @@ TakingEnds s m (an_item t) vars st _ = ⊥
 TakingEnds s m c vars st (effect.Return results) = IsNone (came (Told status.Ok results))
 TakingEnds s m c vars st _ = ⊥
 
-pub taking-turn : (s : Sieve) (vars : List Datum) (m : ℕ) (a : Answer) → IsTakeOrNumber s
-    → length (filter (rule_of s) vars).arg ≡ length (rule_of s).arg → got_in s vars ≡ pos m
+-- where it has not taken in as many as a number can tell, it has not handed on as many either
+few-spent : (m : ℕ) (got made : ℤ) (n : ℕ) → got ≡ pos m → made ≡ pos n → n ≤ m → is_spent got ≡ false
+    → (is_spent got || is_spent made) ≡ false
+few-spent m got made n is of few room = neither (is_spent got) (is_spent made) room
+    (ap is_spent of ∙ below m n few (ap is_spent (sym is) ∙ room))
+  where
+    neither : (a b : Bool) → a ≡ false → b ≡ false → (a || b) ≡ false
+    neither true b e h = absurd (cc e)
+    neither false b e h = h
+
+    below : (m n : ℕ) → n ≤ m → nat_le 0x7FFF_FFFF_FFFF_FFFF m ≡ false → nat_le 0x7FFF_FFFF_FFFF_FFFF n ≡ false
+    below m n few h = grind (arith, nat_tests, few, h)
+
+-- a turn that does this one of two does so
+by-second : (P : Moved → Type 0) (b : Bool) (x y : Moved) → b ≡ false → P y → P (cond b x y)
+by-second P true x y e h = absurd (cc e)
+by-second P false x y e h = h
+
+pub taking-turn : (before : Uid) (s : Sieve) (items : List (List ℕ)) (vars : List Datum) (m : ℕ) (a : Answer) → IsTakeOrNumber s
+    → Holds before s items (filter (rule_of s) vars) → is_spent (got_in s vars) ≡ false → got_in s vars ≡ pos m
     → let x = filter_turn (rule_of s) vars asked a in TakingEnds s m (came a) x.0 x.1 x.2
-taking-turn s vars m a plain h got = go s plain h got (came a)
+taking-turn before s items vars m a plain holds room got = go s plain holds.arg got
+    (let few = few-made before s items (filter (rule_of s) vars) m plain holds got in
+    few-spent m (got_in s vars) (filter (rule_of s) vars).made few.0 got few.1 few.2 room) (came a)
   where
     more : (g : ℤ) → g ≡ pos m → g +ℤ pos 1 ≡ pos (m + 1)
     more g is = ap (λ z. z +ℤ pos 1) is
 
     go : (s : Sieve) → IsTakeOrNumber s → length (filter (rule_of s) vars).arg ≡ length (rule_of s).arg → got_in s vars ≡ pos m
-        → (c : Came)
+        → (is_spent (filter (rule_of s) vars).got || is_spent (filter (rule_of s) vars).made) ≡ false → (c : Came)
         → let x = after_asking (rule_of s) (filter (rule_of s) vars) c in TakingEnds s m c x.0 x.1 x.2
-    go (a_take n) plain h got (an_item t) = got-back (a_take n)
-        (record (handed_on (rule_of (a_take n)) t (filter (rule_of (a_take n)) vars)) { saved = false }) h
-        ∙ more (got_in (a_take n) vars) got
-    go numbers plain h got (an_item t) = got-back numbers
-        (record (handed_on (rule_of numbers) t (filter (rule_of numbers) vars)) { saved = false }) h
-        ∙ more (got_in numbers vars) got
-    go s plain h got the_end = tt
-    go s plain h got nothing = tt
-    go _ plain h got (an_item t) = absurd plain
+    go (a_take n) plain h got room (an_item t) = let f : Filter = filter (rule_of (a_take n)) vars in
+        by-second (λ (x : Moved). TakingEnds (a_take n) m (an_item t) x.0 x.1 x.2) (is_spent f.got || is_spent f.made)
+        (answers f (returns_none trouble)) (saves (handed_on (rule_of (a_take n)) t f) (item_saved true)) room
+        (got-back (a_take n) (record (handed_on (rule_of (a_take n)) t (filter (rule_of (a_take n)) vars)) { saved = false }) h
+        ∙ more (got_in (a_take n) vars) got)
+    go numbers plain h got room (an_item t) = let f : Filter = filter (rule_of numbers) vars in
+        by-second (λ (x : Moved). TakingEnds numbers m (an_item t) x.0 x.1 x.2) (is_spent f.got || is_spent f.made)
+        (answers f (returns_none trouble)) (saves (handed_on (rule_of numbers) t f) (item_saved true)) room
+        (got-back numbers (record (handed_on (rule_of numbers) t (filter (rule_of numbers) vars)) { saved = false }) h
+        ∙ more (got_in numbers vars) got)
+    go s plain h got room the_end = tt
+    go s plain h got room nothing = tt
+    go _ plain h got room (an_item t) = absurd plain
 
 -- 4. And the item is saved
 

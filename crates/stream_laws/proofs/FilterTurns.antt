@@ -15,14 +15,13 @@ use Rattle.epl_syntax.specs.declared.effect.Answer.{Answer}
 use Rattle.epl_syntax.specs.declared.effect.Answer.TheVariants.{Reply as Told}
 use Rattle.epl_syntax.specs.declared.effect.Effect.{Effect}
 use Rattle.epl_syntax.specs.declared.effect.Effect.TheVariants as effect
-use Rattle.epl_syntax.specs.Operators.{greatest}
 use Rattle.epl_syntax.specs.Simple.{argument, cap_in, number_in, is_fine, returns_code}
 use Rattle.epl_syntax.specs.Streams.{Came, an_item, the_end, nothing, came, asks_for, returns_item, returns_none, trouble, out_of_reach}
 use Rattle.epl_syntax.specs.Streams.{end_code}
 use Rattle.epl_syntax.specs.Filters.{Filter, Rule, Stage, opens, open_saved, transfers, transfer_saved, asked, item_saved, filter}
 use Rattle.epl_syntax.specs.Filters.{values_of}
 use Rattle.epl_syntax.specs.Filters.{Moved, answers, saves, saved_so, asks, gives, handed_on, passed_over, takes as takes_it, after_asking}
-use Rattle.epl_syntax.specs.Filters.{opened}
+use Rattle.epl_syntax.specs.Filters.{opened, is_spent}
 use Rattle.epl_syntax.specs.Filters.{filter_turn}
 use Rattle.epl_syntax.specs.Pipelines.{Sieve, takes, skips, keeps, numbers, sifted, so_many, rule_of, argument_of, HasTaken, takes_in}
 use Rattle.epl_syntax.specs.Pipelines.{hands_on}
@@ -104,7 +103,7 @@ IsLeft before s q f (opens given) = (named : Cap) → cap_in (argument 0 given) 
 IsLeft before s q f open_saved = Unit {0}
 IsLeft before s q f (transfers p) = p ≡ q
 IsLeft before s q f (transfer_saved p) = (p ≡ q) × (is_none f.src ≡ false)
-IsLeft before s q f asked = (f.made ≡ q) × ((rule_of s).is_over f ≡ false) × (is_none f.src ≡ false)
+IsLeft before s q f asked = (f.made ≡ q) × ((rule_of s).is_over f ≡ false) × (is_none f.src ≡ false) × (is_spent f.got ≡ false)
 IsLeft before s q f (item_saved true) = (f.made ≡ q +ℤ pos 1) × (int_le (pos 1) f.made ≡ true) × (is_none f.src ≡ false)
 IsLeft before s q f (item_saved false) = (f.made ≡ q) × ((rule_of s).is_over f ≡ false) × (is_none f.src ≡ false)
 
@@ -218,12 +217,12 @@ module _ (before : Uid) (s : Sieve) (items : List (List ℕ)) (q : ℤ) where
   -- it asks for the item behind its front
   asking : (f : Filter) → Holds before s items f → IsOpen before s items f → f.made ≡ q → (rule_of s).is_over f ≡ false
       → Moves before s items q (asks f)
-  asking f h x made on = moves-cond (int_eq f.got greatest) (answers f (returns_none trouble)) _
+  asking f h x made on = moves-cond (is_spent f.got) (answers f (returns_none trouble)) _
       (λ e. answered f (returns_none trouble) h (tt, ([], refl)))
       (λ e. subst (λ o. Moves before s items q (with_item o (λ c. (values_of f, asked, asks_for c f.got))
       (answers f (returns_none trouble))))
       (sym x.1.is_src)
-      (record { now = f; values = refl; holds = h; ends = (refl, (made, on, is-open f x), x.1.of_before, refl, refl) }))
+      (record { now = f; values = refl; holds = h; ends = (refl, (made, on, is-open f x, e), x.1.of_before, refl, refl) }))
 
   -- the item that it made last
   last-is : (f : Filter) (x : IsOpen before s items f) → int_le (pos 1) f.made ≡ true → f.made ≡ q +ℤ pos 1
@@ -305,7 +304,9 @@ module _ (before : Uid) (s : Sieve) (items : List (List ℕ)) (q : ℤ) where
 
   taken : (f : Filter) → Holds before s items f → IsOpen before s items f → (t : List ℕ) → f.made ≡ q → (rule_of s).is_over f ≡ false
       → IsOf items f.got (an_item t) → Moves before s items q (takes_it (rule_of s) f t)
-  taken f h x t made on at = go ((rule_of s).passes f t) refl (grown f x t on at)
+  taken f h x t made on at = moves-cond (is_spent f.got || is_spent f.made) (answers f (returns_none trouble)) _
+      (λ e. answered f (returns_none trouble) h (tt, ([], refl)))
+      (λ e. go ((rule_of s).passes f t) refl (grown f x t on at))
     where
       go : (b : Bool) → (rule_of s).passes f t ≡ b
           → IsOpen before s items (record (cond b (handed_on (rule_of s) t f) (passed_over f)) { saved = false })

@@ -157,11 +157,18 @@ fn answers_last(alloc: Global, filter: Filter) -> Result<Moved, AllocError>
     Ok(answers(filter, returns_item(alloc, item)?))
 }
 
+/// Whether a count cannot be counted on.
+fn is_spent(count: i64) -> bool
+    ensures { result ≡ filters.is_spent count }
+{
+    count >= i64::MAX
+}
+
 /// The stage before is asked for the next item, while its number is one.
 fn asks(alloc: Global, filter: Filter) -> Result<Moved, AllocError>
     ensures { IfOk result (λ m. moved_of m ≡ filters.asks (filter_of filter)) }
 {
-    if filter.got == i64::MAX {
+    if is_spent(filter.got) {
         return answers_none(alloc, filter, TROUBLE);
     }
     let Some(src) = filter.src else {
@@ -220,13 +227,12 @@ fn passed_over(filter: Filter) -> Filter
     }
 }
 
-/// An item is taken in, and saved before it is answered. A filter asks only while the item's number is one of 64 bits,
-/// and hands on no more than it takes in, so that its counts never leave them.
+/// An item is taken in, and saved before it is answered, while its number is one.
 fn takes(alloc: Global, rule: Rule, filter: Filter, item: Txt) -> Result<Moved, AllocError>
     ensures { IfOk result (λ m. moved_of m ≡ filters.takes (rule_of rule) (filter_of filter) item) }
 {
-    if filter.got == i64::MAX || filter.made == i64::MAX {
-        return Err(AllocError);
+    if is_spent(filter.got) || is_spent(filter.made) {
+        return answers_none(alloc, filter, TROUBLE);
     }
     if rule.passes(&filter, &item) {
         let filter = handed_on(alloc, rule, filter, item)?;

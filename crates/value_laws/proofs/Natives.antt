@@ -319,8 +319,8 @@ up_one (negsuc m) (negsuc zero) h = refl
 up_one (negsuc m) (negsuc (suc n)) h = subst (λ x. int_le (negsuc m) x ≡ true) (sym (neg_up n))
     (le-leb n m (omega (arith, leb-true (suc n) m h)))
 
-not_greatest : (n : ℤ) → int_eq n greatest ≡ false → n ≢ greatest
-not_greatest n h e = let same : int_eq n greatest ≡ int_eq greatest greatest = ap (λ m. int_eq m greatest) e in
+not_greatest : (n : ℤ) → filters.is_spent n ≡ false → n ≢ greatest
+not_greatest n h e = let same : filters.is_spent n ≡ filters.is_spent greatest = ap (λ m. filters.is_spent m) e in
     absurd (let x : true ≡ false = sym same ∙ h in cc x)
 
 -- 5. The rules
@@ -458,12 +458,12 @@ module _ (r : filters.Rule) (law : RuleLaw r) where
   }
 
   asks_limited : (f : filters.Filter) → FilterLimited r f → InFilter r (filters.asks f)
-  asks_limited f h = either_by (InFilter r) (int_eq f.got greatest) (filters.answers f (returns_none trouble))
+  asks_limited f h = either_by (InFilter r) (filters.is_spent f.got) (filters.answers f (returns_none trouble))
       (with_item f.src (λ c. (filters.values_of f, filters.asked, asks_for c f.got)) (filters.answers f (returns_none trouble)))
       (λ e. answers_limited f (returns_none trouble) h (no_item trouble (omega arith)) refl)
       (λ e. go e f.src h.src)
     where
-      go : int_eq f.got greatest ≡ false → (o : Option Cap) → IsLimited (cap o) → InFilter r
+      go : filters.is_spent f.got ≡ false → (o : Option Cap) → IsLimited (cap o) → InFilter r
           (with_item o (λ c. (filters.values_of f, filters.asked, asks_for c f.got)) (filters.answers f (returns_none trouble)))
       go e None k = answers_limited f (returns_none trouble) h (no_item trouble (omega arith)) refl
       go e (Some c) k = record {
@@ -503,7 +503,11 @@ module _ (r : filters.Rule) (law : RuleLaw r) where
       → InFilter r (filters.takes r f item)
   takes_limited f item h room k =
       let more : FitsSigned w64 (f.made +ℤ pos 1) = less_fits f.made f.got h.made h.got h.counts room in
-      either (InFilter r) (r.passes f item) (filters.saves (filters.handed_on r item f) (filters.item_saved true))
+      either (InFilter r) (filters.is_spent f.got || filters.is_spent f.made) (filters.answers f (returns_none trouble))
+      (cond (r.passes f item) (filters.saves (filters.handed_on r item f) (filters.item_saved true))
+      (filters.saves (filters.passed_over f) (filters.item_saved false)))
+      (none_limited f trouble (omega arith) h)
+      (either (InFilter r) (r.passes f item) (filters.saves (filters.handed_on r item f) (filters.item_saved true))
       (filters.saves (filters.passed_over f) (filters.item_saved false))
       (filter_saves (filters.handed_on r item f) (filters.item_saved true) (record {
         src = h.src;
@@ -522,7 +526,7 @@ module _ (r : filters.Rule) (law : RuleLaw r) where
         made = h.made;
         counts = up_one f.made f.got h.counts;
         last = h.last;
-      }) tt tt)
+      }) tt tt))
 
   after_limited : (f : filters.Filter) (c : streams.Came) → FilterLimited r f → f.got ≢ greatest → CameFits c
       → InFilter r (filters.after_asking r f c)
