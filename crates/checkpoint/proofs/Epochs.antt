@@ -5,8 +5,11 @@ use Rattle.std.specs.Prelude.{IsTrue, IfSome, IfErr}
 use Rattle.std.specs.FinMap as finite
 use Rattle.std.specs.Ordering.{is_eq}
 use Rattle.std.proofs.lemmas.Cmp.{tied_itself}
-use Rattle.capability.proofs.Uids.{uid_cmp_total}
-use Rattle.eden_model.specs.Map.{with_item, same_uid}
+use Rattle.std.proofs.lemmas.Bool.{false≢true}
+use Rattle.capability.specs.declared.Uid.{Uid}
+use Rattle.capability.proofs.Uids.{uid_cmp_total, uid_cmp-IsAntisymmetric}
+use Rattle.eden_model.specs.Map.{with_item, same_uid, value_at, uid_cmp}
+use Rattle.eden_model.proofs.Laws.{eq-same}
 use Rattle.eden_disk.specs.Told.{Told, contents, LeavesOnly, EachMoment}
 use Rattle.eden_disk.specs.Calls.{Counts, Fine, AtFault, AtStop}
 use Rattle.eden_disk.specs.Timed.{Timed}
@@ -17,16 +20,19 @@ use Rattle.passive_store.specs.declared.store.StoreRefusal.{StoreRefusal}
 use Rattle.passive_store.specs.declared.store.StoreRefusal.TheVariants as refusal
 use Rattle.passive_store.specs.Kept.{Layout, Kept, Idle, Busy, Unsettled, kept_after, body_at, doubt_in, change_in, changes_in, job_left}
 use Rattle.passive_store.specs.Kept.{settled as settled_kept, work_settled, IsFresh, IsDiskRefusal, LeavesKept, StandsThrough, Ran}
-use Rattle.passive_store.specs.Kept.{end_of_store, reserved_uid, work_finished, kept_finished, calls_left}
+use Rattle.passive_store.specs.Kept.{KeepsTelling, end_of_store, work_finished, kept_finished, calls_left}
 use Rattle.passive_store.specs.Kept.{finds_room as finds_shown_room}
 use Rattle.passive_store.specs.Kept.{StoreChange, Stands as StandsKept}
 use Rattle.journal.specs.EjectChange.{body}
 use Rattle.journal.specs.declared.event.BootEnd.TheVariants as end
-use Rattle.journal.specs.World.{Site, on_node}
+use Rattle.journal.specs.World.{Site, Eject, eject_in, on_node}
+use Rattle.journal.specs.Sites.{HasEpochs}
 use Rattle.journal.specs.Ejects.{stored_epoch}
-use Rattle.journal.specs.Settling.{epoch_uid, epoch_bytes, settled, finds_room}
+use Rattle.journal.specs.Settling.{epoch_uid, epoch_bytes, settled, settled_eject, finds_room}
 use Rattle.journal.specs.Boots.{boot_turn}
 use Rattle.journal.specs.Standing.{Stands, with_changes}
+use Rattle.history_laws.proofs.UidLaw.{same-each}
+use Rattle.checkpoint.specs.Changes.{Facts, facts_of}
 use Rattle.checkpoint.specs.Found.{entry_of, standing_of}
 use Rattle.checkpoint.proofs.Found.{kept-moments, kept-left}
 use Rattle.checkpoint.specs.Stretch.{Stretch}
@@ -349,18 +355,62 @@ puts-to layout n more e s old before p x y r number its_layout o f = go r f
 
 -- 6. A put that was begun, and the rest of its job
 
+-- a settling takes no epoch away, and brings no Eject
+settled-none : (p : Option Pick) (s : Site) → (settled p s).node.epoch ≡ None → s.node.epoch ≡ None
+unfolding on_node
+settled-none None s is = is
+settled-none (Some pick.Old) s is = is
+settled-none (Some pick.New) s is = raised s.node.epoch_doubt is
+  where
+    raised : (d : Option ℕ) → with_item d (λ e. Some e) s.node.epoch ≡ None → s.node.epoch ≡ None
+    raised None is = is
+    raised (Some e) is = absurd (cc is)
+
+settled-ejects : (p : Option Pick) (s : Site) (u : Uid) → is_some (eject_in (settled p s) u) ≡ is_some (value_at uid_cmp u s.node.ejects)
+unfolding on_node
+settled-ejects None s u = refl
+settled-ejects (Some k) s u = same-each (settled_eject k) s.node.ejects u
+
+-- once the store of a node is opened it keeps an epoch, or nothing
+pub opens-telling : (layout : Layout) (n more : ℕ) (s : Site) (old : Told) (before : ℕ) (p : Option Pick) (x : Seen) → HasEpochs s.node
+    → OpensTo layout n more s old before p x → KeepsTelling n x.kept
+opens-telling layout n more s old before p x fits o = go (settled p s).node.epoch refl
+  where
+    go : (e : Option ℕ) → (settled p s).node.epoch ≡ e → KeepsTelling n x.kept
+    go (Some e) is = inl (ap is_some (o.keeps.epoch ∙ ap bytes_of_epoch is))
+    go None is = inr (λ u. none u (same_uid u (epoch_uid n)) refl)
+      where
+        there : (u : Uid) (b : Bool) → is_some (value_at uid_cmp u s.node.ejects) ≡ b → b ≡ false
+        there u false at = refl
+        there u true at = absurd (false≢true (sym (ap is_some (settled-none p s is)) ∙ fits.stored_first u at))
+
+        gone : (e : Option Eject) → is_some e ≡ false → e ≡ None
+        gone None at = refl
+        gone (Some e) at = absurd (false≢true (sym at))
+
+        none : (u : Uid) (b : Bool) → same_uid u (epoch_uid n) ≡ b → body_at x.kept u ≡ None
+        none u true same =
+            ap (finite.get x.kept.bodies) (eq-same uid_cmp uid_cmp-IsAntisymmetric u (epoch_uid n) same)
+            ∙ o.keeps.epoch ∙ ap bytes_of_epoch is
+        none u false other =
+            sym (ap (λ (f : Facts). f.0) (o.keeps.facts u (λ same. false≢true (sym other ∙ ap (λ v. same_uid v (epoch_uid n)) same
+            ∙ same-reserved n))))
+            ∙ ap (λ e. (facts_of e).0) (gone (eject_in (settled p s) u)
+            (settled-ejects p s u ∙ there u (is_some (value_at uid_cmp u s.node.ejects)) refl))
+
 pub puts-from : (tells obeys : Bool) (layout : Layout) (n e : ℕ) (x m y : Seen) (done : Unit {0}) (r : Result (Unit {0}) StoreRefusal)
     → IsTrue tells → x.node ≡ n
-    → x.work ≡ Idle → 1 ≤ x.more → Begins tells layout (record { uid = epoch_uid n; body = Some (epoch_bytes e) }) (Ok done) x m
+    → x.work ≡ Idle → 1 ≤ x.more → KeepsTelling n x.kept
+    → Begins tells layout (record { uid = epoch_uid n; body = Some (epoch_bytes e) }) (Ok done) x m
     → Finishes tells obeys layout r m y → PutsOnce (Unit {0}) layout n e x y r
-puts-from tells obeys layout n e x m y done r so node idle told b f = record {
+puts-from tells obeys layout n e x m y done r so node idle told keeps b f = record {
   change = c;
   job = b.calls;
   change_is = refl;
   some = b.bounded.0;
   room = b.room so told;
   fresh = subst (λ (z : Kept). IsFresh c z) kept (subst (λ w. IfSome (change_in w) (λ d. IsFresh d m.kept)) b.work (b.fresh so));
-  told = omega (arith, f.more, b.one (inl (ap reserved_uid (sym node))));
+  told = omega (arith, f.more, b.first so (subst (λ k. KeepsTelling k x.kept) (sym node) keeps));
   mid = m.more;
   ran = subst (λ (d : DiskSeen). Ran 0 (length b.calls) r d.counts y.disk.counts) b.disk
       (subst (λ w. Ran 0 (calls_left w) r m.disk.counts y.disk.counts) b.work f.ran);

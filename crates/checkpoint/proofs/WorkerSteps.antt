@@ -33,7 +33,7 @@ use Rattle.checkpoint.specs.declared.worker.StepEnd.{StepEnd}
 use Rattle.checkpoint.specs.declared.worker.StepEnd.TheVariants.{Going, Ended}
 use Rattle.checkpoint.specs.StoreStands.{StoreStands, Wrote, IsUnderWay, bytes_of_epoch}
 use Rattle.checkpoint.specs.Turns.{TurnsStore, TurnsDown, IsNextCall}
-use Rattle.passive_store.specs.Seen.{Seen, DiskSeen, Asked, Begins, TellsBehind}
+use Rattle.passive_store.specs.Seen.{Seen, DiskSeen, Asked, Begins}
 use Rattle.checkpoint.specs.Asked.{StandsNow, StepsTo, IsNextOf, IsUnderJob, EndsFirst, body_asked, request_of, made_in, requests_of}
 use Rattle.checkpoint.specs.Asked.{noted_in, pick_of}
 use Rattle.checkpoint.specs.StoreCalls.{end_of_refusal}
@@ -590,18 +590,13 @@ quiet-full layout n s asked rest x y
     asks None e = kept-in-is n s x.kept None q.uid (here.keeps.ordered.not_reserved q.uid (here.there.0)) here.keeps ∙ e
 
 -- the room goes on being told while the epoch is kept
-pub keeps-telling : (layout : Layout) (n : ℕ) (s : Site) (asked : List Request) (x : Seen) (u : Uid)
-    → StandsNow layout n s (requests_of x.work asked) x → KeepsTelling n x.kept u
-keeps-telling layout n s asked x u h = inr (subst (λ o. IsTrue (is_some o)) (sym h.keeps.epoch) (stored s.node.epoch h.epoch_stored))
+pub keeps-telling : (layout : Layout) (n : ℕ) (s : Site) (asked : List Request) (x : Seen)
+    → StandsNow layout n s (requests_of x.work asked) x → KeepsTelling n x.kept
+keeps-telling layout n s asked x h = inl (subst (λ o. IsTrue (is_some o)) (sym h.keeps.epoch) (stored s.node.epoch h.epoch_stored))
   where
     stored : (o : Option ℕ) → IsTrue (is_some o) → IsTrue (is_some (bytes_of_epoch o))
     stored None e = e
     stored (Some k) e = refl
-
-pub tells-behind : (layout : Layout) (n : ℕ) (s : Site) (asked : List Request) (x : Seen) (u : Uid) (new : Option (List ℕ))
-    → StandsNow layout n s (requests_of x.work asked) x → TellsBehind n x.kept u new
-tells-behind layout n s asked x u None h = tt
-tells-behind layout n s asked x u (Some bytes) h = keeps-telling layout n s asked x u h
 
 -- 7. The first of a queue
 

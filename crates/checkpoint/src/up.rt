@@ -183,7 +183,7 @@ fn put_epoch<St: Store>(
     ensures obeyed { ObeyedIn St.Device.obeys (St.seen store.old).disk (St.seen store.new).disk (end_of_store result) }
     ensures raises { RaisesClock (end_of_store result) (St.seen store.old).disk.counts.clock (St.seen store.new).disk.counts.clock }
     ensures puts { IsTrue St.Device.tells → (more : ℕ) (s : Site) (told : Told) (clock : ℕ) (p : Option Pick) → 1 ≤ more
-        → s.number ≡ node → s.layout ≡ St.layout → OpensTo St.layout node more s told clock p (St.seen store.old)
+        → s.number ≡ node → s.layout ≡ St.layout → HasEpochs s.node → OpensTo St.layout node more s told clock p (St.seen store.old)
         → PutsTo St.layout node more s told clock p epoch (St.seen store.old) result (St.seen store.new) }
 {
     let uid = Uid {

@@ -9,7 +9,8 @@ use Rattle.passive_store.specs.declared.store.StoreRefusal.{StoreRefusal}
 use Rattle.passive_store.specs.declared.store.StoreRefusal.TheVariants.{Failed, Stopped, Full, Damaged, OutOfMemory}
 use Rattle.passive_store.specs.Kept.{StoreChange, Work, Idle, Unsettled, body_at, kept_after, is_busy, is_unsettled, work_settled, settled}
 use Rattle.passive_store.specs.Kept.{IsDiskRefusal, IsEarlyRefusal, SettlesFirst, SettlesAfterMemory, work_changed, work_refused}
-use Rattle.passive_store.specs.Kept.{kept_changed}
+use Rattle.passive_store.specs.Kept.{Kept, Busy, IsFullBy, kept_changed}
+use Rattle.passive_store.specs.declared.store.Pick.TheVariants as pick
 use Rattle.passive_store.specs.Seen.{Seen}
 use Rattle.move_laws.specs.Wander.{Record}
 use Rattle.move_laws.specs.World.{Node, keeping, doubting}
@@ -127,3 +128,29 @@ put-both result old new m x c u r p idle node only picked work kept s = go resul
       | inr early ↦ elim early [ inl e ↦ absurd (cc e) | inr e ↦ absurd (cc e) ]
     ]
     go (Err OutOfMemory) only none work kept = inl (inr refl, same-shows old new m x idle node (work ∙ idle) (kept ∙ same) s)
+
+-- where nothing is in doubt a settling leaves what is kept
+idle-keeps : (pick : Option StorePick) (w : Work) (k : Kept) → w ≡ Idle → settled pick w k ≡ k
+idle-keeps None w k is = refl
+idle-keeps (Some pick.Old) w k is = refl
+idle-keeps (Some pick.New) Idle k is = refl
+idle-keeps (Some pick.New) (Busy c made left) k is = refl
+idle-keeps (Some pick.New) (Unsettled c synced) k is = absurd (cc is)
+
+-- so Full is then what the room of that says
+pub full-idle : (result : Result (Unit {0}) StoreRefusal) (room : Kept → Bool) (picked : Option StorePick) (w : Work) (k : Kept) → w ≡ Idle
+    → SettlesAfterMemory picked w result → IsFullBy (room (settled picked w k)) picked w result → IsFullBy (room k) None Idle result
+full-idle result room picked w k idle s f =
+    go result s (subst (λ x. IsFullBy (room x) picked w result) (idle-keeps picked w k idle) f)
+  where
+    none : (p : Option StorePick) → (IsTrue (is_some p) → IsTrue (is_unsettled w)) → is_some p ≡ is_unsettled w
+    none None only = sym (ap is_unsettled idle)
+    none (Some p) only = sym (only refl)
+
+    go : (r : Result (Unit {0}) StoreRefusal) → SettlesAfterMemory picked w r → IsFullBy (room k) picked w r → IsFullBy (room k) None Idle r
+    go (Ok done) s f = f
+    go (Err Failed) s f = λ e. f (none picked s)
+    go (Err Stopped) s f = λ e. f (none picked s)
+    go (Err Full) s f = f
+    go (Err (Damaged place)) s f = tt
+    go (Err OutOfMemory) s f = tt

@@ -1,9 +1,10 @@
 //! The steps of which each call is made, over any store: a settling, a read and a put.
-ghost use Rattle.std.specs.Prelude.{◌≡◌, ◌≤◌, ◌⊎◌, Bool, IsTrue, OnOk, MatchResult, Option, Result, Err, is_some, length};
+ghost use Rattle.std.specs.Prelude.{◌≡◌, ◌≤◌, ◌+◌, ◌⊎◌, Bool, IsTrue, OnOk, MatchResult, Option, Result, Err, is_some, length};
 ghost use Rattle.std.specs.Option.{option_map};
 ghost use Rattle.eden_value.specs.Datum.{Datum};
 ghost use Rattle.passive_store.specs.declared.store.StoreRefusal.TheVariants.{OutOfMemory, Stopped};
-ghost use Rattle.passive_store.specs.Kept.{Idle, end_of_store, is_busy, IsDiskRefusal, IsEarlyRefusal};
+ghost use Rattle.passive_store.specs.Kept.{Idle, end_of_store, is_busy, IsDiskRefusal, IsEarlyRefusal, IsFullBy};
+ghost use Rattle.passive_store.specs.Seen.{asked, has_room_for};
 ghost use Rattle.move_laws.specs.World.{Node, keeping, doubting};
 ghost use Rattle.move_laws.specs.Wander.{Record as AnyRecord};
 ghost use Rattle.eden_move.specs.Records.{record_in};
@@ -88,6 +89,11 @@ pub fn puts_record<St: Store>(
         (λ _. Shows (St.seen store.new) m (keeping uid r x))
         (λ e. (IsEarlyRefusal e × Shows (St.seen store.new) m x)
         ⊎ (IsDiskRefusal e × Shows (St.seen store.new) m (doubting (Option.Some (uid, r)) x))) }
+    // As long as the room is told, it is refused as Full exactly where there is none; and the room goes on being told.
+    ensures full { IsTrue St.Device.tells → 1 ≤ (St.seen store.old).more
+        → IsFullBy (has_room_for St.layout (St.seen store.old).disk.counts.size (St.seen store.old).kept
+        (asked (key number uid) (Option.Some body))) Option.None Idle result }
+    ensures more { (St.seen store.old).more ≤ (St.seen store.new).more + 1 }
 {
     store.put(alloc, key_of(number, uid), body.as_slice())
 }

@@ -1,7 +1,7 @@
 -- The stored epoch of a node, and the one in doubt, are at most 4,294,967,295 in every world of a history.
 use Rattle.std.proofs.Common.{◌≡◌, ◌≤◌, ◌<◌, ℕ, Bool, true, false, cond, List, [], ◌∷◌, map, Option, None, Some, Result}
 use Rattle.std.proofs.Common.{Ok, Err, length, refl, sym, ◌∙◌, ap, subst, arith, inl, inr}
-use Rattle.std.specs.Prelude.{IsSomeAnd, IfSome, ◌⊎◌}
+use Rattle.std.specs.Prelude.{IsSomeAnd, IfSome, is_some, ◌⊎◌}
 use Rattle.std.specs.List.{All}
 use Rattle.std.proofs.lemmas.List.Elements.{All-head, All-tail}
 use Rattle.std.specs.Ordering.{nat_cmp}
@@ -16,6 +16,7 @@ use Rattle.passive_store.specs.declared.store.Pick.TheVariants as pick
 use Rattle.passive_store.specs.Kept.{Layout, Kept, IsOwn}
 use Rattle.passive_store.specs.Layout.{IsLayout}
 use Rattle.journal.specs.EjectChange.{kept_of}
+use Rattle.journal.specs.Ejects.{epoch_or_zero}
 use Rattle.journal.specs.declared.command.Script.{Script}
 use Rattle.journal.specs.declared.event.BootEnd.{BootEnd}
 use Rattle.journal.specs.declared.event.BootEnd.TheVariants as boot_end
@@ -41,14 +42,21 @@ use Rattle.journal.specs.LegalRun.{IsHandedIn, AreHandedIn, numbered, images, op
 use Rattle.journal.specs.Laws.{Begins}
 use Rattle.journal.specs.Sites.{Everywhere, HasEpochs}
 use Rattle.history_laws.proofs.NoUidTwice.{disk-node}
+use Rattle.history_laws.proofs.SiteRuns.{worlds-are-known}
+use Rattle.history_laws.proofs.Uids.{IsBehind}
 use Rattle.history_laws.proofs.EveryNode.{IsKeptAt, all-next, all-same_nodes}
 use Rattle.history_laws.proofs.Runs.{Any, of-any, end-keeps, world-booting, nodes-looked_up}
 use Rattle.history_laws.proofs.SiteFrames.{Leaves, keeps-site, leaves-crashed, leaves-tells, leaves-born, leaves-turned_away, leaves-awake}
 use Rattle.history_laws.proofs.SiteFrames.{leaves-done, leaves-ended, leaves-doubted, leaves-on_eject}
 
+-- the stored epoch and the one in doubt
+pub record AreBounded (it : Node) : Type 0 where
+  pub stored : IfSome it.epoch (λ e. e ≤ last_epoch)
+  pub doubted : IfSome it.epoch_doubt (λ e. e ≤ last_epoch)
+
 -- 1. Changes that leave both
 
-epochs-like : (it new : Node) → new.epoch ≡ it.epoch → new.epoch_doubt ≡ it.epoch_doubt → HasEpochs it → HasEpochs new
+epochs-like : (it new : Node) → new.epoch ≡ it.epoch → new.epoch_doubt ≡ it.epoch_doubt → AreBounded it → AreBounded new
 epochs-like it new epoch doubt h = record {
   stored = subst (λ o. IfSome o (λ e. e ≤ last_epoch)) (sym epoch) h.stored;
   doubted = subst (λ o. IfSome o (λ e. e ≤ last_epoch)) (sym doubt) h.doubted;
@@ -59,18 +67,18 @@ record Spares (m : Node → Node → Node) : Type 0 where
   epoch : (a b : Node) → (m a b).epoch ≡ a.epoch
   doubt : (a b : Node) → (m a b).epoch_doubt ≡ a.epoch_doubt
 
-epochs-left : (m : Node → Node → Node) → Spares m → (s new : Site) → Leaves m s new → HasEpochs s.node → HasEpochs new.node
+epochs-left : (m : Node → Node → Node) → Spares m → (s new : Site) → Leaves m s new → AreBounded s.node → AreBounded new.node
 epochs-left m spares s new left h = epochs-like s.node new.node (ap (λ (it : Node). it.epoch) left.node ∙ spares.epoch s.node new.node)
     (ap (λ (it : Node). it.epoch_doubt) left.node ∙ spares.doubt s.node new.node) h
 
 epochs-node : (f : Node → Node) (s : Site) → (f s.node).epoch ≡ s.node.epoch → (f s.node).epoch_doubt ≡ s.node.epoch_doubt
-    → HasEpochs s.node → HasEpochs (on_node f s).node
+    → AreBounded s.node → AreBounded (on_node f s).node
 unfolding on_node
 epochs-node f s epoch doubt h = epochs-like s.node (f s.node) epoch doubt h
 
 -- 2. Settling
 
-epochs-settled : (p : Option Pick) (s : Site) → HasEpochs s.node → HasEpochs (settled p s).node
+epochs-settled : (p : Option Pick) (s : Site) → AreBounded s.node → AreBounded (settled p s).node
 unfolding on_node
 epochs-settled None s h = h
 epochs-settled (Some pick.Old) s h = record { stored = h.stored; doubted = tt }
@@ -80,10 +88,10 @@ epochs-settled (Some pick.New) s h = record { stored = go s.node.epoch_doubt h.d
     go None x = h.stored
     go (Some e) x = x
 
-epochs-started : (p : Option Pick) (s : Site) → HasEpochs s.node → HasEpochs (start_settled p s).node
+epochs-started : (p : Option Pick) (s : Site) → AreBounded s.node → AreBounded (start_settled p s).node
 epochs-started p s h = go (to_settle s)
   where
-    go : (b : Bool) → HasEpochs (cond b (settled p (unsynced s)) s).node
+    go : (b : Bool) → AreBounded (cond b (settled p (unsynced s)) s).node
     go true = epochs-settled p (unsynced s) (epochs-node (λ it. record it { synced = false }) s refl refl h)
     go false = h
 
@@ -93,19 +101,19 @@ spares : {m : Node → Node → Node} → ((a b : Node) → (m a b).epoch ≡ a.
     → Spares m
 spares epoch doubt = record { epoch = epoch; doubt = doubt }
 
-epochs-crashed : (s : Site) → HasEpochs s.node → HasEpochs (crashed s).node
+epochs-crashed : (s : Site) → AreBounded s.node → AreBounded (crashed s).node
 epochs-crashed s h = epochs-left _ (spares (λ a b. refl) (λ a b. refl)) s _ (leaves-crashed s) h
 
-epochs-doubted : (r : StoreRequest) (s : Site) → HasEpochs s.node → HasEpochs (doubted r s).node
+epochs-doubted : (r : StoreRequest) (s : Site) → AreBounded s.node → AreBounded (doubted r s).node
 epochs-doubted r s h = epochs-left _ (spares (λ a b. refl) (λ a b. refl)) s _ (leaves-doubted r s) h
 
-epochs-ended : (r : StoreRequest) (why : Status) (s : Site) → HasEpochs s.node → HasEpochs (request_ended r why s).node
+epochs-ended : (r : StoreRequest) (why : Status) (s : Site) → AreBounded s.node → AreBounded (request_ended r why s).node
 epochs-ended r why s h = epochs-left _ (spares (λ a b. refl) (λ a b. refl)) s _ (leaves-ended r why s) h
 
-epochs-done : (r : StoreRequest) (s : Site) → HasEpochs s.node → HasEpochs (done r s).node
+epochs-done : (r : StoreRequest) (s : Site) → AreBounded s.node → AreBounded (done r s).node
 epochs-done r s h = epochs-left _ (spares (λ a b. refl) (λ a b. refl)) s _ (leaves-done r s) h
 
-epochs-stored : (r : StoreRequest) (s : Site) → HasEpochs s.node → HasEpochs (stored r s).node
+epochs-stored : (r : StoreRequest) (s : Site) → AreBounded s.node → AreBounded (stored r s).node
 epochs-stored r s h = epochs-node (λ it. record it { ledger = written_with s.layout r.change it.ledger }) kept refl refl
     (epochs-left _ (spares (λ a b. refl) (λ a b. refl)) s kept
     (leaves-on_eject r.uid (λ e. record e { kept = kept_of r.change; doubt = None }) s) h)
@@ -113,11 +121,11 @@ epochs-stored r s h = epochs-node (λ it. record it { ledger = written_with s.la
     kept : Site
     kept = on_eject r.uid (λ e. record e { kept = kept_of r.change; doubt = None }) s
 
-epochs-faulted : (r : StoreRequest) (s : Site) → HasEpochs s.node → HasEpochs (request_ended r status.StoreFault (unsynced s)).node
+epochs-faulted : (r : StoreRequest) (s : Site) → AreBounded s.node → AreBounded (request_ended r status.StoreFault (unsynced s)).node
 epochs-faulted r s h = epochs-ended r status.StoreFault (unsynced s) (epochs-node (λ it. record it { synced = false }) s refl refl h)
 
-epochs-worked : (w : Work) (r : StoreRequest) (how : RequestEnd) (p : Option Pick) (s : Site) → HasEpochs s.node
-    → HasEpochs (worked w r how p s).node
+epochs-worked : (w : Work) (r : StoreRequest) (how : RequestEnd) (p : Option Pick) (s : Site) → AreBounded s.node
+    → AreBounded (worked w r how p s).node
 epochs-worked syncs r end.Part p s h = epochs-node (λ it. record it { synced = true }) s refl refl h
 epochs-worked syncs r end.Done p s h = h
 epochs-worked syncs r end.Full p s h = h
@@ -137,14 +145,14 @@ epochs-worked calls r end.Full p s h = h
 epochs-worked calls r end.Fault p s h = epochs-ended r status.StoreFault (doubted r s) (epochs-doubted r s h)
 epochs-worked calls r end.Stop p s h = epochs-crashed (doubted r s) (epochs-doubted r s h)
 
-epochs-store : (how : RequestEnd) (p : Option Pick) (s : Site) → HasEpochs s.node → HasEpochs (store_turn how p s).node
+epochs-store : (how : RequestEnd) (p : Option Pick) (s : Site) → AreBounded s.node → AreBounded (store_turn how p s).node
 epochs-store how p s h = go (first_request s.node)
   where
-    go : (o : Option StoreRequest) → HasEpochs (with_item o (λ r. worked (work_of s r) r how p s) s).node
+    go : (o : Option StoreRequest) → AreBounded (with_item o (λ r. worked (work_of s r) r how p s) s).node
     go None = h
     go (Some r) = epochs-worked (work_of s r) r how p s h
 
-epochs-activated : (v : Uid) (how : StartEnd) (s : Site) → HasEpochs s.node → HasEpochs (activated v how s).node
+epochs-activated : (v : Uid) (how : StartEnd) (s : Site) → AreBounded s.node → AreBounded (activated v how s).node
 epochs-activated v start_end.Ok s h = epochs-left _ (spares (λ a b. refl) (λ a b. refl)) s _ (leaves-awake v s) h
 epochs-activated v start_end.Gone s h = epochs-left _ (spares (λ a b. refl) (λ a b. refl)) s _ (leaves-turned_away v status.Gone s) h
 epochs-activated v start_end.Fault s h = epochs-left _ (spares (λ a b. refl) (λ a b. refl)) s _ (leaves-turned_away v status.StoreFault s) h
@@ -173,13 +181,13 @@ began-fits s e boot_end.Full p began (inl b) on = not-begun began b.nothing.not_
 began-fits s e boot_end.Full p began (inr b) on = not-begun began b.nothing.not_begun on
 
 -- a boot that began a put has that epoch in doubt
-epochs-begun : (e : ℕ) (began : Bool) (it : Node) → (began ≡ true → e ≤ last_epoch) → HasEpochs it
-    → HasEpochs (record it { epoch_doubt = cond began (Some e) it.epoch_doubt })
+epochs-begun : (e : ℕ) (began : Bool) (it : Node) → (began ≡ true → e ≤ last_epoch) → AreBounded it
+    → AreBounded (record it { epoch_doubt = cond began (Some e) it.epoch_doubt })
 epochs-begun e true it fits h = record { stored = h.stored; doubted = fits refl }
 epochs-begun e false it fits h = h
 
-epochs-booted : (s : Site) (e : ℕ) (how : BootEnd) (p : Option Pick) (began : Bool) → BootsSo s e how p began → (it : Node) → HasEpochs it
-    → HasEpochs (booted_node s e how began it)
+epochs-booted : (s : Site) (e : ℕ) (how : BootEnd) (p : Option Pick) (began : Bool) → BootsSo s e how p began → (it : Node) → AreBounded it
+    → AreBounded (booted_node s e how began it)
 epochs-booted s e boot_end.Up p began b it h = record { stored = next-fits s e p began b; doubted = h.doubted }
 epochs-booted s e boot_end.DiskFault p began b it h = epochs-begun e began it (began-fits s e boot_end.DiskFault p began b) h
 epochs-booted s e boot_end.Stop p began b it h = epochs-begun e began it (began-fits s e boot_end.Stop p began b) h
@@ -187,14 +195,14 @@ epochs-booted s e (boot_end.Damaged place) p began b it h = epochs-begun e began
 epochs-booted s e boot_end.EpochsSpent p began b it h = epochs-begun e began it (began-fits s e boot_end.EpochsSpent p began b) h
 epochs-booted s e boot_end.Full p began b it h = epochs-begun e began it (began-fits s e boot_end.Full p began b) h
 
-epochs-boot : (e : ℕ) (how : BootEnd) (p : Option Pick) (began : Bool) (s : Site) → BootsSo s e how p began → HasEpochs s.node
-    → HasEpochs (boot_turn e how p began s).node
+epochs-boot : (e : ℕ) (how : BootEnd) (p : Option Pick) (began : Bool) (s : Site) → BootsSo s e how p began → AreBounded s.node
+    → AreBounded (boot_turn e how p began s).node
 unfolding on_node
 epochs-boot e how p began s b h = epochs-booted s e how p began b (settled p s).node (epochs-settled p s h)
 
 -- 5. Every event
 
-epochs-turn : (reach : ℕ → Bool) (e : Event) (s : Site) → AllowsAt s e → HasEpochs s.node → HasEpochs (site_turn reach e s).node
+epochs-turn : (reach : ℕ → Bool) (e : Event) (s : Site) → AllowsAt s e → AreBounded s.node → AreBounded (site_turn reach e s).node
 epochs-turn reach (event.Request k a b refused) s allowed h = let site = keeps-site reach (event.Request k a b refused) s in
     epochs-like s.node _ (ap (λ (it : Node). it.epoch) site.node) (ap (λ (it : Node). it.epoch_doubt) site.node) h
 epochs-turn reach (event.Reply k a b name why values) s allowed h = let site = keeps-site reach (event.Reply k a b name why values) s in
@@ -209,7 +217,7 @@ epochs-turn reach (event.Boot n e how p began) s allowed h = epochs-boot e how p
 epochs-turn reach (event.Crash n) s allowed h = epochs-crashed s h
 epochs-turn reach _ s allowed h = absurd allowed
 
-pub kept-epochs : (w : World) (e : Event) → IsKeptAt (λ n it. HasEpochs it) w e
+pub kept-epochs : (w : World) (e : Event) → IsKeptAt (λ n it. AreBounded it) w e
 kept-epochs w e = record {
   turns = λ n it at place allowed h. epochs-turn (reaches w n) e (site_of w n it) allowed h;
   crashes = λ n s is number h. epochs-crashed s h;
@@ -270,35 +278,52 @@ image-epoch layout n d lays handed kept found = go (layout.map_of n image) refl 
 
 pub node-epochs : (n size : ℕ) (found : Result (List (Uid × List ℕ)) ℕ) (overfull untold : Bool) (ledger : List ℕ)
     → ((kept : List (Uid × List ℕ)) → found ≡ Ok kept → IfSome (epoch_in n kept) (λ e. e ≤ last_epoch))
-    → HasEpochs (node_from n size found overfull untold ledger)
+    → AreBounded (node_from n size found overfull untold ledger)
 node-epochs n size (Ok kept) overfull untold ledger fits = record { stored = fits kept refl; doubted = tt }
 node-epochs n size (Err place) overfull untold ledger fits = record { stored = tt; doubted = tt }
 
 pub opening-epochs : (layout : Layout) (disks : List (ℕ × DiskRun)) → IsLayout layout
     → ((n : ℕ) (d : DiskRun) → value_at nat_cmp n disks ≡ Some d → IsHandedIn layout n d)
-    → (n : ℕ) (it : Node) → value_at nat_cmp n (map (λ d. (d.0, node_of layout d)) (images disks)) ≡ Some it → HasEpochs it
+    → (n : ℕ) (it : Node) → value_at nat_cmp n (map (λ d. (d.0, node_of layout d)) (images disks)) ≡ Some it → AreBounded it
 opening-epochs layout disks lays fits n it is = go (value_at nat_cmp n disks) refl (disk-node layout n it disks is)
   where
     go : (o : Option DiskRun) → value_at nat_cmp n disks ≡ o → IsSomeAnd o (λ d. node_of layout (n, (contents d.before).now) ≡ it)
-        → HasEpochs it
+        → AreBounded it
     go None at x = absurd x
-    go (Some d) at x = subst HasEpochs x (node-epochs n _ (found_in layout n (contents d.before).now) _ _ _
+    go (Some d) at x = subst AreBounded x (node-epochs n _ (found_in layout n (contents d.before).now) _ _ _
         (image-epoch layout n d lays (fits n d at)))
 
 -- 7. The law
 
-pub epochs-are-bounded : (layout : Layout) (script : Script) (disks : List DiskRun) (history : List Entry) → IsLayout layout
+both-are-bounded : (layout : Layout) (script : Script) (disks : List DiskRun) (history : List Entry) → IsLayout layout
     → AreHandedIn layout disks → Begins layout script disks history
-    → Everywhere (λ n it. HasEpochs it) (last_world (opening_world layout script disks) script history)
-epochs-are-bounded layout script disks history lays fits begins = end-keeps Any (Everywhere (λ n it. HasEpochs it)) (record {
-  entries = λ past w c e any allowed i. (tt, all-next (λ n it. HasEpochs it) w c e (kept-epochs w e.event) allowed i);
+    → Everywhere (λ n it. AreBounded it) (last_world (opening_world layout script disks) script history)
+both-are-bounded layout script disks history lays fits begins = end-keeps Any (Everywhere (λ n it. AreBounded it)) (record {
+  entries = λ past w c e any allowed i. (tt, all-next (λ n it. AreBounded it) w c e (kept-epochs w e.event) allowed i);
   look_ups = λ past w name target path e any allowed plain i. (
     tt,
-    all-same_nodes (λ n it. HasEpochs it) w (looked_up w name target path e.event) (nodes-looked_up w name target path e.event) i,
+    all-same_nodes (λ n it. AreBounded it) w (looked_up w name target path e.event) (nodes-looked_up w name target path e.event) i,
   );
 }) (beginning w script.nodes script.commands) [] history (of-any 1 script.nodes w script.commands)
-    (subst (Everywhere (λ n it. HasEpochs it)) (sym (world-booting 1 script.nodes w script.commands))
+    (subst (Everywhere (λ n it. AreBounded it)) (sym (world-booting 1 script.nodes w script.commands))
     (opening-epochs layout (numbered disks) lays fits)) begins
   where
     w : World
     w = opening_world layout script disks
+
+-- an Eject has an epoch that is counted from 1, and the stored one has reached it
+stored-before : (o : Option ℕ) (u : Uid) (last : ℕ) → IsBehind u (epoch_or_zero o) last → is_some o ≡ true
+stored-before None u last b = absurd (omega (arith, b.epoch_counts, b.epoch_given))
+stored-before (Some e) u last b = refl
+
+pub epochs-are-bounded : (layout : Layout) (script : Script) (disks : List DiskRun) (history : List Entry) → IsLayout layout
+    → AreHandedIn layout disks → Begins layout script disks history
+    → Everywhere (λ n it. HasEpochs it) (last_world (opening_world layout script disks) script history)
+epochs-are-bounded layout script disks history lays fits begins n it at =
+    let bounds = both-are-bounded layout script disks history lays fits begins n it at in
+    let fit = (worlds-are-known layout script disks history lays fits begins).fit n it at in
+    record {
+      stored = bounds.stored;
+      doubted = bounds.doubted;
+      stored_first = λ u there. stored-before it.epoch u it.last_serial (fit.behind u there);
+    }

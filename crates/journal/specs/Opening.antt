@@ -88,8 +88,8 @@ has_epoch_first n (Ok (e ∷ kept)) = is_some (epoch_in n (e ∷ kept))
 has_epoch_first n (Err place) = false
 
 -- An image that can be opened, of which the room is told for no change more. Over blocks the last sequence is used there, or no head or no
--- block is free, so that no put finds room, not even that of an epoch. It is not asked of an image that keeps Ejects and no epoch, of
--- which blocks tell the room for no change on that ground alone.
+-- block is free, so that no put finds room, not even that of an epoch. It is not asked of an image that keeps Ejects and no epoch,
+-- which is not fit for a run.
 abbrev pub is_untold : Layout → ℕ → List ℕ → Bool
 is_untold layout n image =
     (layout.changes_told n image == 0) && (not (layout.is_overfull n image) && has_epoch_first n (found_in layout n image))

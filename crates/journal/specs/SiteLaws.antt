@@ -55,7 +55,7 @@ MonitorsAreHeld = OfEachRuled (λ opening w. AreInTheirMonitors w)
 abbrev pub EveryTurnIsFit : Type 0
 EveryTurnIsFit = OfEachRuled (λ opening w. Everywhere (λ n it. TurnsAreFit (site_of w n it)) w)
 
--- The stored epoch of each node, and the one in doubt, are at most 4,294,967,295.
+-- The stored epoch of each node, and the one in doubt, are at most 4,294,967,295; and where an Eject is there, an epoch is stored.
 abbrev pub EpochsAreBounded : Type 0
 EpochsAreBounded = OfEachReached (λ opening w. Everywhere (λ n it. HasEpochs it) w)
 

@@ -106,12 +106,15 @@ pub record IsSound (n size : ℕ) (rs : List StoreRequest) (es : List (Uid × Ej
 abbrev pub Sound : ℕ → Node → Type 0
 Sound n it = IsSound n it.size it.requests it.ejects
 
--- the stored epoch and the one in doubt, where there are such, are at most the last epoch, 4,294,967,295
+-- the stored epoch and the one in doubt, where there are such, are at most the last epoch, 4,294,967,295; and before one is stored
+-- no Eject is there
 pub record HasEpochs (it : Node) : Type 0 where
   -- what is stored is at most the last epoch there is
   pub stored : IfSome it.epoch (λ e. e ≤ last_epoch)
   -- and so is the one of which it is not known whether it is stored
   pub doubted : IfSome it.epoch_doubt (λ e. e ≤ last_epoch)
+  -- where an Eject is there, an epoch is stored
+  pub stored_first : (u : Uid) → is_some (value_at uid_cmp u it.ejects) ≡ true → is_some it.epoch ≡ true
 
 -- 4. Calls
 

@@ -73,26 +73,26 @@ overfull_of_format node image f long is =
     ap (λ b. b && overfull_by (format_of image) node image) (allowed image long) ∙ ap (λ g. overfull_by g node image) is
 
 changes_of_format : (node : ℕ) (image : List ℕ) (f : Format) → length image ≡ 4194304 → format_of image ≡ f
-    → block_changes node image ≡ (if overfull_by f node image then 2 ^ 63 else changes_left node 4194304 (heads_by f node image)
+    → block_changes node image ≡ (if overfull_by f node image then 2 ^ 63 else changes_left 4194304 (heads_by f node image)
     (map_by f node image))
 changes_of_format node image f long is =
-    ap (λ g. if overfull_by g node image then 2 ^ 63 else changes_left node (length image) (heads_by g node image)
+    ap (λ g. if overfull_by g node image then 2 ^ 63 else changes_left (length image) (heads_by g node image)
     (block_map node image)) is
-    ∙ ap (λ n. if overfull_by f node image then 2 ^ 63 else changes_left node n (heads_by f node image) (block_map node image)) long
-    ∙ ap (λ m. if overfull_by f node image then 2 ^ 63 else changes_left node 4194304 (heads_by f node image) m)
+    ∙ ap (λ n. if overfull_by f node image then 2 ^ 63 else changes_left n (heads_by f node image) (block_map node image)) long
+    ∙ ap (λ m. if overfull_by f node image then 2 ^ 63 else changes_left 4194304 (heads_by f node image) m)
     (map_of_format node image f long is)
 
 -- an opening finds this log
 pub record SaysLog (node : ℕ) (image : List ℕ) (log : Result Kept ℕ) : Type 0 where
   pub found : block_map node image ≡ moved_map log
   pub overfull : block_layout.is_overfull node image ≡ is_too_much log
-  pub told : block_changes node image ≡ (if is_too_much log then 2 ^ 63 else changes_left node 4194304 (heads_moved log) (moved_map log))
+  pub told : block_changes node image ≡ (if is_too_much log then 2 ^ 63 else changes_left 4194304 (heads_moved log) (moved_map log))
 
 -- an opening finds these blocks
 pub record SaysBlocks (node : ℕ) (image blocks : List ℕ) : Type 0 where
   pub found : block_map node image ≡ blocks_map node blocks
   pub overfull : block_layout.is_overfull node image ≡ false
-  pub told : block_changes node image ≡ changes_left node 4194304 (heads_or_none (heads_of node blocks)) (blocks_map node blocks)
+  pub told : block_changes node image ≡ changes_left 4194304 (heads_or_none (heads_of node blocks)) (blocks_map node blocks)
 
 pub log_says : (node : ℕ) (image : List ℕ) → IsOldLog image → SaysLog node image (log_map node (old_log image))
 log_says node image is = record {
@@ -169,7 +169,7 @@ copying_says node start image is fits =
       found = says.found ∙ ap (λ m. moved_map m) l ∙ sym (log_says node start is).found;
       overfull = says.overfull ∙ ap (λ m. is_too_much m) l ∙ sym (log_says node start is).overfull;
       told = says.told
-          ∙ ap (λ (m : Result Kept ℕ). if is_too_much m then 2 ^ 63 else changes_left node 4194304 (heads_moved m) (moved_map m)) l
+          ∙ ap (λ (m : Result Kept ℕ). if is_too_much m then 2 ^ 63 else changes_left 4194304 (heads_moved m) (moved_map m)) l
           ∙ sym (log_says node start is).told;
     }
 
@@ -206,7 +206,7 @@ moving_says node start image is fits =
     (let says = staged_says node image there in record {
       found = says.found ∙ ap (λ xs. blocks_map node xs) same;
       overfull = says.overfull;
-      told = says.told ∙ ap (λ xs. changes_left node 4194304 (heads_or_none (heads_of node xs)) (blocks_map node xs)) same;
+      told = says.told ∙ ap (λ xs. changes_left 4194304 (heads_or_none (heads_of node xs)) (blocks_map node xs)) same;
     })
     (staged_says node start is)
 
@@ -253,7 +253,7 @@ ending_says node start image is moved fits = by_byte (slice_index image 1 == 235
       (record {
         found = says.found ∙ ap (λ xs. blocks_map node xs) same;
         overfull = says.overfull;
-        told = says.told ∙ ap (λ xs. changes_left node 4194304 (heads_or_none (heads_of node xs)) (blocks_map node xs)) same;
+        told = says.told ∙ ap (λ xs. changes_left 4194304 (heads_or_none (heads_of node xs)) (blocks_map node xs)) same;
       })
       (staged_says node start is)
 

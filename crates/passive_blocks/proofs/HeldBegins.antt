@@ -16,7 +16,7 @@ use Rattle.passive_blocks.specs.declared.block_store.Pending.{Pending}
 use Rattle.passive_blocks.specs.declared.block_store.Stage.TheVariants.{Close}
 use Rattle.block_tables.specs.Blocks.{Head, data_count, greatest, numbers}
 use Rattle.block_tables.specs.Changes.{free_head, is_removal, is_taken, size_of}
-use Rattle.passive_blocks.specs.BlockLayout.{block_layout, blocks_left, changes_left, has_first}
+use Rattle.passive_blocks.specs.BlockLayout.{block_layout, blocks_left, changes_left}
 use Rattle.block_tables.specs.HeadState.{heads_in, is_open, slot_at}
 use Rattle.block_tables.specs.TableState.{fits_in, greatest_in, keeper, sequence_of}
 use Rattle.passive_blocks.specs.StoreState.{calls_at}
@@ -56,11 +56,10 @@ job_bounded size counts t p held =
     at_most : (s n : ℕ) → s ≤ n → nat_le s n ≡ true
     at_most s n less = le-leb s n less
 
-pub told_last : (a b c : Bool) (n more : ℕ) → more ≤ (if a && (b && c) then n else 0) → more ≤ n
-told_last true true true n more less = less
-told_last true true false n more less = omega (arith, less)
-told_last true false c n more less = omega (arith, less)
-told_last false b c n more less = omega (arith, less)
+pub told_last : (a b : Bool) (n more : ℕ) → more ≤ (if a && b then n else 0) → more ≤ n
+told_last true true n more less = less
+told_last true false n more less = omega (arith, less)
+told_last false b n more less = omega (arith, less)
 
 found_of : (p : ℕ → Bool) (from n : ℕ) → is_some (find p (numbers from n)) ≡ true → (j : ℕ) × (j < from + n) × (p j ≡ true)
 unfolding numbers
@@ -76,13 +75,13 @@ found_of p from (suc n) some = go (p from) refl some (λ rest. found_of p (from 
 -- whether a change fits, by memory and by what is shown
 pub fits_shown : (node size more : ℕ) (counts : Counts) (image : List ℕ) (t : Table) (pending : Option Pending) (uid : Uid)
     (body : Option (List ℕ)) → IsHeld size counts t pending → length image ≡ size → HasChains image t → 1 ≤ more
-    → more ≤ changes_left node size (heads_in t.heads.slots.items) (Ok (shown image t)) → IsOwn node uid (size_of body)
+    → more ≤ changes_left size (heads_in t.heads.slots.items) (Ok (shown image t)) → IsOwn node uid (size_of body)
     → fits_in t uid (is_removal body) (size_of body) ≡ has_room_for block_layout size (shown image t) (asked uid body)
 fits_shown node size more counts image t pending uid body held long chains some told own =
     let heads : List Head = heads_in t.heads.slots.items in
     let need = needed_shown size counts image t pending held long chains in
     let parts = told_parts (is_some (free_head size heads)) (nat_le 1 (blocks_left size (shown image t).bodies))
-    (has_first node (shown image t).bodies) (2 ^ 63 - greatest heads) more told some in
+    (2 ^ 63 - greatest heads) more told some in
     fits_kept node size t (shown image t).bodies uid body held.same need
     (subst (λ n. 1 ≤ n) (ap (λ n. data_count size - n) need ∙ sym (ap (λ s. data_count s - t.blocks.needed) held.same))
     (leb-true 1 (blocks_left size (shown image t).bodies) parts.1)) own
@@ -90,16 +89,16 @@ fits_shown node size more counts image t pending uid body held long chains some 
 -- A change that does not fit is refused for want of room alone, where the room is told.
 pub full_shown : (node size more : ℕ) (counts : Counts) (image : List ℕ) (t : Table) (pending : Option Pending) (uid : Uid)
     (body : Option (List ℕ)) → IsHeld size counts t pending → length image ≡ size → HasChains image t → 1 ≤ more
-    → more ≤ changes_left node size (heads_in t.heads.slots.items) (Ok (shown image t)) → IsOwn node uid (size_of body)
+    → more ≤ changes_left size (heads_in t.heads.slots.items) (Ok (shown image t)) → IsOwn node uid (size_of body)
     → ((k : ℕ) → k < length t.heads.slots.items → is_open (slot_at t.heads.slots.items k) ≡ false → greatest_in t < 2 ^ 63
     → fits_in t uid (is_removal body) (size_of body) ≡ false)
     → has_room_for block_layout size (shown image t) (asked uid body) ≡ false
 full_shown node size more counts image t pending uid body held long chains some told own full =
     let heads : List Head = heads_in t.heads.slots.items in
     let parts = told_parts (is_some (free_head size heads)) (nat_le 1 (blocks_left size (shown image t).bodies))
-    (has_first node (shown image t).bodies) (2 ^ 63 - greatest heads) more told some in
+    (2 ^ 63 - greatest heads) more told some in
     let last = told_last (is_some (free_head size heads)) (nat_le 1 (blocks_left size (shown image t).bodies))
-    (has_first node (shown image t).bodies) (2 ^ 63 - greatest heads) more told in
+    (2 ^ 63 - greatest heads) more told in
     let found = found_of (λ number. not (is_taken heads number)) 0 (size / 1024) parts.0 in
     let shut : is_open (slot_at t.heads.slots.items found.0) ≡ false =
     sym (taken_is t.heads.slots.items found.0 held.table.heads.numbered) ∙ not-true (is_taken heads found.0) found.2 in

@@ -18,7 +18,7 @@ use Rattle.capability.specs.Uids.{uid_cmp}
 use Rattle.capability.proofs.Uids.{uid_cmp_total, uid_cmp-IsAntisymmetric}
 use Rattle.eden_disk.specs.Calls.{Counts}
 use Rattle.passive_store.specs.Kept.{Kept, kept_after, bodies_after, reserved_uid, body_at, IsOwn}
-use Rattle.passive_store.specs.Seen.{TellsBehind}
+use Rattle.passive_blocks.specs.StageState.{TellsBehind}
 use Rattle.block_tables.specs.declared.heads.HeadFields.{HeadFields}
 use Rattle.block_tables.specs.declared.table.Table.{Table}
 use Rattle.block_tables.specs.declared.index.IndexEntry.{IndexEntry}
@@ -28,7 +28,7 @@ use Rattle.block_tables.specs.Members.{is_member}
 use Rattle.block_tables.specs.Greatest.{peak}
 use Rattle.block_tables.specs.Blocks.{Head, keeping, counts, blocks_of, data_count, numbers, greatest, kept_in_blocks, is_block_size}
 use Rattle.block_tables.specs.Changes.{free_head, is_taken, size_of}
-use Rattle.passive_blocks.specs.BlockLayout.{blocks_needed, blocks_left, has_first, changes_left}
+use Rattle.passive_blocks.specs.BlockLayout.{blocks_needed, blocks_left, changes_left}
 use Rattle.block_tables.specs.HeadSeen.{head_of}
 use Rattle.block_tables.specs.HeadState.{heads_in, slot_at, entry_at, is_open, is_open_of, is_it, count_of, one_if_some, closed_slot}
 use Rattle.block_tables.specs.TableState.{spare}
@@ -109,20 +109,31 @@ after_blocks m uid None = omega arith
 after_blocks m uid (Some body) =
     ap blocks_needed (sym (other_there m uid body)) ∙ total_insert size_in (finite.remove m uid) uid body (removed_none m uid)
 
-no_blocks : (m : FinMap uid_cmp (List ℕ)) → finite.len m ≡ 0 → blocks_needed m ≡ 0
-no_blocks m none = ap blocks_needed (finite.empty_of_len m none) ∙ total_empty size_in
+-- where nothing is kept no block is taken, and the other way round
+pub no_blocks : (m : FinMap uid_cmp (List ℕ)) → ((uid : Uid) → finite.get m uid ≡ None) → blocks_needed m ≡ 0
+no_blocks m none = ap blocks_needed (finite.same_map uid_cmp_total uid_cmp-IsAntisymmetric m finite.empty
+    (λ q. none q ∙ sym (finite.get-empty uid_cmp q)))
+    ∙ total_empty size_in
 
-pub told_parts : (a b c : Bool) (n more : ℕ) → more ≤ (if a && (b && c) then n else 0) → 1 ≤ more → (a ≡ true) × (b ≡ true) × (c ≡ true)
-told_parts true true true n more less some = (refl, refl, refl)
-told_parts true true false n more less some = absurd (omega (arith, less, some))
-told_parts true false c n more less some = absurd (omega (arith, less, some))
-told_parts false b c n more less some = absurd (omega (arith, less, some))
+pub none_kept : (m : FinMap uid_cmp (List ℕ)) → blocks_needed m ≡ 0 → (uid : Uid) → finite.get m uid ≡ None
+none_kept m none uid = go (finite.get m uid) refl
+  where
+    some : (n : ℕ) → 1 ≤ blocks_of n
+    some n = omega arith
 
-told_from : (a b c : Bool) (n more : ℕ) → a ≡ true → b ≡ true → c ≡ true → more ≤ n → more ≤ (if a && (b && c) then n else 0)
-told_from true true true n more p q r less = less
-told_from true true false n more p q r less = absurd (false≢true r)
-told_from true false c n more p q r less = absurd (false≢true q)
-told_from false b c n more p q r less = absurd (false≢true p)
+    go : (o : Option (List ℕ)) → finite.get m uid ≡ o → o ≡ None
+    go None there = refl
+    go (Some old) there = absurd (omega (arith, removed_blocks m uid (Some old) there, some (length old), none))
+
+pub told_parts : (a b : Bool) (n more : ℕ) → more ≤ (if a && b then n else 0) → 1 ≤ more → (a ≡ true) × (b ≡ true)
+told_parts true true n more less some = (refl, refl)
+told_parts true false n more less some = absurd (omega (arith, less, some))
+told_parts false b n more less some = absurd (omega (arith, less, some))
+
+told_from : (a b : Bool) (n more : ℕ) → a ≡ true → b ≡ true → more ≤ n → more ≤ (if a && b then n else 0)
+told_from true true n more p q less = less
+told_from true false n more p q less = absurd (false≢true q)
+told_from false b n more p q less = absurd (false≢true p)
 
 found_some : (p : ℕ → Bool) (j from n : ℕ) → from ≤ j → j < from + n → p j ≡ true → is_some (find p (numbers from n)) ≡ true
 unfolding numbers
@@ -182,48 +193,9 @@ greatest_behind slots x within opened later =
           ])
     ]
 
-pub not_first : (node : ℕ) (uid : Uid) → 1 ≤ uid.epoch → eq_by_cmp uid_cmp (reserved_uid node) uid ≡ false
-not_first node uid some = false_from_ne_true (eq_by_cmp uid_cmp (reserved_uid node) uid) (λ same.
-    omega (arith, some, ap (λ (u : Uid). u.epoch) (same_uids (reserved_uid node) uid same)))
-
-pub some_chosen : (b : Bool) (x : List ℕ) (o : Option (List ℕ)) → (b ≡ true) ⊎ (is_some o ≡ true) → is_some (cond b (Some x) o) ≡ true
-some_chosen true x o h = refl
-some_chosen false x o (inl never) = absurd (false≢true never)
-some_chosen false x o (inr there) = there
-
--- nothing is kept behind the change, or the value under the reserved uid is
-first_behind : (node : ℕ) (kept : Kept) (uid : Uid) (body : Option (List ℕ)) → has_first node kept.bodies ≡ true
-    → TellsBehind node kept uid body → (body ≡ None → 1 ≤ uid.epoch) → has_first node (bodies_after uid body kept.bodies) ≡ true
-first_behind node kept uid None first tells eject =
-    let m : FinMap uid_cmp (List ℕ) = kept.bodies in
-    let q : Uid = reserved_uid node in
-    elim (or_cases (finite.len m == 0) (is_some (finite.get m q)) first) [
-      | inl none ↦ or_left (finite.len (finite.remove m uid) == 0) (is_some (finite.get (finite.remove m uid) q))
-          (eq-eqb (finite.len (finite.remove m uid)) 0 (finite.len-remove uid_cmp_total m uid
-          ∙ fewer (finite.contains_key m uid) (finite.len m) (eqb-true (finite.len m) 0 none)))
-      | inr there ↦ or_right (finite.len (finite.remove m uid) == 0) (is_some (finite.get (finite.remove m uid) q))
-          (ap is_some (finite.get-remove uid_cmp_total m uid q
-          ∙ ap (λ b. cond b None (finite.get m q)) (not_first node uid (eject refl))) ∙ there)
-    ]
-  where
-    fewer : (b : Bool) (n : ℕ) → n ≡ 0 → cond b (n - 1) n ≡ 0
-    fewer true n none = omega (arith, none)
-    fewer false n none = none
-first_behind node kept uid (Some body) first tells eject =
-    let m : FinMap uid_cmp (List ℕ) = kept.bodies in
-    let q : Uid = reserved_uid node in
-    or_right (finite.len (finite.insert m uid body) == 0) (is_some (finite.get (finite.insert m uid body) q))
-    (ap is_some (finite.get-insert uid_cmp_total m uid body q)
-    ∙ some_chosen (eq_by_cmp uid_cmp q uid) body (finite.get m q) (either tells))
-  where
-    either : (uid ≡ reserved_uid node) ⊎ IsTrue (is_some (body_at kept (reserved_uid node)))
-        → (eq_by_cmp uid_cmp (reserved_uid node) uid ≡ true) ⊎ (is_some (finite.get kept.bodies (reserved_uid node)) ≡ true)
-    either (inl same) = inl (ap (eq_by_cmp uid_cmp (reserved_uid node)) same ∙ same_itself (reserved_uid node))
-    either (inr there) = inr there
-
 -- a block is left behind the change
 left_behind : (node size need : ℕ) (kept : Kept) (uid : Uid) (body : Option (List ℕ)) (found : Option (List ℕ)) → is_block_size size ≡ true
-    → blocks_needed kept.bodies ≡ need → finite.get kept.bodies uid ≡ found → has_first node kept.bodies ≡ true → 1 ≤ data_count size - need
+    → blocks_needed kept.bodies ≡ need → finite.get kept.bodies uid ≡ found → TellsBehind node kept uid → 1 ≤ data_count size - need
     → IsOwn node uid (size_of body) → (is_some body ≡ true → need + (blocks_if body + spare uid) ≤ data_count size)
     → 1 ≤ data_count size - blocks_needed (bodies_after uid body kept.bodies)
 left_behind node size need kept uid None found sized is there first left own room =
@@ -237,13 +209,13 @@ left_behind node size need kept uid (Some body) found sized is there first left 
     enough : need + (blocks_of (length body) + spare uid) ≤ data_count size
     enough = room refl
 
-    some_old : (o : Option (List ℕ)) → finite.get kept.bodies uid ≡ o → uid ≡ reserved_uid node
+    some_old : (o : Option (List ℕ)) → finite.get kept.bodies uid ≡ o → uid ≡ reserved_uid node → TellsBehind node kept uid
         → ((blocks_needed (finite.remove kept.bodies uid)) + 1 ≤ need) ⊎ (need ≡ 0)
-    some_old None none same = elim (or_cases (finite.len kept.bodies == 0) (is_some (finite.get kept.bodies (reserved_uid node))) first) [
-      | inl nothing ↦ inr (sym is ∙ no_blocks kept.bodies (eqb-true (finite.len kept.bodies) 0 nothing))
-      | inr here ↦ absurd (false≢true (sym (ap is_some (ap (finite.get kept.bodies) (sym same) ∙ none)) ∙ here))
-    ]
-    some_old (Some old) old_there same = inl (omega (arith, removed_blocks kept.bodies uid (Some old) old_there, is))
+    some_old None none same (inl other) = absurd (other same)
+    some_old None none same (inr (inl here)) =
+        absurd (false≢true (sym (ap is_some (ap (finite.get kept.bodies) (sym same) ∙ none)) ∙ here))
+    some_old None none same (inr (inr nothing)) = inr (sym is ∙ no_blocks kept.bodies nothing)
+    some_old (Some old) old_there same tells = inl (omega (arith, removed_blocks kept.bodies uid (Some old) old_there, is))
 
     large : (s : ℕ) → is_block_size s ≡ true → 32768 ≤ s
     large s h = grind (arith, nat_tests)
@@ -259,24 +231,20 @@ left_behind node size need kept uid (Some body) found sized is there first left 
     go (inr reserved) =
         let same : uid ≡ reserved_uid node = λ i. record { node = own.0 i; epoch = reserved.0 i; serial = reserved.1 i } in
         let four : blocks_of (length body) ≡ 1 = ap blocks_of reserved.2 in
-        elim (some_old found there same) [
+        elim (some_old found there same first) [
           | inl less ↦ omega (arith, less, four, after, left)
           | inr none ↦ omega (arith, none, four, after, removed_blocks kept.bodies uid found there, is, many size (large size sized))
         ]
-
-body_if : (b : Bool) (body : List ℕ) → (if b then None else Some body) ≡ None → b ≡ true
-body_if true body is = refl
-body_if false body is = absurd (let bad : Option.Some body ≡ None = is in cc)
 
 -- For as many changes the room is told behind a change as before its head is opened, up to the sequences that are left.
 pub told_behind : (node size more : ℕ) (counts : Counts) (t : Table) (p : Pending) (image : List ℕ) (kept : Kept)
     → IsHeld size counts t (Some p) → length image ≡ size → HasChains image t
     → kept_in_blocks image (Ok (heads_in t.heads.slots.items)) ≡ Ok kept
-    → more ≤ changes_left node size (heads_in t.heads.slots.items) (Ok kept) → more ≤ 2 ^ 63 - p.head.sequence
-    → (1 ≤ more → TellsBehind node kept p.head.uid (change_of p).body) → IsOwn node p.head.uid (size_of (change_of p).body)
+    → more ≤ changes_left size (heads_in t.heads.slots.items) (Ok kept) → more ≤ 2 ^ 63 - p.head.sequence
+    → (1 ≤ more → TellsBehind node kept p.head.uid) → IsOwn node p.head.uid (size_of (change_of p).body)
     → (p.head.removal ≡ true → 1 ≤ p.head.uid.epoch)
     → (p.head.removal ≡ false → t.blocks.needed + (blocks_of p.head.size + spare p.head.uid) ≤ data_count size) → FreeBeside t p
-    → more ≤ changes_left node size (heads_in (slice_set t.heads.slots.items p.head.number p.head)) (Ok (kept_after (change_of p) kept))
+    → more ≤ changes_left size (heads_in (slice_set t.heads.slots.items p.head.number p.head)) (Ok (kept_after (change_of p) kept))
 told_behind node size more counts t p image kept held long chains found now last tells own eject room free = elim (cases_lt 0 more) [
   | inr none ↦ omega (arith, none)
   | inl some ↦
@@ -286,19 +254,17 @@ told_behind node size more counts t p image kept held long chains found now last
       let body : Option (List ℕ) = (change_of p).body in
       let need : blocks_needed kept.bodies ≡ t.blocks.needed =
       needed_kept image t kept held.table held.apart chains (on_image size counts image t (Some p) held long) found ∙ sym held.needed in
-      let parts = told_parts (is_some (free_head size heads)) (nat_le 1 (blocks_left size kept.bodies)) (has_first node kept.bodies)
+      let parts = told_parts (is_some (free_head size heads)) (nat_le 1 (blocks_left size kept.bodies))
       (2 ^ 63 - greatest heads) more now (omega (arith, some)) in
       let left : 1 ≤ data_count size - t.blocks.needed =
       subst (λ m. 1 ≤ data_count size - m) need (leb-true 1 (blocks_left size kept.bodies) parts.1) in
       let sized : is_block_size size ≡ true = ap is_block_size (sym held.same) ∙ held.table.blocks.sized in
       told_from (is_some (free_head size new)) (nat_le 1 (blocks_left size (kept_after (change_of p) kept).bodies))
-      (has_first node (kept_after (change_of p) kept).bodies) (2 ^ 63 - greatest new) more
+      (2 ^ 63 - greatest new) more
       (free_behind size counts t p held free)
       (le-leb 1 (blocks_left size (kept_after (change_of p) kept).bodies)
-      (left_behind node size t.blocks.needed kept p.head.uid body (finite.get kept.bodies p.head.uid) sized need refl parts.2 left own
-      (roomy p.head.removal refl plan.bytes)))
-      (first_behind node kept p.head.uid body parts.2 (tells (omega (arith, some)))
-      (λ none. eject (body_if p.head.removal p.body.items none)))
+      (left_behind node size t.blocks.needed kept p.head.uid body (finite.get kept.bodies p.head.uid) sized need refl
+      (tells (omega (arith, some))) left own (roomy p.head.removal refl plan.bytes)))
       (omega (arith, last, greatest_behind t.heads.slots.items p.head plan.number plan.opened plan.later))
 ]
   where

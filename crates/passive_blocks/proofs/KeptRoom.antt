@@ -22,10 +22,10 @@ use Rattle.block_tables.specs.declared.heads.HeadFields.{HeadFields}
 use Rattle.block_tables.specs.declared.table.Table.{Table}
 use Rattle.block_tables.specs.Blocks.{Head, keeping, kept_in_blocks, blocks_of, data_count, body_on, is_data, greatest}
 use Rattle.block_tables.specs.Changes.{free_head, is_removal, size_of}
-use Rattle.passive_blocks.specs.BlockLayout.{blocks_needed, blocks_left, block_room, block_has_room, has_first, changes_left}
+use Rattle.passive_blocks.specs.BlockLayout.{blocks_needed, blocks_left, block_room, block_has_room, changes_left}
 use Rattle.block_tables.specs.HeadState.{heads_in, entry_at}
 use Rattle.block_tables.specs.TableState.{IsTable, keeper, greatest_in, left_in, fits_in, spare}
-use Rattle.passive_blocks.specs.StoreState.{chain_in, has_first_head, changes_known}
+use Rattle.passive_blocks.specs.StoreState.{chain_in, changes_known}
 use Rattle.passive_blocks.specs.HeldState.{AreApart, times, chain_by, times_kept, one_if}
 use Rattle.passive_blocks.proofs.Keeping.{body_now}
 use Rattle.passive_blocks.proofs.StageChains.{value_on}
@@ -201,60 +201,16 @@ len_kept image t kept is apart chains found =
     ∙ sym (ones (finite.entries (memory_kept image t).bodies))
     ∙ total_memory (λ body. 1) image t is apart ∙ ones heads)
 
-any_filtered : (p : Head → Bool) (hs : List Head) → list_any p hs ≡ not (length (filter p hs) == 0)
-any_filtered p [] = refl
-any_filtered p (h ∷ hs) = go (p h) (any_filtered p hs)
-  where
-    go : (b : Bool) → list_any p hs ≡ not (length (filter p hs) == 0)
-        → (b || list_any p hs) ≡ not (length (if b then h ∷ filter p hs else filter p hs) == 0)
-    go true rest = sym (ap not (ne_eqb (suc (length (filter p hs))) 0 (λ e. omega (arith, e))))
-    go false rest = rest
-
-some_under : (o : Option HeadFields) → not (length (heads_under o) == 0) ≡ is_some o
-some_under None = refl
-some_under (Some s) = refl
-
-any_turned : (q : Uid) (hs : List Head)
-    → list_any (λ (h : Head). eq_by_cmp uid_cmp h.uid q) hs ≡ list_any (λ (h : Head). eq_by_cmp uid_cmp q h.uid) hs
-any_turned q [] = refl
-any_turned q (h ∷ hs) =
-    ap (λ b. b || list_any (λ (g : Head). eq_by_cmp uid_cmp g.uid q) hs) ((eq_by_cmp_equiv uid_cmp_total).symm h.uid q)
-    ∙ ap (λ b. eq_by_cmp uid_cmp q h.uid || b) (any_turned q hs)
-
-none_or_some : (hs : List Head) → (length hs == 0) ≡ list_all (λ (h : Head). false) hs
-none_or_some [] = refl
-none_or_some (h ∷ hs) = ne_eqb (suc (length hs)) 0 (λ e. omega (arith, e))
-
--- Nothing is kept, or the value under the reserved uid is: by what is kept, and by the heads.
-pub first_kept : (node : ℕ) (image : List ℕ) (t : Table) (kept : Kept) → IsTable t → AreApart t.heads.slots.items → HasChains image t
-    → kept_in_blocks image (Ok (heads_in t.heads.slots.items)) ≡ Ok kept
-    → has_first node kept.bodies ≡ has_first_head node (heads_in t.heads.slots.items)
-first_kept node image t kept is apart chains found =
-    let heads : List Head = keeping (heads_in t.heads.slots.items) in
-    let q : Uid = reserved_uid node in
-    ap (λ n. (n == 0) || is_some (finite.get kept.bodies q)) (len_kept image t kept is apart chains found)
-    ∙ ap (λ b. b || is_some (finite.get kept.bodies q)) (none_or_some heads)
-    ∙ ap (λ b. list_all (λ (h : Head). false) heads || b)
-    (holds_kept image t kept q is apart chains found
-    ∙ sym (some_under (keeper t q))
-    ∙ ap (λ hs. not (length hs == 0)) (sym (keeper_listed t.heads.slots.items q (entry_at t.heads.index q).latest apart
-    (latest_held t q is)))
-    ∙ sym (any_filtered (λ (h : Head). eq_by_cmp uid_cmp q h.uid) heads)
-    ∙ sym (any_turned q heads))
-
 -- For as many changes the room is told by an image as by memory.
-pub changes_kept : (node size : ℕ) (image : List ℕ) (t : Table) (kept : Kept) → IsTable t → AreApart t.heads.slots.items → HasChains image t
+pub changes_kept : (size : ℕ) (image : List ℕ) (t : Table) (kept : Kept) → IsTable t → AreApart t.heads.slots.items → HasChains image t
     → AreOnImage image t → t.blocks.needed ≡ sum_by (λ (h : Head). blocks_of h.size) (keeping (heads_in t.heads.slots.items))
     → kept_in_blocks image (Ok (heads_in t.heads.slots.items)) ≡ Ok kept
-    → changes_left node size (heads_in t.heads.slots.items) (Ok kept) ≡ changes_known node size t.blocks.needed
+    → changes_left size (heads_in t.heads.slots.items) (Ok kept) ≡ changes_known size t.blocks.needed
     (heads_in t.heads.slots.items)
-changes_kept node size image t kept is apart chains on needed found =
+changes_kept size image t kept is apart chains on needed found =
     let heads : List Head = heads_in t.heads.slots.items in
-    ap (λ n. if is_some (free_head size heads) && (nat_le 1 (data_count size - n) && has_first node kept.bodies)
-    then 2 ^ 63 - greatest heads else 0)
+    ap (λ n. if is_some (free_head size heads) && nat_le 1 (data_count size - n) then 2 ^ 63 - greatest heads else 0)
     (needed_kept image t kept is apart chains on found ∙ sym needed)
-    ∙ ap (λ b. if is_some (free_head size heads) && (nat_le 1 (data_count size - t.blocks.needed) && b) then 2 ^ 63 - greatest heads else 0)
-    (first_kept node image t kept is apart chains found)
 
 -- The room is what the layout says, where a sequence is left.
 pub room_kept : (size : ℕ) (t : Table) (bodies : FinMap uid_cmp (List ℕ)) → t.blocks.size ≡ size → blocks_needed bodies ≡ t.blocks.needed

@@ -24,7 +24,7 @@ size_allowed size counts image t h long = ap is_block_size (long ∙ sym h.same)
 -- The room is told for as many more changes as memory says.
 pub more_shown : (node size more : ℕ) (counts : Counts) (image : List ℕ) (c : Contents) (t : Table) → IsHeld size counts t None
     → length image ≡ size → AreReady node image c → IsTableOf node c.now t
-    → more ≡ changes_known node t.blocks.size t.blocks.needed (heads_in t.heads.slots.items) → more ≡ block_changes node image
+    → more ≡ changes_known t.blocks.size t.blocks.needed (heads_in t.heads.slots.items) → more ≡ block_changes node image
 more_shown node size more counts image c t h long ready is told =
     let allowed : is_block_size (length image) ≡ true = size_allowed size counts image t h long in
     let heads : List Head = heads_in t.heads.slots.items in
@@ -34,13 +34,13 @@ more_shown node size more counts image c t h long ready is told =
     let on : (k : ℕ) → times_kept t.blocks.next.items heads k ≤ one_if (is_data (length c.now) k) =
     λ k. omega (arith, h.places k, ap (λ n. one_if (is_data n k)) (is.long ∙ h.same)) in
     told
-    ∙ ap (λ n. changes_known node n t.blocks.needed heads) (sym is.long)
-    ∙ sym (changes_kept node (length c.now) c.now t kept h.table h.apart is.chains on h.needed found)
-    ∙ sym (ap (λ f. if overfull_by f node c.now then 2 ^ 63 else changes_left node (length c.now) (heads_by f node c.now)
+    ∙ ap (λ n. changes_known n t.blocks.needed heads) (sym is.long)
+    ∙ sym (changes_kept (length c.now) c.now t kept h.table h.apart is.chains on h.needed found)
+    ∙ sym (ap (λ f. if overfull_by f node c.now then 2 ^ 63 else changes_left (length c.now) (heads_by f node c.now)
     (block_map node c.now))
     (format_there c.now ready.prepared.format)
-    ∙ ap (λ hs. changes_left node (length c.now) (heads_or_none hs) (block_map node c.now)) is.heads
-    ∙ ap (changes_left node (length c.now) heads) map_is)
+    ∙ ap (λ hs. changes_left (length c.now) (heads_or_none hs) (block_map node c.now)) is.heads
+    ∙ ap (changes_left (length c.now) heads) map_is)
     ∙ ready.prepared.told
 
 pub full_alike : (S T : Type 0) (b : Bool) (e : StoreRefusal) → IsOverfullBy {S = S} b (Err e) → IsOverfullBy {S = T} b (Err e)

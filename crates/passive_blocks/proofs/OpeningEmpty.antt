@@ -78,7 +78,7 @@ empty_format node size image e = go (slice_index image 1 == 235) refl e.heads
 
 -- What is found of an image on which nothing is kept, for so many further changes its room is told.
 abbrev pub changes_of_none : ℕ → ℕ → ℕ
-changes_of_none node size = changes_left node size [] (Ok nothing_kept)
+changes_of_none node size = changes_left size [] (Ok nothing_kept)
 
 pub record KeepsNothing (node size : ℕ) (image : List ℕ) : Type 0 where
   pub map : block_map node image ≡ Ok nothing_kept
@@ -97,10 +97,10 @@ keeps_nothing node size image allowed e =
             map = map_is;
             opens = ap (λ f. is_block_size (length image) && overfull_by f node image) blank
                 ∙ never (is_block_size (length image));
-            told = ap (λ f. if overfull_by f node image then 2 ^ 63 else changes_left node (length image) (heads_by f node image)
+            told = ap (λ f. if overfull_by f node image then 2 ^ 63 else changes_left (length image) (heads_by f node image)
                 (block_map node image)) blank
-                ∙ ap (changes_left node (length image) []) map_is
-                ∙ ap (λ n. changes_left node n [] (Ok nothing_kept)) e.long;
+                ∙ ap (changes_left (length image) []) map_is
+                ∙ ap (λ n. changes_left n [] (Ok nothing_kept)) e.long;
           }
       | inr blocks ↦
           let map_is : block_map node image ≡ Ok nothing_kept =
@@ -110,11 +110,11 @@ keeps_nothing node size image allowed e =
             map = map_is;
             opens = ap (λ f. is_block_size (length image) && overfull_by f node image) blocks.0
                 ∙ never (is_block_size (length image));
-            told = ap (λ f. if overfull_by f node image then 2 ^ 63 else changes_left node (length image) (heads_by f node image)
+            told = ap (λ f. if overfull_by f node image then 2 ^ 63 else changes_left (length image) (heads_by f node image)
                 (block_map node image)) blocks.0
-                ∙ ap (λ hs. changes_left node (length image) (heads_or_none hs) (block_map node image)) blocks.1
-                ∙ ap (changes_left node (length image) []) map_is
-                ∙ ap (λ n. changes_left node n [] (Ok nothing_kept)) e.long;
+                ∙ ap (λ hs. changes_left (length image) (heads_or_none hs) (block_map node image)) blocks.1
+                ∙ ap (changes_left (length image) []) map_is
+                ∙ ap (λ n. changes_left n [] (Ok nothing_kept)) e.long;
           }
     ]
   where

@@ -1,9 +1,9 @@
 -- A job is begun, or refused: what holds of the store then, and what is seen of it.
 use Rattle.std.proofs.Common.{◌≡◌, ◌⊎◌, ℕ, suc, zero, ◌+◌, ◌-◌, ◌/◌, ◌≤◌, ◌<◌, ◌^◌, Bool, true, false, ◌||◌, ◌&&◌, not, ◌==◌, IsTrue}
 use Rattle.std.proofs.Common.{List, [], ◌∷◌, ◌++◌, length, refl, sym, ap, subst, ◌∙◌, arith, inl, inr, Option, None, Some}
-use Rattle.std.specs.Prelude.{if◌then◌else◌, is_some, nat_le, slice_index, IsSome, IfSome, Ok, Err}
+use Rattle.std.specs.Prelude.{◌≢◌, if◌then◌else◌, is_some, nat_le, slice_index, IsSome, IfSome, Ok, Err}
 use Rattle.std.specs.BTreeMap as tree
-use Rattle.std.proofs.lemmas.Bool.{false≢true, or_left, or_right, leb-true, eqb-true}
+use Rattle.std.proofs.lemmas.Bool.{false≢true, or_left, or_right, leb-true, eqb-true, ne_eqb}
 use Rattle.capability.specs.declared.Uid.{Uid}
 use Rattle.capability.specs.Uids.{uid_cmp}
 use Rattle.eden_disk.specs.Told.{Contents, contents}
@@ -13,8 +13,8 @@ use Rattle.passive_store.specs.declared.store.StoreRefusal.{StoreRefusal}
 use Rattle.passive_store.specs.declared.store.StoreRefusal.TheVariants.{Full}
 use Rattle.passive_store.specs.Acts.{Sync}
 use Rattle.passive_store.specs.Kept.{StoreChange, Kept, Work, Idle, Busy, HasJob, IsJobOf, IsFresh, IsOwn, IsEarlyRefusal, body_at}
-use Rattle.passive_store.specs.Kept.{change_in, reserved_uid}
-use Rattle.passive_store.specs.Seen.{Asked, Begins, DiskSeen, TellsBehind, asked, change_asked, has_room_for}
+use Rattle.passive_store.specs.Kept.{KeepsTelling, change_in, reserved_uid}
+use Rattle.passive_store.specs.Seen.{Asked, Begins, DiskSeen, asked, change_asked, has_room_for}
 use Rattle.block_tables.specs.declared.heads.HeadFields.{HeadFields}
 use Rattle.block_tables.specs.declared.table.Table.{Table}
 use Rattle.passive_blocks.specs.declared.block_store.Pending.{Pending}
@@ -24,14 +24,14 @@ use Rattle.passive_blocks.specs.declared.block_store.Stage.TheVariants.{SyncOpen
 use Rattle.block_tables.specs.Members.{is_member}
 use Rattle.block_tables.specs.Blocks.{blocks_of, data_count, greatest, has, is_data}
 use Rattle.block_tables.specs.Changes.{blocks_job, bytes_of, first_or_zero, free_head, is_removal, size_of}
-use Rattle.passive_blocks.specs.BlockLayout.{block_layout, blocks_left, changes_left, has_first}
+use Rattle.passive_blocks.specs.BlockLayout.{block_layout, blocks_left, changes_left}
 use Rattle.block_tables.specs.HeadState.{heads_in, is_open, slot_at}
 use Rattle.block_tables.specs.BlockState.{AreDataIn, walk, free_in}
 use Rattle.block_tables.specs.TableState.{IsTable, blocks_chosen, fits_in, greatest_in, keeper, spare}
 use Rattle.passive_blocks.specs.StoreState.{body_asked, calls_at, change_of, work_at, pending_work}
 use Rattle.passive_blocks.specs.HeldState.{IsHeld}
 use Rattle.passive_blocks.specs.StageState.{IsStore, IsBehindClosing, IsOnDisk, IsSpelled, IsWaiting, changes_behind}
-use Rattle.passive_blocks.specs.StageState.{is_first_kept, is_going}
+use Rattle.passive_blocks.specs.StageState.{TellsBehind, goes_on_telling, is_going}
 use Rattle.std.proofs.Common.{eq-eqb, map}
 use Rattle.block_tables.specs.declared.head_table.HeadTable.{HeadTable}
 use Rattle.block_tables.specs.Blocks.{Head, is_block_size, kept_in_blocks}
@@ -50,7 +50,8 @@ use Rattle.passive_blocks.proofs.HeldCounts.{some_times}
 use Rattle.passive_blocks.proofs.HeldFacts.{free_left, sequence_at}
 use Rattle.passive_blocks.proofs.HeldJob.{job_is, behind_closing as job_behind, greatest_is}
 use Rattle.passive_blocks.proofs.HeldOnDisk.{begun_on}
-use Rattle.passive_blocks.proofs.KeptLooks.{shown, shown_found, holds_shown}
+use Rattle.passive_blocks.proofs.HeldTold.{no_blocks, none_kept}
+use Rattle.passive_blocks.proofs.KeptLooks.{shown, shown_found, holds_shown, needed_shown}
 use Rattle.passive_blocks.proofs.ShownReserved.{keeper_of_shown}
 use Rattle.passive_blocks.proofs.StageImages.{changes_is}
 use Rattle.passive_blocks.proofs.StageStore.{first_staged}
@@ -316,9 +317,9 @@ staged_begun tells node size more d t new pending p uid removal bytes a c =
 
 -- What is shown tells as much as memory has.
 told_shown : (node size more : ℕ) (counts : Counts) (t : Table) (c : Contents) (power : Bool) → IsHeld size counts t None
-    → IsOnDisk node more t None c power → more ≤ changes_left node size (heads_in t.heads.slots.items) (Ok (shown c.now t))
+    → IsOnDisk node more t None c power → more ≤ changes_left size (heads_in t.heads.slots.items) (Ok (shown c.now t))
 told_shown node size more counts t c power held on =
-    subst (λ s. more ≤ changes_left node s (heads_in t.heads.slots.items) (Ok (shown c.now t))) (on.1.long ∙ held.same)
+    subst (λ s. more ≤ changes_left s (heads_in t.heads.slots.items) (Ok (shown c.now t))) (on.1.long ∙ held.same)
     (subst (λ n. more ≤ n)
     (changes_is node c.now (heads_in t.heads.slots.items) (shown c.now t) (ap is_block_size on.1.long ∙ held.table.blocks.sized)
     on.1.format on.1.heads
@@ -357,19 +358,18 @@ kept_same : (d : DiskSeen) (t new : Table) → new.heads ≡ t.heads → kept_se
 kept_same d t new same = ap (λ (h : HeadTable). kept_or_none (kept_in_blocks (contents d.told).now (Ok (heads_in h.slots.items)))) same
 
 -- Behind it the room goes on being told for one change less, where it does.
-told_less : (t : Table) (node more : ℕ) (uid : Uid) (sure : Bool) → changes_behind t node more uid sure ≤ more - 1
-told_less t node more uid sure = go (sure || is_first_kept t node uid)
+told_less : (t : Table) (node more : ℕ) (uid : Uid) → changes_behind t node more uid ≤ more - 1
+told_less t node more uid = go (goes_on_telling t node uid)
   where
     go : (b : Bool) → (if b then more - 1 else 0) ≤ more - 1
     go true = omega arith
     go false = omega arith
 
-pub told_fewer : (t : Table) (node more : ℕ) (uid : Uid) (sure : Bool) → changes_behind t node more uid sure ≤ more
-told_fewer t node more uid sure = omega (arith, told_less t node more uid sure)
+pub told_fewer : (t : Table) (node more : ℕ) (uid : Uid) → changes_behind t node more uid ≤ more
+told_fewer t node more uid = omega (arith, told_less t node more uid)
 
-told_flag : (t : Table) (node more : ℕ) (uid : Uid) (sure : Bool) → 1 ≤ changes_behind t node more uid sure
-    → (sure || is_first_kept t node uid) ≡ true
-told_flag t node more uid sure some = go (sure || is_first_kept t node uid) some
+told_flag : (t : Table) (node more : ℕ) (uid : Uid) → 1 ≤ changes_behind t node more uid → goes_on_telling t node uid ≡ true
+told_flag t node more uid some = go (goes_on_telling t node uid) some
   where
     go : (b : Bool) → 1 ≤ (if b then more - 1 else 0) → b ≡ true
     go true some = refl
@@ -379,50 +379,49 @@ by_flag : (more : ℕ) (b : Bool) → b ≡ true → more ≤ (if b then more - 
 by_flag more true is = omega arith
 by_flag more false is = absurd (false≢true is)
 
--- it does where that is sure
-pub one_sure : (t : Table) (node more : ℕ) (uid : Uid) (sure : Bool) → sure ≡ true → more ≤ changes_behind t node more uid sure + 1
-one_sure t node more uid sure is =
-    by_flag more (sure || is_first_kept t node uid) (or_left sure (is_first_kept t node uid) is)
+-- a uid of the node that is not the reserved one is that of an Eject
+other_eject : (node long : ℕ) (uid : Uid) → IsOwn node uid long → uid ≢ reserved_uid node → 1 ≤ uid.epoch
+other_eject node long uid own other = elim own.1 [
+  | inl eject ↦ eject.0
+  | inr first ↦ absurd (other (λ i. record { node = own.0 i; epoch = first.0 i; serial = first.1 i }))
+]
 
--- and where what is shown has a value under the reserved uid
-pub one_less : (image : List ℕ) (t : Table) (node more : ℕ) (uid : Uid) (removal sure : Bool) (bytes : List ℕ) → IsTable t
-    → AreApart t.heads.slots.items → (removal ≡ true → sure ≡ true) → TellsBehind node (shown image t) uid (body_asked removal bytes)
-    → more ≤ changes_behind t node more uid sure + 1
-one_less image t node more uid true sure bytes is apart gone tells = one_sure t node more uid sure (gone refl)
-one_less image t node more uid false sure bytes is apart gone (inl same) =
-    by_flag more (sure || is_first_kept t node uid)
-    (or_right sure (is_first_kept t node uid)
-    (or_left (uid.epoch == 0) (is_some (keeper t (reserved_uid node))) (eq-eqb uid.epoch 0 (ap (λ (u : Uid). u.epoch) same))))
-one_less image t node more uid false sure bytes is apart gone (inr some) =
-    by_flag more (sure || is_first_kept t node uid)
-    (or_right sure (is_first_kept t node uid)
-    (or_right (uid.epoch == 0) (is_some (keeper t (reserved_uid node))) (keeper_of_shown image t (reserved_uid node) is apart some)))
+-- It does behind a change of an Eject,
+one_other : (t : Table) (node more : ℕ) (uid : Uid) → 1 ≤ uid.epoch → more ≤ changes_behind t node more uid + 1
+one_other t node more uid some = by_flag more (goes_on_telling t node uid)
+    (or_left (not (uid.epoch == 0)) ((t.blocks.needed == 0) || is_some (keeper t (reserved_uid node)))
+    (ap not (ne_eqb uid.epoch 0 (λ e. omega (arith, e, some)))))
 
--- A value is put under the reserved uid, or there is one.
-pub first_kept : (node : ℕ) (image : List ℕ) (t : Table) (uid : Uid) (bytes : List ℕ) → IsTable t
-    → AreApart t.heads.slots.items → HasChains image t → IsOwn node uid (length bytes) → is_first_kept t node uid ≡ true
-    → TellsBehind node (shown image t) uid (Some bytes)
-first_kept node image t uid bytes is apart chains own flag =
-    by_epoch (uid.epoch == 0) refl flag
+-- and where what is shown has a value under the reserved uid, or nothing is shown.
+one_first : (size : ℕ) (counts : Counts) (image : List ℕ) (t : Table) (pending : Option Pending) (node more : ℕ) (uid : Uid)
+    → IsHeld size counts t pending → length image ≡ size → HasChains image t → KeepsTelling node (shown image t)
+    → more ≤ changes_behind t node more uid + 1
+one_first size counts image t pending node more uid held long chains tells = by_flag more (goes_on_telling t node uid)
+    (or_right (not (uid.epoch == 0)) ((t.blocks.needed == 0) || is_some (keeper t (reserved_uid node))) (known tells))
   where
-    reserved : ((1 ≤ uid.epoch) × (1 ≤ uid.serial)) ⊎ ((uid.epoch ≡ 0) × (uid.serial ≡ 0) × (length bytes ≡ 4)) → uid.epoch ≡ 0
-        → uid ≡ reserved_uid node
-    reserved (inl eject) none = absurd (omega (arith, none, eject.0))
-    reserved (inr first) none = λ i. record { node = own.0 i; epoch = none i; serial = first.1 i }
+    known : KeepsTelling node (shown image t) → ((t.blocks.needed == 0) || is_some (keeper t (reserved_uid node))) ≡ true
+    known (inl some) = or_right (t.blocks.needed == 0) (is_some (keeper t (reserved_uid node)))
+        (keeper_of_shown image t (reserved_uid node) held.table held.apart some)
+    known (inr none) = or_left (t.blocks.needed == 0) (is_some (keeper t (reserved_uid node)))
+        (eq-eqb t.blocks.needed 0 (sym (needed_shown size counts image t pending held long chains) ∙ no_blocks (shown image t).bodies none))
 
-    by_epoch : (b : Bool) → (uid.epoch == 0) ≡ b → (b || is_some (keeper t (reserved_uid node))) ≡ true
-        → TellsBehind node (shown image t) uid (Some bytes)
-    by_epoch true none flag = inl (reserved own.1 (eqb-true uid.epoch 0 none))
-    by_epoch false other flag = inr (sym (holds_shown image t (reserved_uid node) is apart chains) ∙ flag)
+-- What memory says of it is so of what is shown.
+first_kept : (size : ℕ) (counts : Counts) (image : List ℕ) (t : Table) (pending : Option Pending) (node : ℕ) (uid : Uid)
+    → IsHeld size counts t pending → length image ≡ size → HasChains image t → goes_on_telling t node uid ≡ true
+    → TellsBehind node (shown image t) uid
+first_kept size counts image t pending node uid held long chains flag = by_epoch (uid.epoch == 0) refl flag
+  where
+    by_blocks : (b : Bool) → (t.blocks.needed == 0) ≡ b → (b || is_some (keeper t (reserved_uid node))) ≡ true
+        → TellsBehind node (shown image t) uid
+    by_blocks true none flag = inr (inr (none_kept (shown image t).bodies
+        (needed_shown size counts image t pending held long chains ∙ eqb-true t.blocks.needed 0 none)))
+    by_blocks false some flag = inr (inl (sym (holds_shown image t (reserved_uid node) held.table held.apart chains) ∙ flag))
 
-first_of_flag : (node : ℕ) (image : List ℕ) (t : Table) (uid : Uid) (removal sure : Bool) (bytes : List ℕ) → IsTable t
-    → AreApart t.heads.slots.items → HasChains image t → IsOwn node uid (length bytes)
-    → (sure ≡ true → TellsBehind node (shown image t) uid (body_asked removal bytes))
-    → (sure || is_first_kept t node uid) ≡ true
-    → TellsBehind node (shown image t) uid (body_asked removal bytes)
-first_of_flag node image t uid true sure bytes is apart chains own tells flag = tt
-first_of_flag node image t uid false true bytes is apart chains own tells flag = tells refl
-first_of_flag node image t uid false false bytes is apart chains own tells flag = first_kept node image t uid bytes is apart chains own flag
+    by_epoch : (b : Bool) → (uid.epoch == 0) ≡ b → (not b || ((t.blocks.needed == 0) || is_some (keeper t (reserved_uid node)))) ≡ true
+        → TellsBehind node (shown image t) uid
+    by_epoch true none flag = by_blocks (t.blocks.needed == 0) refl flag
+    by_epoch false some flag =
+        inl (λ same. false≢true (sym some ∙ eq-eqb uid.epoch 0 (ap (λ (u : Uid). u.epoch) same)))
 
 -- a value finds its blocks free
 room_chosen : (t : Table) (uid : Uid) (n : ℕ) → fits_in t uid false n ≡ true
@@ -481,7 +480,7 @@ last_sequence node size more less counts t s c power held on fewer is =
     let heads : List Head = heads_in t.heads.slots.items in
     let bodies = (shown c.now t).bodies in
     reach (greatest heads) (greatest_in t) s more less (greatest_is t.heads.slots.items)
-    (told_last (is_some (free_head size heads)) (nat_le 1 (blocks_left size bodies)) (has_first node bodies) (2 ^ 63 - greatest heads) more
+    (told_last (is_some (free_head size heads)) (nat_le 1 (blocks_left size bodies)) (2 ^ 63 - greatest heads) more
     (told_shown node size more counts t c power held on)) fewer is
   where
     reach : (g h s m l : ℕ) → g ≡ h → m ≤ 2 ^ 63 - g → l ≤ m - 1 → s ≡ h + 1 → l ≤ 2 ^ 63 - s
@@ -489,17 +488,16 @@ last_sequence node size more less counts t s c power held on fewer is =
 
 -- What holds of the store once the job is begun.
 pub begun_store : (tells : Bool) (node size more : ℕ) (d : DiskSeen) (t new : Table) (pending : Option Pending) (p : Pending) (uid : Uid)
-    (removal sure : Bool) (bytes : List ℕ) → IsAsked tells node size more d t pending uid removal bytes → IsChosen t new p uid removal bytes
-    → (sure ≡ true → IsTrue tells → TellsBehind node (kept_seen d.told t) uid (body_asked removal bytes))
-    → IsStore tells node size (changes_behind t node more uid sure) d.counts d.told new (Some p)
-begun_store tells node size more d t new pending p uid removal sure bytes a c behind =
-    let less : ℕ = changes_behind t node more uid sure in
+    (removal : Bool) (bytes : List ℕ) → IsAsked tells node size more d t pending uid removal bytes → IsChosen t new p uid removal bytes
+    → IsStore tells node size (changes_behind t node more uid) d.counts d.told new (Some p)
+begun_store tells node size more d t new pending p uid removal bytes a c =
+    let less : ℕ = changes_behind t node more uid in
     let store = idle_store tells node size more d t pending uid removal bytes a in
     let held = begun_held tells node size more d t new pending p uid removal bytes a c in
     let ask : Asked = asked uid (body_asked removal bytes) in
     let change = change_is t new p uid removal bytes c in
     let same = kept_same d t new c.heads in
-    let fewer = told_less t node more uid sure in
+    let fewer = told_less t node more uid in
     record {
       held = held;
       staged = staged_begun tells node size more d t new pending p uid removal bytes a c;
@@ -518,10 +516,10 @@ begun_store tells node size more d t new pending p uid removal sure bytes a c be
           (λ gone. subst (λ (u : Uid). 1 ≤ u.epoch) (sym c.uid_is) (a.eject (sym c.removal_is ∙ gone)))
           (λ value. in_room c (room_there t uid removal (length bytes) c.room (sym c.removal_is ∙ value)));
       first = λ tell some.
-          subst (λ k. TellsBehind node k p.head.uid (change_of p).body) (sym same)
-          (subst (λ (ch : StoreChange). TellsBehind node (kept_seen d.told t) ch.uid ch.body) (sym change)
-          (first_of_flag node (contents d.told).now t uid removal sure bytes store.held.table store.held.apart (store.on tell).1.chains
-          a.own (λ is. behind is tell) (told_flag t node more uid sure some)));
+          subst (λ k. TellsBehind node k p.head.uid) (sym same)
+          (subst (λ (u : Uid). TellsBehind node (kept_seen d.told t) u) (sym c.uid_is)
+          (first_kept size d.counts (contents d.told).now t None node uid store.held ((store.on tell).1.long ∙ store.held.same)
+          (store.on tell).1.chains (told_flag t node more uid some)));
     }
   where
     in_room : IsChosen t new p uid removal bytes → t.blocks.needed + (blocks_of (length bytes) + spare uid) ≤ data_count t.blocks.size
@@ -569,12 +567,12 @@ job_begun tells node size more d t new pending p uid removal bytes a c tell =
 
 -- What is seen of a job that is begun.
 pub begun_seen : (tells : Bool) (node size more : ℕ) (d : DiskSeen) (t new : Table) (pending : Option Pending) (p : Pending) (uid : Uid)
-    (removal sure : Bool) (bytes : List ℕ) (picked : Option Pick)
-    → IsAsked tells node size more d t pending uid removal bytes → IsChosen t new p uid removal bytes → (removal ≡ true → sure ≡ true)
+    (removal : Bool) (bytes : List ℕ) (picked : Option Pick)
+    → IsAsked tells node size more d t pending uid removal bytes → IsChosen t new p uid removal bytes
     → Begins tells block_layout (asked uid (body_asked removal bytes)) (Ok tt)
     (seen_with node (pending_work t pending) picked (kept_seen d.told t) more d)
-    (seen_with node (work_at new p p.stage) picked (kept_seen d.told new) (changes_behind t node more uid sure) d)
-begun_seen tells node size more d t new pending p uid removal sure bytes picked a c gone =
+    (seen_with node (work_at new p p.stage) picked (kept_seen d.told new) (changes_behind t node more uid) d)
+begun_seen tells node size more d t new pending p uid removal bytes picked a c =
     let store = idle_store tells node size more d t pending uid removal bytes a in
     let held = begun_held tells node size more d t new pending p uid removal bytes a c in
     let jobs = job_bounded size d.counts new p held in
@@ -594,7 +592,9 @@ begun_seen tells node size more d t new pending p uid removal sure bytes picked 
       work = work;
       by_layout = λ tell. subst (HasJob block_layout node None image) (sym work)
           (job_begun tells node size more d t new pending p uid removal bytes a c tell, refl);
-      one = one_less image t node more uid removal sure bytes store.held.table store.held.apart gone;
+      one = λ other. one_other t node more uid (other_eject node (length bytes) uid a.own other);
+      first = λ tell keeps. one_first size d.counts image t None node more uid store.held ((store.on tell).1.long ∙ store.held.same)
+          (store.on tell).1.chains keeps;
       same = tt;
       room = λ tell some. ap (λ s. has_room_for block_layout s (kept_seen d.told t) (asked uid (body_asked removal bytes))) store.held.sized
           ∙ sym (fits_shown node size more d.counts image t None uid (body_asked removal bytes) store.held
@@ -626,7 +626,8 @@ refused_begins tells node more d kept work ask e picked idle early full = record
   job = refl;
   work = refl;
   by_layout = λ tell. subst (HasJob block_layout node None (contents d.told).now) (sym idle) tt;
-  one = λ tell. omega arith;
+  one = λ other. omega arith;
+  first = λ tell keeps. omega arith;
   same = refl;
   room = λ tell some. tt;
   full = full;

@@ -11,7 +11,8 @@ use Rattle.passive_store.specs.declared.store.Progress.TheVariants.{Going, Done}
 use Rattle.passive_store.specs.declared.store.StoreRefusal.{StoreRefusal}
 use Rattle.passive_store.specs.Acts.{Sync, Read, CallTold, settling_call}
 use Rattle.passive_store.specs.Kept.{Stands, IsFresh, IsDiskRefusal, end_of_store, settled, Idle, Unsettled}
-use Rattle.passive_store.specs.Seen.{DiskSeen, SettlesOneCall, TellsBehind}
+use Rattle.passive_store.specs.Seen.{DiskSeen, SettlesOneCall}
+use Rattle.passive_blocks.specs.StageState.{TellsBehind}
 use Rattle.block_tables.specs.declared.table.Table.{Table}
 use Rattle.passive_blocks.specs.declared.block_store.Pending.{Pending}
 use Rattle.passive_blocks.specs.declared.block_store.Stage.{Stage}
@@ -90,7 +91,7 @@ doubt_store tells node size more old new t p gate synced flag d sized keeps on r
           (on telling, rest telling);
       fresh = λ telling. subst (IsFresh (change_of p)) (sym (ap kept_or_none (still telling))) (d.store.fresh telling);
       telling = λ tell. telling_alike node more t p (Ended gate flag) p.made (d.store.telling tell);
-      first = λ telling some. subst (λ k. TellsBehind node k p.head.uid (change_of p).body) (sym (ap kept_or_none (still telling)))
+      first = λ telling some. subst (λ k. TellsBehind node k p.head.uid) (sym (ap kept_or_none (still telling)))
           (d.store.first telling some);
     }
 

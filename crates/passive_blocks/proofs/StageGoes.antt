@@ -13,7 +13,8 @@ use Rattle.passive_store.specs.Acts.{DiskCall, CallTold}
 use Rattle.passive_store.specs.Kept.{Kept, StoreChange, Idle, Busy, Unsettled, Stands, IsFresh, IsDiskRefusal, changes_in, doubt_in}
 use Rattle.passive_store.specs.Kept.{end_of_store, kept_after}
 use Rattle.passive_store.specs.Kept.{kept_from, nothing_kept}
-use Rattle.passive_store.specs.Seen.{DiskSeen, Advances, TellsBehind}
+use Rattle.passive_store.specs.Seen.{DiskSeen, Advances}
+use Rattle.passive_blocks.specs.StageState.{TellsBehind}
 use Rattle.block_tables.specs.declared.table.Table.{Table}
 use Rattle.passive_blocks.specs.declared.block_store.Pending.{Pending}
 use Rattle.passive_blocks.specs.declared.block_store.Stage.{Stage}
@@ -114,7 +115,7 @@ pub record Before (tells : Bool) (node size more : ℕ) (old new : DiskSeen) (t 
   pub fresh : IsTrue tells → IsFresh (change_of p) (kept_seen old.told t)
   pub going : is_going p.stage ≡ true
   pub telling : IsTrue tells → IsTelling node more t p
-  pub first : IsTrue tells → 1 ≤ more → TellsBehind node (kept_seen old.told t) p.head.uid (change_of p).body
+  pub first : IsTrue tells → 1 ≤ more → TellsBehind node (kept_seen old.told t) p.head.uid
   pub tells_behind : IsTrue tells → TellsBehindSync node more t p (contents old.told) p.stage
 
 moments_of : (tells : Bool) (node size more : ℕ) (old new : DiskSeen) (t : Table) (p : Pending) (end : End) → Before tells node size more

@@ -15,7 +15,7 @@ use Rattle.block_tables.specs.Blocks.{is_block_size}
 use Rattle.block_tables.specs.Changes.{free_head, is_taken}
 use Rattle.passive_blocks.specs.BlockLayout.{block_layout, block_map, block_changes, changes_left, map_by, format_of, overfull_by}
 use Rattle.passive_blocks.specs.BlockLayout.{heads_by, Blocks, Staged, OldLog, Foreign, Blank}
-use Rattle.passive_blocks.specs.BlockLayout.{blocks_left, has_first}
+use Rattle.passive_blocks.specs.BlockLayout.{blocks_left}
 use Rattle.passive_blocks.specs.Fits.{Fits}
 use Rattle.passive_blocks.specs.StageState.{MayStand, gate_open, may_close, closes}
 use Rattle.passive_blocks.proofs.Among.{In, in_all}
@@ -197,19 +197,19 @@ greatest_left p (h ∷ hs) = go (p h) (greatest_left p hs)
 -- what an image that is opened as blocks says of further changes
 pub changes_is : (node : ℕ) (image : List ℕ) (heads : List Head) (kept : Kept) → is_block_size (length image) ≡ true
     → slice_index image 1 ≡ 235 → heads_of node image ≡ Ok heads → blocks_map node image ≡ Ok kept
-    → block_changes node image ≡ changes_left node (length image) heads (Ok kept)
+    → block_changes node image ≡ changes_left (length image) heads (Ok kept)
 changes_is node image heads kept sized is found map =
-    ap (λ f. if overfull_by f node image then 2 ^ 63 else changes_left node (length image) (heads_by f node image) (block_map node image))
+    ap (λ f. if overfull_by f node image then 2 ^ 63 else changes_left (length image) (heads_by f node image) (block_map node image))
     (is_blocks image is)
-    ∙ ap (λ hs. changes_left node (length image) (heads_or_none hs) (block_map node image)) found
-    ∙ ap (changes_left node (length image) heads) (blocks_map_is node image sized is ∙ map)
+    ∙ ap (λ hs. changes_left (length image) (heads_or_none hs) (block_map node image)) found
+    ∙ ap (changes_left (length image) heads) (blocks_map_is node image sized is ∙ map)
 
 changes_more : (node size : ℕ) (some more : List Head) (kept : Kept)
     → (is_some (free_head size more) ≡ true → is_some (free_head size some) ≡ true) → greatest some ≤ greatest more
-    → changes_left node size more (Ok kept) ≤ changes_left node size some (Ok kept)
+    → changes_left size more (Ok kept) ≤ changes_left size some (Ok kept)
 changes_more node size some more kept free less =
     go (is_some (free_head size more)) (is_some (free_head size some))
-    (nat_le 1 (blocks_left size kept.bodies) && has_first node kept.bodies) free
+    (nat_le 1 (blocks_left size kept.bodies)) free
   where
     go : (a b c : Bool) → (a ≡ true → b ≡ true)
         → (if a && c then 2 ^ 63 - greatest more else 0) ≤ (if b && c then 2 ^ 63 - greatest some else 0)
@@ -230,7 +230,7 @@ never_overfull node image there =
 -- Each image that a crash leaves before the head of a change is opened stands for what was kept when its job began.
 pub fits_stands : (node more : ℕ) (began image : List ℕ) (heads : List Head) (kept : Kept) → is_block_size (length began) ≡ true
     → slice_index began 1 ≡ 235 → heads_of node began ≡ Ok heads → blocks_map node began ≡ Ok kept
-    → more ≤ changes_left node (length began) heads (Ok kept) → Fits (MayStand heads began) (length began) image
+    → more ≤ changes_left (length began) heads (Ok kept) → Fits (MayStand heads began) (length began) image
     → Stands block_layout node more kept [] image
 fits_stands node more began image heads kept sized is found map told fit =
     let there : slice_index image 1 ≡ 235 = (fit.bytes 1).format refl in
@@ -241,9 +241,9 @@ fits_stands node more began image heads kept sized is found map told fit =
       opens = never_overfull node image there;
       told = subst (λ n. more ≤ n) (sym (changes_is node image (left_on image heads) kept size there
           (fits_heads node began image heads found fit) same))
-          (le_trans more (changes_left node (length image) heads (Ok kept))
-          (changes_left node (length image) (left_on image heads) (Ok kept))
-          (subst (λ n. more ≤ changes_left node n heads (Ok kept)) (sym fit.long) told)
+          (le_trans more (changes_left (length image) heads (Ok kept))
+          (changes_left (length image) (left_on image heads) (Ok kept))
+          (subst (λ n. more ≤ changes_left n heads (Ok kept)) (sym fit.long) told)
           (changes_more node (length image) (left_on image heads) heads kept
           (free_left (λ (h : Head). opened image h.number) (length image) heads)
           (greatest_left (λ (h : Head). opened image h.number) heads)));

@@ -532,8 +532,8 @@ image_map node image slots next size is =
 -- Each image that a crash leaves behind the first sync stands for what was kept, with or without the change.
 pub late_stands : (node size more : ℕ) (counts : Counts) (ready image : List ℕ) (t : Table) (p : Pending) (kept : Kept)
     → Waits node size counts ready t p → kept_in_blocks ready (Ok (heads_in (slots_of t))) ≡ Ok kept → IsFresh (change_of p) kept
-    → more ≤ changes_left node (length ready) (heads_in (slots_of t)) (Ok kept)
-    → more ≤ changes_left node (length ready) (heads_in (slots_with t p)) (Ok (kept_after (change_of p) kept))
+    → more ≤ changes_left (length ready) (heads_in (slots_of t)) (Ok kept)
+    → more ≤ changes_left (length ready) (heads_in (slots_with t p)) (Ok (kept_after (change_of p) kept))
     → Fits (MayOpen ready p.head.number) (length ready) image → Stands block_layout node more kept (change_of p ∷ []) image
 late_stands node size more counts ready image t p kept w is fresh told behind fit = go (gate_open image p.head.number) refl
   where
@@ -549,7 +549,7 @@ late_stands node size more counts ready image t p kept w is fresh told behind fi
           found = inl (blocks_map_is node image on_size old.format ∙ map_is);
           opens = never_overfull node image old.format;
           told = subst (λ n. more ≤ n) (sym (changes_is node image (heads_in (slots_of t)) kept on_size old.format old.heads map_is))
-              (subst (λ n. more ≤ changes_left node n (heads_in (slots_of t)) (Ok kept)) (sym fit.long) told);
+              (subst (λ n. more ≤ changes_left n (heads_in (slots_of t)) (Ok kept)) (sym fit.long) told);
         }
     go true gate =
         let new = late_is_new node size counts ready image t p w fit gate in
@@ -560,6 +560,6 @@ late_stands node size more counts ready image t p kept w is fresh told behind fi
           opens = never_overfull node image new.format;
           told = subst (λ n. more ≤ n)
               (sym (changes_is node image (heads_in (slots_with t p)) (kept_after (change_of p) kept) on_size new.format new.heads map_is))
-              (subst (λ n. more ≤ changes_left node n (heads_in (slots_with t p)) (Ok (kept_after (change_of p) kept))) (sym fit.long)
+              (subst (λ n. more ≤ changes_left n (heads_in (slots_with t p)) (Ok (kept_after (change_of p) kept))) (sym fit.long)
               behind);
         }

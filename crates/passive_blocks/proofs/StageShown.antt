@@ -99,7 +99,7 @@ room_left : (b : Bool) (m g : ℕ) → 1 ≤ m → m ≤ (if b then 2 ^ 63 - g e
 room_left true m g some left = omega (arith, some, left)
 room_left false m g some left = absurd (let bad : ⊥ = omega (arith, some, left) in bad)
 
-changes_some : (node size m : ℕ) (heads : List Head) (kept : Kept) → 1 ≤ m → m ≤ changes_left node size heads (Ok kept)
+changes_some : (node size m : ℕ) (heads : List Head) (kept : Kept) → 1 ≤ m → m ≤ changes_left size heads (Ok kept)
     → greatest heads < 2 ^ 63
 changes_some node size m heads kept some left = room_left _ m (greatest heads) some left
 

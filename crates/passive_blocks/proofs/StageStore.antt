@@ -28,7 +28,7 @@ use Rattle.passive_blocks.specs.StoreState.{IsTableOf, IsImageOf, change_of, kep
 use Rattle.passive_blocks.specs.StageState.{IsStageOn, IsStaged, IsRefusedAt, IsNext, IsStore, IsPartNext}
 use Rattle.passive_blocks.specs.StageState.{NoneCloses}
 use Rattle.passive_blocks.specs.StageState.{stage_call, first_closed, gate_of, is_going, behind_part}
-use Rattle.passive_store.specs.Seen.{TellsBehind}
+use Rattle.passive_blocks.specs.StageState.{TellsBehind}
 use Rattle.passive_blocks.proofs.StageTold.{sync_told, next_telling, telling_alike}
 use Rattle.passive_blocks.proofs.HeldMaking.{held_at_stage}
 use Rattle.passive_blocks.proofs.StageLate.{slots_with, walk_has}
@@ -90,7 +90,7 @@ store_refused tells obeys node size more old new t p gate e b refusal held one r
       );
       fresh = λ telling. subst (IsFresh (change_of p)) (sym (ap kept_or_none (still telling))) (b.fresh telling);
       telling = λ tell. telling_alike node more t p (Ended gate false) (p.made + 1) (b.telling tell);
-      first = λ telling some. subst (λ k. TellsBehind node k p.head.uid (change_of p).body) (sym (ap kept_or_none (still telling)))
+      first = λ telling some. subst (λ k. TellsBehind node k p.head.uid) (sym (ap kept_or_none (still telling)))
           (b.first telling some);
     }
 
@@ -224,7 +224,7 @@ store_going tells obeys node size more old new t new_table p s b one held next s
       fresh = λ telling. subst (IsFresh (change_of p)) (sym (ap kept_or_none (still telling))) (b.fresh telling);
       telling = λ tell. telling_alike node more new_table p s (p.made + 1)
           (next_telling node size more old.counts t new_table p p.stage s b.held b.waits.staged b.going next (b.telling tell));
-      first = λ telling some. subst (λ k. TellsBehind node k p.head.uid (change_of p).body) (sym (ap kept_or_none (still telling)))
+      first = λ telling some. subst (λ k. TellsBehind node k p.head.uid) (sym (ap kept_or_none (still telling)))
           (b.first telling some);
     }
 

@@ -7,7 +7,7 @@ use Rattle.std.proofs.lemmas.List.{length-set}
 use Rattle.eden_disk.specs.Told.{Contents}
 use Rattle.eden_disk.specs.Calls.{Counts}
 use Rattle.passive_store.specs.Kept.{Kept, kept_after}
-use Rattle.passive_store.specs.Seen.{TellsBehind}
+use Rattle.passive_blocks.specs.StageState.{TellsBehind}
 use Rattle.block_tables.specs.declared.table.Table.{Table}
 use Rattle.passive_blocks.specs.declared.block_store.Pending.{Pending}
 use Rattle.passive_blocks.specs.declared.block_store.Stage.{Stage}
@@ -39,7 +39,7 @@ free_now t p none (inr closing) = absurd (false≢true (sym (none closing.0) ∙
 pub sync_told : (node size more : ℕ) (counts : Counts) (t : Table) (p : Pending) (c : Contents) (stage : Stage) → IsHeld size counts t
     (Some p)
     → IsStaged t p stage → IsStageOn node more t p c true stage → IsTelling node more t p
-    → (1 ≤ more → TellsBehind node (kept_or_none (kept_in_blocks c.now (Ok (heads_in t.heads.slots.items)))) p.head.uid (change_of p).body)
+    → (1 ≤ more → TellsBehind node (kept_or_none (kept_in_blocks c.now (Ok (heads_in t.heads.slots.items)))) p.head.uid)
     → TellsBehindSync node more t p c stage
 sync_told node size more counts t p c Close held staged on telling first = tt
 sync_told node size more counts t p c (WritePart block from) held staged on telling first = tt
@@ -51,19 +51,19 @@ sync_told node size more counts t p c SyncHead held staged on telling first =
     let sized : is_block_size (length c.now) ≡ true = ap is_block_size table.long ∙ held.table.blocks.sized in
     let now : more ≤ block_changes node c.now = (early_stands node size more counts t p c kept c.now held on.0 is on.0.fits.now).told in
     let map_is : blocks_map node c.now ≡ Ok kept = ap (kept_in_blocks c.now) table.heads ∙ is in
-    let enough : more ≤ changes_left node (length c.now) (heads_in t.heads.slots.items) (Ok kept) =
+    let enough : more ≤ changes_left (length c.now) (heads_in t.heads.slots.items) (Ok kept) =
     subst (λ n. more ≤ n) (changes_is node c.now (heads_in t.heads.slots.items) kept sized table.format table.heads map_is) now in
     let long : length c.now ≡ size = table.long ∙ held.same in
     record {
       now = now;
       behind = λ then_kept then_is.
           let same : kept ≡ then_kept = ap kept_or_none then_is in
-          subst (λ k. more ≤ changes_left node (length c.now) (heads_in (set t.heads.slots.items p.head.number p.head))
+          subst (λ k. more ≤ changes_left (length c.now) (heads_in (set t.heads.slots.items p.head.number p.head))
           (Ok (kept_after (change_of p) k))) same
-          (subst (λ n. more ≤ changes_left node n (heads_in (set t.heads.slots.items p.head.number p.head))
+          (subst (λ n. more ≤ changes_left n (heads_in (set t.heads.slots.items p.head.number p.head))
           (Ok (kept_after (change_of p) kept))) (sym long)
           (told_behind node size more counts t p c.now kept held long table.chains is
-          (subst (λ n. more ≤ changes_left node n (heads_in t.heads.slots.items) (Ok kept)) long enough)
+          (subst (λ n. more ≤ changes_left n (heads_in t.heads.slots.items) (Ok kept)) long enough)
           telling.sequence first telling.own telling.eject
           (λ value. subst (λ n. t.blocks.needed + (blocks_of p.head.size + spare p.head.uid) ≤ data_count n) held.same (telling.room value))
           (free_now t p staged telling.free)));

@@ -132,10 +132,10 @@ staged_for_log node start staged kept old log fits is heads values =
       found = x.found ∙ values ∙ sym (ap (λ l. moved_map l) log) ∙ sym y.found;
       overfull = x.overfull ∙ sym fits ∙ sym (ap (λ l. is_too_much l) log) ∙ sym y.overfull;
       told = x.told
-          ∙ ap (λ hs. changes_left node 4194304 (heads_or_none hs) (blocks_map node (finished staged))) heads
-          ∙ ap (λ m. changes_left node 4194304 (moved_heads kept) m) values
-          ∙ ap (λ b. if b then 2 ^ 63 else changes_left node 4194304 (moved_heads kept) (moved_map (Ok kept))) (sym fits)
-          ∙ sym (ap (λ (l : Result Kept ℕ). if is_too_much l then 2 ^ 63 else changes_left node 4194304 (heads_moved l) (moved_map l)) log)
+          ∙ ap (λ hs. changes_left 4194304 (heads_or_none hs) (blocks_map node (finished staged))) heads
+          ∙ ap (λ m. changes_left 4194304 (moved_heads kept) m) values
+          ∙ ap (λ b. if b then 2 ^ 63 else changes_left 4194304 (moved_heads kept) (moved_map (Ok kept))) (sym fits)
+          ∙ sym (ap (λ (l : Result Kept ℕ). if is_too_much l then 2 ^ 63 else changes_left 4194304 (heads_moved l) (moved_map l)) log)
           ∙ sym y.told;
     }
 

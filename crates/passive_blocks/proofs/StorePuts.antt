@@ -10,7 +10,7 @@ use Rattle.passive_store.specs.declared.store.StoreRefusal.{StoreRefusal}
 use Rattle.passive_store.specs.declared.store.StoreRefusal.TheVariants.{Full}
 use Rattle.passive_store.specs.Acts.{DiskCall}
 use Rattle.passive_store.specs.Kept.{Kept, Idle, IsOwn, IsRefusedIn, body_at, calls_left, is_busy}
-use Rattle.passive_store.specs.Seen.{Asked, DiskSeen, Seen, Settled, Begins, Finishes, Puts, Deletes, TellsBehind, asked}
+use Rattle.passive_store.specs.Seen.{Asked, DiskSeen, Seen, Settled, Begins, Finishes, Puts, Deletes, asked}
 use Rattle.passive_store.proofs.Joining.{none_refused}
 use Rattle.block_tables.specs.declared.table.Table.{Table}
 use Rattle.passive_blocks.specs.declared.block_store.Pending.{Pending}
@@ -18,13 +18,12 @@ use Rattle.passive_blocks.specs.BlockLayout.{block_layout}
 use Rattle.block_tables.specs.HeadState.{entry_at}
 use Rattle.block_tables.specs.TableState.{IsTable}
 use Rattle.passive_blocks.specs.StoreState.{pending_work}
-use Rattle.passive_blocks.specs.StageState.{IsStore, is_first_kept}
+use Rattle.passive_blocks.specs.StageState.{IsStore}
 use Rattle.passive_blocks.proofs.StageGoes.{kept_seen}
 use Rattle.passive_blocks.proofs.StoreChanges.{IsJobAsked}
 use Rattle.passive_blocks.proofs.StoreEntry.{entry_store, entry_idle, waiting_seen}
 use Rattle.passive_blocks.proofs.StoreJobs.{job_asked}
 use Rattle.passive_blocks.proofs.StoreReads.{store_long}
-use Rattle.passive_blocks.proofs.StoreTells.{tells_settled, tells_known}
 use Rattle.passive_blocks.proofs.StoreWhole.{settled_anew, settled_idle, begun_puts, refused_puts, full_puts}
 use Rattle.passive_blocks.proofs.StoreWhole.{begun_deletes, refused_deletes, full_deletes, nothing_deletes}
 
@@ -78,15 +77,6 @@ pub settling_own : (tells obeys : Bool) (node size more : ℕ) (d : DiskSeen) (t
     (long : ℕ) → Settling tells obeys (Ok tt) node size more d t pending mid → IsOwn node uid long → IsOwn mid.node uid long
 settling_own tells obeys node size more d t pending mid uid long k own = subst (λ n. IsOwn n uid long) (sym k.settled.goes.node) own
 
--- where the room went on being told behind a put before, it does so then
-pub settling_tells : (tells obeys : Bool) (node size more : ℕ) (d : DiskSeen) (t : Table) (pending : Option Pending) (mid : Seen)
-    (uid : Uid) (bytes : List ℕ) → Settling tells obeys (Ok tt) node size more d t pending mid → IsOwn node uid (length bytes)
-    → is_first_kept t node uid ≡ true → IsTrue tells → TellsBehind mid.node mid.kept uid (Some bytes)
-settling_tells tells obeys node size more d t pending mid uid bytes k own sure so =
-    subst (λ n. TellsBehind n mid.kept uid (Some bytes)) (sym k.settled.goes.node)
-    (subst (λ (x : Kept). TellsBehind node x uid (Some bytes)) (sym (k.settled.kept so))
-    (tells_settled tells node size more d t pending mid.picked uid bytes k.store own sure so))
-
 -- A job that was begun is under way, on a disk with power.
 pub begun_power : (tells obeys : Bool) (node size more : ℕ) (d : DiskSeen) (t : Table) (pending : Option Pending) (mid began : Seen)
     (ask : Asked) → Settling tells obeys (Ok tt) node size more d t pending mid → Begins tells block_layout ask (Ok tt) mid began
@@ -104,15 +94,13 @@ begun_some tells mid began ask b = omega (arith, ap calls_left b.work, b.bounded
 
 -- A put whose job was begun.
 pub put_done : (tells obeys : Bool) (node size more : ℕ) (d : DiskSeen) (t : Table) (pending : Option Pending) (picked : Option Pick)
-    (uid : Uid) (bytes : List ℕ) (sure : Bool) (result : Result (Unit {0}) StoreRefusal) (mid began new : Seen)
-    → Settling tells obeys (Ok tt) node size more d t pending mid → sure ≡ is_first_kept t node uid
-    → (sure ≡ true → mid.more ≤ began.more + 1) → began.more ≤ mid.more → new.refused_at ≡ None
+    (uid : Uid) (bytes : List ℕ) (result : Result (Unit {0}) StoreRefusal) (mid began new : Seen)
+    → Settling tells obeys (Ok tt) node size more d t pending mid → began.more ≤ mid.more → new.refused_at ≡ None
     → Begins tells block_layout (asked uid (Some bytes)) (Ok tt) mid began → Finishes tells obeys block_layout result began new
     → Puts tells obeys block_layout (asked uid (Some bytes)) result (waiting_seen node more d t pending picked) new
-put_done tells obeys node size more d t pending picked uid bytes sure result mid began new k known one fewer none b f =
+put_done tells obeys node size more d t pending picked uid bytes result mid began new k fewer none b f =
     begun_puts tells obeys block_layout (asked uid (Some bytes)) result (waiting_seen node more d t pending picked)
-    mid began new k.idle (λ calls. none_at new.refused_at calls none)
-    (λ tell. one (known ∙ tells_known node d t uid bytes k.store.held.table k.store.held.apart tell)) fewer
+    mid began new k.idle (λ calls. none_at new.refused_at calls none) fewer
     (anew tells obeys (Ok tt) node size more d t pending mid picked k) b f
 
 -- One whose settling was refused, and one that had no room.
@@ -140,12 +128,12 @@ put_full tells obeys node size more d t pending picked uid bytes mid new k none 
 pub delete_done : (tells obeys : Bool) (node size more : ℕ) (d : DiskSeen) (t : Table) (pending : Option Pending) (picked : Option Pick)
     (uid : Uid) (result : Result (Unit {0}) StoreRefusal) (mid began new : Seen)
     → Settling tells obeys (Ok tt) node size more d t pending mid → (IsTrue tells → IsSome (body_at mid.kept uid))
-    → mid.more ≤ began.more + 1 → began.more ≤ mid.more → new.refused_at ≡ None
+    → began.more ≤ mid.more → new.refused_at ≡ None
     → Begins tells block_layout (asked uid None) (Ok tt) mid began → Finishes tells obeys block_layout result began new
     → Deletes tells obeys block_layout (asked uid None) result (waiting_seen node more d t pending picked) new
-delete_done tells obeys node size more d t pending picked uid result mid began new k there one fewer none b f =
+delete_done tells obeys node size more d t pending picked uid result mid began new k there fewer none b f =
     begun_deletes tells obeys block_layout (asked uid None) result (waiting_seen node more d t pending picked)
-    mid began new k.idle (λ calls. none_at new.refused_at calls none) none (λ tell. one) fewer there
+    mid began new k.idle (λ calls. none_at new.refused_at calls none) none fewer there
     (anew tells obeys (Ok tt) node size more d t pending mid picked k) b f
 
 pub delete_full : (tells obeys : Bool) (node size more : ℕ) (d : DiskSeen) (t : Table) (pending : Option Pending) (picked : Option Pick)

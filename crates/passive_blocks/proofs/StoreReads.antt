@@ -9,7 +9,8 @@ use Rattle.eden_disk.specs.Held.{Holds}
 use Rattle.eden_disk.proofs.Held.{only_now, passes_read, holds_at_rest, moments_weaker}
 use Rattle.passive_store.specs.Acts.{DiskCall}
 use Rattle.passive_store.specs.Kept.{Kept, StoreChange, Stands, IsFresh, Busy, changes_in, doubt_in}
-use Rattle.passive_store.specs.Seen.{DiskSeen, TellsBehind}
+use Rattle.passive_store.specs.Seen.{DiskSeen}
+use Rattle.passive_blocks.specs.StageState.{TellsBehind}
 use Rattle.block_tables.specs.declared.table.Table.{Table}
 use Rattle.passive_blocks.specs.declared.block_store.Pending.{Pending}
 use Rattle.passive_blocks.specs.declared.block_store.Stage.{Stage}
@@ -293,6 +294,6 @@ read_store tells node size more old new t q end store was sized power told = rec
   fresh = λ telling. subst (λ k. IfSome q (λ (p : Pending). IsFresh (change_of p) k))
       (sym (read_kept tells node size more old new t q end store told telling)) (store.fresh telling);
   telling = store.telling;
-  first = λ telling. subst (λ k. IfSome q (λ (p : Pending). 1 ≤ more → TellsBehind node k p.head.uid (change_of p).body))
+  first = λ telling. subst (λ k. IfSome q (λ (p : Pending). 1 ≤ more → TellsBehind node k p.head.uid))
       (sym (read_kept tells node size more old new t q end store told telling)) (store.first telling);
 }

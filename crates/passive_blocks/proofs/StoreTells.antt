@@ -17,7 +17,7 @@ use Rattle.passive_store.specs.declared.store.StoreRefusal.TheVariants.{OutOfMem
 use Rattle.passive_store.specs.Acts.{DiskCall}
 use Rattle.passive_store.specs.Kept.{StoreChange, Kept, Work, Idle, Busy, Unsettled, IsFresh, IsOwn, bodies_after, body_at, change_in}
 use Rattle.passive_store.specs.Kept.{doubt_in, reserved_uid, settled}
-use Rattle.passive_store.specs.Seen.{Asked, DiskSeen, Changes, Whole, Puts, Deletes, TellsBehind}
+use Rattle.passive_store.specs.Seen.{Asked, DiskSeen, Changes, Whole, Puts, Deletes}
 use Rattle.passive_store.proofs.Joining.{none_refused, timed_still}
 use Rattle.passive_store.proofs.Changing.{memory_is_not_room}
 use Rattle.block_tables.specs.declared.table.Table.{Table}
@@ -29,10 +29,7 @@ use Rattle.passive_blocks.specs.BlockLayout.{block_layout}
 use Rattle.passive_blocks.specs.StoreState.{calls_at, change_of, pending_work, work_at}
 use Rattle.block_tables.specs.TableState.{IsTable, keeper}
 use Rattle.passive_blocks.specs.HeldState.{AreApart}
-use Rattle.passive_blocks.specs.StageState.{IsStore, is_first_kept}
-use Rattle.passive_blocks.proofs.HeldTold.{not_first, some_chosen}
-use Rattle.passive_blocks.proofs.ShownReserved.{keeper_of_shown}
-use Rattle.passive_blocks.proofs.StageBegins.{first_kept}
+use Rattle.passive_blocks.specs.StageState.{IsStore}
 use Rattle.passive_blocks.proofs.StageGoes.{kept_seen}
 use Rattle.passive_blocks.proofs.StoreChanges.{IsJobAsked}
 use Rattle.passive_blocks.proofs.StoreEntry.{waiting_seen}
@@ -76,7 +73,8 @@ memory_whole tells obeys node size more d t pending picked ask store = record {
   picked = refl;
   undamaged = inr (inr refl);
   unchanged = λ is. refl;
-  one = λ tell. omega arith;
+  one = λ other. omega arith;
+  first = λ so keeps. omega arith;
   fresh = doubt_fresh tells node size more d t pending store;
 }
 
@@ -131,69 +129,3 @@ memory_deletes tells obeys node size more d t pending picked ask store power = r
     none = λ so. tt;
   });
 }
-
--- what is kept under the reserved uid stays, whatever a settling finds of a change that removes none of it
-first_after : (node : ℕ) (m : FinMap uid_cmp (List ℕ)) (uid : Uid) (body : Option (List ℕ)) → (body ≡ None → 1 ≤ uid.epoch)
-    → is_some (finite.get m (reserved_uid node)) ≡ true → is_some (finite.get (bodies_after uid body m) (reserved_uid node)) ≡ true
-first_after node m uid None eject there =
-    ap is_some (finite.get-remove uid_cmp_total m uid (reserved_uid node)
-    ∙ ap (λ b. cond b None (finite.get m (reserved_uid node))) (not_first node uid (eject refl))) ∙ there
-first_after node m uid (Some body) eject there =
-    ap is_some (finite.get-insert uid_cmp_total m uid body (reserved_uid node))
-    ∙ some_chosen (eq_by_cmp uid_cmp (reserved_uid node) uid) body (finite.get m (reserved_uid node)) (inr there)
-
-first_settled : (node : ℕ) (pick : Option Pick) (w : Work) (kept : Kept)
-    → IfSome (change_in w) (λ c. c.body ≡ None → 1 ≤ c.uid.epoch)
-    → is_some (body_at kept (reserved_uid node)) ≡ true → is_some (body_at (settled pick w kept) (reserved_uid node)) ≡ true
-first_settled node None w kept eject there = there
-first_settled node (Some Old) w kept eject there = there
-first_settled node (Some New) Idle kept eject there = there
-first_settled node (Some New) (Busy c made left) kept eject there = there
-first_settled node (Some New) (Unsettled c synced) kept eject there = first_after node kept.bodies c.uid c.body eject there
-
-eject_at : (t : Table) (p : Pending) (stage : Stage) → ((change_of p).body ≡ None → 1 ≤ p.head.uid.epoch)
-    → IfSome (change_in (work_at t p stage)) (λ c. c.body ≡ None → 1 ≤ c.uid.epoch)
-eject_at t p Close eject = eject
-eject_at t p (WritePart block from) eject = eject
-eject_at t p WriteHead eject = eject
-eject_at t p SyncHead eject = eject
-eject_at t p Open eject = eject
-eject_at t p SyncOpen eject = eject
-eject_at t p (Ended gate synced) eject = eject
-
-removes : (r : Bool) (items : List ℕ) → (if r then None else Some items) ≡ None → r ≡ true
-removes true items is = refl
-removes false items is = absurd (false≢true (sym (ap is_some is)))
-
-store_ejects : (tells : Bool) (node size more : ℕ) (d : DiskSeen) (t : Table) (pending : Option Pending)
-    → IsStore tells node size more d.counts d.told t pending → IsTrue tells
-    → IfSome (change_in (pending_work t pending)) (λ c. c.body ≡ None → 1 ≤ c.uid.epoch)
-store_ejects tells node size more d t None store so = tt
-store_ejects tells node size more d t (Some p) store so =
-    eject_at t p p.stage (λ none. (store.telling so).eject (removes p.head.removal p.body.items none))
-
--- Where the room went on being told behind a put before the doubt was settled, it does so behind the settling.
-pub tells_settled : (tells : Bool) (node size more : ℕ) (d : DiskSeen) (t : Table) (pending : Option Pending) (pick : Option Pick)
-    (uid : Uid) (bytes : List ℕ) → IsStore tells node size more d.counts d.told t pending → IsOwn node uid (length bytes)
-    → is_first_kept t node uid ≡ true → IsTrue tells
-    → TellsBehind node (settled pick (pending_work t pending) (kept_seen d.told t)) uid (Some bytes)
-tells_settled tells node size more d t pending pick uid bytes store own flag so =
-    go (first_kept node (contents d.told).now t uid bytes store.held.table store.held.apart
-    (store_chains tells node size more d t pending store so) own
-    flag)
-  where
-    go : TellsBehind node (kept_seen d.told t) uid (Some bytes)
-        → TellsBehind node (settled pick (pending_work t pending) (kept_seen d.told t)) uid (Some bytes)
-    go (inl same) = inl same
-    go (inr there) = inr (first_settled node pick (pending_work t pending) (kept_seen d.told t)
-        (store_ejects tells node size more d t pending store so) there)
-
--- And where what is shown has a value under the reserved uid, memory knows it on any disk.
-pub tells_known : (node : ℕ) (d : DiskSeen) (t : Table) (uid : Uid) (bytes : List ℕ) → IsTable t
-    → AreApart t.heads.slots.items
-    → TellsBehind node (kept_seen d.told t) uid (Some bytes) → is_first_kept t node uid ≡ true
-tells_known node d t uid bytes is apart (inl same) =
-    or_left (uid.epoch == 0) (is_some (keeper t (reserved_uid node))) (eq-eqb uid.epoch 0 (ap (λ (u : Uid). u.epoch) same))
-tells_known node d t uid bytes is apart (inr there) =
-    or_right (uid.epoch == 0) (is_some (keeper t (reserved_uid node)))
-    (keeper_of_shown (contents d.told).now t (reserved_uid node) is apart there)

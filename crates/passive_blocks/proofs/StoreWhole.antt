@@ -1,6 +1,6 @@
 -- A whole put and a whole removal, made of a settling, a beginning and the calls of its job, by what is seen of each.
 use Rattle.std.proofs.Common.{◌≡◌, ◌⊎◌, ℕ, ◌+◌, ◌≤◌, Bool, false, IsTrue, List, refl, sym, ap, subst, ◌∙◌, inl, inr, arith}
-use Rattle.std.specs.Prelude.{Option, None, IsSome, IfErr, Result, Ok, Err, is_some}
+use Rattle.std.specs.Prelude.{◌≢◌, Option, None, IsSome, IfErr, Result, Ok, Err, is_some}
 use Rattle.eden_disk.specs.Told.{Told, EachMoment}
 use Rattle.eden_disk.specs.Calls.{End, Fine, DeviceCalls, Obeyed}
 use Rattle.eden_disk.specs.Timed.{Timed}
@@ -11,9 +11,9 @@ use Rattle.passive_store.specs.declared.store.StoreRefusal.{StoreRefusal}
 use Rattle.passive_store.specs.declared.store.StoreRefusal.TheVariants.{Full}
 use Rattle.passive_store.specs.Acts.{DiskCall}
 use Rattle.passive_store.specs.Kept.{Kept, Layout, Stands, IsDiskRefusal, IsRefusedIn, LeavesKept, body_at, changes_in, doubt_in}
-use Rattle.passive_store.specs.Kept.{Work, Idle, end_of_store, is_busy, settled}
+use Rattle.passive_store.specs.Kept.{Work, Idle, KeepsTelling, end_of_store, is_busy, reserved_uid, settled}
 use Rattle.passive_store.specs.Seen.{Seen, Asked, Settled, Begins, Finishes, Whole, Puts, Deletes}
-use Rattle.passive_store.specs.Seen.{TellsBehind, has_room_for}
+use Rattle.passive_store.specs.Seen.{has_room_for}
 use Rattle.passive_store.proofs.Changing.{after_memory, unless_memory, undamaged_whole, first_settled, first_refused, fresh_settled}
 use Rattle.passive_store.proofs.Changing.{fresh_finished, fresh_idle, idle_then, match_disk, room_had, room_unknown, never_full}
 use Rattle.passive_store.proofs.Changing.{refused_more, settling_order, unchanged_work, on_done}
@@ -49,10 +49,9 @@ disk_or_full (Err e) only = inl only
 
 -- A change whose job was begun.
 begun_whole : (tells obeys : Bool) (layout : Layout) (ask : Asked) (result : Result (Unit {0}) StoreRefusal) (old mid began new : Seen)
-    → (TellsBehind old.node old.kept ask.uid ask.body → mid.more ≤ began.more + 1)
     → Settled tells obeys layout (Ok tt) old mid → Begins tells layout ask (Ok tt) mid began
     → Finishes tells obeys layout result began new → Whole tells obeys layout ask result old new
-begun_whole tells obeys layout ask result old mid began new one s b f =
+begun_whole tells obeys layout ask result old mid began new s b f =
     let end : End = end_of_store result in
     let pk : new.picked ≡ mid.picked = f.picked ∙ b.picked in
     let only = disk_or_full result f.only in
@@ -72,7 +71,14 @@ begun_whole tells obeys layout ask result old mid began new one s b f =
           (first_settled new.picked old.work result (match_disk result f.only) (ap is_some pk ∙ s.picked));
       undamaged = undamaged_whole result only;
       unchanged = unless_memory _ result only;
-      one = λ tell. omega (arith, one tell, s.more, f.more);
+      one = λ other. omega (arith, b.one (subst (λ n. ask.uid ≢ reserved_uid n) (sym s.goes.node) other), s.more, f.more);
+      first = λ so keeps. omega (
+        arith,
+        b.first so (subst (λ n. KeepsTelling n mid.kept) (sym s.goes.node)
+            (subst (KeepsTelling old.node) (ap (λ x. settled x old.work old.kept) pk ∙ sym (s.kept so)) keeps)),
+        s.more,
+        f.more,
+      );
       fresh = λ so. fresh_finished (Unit {0}) began.work new.work began.kept new.kept result f.work (f.kept so) (b.fresh so);
     }
 
@@ -84,7 +90,8 @@ refused_whole tells obeys layout ask e old new s = record {
   picked = after_memory new.picked old.work (Err e) (inl s.only) (first_refused (Unit {0}) new.picked old.work e s.only s.picked);
   undamaged = inl s.only;
   unchanged = unless_memory _ (Err e) (inl s.only);
-  one = λ tell. omega (arith, s.more);
+  one = λ other. omega (arith, s.more);
+  first = λ so keeps. omega (arith, s.more);
   fresh = λ so. fresh_settled new.picked old.work new.work old.kept new.kept s.work (s.kept so) (s.fresh so);
 }
 
@@ -113,7 +120,8 @@ full_whole tells obeys layout ask old mid new idle s b =
       picked = ap is_some b.picked ∙ s.picked;
       undamaged = inr (inl refl);
       unchanged = unless_memory _ (Err Full) (inr refl);
-      one = λ tell. omega (arith, more, s.more);
+      one = λ other. omega (arith, more, s.more);
+      first = λ so keeps. omega (arith, more, s.more);
       fresh = λ so. fresh_idle new.work new.kept (b.work ∙ settled_idle tells obeys layout old mid idle s);
     }
 
@@ -128,13 +136,13 @@ same_room tells obeys layout ask old mid pick s found so =
 -- A whole put.
 pub begun_puts : (tells obeys : Bool) (layout : Layout) (ask : Asked) (result : Result (Unit {0}) StoreRefusal) (old mid began new : Seen)
     → is_busy old.work ≡ false → ((calls : List DiskCall) → IsRefusedIn calls old.refused_at new.refused_at)
-    → (TellsBehind old.node old.kept ask.uid ask.body → mid.more ≤ began.more + 1) → began.more ≤ mid.more
+    → began.more ≤ mid.more
     → Settled tells obeys layout (Ok tt) old mid → Begins tells layout ask (Ok tt) mid began
     → Finishes tells obeys layout result began new → Puts tells obeys layout ask result old new
-begun_puts tells obeys layout ask result old mid began new idle at one fewer s b f =
+begun_puts tells obeys layout ask result old mid began new idle at fewer s b f =
     let pk : new.picked ≡ mid.picked = f.picked ∙ b.picked in
     record {
-      whole = begun_whole tells obeys layout ask result old mid began new one s b f;
+      whole = begun_whole tells obeys layout ask result old mid began new s b f;
       changes = begun_changes tells obeys layout ask result old mid began new idle at s b fewer f;
       full = λ so some. room_had _ new.picked old.work result (match_disk result f.only)
           (sym (same_room tells obeys layout ask old mid new.picked s pk so) ∙ b.room so (omega (arith, some, s.more)));
@@ -170,14 +178,14 @@ same_body tells obeys layout ask old mid pick s found so =
 pub begun_deletes : (tells obeys : Bool) (layout : Layout) (ask : Asked) (result : Result (Unit {0}) StoreRefusal)
     (old mid began new : Seen)
     → is_busy old.work ≡ false → ((calls : List DiskCall) → IsRefusedIn calls old.refused_at new.refused_at) → new.refused_at ≡ None
-    → (TellsBehind old.node old.kept ask.uid ask.body → mid.more ≤ began.more + 1) → began.more ≤ mid.more
+    → began.more ≤ mid.more
     → (IsTrue tells → IsSome (body_at mid.kept ask.uid))
     → Settled tells obeys layout (Ok tt) old mid → Begins tells layout ask (Ok tt) mid began
     → Finishes tells obeys layout result began new → Deletes tells obeys layout ask result old new
-begun_deletes tells obeys layout ask result old mid began new idle at none one fewer there s b f =
+begun_deletes tells obeys layout ask result old mid began new idle at none fewer there s b f =
     let pk : new.picked ≡ mid.picked = f.picked ∙ b.picked in
     record {
-      whole = begun_whole tells obeys layout ask result old mid began new one s b f;
+      whole = begun_whole tells obeys layout ask result old mid began new s b f;
       at = on_done _ result (inl none);
       changes = inr (record {
         changes = begun_changes tells obeys layout ask result old mid began new idle at s b fewer f;
@@ -238,7 +246,8 @@ nothing_deletes tells obeys layout ask old new none s = record {
     picked = s.picked;
     undamaged = tt;
     unchanged = tt;
-    one = λ tell. omega (arith, s.more);
+    one = λ other. omega (arith, s.more);
+    first = λ so keeps. omega (arith, s.more);
     fresh = λ so. fresh_settled new.picked old.work new.work old.kept new.kept s.work (s.kept so) (s.fresh so);
   };
   at = inr s.at;

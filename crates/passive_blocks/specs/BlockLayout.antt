@@ -86,24 +86,18 @@ block_room size bodies = if nat_le 2 (blocks_left size bodies) then Some (1022 *
 abbrev pub block_has_room : Option ℕ → Uid → Option (List ℕ) → Bool
 block_has_room room uid body = is_removal body || (uid.epoch == 0 || within_room room (size_of body))
 
--- Nothing is kept, or the value under the reserved uid is.
-abbrev pub has_first : ℕ → FinMap uid_cmp (List ℕ) → Bool
-has_first node bodies = finite.len bodies == 0 || is_some (finite.get bodies (reserved_uid node))
-
--- For how many more changes the room is what is said above: as many as have a sequence left, where a head and a block are free and
--- `has_first` holds, and else none. Of a damaged image there is nothing to say: 2^63.
-abbrev pub changes_left : ℕ → ℕ → List Head → Result Kept ℕ → ℕ
-changes_left node size heads (Ok kept) =
-    if is_some (free_head size heads) && (nat_le 1 (blocks_left size kept.bodies) && has_first node kept.bodies)
-    then 2 ^ 63 - greatest heads
-    else 0
-changes_left node size heads (Err place) = 2 ^ 63
+-- For how many more changes the room is what is said above: as many as have a sequence left, where a head and a block are free,
+-- and else none. Of a damaged image there is nothing to say: 2^63.
+abbrev pub changes_left : ℕ → List Head → Result Kept ℕ → ℕ
+changes_left size heads (Ok kept) =
+    if is_some (free_head size heads) && nat_le 1 (blocks_left size kept.bodies) then 2 ^ 63 - greatest heads else 0
+changes_left size heads (Err place) = 2 ^ 63
 
 -- for how many more changes the room of an image is told, by what stands on it; 2^63 where it is not opened
 abbrev pub block_changes : ℕ → List ℕ → ℕ
 block_changes node image =
     if overfull_by (format_of image) node image then 2 ^ 63
-    else changes_left node (length image) (heads_by (format_of image) node image) (block_map node image)
+    else changes_left (length image) (heads_by (format_of image) node image) (block_map node image)
 
 -- how many reads an image of blocks takes: of its heads up to the first that is damaged, and then of the chains, likewise
 abbrev pub reads_of_blocks : List ℕ → Result (List Head) ℕ → ℕ

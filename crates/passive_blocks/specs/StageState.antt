@@ -1,6 +1,6 @@
 -- What stands on the disk at each stage of a job.
-use Rattle.std.specs.Prelude.{◌≡◌, ◌⊎◌, ◌+◌, ◌*◌, ◌-◌, ◌^◌, ◌/◌, ◌<◌, ◌≤◌, ◌==◌, ◌&&◌, ◌||◌, not, ℕ, Bool, true, false, IsTrue, List, []}
-use Rattle.std.specs.Prelude.{◌∷◌, ◌++◌}
+use Rattle.std.specs.Prelude.{◌≡◌, ◌≢◌, ◌⊎◌, ◌+◌, ◌*◌, ◌-◌, ◌^◌, ◌/◌, ◌<◌, ◌≤◌, ◌==◌, ◌&&◌, ◌||◌, not, ℕ, Bool, true, false, IsTrue, List}
+use Rattle.std.specs.Prelude.{[], ◌∷◌, ◌++◌}
 use Rattle.std.specs.Prelude.{length, map, filter, take, drop, min, if◌then◌else◌, slice_index, slice_range, slice_set, is_some, Option}
 use Rattle.std.specs.Prelude.{None, Some, IfSome, Ok}
 use Rattle.std.specs.Int.{w16, to_be_bytes}
@@ -22,8 +22,7 @@ use Rattle.block_tables.specs.Blocks.{taken_by, next_block, kept_in_blocks}
 use Rattle.passive_store.specs.Acts.{DiskCall, Write, Sync}
 use Rattle.block_tables.specs.Changes.{spelled_head, first_or_zero, size_of}
 use Rattle.capability.specs.declared.Uid.{Uid}
-use Rattle.passive_store.specs.Kept.{Kept, IsFresh, IsOwn, kept_after, reserved_uid}
-use Rattle.passive_store.specs.Seen.{TellsBehind}
+use Rattle.passive_store.specs.Kept.{Kept, IsFresh, IsOwn, KeepsTelling, kept_after, reserved_uid}
 use Rattle.passive_store.specs.declared.store.Pick.{Pick}
 use Rattle.passive_store.specs.declared.store.Pick.TheVariants.{Old, New}
 use Rattle.passive_blocks.specs.BlockLayout.{block_changes, changes_left}
@@ -133,7 +132,7 @@ pub record IsReady (node : ℕ) (ready : List ℕ) (t : Table) (p : Pending) : T
 pub record IsToldReady (node more : ℕ) (ready : List ℕ) (t : Table) (p : Pending) : Type 0 where
   pub now : more ≤ block_changes node ready
   pub behind : (kept : Kept) → kept_in_blocks ready (Ok (heads_in t.heads.slots.items)) ≡ Ok kept
-      → more ≤ changes_left node (length ready) (heads_in (slice_set t.heads.slots.items p.head.number p.head))
+      → more ≤ changes_left (length ready) (heads_in (slice_set t.heads.slots.items p.head.number p.head))
       (Ok (kept_after (change_of p) kept))
 
 -- The images that a crash may leave from the first sync on.
@@ -330,13 +329,18 @@ pub record IsTelling (node more : ℕ) (t : Table) (p : Pending) : Type 0 where
   pub room : p.head.removal ≡ false → t.blocks.needed + (blocks_of p.head.size + spare p.head.uid) ≤ data_count t.blocks.size
   pub free : FreeBeside t p ⊎ ((k : ℕ) × (is_member t.heads.closing k ≡ true))
 
--- The value is that under the reserved uid, or one is kept there already.
-abbrev pub is_first_kept : Table → ℕ → Uid → Bool
-is_first_kept t node uid = uid.epoch == 0 || is_some (keeper t (reserved_uid node))
+-- Behind a change of this uid the room goes on being told: it is not the reserved one, or what is kept lets it.
+abbrev pub TellsBehind : ℕ → Kept → Uid → Type 0
+TellsBehind node kept uid = (uid ≢ reserved_uid node) ⊎ KeepsTelling node kept
 
--- For so many more changes the room is told behind a change: a value that is put before the one under the reserved uid ends it.
-abbrev pub changes_behind : Table → ℕ → ℕ → Uid → Bool → ℕ
-changes_behind t node more uid sure = if sure || is_first_kept t node uid then more - 1 else 0
+-- the same by memory: the uid is that of an Eject, no block is taken, or a value is known under the reserved uid
+abbrev pub goes_on_telling : Table → ℕ → Uid → Bool
+goes_on_telling t node uid = not (uid.epoch == 0) || ((t.blocks.needed == 0) || is_some (keeper t (reserved_uid node)))
+
+-- For so many more changes the room is told behind a change: the first value under the reserved uid, put once others are kept, may
+-- take the last block, and ends it.
+abbrev pub changes_behind : Table → ℕ → ℕ → Uid → ℕ
+changes_behind t node more uid = if goes_on_telling t node uid then more - 1 else 0
 
 -- What holds of a store at each moment.
 pub record IsStore (tells : Bool) (node size more : ℕ) (counts : Counts) (told : Told) (t : Table) (pending : Option Pending) : Type 0 where
@@ -350,5 +354,4 @@ pub record IsStore (tells : Bool) (node size more : ℕ) (counts : Counts) (told
   -- and the room goes on being told behind it
   pub telling : IsTrue tells → IfSome pending (IsTelling node more t)
   pub first : IsTrue tells → IfSome pending (λ (p : Pending). 1 ≤ more
-      → TellsBehind node (kept_or_none (kept_in_blocks (contents told).now (Ok (heads_in t.heads.slots.items)))) p.head.uid
-      (change_of p).body)
+      → TellsBehind node (kept_or_none (kept_in_blocks (contents told).now (Ok (heads_in t.heads.slots.items)))) p.head.uid)

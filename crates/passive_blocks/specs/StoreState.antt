@@ -106,12 +106,6 @@ kept_or_none (Err place) = nothing_kept
 abbrev pub state_kept : {D : Type 0} → (D → Told) → BlockState D → Kept
 state_kept told s = kept_or_none (kept_in_blocks (contents (told s.device)).now (Ok (heads_in s.slots)))
 
--- Nothing is kept, or the value under the reserved uid is.
-abbrev pub has_first_head : ℕ → List Head → Bool
-has_first_head node heads =
-    list_all (λ (h : Head). false) (keeping heads)
-    || list_any (λ (h : Head). eq_by_cmp uid_cmp h.uid (reserved_uid node)) (keeping heads)
-
 -- the index has an entry for a uid, so that none has to be made
 abbrev pub HasEntry : List (Uid × IndexEntry) → Uid → Type 0
 HasEntry entries uid = IsSome (lookup (is_at (uid_cmp uid)) entries)
@@ -121,10 +115,9 @@ abbrev pub body_asked : Bool → List ℕ → Option (List ℕ)
 body_asked removal bytes = if removal then None else Some bytes
 
 -- For so many more changes the room is told, with these open heads and so many blocks that the kept values take.
-abbrev pub changes_known : ℕ → ℕ → ℕ → List Head → ℕ
-changes_known node size needed heads =
-    if is_some (free_head size heads) && (nat_le 1 (data_count size - needed) && has_first_head node heads) then 2 ^ 63 - greatest heads
-    else 0
+abbrev pub changes_known : ℕ → ℕ → List Head → ℕ
+changes_known size needed heads =
+    if is_some (free_head size heads) && nat_le 1 (data_count size - needed) then 2 ^ 63 - greatest heads else 0
 
 -- this store as each store is seen, by what its disk counts, tells and has due; it notes no place of a refused write
 abbrev pub block_seen : {D : Type 0} → (D → Counts) → (D → Told) → (D → Due) → BlockState D → Seen

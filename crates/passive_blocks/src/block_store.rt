@@ -14,7 +14,7 @@ ghost use Rattle.passive_blocks.specs.HeldState.{IsHeld};
 ghost use Rattle.block_tables.specs.HeadState.{AreHeads};
 ghost use Rattle.passive_blocks.specs.StageState.{IsPartNext, behind_part, behind_closing, part_bytes, IsClosedBy, IsBehindClosing};
 ghost use Rattle.passive_blocks.specs.StageState.{IsStaged, IsNext, stage_call, gate_of, is_going, IsSettledBy};
-ghost use Rattle.passive_blocks.specs.StageState.{changes_behind, is_first_kept};
+ghost use Rattle.passive_blocks.specs.StageState.{changes_behind, goes_on_telling as is_telling};
 ghost use Rattle.block_tables.specs.TableState.{IsTable};
 
 use crate::opening::{changes_told, open_blocks};
@@ -128,25 +128,25 @@ fn first_stage(table: &Table, head: HeadFields) -> Stage
     }
 }
 
-/// Whether the room goes on being told behind a put: it is that of the value which is put first, or that one is kept.
-fn keeps_first(table: &Table, node: u8, uid: Uid) -> bool
+/// Whether the room goes on being told behind a change: it is one of an Eject, nothing is kept, or the reserved uid has a value.
+fn goes_on_telling(table: &Table, node: u8, uid: Uid) -> bool
     requires { IsTable table.now }
-    ensures { result ≡ is_first_kept table.now node uid }
+    ensures { result ≡ is_telling table.now node uid }
 {
     let reserved = Uid {
         node,
         epoch: 0,
         serial: 0,
     };
-    uid.epoch == 0 || table.value(reserved).is_some()
+    uid.epoch != 0 || table.blocks.needed == 0 || table.value(reserved).is_some()
 }
 
-/// For how many more changes the room is told behind one: a value that is put before the first of all ends it.
-fn more_behind(table: &Table, node: u8, more: u64, uid: Uid, sure: bool) -> u64
+/// For how many more changes the room is told behind one.
+fn more_behind(table: &Table, node: u8, more: u64, uid: Uid) -> u64
     requires { IsTable table.now }
-    ensures { result ≡ changes_behind table.now node more uid sure }
+    ensures { result ≡ changes_behind table.now node more uid }
 {
-    if sure || keeps_first(table, node, uid) {
+    if goes_on_telling(table, node, uid) {
         more.saturating_sub(1)
     } else {
         0
@@ -317,19 +317,12 @@ fn settle_table(table: &mut Table, pending: &Pending, gate: u32, is_open: bool) 
 
 impl<D: Disk> BlockStore<D> {
     ghost use Rattle.passive_store.specs.Kept.{Idle, is_busy, is_unsettled, body_at, calls_left, IsOwn, IsEject};
-    ghost use Rattle.passive_store.specs.Seen.{asked, Advances, SettlesOneCall, Settled, Begins, Finishes, TellsBehind};
+    ghost use Rattle.passive_store.specs.Seen.{asked, Advances, SettlesOneCall, Settled, Begins, Finishes};
     ghost use Rattle.passive_blocks.specs.BlockLayout.{block_layout};
     ghost use Rattle.passive_blocks.specs.StoreState.{block_seen, state_kept, HasEntry, body_asked};
 
-    /// Begins the job of a change for which there is an entry, where it finds room. Behind one that is sure, as each removal
-    /// is, the room goes on being told.
-    fn start(
-        &mut self,
-        uid: Uid,
-        removal: bool,
-        body: Vec<u8>,
-        sure: bool,
-    ) -> Result<(), StoreRefusal>
+    /// Begins the job of a change for which there is an entry, where it finds room.
+    fn start(&mut self, uid: Uid, removal: bool, body: Vec<u8>) -> Result<(), StoreRefusal>
         requires idle { self.old.work ≡ Idle }
         requires entry { HasEntry self.old.entries uid }
         requires own { IsOwn self.old.node uid (length body.items) }
@@ -337,16 +330,12 @@ impl<D: Disk> BlockStore<D> {
         requires eject { removal ≡ true → 1 ≤ uid.epoch }
         requires empty { removal ≡ true → body.items ≡ [] }
         requires kept { removal ≡ true → IsTrue D.tells → IsSome (body_at (state_kept D.told self.old) uid) }
-        requires gone { removal ≡ true → sure ≡ true }
-        requires sure { sure ≡ true → IsTrue D.tells
-            → TellsBehind self.old.node (state_kept D.told self.old) uid (body_asked removal body.items) }
         ensures begins { Begins D.tells block_layout (asked uid (body_asked removal body.items)) result
             (block_seen D.counts D.told D.due self.old) (block_seen D.counts D.told D.due self.new) }
         ensures only { IfErr result (λ e. e ≡ Full) }
         ensures fewer { self.new.more ≤ self.old.more }
-        ensures one { sure ≡ true → self.old.more ≤ self.new.more + 1 }
     {
-        let more = more_behind(&self.table, self.node, self.more, uid, sure);
+        let more = more_behind(&self.table, self.node, self.more, uid);
         let head = self.table.choose(uid, removal, body.len() as u32)?;
         let stage = first_stage(&self.table, head);
         self.pending = Some(Pending {
@@ -533,7 +522,7 @@ impl<D: Disk> Store for BlockStore<D> {
         match open_blocks(alloc, &mut disk, node) {
             Ok(table) => {
                 let size = disk.size();
-                let more = changes_told(&table, node);
+                let more = changes_told(&table);
                 Ok(BlockStore {
                     disk,
                     node,
@@ -602,12 +591,12 @@ impl<D: Disk> Store for BlockStore<D> {
     fn begin_put(&mut self, alloc: Global, uid: Uid, body: &[u8]) -> Result<(), StoreRefusal> {
         let bytes = copy_body(alloc, body)?;
         self.table.make_entry(uid)?;
-        self.start(uid, false, bytes, false)
+        self.start(uid, false, bytes)
     }
 
     fn begin_delete(&mut self, alloc: Global, uid: Uid) -> Result<(), StoreRefusal> {
         self.table.make_entry(uid)?;
-        self.start(uid, true, Vec::new(alloc), true)
+        self.start(uid, true, Vec::new(alloc))
     }
 
     fn advance(&mut self) -> Result<Progress, StoreRefusal> {
@@ -622,9 +611,8 @@ impl<D: Disk> Store for BlockStore<D> {
         self.picked = None;
         let bytes = copy_body(alloc, body)?;
         self.table.make_entry(uid)?;
-        let sure = keeps_first(&self.table, self.node, uid);
         self.settle_blocks()?;
-        self.start(uid, false, bytes, sure)?;
+        self.start(uid, false, bytes)?;
         self.finish_job()
     }
 
@@ -635,7 +623,7 @@ impl<D: Disk> Store for BlockStore<D> {
         if !self.is_kept(uid) {
             return Ok(());
         }
-        self.start(uid, true, Vec::new(alloc), true)?;
+        self.start(uid, true, Vec::new(alloc))?;
         self.finish_job()
     }
 

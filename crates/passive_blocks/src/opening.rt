@@ -35,7 +35,6 @@ use block_tables::{
     BLOCK, BlockTable, HeadFields, LAST_SEQUENCE, Table, blocks_of, head_place, is_block_size,
     read_head, read_next,
 };
-use capability::Uid;
 use eden_disk::{Disk, DiskRefusal};
 use passive_store::StoreRefusal;
 use std::alloc::Global;
@@ -392,16 +391,10 @@ pub fn open_blocks<D: Disk>(alloc: Global, disk: &mut D, node: u8) -> Result<Tab
 }
 
 /// For how many more changes the room is told: none, where nothing is free or no value stands under the reserved uid.
-fn told_by(
-    free: Option<u32>,
-    left: u32,
-    needed: u32,
-    reserved: Option<HeadFields>,
-    greatest: u64,
-) -> u64
-    ensures { result ≡ (if is_some free && (nat_le 1 left && ((needed == 0) || is_some reserved)) then 2 ^ 63 - greatest else 0) }
+fn told_by(free: Option<u32>, left: u32, greatest: u64) -> u64
+    ensures { result ≡ (if is_some free && nat_le 1 left then 2 ^ 63 - greatest else 0) }
 {
-    if free.is_some() && left >= 1 && (needed == 0 || reserved.is_some()) {
+    if free.is_some() && left >= 1 {
         LAST_SEQUENCE.saturating_sub(greatest)
     } else {
         0
@@ -409,20 +402,13 @@ fn told_by(
 }
 
 /// For how many more changes the room of a disk is told that was just opened.
-pub fn changes_told(table: &Table, node: u8) -> u64
+pub fn changes_told(table: &Table) -> u64
     requires { (counts : _) × IsHeld table.now.blocks.size counts table.now Option.None }
-    ensures { result ≡ changes_known node table.now.blocks.size table.now.blocks.needed (heads_in table.now.heads.slots.items) }
+    ensures { result ≡ changes_known table.now.blocks.size table.now.blocks.needed (heads_in table.now.heads.slots.items) }
 {
-    let reserved = Uid {
-        node,
-        epoch: 0,
-        serial: 0,
-    };
     told_by(
         table.heads.free_head(),
         table.blocks.left(),
-        table.blocks.needed,
-        table.value(reserved),
         table.heads.greatest(),
     )
 }

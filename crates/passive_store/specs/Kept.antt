@@ -466,9 +466,9 @@ reserved_uid node = record { node = node; epoch = 0; serial = 0 }
 abbrev pub body_at : Kept → Uid → Option (List ℕ)
 body_at s uid = map.get s.bodies uid
 
--- behind a put under this uid the room goes on being told: it is the reserved one, or the epoch is kept already
-abbrev pub KeepsTelling : ℕ → Kept → Uid → Type 0
-KeepsTelling node s uid = (uid ≡ reserved_uid node) ⊎ IsTrue (is_some (body_at s (reserved_uid node)))
+-- behind a put under the reserved uid the room goes on being told: something is kept there already, or nothing is kept at all
+abbrev pub KeepsTelling : ℕ → Kept → Type 0
+KeepsTelling node s = IsTrue (is_some (body_at s (reserved_uid node))) ⊎ ((uid : Uid) → body_at s uid ≡ None)
 
 -- How many device calls an opening made: all that its image takes, unless the disk or want of memory ended it before.
 abbrev pub OpeningMade : {S : Type 0} → ℕ → Result S StoreRefusal → ℕ → Type 0

@@ -1,6 +1,6 @@
 -- What is seen of a store, and what each of its calls leaves of it.
 use Rattle.std.specs.Prelude.{◌≡◌, ◌≢◌, ◌⊎◌, ℕ, ◌+◌, ◌≤◌, Bool, false, IsTrue, IsSome, is_some, is_ok, ◌&&◌, nat_le, List, length}
-use Rattle.std.specs.Prelude.{Option, None, Some, Result, Ok, Err, OnOk, OnErr, IfOk, IfErr, IfSome}
+use Rattle.std.specs.Prelude.{Option, None, Result, Ok, Err, OnOk, OnErr, IfOk, IfErr, IfSome}
 use Rattle.capability.specs.declared.Uid.{Uid}
 use Rattle.eden_disk.specs.Told.{Told, contents, EachMoment}
 use Rattle.eden_disk.specs.declared.disk.Arm.{Arm}
@@ -18,7 +18,7 @@ use Rattle.passive_store.specs.Kept.{change_in, is_unsettled, is_synced, calls_l
 use Rattle.passive_store.specs.Kept.{settling_before, settling_due, settled, finds_room, calls_due, reads_due, progress_at, end_of_store}
 use Rattle.passive_store.specs.Kept.{work_begun, work_settled, work_stepped, work_advanced, work_finished, work_changed, work_unchanged}
 use Rattle.passive_store.specs.Kept.{kept_advanced, kept_finished, kept_changed, changes_begun, SettlesFirst, SettlesAfterMemory}
-use Rattle.passive_store.specs.Kept.{IsFullBy, IsDiskRefusal, IsEarlyRefusal, KeepsTelling, body_at, OpeningMade, OpeningTold}
+use Rattle.passive_store.specs.Kept.{IsFullBy, IsDiskRefusal, IsEarlyRefusal, KeepsTelling, reserved_uid, body_at, OpeningMade, OpeningTold}
 use Rattle.passive_store.specs.Kept.{IsOverfullBy, NeverOverfull}
 
 -- what is seen of a disk
@@ -122,11 +122,6 @@ change_asked layout ask mark = record { uid = ask.uid; body = ask.body; mark = m
 abbrev pub has_room_for : Layout → ℕ → Kept → Asked → Bool
 has_room_for layout size kept ask = finds_room layout size kept ask.uid ask.body
 
--- The room goes on being told behind a change: behind a removal, and behind a put of the epoch or once the epoch is kept.
-abbrev pub TellsBehind : ℕ → Kept → Uid → Option (List ℕ) → Type 0
-TellsBehind node kept uid None = Unit {0}
-TellsBehind node kept uid (Some body) = KeepsTelling node kept uid
-
 -- A job was begun, or refused. It makes no device call, and a refusal leaves all as it was.
 pub record Begins (tells : Bool) (layout : Layout) (ask : Asked) (result : Result (Unit {0}) StoreRefusal) (old new : Seen) : Type 0 where
   pub node : new.node ≡ old.node
@@ -142,7 +137,10 @@ pub record Begins (tells : Bool) (layout : Layout) (ask : Asked) (result : Resul
   pub job : IsTrue (layout.is_job ask.body (length calls))
   pub work : new.work ≡ work_begun (change_asked layout ask mark) calls old.work result
   pub by_layout : IsTrue tells → HasJob layout new.node new.refused_at (contents new.disk.told).now new.work
-  pub one : TellsBehind old.node old.kept ask.uid ask.body → old.more ≤ new.more + 1
+  -- behind each change the room goes on being told, but for a put under the reserved uid, which may take the last block
+  pub one : ask.uid ≢ reserved_uid old.node → old.more ≤ new.more + 1
+  -- and so it does behind that one where something is kept there already, or nothing is kept
+  pub first : IsTrue tells → KeepsTelling old.node old.kept → old.more ≤ new.more + 1
   pub same : OnErr result (new.more ≡ old.more)
   pub room : IsTrue tells → 1 ≤ old.more → OnOk result (IsTrue (has_room_for layout old.disk.counts.size old.kept ask))
   pub full : IsTrue tells → 1 ≤ old.more → IfErr result (λ e. e ≡ Full → has_room_for layout old.disk.counts.size old.kept ask ≡ false)
@@ -207,7 +205,10 @@ pub record Whole (tells obeys : Bool) (layout : Layout) (ask : Asked)
   pub picked : SettlesAfterMemory new.picked old.work result
   pub undamaged : IfErr result (λ e. IsDiskRefusal e ⊎ IsEarlyRefusal e)
   pub unchanged : IfErr result (λ e. e ≡ OutOfMemory → new.disk ≡ old.disk)
-  pub one : TellsBehind old.node old.kept ask.uid ask.body → old.more ≤ new.more + 1
+  -- behind each change the room goes on being told, but for a put under the reserved uid
+  pub one : ask.uid ≢ reserved_uid old.node → old.more ≤ new.more + 1
+  -- and so it does behind that one where, settled, something is kept there already, or nothing is kept
+  pub first : IsTrue tells → KeepsTelling old.node (settled new.picked old.work old.kept) → old.more ≤ new.more + 1
   -- the change that a refusal leaves in doubt gives its uid a mark of its own
   pub fresh : IsTrue tells → IfSome (doubt_in new.work) (λ c. IsFresh c new.kept)
 

@@ -39,7 +39,7 @@ use Rattle.journal.specs.Ejects.{turned_away, gone_if_unkept, fresh, stored_epoc
 use Rattle.journal.specs.Processes.{AllowsStart, AllowsTurn, turn_of, turned, serving, with_start, start, worker_at, without_process}
 use Rattle.journal.specs.Processes.{asks_store, answers, refused_at_once, waits_or_told, creates, checkpoints, effected, process_turn}
 use Rattle.journal.specs.Settling.{first_request, settled_eject, settled, unsynced, written_with, to_settle}
-use Rattle.journal.specs.Sites.{HasEpochs, InOrder}
+use Rattle.journal.specs.Sites.{InOrder}
 use Rattle.journal.specs.Starts.{start_of, misfits_answered, activated, start_settled, activation_turn}
 use Rattle.journal.specs.Step.{AllowsAt, IsActiveAnd, site_turn}
 use Rattle.journal.specs.Stores.{Work, syncs, reads, unkept, without_room, calls, work_of, more_made, doubted, tells_code, request_ended}
@@ -56,7 +56,7 @@ use Rattle.journal.specs.declared.event.Shown.{Shown}
 use Rattle.journal.specs.declared.event.StartEnd.{StartEnd}
 use Rattle.journal.specs.declared.event.StartEnd.TheVariants as start_end
 use Rattle.history_laws.proofs.Creations.{next-active}
-use Rattle.history_laws.proofs.EpochBounds.{kept-epochs}
+use Rattle.history_laws.proofs.EpochBounds.{AreBounded, kept-epochs}
 use Rattle.history_laws.proofs.EveryNode.{IsKeptBy}
 use Rattle.history_laws.proofs.Frame.{eject-on_eject, on_eject-twice}
 use Rattle.history_laws.proofs.KeptTurns.{value-each}
@@ -491,7 +491,7 @@ pub record NodeHolds (n : ℕ) (it : Node) : Type 0 where
   pub least : 1 ≤ n
   pub most : n ≤ 8
   pub uids : Fit (OfNode (CreatedIn []) n) it
-  pub epochs : HasEpochs it
+  pub epochs : AreBounded it
   pub ejects : AllHold it.ejects
 
 pub stored-small : (o : Option ℕ) → IfSome o (λ e. e ≤ 4294967295) → epoch_or_zero o ≤ 4294967295

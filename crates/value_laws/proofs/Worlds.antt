@@ -22,7 +22,7 @@ use Rattle.journal.specs.Fit.{ArgumentsFit, NumbersFit}
 use Rattle.journal.specs.LegalRun.{AreHandedIn, created_by, numbered, numbered_from, images, opening_world}
 use Rattle.journal.specs.Opening.{found_in, node_of, node_from}
 use Rattle.journal.specs.Processes.{AllowsStart, invocation}
-use Rattle.journal.specs.Sites.{Everywhere, HasEpochs}
+use Rattle.journal.specs.Sites.{Everywhere}
 use Rattle.journal.specs.Standing.{DiskRun}
 use Rattle.journal.specs.Step.{AllowsAt, AllowsInTurn, AllowsEvent, Allows, IsActiveAnd, next, happened}
 use Rattle.journal.specs.World.{World, Node, Eject, Active, Site, node_at, eject_at, site_of}
@@ -35,7 +35,7 @@ use Rattle.journal.specs.declared.event.Event.TheVariants as event
 use Rattle.journal.proofs.FitValues.{held-are-ejects}
 use Rattle.history_laws.proofs.Down.{Rests, Calm, not-active}
 use Rattle.history_laws.proofs.DownRuns.{AllCalm}
-use Rattle.history_laws.proofs.EpochBounds.{opening-epochs}
+use Rattle.history_laws.proofs.EpochBounds.{AreBounded, opening-epochs}
 use Rattle.history_laws.proofs.EveryNode.{all-next_by}
 use Rattle.history_laws.proofs.Fits.{times}
 use Rattle.history_laws.proofs.HandedIn.{IsOwnMap, own-map}
@@ -260,7 +260,7 @@ within-opening layout script disks lays handed few = record {
         uids : Fit (OfNode (CreatedIn []) n) it
         uids = fit-opening layout (numbered disks) lays handed n it at
 
-        epochs : HasEpochs it
+        epochs : AreBounded it
         epochs = opening-epochs layout (numbered disks) lays handed n it at
 
         own : (u : Uid) → is_some (value_at uid_cmp u it.ejects) ≡ true → IsLimitedUid u

@@ -47,7 +47,7 @@ returns-in-Ok-put_epoch-clause-up g c = λ so more s told clock some d o.
     let r : OpensTo g.St.Store.layout c.args.node more s told clock c.args.pick x = c.in-Ok.ensures.reads so more s told clock c.args.pick o
     in
     boots-up g.St.Store.layout c.args.node more s told clock c.args.pick (c.in-Ok.epoch + 1) x y d r
-    (c.in-Ok-put_epoch.ensures.puts so more s told clock c.args.pick some d.number d.its_layout r)
+    (c.in-Ok-put_epoch.ensures.puts so more s told clock c.args.pick some d.number d.its_layout d.epochs r)
     (ap (λ k. k + 1) (c.in-Ok.ensures.epoch so more s told clock c.args.pick o (epochs-fit c.args.pick s d.epochs)))
     (below-last g.St.Store.layout c.args.node more s c.args.pick c.in-Ok.epoch d
     (c.in-Ok.ensures.epoch so more s told clock c.args.pick o (epochs-fit c.args.pick s d.epochs)) c.if-epoch.false)
@@ -62,12 +62,12 @@ returns-in-Err-Full-clause-falls g c = λ so more s told clock some d o.
     c.fall-in-Err-Full.result.1.doubt y.disk.told _ y.disk.counts _ c.fall-in-Err-Full.ensures.end c.fall-in-Err-Full.ensures.note
     (c.fall-in-Err-Full.ensures.doubt so
     ∙ noted-idle y ((subst (λ e. PutsTo g.St.Store.layout c.args.node more s told clock c.args.pick (c.in-Ok.epoch + 1) x (Err e) y)
-    c.in-Err-Full.field-0-is (c.in-Err-Full.ensures.puts so more s told clock c.args.pick some d.number d.its_layout r)).0.work
+    c.in-Err-Full.field-0-is (c.in-Err-Full.ensures.puts so more s told clock c.args.pick some d.number d.its_layout d.epochs r)).0.work
     ∙ r.idle))
     (ap (λ (d : DiskSeen). d.told) c.fall-in-Err-Full.ensures.disk) (ap (λ (d : DiskSeen). d.counts) c.fall-in-Err-Full.ensures.disk)
     (falls-full g.St.Store.layout c.args.node more s told clock c.args.pick (c.in-Ok.epoch + 1) x y d r
     (subst (λ e. PutsTo g.St.Store.layout c.args.node more s told clock c.args.pick (c.in-Ok.epoch + 1) x (Err e) y)
-    c.in-Err-Full.field-0-is (c.in-Err-Full.ensures.puts so more s told clock c.args.pick some d.number d.its_layout r))
+    c.in-Err-Full.field-0-is (c.in-Err-Full.ensures.puts so more s told clock c.args.pick some d.number d.its_layout d.epochs r))
     (ap (λ k. k + 1) (c.in-Ok.ensures.epoch so more s told clock c.args.pick o (epochs-fit c.args.pick s d.epochs)))
     (below-last g.St.Store.layout c.args.node more s c.args.pick c.in-Ok.epoch d
     (c.in-Ok.ensures.epoch so more s told clock c.args.pick o (epochs-fit c.args.pick s d.epochs)) c.if-epoch.false))
@@ -86,7 +86,8 @@ returns-in-Err-OutOfMemory-clause-falls g c = λ so more s told clock some d o.
     (falls-unmade g.St.Store.layout c.args.node more s told clock c.args.pick
     (c.in-Ok.epoch + 1) x y c.fall-in-Err-OutOfMemory.result.1.note None r
     (subst (λ e. PutsTo g.St.Store.layout c.args.node more s told clock c.args.pick (c.in-Ok.epoch + 1) x (Err e) y)
-    c.in-Err-OutOfMemory.field-0-is (c.in-Err-OutOfMemory.ensures.puts so more s told clock c.args.pick some d.number d.its_layout r)))
+    c.in-Err-OutOfMemory.field-0-is
+    (c.in-Err-OutOfMemory.ensures.puts so more s told clock c.args.pick some d.number d.its_layout d.epochs r)))
 
 pub returns-in-Err-Failed-clause-falls : goal.returns-in-Err-Failed-clause-falls
 returns-in-Err-Failed-clause-falls g c = λ so more s told clock some d o.
@@ -100,7 +101,7 @@ returns-in-Err-Failed-clause-falls g c = λ so more s told clock some d o.
     (ap (λ (d : DiskSeen). d.told) c.fall-in-Err-Failed.ensures.disk) (ap (λ (d : DiskSeen). d.counts) c.fall-in-Err-Failed.ensures.disk)
     (falls-put g.St.Store.layout c.args.node more s told clock c.args.pick (c.in-Ok.epoch + 1) x y _ _ (inl refl) d r
     (subst (λ e. PutsTo g.St.Store.layout c.args.node more s told clock c.args.pick (c.in-Ok.epoch + 1) x (Err e) y)
-    c.in-Err-Failed.field-0-is (c.in-Err-Failed.ensures.puts so more s told clock c.args.pick some d.number d.its_layout r)) refl
+    c.in-Err-Failed.field-0-is (c.in-Err-Failed.ensures.puts so more s told clock c.args.pick some d.number d.its_layout d.epochs r)) refl
     (ap (λ k. k + 1) (c.in-Ok.ensures.epoch so more s told clock c.args.pick o (epochs-fit c.args.pick s d.epochs)))
     (below-last g.St.Store.layout c.args.node more s c.args.pick c.in-Ok.epoch d
     (c.in-Ok.ensures.epoch so more s told clock c.args.pick o (epochs-fit c.args.pick s d.epochs)) c.if-epoch.false))
@@ -117,7 +118,7 @@ returns-in-Err-Stopped-clause-falls g c = λ so more s told clock some d o.
     (ap (λ (d : DiskSeen). d.told) c.fall-in-Err-Stopped.ensures.disk) (ap (λ (d : DiskSeen). d.counts) c.fall-in-Err-Stopped.ensures.disk)
     (falls-put g.St.Store.layout c.args.node more s told clock c.args.pick (c.in-Ok.epoch + 1) x y _ _ (inr refl) d r
     (subst (λ e. PutsTo g.St.Store.layout c.args.node more s told clock c.args.pick (c.in-Ok.epoch + 1) x (Err e) y)
-    c.in-Err-Stopped.field-0-is (c.in-Err-Stopped.ensures.puts so more s told clock c.args.pick some d.number d.its_layout r)) refl
+    c.in-Err-Stopped.field-0-is (c.in-Err-Stopped.ensures.puts so more s told clock c.args.pick some d.number d.its_layout d.epochs r)) refl
     (ap (λ k. k + 1) (c.in-Ok.ensures.epoch so more s told clock c.args.pick o (epochs-fit c.args.pick s d.epochs)))
     (below-last g.St.Store.layout c.args.node more s c.args.pick c.in-Ok.epoch d
     (c.in-Ok.ensures.epoch so more s told clock c.args.pick o (epochs-fit c.args.pick s d.epochs)) c.if-epoch.false))

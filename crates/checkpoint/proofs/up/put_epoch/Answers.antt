@@ -2,25 +2,26 @@ use Rattle.std.proofs.Common.{◌≡◌, false, Some, Ok, subst, ◌∙◌, ap, 
 use Rattle.passive_store.specs.Seen.{Seen, DiskSeen, Begins}
 use Rattle.passive_store.specs.Kept.{finds_room}
 use Rattle.journal.specs.Settling.{epoch_uid}
-use Rattle.checkpoint.proofs.Epochs.{puts-from, puts-to, no-room, settled-number, settled-layout, settled-size}
+use Rattle.checkpoint.proofs.Epochs.{opens-telling, puts-from, puts-to, no-room, settled-number, settled-layout, settled-size}
 use Rattle.std.proofs.Common.{refl}
 use Rattle.checkpoint.proofs.Touching.{obeyed-none, obeyed-from, raises-from, raises-ran}
 use Rattle.checkpoint.proofs.up.put_epoch.Goals as goal
 
 pub returns-in-Ok-clause-puts : goal.returns-in-Ok-clause-puts
-returns-in-Ok-clause-puts g c = λ so more s told clock p some number its_layout o.
+returns-in-Ok-clause-puts g c = λ so more s told clock p some number its_layout fits o.
     let x : Seen = g.St.Store.seen c.args.store.now in
     let m : Seen = g.St.Store.seen c.begin_put.new.self in
     let y : Seen = g.St.Store.seen c.finish.new.store in
     puts-to g.St.Store.layout c.args.node more c.args.epoch s told clock p x y c.finish.result number its_layout o
     (puts-from g.St.Device.Disk.tells g.St.Device.Disk.obeys g.St.Store.layout c.args.node c.args.epoch x m y tt c.finish.result so
     c.requires.node c.requires.idle (omega (arith, some, o.told))
+    (opens-telling g.St.Store.layout c.args.node more s told clock p x fits o)
     (subst (λ (l : List ℕ). Begins g.St.Device.Disk.tells g.St.Store.layout (record { uid = epoch_uid c.args.node; body = Some l })
     (Ok tt) x m)
     c.epoch_bytes.ensures c.in-Ok.ensures) c.finish.ensures)
 
 pub returns-in-Err-Full-clause-puts : goal.returns-in-Err-Full-clause-puts
-returns-in-Err-Full-clause-puts g c = λ so more s told clock p some number its_layout o.
+returns-in-Err-Full-clause-puts g c = λ so more s told clock p some number its_layout fits o.
     let x : Seen = g.St.Store.seen c.args.store.now in
     let b = c.in-Err-Full.ensures in (
       record {

@@ -5,17 +5,14 @@ use Rattle.passive_blocks.proofs.opening.changes_told.Goals as goal
 pub returns : goal.returns
 returns c =
     c.told_by.ensures
-    ∙ told_is c.args.node c.args.table.now.blocks.size c.left.result c.greatest.result c.requires.0 c.args.table.now c.free_head.result
-    c.value.result c.requires.1 c.free_head.ensures c.left.ensures c.value.ensures c.greatest.ensures
+    ∙ told_is c.args.table.now.blocks.size c.left.result c.greatest.result c.requires.0 c.args.table.now c.free_head.result
+    c.requires.1 c.free_head.ensures c.left.ensures c.greatest.ensures
 
 pub free_head-requires : goal.free_head-requires
 free_head-requires c = c.requires.1.table.heads
 
 pub left-requires : goal.left-requires
 left-requires c = c.requires.1.table.blocks
-
-pub value-requires : goal.value-requires
-value-requires c = c.requires.1.table
 
 pub greatest-requires : goal.greatest-requires
 greatest-requires c = c.requires.1.table.heads

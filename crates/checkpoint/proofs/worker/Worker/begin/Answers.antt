@@ -3,7 +3,7 @@ use Rattle.passive_store.specs.Kept.{Idle}
 use Rattle.passive_store.specs.Seen.{Seen, DiskSeen}
 use Rattle.checkpoint.specs.Asked.{body_asked, IsUnderJob, StepsTo, end_of_step}
 use Rattle.eden_disk.specs.Calls.{DeviceCalls}
-use Rattle.checkpoint.proofs.WorkerSteps.{quiet-done, quiet-full, tells-behind, head-needs, head-room, head-begun, steps-from, made-none}
+use Rattle.checkpoint.proofs.WorkerSteps.{quiet-done, quiet-full, keeps-telling, head-needs, head-room, head-begun, steps-from, made-none}
 use Rattle.checkpoint.proofs.OneCalls.{no-calls, one-from}
 use Rattle.checkpoint.proofs.Touching.{none-ended, once-made, touched-unkept, touched-full, touched-job, obeyed-still, obeyed-from}
 use Rattle.checkpoint.proofs.Touching.{raises-ended, raises-one}
@@ -45,7 +45,7 @@ returns-in-Ok-clause-steps g c = λ so s told h.
     (sym (c.if-not-needs_calls.ensures so)) in
     let there : IsUnderJob g.St.Store.layout y.node s c.args.self.now.requests.items y Idle x.more =
     subst (λ k. IsUnderJob g.St.Store.layout k s c.args.self.now.requests.items y Idle x.more) (sym b.node) before in
-    let one : x.more ≤ y.more + 1 = b.one (tells-behind _ _ s _ x c.in-Some.request.now.uid (body_asked c.in-Some.request.now.wish) h) in (
+    let one : x.more ≤ y.more + 1 = b.first so (keeps-telling _ _ s _ x h) in (
       steps-from g.St.Store.layout x.node s c.args.self.now.requests.items c.advance.new.self.requests.items x y z c.advance.result
           (made-none _ g.St.Store.layout _ _ x y c.requires.idle b) (ap (λ (d : DiskSeen). d.told) b.disk)
           (ap (λ (d : DiskSeen). d.counts) b.disk)

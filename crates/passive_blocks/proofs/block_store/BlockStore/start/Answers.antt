@@ -2,7 +2,7 @@ use Rattle.std.proofs.Common.{◌≡◌, ℕ, false, ◌<◌, ◌^◌, length, N
 use Rattle.std.specs.Prelude.{IsSome}
 use Rattle.std.proofs.lemmas.Result.{err_from_is_err_and}
 use Rattle.passive_store.specs.Kept.{IsOwn, body_at}
-use Rattle.passive_store.specs.Seen.{DiskSeen, TellsBehind, asked}
+use Rattle.passive_store.specs.Seen.{DiskSeen, asked}
 use Rattle.block_tables.specs.declared.table.Table.{Table}
 use Rattle.passive_blocks.specs.declared.block_store.Pending.{Pending}
 use Rattle.passive_blocks.specs.StoreState.{HasEntry, state_kept, body_asked, pending_work}
@@ -12,7 +12,7 @@ use Rattle.block_tables.specs.TableState.{fits_in, greatest_in}
 use Rattle.passive_blocks.proofs.StageGoes.{kept_seen}
 use Rattle.passive_blocks.proofs.StageBegins.{IsAsked, IsChosen, chosen_by, begun_store, begun_seen, refused_begins, full_begins}
 use Rattle.passive_blocks.proofs.StageBegins.{none_pending}
-use Rattle.passive_blocks.proofs.StageBegins.{told_fewer, one_sure}
+use Rattle.passive_blocks.proofs.StageBegins.{told_fewer}
 use Rattle.passive_blocks.proofs.block_store.BlockStore.start.Goals as goal
 
 pub invariant_of-self-2 : goal.invariant_of-self-2
@@ -58,9 +58,7 @@ invariant_of-self-2 g c =
       others = e.others;
     }) refl c.first_stage-stage.ensures refl in
     subst (λ more. IsStore g.D.Disk.tells s.node s.size more d.counts d.told new (Some p)) (sym c.more_behind-more.ensures)
-    (begun_store g.D.Disk.tells s.node s.size s.more d s.table new s.pending p c.args.uid c.args.removal c.args.sure c.args.body.items a x
-    (λ is tells. subst (λ v. TellsBehind v.node (state_kept g.D.Disk.told v) c.args.uid (body_asked c.args.removal c.args.body.items))
-    (sym c.self.view_is) (c.requires.sure is tells)))
+    (begun_store g.D.Disk.tells s.node s.size s.more d s.table new s.pending p c.args.uid c.args.removal c.args.body.items a x)
 
 pub returns-clause-begins : goal.returns-clause-begins
 returns-clause-begins g c =
@@ -105,8 +103,8 @@ returns-clause-begins g c =
       others = e.others;
     }) refl c.first_stage-stage.ensures refl in
     rw (← c.self.view_is, c.more_behind-more.ensures)
-    (begun_seen g.D.Disk.tells s.node s.size s.more d s.table new s.pending p c.args.uid c.args.removal c.args.sure c.args.body.items
-    s.picked a x c.requires.gone)
+    (begun_seen g.D.Disk.tells s.node s.size s.more d s.table new s.pending p c.args.uid c.args.removal c.args.body.items
+    s.picked a x)
 
 pub invariant_of-self : goal.invariant_of-self
 invariant_of-self g c =
@@ -145,9 +143,4 @@ returns-in_err-head-clause-begins g c =
 pub returns-clause-fewer : goal.returns-clause-fewer
 returns-clause-fewer g c =
     let s = c.self.inside in
-    rw (← c.self.view_is, c.more_behind-more.ensures) (told_fewer s.table s.node s.more c.args.uid c.args.sure)
-
-pub returns-clause-one : goal.returns-clause-one
-returns-clause-one g c = λ is.
-    let s = c.self.inside in
-    rw (← c.self.view_is, c.more_behind-more.ensures) (one_sure s.table s.node s.more c.args.uid c.args.sure is)
+    rw (← c.self.view_is, c.more_behind-more.ensures) (told_fewer s.table s.node s.more c.args.uid)

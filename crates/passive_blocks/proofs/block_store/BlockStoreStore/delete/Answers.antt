@@ -102,7 +102,7 @@ returns g c =
     (subst (λ o. Deletes g.D.Disk.tells g.D.Disk.obeys block_layout ask c.finish_job.result o last)
     (entry_seen s.node s.more d s.table new s.pending s.picked e.slots e.closing e.lone e.blocks)
     (delete_done g.D.Disk.tells g.D.Disk.obeys s.node s.size s.more d new s.pending s.picked c.args.uid c.finish_job.result mid began last k
-    (λ so. sym (c.is_kept.ensures so) ∙ c.if-not-is_kept.false) (c.in_ok-start.ensures.one refl) c.in_ok-start.ensures.fewer refl
+    (λ so. sym (c.is_kept.ensures so) ∙ c.if-not-is_kept.false) c.in_ok-start.ensures.fewer refl
     c.in_ok-start.ensures.begins c.finish_job.ensures))
 
 pub returns-then-not-is_kept : goal.returns-then-not-is_kept
@@ -157,9 +157,6 @@ start-requires-clause-own g c =
 
 pub start-requires-clause-kept : goal.start-requires-clause-kept
 start-requires-clause-kept g c = λ gone so. sym (c.is_kept.ensures so) ∙ c.if-not-is_kept.false
-
-pub start-requires-clause-sure : goal.start-requires-clause-sure
-start-requires-clause-sure g c = λ sure so. tt
 
 pub finish_job-requires-clause-power : goal.finish_job-requires-clause-power
 finish_job-requires-clause-power g c =

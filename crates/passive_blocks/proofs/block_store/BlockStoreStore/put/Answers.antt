@@ -9,7 +9,7 @@ use Rattle.passive_blocks.specs.StoreState.{block_seen}
 use Rattle.passive_blocks.proofs.StoreEntry.{entry_store, entry_seen, waiting_seen}
 use Rattle.passive_blocks.proofs.StoreTells.{memory_puts}
 use Rattle.passive_blocks.proofs.StorePuts.{Settling, settling_entry, settling_idle, settling_own}
-use Rattle.passive_blocks.proofs.StorePuts.{settling_tells, begun_power, begun_busy, begun_some}
+use Rattle.passive_blocks.proofs.StorePuts.{begun_power, begun_busy, begun_some}
 use Rattle.passive_blocks.proofs.StorePuts.{put_done, put_refused, put_full}
 use Rattle.passive_blocks.proofs.block_store.BlockStoreStore.put.Goals as goal
 
@@ -116,8 +116,7 @@ returns g c =
     (subst (λ o. Puts g.D.Disk.tells g.D.Disk.obeys block_layout ask c.finish_job.result o last)
     (entry_seen s.node s.more d s.table new s.pending s.picked e.slots e.closing e.lone e.blocks)
     (put_done g.D.Disk.tells g.D.Disk.obeys s.node s.size s.more d new s.pending s.picked c.args.uid c.args.body.now
-    c.keeps_first-sure.result
-    c.finish_job.result mid began last k c.keeps_first-sure.ensures c.in_ok-start.ensures.one c.in_ok-start.ensures.fewer refl
+    c.finish_job.result mid began last k c.in_ok-start.ensures.fewer refl
     (subst (λ b. Begins g.D.Disk.tells block_layout (asked c.args.uid (Some b)) (Ok tt) mid began) c.in_ok-bytes.ensures
     c.in_ok-start.ensures.begins) c.finish_job.ensures))
 
@@ -151,22 +150,6 @@ start-requires-clause-own g c =
     settling_own g.D.Disk.tells g.D.Disk.obeys s.node s.size s.more d new s.pending mid c.args.uid (length c.in_ok-bytes.bytes.items) k
     (subst (λ b. IsOwn s.node c.args.uid (length b)) (sym c.in_ok-bytes.ensures)
     (subst (λ v. IsOwn v.node c.args.uid (length c.args.body.now)) (sym c.self.view_is) c.requires.own))
-
-pub start-requires-clause-sure : goal.start-requires-clause-sure
-start-requires-clause-sure g c = λ sure so.
-    let s = c.self.inside in
-    let d : DiskSeen = record { counts = g.D.Disk.counts s.disk; told = g.D.Disk.told s.disk; due = g.D.Disk.due s.disk } in
-    let new : Table = c.make_entry.new.self in
-    let e = c.make_entry.ensures in
-    let mid : Seen = block_seen g.D.Disk.counts g.D.Disk.told g.D.Disk.due c.settle_blocks.new.self in
-    let k : Settling g.D.Disk.tells g.D.Disk.obeys (Ok tt) s.node s.size s.more d new s.pending mid =
-    settling_entry g.D.Disk.tells g.D.Disk.obeys (Ok tt) s.node s.size s.more d s.table new s.pending mid
-    c.self.invariant e.table e.slots e.entries e.keys e.closing e.lone e.blocks
-    (ap (λ v. is_busy v.work) c.self.view_is ∙ c.requires.idle) c.in_ok-settle_blocks.ensures.settled in
-    settling_tells g.D.Disk.tells g.D.Disk.obeys s.node s.size s.more d new s.pending mid c.args.uid c.in_ok-bytes.bytes.items k
-    (subst (λ b. IsOwn s.node c.args.uid (length b)) (sym c.in_ok-bytes.ensures)
-    (subst (λ v. IsOwn v.node c.args.uid (length c.args.body.now)) (sym c.self.view_is) c.requires.own))
-    (sym c.keeps_first-sure.ensures ∙ sure) so
 
 pub finish_job-requires-clause-power : goal.finish_job-requires-clause-power
 finish_job-requires-clause-power g c =

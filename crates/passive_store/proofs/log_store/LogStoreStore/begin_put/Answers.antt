@@ -28,7 +28,8 @@ returns-in_err-record_bytes g c =
       work = refl;
       by_layout = λ tells. subst (HasJob log_layout c.args.self.now.node None (contents (g.D.Disk.told c.args.self.now.device)).now)
           (sym c.requires.idle) tt;
-      one = λ tells. omega arith;
+      one = λ other. omega arith;
+      first = λ tells keeps. omega arith;
       same = refl;
       room = λ tells some. tt;
       full = λ tells some is. absurd (memory_is_not_room is);
@@ -54,7 +55,8 @@ returns-in_err-make_entry g c =
       job = refl;
       work = refl;
       by_layout = λ tells. subst (HasJob log_layout s.node None (contents (g.D.Disk.told s.disk)).now) (sym idle) tt;
-      one = λ tells. omega arith;
+      one = λ other. omega arith;
+      first = λ tells keeps. omega arith;
       same = refl;
       room = λ tells some. tt;
       full = λ tells some is. absurd (memory_is_not_room is);
@@ -99,7 +101,8 @@ returns g c =
           (subst (λ d. HasJob log_layout s.node None (contents (g.D.Disk.told d)).now c.start.new.self.work) (sym e.device)
           (begins_job s.node s.tail s.tail image items c.args.uid (Some c.args.body.now) (pending_work s.tail s.pending)
           c.start.new.self.work c.start.result idle work (e.tail tells) c.in_ok-record_bytes.ensures.record_of));
-      one = λ tells. omega arith;
+      one = λ other. omega arith;
+      first = λ tells keeps. omega arith;
       same = on_refusal _ c.start.result refl;
       room = λ tells some. e.room tells;
       full = λ tells some. full_then _ c.start.result (e.full tells);

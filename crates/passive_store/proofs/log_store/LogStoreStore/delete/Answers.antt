@@ -33,7 +33,8 @@ returns-in_err-record_bytes g c =
         picked = refl;
         undamaged = inr (inr refl);
         unchanged = λ is. refl;
-        one = λ tells. omega arith;
+        one = λ other. omega arith;
+        first = λ tells keeps. omega arith;
         fresh = λ tells. doubt_fresh s.node s.size s.tail (contents (g.D.Disk.told s.disk)) s.index s.pending (c.self.invariant.1 tells);
       };
       at = tt;
@@ -69,7 +70,8 @@ returns-in_err-make_entry g c =
         picked = refl;
         undamaged = inr (inr refl);
         unchanged = λ is. refl;
-        one = λ tells. omega arith;
+        one = λ other. omega arith;
+        first = λ tells keeps. omega arith;
         fresh = λ tells. doubt_fresh s.node s.size s.tail (contents (g.D.Disk.told s.disk)) s.index s.pending (c.self.invariant.1 tells);
       };
       at = tt;
@@ -117,7 +119,8 @@ returns g c =
         picked = after_memory new.picked work result e.undamaged e.picked;
         undamaged = undamaged_whole result e.undamaged;
         unchanged = unless_memory _ result e.undamaged;
-        one = λ tells. omega arith;
+        one = λ other. omega arith;
+        first = λ tells keeps. omega arith;
         fresh = e.fresh;
       };
       at = on_done _ result (inl refl);
