@@ -1,6 +1,7 @@
 //! Bytes of which memory holds those in front of some place.
 ghost use Rattle.std.specs.Prelude.{◌≡◌, ◌+◌, ◌-◌, ◌++◌, ◌≤◌, ◌<◌, ◌^◌, length, max, replicate, slice_range, OnOk, OnErr, IsTrue};
 ghost use Rattle.std.specs.Prelude.{vec_capacity};
+ghost use Rattle.std.specs.List.{All};
 ghost use Rattle.eden_disk.specs.Told.{overlay};
 ghost use Rattle.eden_disk.specs.SimDisk.{zeros};
 
@@ -18,6 +19,11 @@ pub struct Front {
     reach: u32,
     size: u32,
 }
+
+// Each item is a byte.
+fn are_bytes(bytes: &[u8])
+    ensures { All (λ byte. byte < 256) bytes.now }
+{}
 
 impl Model for Front {
     ghost use Rattle.std.specs.Prelude.{length, vec_capacity};
@@ -55,6 +61,13 @@ impl Front {
             reach: size,
             size,
         }
+    }
+
+    /// Each is a byte.
+    pub fn holds_bytes(&self)
+        ensures { All (λ byte. byte < 256) self.now.bytes }
+    {
+        are_bytes(&self.bytes);
     }
 
     pub fn size(&self) -> u32

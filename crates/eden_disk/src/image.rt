@@ -1,5 +1,6 @@
 //! The bytes of a disk in memory.
 ghost use Rattle.std.specs.Prelude.{◌≡◌, ◌+◌, ◌≤◌, ◌<◌, ◌^◌, length, replicate, slice_range, IfOk, OnOk};
+ghost use Rattle.std.specs.List.{All};
 ghost use Rattle.eden_disk.specs.Told.{overlay};
 ghost use Rattle.eden_disk.specs.SimDisk.{zeros};
 
@@ -58,6 +59,14 @@ impl Image {
             first: Front::of(Vec::from_slice(alloc, first)?),
             rest: Front::of(Vec::from_slice(alloc, rest)?),
         })
+    }
+
+    /// Each is a byte.
+    pub fn holds_bytes(&self)
+        ensures { All (λ byte. byte < 256) self.now.bytes }
+    {
+        self.first.holds_bytes();
+        self.rest.holds_bytes();
     }
 
     pub fn size(&self) -> u32

@@ -1,6 +1,7 @@
 //! What a disk in memory holds.
 ghost use Rattle.std.specs.Prelude.{◌≡◌, ◌+◌, ◌≤◌, ◌<◌, ◌^◌, length, [], ◌∷◌, ◌++◌, IfOk, OnOk, OnErr, slice_range};
 ghost use Rattle.std.specs.Prelude.{map, reverse, vec_len, vec_capacity};
+ghost use Rattle.std.specs.List.{All};
 ghost use Rattle.eden_disk.specs.Images.{garbled, image_left, half_written, after_cut};
 ghost use Rattle.eden_disk.specs.SimDisk.{zeros};
 ghost use Rattle.eden_disk.specs.Telling.{told_with};
@@ -83,6 +84,13 @@ impl Medium {
         ensures whole { Left (contents self.now) (contents self.now).now }
     {
         self.seen.size()
+    }
+
+    /// It tells bytes.
+    pub fn holds_bytes(&self)
+        ensures { All (λ byte. byte < 256) (contents self.now).now }
+    {
+        self.seen.holds_bytes();
     }
 
     /// A copy of all bytes as a read sees them.

@@ -1,6 +1,7 @@
 // A disk in memory that tells all that it holds, and fails and stops exactly as it is armed.
 ghost use Rattle.std.specs.Prelude.{◌≡◌, ◌+◌, ◌≤◌, ◌<◌, ◌-◌, ◌^◌, ℕ, Bool, true, IsTrue, length, [], slice_range, IfOk, OnOk};
 ghost use Rattle.std.specs.Prelude.{OnErr, Err, Some, None};
+ghost use Rattle.std.specs.List.{All};
 ghost use Rattle.eden_disk.specs.Told.{contents, Left};
 ghost use Rattle.eden_disk.specs.Calls.{end_of, calls_until, one_more, DeviceCall, Obeys, IsSpent, ReadTold, SyncTold, WriteTold, IsCut};
 ghost use Rattle.eden_disk.specs.SimDisk.{begun_with, blank_of, due_of, next_end, mode_of, counted, failed, stopped, without_memory};
@@ -103,6 +104,13 @@ impl SimDisk {
             failure: None,
             stop: None,
         }
+    }
+
+    /// What a read sees are bytes, each below 256.
+    pub fn holds_bytes(&self)
+        ensures { All (λ byte. byte < 256) (contents self.now.told).now }
+    {
+        self.medium.holds_bytes();
     }
 
     /// A copy of all bytes as a read sees them.

@@ -237,3 +237,10 @@ fn laws_are_there_to_be_called(_rt: HostRuntime) {
     calls_are_timed();
     earlier_moments_stay();
 }
+
+#[test]
+fn a_disk_in_memory_holds_bytes(rt: HostRuntime) {
+    let disk = blank_disk(&rt, rt.alloc(), 8);
+    disk.holds_bytes();
+    assert!(rt; shows(&rt, rt.alloc(), &disk, &[0; 8]));
+}
