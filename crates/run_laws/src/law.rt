@@ -1,5 +1,6 @@
 //! What holds besides of the runs of scripts that were read, over blocks.
 ghost use Rattle.run_laws.specs.Besides.{LegalRunsHoldBesides, LegalPartsHoldBesides};
+ghost use Rattle.run_laws.specs.Spent.{SpentDisksAreFull};
 
 use eden_script::a_script_is_fit;
 use history_laws::{
@@ -13,8 +14,8 @@ use value_laws::histories_keep_limits;
 
 /// Of each legal run of a script that was read, over eight disks that are handed in as they have to be: all values are values; who is
 /// inside of a monitor holds it or waits for it, and touches no variable of another; each enabled key has its turn, and a node that is
-/// down rests; each pipeline does what its functions say, whatever crashed, and takes so many invocations where nothing disturbs it; and where a disk neither failed nor stopped, what its
-/// node asks of it comes to its end.
+/// down rests; each pipeline does what its functions say, whatever crashed, and takes so many invocations where nothing disturbs it; and
+/// where a disk neither failed nor stopped, what its node asks of it comes to its end.
 pub fn legal_runs_hold_besides()
     ensures whole { LegalRunsHoldBesides }
 
@@ -34,3 +35,9 @@ pub fn legal_runs_hold_besides()
     undisturbed_runs_are_complete();
     checkpoints_are_answered();
 }
+
+/// A node whose disk began with an image of blocks on which the last sequence is used does not come up: each boot finds no room, unless a
+/// device call fails or stops, or the last epoch is stored.
+pub fn spent_disks_are_full()
+    ensures { SpentDisksAreFull }
+{}

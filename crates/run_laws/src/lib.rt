@@ -3,4 +3,4 @@
 
 mod law;
 
-pub use law::legal_runs_hold_besides;
+pub use law::{legal_runs_hold_besides, spent_disks_are_full};
