@@ -128,9 +128,12 @@ impl HeadTable {
             result ≡ (if is_open slot && is_it number (entry_at self.now.index slot.uid).latest && not slot.removal
             then Option.Some slot else Option.None) }
     {
-        let slot = self.slots[number as usize];
+        let slot = &self.slots[number as usize];
+        if slot.sequence == 0 || slot.removal {
+            return None;
+        }
         match find_entry(&self.index, slot.uid).latest {
-            Some(latest) if slot.sequence != 0 && latest == number && !slot.removal => Some(slot),
+            Some(latest) if latest == number => Some(*slot),
             _ => None,
         }
     }
@@ -141,12 +144,13 @@ impl HeadTable {
         requires number { number < length self.now.slots.items }
         ensures { result ≡ is_lone self.now.slots.items number (entry_at self.now.index (slot_at self.now.slots.items number).uid) }
     {
-        let slot = self.slots[number as usize];
+        let slot = &self.slots[number as usize];
+        if slot.sequence == 0 || !slot.removal {
+            return false;
+        }
         let entry = find_entry(&self.index, slot.uid);
         match entry.latest {
-            Some(latest) => {
-                slot.sequence != 0 && latest == number && slot.removal && entry.others == 0
-            }
+            Some(latest) => latest == number && entry.others == 0,
             None => false,
         }
     }

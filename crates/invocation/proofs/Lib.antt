@@ -1,6 +1,7 @@
 mod Numbers
 mod Index
 mod Closed
+mod Listed
 mod Own
 mod Mails
 mod Filters

@@ -21,14 +21,16 @@ use Rattle.invocation.specs.declared.call.Message.{Message}
 use Rattle.invocation.specs.declared.call.Message.TheVariants.{Request, Reply}
 use Rattle.invocation.specs.Queues.{Rows, row, with_row, sent_to, cut_between, cleared}
 use Rattle.invocation.specs.Numbers.{item_in, passes_at}
-use Rattle.invocation.specs.Made.{Made, is_own}
+use Rattle.invocation.specs.Made.{Made, AreMade, is_own}
 use Rattle.invocation.specs.declared.closing.Cause.{Cause}
 use Rattle.invocation.specs.Causes.{hits, ends, closed_by}
 use Rattle.invocation.specs.Mail.{IsGiven, call_of, delivery_of, is_open, target_of, number_of, spent, over, received, closed_if, let_go}
 use Rattle.invocation.specs.Mail.{refused_at_once}
-use Rattle.invocation.specs.Whole.{IsWhole, IsIndex, IsBetween, IsMailNoted, AllGiven, is_live}
+use Rattle.invocation.specs.declared.lists.Index.{Index}
+use Rattle.invocation.specs.Listed.{IsIndex, is_live}
+use Rattle.invocation.specs.Whole.{IsWhole, IsBetween, IsMailNoted, AllGiven}
 use Rattle.invocation.proofs.Numbers.{length-change}
-use Rattle.invocation.proofs.Index.{index-change, index-live, index-dead, over-falls, spent-falls}
+use Rattle.invocation.proofs.Index.{index-change, index-dead, concerns-over, concerns-spent}
 use Rattle.invocation.proofs.Own.{Notes, made-noted, made-given_up, made-other, made-spent}
 
 all-map : {X : Type 0} (P : X → Type 0) (f : X → X) → ((x : X) → P x → P (f x)) → (xs : List X) → All P xs → All P (map f xs)
@@ -82,9 +84,9 @@ called-told (Request k) cs = refl
 called-told (Reply k s results) cs = refl
 
 -- the index after a delivery
-pub index-received : (m : Message) (cs : List Call) (ks : List ℕ) → IsIndex cs ks → IsIndex (received m cs) ks
-index-received (Request k) cs ks it = it
-index-received (Reply k s results) cs ks it = index-change over over-falls (k - 1) cs ks it
+pub index-received : (m : Message) (cs : List Call) (known : Index) → IsIndex cs known → IsIndex (received m cs) known
+index-received (Request k) cs known it = it
+index-received (Reply k s results) cs known it = index-change over concerns-over (k - 1) cs known it
 
 -- 2. Queues
 
@@ -257,10 +259,11 @@ mail-taken mail rows noted a b b8 ms any now = record {
         row-other rows a b from to ms b8 to8 other
         ∙ noted.none to to8 (sym (get_or-set_other mail b to any false other) ∙ off) from from8
 
-pub none-whole : (made : Made) → made.entries ≡ [] → IsWhole [] [] made (replicate 9 false) (replicate 81 [])
-none-whole made empty = record {
+pub none-whole : (known : Index) (made : Made) → IsIndex [] known → made.entries ≡ []
+    → IsWhole [] known made (replicate 9 false) (replicate 81 [])
+none-whole known made index empty = record {
   few = omega arith;
-  index = record { live = refl; given = All-nil (IsGiven []) };
+  index = index;
   made = λ u. ap (λ es. filter (passes_at (is_own u) []) (with_item (lookup (is_at (uid_cmp u)) es) (λ v. v.items) [])) empty;
   between = All-nil IsBetween;
   pairs = length-replicate {A = List Message} 81 [];
@@ -278,16 +281,17 @@ none-whole made empty = record {
 pub more-pairs : (rows : Rows) (i : ℕ) (ms : List Message) → length rows ≡ 81 → length (slice_set rows i ms) ≡ 81
 more-pairs rows i ms pairs = length-set rows i ms ∙ pairs
 
-module _ (cs : List Call) (ks : List ℕ) (made : Made) (mail : List Bool) (rows : Rows) (w : IsWhole cs ks made mail rows)
+module _ (cs : List Call) (known : Index) (made : Made) (mail : List Bool) (rows : Rows) (w : IsWhole cs known made mail rows)
     (few : length cs < 4294967295) (x : Call) (between : IsBetween x) where
   count : length (cs ++ x ∷ []) ≡ length cs + 1
   count = length_push cs x
 
-  pub asked-open : (new : Made) → Notes x cs made new → is_open x ≡ true → (a b : ℕ) → a ≤ 8 → b ≤ 8
-      → IsWhole (cs ++ x ∷ []) (ks ++ (length cs + 1) ∷ []) new (slice_set mail b true) (sent_to a b (Request (length cs + 1)) rows)
-  asked-open new notes opens a b from to = record {
+  pub asked-open : (index : Index) → IsIndex (cs ++ x ∷ []) index → (new : Made) → Notes x cs made new → is_open x ≡ true
+      → (a b : ℕ) → a ≤ 8 → b ≤ 8
+      → IsWhole (cs ++ x ∷ []) index new (slice_set mail b true) (sent_to a b (Request (length cs + 1)) rows)
+  asked-open index noted new notes opens a b from to = record {
     few = omega (arith, count, few);
-    index = index-live cs x ks (rw opens refl) w.index;
+    index = noted;
     made = made-noted x cs made new opens notes w.made;
     between = All-push IsBetween cs x w.between between;
     pairs = more-pairs rows (9 * a + b) (row a b rows ++ Request (length cs + 1) ∷ []) w.pairs;
@@ -296,10 +300,10 @@ module _ (cs : List Call) (ks : List ℕ) (made : Made) (mail : List Bool) (rows
     mail = mail-sent mail rows w.mail a b to (Request (length cs + 1));
   }
 
-  pub asked-closed : is_live x ≡ false → ((u : Uid) → is_own u x ≡ false) → IsWhole (cs ++ x ∷ []) ks made mail rows
+  pub asked-closed : is_live x ≡ false → ((u : Uid) → is_own u x ≡ false) → IsWhole (cs ++ x ∷ []) known made mail rows
   asked-closed dead none = record {
     few = omega (arith, count, few);
-    index = index-dead cs x ks dead w.index;
+    index = index-dead cs x known dead w.index;
     made = made-other x cs made none w.made;
     between = All-push IsBetween cs x w.between between;
     pairs = w.pairs;
@@ -307,18 +311,24 @@ module _ (cs : List Call) (ks : List ℕ) (made : Made) (mail : List Bool) (rows
     mail = w.mail;
   }
 
--- a call that was noted was not sent
-pub given_up-whole : (cs : List Call) (ks : List ℕ) (made : Made) (mail : List Bool) (rows : Rows) → IsWhole cs ks made mail rows
-    → (x : Call) (new : Made) → Notes x cs made new → IsWhole cs ks new mail rows
-given_up-whole cs ks made mail rows w x new notes = record {
+-- the same calls, otherwise known and noted
+pub known-whole : (cs : List Call) (known : Index) (made : Made) (mail : List Bool) (rows : Rows) → IsWhole cs known made mail rows
+    → (index : Index) → IsIndex cs index → (new : Made) → AreMade cs new → IsWhole cs index new mail rows
+known-whole cs known made mail rows w index reserved new noted = record {
   few = w.few;
-  index = w.index;
-  made = made-given_up x cs made new notes w.made;
+  index = reserved;
+  made = noted;
   between = w.between;
   pairs = w.pairs;
   given = w.given;
   mail = w.mail;
 }
+
+-- a call that was noted was not sent
+pub given_up-whole : (cs : List Call) (known : Index) (made : Made) (mail : List Bool) (rows : Rows) → IsWhole cs known made mail rows
+    → (index : Index) → IsIndex cs index → (x : Call) (new : Made) → Notes x cs made new → IsWhole cs index new mail rows
+given_up-whole cs known made mail rows w index reserved x new notes =
+    known-whole cs known made mail rows w index reserved new (made-given_up x cs made new notes w.made)
 
 -- a call that is not answered at once goes to a station that is reached
 pub asked-reached : (reached : Bool) (args : List Datum) → refused_at_once reached args ≡ None → reached ≡ true
@@ -346,14 +356,14 @@ all-item {X} P xs (suc k) x all is = go xs k all is
 
 -- 5. A reply
 
-pub answered-whole : (cs : List Call) (ks : List ℕ) (made : Made) (mail : List Bool) (rows : Rows) → IsWhole cs ks made mail rows
+pub answered-whole : (cs : List Call) (known : Index) (made : Made) (mail : List Bool) (rows : Rows) → IsWhole cs known made mail rows
     → (k : ℕ) (x : Call) → item_in k cs ≡ Some x → IsGiven cs k → (m : Message) → number_of m ≡ k
-    → IsWhole (change (k - 1) spent cs) ks made
+    → IsWhole (change (k - 1) spent cs) known made
     (slice_set mail (asking_station x.asker) (get_or mail (asking_station x.asker) false || is_open x))
     (cond (is_open x) (sent_to (target_of x) (asking_station x.asker) m rows) rows)
-answered-whole cs ks made mail rows w k x is given m of = record {
+answered-whole cs known made mail rows w k x is given m of = record {
   few = omega (arith, length-change spent cs (k - 1), w.few);
-  index = index-change spent spent-falls (k - 1) cs ks w.index;
+  index = index-change spent concerns-spent (k - 1) cs known w.index;
   made = made-spent (k - 1) cs made w.made;
   between = between-spent (k - 1) cs w.between;
   pairs = pairs (is_open x);

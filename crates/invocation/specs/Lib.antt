@@ -3,6 +3,7 @@ pub mod Numbers
 pub mod Mail
 pub mod Causes
 pub mod Made
+pub mod Listed
 pub mod Whole
 pub mod Carries
 pub mod Answered

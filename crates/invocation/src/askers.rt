@@ -10,21 +10,11 @@ ghost use Rattle.invocation.specs.Causes.{closed_by};
 ghost use Rattle.invocation.specs.Made.{is_own, made_by, AreMade};
 
 use crate::call::Call;
-use crate::closing::{Cause, call_at, close_each};
+use crate::closing::{Cause, call_at, close_each, is_open_at};
 use capability::Uid;
 use eden_model::Asker;
 use std::alloc::{AllocError, Global};
 use std::collections::BTreeMap;
-
-/// Whether there is an open call of this number.
-fn is_open_at(calls: &[Call], number: u32) -> bool
-    ensures { result ≡ passes_at is_open calls.now number }
-{
-    match call_at(calls, number) {
-        Some(call) => !call.closed,
-        None => false,
-    }
-}
 
 /// Whether there is an open call of this number that the Eject made.
 fn is_own_at(calls: &[Call], number: u32, uid: Uid) -> bool

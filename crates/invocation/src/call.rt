@@ -2,7 +2,7 @@
 ghost use Rattle.std.specs.Prelude.{◌≡◌, []};
 ghost use Rattle.eden_model.specs.Traffic.{asking_station, waiting_process};
 ghost use Rattle.invocation.specs.Mail.{over, spent, asked_call, asked_by, number_of};
-ghost use Rattle.invocation.specs.Whole.{is_live};
+ghost use Rattle.invocation.specs.Listed.{is_live};
 
 use capability::{Cap, Uid};
 use eden_model::Asker;

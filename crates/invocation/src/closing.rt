@@ -1,11 +1,11 @@
 //! The calls by number, and what closes many of them at once.
-ghost use Rattle.std.specs.Prelude.{◌≡◌, ◌≤◌, ◌<◌, ◌-◌, IfOk, length, map, option_copied};
+ghost use Rattle.std.specs.Prelude.{◌≡◌, ◌≤◌, ◌<◌, ◌-◌, IfOk, length, option_copied};
 ghost use Rattle.eden_model.specs.Traffic.{is_link};
 ghost use Rattle.std.specs.List.{All, filter};
-ghost use Rattle.invocation.specs.Mail.{IsGiven, received, number_of, delivery_of};
+ghost use Rattle.invocation.specs.Mail.{IsGiven, is_open, received, number_of, delivery_of};
 ghost use Rattle.invocation.specs.Numbers.{item_in, passes_at, changed_at_all};
 ghost use Rattle.invocation.specs.Causes.{hits, ends, breaks, is_broken, closed_by};
-ghost use Rattle.invocation.specs.Whole.{is_live, IsIndex};
+ghost use Rattle.invocation.specs.Listed.{is_live};
 
 use crate::call::{Call, Delivery, Message, station};
 use capability::Uid;
@@ -93,8 +93,18 @@ pub fn call_at(calls: &[Call], number: u32) -> Option<&Call>
     calls.get((number - 1) as usize)
 }
 
+/// Whether there is an open call of this number.
+pub fn is_open_at(calls: &[Call], number: u32) -> bool
+    ensures { result ≡ passes_at is_open calls.now number }
+{
+    match call_at(calls, number) {
+        Some(call) => !call.closed,
+        None => false,
+    }
+}
+
 /// Whether there is a live call of this number.
-fn is_live_at(calls: &[Call], number: u32) -> bool
+pub fn is_live_at(calls: &[Call], number: u32) -> bool
     ensures { result ≡ passes_at is_live calls.now number }
 {
     match call_at(calls, number) {
@@ -103,7 +113,7 @@ fn is_live_at(calls: &[Call], number: u32) -> bool
     }
 }
 
-/// The numbers of the index whose calls are answered `broken`.
+/// The numbers of a list whose calls are answered `broken`.
 pub fn broken_numbers(
     alloc: Global,
     calls: &[Call],
@@ -123,7 +133,7 @@ pub fn broken_numbers(
     Ok(broken)
 }
 
-/// Closes each call of the index that the cause hits.
+/// Closes each call of a list that the cause hits.
 pub fn close_each(alloc: Global, calls: &mut Vec<Call>, index: &[u32], cause: Cause)
     requires { All (IsGiven calls.old.items) index.now }
     ensures { calls.new.items ≡ changed_at_all (closed_by cause) 1 index.now calls.old.items }
@@ -132,17 +142,6 @@ pub fn close_each(alloc: Global, calls: &mut Vec<Call>, index: &[u32], cause: Ca
         let call = &mut calls[(index[i] - 1) as usize];
         cause.close(alloc, call);
     }
-}
-
-/// Closes the calls that the cause hits, and keeps the live ones in the index.
-pub fn close_all(alloc: Global, calls: &mut Vec<Call>, index: &mut Vec<u32>, cause: Cause)
-    requires { IsIndex calls.old.items index.old.items }
-    ensures calls { calls.new.items ≡ map (closed_by cause) calls.old.items }
-    ensures index { IsIndex calls.new.items index.new.items }
-{
-    close_each(alloc, calls, index, cause);
-    let calls = calls.as_slice();
-    index.retain(|number| is_live_at(calls, *number));
 }
 
 /// A message has come. A reply closes its call, whose arguments are let go; a request changes

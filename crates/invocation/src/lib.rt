@@ -9,6 +9,7 @@
 mod askers;
 mod call;
 mod closing;
+mod lists;
 mod queues;
 
 ghost use Rattle.std.specs.Prelude.{◌≡◌, ◌≤◌, ◌<◌, ◌+◌, ◌-◌, ◌∷◌, [], ℕ, false, not, List, IfOk, IfSome, MatchResult, length};
@@ -26,7 +27,8 @@ ghost use Rattle.invocation.specs.Carries.{Carries, CarriesDelivery, no_traffic}
 
 use crate::askers::{close_own, note};
 use crate::call::{new_call, station};
-use crate::closing::{broken_numbers, call_at, close_all, receive};
+use crate::closing::{call_at, receive};
+use crate::lists::Index;
 use crate::queues::{
     clear_at, clear_between, empty_queues, is_any_to, let_go_between, let_go_from, pair, send,
     send_where,
@@ -48,9 +50,8 @@ use std::marker::Model;
 pub struct Calls {
     alloc: Global,
     calls: Vec<Call>,
-    // The numbers of the calls that are open or have their arguments, ascending, and perhaps of some
-    // that were: so a delivery leaves it as it is, and what closes many calls looks at no others.
-    index: Vec<u32>,
+    // The calls by the cuts and crashes that would close them. A delivery leaves it as it is.
+    index: Index,
     // The numbers of the open calls of each Eject that asked, ascending, and perhaps of some that
     // closed since it last asked: so what closes its calls looks at no others.
     made: BTreeMap<Uid, Vec<u32>>,
@@ -73,7 +74,7 @@ impl Model for Calls {
 
     ghost view = { λ c. record { calls = c.calls.items; queues = c.queues.items } };
 
-    ghost invariant = { λ c. IsWhole c.calls.items c.index.items c.made c.mail c.queues.items };
+    ghost invariant = { λ c. IsWhole c.calls.items c.index c.made c.mail c.queues.items };
 }
 
 impl Calls {
@@ -83,10 +84,11 @@ impl Calls {
         ensures model { IfOk result (λ c. Carries c no_traffic) }
     {
         let queues = empty_queues(alloc)?;
+        let index = Index::new(alloc)?;
         Ok(Calls {
             alloc,
             calls: Vec::new(alloc),
-            index: Vec::new(alloc),
+            index,
             made: BTreeMap::new(alloc),
             mail: [false; 9],
             queues,
@@ -157,13 +159,13 @@ impl Calls {
         let to = target.uid.node;
         let at_once = refusal(&args, places.reach(from, to));
         self.calls.reserve(1)?;
-        self.index.reserve(1)?;
         match at_once {
             None => {
+                self.index.reserve(from, to)?;
                 note(self.alloc, &self.calls, &mut self.made, &asker, call)?;
                 send(&mut self.queues, from, to, Message::Request { call })?;
                 self.mail[to as usize] = true;
-                self.index.push_reserved(call);
+                self.index.note(from, to, call);
             }
             Some(_) => {}
         }
@@ -230,9 +232,8 @@ impl Calls {
         ensures model { (t : Traffic) → Carries self.old t
             → IfOk result (λ ks. (ks ≡ numbers_of (broken_by_link a b) t) × Carries self.new (without_link a b t)) }
     {
-        let cause = Cause::Cut { a, b };
-        let numbers = broken_numbers(alloc, &self.calls, &self.index, cause)?;
-        close_all(self.alloc, &mut self.calls, &mut self.index, cause);
+        let numbers = self.index.broken_by_cut(alloc, &self.calls, a, b)?;
+        self.index.close_over(self.alloc, &mut self.calls, a, b);
         let_go_between(self.alloc, &self.queues, &mut self.calls, a, b);
         clear_between(&mut self.queues, a, b);
         Ok(Seq { items: numbers })
@@ -248,9 +249,8 @@ impl Calls {
         ensures model { (t : Traffic) → Carries self.old t
             → IfOk result (λ ks. (ks ≡ numbers_of (broken_by_node node) t) × Carries self.new (without_node node t)) }
     {
-        let cause = Cause::Crash { node };
-        let numbers = broken_numbers(alloc, &self.calls, &self.index, cause)?;
-        close_all(self.alloc, &mut self.calls, &mut self.index, cause);
+        let numbers = self.index.broken_by_crash(alloc, &self.calls, node)?;
+        self.index.close_at(self.alloc, &mut self.calls, node);
         let_go_from(self.alloc, &self.queues, &mut self.calls, node);
         clear_at(&mut self.queues, node);
         Ok(Seq { items: numbers })

@@ -47,7 +47,7 @@ invariant_of-self-2 c =
     ap (slice_set a.calls.items k) c.spend.ensures
     ∙ sym (change-set spent a.calls.items k y (read-at a.calls.items k y (omega (arith, g.0, g.1)) c.index_mut-asked.ensures.value)) in
     rw (now, c.in_ok-send_where.ensures, c.station-to.ensures)
-    (answered-whole a.calls.items a.index.items a.made a.mail a.queues.items c.self.invariant c.args.call x is g
+    (answered-whole a.calls.items a.index a.made a.mail a.queues.items c.self.invariant c.args.call x is g
     (Reply c.args.call c.args.status c.args.results) refl)
 
 pub returns-clause-cases : goal.returns-clause-cases

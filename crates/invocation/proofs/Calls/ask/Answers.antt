@@ -1,4 +1,4 @@
-use Rattle.std.proofs.Common.{◌≡◌, ◌<◌, ◌+◌, ◌++◌, ◌∷◌, [], Bool, true, false, length, is_some, refl, sym, ◌∙◌, ap, arith}
+use Rattle.std.proofs.Common.{◌≡◌, ◌<◌, ◌+◌, ◌++◌, ◌∷◌, [], Bool, true, false, length, is_some, refl, subst, sym, ◌∙◌, ap, arith}
 use Rattle.std.specs.Prelude.{slice_set}
 use Rattle.eden_model.specs.Traffic.{asking_station}
 use Rattle.invocation.specs.declared.call.Call.{Call}
@@ -9,14 +9,27 @@ use Rattle.locator.specs.Reach.{reaches}
 use Rattle.invocation.specs.Mail.{Mail, asked_call, asked_by, refused_at_once}
 use Rattle.invocation.specs.Made.{made_by}
 use Rattle.invocation.specs.Carries.{Carries}
-use Rattle.invocation.proofs.Mails.{asked-open, asked-closed, asked-reached, given_up-whole}
+use Rattle.invocation.specs.Listed.{IsIndex}
+use Rattle.invocation.proofs.Mails.{asked-open, asked-closed, asked-reached, given_up-whole, known-whole}
 use Rattle.invocation.proofs.Sent.{ask-carried}
-use Rattle.invocation.proofs.Own.{Notes, noted_of}
+use Rattle.invocation.proofs.Own.{Notes, noted_of, made-same}
 use Rattle.invocation.proofs.Calls.ask.Goals as goal
-use Rattle.invocation.proofs.Calls.ask.Goals.{in-None+in_ok-note-in-None+in_ok-send-in-None, in-Some}
+use Rattle.invocation.proofs.Calls.ask.Goals.{in-None+in_ok-reserve-in-None+in_ok-note-in-None+in_ok-send-in-None, in-Some}
 
-pub send-requires-clause-to : goal.send-requires-clause-to
-send-requires-clause-to c = c.reach.ensures.within (asked-reached c.reach.result c.args.args (sym c.refusal-at_once.ensures ∙ c.in-None.is))
+pub invariant_of-self-in_err-reserve-in-None : goal.invariant_of-self-in_err-reserve-in-None
+invariant_of-self-in_err-reserve-in-None c =
+    let a = c.self.inside in
+    rw c.reserve.ensures.items
+    (known-whole a.calls.items a.index a.made a.mail a.queues.items c.self.invariant c.reserve-in-None.new.self
+    (c.reserve-in-None.ensures.index a.calls.items c.self.invariant.index) a.made c.self.invariant.made)
+
+pub invariant_of-self-in_err-note-in-None : goal.invariant_of-self-in_err-note-in-None
+invariant_of-self-in_err-note-in-None c =
+    let a = c.self.inside in
+    rw c.reserve.ensures.items
+    (known-whole a.calls.items a.index a.made a.mail a.queues.items c.self.invariant c.reserve-in-None.new.self
+    (c.reserve-in-None.ensures.index a.calls.items c.self.invariant.index) c.note.new.made
+    (made-same a.calls.items a.made c.note.new.made c.in_err-note-in-None.ensures.unchanged c.self.invariant.made))
 
 pub invariant_of-self-in_err-send-in-None : goal.invariant_of-self-in_err-send-in-None
 invariant_of-self-in_err-send-in-None c =
@@ -27,8 +40,9 @@ invariant_of-self-in_err-send-in-None c =
     λ u. c.in_ok-note-in-None.ensures.noted u
     ∙ ap (λ cs. noted_of u (asked_by u x) cs (c.len.result + 1) a.made) (c.deref.ensures.value ∙ c.reserve.ensures.items)
     ∙ ap (λ k. noted_of u (asked_by u x) a.calls.items (k + 1) a.made) n in
-    rw (c.in_err-send-in-None.ensures, c.reserve.ensures.items, c.reserve-2.ensures.items)
-    (given_up-whole a.calls.items a.index.items a.made a.mail a.queues.items c.self.invariant x c.note.new.made notes)
+    rw (c.in_err-send-in-None.ensures, c.reserve.ensures.items)
+    (given_up-whole a.calls.items a.index a.made a.mail a.queues.items c.self.invariant c.reserve-in-None.new.self
+    (c.reserve-in-None.ensures.index a.calls.items c.self.invariant.index) x c.note.new.made notes)
 
 pub invariant_of-self-2 : goal.invariant_of-self-2
 invariant_of-self-2 c =
@@ -38,15 +52,16 @@ invariant_of-self-2 c =
     let from = c.requires.asker in
     let x : Bool → Call = asked_call c.args.asker c.args.target c.args.operation c.args.args in
     elim c.match-at_once.branch [
-      | in-None+in_ok-note-in-None+in_ok-send-in-None w ↦
+      | in-None+in_ok-reserve-in-None+in_ok-note-in-None+in_ok-send-in-None w ↦
           let refused : c.is_some.result ≡ false = c.is_some.ensures ∙ ap is_some w.in-None.is in
-          let calls : c.push_reserved-2.new.self.items ≡ a.calls.items ++ x false ∷ [] =
-          c.push_reserved-2.ensures.items ∙ ap (λ (s : Inside). s.calls.items ++ c.new_call.result ∷ []) w.self-inside-is
+          let calls : c.push_reserved.new.self.items ≡ a.calls.items ++ x false ∷ [] =
+          c.push_reserved.ensures.items ∙ ap (λ (s : Inside). s.calls.items ++ c.new_call.result ∷ []) w.self-inside-is
           ∙ ap (λ l. l ++ c.new_call.result ∷ []) c.reserve.ensures.items
           ∙ ap (λ y. a.calls.items ++ y ∷ []) (c.new_call.ensures ∙ ap x refused) in
-          let opens : c.match-at_once.self-inside.index.items ≡ a.index.items ++ (length a.calls.items + 1) ∷ [] =
-          ap (λ (s : Inside). s.index.items) w.self-inside-is ∙ w.push_reserved.ensures.items
-          ∙ ap (λ l. l ++ (c.len.result + 1) ∷ []) c.reserve-2.ensures.items ∙ ap (λ n. a.index.items ++ (n + 1) ∷ []) n in
+          let known : IsIndex a.calls.items w.reserve-in-None.new.self = w.reserve-in-None.ensures.index a.calls.items c.self.invariant.index in
+          let noted : IsIndex (a.calls.items ++ x false ∷ []) c.match-at_once.self-inside.index =
+          subst (λ i. IsIndex (a.calls.items ++ x false ∷ []) i) (sym (ap (λ (s : Inside). s.index) w.self-inside-is))
+          (w.note-in-None.ensures a.calls.items (x false) (ap (λ k. k + 1) n) (sym c.station-from.ensures) refl known) in
           let queues : c.match-at_once.self-inside.queues.items ≡ sent_to (asking_station c.args.asker) c.args.target.uid.node
           (Request (length a.calls.items + 1)) a.queues.items =
           ap (λ (s : Inside). s.queues.items) w.self-inside-is ∙ w.in_ok-send-in-None.ensures
@@ -59,20 +74,19 @@ invariant_of-self-2 c =
           ∙ ap (λ k. noted_of u (asked_by u (x false)) a.calls.items (k + 1) a.made) n in
           let mail : c.match-at_once.self-inside.mail ≡ slice_set a.mail c.args.target.uid.node true =
           ap (λ (s : Inside). s.mail) w.self-inside-is in
-          rw (calls, opens, queues, mail) (asked-open a.calls.items a.index.items a.made a.mail a.queues.items c.self.invariant few
-          (x false) (from, λ e. to) _ notes refl (asking_station c.args.asker) c.args.target.uid.node from to)
+          rw (calls, queues, mail) (asked-open a.calls.items a.index a.made a.mail a.queues.items c.self.invariant few
+          (x false) (from, λ e. to) _ noted _ notes refl (asking_station c.args.asker) c.args.target.uid.node from to)
       | in-Some w ↦
           let refused : c.is_some.result ≡ true = c.is_some.ensures ∙ ap is_some w.in-Some.is in
-          let calls : c.push_reserved-2.new.self.items ≡ a.calls.items ++ x true ∷ [] =
-          c.push_reserved-2.ensures.items ∙ ap (λ (s : Inside). s.calls.items ++ c.new_call.result ∷ []) w.self-inside-is
+          let calls : c.push_reserved.new.self.items ≡ a.calls.items ++ x true ∷ [] =
+          c.push_reserved.ensures.items ∙ ap (λ (s : Inside). s.calls.items ++ c.new_call.result ∷ []) w.self-inside-is
           ∙ ap (λ l. l ++ c.new_call.result ∷ []) c.reserve.ensures.items
           ∙ ap (λ y. a.calls.items ++ y ∷ []) (c.new_call.ensures ∙ ap x refused) in
-          let opens : c.match-at_once.self-inside.index.items ≡ a.index.items = ap (λ (s : Inside). s.index.items) w.self-inside-is
-          ∙ c.reserve-2.ensures.items in
+          let same : c.match-at_once.self-inside.index ≡ a.index = ap (λ (s : Inside). s.index) w.self-inside-is in
           let queues : c.match-at_once.self-inside.queues.items ≡ a.queues.items = ap (λ (s : Inside). s.queues.items) w.self-inside-is in
           let made : c.match-at_once.self-inside.made ≡ a.made = ap (λ (s : Inside). s.made) w.self-inside-is in
           let mail : c.match-at_once.self-inside.mail ≡ a.mail = ap (λ (s : Inside). s.mail) w.self-inside-is in
-          rw (calls, opens, queues, made, mail) (asked-closed a.calls.items a.index.items a.made a.mail a.queues.items c.self.invariant few
+          rw (calls, same, queues, made, mail) (asked-closed a.calls.items a.index a.made a.mail a.queues.items c.self.invariant few
           (x true)
           (from, λ e. let bad : false ≡ true = e in cc) refl (λ u. refl))
     ]
@@ -87,10 +101,10 @@ returns-clause-cases c =
       at_once = c.refusal-at_once.ensures ∙ ap (λ r. refused_at_once r c.args.args) c.reach.ensures.reached
           ∙ ap (λ s. refused_at_once (reaches c.args.places.now s c.args.target.uid.node) c.args.args) c.station-from.ensures;
       after = elim c.match-at_once.branch [
-        | in-None+in_ok-note-in-None+in_ok-send-in-None w ↦
+        | in-None+in_ok-reserve-in-None+in_ok-note-in-None+in_ok-send-in-None w ↦
             let refused : c.is_some.result ≡ false = c.is_some.ensures ∙ ap is_some w.in-None.is in
-            let calls : c.push_reserved-2.new.self.items ≡ a.calls.items ++ x false ∷ [] =
-            c.push_reserved-2.ensures.items ∙ ap (λ (s : Inside). s.calls.items ++ c.new_call.result ∷ []) w.self-inside-is
+            let calls : c.push_reserved.new.self.items ≡ a.calls.items ++ x false ∷ [] =
+            c.push_reserved.ensures.items ∙ ap (λ (s : Inside). s.calls.items ++ c.new_call.result ∷ []) w.self-inside-is
             ∙ ap (λ l. l ++ c.new_call.result ∷ []) c.reserve.ensures.items
             ∙ ap (λ y. a.calls.items ++ y ∷ []) (c.new_call.ensures ∙ ap x refused) in
             let queues : c.match-at_once.self-inside.queues.items ≡ sent_to (asking_station c.args.asker) c.args.target.uid.node
@@ -101,8 +115,8 @@ returns-clause-cases c =
             rw (calls, queues, w.in-None.is) refl
         | in-Some w ↦
             let refused : c.is_some.result ≡ true = c.is_some.ensures ∙ ap is_some w.in-Some.is in
-            let calls : c.push_reserved-2.new.self.items ≡ a.calls.items ++ x true ∷ [] =
-            c.push_reserved-2.ensures.items ∙ ap (λ (s : Inside). s.calls.items ++ c.new_call.result ∷ []) w.self-inside-is
+            let calls : c.push_reserved.new.self.items ≡ a.calls.items ++ x true ∷ [] =
+            c.push_reserved.ensures.items ∙ ap (λ (s : Inside). s.calls.items ++ c.new_call.result ∷ []) w.self-inside-is
             ∙ ap (λ l. l ++ c.new_call.result ∷ []) c.reserve.ensures.items
             ∙ ap (λ y. a.calls.items ++ y ∷ []) (c.new_call.ensures ∙ ap x refused) in
             let queues : c.match-at_once.self-inside.queues.items ≡ a.queues.items = ap (λ (s : Inside). s.queues.items) w.self-inside-is in

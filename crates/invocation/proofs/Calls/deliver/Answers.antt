@@ -38,7 +38,7 @@ invariant_of-self c =
     c.deref.ensures.value ∙ ap (λ i. slice_set a.queues.items i c.take.new.self) c.pair.ensures.place in
     record {
       few = rw c.receive.ensures.calls (omega (arith, n, c.self.invariant.few));
-      index = rw c.receive.ensures.calls (index-received m a.calls.items a.index.items c.self.invariant.index);
+      index = rw c.receive.ensures.calls (index-received m a.calls.items a.index c.self.invariant.index);
       made = rw c.receive.ensures.calls (made-received m a.calls.items a.made c.self.invariant.made);
       between = rw c.receive.ensures.calls (between-received m a.calls.items c.self.invariant.between);
       pairs = length-set a.queues.items c.pair.result c.take.new.self ∙ c.self.invariant.pairs;

@@ -15,7 +15,7 @@ invariant_of-self c =
     let n = length-map a.calls.items (closed_by (Lost c.args.uid)) in
     record {
       few = rw c.close_own.ensures.calls (omega (arith, n, c.self.invariant.few));
-      index = rw c.close_own.ensures.calls (index-closing (Lost c.args.uid) a.calls.items a.index.items c.self.invariant.index);
+      index = rw c.close_own.ensures.calls (index-closing (Lost c.args.uid) a.calls.items a.index c.self.invariant.index);
       made = rw c.close_own.ensures.calls (made-lost c.args.uid a.calls.items a.made c.close_own.new.made c.close_own.ensures.made
           c.self.invariant.made);
       between = rw c.close_own.ensures.calls (between-after (Lost c.args.uid) a.calls.items c.self.invariant.between);
