@@ -1,15 +1,14 @@
 -- The world before its first command.
-use Rattle.std.proofs.Common.{◌≡◌, ◌∙◌, ap, sym, refl, subst, ℕ, zero, suc, ◌+◌, ◌-◌, ◌≤◌, ◌<◌, List, [], ◌∷◌, ◌++◌, map, length, arith}
-use Rattle.std.proofs.Common.{Bool, true, false, Option, None, Some}
+use Rattle.std.proofs.Common.{◌≡◌, ◌∙◌, ap, sym, refl, subst, ℕ, zero, suc, ◌-◌, ◌<◌, List, [], ◌∷◌, map, length, arith}
+use Rattle.std.proofs.Common.{Bool, true, false, Some}
 use Rattle.std.specs.List.{filter_map}
 use Rattle.std.specs.Prelude.{replicate, slice_get, slice_index_or}
 use Rattle.std.specs.Option.{option_map}
 use Rattle.std.specs.FinMap as finite
 use Rattle.std.proofs.lemmas.List.{length-map, length-replicate}
-use Rattle.capability.specs.declared.Uid.{Uid}
 use Rattle.capability.specs.Uids.{uid_cmp}
 use Rattle.eden_value.specs.Datum.{Datum}
-use Rattle.passive_store.specs.Kept.{Layout, Kept, Idle, body_at}
+use Rattle.passive_store.specs.Kept.{Layout, Idle}
 use Rattle.passive_store.specs.Seen.{Seen, DiskSeen}
 use Rattle.move_laws.specs.World.{Post}
 use Rattle.eden_move.specs.declared.letter.Letter.{Letter}
@@ -22,7 +21,7 @@ use Rattle.move_world.specs.Kept.{slot, no_letters, post_from, posts_between}
 use Rattle.move_world.specs.Logs.{blank_node, blank_world}
 use Rattle.move_world.specs.Seats.{Standing, Resting, Away, standing, opened_as, IsSound, StandsFor}
 use Rattle.move_world.specs.Asking.{Manned}
-use Rattle.move_world.specs.Worlds.{standings, standing_at, IsWorld, IsOf}
+use Rattle.move_world.specs.Worlds.{standings, IsWorld, IsOf}
 use Rattle.move_world.specs.declared.seat.Seat.{Seat}
 use Rattle.move_world.specs.declared.seat.Seat.TheVariants as seat
 

@@ -1,8 +1,9 @@
 -- One place of the world changes.
+use Rattle.std.proofs.Math.Seq.{map-set_same}
 use Rattle.std.proofs.Common.{◌≡◌, ◌≢◌, ◌⊎◌, inl, inr, ℕ, zero, suc, ◌-◌, ◌<◌, Bool, true, false, List, [], ◌∷◌, ◌++◌, map, length}
 use Rattle.std.proofs.Common.{Option, None, Some, refl, sym, ap, subst, ◌∙◌, arith, slice_set, get_or, get_or-set_same, get_or-set_other}
 use Rattle.std.proofs.Common.{Vec, Global}
-use Rattle.std.specs.Prelude.{slice_get, ◌==◌, ◌&&◌, if◌then◌else◌, Result, Ok, Err, IfOk, OnOk, IfSome}
+use Rattle.std.specs.Prelude.{slice_get, ◌==◌, ◌&&◌, if◌then◌else◌, Result, Ok, Err, IfOk, OnErr, IfSome}
 use Rattle.std.specs.Option.{option_map}
 use Rattle.move_world.specs.declared.ask.Ask.{Ask}
 use Rattle.std.proofs.lemmas.Bool.{eqb-true, eqb-false}
@@ -308,6 +309,16 @@ put-slot ps a b i d u v l place within full same more =
     ∙ ap (λ (z : List Letter). slice_set (map (λ (x : Vec Letter Global). x.items) ps) (slot a b) z)
     (more ∙ ap (λ (z : List Letter). z ++ l ∷ []) old)
 
+-- a list that is as it was
+pub same-slot : (ps : List (Vec Letter Global)) (i : ℕ) (d u v : Vec Letter Global) → u ≡ get_or ps i d → v.items ≡ u.items
+    → map (λ (x : Vec Letter Global). x.items) (slice_set ps i v) ≡ map (λ (x : Vec Letter Global). x.items) ps
+same-slot ps i d u v same more =
+    map-set_same (λ (x : Vec Letter Global). x.items) ps i v d (more ∙ ap (λ (x : Vec Letter Global). x.items) same)
+
+pub err-any : {T E : Type 0} (r : Result T E) (P : Type 0) → P → OnErr r P
+err-any (Ok x) P p = tt
+err-any (Err e) P p = p
+
 -- 6. Commands that are no calls
 
 pub crashed-in : (layout : Layout) (n : ℕ) (how : WrittenMode) (a : Answer) (ss : List Standing) (ls : List (List Letter)) (s : Standing)
@@ -476,6 +487,11 @@ module _ {T D : Type 0} (seen : T → Seen) (look : D → DiskSeen) (seats : Lis
     place-world h sound =
         subst (λ z. IsWorld z ls) (sym place-new) (set-sound shown ls ls n (standing seen look new) is sound h h.letters h.wander)
 
+    pub place-kept : (ls2 : List (List Letter)) → IsWorld shown ls → IsSound n (standing seen look new) → ls2 ≡ ls
+        → IsWorld (map (standing seen look) (slice_set seats i new)) ls2
+    place-kept ls2 h sound same =
+        subst (λ l. IsWorld (map (standing seen look) (slice_set seats i new)) l) (sym same) (place-world h sound)
+
     pub place-asked : (ls2 : List (List Letter)) (u : Uid) (a : CodedAnswer) → IsWorld shown ls → IsSound n (standing seen look new)
         → length ls2 ≡ 64 → IsWanderer u → IsAbout u a → IsNoted n (given a) ls ls2
         → IsWorld (map (standing seen look) (slice_set seats i new)) ls2
@@ -512,10 +528,6 @@ module _ {T D : Type 0} (seen : T → Seen) (look : D → DiskSeen) (seats : Lis
         subst (λ x. ArmedIn layout n a x ls w) (sym place-new) (armed-in layout n a shown ls (standing seen look new) w is eight h p)
 
 -- 9. Ends
-
-pub ok-any : {T E : Type 0} (r : Result T E) (P : Type 0) → P → OnOk r P
-ok-any (Ok x) P p = p
-ok-any (Err e) P p = tt
 
 pub carried-ok : (layout : Layout) (a b i : ℕ) (l : Letter) (o : Option Letter) (r : Result CodedAnswer AllocError) (ss ss2 : List Standing)
     (ls ls2 : List (List Letter)) (w : World Datum) → IsNode a → IsNode b → o ≡ Some l

@@ -162,3 +162,8 @@ going_end bytes nodes cs spots h none =
       most = h.most;
       reach = h.reach;
     }
+
+-- the same script, by the commands of a log
+pub script_same : (bytes : List ℕ) (m n : ℕ) (cs ds : List Command) → IsMoveScript bytes n ds → m ≡ n → cs ≡ ds → IsMoveScript bytes m cs
+script_same bytes m n cs ds h nodes commands =
+    subst (λ (k : ℕ). IsMoveScript bytes k cs) (sym nodes) (subst (λ (l : List Command). IsMoveScript bytes n l) (sym commands) h)

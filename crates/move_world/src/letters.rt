@@ -1,5 +1,5 @@
 //! The letters that nodes sent.
-ghost use Rattle.std.specs.Prelude.{◌≡◌, ◌≤◌, ◌<◌, ◌-◌, IfOk, OnOk, Bool, length, slice_get};
+ghost use Rattle.std.specs.Prelude.{◌≡◌, ◌≤◌, ◌<◌, ◌-◌, IfOk, OnOk, OnErr, Bool, length, slice_get};
 ghost use Rattle.std.specs.List.{All};
 ghost use Rattle.std.specs.Option.{option_map};
 ghost use Rattle.eden_move.specs.Calls.{uid_of, seen_letter};
@@ -91,6 +91,7 @@ impl Letters {
         requires second { IsNode b }
         ensures count { length self.new.lists.items ≡ 64 }
         ensures kept { OnOk result (kept.rows self.new ≡ kept.with_letter (kept.rows self.old) a b letter) }
+        ensures same { OnErr result (kept.rows self.new ≡ kept.rows self.old) }
     {
         self.lists[slot(a, b)].push(letter)?;
         Ok(())
@@ -102,6 +103,7 @@ impl Letters {
         requires first { IsNode a }
         ensures count { length self.new.lists.items ≡ 64 }
         ensures kept { OnOk result (kept.IsSent a letter (kept.rows self.old) (kept.rows self.new)) }
+        ensures same { OnErr result (kept.rows self.new ≡ kept.rows self.old) }
     {
         let b = receiver(&letter);
         if 1 <= b && b <= 8 {
@@ -146,6 +148,7 @@ impl Letters {
         requires first { IsNode n }
         ensures count { length self.new.lists.items ≡ 64 }
         ensures noted { OnOk result (worlds.IsNoted n (worlds.given answer.now) (kept.rows self.old) (kept.rows self.new)) }
+        ensures same { OnErr result (kept.rows self.new ≡ kept.rows self.old) }
     {
         match given(answer) {
             Some(letter) => self.send(n, copy_letter(alloc, letter)?),

@@ -11,6 +11,7 @@ mod reading;
 mod run;
 mod seat;
 mod text;
+mod whole;
 mod world;
 
 pub use answer::{Answer, Ended, Entry, Log};
@@ -19,4 +20,5 @@ pub use law::ejects_are_held_once;
 pub use reading::{MoveScript, read_script};
 pub use run::run_moves;
 pub use text::text_of;
+pub use whole::{Moved, carry_moves};
 pub use world::MoveWorld;

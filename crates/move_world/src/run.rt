@@ -1,5 +1,5 @@
 //! Commands are carried out, one behind the other, and the log of them is kept.
-ghost use Rattle.std.specs.Prelude.{◌≡◌, ◌≤◌, IsTrue, IfOk, OnOk, map};
+ghost use Rattle.std.specs.Prelude.{◌≡◌, ◌≤◌, IsTrue, IfOk, map};
 ghost use Rattle.eden_value.specs.Datum.{Datum};
 ghost use Rattle.passive_store.specs.Seen.{disk_seen};
 ghost use Rattle.move_laws.specs.World.{World as AnyWorld};
@@ -37,8 +37,8 @@ where
     requires world { IsWorld (standings St.seen (disk_seen St.Device.counts St.Device.told St.Device.due) world.old.seats.items)
         (rows world.old.letters) }
     requires reach { AreInReach (map meant commands.items) }
-    ensures world { OnOk result (IsWorld
-        (standings St.seen (disk_seen St.Device.counts St.Device.told St.Device.due) world.new.seats.items) (rows world.new.letters)) }
+    ensures world { IsWorld (standings St.seen (disk_seen St.Device.counts St.Device.told St.Device.due) world.new.seats.items)
+        (rows world.new.letters) }
     ensures all { IfOk result (λ es. commands_of (map entry_of es.items) ≡ map meant commands.items) }
     ensures reaches { let look = disk_seen St.Device.counts St.Device.told St.Device.due in IsTrue St.Device.tells → (w : AnyWorld Datum)
         → IsOf St.layout (standings St.seen look world.old.seats.items) (rows world.old.letters) w
@@ -68,8 +68,8 @@ where
         (rows world.old.letters) }
     requires nodes { nodes ≤ 8 }
     requires reach { AreInReach (map meant commands.items) }
-    ensures world { OnOk result (IsWorld
-        (standings St.seen (disk_seen St.Device.counts St.Device.told St.Device.due) world.new.seats.items) (rows world.new.letters)) }
+    ensures world { IsWorld (standings St.seen (disk_seen St.Device.counts St.Device.told St.Device.due) world.new.seats.items)
+        (rows world.new.letters) }
     ensures nodes { IfOk result (λ log. log.nodes ≡ nodes) }
     ensures all { IfOk result (λ log. commands_of (map entry_of log.entries.items) ≡ map meant commands.items) }
     ensures legal { let look = disk_seen St.Device.counts St.Device.told St.Device.due in IsTrue St.Device.tells

@@ -1,5 +1,5 @@
 //! The world of a script: the places of eight nodes, and the letters between them.
-ghost use Rattle.std.specs.Prelude.{◌≡◌, ◌≤◌, IsTrue, IfOk, IfSome, OnOk, Some, None, length};
+ghost use Rattle.std.specs.Prelude.{◌≡◌, ◌≤◌, IsTrue, IfOk, IfSome, Some, None, length};
 ghost use Rattle.std.specs.Option.{option_map};
 ghost use Rattle.eden_value.specs.Datum.{Datum};
 ghost use Rattle.passive_store.specs.Seen.{disk_seen};
@@ -94,9 +94,8 @@ where
             (rows self.old.letters) }
         requires node { IsNode n }
         requires may { MayAsk n what.now }
-        ensures world { OnOk result (IsWorld (standings St.seen (disk_seen St.Device.counts St.Device.told St.Device.due)
-            self.new.seats.items)
-            (rows self.new.letters)) }
+        ensures world { IsWorld (standings St.seen (disk_seen St.Device.counts St.Device.told St.Device.due) self.new.seats.items)
+            (rows self.new.letters) }
         ensures asked { let look = disk_seen St.Device.counts St.Device.told St.Device.due in IsTrue St.Device.tells
             → IsFitCall (call_in what.now) → (w : AnyWorld Datum)
             → IsOf St.layout (standings St.seen look self.old.seats.items) (rows self.old.letters) w
@@ -114,9 +113,8 @@ where
             (rows self.old.letters) }
         requires node { IsNode b }
         requires wanderer { IsWanderer (uid_of letter) }
-        ensures world { OnOk result (IsWorld (standings St.seen (disk_seen St.Device.counts St.Device.told St.Device.due)
-            self.new.seats.items)
-            (rows self.new.letters)) }
+        ensures world { IsWorld (standings St.seen (disk_seen St.Device.counts St.Device.told St.Device.due) self.new.seats.items)
+            (rows self.new.letters) }
         ensures delivered { let look = disk_seen St.Device.counts St.Device.told St.Device.due in IsTrue St.Device.tells
             → IsFitPost (Some (seen_letter letter)) → (w : AnyWorld Datum)
             → IsOf St.layout (standings St.seen look self.old.seats.items) (rows self.old.letters) w
@@ -138,9 +136,8 @@ where
         requires first { IsNode a }
         requires second { IsNode b }
         requires number { 1 ≤ i }
-        ensures world { OnOk result (IsWorld (standings St.seen (disk_seen St.Device.counts St.Device.told St.Device.due)
-            self.new.seats.items)
-            (rows self.new.letters)) }
+        ensures world { IsWorld (standings St.seen (disk_seen St.Device.counts St.Device.told St.Device.due) self.new.seats.items)
+            (rows self.new.letters) }
         ensures steps { let look = disk_seen St.Device.counts St.Device.told St.Device.due in IsTrue St.Device.tells → (w : AnyWorld Datum)
             → IsOf St.layout (standings St.seen look self.old.seats.items) (rows self.old.letters) w
             → IfOk result (λ x. Steps St.layout (commands.carries a b i) (answer_of x)
@@ -175,9 +172,8 @@ where
         requires world { IsWorld (standings St.seen (disk_seen St.Device.counts St.Device.told St.Device.due) self.old.seats.items)
             (rows self.old.letters) }
         requires node { IsNode n }
-        ensures world { OnOk result (IsWorld (standings St.seen (disk_seen St.Device.counts St.Device.told St.Device.due)
-            self.new.seats.items)
-            (rows self.new.letters)) }
+        ensures world { IsWorld (standings St.seen (disk_seen St.Device.counts St.Device.told St.Device.due) self.new.seats.items)
+            (rows self.new.letters) }
         ensures steps { let look = disk_seen St.Device.counts St.Device.told St.Device.due in IsTrue St.Device.tells → (w : AnyWorld Datum)
             → IsOf St.layout (standings St.seen look self.old.seats.items) (rows self.old.letters) w
             → IfOk result (λ x. Steps St.layout (commands.restarts n) (answer_of x)
@@ -207,9 +203,8 @@ where
             (rows self.old.letters) }
         requires reach { IsInReach (meant command.now) }
         requires other { asked_by (meant command.now) ≡ None }
-        ensures world { OnOk result (IsWorld (standings St.seen (disk_seen St.Device.counts St.Device.told St.Device.due)
-            self.new.seats.items)
-            (rows self.new.letters)) }
+        ensures world { IsWorld (standings St.seen (disk_seen St.Device.counts St.Device.told St.Device.due) self.new.seats.items)
+            (rows self.new.letters) }
         ensures steps { let look = disk_seen St.Device.counts St.Device.told St.Device.due in IsTrue St.Device.tells → (w : AnyWorld Datum)
             → IsOf St.layout (standings St.seen look self.old.seats.items) (rows self.old.letters) w
             → IfOk result (λ x. Steps St.layout (meant command.now) (answer_of x)
@@ -236,9 +231,8 @@ where
         requires world { IsWorld (standings St.seen (disk_seen St.Device.counts St.Device.told St.Device.due) self.old.seats.items)
             (rows self.old.letters) }
         requires reach { IsInReach (meant command.now) }
-        ensures world { OnOk result (IsWorld (standings St.seen (disk_seen St.Device.counts St.Device.told St.Device.due)
-            self.new.seats.items)
-            (rows self.new.letters)) }
+        ensures world { IsWorld (standings St.seen (disk_seen St.Device.counts St.Device.told St.Device.due) self.new.seats.items)
+            (rows self.new.letters) }
         ensures steps { let look = disk_seen St.Device.counts St.Device.told St.Device.due in IsTrue St.Device.tells → (w : AnyWorld Datum)
             → IsOf St.layout (standings St.seen look self.old.seats.items) (rows self.old.letters) w
             → IfOk result (λ x. Steps St.layout (meant command.now) (answer_of x)

@@ -5,7 +5,7 @@ use Rattle.passive_store.specs.Seen.{disk_seen}
 use Rattle.move_world.specs.Kept.{rows}
 use Rattle.move_world.specs.Asking.{uid_in, call_in}
 use Rattle.move_world.proofs.Seating.{wanders}
-use Rattle.move_world.proofs.Placing.{place-sound, place-stands, place-asked, place-asked-in}
+use Rattle.move_world.proofs.Placing.{place-sound, place-stands, place-world, place-kept, place-asked, place-asked-in}
 use Rattle.move_world.proofs.world.MoveWorld.ask.Goals as goal
 
 pub ask_seat-requires-clause-sound : goal.ask_seat-requires-clause-sound
@@ -17,6 +17,20 @@ ask_seat-requires-clause-sound g c =
 pub note-requires-clause-count : goal.note-requires-clause-count
 note-requires-clause-count g c =
     sym (length-map c.args.self.now.letters.lists.items (λ (v : Vec Letter Global). v.items)) ∙ c.requires.world.letters
+
+pub returns-in_err-answer-clause-world : goal.returns-in_err-answer-clause-world
+returns-in_err-answer-clause-world g c =
+    place-world g.St.Store.seen (disk_seen g.St.Device.Disk.counts g.St.Device.Disk.told g.St.Device.Disk.due) c.args.self.now.seats.items
+    (rows c.args.self.now.letters) c.args.n (c.from.result - 1) _ c.index_mut.result.now c.ask_seat.new.seat
+    (ap (λ k. k - 1) c.from.ensures) c.requires.node c.requires.world.seats c.index_mut.ensures.value c.requires.world
+    c.ask_seat.ensures.sound
+
+pub returns-in_err-note-clause-world : goal.returns-in_err-note-clause-world
+returns-in_err-note-clause-world g c =
+    place-kept g.St.Store.seen (disk_seen g.St.Device.Disk.counts g.St.Device.Disk.told g.St.Device.Disk.due) c.args.self.now.seats.items
+    (rows c.args.self.now.letters) c.args.n (c.from.result - 1) _ c.index_mut.result.now c.ask_seat.new.seat
+    (ap (λ k. k - 1) c.from.ensures) c.requires.node c.requires.world.seats c.index_mut.ensures.value
+    (rows c.note.new.self) c.requires.world c.ask_seat.ensures.sound c.in_err-note.ensures.same
 
 pub returns-clause-world : goal.returns-clause-world
 returns-clause-world g c =
