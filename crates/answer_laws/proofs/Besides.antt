@@ -1,5 +1,5 @@
 -- From what is answered to what holds besides of its history.
-use Rattle.std.proofs.Common.{◌≡◌, ℕ, List, length, subst, sym, ◌∙◌, inl, inr}
+use Rattle.std.proofs.Common.{◌≡◌, ℕ, List, [], length, subst, sym, ◌∙◌, inl, inr}
 use Rattle.std.specs.Prelude.{◌⊎◌, IsTrue, true}
 use Rattle.eden_disk.specs.SimDisk.{Simulated}
 use Rattle.passive_blocks.specs.BlockLayout.{block_layout}
@@ -9,10 +9,12 @@ use Rattle.journal.specs.LegalRun.{AreHandedIn, IsLegalRun, IsLegalSoFar}
 use Rattle.eden_world.specs.Legal.{disk_runs}
 use Rattle.eden_world.proofs.DiskPairs.{runs-length}
 use Rattle.shell_answers.specs.Reading.{IsAsked}
-use Rattle.shell_answers.specs.Answers.{Call, Answers, IsDue, IsDone, HasBegun, IsLegalOver, IsLegalPartOver}
+use Rattle.shell_answers.specs.Answers.{Call, Answers, IsDue, IsDone, IsBegun, HasMovedBy, HasBegun, IsLegalOver, IsLegalPartOver}
 use Rattle.shell_answers.specs.declared.words.Job.{Job}
 use Rattle.shell_answers.specs.declared.words.Task.{Task}
-use Rattle.shell_answers.specs.declared.words.Task.TheVariants.{History, Wire}
+use Rattle.shell_answers.specs.declared.words.Task.TheVariants.{History, Wire, Move}
+use Rattle.shell_answers.specs.declared.further.Further.{Further}
+use Rattle.shell_answers.specs.declared.further.Further.TheVariants as further
 use Rattle.shell_answers.specs.declared.outcome.Outcome.{Outcome}
 use Rattle.shell_answers.specs.declared.outcome.Outcome.TheVariants.{Ran, BadWords, BadScript, ReadFault, WriteFault, OutOfMemory, TooLong}
 use Rattle.eden_shell.specs.Blank.{sim_seen}
@@ -46,30 +48,40 @@ module _ (whole : LegalRunsHoldBesides) (part : LegalPartsHoldBesides) (c : Call
         (subst (λ layout. IsLegalSoFar layout script c.disks.runs history) blocks (legal.legal telling handed)));
   }
 
-  of-done : (task : Task) (text : List ℕ) → IsDone task c history text → IsBesides c history
-  of-done (History job) text r = inr (of-run job r.script r.asked r.legal)
-  of-done Wire text r = inl r.not_begun.nothing
+  no-history : (more : Further) (text : List ℕ) → HasMovedBy c history more text → history ≡ []
+  no-history further.Nothing text r = absurd r
+  no-history (further.Move log) text r = r.no_history
 
-  of-due : (outcome : Outcome) (text : List ℕ) → IsDue c outcome history text → IsBesides c history
-  of-due Ran text is = of-done is.0 text is.2
-  of-due _ text is = inl is.not_begun.nothing
+  of-done : (task : Task) (more : Further) (text : List ℕ) → IsDone task c history more text → IsBesides c history
+  of-done (History job) more text r = inr (of-run job r.script r.asked r.legal)
+  of-done Wire more text r = inl r.not_begun.nothing.0
+  of-done Move more text r = inl (no-history more text r)
 
-  of-begun : HasBegun c history → HasBesides c history
-  of-begun b = go b.legal
+  of-due : (outcome : Outcome) (more : Further) (text : List ℕ) → IsDue c outcome history more text → IsBesides c history
+  of-due Ran more text is = of-done is.0 more text is.2
+  of-due _ more text is = inl is.not_begun.nothing.0
+
+  of-run-begun : (job : Job) (more : Further) → HasBegun c job history more → HasBesides c history
+  of-run-begun job more b = go b.legal
     where
       go : IsLegalOver c.disks b.script history ⊎ IsLegalPartOver c.disks b.script history → HasBesides c history
-      go (inl legal) = of-run b.job b.script b.asked legal
-      go (inr legal) = of-part b.job b.script b.asked legal
+      go (inl legal) = of-run job b.script b.asked legal
+      go (inr legal) = of-part job b.script b.asked legal
 
-  pub besides : (outcome : Outcome) → Answers c outcome history → IsBesides c history
-  besides Ran (text, is, written) = of-due Ran text is
-  besides WriteFault (rose, (outcome, text, is, written)) = of-due outcome text is
-  besides OutOfMemory (inl none) = inl none.0.nothing
-  besides OutOfMemory (inr b) = inr (of-begun b)
-  besides BadWords (text, is, written) = inl is.not_begun.nothing
-  besides (BadScript line why) (text, is, written) = inl is.not_begun.nothing
-  besides ReadFault (text, is, written) = inl is.not_begun.nothing
-  besides TooLong (text, is, written) = inl is.not_begun.nothing
+  of-begun : (task : Task) (more : Further) → IsBegun task c history more → IsBesides c history
+  of-begun (History job) more b = inr (of-run-begun job more b)
+  of-begun Wire more b = absurd b
+  of-begun Move more b = inl b.nothing.0
+
+  pub besides : (outcome : Outcome) (more : Further) → Answers c outcome history more → IsBesides c history
+  besides Ran more (text, is, written) = of-due Ran more text is
+  besides WriteFault more (rose, (outcome, text, is, written)) = of-due outcome more text is
+  besides OutOfMemory more (inl none) = inl none.0.nothing.0
+  besides OutOfMemory more (inr (task, asks, b)) = of-begun task more b
+  besides BadWords more (text, is, written) = inl is.not_begun.nothing.0
+  besides (BadScript line why) more (text, is, written) = inl is.not_begun.nothing.0
+  besides ReadFault more (text, is, written) = inl is.not_begun.nothing.0
+  besides TooLong more (text, is, written) = inl is.not_begun.nothing.0
 
 -- disks that are given back one for one are as many
 pub eight-runs : (before after : List Simulated) → length before ≡ 8 → length after ≡ 8

@@ -12,6 +12,7 @@ use Rattle.shell_answers.specs.Reading.{Reading, IsAsked}
 use Rattle.shell_answers.specs.Answers.{Call, Writing, Answers}
 use Rattle.shell_answers.specs.declared.words.Job.{Job}
 use Rattle.shell_answers.specs.declared.words.Job.TheVariants.{Gen}
+use Rattle.shell_answers.specs.declared.further.Further.{Further}
 use Rattle.shell_answers.specs.declared.outcome.Outcome.{Outcome}
 use Rattle.shell_answers.specs.declared.outcome.Outcome.TheVariants.{Ran, OutOfMemory}
 use Rattle.eden_shell.specs.Blank.{AreBlank, sim_seen}
@@ -21,8 +22,8 @@ use Rattle.run_laws.specs.Besides.{HoldsBesides}
 
 -- Whatever number `gen` is given, its script is carried out: where no write failed, the outcome is Ran or OutOfMemory.
 abbrev pub EveryNumberRuns : Type 0
-EveryNumberRuns = (c : Call) (outcome : Outcome) (history : List Entry) (number : ℕ) → Asks c.words (Gen number) → Answers c outcome history
-    → (Rose c.sink.faults c.sink.faults_after → ⊥) → (outcome ≡ Ran) ⊎ (outcome ≡ OutOfMemory)
+EveryNumberRuns = (c : Call) (outcome : Outcome) (history : List Entry) (more : Further) (number : ℕ) → Asks c.words (Gen number)
+    → Answers c outcome history more → (Rose c.sink.faults c.sink.faults_after → ⊥) → (outcome ≡ Ran) ⊎ (outcome ≡ OutOfMemory)
 
 -- 2. What holds besides of a run
 
@@ -43,8 +44,9 @@ IsBesides c history = (history ≡ []) ⊎ HasBesides c history
 
 -- So it is with whatever is answered over eight disks with blocks that tell, and are handed in as they have to be.
 abbrev pub AnswersHoldBesides : Type 0
-AnswersHoldBesides = (c : Call) (outcome : Outcome) (history : List Entry) → c.disks.layout ≡ block_layout → length c.disks.runs ≡ 8
-    → IsTrue c.disks.tells → AreHandedIn c.disks.layout c.disks.runs → Answers c outcome history → IsBesides c history
+AnswersHoldBesides = (c : Call) (outcome : Outcome) (history : List Entry) (more : Further) → c.disks.layout ≡ block_layout
+    → length c.disks.runs ≡ 8 → IsTrue c.disks.tells → AreHandedIn c.disks.layout c.disks.runs → Answers c outcome history more
+    → IsBesides c history
 
 -- a call over eight disks in memory
 abbrev pub call_over : List (List ℕ) → Reading → Writing → List Simulated → List Simulated → Call
@@ -58,5 +60,5 @@ call_over words source sink before after = record {
 -- And over blank disks nothing is left to be taken for granted.
 abbrev pub BlankAnswersHoldBesides : Type 0
 BlankAnswersHoldBesides = (words : List (List ℕ)) (source : Reading) (sink : Writing) (before after : List Simulated) (outcome : Outcome)
-    (history : List Entry) → length before ≡ 8 → length after ≡ 8 → AreBlank before
-    → Answers (call_over words source sink before after) outcome history → IsBesides (call_over words source sink before after) history
+    (history : List Entry) (more : Further) → length before ≡ 8 → length after ≡ 8 → AreBlank before
+    → Answers (call_over words source sink before after) outcome history more → IsBesides (call_over words source sink before after) history

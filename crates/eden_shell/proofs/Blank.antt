@@ -16,11 +16,11 @@ use Rattle.eden_model.specs.Map.{value_at}
 use Rattle.eden_disk.specs.SimDisk.{Simulated, blank_of, zeros as sim_zeros}
 use Rattle.eden_disk.specs.Told.{Told}
 use Rattle.passive_store.specs.Seen.{DiskSeen}
-use Rattle.passive_store.specs.Kept.{nothing_kept, reserved_uid}
+use Rattle.passive_store.specs.Kept.{nothing_kept}
 use Rattle.block_tables.specs.Blocks.{numbers, is_block_size, data_count, blocks_of, greatest}
 use Rattle.block_tables.specs.Changes.{is_taken}
 use Rattle.passive_blocks.specs.BlockLayout.{Blank, format_of, map_by, block_map, overfull_by, heads_by, changes_left, block_changes}
-use Rattle.passive_blocks.specs.BlockLayout.{blocks_left, has_first, block_layout}
+use Rattle.passive_blocks.specs.BlockLayout.{blocks_left, block_layout}
 use Rattle.journal.specs.Opening.{IsFitFor, entries_of, found_in, most_changes}
 use Rattle.journal.specs.LegalRun.{IsHandedInFor}
 use Rattle.journal.specs.RefusedRuns.{blank_told, zeros}
@@ -43,7 +43,7 @@ zero_at zero k = refl
 zero_at (suc n) zero = refl
 zero_at (suc n) (suc k) = zero_at n k
 
-zeros_are_blank : (size : ℕ) → format_of (replicate size 0) ≡ Blank
+pub zeros_are_blank : (size : ℕ) → format_of (replicate size 0) ≡ Blank
 zeros_are_blank size = rw (zero_at size 1, zero_at size 0) refl
 
 blank_keeps : (node : ℕ) (image : List ℕ) → is_block_size (length image) ≡ true → format_of image ≡ Blank
@@ -54,7 +54,7 @@ blank_keeps node image sized blank =
 zeros_sized : (size : ℕ) → is_block_size size ≡ true → is_block_size (length (replicate {A = ℕ} size 0)) ≡ true
 zeros_sized size sized = ap (λ n. is_block_size n) (length-replicate {A = ℕ} size 0) ∙ sized
 
-zeros_keep_nothing : (node size : ℕ) → is_block_size size ≡ true → block_map node (replicate size 0) ≡ Ok nothing_kept
+pub zeros_keep_nothing : (node size : ℕ) → is_block_size size ≡ true → block_map node (replicate size 0) ≡ Ok nothing_kept
 zeros_keep_nothing node size sized = blank_keeps node (replicate size 0) (zeros_sized size sized) (zeros_are_blank size)
 
 -- 2. The room of such a disk
@@ -73,28 +73,23 @@ a_block_is_left size least = ap (λ es. nat_le 1 (data_count size - sum_by (λ e
     within : (size : ℕ) → 32768 ≤ size → nat_le 1 (data_count size - 0) ≡ true
     within size least = grind (arith, nat_tests, least)
 
-is_first : (node : ℕ) → has_first node nothing_kept.bodies ≡ true
-is_first node = ap (λ n. n == 0 || is_some (finite.get nothing_kept.bodies (reserved_uid node))) (finite.len-empty uid_cmp (List ℕ))
+told_where : (free left : Bool) (most greatest : ℕ) → free ≡ true → left ≡ true
+    → (if free && left then most - greatest else 0) ≡ most - greatest
+told_where true true most greatest f l = refl
+told_where true false most greatest f l = absurd (false≢true l)
+told_where false left most greatest f l = absurd (false≢true f)
 
-told_where : (free left first : Bool) (most greatest : ℕ) → free ≡ true → left ≡ true → first ≡ true
-    → (if free && (left && first) then most - greatest else 0) ≡ most - greatest
-told_where true true true most greatest f l k = refl
-told_where true true false most greatest f l k = absurd (false≢true k)
-told_where true false first most greatest f l k = absurd (false≢true l)
-told_where false left first most greatest f l k = absurd (false≢true f)
-
-room_left : (node size : ℕ) → 32768 ≤ size → changes_left node size [] (Ok nothing_kept) ≡ 9223372036854775808
+room_left : (size : ℕ) → 32768 ≤ size → changes_left size [] (Ok nothing_kept) ≡ 9223372036854775808
 unfolding greatest
-room_left node size least = told_where _ _ _ (2 ^ 63) 0 (a_head_is_free (size / 1024) (omega (arith, least))) (a_block_is_left size least)
-    (is_first node)
+room_left size least = told_where _ _ (2 ^ 63) 0 (a_head_is_free (size / 1024) (omega (arith, least))) (a_block_is_left size least)
 
 blank_room : (node : ℕ) (image : List ℕ) → is_block_size (length image) ≡ true → format_of image ≡ Blank
     → block_changes node image ≡ 9223372036854775808
 blank_room node image sized blank =
     ap (λ f. if overfull_by f node image then 2 ^ 63
-    else changes_left node (length image) (heads_by f node image) (block_map node image)) blank
-    ∙ ap (λ m. changes_left node (length image) [] m) (blank_keeps node image sized blank)
-    ∙ room_left node (length image) (large (length image) sized)
+    else changes_left (length image) (heads_by f node image) (block_map node image)) blank
+    ∙ ap (λ m. changes_left (length image) [] m) (blank_keeps node image sized blank)
+    ∙ room_left (length image) (large (length image) sized)
 
 zeros_have_room : (node size : ℕ) → is_block_size size ≡ true → block_changes node (replicate size 0) ≡ 9223372036854775808
 zeros_have_room node size sized = blank_room node (replicate size 0) (zeros_sized size sized) (zeros_are_blank size)
@@ -151,7 +146,7 @@ blank_disks n size d before = blank_for_many n size most_changes d (omega arith)
 
 -- 5. In memory
 
-sim-zeros : (size : ℕ) → (blank_of size).told ≡ blank_told size
+pub sim-zeros : (size : ℕ) → (blank_of size).told ≡ blank_told size
 unfolding sim_zeros
 sim-zeros size = refl
 

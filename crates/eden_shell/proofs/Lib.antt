@@ -4,3 +4,4 @@ pub mod Called
 pub mod Blank
 pub mod HandedOn
 pub mod Legally
+pub mod Empty

@@ -1,13 +1,16 @@
 -- Disks on which nothing was ever written.
-use Rattle.std.specs.Prelude.{◌≡◌, ◌≤◌, ◌^◌, ℕ, true, List}
+use Rattle.std.specs.Prelude.{◌≡◌, ◌≤◌, ◌^◌, ℕ, true, List, map}
 use Rattle.std.specs.List.{All}
 use Rattle.eden_disk.specs.SimDisk.{Simulated, blank_of, due_of}
 use Rattle.passive_store.specs.Seen.{DiskSeen}
+use Rattle.block_tables.specs.Blocks.{is_block_size}
 use Rattle.passive_blocks.specs.BlockLayout.{block_layout}
 use Rattle.journal.specs.Standing.{DiskRun}
 use Rattle.journal.specs.LegalRun.{IsHandedIn, IsHandedInFor, AreHandedInFor}
 use Rattle.journal.specs.RefusedRuns.{blank_told}
 use Rattle.eden_world.specs.Legal.{disk_runs}
+use Rattle.move_world.specs.Disks.{KeepNothing}
+use Rattle.shell_answers.specs.Answers.{seen_before}
 
 -- A disk of so many zeros is handed in as it has to be: where blocks may stand on it, nothing is kept there and the room is told for all
 -- that a run can change; at any other size it has no map.
@@ -31,3 +34,12 @@ sim_seen d = record { counts = d.counts; told = d.told; due = due_of d }
 abbrev pub BlankDisksAreHandedIn : Type 0
 BlankDisksAreHandedIn = (before after : List Simulated) (more : ℕ) → more ≤ 2 ^ 63 → AreBlank before
     → AreHandedInFor block_layout more (disk_runs true sim_seen before after)
+
+-- blocks may stand on each of these disks, by its size
+abbrev pub AreOfBlocks : List DiskRun → Type 0
+AreOfBlocks runs = All (λ d. is_block_size d.first.size ≡ true) runs
+
+-- nor does any of them keep anything of an Eject that wanders, where blocks may stand on it
+abbrev pub BlankDisksKeepNothing : Type 0
+BlankDisksKeepNothing = (before after : List Simulated) → AreBlank before → AreOfBlocks (disk_runs true sim_seen before after)
+    → KeepNothing block_layout (map seen_before (disk_runs true sim_seen before after))

@@ -3,14 +3,20 @@ use Rattle.std.specs.Prelude.{◌≡◌, ◌⊎◌, List, []}
 use Rattle.journal.specs.declared.command.Script.{Script}
 use Rattle.journal.specs.declared.event.Entry.{Entry}
 use Rattle.journal.specs.LegalRun.{IsLegalRun, IsLegalSoFar}
-use Rattle.shell_answers.specs.Answers.{Call}
-use Rattle.shell_answers.specs.Reading.{IsAsked}
+use Rattle.move_world.specs.Logs.{Log, IsLegalMove}
+use Rattle.move_world.specs.View.{log_of}
+use Rattle.move_world.specs.Worlds.{commands_of}
+use Rattle.shell_answers.specs.Answers.{Call, IsNothing}
+use Rattle.shell_answers.specs.Reading.{IsAsked, IsMoved}
 use Rattle.shell_answers.specs.Words.{AsksFor}
 use Rattle.shell_answers.specs.declared.words.Job.{Job}
 use Rattle.shell_answers.specs.declared.words.Task.{Task}
-use Rattle.shell_answers.specs.declared.words.Task.TheVariants.{History, Wire}
+use Rattle.shell_answers.specs.declared.words.Task.TheVariants.{History, Wire, Move}
+use Rattle.shell_answers.specs.declared.further.Further.{Further}
+use Rattle.shell_answers.specs.declared.further.Further.TheVariants as further
 use Rattle.shell_answers.specs.declared.outcome.Outcome.{Outcome}
 use Rattle.shell_answers.specs.declared.outcome.Outcome.TheVariants.{Ran, WriteFault, OutOfMemory}
+use Rattle.eden_shell.specs.Blank.{AreOfBlocks}
 
 -- The history is a legal run of the script that was asked for.
 pub record HasLegalRun (c : Call) (history : List Entry) : Type 0 where
@@ -26,14 +32,30 @@ pub record HasLegalPart (c : Call) (history : List Entry) : Type 0 where
   pub asked : IsAsked c.words c.source job script
   pub legal : IsLegalRun c.disks.layout script c.disks.runs history ⊎ IsLegalSoFar c.disks.layout script c.disks.runs history
 
--- what is legal where a task came to its end, task by task: of a wire there is no history
-abbrev pub IsDoneLegally : Task → Call → List Entry → Type 0
-IsDoneLegally (History job) c history = HasLegalRun c history
-IsDoneLegally Wire c history = history ≡ []
+-- The log is of the script of Ejects that wander that was asked for, and legal, where blocks may stand on each disk. There is no history.
+pub record HasLegalMove (c : Call) (history : List Entry) (log : Log) : Type 0 where
+  pub asked : IsMoved c.words c.source log.nodes (commands_of log.entries)
+  pub legal : AreOfBlocks c.disks.runs → IsLegalMove log
+  pub no_history : history ≡ []
 
--- Where a run came to its end it was legal. Where a write failed, or there was no memory, nothing had begun, or it was legal up to there.
-abbrev pub IsLegally : Call → Outcome → List Entry → Type 0
-IsLegally c Ran history = (task : Task) × AsksFor c.words task × IsDoneLegally task c history
-IsLegally c WriteFault history = (history ≡ []) ⊎ HasLegalRun c history
-IsLegally c OutOfMemory history = (history ≡ []) ⊎ HasLegalPart c history
-IsLegally c outcome history = history ≡ []
+-- so it is with the log that there is
+abbrev pub HasLegalMoveBy : Call → List Entry → Further → Type 0
+HasLegalMoveBy c history further.Nothing = ⊥
+HasLegalMoveBy c history (further.Move log) = HasLegalMove c history (log_of log)
+
+-- what is legal where a task came to its end, task by task: of a wire there is nothing
+abbrev pub IsDoneLegally : Task → Call → List Entry → Further → Type 0
+IsDoneLegally (History job) c history more = HasLegalRun c history × (more ≡ further.Nothing)
+IsDoneLegally Wire c history more = IsNothing history more
+IsDoneLegally Move c history more = HasLegalMoveBy c history more
+
+-- some task came to its end, and it was legal
+abbrev pub HasBeenLegal : Call → List Entry → Further → Type 0
+HasBeenLegal c history more = (task : Task) × AsksFor c.words task × IsDoneLegally task c history more
+
+-- Where a task came to its end it was legal. Where a write failed, or there was no memory, nothing had begun, or it was legal up to there.
+abbrev pub IsLegally : Call → Outcome → List Entry → Further → Type 0
+IsLegally c Ran history more = HasBeenLegal c history more
+IsLegally c WriteFault history more = IsNothing history more ⊎ HasBeenLegal c history more
+IsLegally c OutOfMemory history more = IsNothing history more ⊎ HasLegalPart c history
+IsLegally c outcome history more = IsNothing history more

@@ -15,7 +15,7 @@ use shell_answers::Report;
 use std::alloc::Global;
 
 /// What `eden` does, over eight disks of zeros in memory. Nothing is left to be taken for granted there: a run that came to its end is
-/// legal, whatever the words, the script, the source and the sink.
+/// legal, and so is the log of Ejects that wander, whatever the words, the script, the source and the sink.
 pub fn eden_over_blank<S: Source, K: Sink>(
     alloc: Global,
     words: &Vec<String>,
@@ -36,7 +36,7 @@ pub fn eden_over_blank<S: Source, K: Sink>(
             runs = disk_runs true sim_seen disks.old.items disks.new.items;
           };
         })
-        result.outcome result.history }
+        result.outcome result.history result.further }
     ensures legally { IsLegally
         (record {
           words = map string_bytes words.now.items;
@@ -48,7 +48,7 @@ pub fn eden_over_blank<S: Source, K: Sink>(
             runs = disk_runs true sim_seen disks.old.items disks.new.items;
           };
         })
-        result.outcome result.history }
+        result.outcome result.history result.further }
     ensures eight { length disks.new.items ≡ 8 }
 {
     eden(alloc, words, source, sink, disks)

@@ -1,5 +1,5 @@
 //! What may be handed in for a run.
-ghost use Rattle.eden_shell.specs.Blank.{BlankDisksMayBeHandedIn, BlankDisksMayBeHandedInForMany};
+ghost use Rattle.eden_shell.specs.Blank.{BlankDisksMayBeHandedIn, BlankDisksMayBeHandedInForMany, BlankDisksKeepNothing};
 ghost use Rattle.eden_shell.specs.HandedOn.{PowerCutsHandOn};
 
 /// A disk of zeros, on which nothing was ever written, is handed in as it has to be, whatever its size: those of 4,194,304 bytes,
@@ -12,4 +12,9 @@ pub fn blank_disks_may_be_handed_in()
 /// A disk that a run gave back is handed on once its power is cut, where it holds bytes then.
 pub fn a_power_cut_hands_on()
     ensures { PowerCutsHandOn }
+{}
+
+/// Of Ejects that wander a disk of zeros keeps nothing, where blocks may stand on it, whatever a crash leaves of it.
+pub fn blank_disks_keep_nothing()
+    ensures { BlankDisksKeepNothing }
 {}

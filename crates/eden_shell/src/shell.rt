@@ -10,19 +10,22 @@ ghost use Rattle.shell_answers.specs.Answers.{Answers, writing};
 ghost use Rattle.shell_answers.specs.declared.words.Task.{Task};
 
 use crate::carry::carry_script;
+use crate::moving::tell_moves;
 use eden_disk::Disk;
 use eden_io::{Sink, Source};
 use eden_script::{a_script_is_fit, one_reading};
-use lossy_wire::texts_are_one;
+use line_forms::scripts_are_one;
 use passive_blocks::{BlockStore, blocks_are_a_layout, blocks_are_read_by_calls};
-use shell_answers::{Asked, Outcome, Report, conclude, deliver, mode_of, read_script, refuse};
+use shell_answers::{
+    Asked, Further, Outcome, Report, conclude, deliver, mode_of, read_script, refuse,
+};
 use std::alloc::Global;
 
 /// Reads the words and the source, carries the script out over these disks, and writes the text of its history. For a wire it writes what
-/// the script of the wire writes.
+/// the script of the wire writes, and for Ejects that wander the text of their log.
 ///
 /// There are eight disks, in the order of their nodes, and they stand there again. The history that is returned is the one
-/// whose text was written; for a wire it is empty, and no disk is touched.
+/// whose text was written; for a wire it is empty, and no disk is touched; for Ejects that wander it is empty, and the log is there.
 pub fn eden<S: Source, K: Sink, D: Disk + Drop>(
     alloc: Global,
     words: &Vec<String>,
@@ -43,7 +46,7 @@ pub fn eden<S: Source, K: Sink, D: Disk + Drop>(
             runs = disk_runs D.obeys (disk_seen D.counts D.told D.due) disks.old.items disks.new.items;
           };
         })
-        result.outcome result.history }
+        result.outcome result.history result.further }
     ensures eight { length disks.new.items ≡ 8 }
     // A text that spells what the words ask for runs, where nothing fails and there is memory.
     ensures complete { (task : Task) (bytes : List ℕ) → AsksFor (map string_bytes words.now.items) task → SpellsFor task bytes
@@ -52,7 +55,7 @@ pub fn eden<S: Source, K: Sink, D: Disk + Drop>(
         → (result.outcome ≡ Outcome.Ran) ⊎ (result.outcome ≡ Outcome.OutOfMemory) }
 {
     one_reading();
-    texts_are_one();
+    scripts_are_one();
     match read_script(alloc, words, source) {
         Ok(Asked::History { job, script }) => {
             a_script_is_fit();
@@ -63,7 +66,8 @@ pub fn eden<S: Source, K: Sink, D: Disk + Drop>(
                 Err(_) => refuse(alloc, Outcome::OutOfMemory, sink),
             }
         }
-        Ok(Asked::Wire { text }) => deliver(alloc, &text, sink),
+        Ok(Asked::Wire { text }) => deliver(alloc, Further::Nothing, &text, sink),
+        Ok(Asked::Move { script }) => tell_moves(alloc, script, sink, disks),
         Err(outcome) => refuse(alloc, outcome, sink),
     }
 }

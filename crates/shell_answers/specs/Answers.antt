@@ -1,22 +1,31 @@
 -- What the program answers: which outcome is due for the words, for what was read and for the disks, and what of it was written.
-use Rattle.std.specs.Prelude.{◌≡◌, ◌⊎◌, ℕ, Bool, true, Option, List, [], IsTrue}
+use Rattle.std.specs.Prelude.{◌≡◌, ◌⊎◌, ℕ, Bool, true, Option, List, [], IsTrue, map}
 use Rattle.std.specs.List.{All}
 use Rattle.std.specs.Io.KnownBytes.{Appends, Keeps}
 use Rattle.eden_io.specs.Causes.{Rose}
 use Rattle.eden_io.specs.Taken.{AppendsPart}
 use Rattle.passive_store.specs.Kept.{Layout}
+use Rattle.passive_store.specs.Seen.{DiskSeen}
 use Rattle.journal.specs.declared.command.Script.{Script}
 use Rattle.journal.specs.declared.event.Entry.{Entry}
 use Rattle.journal.specs.Lines.{text_of}
 use Rattle.journal.specs.Standing.{DiskRun}
 use Rattle.journal.specs.Faults.{ShowsEach, ShowsNoMore}
 use Rattle.journal.specs.LegalRun.{IsLegalRun, IsLegalSoFar, AreHandedIn, EachDisk}
+use Rattle.move_world.specs.Commands.{Command}
+use Rattle.move_world.specs.Disks.{KeepNothing}
+use Rattle.move_world.specs.Logs.{Log, IsLegalMove}
+use Rattle.move_world.specs.Texts as moves
+use Rattle.move_world.specs.View.{log_of}
+use Rattle.move_world.specs.Worlds.{commands_of}
 use Rattle.shell_answers.specs.Words.{AsksFor, mode_of}
 use Rattle.shell_answers.specs.Outcomes.{line_of}
-use Rattle.shell_answers.specs.Reading.{Reading, IsAsked, HasWire, Refuses}
+use Rattle.shell_answers.specs.Reading.{Reading, IsAsked, IsMoved, HasWire, Refuses}
 use Rattle.shell_answers.specs.declared.words.Job.{Job}
 use Rattle.shell_answers.specs.declared.words.Task.{Task}
-use Rattle.shell_answers.specs.declared.words.Task.TheVariants.{History, Wire}
+use Rattle.shell_answers.specs.declared.words.Task.TheVariants.{History, Wire, Move}
+use Rattle.shell_answers.specs.declared.further.Further.{Further}
+use Rattle.shell_answers.specs.declared.further.Further.TheVariants as further
 use Rattle.shell_answers.specs.declared.outcome.Outcome.{Outcome}
 use Rattle.shell_answers.specs.declared.outcome.Outcome.TheVariants.{Ran, WriteFault, OutOfMemory}
 
@@ -63,6 +72,14 @@ pub record IsUntouched (d : DiskRun) : Type 0 where
 abbrev pub WantedNoMemory : DiskRun → Type 0
 WantedNoMemory d = d.last.wants ≡ d.first.wants
 
+-- a disk as it was seen before the call
+abbrev pub seen_before : DiskRun → DiskSeen
+seen_before d = record { counts = d.first; told = d.before; due = d.due }
+
+-- the disks as they were handed in
+abbrev pub handed_in : Disks → List DiskSeen
+handed_in d = map seen_before d.runs
+
 -- 3. Histories
 
 -- The entries are the legal history of the script over these disks, where they tell and were handed in as they have to be. Whether they
@@ -84,57 +101,93 @@ pub record IsCarriedOut (d : Disks) (script : Script) (history : List Entry) (wh
 
 -- 4. Outcomes
 
--- A run came to its end: the history is that of the script that was asked for, no disk wanted memory, and the text is the history's.
-pub record HasRun (c : Call) (job : Job) (history : List Entry) (text : List ℕ) : Type 0 where
+-- What is told besides the text: the history of a run, and what there is further. Here is neither a history nor a log.
+abbrev pub IsNothing : List Entry → Further → Type 0
+IsNothing history more = (history ≡ []) × (more ≡ further.Nothing)
+
+-- A run came to its end: the history is that of the script that was asked for, no disk wanted memory, and the text is the history's. There
+-- is no log.
+pub record HasRun (c : Call) (job : Job) (history : List Entry) (more : Further) (text : List ℕ) : Type 0 where
   pub script : Script
   pub asked : IsAsked c.words c.source job script
   pub legal : IsLegalOver c.disks script history
   pub no_wants : All WantedNoMemory c.disks.runs
   pub is_text : text ≡ text_of (mode_of job) history
+  pub no_log : more ≡ further.Nothing
 
--- No run began: there is no history, and no disk was touched.
-pub record IsNotBegun (c : Call) (history : List Entry) : Type 0 where
-  pub nothing : history ≡ []
+-- No run began: there is neither a history nor a log, and no disk was touched.
+pub record IsNotBegun (c : Call) (history : List Entry) (more : Further) : Type 0 where
+  pub nothing : IsNothing history more
   pub disks : All IsUntouched c.disks.runs
 
--- The script of a wire was run, and this is its text. There is no history, and no disk was touched.
-pub record HasWired (c : Call) (history : List Entry) (text : List ℕ) : Type 0 where
+-- The script of a wire was run, and this is its text. There is neither a history nor a log, and no disk was touched.
+pub record HasWired (c : Call) (history : List Entry) (more : Further) (text : List ℕ) : Type 0 where
   pub wire : HasWire c.source text
-  pub not_begun : IsNotBegun c history
+  pub not_begun : IsNotBegun c history more
+
+-- A script of Ejects that wander was carried out, with this log: its commands are those that were read, the text is the log's, and where
+-- the disks tell and none of them kept anything it is legal. There is no history.
+pub record HasMoved (c : Call) (history : List Entry) (log : Log) (text : List ℕ) : Type 0 where
+  pub asked : IsMoved c.words c.source log.nodes (commands_of log.entries)
+  pub legal : IsTrue c.disks.tells → KeepNothing c.disks.layout (handed_in c.disks) → IsLegalMove log
+  pub is_text : text ≡ moves.text_of log
+  pub no_history : history ≡ []
+
+-- so it is with the log that there is further
+abbrev pub HasMovedBy : Call → List Entry → Further → List ℕ → Type 0
+HasMovedBy c history further.Nothing text = ⊥
+HasMovedBy c history (further.Move log) text = HasMoved c history (log_of log) text
 
 -- what is due where a task came to its end, task by task
-abbrev pub IsDone : Task → Call → List Entry → List ℕ → Type 0
-IsDone (History job) c history text = HasRun c job history text
-IsDone Wire c history text = HasWired c history text
+abbrev pub IsDone : Task → Call → List Entry → Further → List ℕ → Type 0
+IsDone (History job) c history more text = HasRun c job history more text
+IsDone Wire c history more text = HasWired c history more text
+IsDone Move c history more text = HasMovedBy c history more text
 
 -- the call was refused with this outcome, for which there is one line
-pub record IsRefused (c : Call) (outcome : Outcome) (history : List Entry) (text : List ℕ) : Type 0 where
+pub record IsRefused (c : Call) (outcome : Outcome) (history : List Entry) (more : Further) (text : List ℕ) : Type 0 where
   pub refuses : Refuses c.words c.source outcome
-  pub not_begun : IsNotBegun c history
+  pub not_begun : IsNotBegun c history more
   pub is_line : text ≡ line_of outcome
 
--- The outcome that is due, with its history and the text that is to be written. A write that fails, and want of memory, come in its place.
-abbrev pub IsDue : Call → Outcome → List Entry → List ℕ → Type 0
-IsDue c Ran history text = (task : Task) × AsksFor c.words task × IsDone task c history text
-IsDue c outcome history text = IsRefused c outcome history text
+-- The outcome that is due, with its history, what there is further, and the text that is to be written. A write that fails, and want of
+-- memory, come in its place.
+abbrev pub IsDue : Call → Outcome → List Entry → Further → List ℕ → Type 0
+IsDue c Ran history more text = (task : Task) × AsksFor c.words task × IsDone task c history more text
+IsDue c outcome history more text = IsRefused c outcome history more text
 
--- A run began: the history is that of the script, whole or so far, and a part of its text, from the front, was written.
-pub record HasBegun (c : Call) (history : List Entry) : Type 0 where
-  pub job : Job
+-- A run began: the history is that of the script, whole or so far, and a part of its text, from the front, was written. There is no log.
+pub record HasBegun (c : Call) (job : Job) (history : List Entry) (more : Further) : Type 0 where
   pub script : Script
   pub asked : IsAsked c.words c.source job script
   pub legal : IsLegalOver c.disks script history ⊎ IsLegalPartOver c.disks script history
   pub written : AppendsPart c.sink.written c.sink.written_after (text_of (mode_of job) history)
+  pub no_log : more ≡ further.Nothing
+
+-- A script of Ejects that wander was begun: there is neither a history nor a log, and nothing was written.
+pub record HasMoveBegun (c : Call) (history : List Entry) (more : Further) : Type 0 where
+  pub nodes : ℕ
+  pub commands : List Command
+  pub asked : IsMoved c.words c.source nodes commands
+  pub nothing : IsNothing history more
+  pub unwritten : Keeps c.sink.written c.sink.written_after
+
+-- what is there where want of memory ended a task that had begun, task by task; a wire touches nothing before its text is whole
+abbrev pub IsBegun : Task → Call → List Entry → Further → Type 0
+IsBegun (History job) c history more = HasBegun c job history more
+IsBegun Wire c history more = ⊥
+IsBegun Move c history more = HasMoveBegun c history more
 
 -- 5. Answers
 
 -- The text of the outcome that is due was written whole. Where a write failed, an outcome was due, and a part of its text was written.
--- Where memory was wanted, nothing was begun and nothing written, or a run began.
-abbrev pub Answers : Call → Outcome → List Entry → Type 0
-Answers c WriteFault history = Rose c.sink.faults c.sink.faults_after × ((due : Outcome) × (text : List ℕ) × IsDue c due history text
-    × AppendsPart c.sink.written c.sink.written_after text)
-Answers c OutOfMemory history = (IsNotBegun c history × Keeps c.sink.written c.sink.written_after) ⊎ HasBegun c history
-Answers c outcome history = (text : List ℕ) × IsDue c outcome history text × Appends c.sink.written c.sink.written_after text
+-- Where memory was wanted, nothing was begun and nothing written, or what the words ask for began.
+abbrev pub Answers : Call → Outcome → List Entry → Further → Type 0
+Answers c WriteFault history more = Rose c.sink.faults c.sink.faults_after × ((due : Outcome) × (text : List ℕ)
+    × IsDue c due history more text × AppendsPart c.sink.written c.sink.written_after text)
+Answers c OutOfMemory history more = (IsNotBegun c history more × Keeps c.sink.written c.sink.written_after)
+    ⊎ ((task : Task) × AsksFor c.words task × IsBegun task c history more)
+Answers c outcome history more = (text : List ℕ) × IsDue c outcome history more text × Appends c.sink.written c.sink.written_after text
 
 -- 6. One text
 

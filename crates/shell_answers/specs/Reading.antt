@@ -1,5 +1,5 @@
 -- What is read before a run: the words, the source, and the script that its bytes spell.
-use Rattle.std.specs.Prelude.{◌≡◌, ◌<◌, ◌≤◌, ◌+◌, ℕ, Bool, true, Option, List, length}
+use Rattle.std.specs.Prelude.{◌≡◌, ◌<◌, ◌≤◌, ◌+◌, ℕ, Bool, true, Option, List, length, map}
 use Rattle.std.specs.Io.KnownBytes.{Consumes, IsAtEnd}
 use Rattle.eden_io.specs.Causes.{Rose}
 use Rattle.journal.specs.declared.command.Script.{Script}
@@ -8,13 +8,16 @@ use Rattle.eden_gen.specs.Generated.{script_text}
 use Rattle.runs.specs.Room.{entries_in}
 use Rattle.lossy_wire.specs.Commands.{wire_kind}
 use Rattle.lossy_wire.specs.Texts.{IsText}
-use Rattle.line_forms.specs.Forms.{Row}
+use Rattle.line_forms.specs.Forms.{Kind, Row}
 use Rattle.line_forms.specs.Scripts as lines
+use Rattle.move_world.specs.Commands.{Command, move_kind}
+use Rattle.move_world.specs.Scripts.{IsMoveScript}
+use Rattle.move_world.specs.View.{meant}
 use Rattle.shell_answers.specs.Words.{Asks, AsksFor}
 use Rattle.shell_answers.specs.declared.words.Job.{Job}
 use Rattle.shell_answers.specs.declared.words.Job.TheVariants.{Run, Gen}
 use Rattle.shell_answers.specs.declared.words.Task.{Task}
-use Rattle.shell_answers.specs.declared.words.Task.TheVariants.{History, Wire}
+use Rattle.shell_answers.specs.declared.words.Task.TheVariants.{History, Wire, Move}
 use Rattle.shell_answers.specs.declared.reading.Asked.{Asked}
 use Rattle.shell_answers.specs.declared.reading.Asked.TheVariants as asked
 use Rattle.shell_answers.specs.declared.outcome.Outcome.{Outcome}
@@ -76,11 +79,20 @@ HasScript s job script = (bytes : List ℕ) × HasBytesFrom s job bytes × IsScr
 abbrev pub HasWire : Reading → List ℕ → Type 0
 HasWire s text = (bytes : List ℕ) × IsRead s bytes × IsText bytes text
 
--- the bytes spell what a task reads: a script of a run, or one of a wire; `gen` reads none
+-- what was read is a script of Ejects that wander, with so many nodes and these commands
+abbrev pub HasMoves : Reading → ℕ → List Command → Type 0
+HasMoves s nodes commands = (bytes : List ℕ) × IsRead s bytes × IsMoveScript bytes nodes commands
+
+-- the bytes spell a script of this kind
+abbrev pub SpellsLines : Kind → List ℕ → Type 0
+SpellsLines kind bytes = (most : ℕ) × (rows : List Row) × lines.IsScript kind bytes most rows
+
+-- the bytes spell what a task reads: a script of a run, one of a wire, or one of Ejects that wander; `gen` reads none
 abbrev pub SpellsFor : Task → List ℕ → Type 0
 SpellsFor (History (Run m)) bytes = (script : Script) × IsScript bytes script
 SpellsFor (History (Gen number)) bytes = ⊥
-SpellsFor Wire bytes = (stations : ℕ) × (rows : List Row) × lines.IsScript wire_kind bytes stations rows
+SpellsFor Wire bytes = SpellsLines wire_kind bytes
+SpellsFor Move bytes = SpellsLines move_kind bytes
 
 -- The words ask for this job, and its bytes spell this script.
 pub record IsAsked (words : List (List ℕ)) (s : Reading) (job : Job) (script : Script) : Type 0 where
@@ -94,15 +106,22 @@ pub record IsWired (words : List (List ℕ)) (s : Reading) (text : List ℕ) : T
   pub asks : AsksFor words Wire
   pub wire : HasWire s text
 
+-- The words ask for Ejects that wander, and what was read is a script of such, with so many nodes and these commands.
+pub record IsMoved (words : List (List ℕ)) (s : Reading) (nodes : ℕ) (commands : List Command) : Type 0 where
+  pub asks : AsksFor words Move
+  pub moves : HasMoves s nodes commands
+
 -- what the words ask for, with its script
 abbrev pub IsAskedFor : List (List ℕ) → Reading → Asked → Type 0
 IsAskedFor words s (asked.History job script) = IsAsked words s job script
 IsAskedFor words s (asked.Wire text) = IsWired words s text.items
+IsAskedFor words s (asked.Move script) = IsMoved words s script.nodes (map meant script.commands.items)
 
 -- a script of a run is short enough for all that its boots and commands do
 abbrev pub IsShort : Asked → Type 0
 IsShort (asked.History job script) = script.nodes + entries_in script.commands ≤ 1048576
 IsShort (asked.Wire text) = Unit {0}
+IsShort (asked.Move script) = Unit {0}
 
 -- 3. Why there is none
 
@@ -118,15 +137,16 @@ Hinders s job (BadScript line why) = (bytes : List ℕ) × HasBytesFrom s job by
 Hinders s (Run m) outcome = HindersRead s outcome
 Hinders s (Gen number) outcome = ⊥
 
--- why there is no script of a wire
-abbrev pub HindersWire : Reading → Outcome → Type 0
-HindersWire s (BadScript line why) = (bytes : List ℕ) × IsRead s bytes × lines.IsBadLine wire_kind bytes line why
-HindersWire s outcome = HindersRead s outcome
+-- why there is no script of a kind of lines
+abbrev pub HindersLines : Kind → Reading → Outcome → Type 0
+HindersLines kind s (BadScript line why) = (bytes : List ℕ) × IsRead s bytes × lines.IsBadLine kind bytes line why
+HindersLines kind s outcome = HindersRead s outcome
 
 -- why a task has no script
 abbrev pub HindersTask : Reading → Task → Outcome → Type 0
 HindersTask s (History job) outcome = Hinders s job outcome
-HindersTask s Wire outcome = HindersWire s outcome
+HindersTask s Wire outcome = HindersLines wire_kind s outcome
+HindersTask s Move outcome = HindersLines move_kind s outcome
 
 -- why a call ends before a run: the words ask for nothing, or for a task that has no script
 abbrev pub Refuses : List (List ℕ) → Reading → Outcome → Type 0

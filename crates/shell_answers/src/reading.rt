@@ -1,8 +1,11 @@
 //! The script that the words ask for.
 ghost use Rattle.std.specs.Prelude.{◌≡◌, ◌⊎◌, ◌≤◌, ◌+◌, length, map, string_bytes, IfOk, IfErr};
 ghost use Rattle.runs.specs.Room.{entries_in};
-ghost use Rattle.shell_answers.specs.Reading.{HasBytesFrom, HasScript, HasWire, Hinders, HindersRead, HindersWire, IsAskedFor, IsRead};
-ghost use Rattle.shell_answers.specs.Reading.{IsShort, Refuses, reading};
+ghost use Rattle.lossy_wire.specs.Commands.{wire_kind};
+ghost use Rattle.move_world.specs.Commands.{move_kind};
+ghost use Rattle.move_world.specs.View.{meant};
+ghost use Rattle.shell_answers.specs.Reading.{HasBytesFrom, HasMoves, HasScript, HasWire, Hinders, HindersLines, HindersRead, IsAskedFor};
+ghost use Rattle.shell_answers.specs.Reading.{IsRead, IsShort, Refuses, reading};
 
 use crate::outcome::Outcome;
 use crate::words::{Job, Task, task_of};
@@ -11,6 +14,7 @@ use eden_io::{ReadRefusal, Source, read_all};
 use eden_script::{ScriptRefusal, a_script_is_fit, parse_script};
 use journal::Script;
 use lossy_wire::run_wire;
+use move_world::MoveScript;
 use std::alloc::Global;
 
 // The greatest length of a script, in bytes.
@@ -23,6 +27,8 @@ pub enum Asked {
     History { job: Job, script: Script },
     /// What a script of a wire writes is to be written.
     Wire { text: Vec<u8> },
+    /// A script of Ejects that wander is to be carried out.
+    Move { script: MoveScript },
 }
 
 // All that the source has, or the outcome that comes where it cannot be read whole.
@@ -74,15 +80,31 @@ fn read_history<S: Source>(alloc: Global, job: Job, source: &mut S) -> Result<Sc
 }
 
 // What the script of a wire writes that the source has, or the outcome that comes before.
-#[tactic(auto, using(crate::proofs::Answering::hinders_wire))]
+#[tactic(auto, using(crate::proofs::Answering::hinders_lines))]
 fn read_wire<S: Source>(alloc: Global, source: &mut S) -> Result<Vec<u8>, Outcome>
     ensures text { IfOk result (λ text. HasWire (reading S.left S.ended S.faults source.old source.new) text.items) }
     ensures hinders { IfErr result (λ o. (o ≡ Outcome.OutOfMemory)
-        ⊎ HindersWire (reading S.left S.ended S.faults source.old source.new) o) }
+        ⊎ HindersLines wire_kind (reading S.left S.ended S.faults source.old source.new) o) }
 {
     let bytes = all_bytes(alloc, source)?;
     match run_wire(alloc, &bytes) {
         Ok(text) => Ok(text),
+        Err(ScriptRefusal::Bad { line, cause }) => Err(Outcome::BadScript { line, cause }),
+        Err(ScriptRefusal::OutOfMemory) => Err(Outcome::OutOfMemory),
+    }
+}
+
+// The script of Ejects that wander that the source has, or the outcome that comes before.
+#[tactic(auto, using(crate::proofs::Answering::hinders_lines))]
+fn read_move<S: Source>(alloc: Global, source: &mut S) -> Result<MoveScript, Outcome>
+    ensures script { IfOk result (λ s. HasMoves (reading S.left S.ended S.faults source.old source.new) s.nodes
+        (map meant s.commands.items)) }
+    ensures hinders { IfErr result (λ o. (o ≡ Outcome.OutOfMemory)
+        ⊎ HindersLines move_kind (reading S.left S.ended S.faults source.old source.new) o) }
+{
+    let bytes = all_bytes(alloc, source)?;
+    match move_world::read_script(alloc, &bytes) {
+        Ok(script) => Ok(script),
         Err(ScriptRefusal::Bad { line, cause }) => Err(Outcome::BadScript { line, cause }),
         Err(ScriptRefusal::OutOfMemory) => Err(Outcome::OutOfMemory),
     }
@@ -111,6 +133,10 @@ pub fn read_script<S: Source>(
         Some(Task::Wire) => {
             let text = read_wire(alloc, source)?;
             Ok(Asked::Wire { text })
+        }
+        Some(Task::Move) => {
+            let script = read_move(alloc, source)?;
+            Ok(Asked::Move { script })
         }
         None => Err(Outcome::BadWords),
     }

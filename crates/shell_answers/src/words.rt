@@ -24,6 +24,8 @@ pub enum Task {
     History { job: Job },
     /// Runs the script of a wire that the source has.
     Wire,
+    /// Carries out the script of Ejects that wander that the source has.
+    Move,
 }
 
 fn is_directory(word: &[u8]) -> bool
@@ -167,13 +169,28 @@ fn job_of(words: &Vec<String>) -> Option<Job>
     }
 }
 
-// `wire`
-fn is_wire(words: &Vec<String>) -> bool
-    ensures { IsTrue result ↔ (map string_bytes words.now.items ≡ codes "wire" ∷ []) }
+// Whether there is this word alone.
+fn is_alone(words: &Vec<String>, wanted: &str) -> bool
+    ensures { IsTrue result ↔ (map string_bytes words.now.items ≡ wanted.now ∷ []) }
 {
     match words.as_slice() {
-        [one] => is_word(one.as_str(), "wire"),
+        [one] => is_word(one.as_str(), wanted),
         _ => false,
+    }
+}
+
+// `wire`, `move`
+fn of_word(words: &Vec<String>) -> Option<Task>
+    ensures some { IfSome result (AsksFor (map string_bytes words.now.items)) }
+    ensures wire { IsNone result → AsksFor (map string_bytes words.now.items) Task.Wire → ⊥ }
+    ensures moves { IsNone result → AsksFor (map string_bytes words.now.items) Task.Move → ⊥ }
+{
+    if is_alone(words, "wire") {
+        Some(Task::Wire)
+    } else if is_alone(words, "move") {
+        Some(Task::Move)
+    } else {
+        None
     }
 }
 
@@ -182,8 +199,8 @@ pub fn task_of(words: &Vec<String>) -> Option<Task>
     ensures some { IfSome result (AsksFor (map string_bytes words.now.items)) }
     ensures none { IsNone result → (task : Duty) → AsksFor (map string_bytes words.now.items) task → ⊥ }
 {
-    if is_wire(words) {
-        return Some(Task::Wire);
+    if let Some(task) = of_word(words) {
+        return Some(task);
     }
     match job_of(words) {
         Some(job) => Some(Task::History { job }),

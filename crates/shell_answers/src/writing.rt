@@ -1,4 +1,4 @@
-//! What is written: the line of a refusal, or the text of a history.
+//! What is written: the line of a refusal, or the text of a history or of a log.
 ghost use Rattle.std.specs.Prelude.{◌≡◌, ◌≢◌, [], true, false};
 ghost use Rattle.std.specs.Io.KnownBytes.{Keeps};
 ghost use Rattle.eden_io.specs.Taken.{AppendsPart};
@@ -6,6 +6,7 @@ ghost use Rattle.journal.specs.Lines.{text_of};
 ghost use Rattle.shell_answers.specs.Answers.{Delivers, writing};
 ghost use Rattle.shell_answers.specs.Outcomes.{line_of};
 
+use crate::further::Further;
 use crate::outcome::{Outcome, add_line};
 use eden_io::{Sink, write_all};
 use journal::{History, Mode};
@@ -19,11 +20,27 @@ pub struct Carried {
     pub whole: bool,
 }
 
-/// How the call ended, and the history of the run.
+/// How the call ended, with the history of the run or the log of a script.
 #[derive(Drop)]
 pub struct Report {
     pub outcome: Outcome,
     pub history: History,
+    pub further: Further,
+}
+
+// A call without a history.
+fn told(alloc: Global, outcome: Outcome, further: Further) -> Report
+    ensures outcome { result.outcome ≡ outcome }
+    ensures history { result.history ≡ [] }
+    ensures further { result.further ≡ further }
+{
+    Report {
+        outcome,
+        history: History {
+            entries: Vec::new(alloc),
+        },
+        further,
+    }
 }
 
 // Writes the line of an outcome that comes before a run.
@@ -47,21 +64,19 @@ fn write_line<K: Sink>(alloc: Global, due: Outcome, sink: &mut K) -> Outcome
 pub fn refuse<K: Sink>(alloc: Global, due: Outcome, sink: &mut K) -> Report
     requires { due ≢ Outcome.WriteFault }
     ensures history { result.history ≡ [] }
+    ensures further { result.further ≡ Further.Nothing }
     ensures delivers { Delivers (writing K.written K.faults sink.old sink.new) due (line_of due) result.outcome }
     ensures nothing { result.outcome ≡ Outcome.OutOfMemory → Keeps (K.written sink.old) (K.written sink.new) }
     ensures memory { due ≡ Outcome.OutOfMemory → result.outcome ≡ Outcome.OutOfMemory }
 {
-    Report {
-        outcome: write_line(alloc, due, sink),
-        history: History {
-            entries: Vec::new(alloc),
-        },
-    }
+    let outcome = write_line(alloc, due, sink);
+    told(alloc, outcome, Further::Nothing)
 }
 
-/// Ends a call whose text is made: writes it. There is no history.
-pub fn deliver<K: Sink>(alloc: Global, text: &[u8], sink: &mut K) -> Report
+/// Ends a call whose text is made: writes it. There is no history; the log of a script is given back, if there is one.
+pub fn deliver<K: Sink>(alloc: Global, further: Further, text: &[u8], sink: &mut K) -> Report
     ensures history { result.history ≡ [] }
+    ensures further { result.further ≡ further }
     ensures delivers { Delivers (writing K.written K.faults sink.old sink.new) Outcome.Ran text.now result.outcome }
     ensures memory { result.outcome ≢ Outcome.OutOfMemory }
 {
@@ -69,17 +84,13 @@ pub fn deliver<K: Sink>(alloc: Global, text: &[u8], sink: &mut K) -> Report
         Ok(()) => Outcome::Ran,
         Err(_) => Outcome::WriteFault,
     };
-    Report {
-        outcome,
-        history: History {
-            entries: Vec::new(alloc),
-        },
-    }
+    told(alloc, outcome, further)
 }
 
 /// Ends a call behind a run: writes the text of what was carried out. Where that is not all, memory was wanted.
 pub fn conclude<K: Sink>(alloc: Global, mode: Mode, carried: Carried, sink: &mut K) -> Report
     ensures history { result.history ≡ carried.history }
+    ensures further { result.further ≡ Further.Nothing }
     ensures delivers { carried.whole ≡ true
         → Delivers (writing K.written K.faults sink.old sink.new) Outcome.Ran (text_of mode carried.history) result.outcome }
     ensures short { carried.whole ≡ false → result.outcome ≡ Outcome.OutOfMemory }
@@ -92,5 +103,9 @@ pub fn conclude<K: Sink>(alloc: Global, mode: Mode, carried: Carried, sink: &mut
         Err(WriteRefusal::Failed) => Outcome::WriteFault,
         Err(WriteRefusal::OutOfMemory) => Outcome::OutOfMemory,
     };
-    Report { outcome, history }
+    Report {
+        outcome,
+        history,
+        further: Further::Nothing,
+    }
 }

@@ -37,7 +37,8 @@ fn call_of(
     }
 }
 
-const USAGE: &str = "usage: eden run [--trace] | host DIR [--trace] | gen N | wire | run --full\n";
+const USAGE: &str =
+    "usage: eden run [--trace] | host DIR [--trace] | gen N | wire | run --full | move\n";
 
 const NO_COMMAND: Outcome = Outcome::BadScript {
     line: 1,
@@ -58,6 +59,24 @@ const AGAIN: &str = "stations 2\nagain 1 2\nsend 1 2 7\nagain 1 2\ncarry 1 2 2\n
 
 const SENT_AGAIN: &str = "nothing\n2 from 1 7\nno packet\n1 2 sent 1 known 0 delivered 1\n";
 
+/// A script of an Eject that wanders, whose letter comes twice, and what it writes.
+const WANDERS: &str =
+    "nodes 2\nmake 1 1 5\nmove 1 1.1.1 2\nwake 1 1.1.1\ncarry 1 2 1\nwake 2 1.1.1\nsave 2 1.1.1 6\n\
+    carry 1 2 1\ncarry 2 1 1\nwake 1 1.1.1\nend\n";
+
+const WANDERED: &str =
+    "1 1.1.1 made\n1 1.1.1 lent 2\n1 1.1.1 refused lent 2\n2 1.1.1 here\n2 1.1.1 active 5\n\
+    2 1.1.1 saved\n2 1.1.1 ignored\n1 1.1.1 gone 2\n1 1.1.1 refused gone 2\n";
+
+/// One whose node goes down while it lends, and what it writes.
+const LENDS: &str =
+    "nodes 2\nmake 1 1 5\nstop 1 4 keep\nmove 1 1.1.1 2\nrestart 1\nwake 1 1.1.1\nagain 1 1.1.1\n\
+    carry 1 2 1\nwake 2 1.1.1\nend\n";
+
+const LENT: &str =
+    "1 1.1.1 made\nnode 1 down stop\nnode 1 up\n1 1.1.1 refused lent 2\n1 1.1.1 sent\n\
+    2 1.1.1 here\n2 1.1.1 active 5\n";
+
 /// The words, the script and its size, the outcome and its status, and what is written.
 const CALLS: &[(&[&str], (&str, usize), Outcome, u8, &str)] = &[
     (&["run"], (SCRIPT, 0), Outcome::Ran, 0, TRANSCRIPT),
@@ -75,6 +94,15 @@ const CALLS: &[(&[&str], (&str, usize), Outcome, u8, &str)] = &[
     (
         &["wire"],
         (SCRIPT, 0),
+        NO_COMMAND,
+        3,
+        "bad script line 1: no command\n",
+    ),
+    (&["move"], (WANDERS, 0), Outcome::Ran, 0, WANDERED),
+    (&["move"], (LENDS, 0), Outcome::Ran, 0, LENT),
+    (
+        &["move"],
+        (AGAIN, 0),
         NO_COMMAND,
         3,
         "bad script line 1: no command\n",
@@ -130,6 +158,9 @@ const ENDS: &[(&[&str], &str, (&[u32], &[u32]), Outcome, usize, usize)] = &[
     (&["wire"], AGAIN, (&[], &[]), Outcome::Ran, 0, 1),
     (&["wire"], AGAIN, (&[1], &[]), Outcome::ReadFault, 0, 0),
     (&["wire"], AGAIN, (&[], &[1]), Outcome::WriteFault, 0, 0),
+    (&["move"], WANDERS, (&[], &[]), Outcome::Ran, 0, 1),
+    (&["move"], WANDERS, (&[1], &[]), Outcome::ReadFault, 0, 0),
+    (&["move"], WANDERS, (&[], &[1]), Outcome::WriteFault, 0, 0),
 ];
 
 /// Whether the call ended so, with so many entries and bytes or more.

@@ -49,6 +49,9 @@ const WORDS: &[(&[&str], Option<Task>, Option<&str>)] = &[
     (&["gen", ""], None, None),
     (&["wire"], Some(Task::Wire), None),
     (&["wire", "--trace"], None, None),
+    (&["move"], Some(Task::Move), None),
+    (&["move", "--trace"], None, None),
+    (&["Move"], None, None),
     (&["--version"], None, None),
 ];
 
@@ -73,6 +76,8 @@ enum Read<'a> {
     Script(Job, u8),
     /// What the script of a wire writes.
     Wire(&'a str),
+    /// The numbers of nodes and of commands of a script of Ejects that wander.
+    Moves(u8, usize),
     /// No script: why, the outcome of the call and its status, and what is written.
     Refused(Outcome, Outcome, u8, &'a str),
 }
@@ -94,6 +99,9 @@ fn is_asked(asked: Asked, wanted: Read) -> bool {
             job == other && script.nodes == nodes
         }
         (Asked::Wire { text }, Read::Wire(other)) => text.as_slice() == other.as_bytes(),
+        (Asked::Move { script }, Read::Moves(nodes, count)) => {
+            script.nodes == nodes && script.commands.len() == count
+        }
         _ => false,
     }
 }
@@ -175,6 +183,24 @@ const READINGS: &[Reading<'static>] = &[
     (
         &["wire"],
         "stations 2\n",
+        (&[], &[]),
+        Read::Refused(NO_END, NO_END, 3, "bad script line 2: no end\n"),
+    ),
+    (
+        &["move"],
+        "nodes 2\nmake 1 1 5\nmove 1 1.1.1 2\nend\n",
+        (&[], &[]),
+        Read::Moves(2, 2),
+    ),
+    (
+        &["move"],
+        "stations 2\nend\n",
+        (&[], &[]),
+        Read::Refused(NO_COMMAND, NO_COMMAND, 3, "bad script line 1: no command\n"),
+    ),
+    (
+        &["move"],
+        "nodes 2\n",
         (&[], &[]),
         Read::Refused(NO_END, NO_END, 3, "bad script line 2: no end\n"),
     ),

@@ -6,11 +6,11 @@ use Rattle.answer_laws.proofs.Besides.{besides, eight-runs}
 use Rattle.answer_laws.proofs.law.answers_hold_besides.Goals as goal
 
 pub returns-clause-handed_in : goal.returns-clause-handed_in
-returns-clause-handed_in c = λ call outcome history blocks eight telling handed answers. besides c.legal_runs_hold_besides.ensures.whole
-    c.legal_runs_hold_besides.ensures.so_far call history blocks eight telling handed outcome answers
+returns-clause-handed_in c = λ call outcome history more blocks eight telling handed answers. besides c.legal_runs_hold_besides.ensures.whole
+    c.legal_runs_hold_besides.ensures.so_far call history blocks eight telling handed outcome more answers
 
 pub returns-clause-blank : goal.returns-clause-blank
-returns-clause-blank c = λ words source sink before after outcome history some given blank answers.
+returns-clause-blank c = λ words source sink before after outcome history more some given blank answers.
     besides c.legal_runs_hold_besides.ensures.whole c.legal_runs_hold_besides.ensures.so_far
     (call_over words source sink before after) history refl (eight-runs before after some given) refl
-    (blank_in_memory before after most_changes (omega arith) blank) outcome answers
+    (blank_in_memory before after most_changes (omega arith) blank) outcome more answers
