@@ -13,6 +13,7 @@ use Rattle.twin_store.specs.Footings.{Footing, Standing, TooMuch, MayFind, IsFoo
 use Rattle.twin_store.specs.Footings.{Damaged as DamagedFrom}
 use Rattle.twin_store.specs.Serving.{Same}
 use Rattle.twin_store.specs.Sides.{SideSeen, InUse, Away, is_in_use, disk_of, SideGoes, IsOpenedSide, IsOpenedBy, IsLostDisk}
+use Rattle.twin_store.specs.Sides.{RoseOnce}
 use Rattle.twin_store.proofs.Serving.{leaves_sure}
 use Rattle.twin_store.proofs.Vouching.{one_of, found_in}
 use Rattle.twin_store.proofs.Going.{used_or_not}
@@ -100,3 +101,12 @@ opened_behind tells layout node old mid new o g = record {
   used = λ on. let mid_on : is_in_use mid ≡ true = g.left on in g.same (on ∙ sym mid_on) ∙ o.used mid_on;
   away = λ off. lost_behind tells layout node old mid new o g off;
 }
+
+pub rose_by : (tells : Bool) (layout : Layout) (node : ℕ) (old : DiskSeen) (new : SideSeen) → IsOpenedBy tells layout node old new
+    → RoseOnce old (disk_of new)
+rose_by tells layout node old new o = one_of (used_or_not (is_in_use new)) (λ on. inl (o.used on))
+    (λ off. one_of (o.away off) (λ e. inr e) (λ r. inl r.0))
+
+pub rose_in : (tells : Bool) (layout : Layout) (node : ℕ) (old one : DiskSeen) (new : SideSeen) → one ≡ disk_of new
+    → IsOpenedBy tells layout node old new → RoseOnce old one
+rose_in tells layout node old one new is o = subst (RoseOnce old) (sym is) (rose_by tells layout node old new o)

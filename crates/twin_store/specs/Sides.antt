@@ -3,7 +3,8 @@ use Rattle.std.specs.Prelude.{◌≡◌, ◌⊎◌, ℕ, ◌≤◌, Bool, true, 
 use Rattle.std.specs.Prelude.{Result, Ok, Err, OnOk, IfErr, IfOk, IfSome}
 use Rattle.std.specs.FinMap as map
 use Rattle.capability.specs.declared.Uid.{Uid}
-use Rattle.eden_disk.specs.Calls.{one_more}
+use Rattle.eden_disk.specs.Calls.{one_more, armed}
+use Rattle.eden_disk.specs.declared.disk.Arm.{Arm}
 use Rattle.eden_disk.specs.Told.{contents}
 use Rattle.passive_store.specs.Kept.{Layout, IsEject, IsOwn, IsNextOf, reserved_uid}
 use Rattle.passive_store.specs.Layout.{IsLayout}
@@ -166,3 +167,16 @@ AllClear all node source m = (uid : Uid) → IsEject node uid → IsClear all so
 -- The next uid of an Eject behind this one, or the first, under which something is kept.
 abbrev pub IsNextOn : ℕ → SideSeen → Option Uid → Option Uid → Type 0
 IsNextOn node side from next = IsNextOf (λ uid. is_some (map.get (bodies_on side) uid)) (reserved_uid node) from next
+
+-- A disk was asked for a failure or a stop, and nothing else: all that changes is what falls due.
+pub record SideArms (tells obeys : Bool) (what : Arm) (old new : SideSeen) : Type 0 where
+  pub used : is_in_use new ≡ is_in_use old
+  pub counts : (disk_of new).counts ≡ (disk_of old).counts
+  pub told : (disk_of new).told ≡ (disk_of old).told
+  pub due : IsTrue obeys → (disk_of new).due ≡ armed what (disk_of old).counts.clock (disk_of old).due
+  pub kept : IsTrue tells → bodies_on new ≡ bodies_on old
+  pub ready : (node : ℕ) → IsSideReady node old → IsSideReady node new
+
+-- the count of faults of a disk is as it was, or rose by one
+abbrev pub RoseOnce : DiskSeen → DiskSeen → Type 0
+RoseOnce old new = (new.counts.faults ≡ old.counts.faults) ⊎ (new.counts.faults ≡ one_more old.counts.faults)

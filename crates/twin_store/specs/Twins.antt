@@ -15,7 +15,8 @@ use Rattle.twin_store.specs.Vouched.{Bodies, SameEjects, changed_by, generation_
 use Rattle.twin_store.specs.Footings.{Finds, IsMapped, IfMapped, AreVouched}
 use Rattle.twin_store.specs.Serving.{IsPassedOn, IfFound, Same}
 use Rattle.twin_store.specs.Sides.{SideSeen, InUse, Away, side_seen, is_in_use, disk_of, bodies_on, IsSideReady, IsReadyBy, IsKept, IsSound}
-use Rattle.twin_store.specs.Sides.{SideGoes}
+use Rattle.twin_store.specs.Sides.{SideGoes, SideArms}
+use Rattle.eden_disk.specs.declared.disk.Arm.{Arm}
 use Rattle.twin_store.specs.Sides.{IsOpenedBy, SideMoves, Bore}
 use Rattle.twin_store.specs.Copies.{IsAtRest}
 
@@ -309,3 +310,10 @@ pub record IsOpenedTwin (tells : Bool) (layout : Layout) (node : ℕ) (first sec
 abbrev pub StaysVouched : Bool → Layout → ℕ → DiskSeen → DiskSeen → DiskSeen → DiskSeen → Type 0
 StaysVouched tells layout node first one second two = IsTrue tells → IsLayout layout → (v : Vow) → v.node ≡ node → IsOwnChange node v.begun
     → AreVouched layout v first.told second.told → AreVouched layout (spared v first one second two) one.told two.told
+
+-- The second disk, where that is true, or the first was asked for a failure or a stop, and all else is as it was.
+abbrev pub TwinArms : Bool → Bool → Bool → Arm → TwinSeen → TwinSeen → Type 0
+TwinArms tells obeys true what old new =
+    SideArms tells obeys what old.second new.second × (new ≡ pair old.node old.generation old.first new.second)
+TwinArms tells obeys false what old new =
+    SideArms tells obeys what old.first new.first × (new ≡ pair old.node old.generation new.first old.second)

@@ -8,6 +8,7 @@ ghost use Rattle.passive_store.specs.Seen.{asked, disk_seen};
 ghost use Rattle.twin_store.specs.Serving.{IfFound, IsPassedOn};
 ghost use Rattle.twin_store.specs.Footings.{Footing, IsFooted};
 ghost use Rattle.twin_store.specs.Sides.{side_seen, is_in_use, disk_of, bodies_on, IsSideReady, SideServes, IsOpenedSide, IsNextOn};
+ghost use Rattle.twin_store.specs.Sides.{SideArms};
 
 use crate::served::{TwinRefusal, delete_in, get_in, put_in};
 use capability::{Body, Uid};
@@ -132,10 +133,23 @@ impl<St: Store> Side<St> {
     /// Hands a request for a failure or a stop to the disk, in use or not.
     pub(crate) fn arm(&mut self, what: Arm)
         requires { 1 ≤ calls_until what }
+        ensures { let of = side_seen St.seen (disk_seen St.Device.counts St.Device.told St.Device.due) in
+            SideArms St.Device.tells St.Device.obeys what (of self.old) (of self.new) }
     {
         match self {
             Side::Opened { store, .. } => store.disk_mut_arm(what),
             Side::Shut { disk } => disk.arm(what),
+        }
+    }
+
+    /// How many device calls of the disk failed.
+    pub(crate) fn faults(&self) -> u64
+        ensures { let look = disk_seen St.Device.counts St.Device.told St.Device.due in
+            result ≡ (disk_of (side_seen St.seen look self.now)).counts.faults }
+    {
+        match self {
+            Side::Opened { store, .. } => store.disk().faults(),
+            Side::Shut { disk } => disk.faults(),
         }
     }
 

@@ -7,6 +7,8 @@ ghost use Rattle.passive_store.specs.Seen.{asked, disk_seen};
 ghost use Rattle.twin_store.specs.Sides.{is_in_use, disk_of, IsLostDisk};
 ghost use Rattle.twin_store.specs.Twins.{twin_seen, IsTwinReady, LooksFirst, TwinGets, TwinChanges, ChangesFirst, ChangesSecond};
 ghost use Rattle.twin_store.specs.Twins.{AreReady, TwinMoves, TwinGoes, IsOpenedTwin, StaysVouched, AreAtRest, ReadsBoth, IsLess};
+ghost use Rattle.twin_store.specs.Sides.{RoseOnce};
+ghost use Rattle.twin_store.specs.Twins.{TwinArms};
 ghost use Rattle.twin_store.specs.Twins.{AreRead, IsEven, IsBrought, IsLevel, Levels, Agrees};
 
 use crate::copying::copy;
@@ -55,6 +57,10 @@ impl<St: Store> TwinStore<St> {
         // Behind a refusal both disks vouch for what they vouched for before it.
         ensures vouched { let look = disk_seen St.Device.counts St.Device.told St.Device.due in
             IfErr result (λ r. StaysVouched St.Device.tells St.layout node (look first) (look r.0) (look second) (look r.1)) }
+
+        // The count of faults of each disk is as it was, or rose by one.
+        ensures counts { let look = disk_seen St.Device.counts St.Device.told St.Device.due in
+            IfErr result (λ r. RoseOnce (look first) (look r.0) × RoseOnce (look second) (look r.1)) }
     {
         let first = match Side::open(alloc, first, node) {
             Ok(side) => side,
@@ -88,7 +94,7 @@ impl<St: Store> TwinStore<St> {
             TwinChanges St.Device.tells St.layout (Option.Some (asked uid (Option.Some body.now))) result (of self.old) (of self.new) }
     {
         let length = body.len();
-        if !(self.first.has_room(length) && self.second.has_room(length)) {
+        if !self.has_room(length) {
             return Err(TwinRefusal::Full);
         }
         self.put_first(alloc, uid, body)?;
@@ -250,9 +256,24 @@ impl<St: Store> TwinStore<St> {
         (self.first.in_use(), self.second.in_use())
     }
 
+    /// How many device calls of the first disk failed, and how many of the second.
+    pub fn faults(&self) -> (u64, u64)
+        ensures { let t = twin_seen St.seen (disk_seen St.Device.counts St.Device.told St.Device.due) self.now in
+            (result.0 ≡ (disk_of t.first).counts.faults) × (result.1 ≡ (disk_of t.second).counts.faults) }
+    {
+        (self.first.faults(), self.second.faults())
+    }
+
+    /// Whether each disk in use says that a body of this length has room. It makes no device call.
+    pub fn has_room(&self, length: usize) -> bool {
+        self.first.has_room(length) && self.second.has_room(length)
+    }
+
     /// Hands a request for a failure or a stop to the second disk, or to the first, in use or not.
     pub fn arm(&mut self, second: bool, what: Arm)
         requires { 1 ≤ calls_until what }
+        ensures { let of = twin_seen St.seen (disk_seen St.Device.counts St.Device.told St.Device.due) in
+            TwinArms St.Device.tells St.Device.obeys second what (of self.old) (of self.new) }
     {
         if second {
             self.second.arm(what);

@@ -17,7 +17,7 @@ changes-as tells layout n c (Ok done) old new some l so =
     λ p m e s noted. made-is-step layout n p m c e old new some s
     (subst (λ b. TwinChanges {T = Unit {0}} b layout (asked_by n (Some c)) (Ok tt) old new) so l) noted
 changes-as tells layout n c (Err r) old new some l so =
-    λ full memory p m e s noted. refused-is-step layout n p m c r e old new some full memory s
+    λ memory p m e s noted. refused-is-step layout n p m c r e old new some memory s
     (subst (λ b. TwinChanges {T = Unit {0}} b layout (asked_by n (Some c)) (Err r) old new) so l) noted
 
 pub looks-as : (tells : Bool) (layout : Layout) (n serial : ℕ) (r : Result (Option (List ℕ)) TwinRefusal) (old new : TwinSeen)

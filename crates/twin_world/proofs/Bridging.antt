@@ -9,7 +9,7 @@ use Rattle.capability.specs.declared.Uid.{Uid}
 use Rattle.passive_store.specs.Kept.{Layout, IsEject, bodies_after}
 use Rattle.passive_store.specs.Seen.{DiskSeen, Asked}
 use Rattle.twin_store.specs.declared.served.TwinRefusal.{TwinRefusal}
-use Rattle.twin_store.specs.declared.served.TwinRefusal.TheVariants.{Lost, Stopped, Full, GenerationsSpent, OutOfMemory}
+use Rattle.twin_store.specs.declared.served.TwinRefusal.TheVariants.{Lost, OutOfMemory}
 use Rattle.twin_store.specs.Vouched.{Bodies, IsOwnChange}
 use Rattle.twin_store.specs.Footings.{AreVouched}
 use Rattle.twin_store.specs.Sides.{SideSeen, is_in_use, disk_of, SideGoes}
@@ -18,7 +18,7 @@ use Rattle.twin_store.proofs.Vouching.{same_or_not, other, one_of}
 use Rattle.twin_store.proofs.Finding.{at_change}
 use Rattle.twin_store.proofs.Changing.{still_vouched}
 use Rattle.twin_world.specs.Logs.{Entry, Texts, SameTexts, Change, texts_after, Pair, left_by, closed_by}
-use Rattle.twin_world.specs.Logs.{refused_by, served_by, MayRefuse}
+use Rattle.twin_world.specs.Logs.{served_by, MayRefuse}
 use Rattle.twin_world.specs.InHand.{uid_of, texts_in, asked_by, Serves, Rests, has_left, IsNoted}
 use Rattle.twin_world.specs.Steps.{MadeIsStep, RefusedIsStep, FoundIsStep, UnseenIsStep, ClosingIsStep}
 
@@ -131,20 +131,10 @@ may-refuse layout n p m e r old new memory s goes noted = record {
   );
 }
 
--- a refusal but for want of room closes the pair
-closes-by : (r : TwinRefusal) (c : Option Change) (e : Entry) (p : Pair) → r ≢ Full → refused_by r c e p ≡ closed_by c e p
-closes-by Full c e p not-full = absurd (not-full refl)
-closes-by Lost c e p not-full = refl
-closes-by Stopped c e p not-full = refl
-closes-by GenerationsSpent c e p not-full = refl
-closes-by OutOfMemory c e p not-full = refl
-
 pub refused-is-step : RefusedIsStep
-refused-is-step = λ layout n p m c r e old new some not-full memory s l noted. (
+refused-is-step = λ layout n p m c r e old new some memory s l noted. (
   (may-refuse layout n p m e r old new memory s l.goes noted, λ serial. refl),
-  subst (λ q. Rests layout n q m (disk_of new.first) (disk_of new.second)) (sym (closes-by r (Some c) e p not-full))
-      (refused layout n p m (Some c) e r old new (own n c.serial some) s l.goes noted
-      (λ is. l.vouched refl s.bodies s.holds (s.sure is))),
+  refused layout n p m (Some c) e r old new (own n c.serial some) s l.goes noted (λ is. l.vouched refl s.bodies s.holds (s.sure is)),
 )
 
 -- 5. Looks

@@ -2,3 +2,11 @@ pub mod Sparing
 pub mod Bridging
 pub mod Opening
 pub mod Asking
+pub mod Leaving
+pub mod Acting
+pub mod Moving
+pub mod Runs
+pub mod Spelled
+pub mod Meaning
+pub mod Scripted
+pub mod Beginning

@@ -1,15 +1,12 @@
 -- Where one disk is spared, it gives what was acknowledged.
 use Rattle.std.proofs.Common.{◌≡◌, ◌⊎◌, inl, inr, ℕ, Bool, true, false, List, [], ◌∷◌, Option, None, Some, refl, sym, subst, ◌∙◌}
 use Rattle.std.specs.Prelude.{◌==◌, ◌&&◌, ◌||◌, not, if◌then◌else◌}
-use Rattle.twin_store.specs.declared.served.TwinRefusal.{TwinRefusal}
-use Rattle.twin_store.specs.declared.served.TwinRefusal.TheVariants.{Lost, Stopped, Full, GenerationsSpent, OutOfMemory}
 use Rattle.twin_world.specs.Commands.{Command, opens, puts, gets, deletes, closes, blanks, fails, stops, is_second}
-use Rattle.twin_world.specs.Logs.{Answer, WrongState, Opened, Made, Found, Refused, CutShort, Entry, Change, Texts, SameTexts}
-use Rattle.twin_world.specs.Logs.{texts_after, Pair, blank_pair, left_by, is_claimed, closed_by, served_by, opened_by, refused_by}
+use Rattle.twin_world.specs.Logs.{Answer, WrongState, Opened, Made, Found, NoRoom, Refused, CutShort, Entry, Change, Texts, SameTexts}
+use Rattle.twin_world.specs.Logs.{texts_after, Pair, blank_pair, left_by, is_claimed, closed_by, served_by, opened_by}
 use Rattle.twin_world.specs.Logs.{changed_by, put_of, delete_of, behind, Opens, ChangesSo, LooksSo, Leads, known_behind, Steps}
 use Rattle.twin_world.specs.Logs.{is_of, Follows, no_texts, InState, OpensSo, BlanksSo, IsDone, looked_by, open_by, shut_by, blanked_by}
 use Rattle.twin_world.specs.Laws.{of_disk, IsNotBlanked, Spares, AllSpare, Choices, IsAmong, none_at_first, with_made, with_begun}
-use Rattle.twin_world.specs.Laws.{with_refused}
 use Rattle.twin_world.specs.Laws.{with_answer, with_command, with_entry, IsKept, AllKept, OneDiskIsEnough}
 
 -- 1. What stays so
@@ -167,19 +164,12 @@ begun-closed second may p m x e c s spare same =
     let held = same-among m x None may same s.held in
     closed second may (with_begun c may) p m x e c s spare (begun-held x c may held) (begun-too x c may held)
 
-refused : (second : Bool) (may : Choices) (p : Pair) (m x : Texts) (e : Entry) (c : Option Change) (r : TwinRefusal)
-    → Stays second may p m → Spares second e → SameTexts x m → Stays second (with_refused r c may) (refused_by r c e p) x
-refused second may p m x e c Full s spare same = stays-same second may p m x same s
-refused second may p m x e c Lost s spare same = begun-closed second may p m x e c s spare same
-refused second may p m x e c Stopped s spare same = begun-closed second may p m x e c s spare same
-refused second may p m x e c GenerationsSpent s spare same = begun-closed second may p m x e c s spare same
-refused second may p m x e c OutOfMemory s spare same = begun-closed second may p m x e c s spare same
-
 changes : (second : Bool) (may : Choices) (c : Option Change) (a : Answer) (p : Pair) (m x : Texts) (e : Entry) → Stays second may p m
     → Spares second e → InState true p.is_open a m x (ChangesSo c a e p m x) → Stays second (with_answer c a may) (changed_by c a e p) x
 changes second may c WrongState p m x e s spare l = stays-same second may p m x l.1 s
 changes second may c Made p m x e s spare l = served second may (with_made c may) p m x e s l.0 spare (made-among m x c may l.1 s.held)
-changes second may c (Refused r) p m x e s spare l = refused second may p m x e c r s spare l.1.1
+changes second may c (Refused r) p m x e s spare l = begun-closed second may p m x e c s spare l.1.1
+changes second may c NoRoom p m x e s spare l = stays-same second may p m x l.1 s
 changes second may c (Opened first other) p m x e s spare l = absurd l.1
 changes second may c (Found text) p m x e s spare l = absurd l.1
 changes second may c (CutShort stopped) p m x e s spare l = absurd l.1
@@ -197,6 +187,7 @@ looks second may n serial (Refused r) p m x e s spare l =
 looks second may n serial Made p m x e s spare l = absurd l.1
 looks second may n serial (Opened first other) p m x e s spare l = absurd l.1
 looks second may n serial (CutShort stopped) p m x e s spare l = absurd l.1
+looks second may n serial NoRoom p m x e s spare l = absurd l.1
 
 opens-so : (second : Bool) (may : Choices) (n : ℕ) (a : Answer) (p : Pair) (m x : Texts) (e : Entry) → Stays second may p m
     → Spares second e → InState false p.is_open a m x (OpensSo a e p m x)
@@ -210,6 +201,7 @@ opens-so second may n (Refused r) p m x e s spare l = (
 opens-so second may n Made p m x e s spare l = absurd l.1
 opens-so second may n (Found text) p m x e s spare l = absurd l.1
 opens-so second may n (CutShort stopped) p m x e s spare l = absurd l.1
+opens-so second may n NoRoom p m x e s spare l = absurd l.1
 
 -- 4. Closings and blankings
 
@@ -232,6 +224,7 @@ closes-so second may (Opened first other) p m x s l = absurd l.1
 closes-so second may (Found text) p m x s l = absurd l.1
 closes-so second may (Refused r) p m x s l = absurd l.1
 closes-so second may (CutShort stopped) p m x s l = absurd l.1
+closes-so second may NoRoom p m x s l = absurd l.1
 
 -- the other disk was blanked
 blank-vouches : (second other a b : Bool) → other ≡ not second → of_disk second a b ≡ true
@@ -262,6 +255,7 @@ blanks-so second other may d (CutShort stopped) p m x is s spare l = absurd spar
 blanks-so second other may d (Opened first third) p m x is s spare l = absurd l.1
 blanks-so second other may d (Found text) p m x is s spare l = absurd l.1
 blanks-so second other may d (Refused r) p m x is s spare l = absurd l.1
+blanks-so second other may d NoRoom p m x is s spare l = absurd l.1
 
 armed : (second : Bool) (may : Choices) (a : Answer) (p : Pair) (m x : Texts) → Stays second may p m → IsDone a m x → Stays second may p x
 armed second may Made p m x s l = stays-same second may p m x l s
@@ -270,6 +264,7 @@ armed second may (Opened first other) p m x s l = absurd l
 armed second may (Found text) p m x s l = absurd l
 armed second may (Refused r) p m x s l = absurd l
 armed second may (CutShort stopped) p m x s l = absurd l
+armed second may NoRoom p m x s l = absurd l
 
 -- 5. Logs
 

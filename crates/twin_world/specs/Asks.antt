@@ -2,17 +2,17 @@
 use Rattle.std.specs.Prelude.{◌≢◌, ℕ, List, Option, Some, Result, Ok, Err}
 use Rattle.passive_store.specs.Kept.{Layout}
 use Rattle.twin_store.specs.declared.served.TwinRefusal.{TwinRefusal}
-use Rattle.twin_store.specs.declared.served.TwinRefusal.TheVariants.{Full, OutOfMemory}
+use Rattle.twin_store.specs.declared.served.TwinRefusal.TheVariants.{OutOfMemory}
 use Rattle.twin_store.specs.Sides.{disk_of}
 use Rattle.twin_store.specs.Twins.{TwinSeen}
 use Rattle.twin_world.specs.Logs.{Made, Found, Refused, Entry, Texts, Change, texts_after, Pair, changed_by, looked_by, ChangesSo, LooksSo}
 use Rattle.twin_world.specs.InHand.{Serves, Rests, IsNoted}
 
--- A change is a step of its command, from whatever pair the twin stands for, but where it found no room.
+-- A change is a step of its command, from whatever pair the twin stands for.
 abbrev pub ChangesAs : Layout → ℕ → Change → Result (Unit {0}) TwinRefusal → TwinSeen → TwinSeen → Type 0
 ChangesAs layout n c (Ok done) old new = (p : Pair) (m : Texts) (e : Entry) → Serves layout n p m old → IsNoted e old new
     → ChangesSo (Some c) Made e p m (texts_after (Some c) m) × Serves layout n (changed_by (Some c) Made e p) (texts_after (Some c) m) new
-ChangesAs layout n c (Err r) old new = r ≢ Full → r ≢ OutOfMemory → (p : Pair) (m : Texts) (e : Entry) → Serves layout n p m old
+ChangesAs layout n c (Err r) old new = r ≢ OutOfMemory → (p : Pair) (m : Texts) (e : Entry) → Serves layout n p m old
     → IsNoted e old new
     → ChangesSo (Some c) (Refused r) e p m m
     × Rests layout n (changed_by (Some c) (Refused r) e p) m (disk_of new.first) (disk_of new.second)

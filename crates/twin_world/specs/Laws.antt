@@ -1,7 +1,5 @@
 -- What holds of every log.
 use Rattle.std.specs.Prelude.{◌≡◌, ◌⊎◌, ℕ, ◌==◌, not, Bool, true, false, List, [], ◌∷◌, Option, None, Some, if◌then◌else◌}
-use Rattle.twin_store.specs.declared.served.TwinRefusal.{TwinRefusal}
-use Rattle.twin_store.specs.declared.served.TwinRefusal.TheVariants.{Lost, Stopped, Full, GenerationsSpent, OutOfMemory}
 use Rattle.twin_world.specs.Commands.{Command, opens, puts, gets, deletes, blanks, is_second}
 use Rattle.twin_world.specs.Logs.{Answer, Opened, Made, Found, Refused, CutShort, Entry, Log, Change, put_of, delete_of, is_of, IsLegalTwin}
 
@@ -51,18 +49,10 @@ abbrev pub with_begun : Option Change → Choices → Choices
 with_begun None may = may
 with_begun (Some c) may = λ serial. if serial == c.serial then c.text ∷ may serial else may serial
 
--- one that finds no room is not begun
-abbrev pub with_refused : TwinRefusal → Option Change → Choices → Choices
-with_refused Full c may = may
-with_refused Lost c may = with_begun c may
-with_refused Stopped c may = with_begun c may
-with_refused GenerationsSpent c may = with_begun c may
-with_refused OutOfMemory c may = with_begun c may
-
--- behind a change, by its answer
+-- behind a change, by its answer; one for which there is no room is not begun
 abbrev pub with_answer : Option Change → Answer → Choices → Choices
 with_answer c Made may = with_made c may
-with_answer c (Refused r) may = with_refused r c may
+with_answer c (Refused r) may = with_begun c may
 with_answer c _ may = may
 
 -- behind a command, by its answer

@@ -2,7 +2,7 @@
 use Rattle.std.specs.Prelude.{◌≡◌, ◌≢◌, ◌⊎◌, ℕ, ◌==◌, ◌&&◌, ◌||◌, not, Bool, true, false, List, [], ◌∷◌, Option, None, Some}
 use Rattle.std.specs.Prelude.{if◌then◌else◌}
 use Rattle.twin_store.specs.declared.served.TwinRefusal.{TwinRefusal}
-use Rattle.twin_store.specs.declared.served.TwinRefusal.TheVariants.{Lost, Stopped, Full, GenerationsSpent, OutOfMemory}
+use Rattle.twin_store.specs.declared.served.TwinRefusal.TheVariants.{Lost, OutOfMemory}
 use Rattle.twin_world.specs.Commands.{Command, opens, puts, gets, deletes, closes, blanks, fails, stops, node_of, is_second, IsInReach}
 
 -- 1. Answers
@@ -17,6 +17,8 @@ pub data Answer : Type 0 where
   Made : Answer
   -- the text under the uid, or none
   Found : Option (List ℕ) → Answer
+  -- a disk in use has no room for the change: nothing is asked of it
+  NoRoom : Answer
   Refused : TwinRefusal → Answer
   -- a call failed, or was stopped, as the disk was blanked
   CutShort : (stopped : Bool) → Answer
@@ -137,14 +139,6 @@ opened_by first second e p = record {
   sure = (first && second) || is_claimed p e;
 }
 
--- a change that finds no room leaves the pair as it was, and any other refusal closes it
-abbrev pub refused_by : TwinRefusal → Option Change → Entry → Pair → Pair
-refused_by Full begun e p = p
-refused_by Lost begun e p = closed_by begun e p
-refused_by Stopped begun e p = closed_by begun e p
-refused_by GenerationsSpent begun e p = closed_by begun e p
-refused_by OutOfMemory begun e p = closed_by begun e p
-
 -- a disk that was blanked vouches no more
 abbrev pub blanked : Bool → Bool → Pair → Pair
 blanked second spoiled p =
@@ -154,9 +148,9 @@ blanked second spoiled p =
       spoiled = p.spoiled || spoiled;
     }
 
--- what a change leaves of the pair, by its answer
+-- what a change leaves of the pair, by its answer: one for which there is no room leaves it as it was
 abbrev pub changed_by : Option Change → Answer → Entry → Pair → Pair
-changed_by c (Refused r) e p = refused_by r c e p
+changed_by c (Refused r) e p = closed_by c e p
 changed_by c Made e p = served_by e p
 changed_by c _ e p = p
 
@@ -233,6 +227,7 @@ OpensSo _ e p m x = ⊥
 abbrev pub ChangesSo : Option Change → Answer → Entry → Pair → Texts → Texts → Type 0
 ChangesSo c Made e p m x = SameTexts x (texts_after c m)
 ChangesSo c (Refused r) e p m x = MayRefuse r e p × SameTexts x m
+ChangesSo c NoRoom e p m x = SameTexts x m
 ChangesSo c _ e p m x = ⊥
 
 -- a look that is not refused gives what is held

@@ -6,7 +6,7 @@ use Rattle.passive_store.specs.Kept.{Layout}
 use Rattle.passive_store.specs.Layout.{IsLayout}
 use Rattle.passive_store.specs.Seen.{DiskSeen}
 use Rattle.twin_store.specs.declared.served.TwinRefusal.{TwinRefusal}
-use Rattle.twin_store.specs.declared.served.TwinRefusal.TheVariants.{Full, OutOfMemory}
+use Rattle.twin_store.specs.declared.served.TwinRefusal.TheVariants.{OutOfMemory}
 use Rattle.twin_store.specs.Sides.{is_in_use, disk_of}
 use Rattle.twin_store.specs.Twins.{TwinSeen, TwinChanges, TwinGets, IsOpenedTwin, StaysVouched}
 use Rattle.twin_world.specs.Logs.{Opened, Made, Refused, Entry, Texts, Change, texts_after, Pair, changed_by}
@@ -19,10 +19,10 @@ MadeIsStep = (layout : Layout) (n : ℕ) (p : Pair) (m : Texts) (c : Change) (e 
     → Serves layout n p m old → TwinChanges {T = Unit {0}} true layout (asked_by n (Some c)) (Ok tt) old new → IsNoted e old new
     → ChangesSo (Some c) Made e p m (texts_after (Some c) m) × Serves layout n (changed_by (Some c) Made e p) (texts_after (Some c) m) new
 
--- One that is refused, but for want of room or of memory, closes the pair, and is begun.
+-- One that is refused, but for want of memory, closes the pair, and is begun.
 abbrev pub RefusedIsStep : Type 0
 RefusedIsStep = (layout : Layout) (n : ℕ) (p : Pair) (m : Texts) (c : Change) (r : TwinRefusal) (e : Entry) (old new : TwinSeen)
-    → 1 ≤ c.serial → r ≢ Full → r ≢ OutOfMemory
+    → 1 ≤ c.serial → r ≢ OutOfMemory
     → Serves layout n p m old → TwinChanges {T = Unit {0}} true layout (asked_by n (Some c)) (Err r) old new → IsNoted e old new
     → ChangesSo (Some c) (Refused r) e p m m
     × Rests layout n (changed_by (Some c) (Refused r) e p) m (disk_of new.first) (disk_of new.second)

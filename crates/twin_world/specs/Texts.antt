@@ -6,7 +6,7 @@ use Rattle.eden_value.specs.Printed.{printed}
 use Rattle.twin_store.specs.declared.served.TwinRefusal.{TwinRefusal}
 use Rattle.twin_store.specs.declared.served.TwinRefusal.TheVariants.{Lost, Stopped, Full, GenerationsSpent, OutOfMemory}
 use Rattle.twin_world.specs.Commands.{Command, opens, puts, gets, deletes, closes, blanks, fails, stops}
-use Rattle.twin_world.specs.Logs.{Answer, WrongState, Opened, Made, Found, Refused, CutShort, Entry, Log}
+use Rattle.twin_world.specs.Logs.{Answer, WrongState, Opened, Made, Found, NoRoom, Refused, CutShort, Entry, Log}
 
 -- 1. Words
 
@@ -36,6 +36,7 @@ said WrongState = codes " state"
 said (Opened first second) = codes " " ++ used_words first second
 said Made = codes " ok"
 said (Found found) = codes " " ++ found_words found
+said NoRoom = codes " full"
 said (Refused r) = codes " " ++ refusal_words r
 said (CutShort true) = codes " stop"
 said (CutShort false) = codes " fault"
@@ -51,9 +52,8 @@ said_if_not_done a = said a
 abbrev pub short_line : List ℕ → ℕ → List ℕ → List ℕ
 short_line word n what = word ++ (decimal n ++ (what ++ codes "\n"))
 
--- a word, a node and a serial, and what is said; in the wrong state the serial is left out
+-- a word, a node and a serial, and what is said
 abbrev pub long_line : List ℕ → ℕ → ℕ → Answer → List ℕ
-long_line word n serial WrongState = short_line word n (said WrongState)
 long_line word n serial a = short_line word n (codes " " ++ (decimal serial ++ said a))
 
 -- the line of a command with its answer; asking for a failure or a stop writes none

@@ -1,6 +1,8 @@
 use Rattle.passive_store.specs.Seen.{disk_seen}
 use Rattle.twin_store.specs.Sides.{side_seen}
 use Rattle.twin_store.specs.Twins.{twin_seen}
+use Rattle.std.proofs.Common.{inl, refl}
+use Rattle.twin_store.proofs.Opened.{rose_in, opened_behind}
 use Rattle.twin_store.proofs.Openings.{first_unopened, second_refused, opened_twin, closed_vouched}
 use Rattle.twin_store.proofs.twin.TwinStore.open_twin.Goals as goal
 
@@ -37,3 +39,29 @@ returns-in-Err-agree-clause-vouched g c =
     c.in-Ok.ensures.opened c.in-Ok-open.ensures.opened (twin_seen g.St.Store.seen look c.agree.new.self) c.in-Err-agree.refusal
     (look c.close-first.result.0) (look c.close-first.result.1) c.close-first.ensures.0 c.close-first.ensures.1
     c.in-Err-agree.ensures.moves c.in-Err-agree.ensures.agrees
+
+pub returns-in-Err-clause-counts : goal.returns-in-Err-clause-counts
+returns-in-Err-clause-counts g c = (inl c.in-Err.ensures.same, inl refl)
+
+pub returns-in-Err-open-clause-counts : goal.returns-in-Err-open-clause-counts
+returns-in-Err-open-clause-counts g c =
+    let look = disk_seen g.St.Device.Disk.counts g.St.Device.Disk.told g.St.Device.Disk.due in (
+      rose_in g.St.Device.Disk.tells g.St.Store.layout c.args.node (look c.args.first) (look c.close.result)
+          (side_seen g.St.Store.seen look c.in-Ok.side) c.close.ensures c.in-Ok.ensures.opened.by,
+      inl c.in-Err-open.ensures.same,
+    )
+
+pub returns-in-Err-agree-clause-counts : goal.returns-in-Err-agree-clause-counts
+returns-in-Err-agree-clause-counts g c =
+    let look = disk_seen g.St.Device.Disk.counts g.St.Device.Disk.told g.St.Device.Disk.due in
+    let t = twin_seen g.St.Store.seen look c.agree.new.self in
+    let of = side_seen g.St.Store.seen look in (
+      rose_in g.St.Device.Disk.tells g.St.Store.layout c.args.node (look c.args.first) (look c.close-first.result.0) t.first
+          c.close-first.ensures.0
+          (opened_behind g.St.Device.Disk.tells g.St.Store.layout c.args.node (look c.args.first) (of c.in-Ok.side) t.first
+          c.in-Ok.ensures.opened.by c.in-Err-agree.ensures.moves.first),
+      rose_in g.St.Device.Disk.tells g.St.Store.layout c.args.node (look c.args.second) (look c.close-first.result.1) t.second
+          c.close-first.ensures.1
+          (opened_behind g.St.Device.Disk.tells g.St.Store.layout c.args.node (look c.args.second) (of c.in-Ok-open.side) t.second
+          c.in-Ok-open.ensures.opened.by c.in-Err-agree.ensures.moves.second),
+    )

@@ -1,0 +1,5 @@
+//! Tests of pairs of disks.
+#![tactic(auto)]
+
+#[cfg(test)]
+mod twin_world_tests;
