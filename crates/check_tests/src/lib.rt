@@ -7,3 +7,5 @@ mod plain_calls_tests;
 mod plain_choices_tests;
 #[cfg(test)]
 mod plain_ejects_tests;
+#[cfg(test)]
+mod plain_stores_tests;

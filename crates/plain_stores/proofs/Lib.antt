@@ -1,0 +1,4 @@
+pub mod Keyed
+pub mod Sums
+pub mod Nodes
+pub mod LeftBlocks
