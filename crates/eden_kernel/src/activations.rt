@@ -1,5 +1,5 @@
 //! Passive Ejects are activated.
-ghost use Rattle.std.specs.Prelude.{◌≡◌, ℕ, Bool, Option, None, IfOk, IfErr, IfSome, IsTrue, OnErr, is_some};
+ghost use Rattle.std.specs.Prelude.{◌≡◌, ℕ, Bool, Option, None, IfOk, IfErr, IfSome, IsTrue, OnErr, is_some, OnOk};
 ghost use Rattle.capability.specs.declared.Uid.{Uid as Name};
 ghost use Rattle.epl_syntax.specs.Meaning.{types_in};
 ghost use Rattle.epl_syntax.specs.Rules.OfTypes.{TypeList};
@@ -15,6 +15,7 @@ ghost use Rattle.journal.specs.declared.event.Event.TheVariants as event;
 ghost use Rattle.checkpoint.specs.Asked.{pick_of};
 ghost use Rattle.checkpoint.specs.Starting.{StartsWith, end_of_start, values_of};
 ghost use Rattle.checkpoint.specs.Touches.{Touches, ReadsByCalls};
+ghost use Rattle.ejects.specs.Counts.{AsksNone};
 ghost use Rattle.ejects.specs.Parts.{IsAt, Stands, body_at as part_at};
 ghost use Rattle.ejects.specs.StoreEnds.{SettlesAt};
 ghost use Rattle.ejects.specs.View.{parts_of};
@@ -100,6 +101,7 @@ fn activation_ends(
         → AllowsAt s (event.Activate uid how p) → IfSome (values_of (begun_as types.now) start) (StartsWith s uid p)
         → IsAt (parts_of types.now ejects.old) calls.old (start_settled p s)
         → IsAt (parts_of types.now ejects.new) calls.new (site_turn reach (event.Activate uid how p) s)) }
+    ensures asks { OnOk result (AsksNone calls.old calls.new) }
 {
     match start {
         Start::Values { start } => {
@@ -167,6 +169,7 @@ impl<St: Store> Node<St> {
         ensures starves { IsTrue St.Device.tells → IsLayout St.layout → IfErr result (λ _. (s : Site)
             → NodeStands St.layout types.now (held St.seen self.old) calls.old s
             → Starves St.layout s (St.seen self.old.store) (St.seen self.new.store)) }
+        ensures asks { OnOk result (AsksNone calls.old calls.new) }
     {
         let kinds = Kinds { types };
         let (start, settled) = start_from(alloc, &mut self.store, &kinds, uid)?;

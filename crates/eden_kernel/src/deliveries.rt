@@ -1,5 +1,6 @@
 //! Messages are delivered.
 ghost use Rattle.std.specs.Prelude.{◌≡◌, ◌≤◌, IfOk, IsTrue, OnOk};
+ghost use Rattle.ejects.specs.Counts.{AsksNone};
 ghost use Rattle.ejects.specs.Events.{IsDelivery};
 ghost use Rattle.ejects.specs.Hears.{hears};
 ghost use Rattle.ejects.specs.View.{number_of};
@@ -31,6 +32,7 @@ impl<St: Store> Node<St> {
         ensures store { St.seen self.new.store ≡ St.seen self.old.store }
         ensures turn { IsTrue St.Device.tells → IfOk result (λ e.
             TurnsAt St.layout types.now (held St.seen self.old) calls.old (held St.seen self.new) calls.new e) }
+        ensures asks { OnOk result (AsksNone calls.old calls.new) }
     {
         self.ejects.deliver(alloc, types, calls, from)
     }

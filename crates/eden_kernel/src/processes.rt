@@ -4,6 +4,7 @@ ghost use Rattle.passive_store.specs.Kept.{IsEject, body_at, doubt_in};
 ghost use Rattle.journal.specs.Sites.{IsSoundSite};
 ghost use Rattle.journal.specs.World.{Site};
 ghost use Rattle.checkpoint.specs.StoreStands.{doubt_of};
+ghost use Rattle.ejects.specs.Counts.{AsksOneAtMost};
 ghost use Rattle.ejects.specs.Events.{IsTurnOf};
 ghost use Rattle.ejects.specs.Creations.{MayTurn};
 ghost use Rattle.ejects.specs.Replies.{Reaches};
@@ -62,6 +63,7 @@ impl<St: Store> Node<St> {
         ensures turn { IsTrue St.Device.tells → IfOk result (λ e. (reach : ℕ → Bool) (s : Site) → Reaches reach places.now uid.node
             → IsSoundSite s → MayTurn s → NodeStands St.layout types.now (held St.seen self.old) calls.old s
             → Turns St.layout types.now (held St.seen self.new) calls.new reach (held St.seen self.old) s e) }
+        ensures asks { OnOk result (AsksOneAtMost calls.old calls.new) }
     {
         let stays = is_kept(&self.store, uid);
         let worker = &mut self.worker;

@@ -12,6 +12,7 @@ ghost use Rattle.journal.specs.declared.event.RequestEnd.TheVariants as how_ende
 ghost use Rattle.checkpoint.specs.Asked.{AllOfNode, pick_of};
 ghost use Rattle.checkpoint.specs.Queues.{AllAnswerBut};
 ghost use Rattle.checkpoint.specs.Touches.{TouchesOnce};
+ghost use Rattle.ejects.specs.Counts.{AsksNone};
 ghost use Rattle.ejects.specs.Parts.{IsAt};
 ghost use Rattle.ejects.specs.Parts.{body_at as part_at};
 ghost use Rattle.ejects.specs.StoreEnds.{IsShownAs, IsFirstOf, IsFirst, SettlesAt, takes_eject};
@@ -158,6 +159,7 @@ fn request_ends(
     ensures begun { worker.new.begun ≡ worker.old.begun }
     ensures of_node { (n : ℕ) → AllOfNode n worker.old.requests.items → AllOfNode n worker.new.requests.items }
     ensures answers { AllAnswerBut worker.old.begun worker.old.requests.items → AllAnswerBut worker.new.begun worker.new.requests.items }
+    ensures asks { OnOk result (AsksNone calls.old calls.new) }
 {
     let removed = is_removed(&request.wish, end);
     let active = ejects.is_active(request.uid);
@@ -217,6 +219,7 @@ impl<St: Store> Node<St> {
         ensures starves { IsTrue St.Device.tells → IfErr result (λ _. (ts : TypeList) (s : Site) → 1 ≤ (St.seen self.old.store).more
             → NodeStands St.layout ts (held St.seen self.old) calls.old s
             → Starves St.layout s (St.seen self.old.store) (St.seen self.new.store)) }
+        ensures asks { OnOk result (AsksNone calls.old calls.new) }
     {
         let Some(uid) = first_uid(&self.worker) else {
             unreachable!()

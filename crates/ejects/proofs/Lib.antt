@@ -3,6 +3,7 @@ pub mod Active
 pub mod Admitting
 pub mod Askings
 pub mod Counted
+pub mod Counting
 pub mod Creating
 pub mod CreatingTurns
 pub mod Delivered

@@ -12,3 +12,4 @@ pub mod Turned
 pub mod Boots
 pub mod Marks
 pub mod Hears
+pub mod Counts

@@ -15,6 +15,7 @@ ghost use Rattle.journal.specs.Step.{AllowsAt, site_turn};
 ghost use Rattle.checkpoint.specs.Starting.{StartsWith};
 ghost use Rattle.active_part.specs.View.{body_of, coordination_of};
 ghost use Rattle.ejects.specs.Activations.{JoinsAll, answer_of};
+ghost use Rattle.ejects.specs.Counts.{AsksNone};
 ghost use Rattle.ejects.specs.Parts.{IsAt, body_at};
 ghost use Rattle.ejects.specs.View.{parts_of, with_body};
 
@@ -39,6 +40,7 @@ fn join_or_answer(
     requires { length (coordination_of part.old).queued < 64 }
     ensures joins { OnOk result (JoinsAll (body_of types.now part.old) (body_of types.now part.new) (number ∷ []) calls.old calls.new) }
     ensures one { OnOk result (length (coordination_of part.new).queued ≤ length (coordination_of part.old).queued + 1) }
+    ensures asks { OnOk result (AsksNone calls.old calls.new) }
 {
     let Some(asked) = calls.call(number) else {
         return Ok(());
@@ -66,7 +68,8 @@ fn join_all(
     numbers: &CallNumbers,
 ) -> Result<(), AllocError>
     requires { length (coordination_of part.old).queued + length numbers.now ≤ 64 }
-    ensures { OnOk result (JoinsAll (body_of types.now part.old) (body_of types.now part.new) numbers.now calls.old calls.new) }
+    ensures joins { OnOk result (JoinsAll (body_of types.now part.old) (body_of types.now part.new) numbers.now calls.old calls.new) }
+    ensures asks { OnOk result (AsksNone calls.old calls.new) }
 {
     for number in &numbers.items {
         join_or_answer(alloc, types, calls, part, *number)?;
@@ -99,10 +102,11 @@ impl Ejects {
         begun: &Begun,
     ) -> Result<(), AllocError>
         requires { (ts : TypeList) → body_at (parts_of ts self.old) uid ≡ None }
-        ensures { OnOk result ((reach : ℕ → Bool) (s : Site) (p : Option Pick) → IsSoundSite s
+        ensures turn { OnOk result ((reach : ℕ → Bool) (s : Site) (p : Option Pick) → IsSoundSite s
             → AllowsAt s (Activate uid end.Ok p) → StartsWith s uid p (kind_in types.now begun.now.kind, begun.now.durable)
             → IsAt (parts_of types.now self.old) calls.old (start_settled p s)
             → IsAt (parts_of types.now self.new) calls.new (site_turn reach (Activate uid end.Ok p) s)) }
+        ensures asks { OnOk result (AsksNone calls.old calls.new) }
     {
         let vars = edentypes::start(alloc, types, begun)?;
         let mut part = Part::fresh(alloc, types, begun.kind, vars)?;
@@ -120,10 +124,11 @@ impl Ejects {
         uid: Uid,
         status: Status,
     ) -> Result<(), AllocError>
-        ensures { OnOk result ((ts : TypeList) (reach : ℕ → Bool) (s : Site) (how : StartEnd) (p : Option Pick) → IsSoundSite s
+        ensures turn { OnOk result ((ts : TypeList) (reach : ℕ → Bool) (s : Site) (how : StartEnd) (p : Option Pick) → IsSoundSite s
             → AllowsAt s (Activate uid how p) → answer_of how ≡ Some status
             → IsAt (parts_of ts self.old) calls.old (start_settled p s)
             → IsAt (parts_of ts self.new) calls.new (site_turn reach (Activate uid how p) s)) }
+        ensures asks { OnOk result (AsksNone calls.old calls.new) }
     {
         let queued = take_waiting(alloc, &mut self.waiting, uid);
         reply_all(alloc, calls, &queued, status)?;

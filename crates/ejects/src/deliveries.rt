@@ -1,8 +1,9 @@
 //! Messages are delivered.
-ghost use Rattle.std.specs.Prelude.{◌≡◌, ◌≤◌, ℕ, Bool, IfOk, IsTrue, None, is_some};
+ghost use Rattle.std.specs.Prelude.{◌≡◌, ◌≤◌, ℕ, Bool, IfOk, IsTrue, None, OnOk, is_some};
 ghost use Rattle.eden_model.specs.Map.{with_item};
 ghost use Rattle.eden_model.specs.Traffic.{waiting_process};
 ghost use Rattle.invocation.specs.Numbers.{item_in};
+ghost use Rattle.ejects.specs.Counts.{AsksNone};
 ghost use Rattle.ejects.specs.Events.{IsDelivery};
 ghost use Rattle.ejects.specs.Hears.{hears};
 ghost use Rattle.ejects.specs.Parts.{Steps};
@@ -50,6 +51,7 @@ impl Ejects {
         ensures event { IfOk result (IsDelivery from (number_of self.old)) }
         ensures steps { IfOk result (λ e. (reach : ℕ → Bool)
             → Steps reach (parts_of types.now self.old) calls.old (parts_of types.now self.new) calls.new e) }
+        ensures asks { OnOk result (AsksNone calls.old calls.new) }
     {
         match calls.deliver(from, self.number()) {
             Some(Delivery::Request { call }) => self.request(alloc, types, calls, from, call),

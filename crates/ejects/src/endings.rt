@@ -3,6 +3,7 @@ ghost use Rattle.std.specs.Prelude.{◌≡◌, ◌<◌, IsSome};
 ghost use Rattle.std.specs.Prelude.{OnOk, Some};
 ghost use Rattle.epl_syntax.specs.Rules.OfTypes.{TypeList};
 ghost use Rattle.active_part.specs.Body.{Body};
+ghost use Rattle.ejects.specs.Counts.{AsksNone};
 ghost use Rattle.ejects.specs.Parts.{body_at};
 ghost use Rattle.ejects.specs.Replies.{Faulted, Slept};
 ghost use Rattle.ejects.specs.View.{part_at, parts_of};
@@ -24,8 +25,9 @@ impl Ejects {
         stays: bool,
     ) -> Result<(), AllocError>
         requires { IsSome (part_at self.old uid) }
-        ensures { OnOk result ((ts : TypeList) (b : Body) → body_at (parts_of ts self.old) uid ≡ Some b
+        ensures faulted { OnOk result ((ts : TypeList) (b : Body) → body_at (parts_of ts self.old) uid ≡ Some b
             → Faulted uid stays b (parts_of ts self.old) (parts_of ts self.new) calls.old calls.new) }
+        ensures asks { OnOk result (AsksNone calls.old calls.new) }
     {
         let Some(part) = self.table.drop_active(uid, stays) else {
             unreachable!()
@@ -47,8 +49,9 @@ impl Ejects {
         stays: bool,
     ) -> Result<(), AllocError>
         requires { IsSome (part_at self.old uid) }
-        ensures { OnOk result ((ts : TypeList) (b : Body) → body_at (parts_of ts self.old) uid ≡ Some b
+        ensures slept { OnOk result ((ts : TypeList) (b : Body) → body_at (parts_of ts self.old) uid ≡ Some b
             → Slept uid stays b (parts_of ts self.old) (parts_of ts self.new) calls.old calls.new) }
+        ensures asks { OnOk result (AsksNone calls.old calls.new) }
     {
         let Some(part) = self.table.drop_active(uid, stays) else {
             unreachable!()

@@ -8,6 +8,7 @@ ghost use Rattle.journal.specs.World.{Site};
 ghost use Rattle.journal.specs.Sites.{IsSoundSite};
 ghost use Rattle.epl_syntax.specs.Rules.OfTypes.{TypeList};
 ghost use Rattle.active_part.specs.Body.{Body, active_of};
+ghost use Rattle.ejects.specs.Counts.{AsksNone, AsksOneAtMost};
 ghost use Rattle.ejects.specs.Parts.{Parts, body_at, IsAt, IsStep};
 ghost use Rattle.active_part.specs.View.{stepped, MayTake};
 ghost use Rattle.ejects.specs.Replies.{Returned, Invoked, Reaches};
@@ -94,8 +95,9 @@ impl Ejects {
         results: Items,
     ) -> Result<Shown, AllocError>
         requires { RunsIn self.old uid process }
-        ensures { IfOk result (λ said. (ts : TypeList) (b : Body) → body_at (parts_of ts self.old) uid ≡ Some b
+        ensures returned { IfOk result (λ said. (ts : TypeList) (b : Body) → body_at (parts_of ts self.old) uid ≡ Some b
             → Returned uid process results b (parts_of ts self.old) (parts_of ts self.new) calls.old calls.new said) }
+        ensures asks { OnOk result (AsksNone calls.old calls.new) }
     {
         match self.end_at(uid, process) {
             Some(call) => {
@@ -161,9 +163,10 @@ impl Ejects {
         requires calls { length calls.old.calls < 4294967295 }
         requires node { uid.node ≤ 8 }
         requires runs { RunsIn self.old uid process }
-        ensures { IfOk result (λ said. (ts : TypeList) (b : Body) → body_at (parts_of ts self.old) uid ≡ Some b
+        ensures invoked { IfOk result (λ said. (ts : TypeList) (b : Body) → body_at (parts_of ts self.old) uid ≡ Some b
             → Invoked places.now uid process target operation args b (parts_of ts self.old) (parts_of ts self.new)
             calls.old calls.new said) }
+        ensures asks { OnOk result (AsksOneAtMost calls.old calls.new) }
     {
         let asker = Asker::Eject { uid, process };
         let asked = calls.ask(alloc, asker, target, operation, args, places)?;
@@ -199,6 +202,7 @@ impl Ejects {
         ensures of_node { (k : ℕ) → IsEject k uid → AllOfNode k worker.old.requests.items → AllOfNode k worker.new.requests.items }
         ensures answers { AllAnswerBut worker.old.begun worker.old.requests.items
             → AllAnswerBut worker.new.begun worker.new.requests.items }
+        ensures asks { OnOk result (AsksOneAtMost calls.old calls.new) }
     {
         match effect {
             Effect::Return { results } => self.returns(alloc, calls, uid, process, results),
@@ -278,6 +282,7 @@ impl Ejects {
         ensures of_node { (k : ℕ) → IsEject k uid → AllOfNode k worker.old.requests.items → AllOfNode k worker.new.requests.items }
         ensures answers { AllAnswerBut worker.old.begun worker.old.requests.items
             → AllAnswerBut worker.new.begun worker.new.requests.items }
+        ensures asks { OnOk result (AsksOneAtMost calls.old calls.new) }
     {
         let effect = self.turn_at(alloc, types, uid, process)?;
         let shown = self.carry_out(

@@ -13,6 +13,7 @@ ghost use Rattle.journal.specs.World.{Site};
 ghost use Rattle.journal.specs.Sites.{IsSoundSite};
 ghost use Rattle.epl_syntax.specs.Rules.OfTypes.{TypeList};
 ghost use Rattle.active_part.specs.Body.{Body};
+ghost use Rattle.ejects.specs.Counts.{AsksNone};
 ghost use Rattle.ejects.specs.Events.{IsDelivery};
 ghost use Rattle.ejects.specs.Marks.{IsLoose, IsLooseIn};
 ghost use Rattle.ejects.specs.Parts.{body_at, Stands, IsStep};
@@ -39,8 +40,9 @@ pub(crate) fn reply(
     status: Status,
     results: Items,
 ) -> Result<(), AllocError>
-    ensures { OnOk result ((t : Traffic) → Carries calls.old t → has call t.transit ≡ false
+    ensures model { OnOk result ((t : Traffic) → Carries calls.old t → has call t.transit ≡ false
         → Carries calls.new (replied status results call t)) }
+    ensures asks { OnOk result (AsksNone calls.old calls.new) }
 {
     let _sent = calls.answer(alloc, call, status, results)?;
     Ok(())
@@ -53,8 +55,9 @@ pub(crate) fn send_results(
     call: u32,
     results: Items,
 ) -> Result<(), AllocError>
-    ensures { OnOk result ((t : Traffic) → Carries calls.old t → has call t.transit ≡ false
+    ensures model { OnOk result ((t : Traffic) → Carries calls.old t → has call t.transit ≡ false
         → Carries calls.new (sized results call t)) }
+    ensures asks { OnOk result (AsksNone calls.old calls.new) }
 {
     if values_size(&results) <= u64::from(MESSAGE_LIMIT) {
         reply(alloc, calls, call, Status::Ok, results)
@@ -70,8 +73,9 @@ pub(crate) fn reply_all(
     numbers: &CallNumbers,
     status: Status,
 ) -> Result<(), AllocError>
-    ensures { OnOk result ((t : Traffic) → Carries calls.old t → AreOut t numbers.now → Distinct numbers.now
+    ensures model { OnOk result ((t : Traffic) → Carries calls.old t → AreOut t numbers.now → Distinct numbers.now
         → Carries calls.new (all_replied status numbers.now t)) }
+    ensures asks { OnOk result (AsksNone calls.old calls.new) }
 {
     for number in &numbers.items {
         reply(alloc, calls, *number, status, no_items(alloc))?;
@@ -86,8 +90,9 @@ fn reply_served(
     pairs: &[(u8, u32)],
     status: Status,
 ) -> Result<(), AllocError>
-    ensures { OnOk result ((t : Traffic) → Carries calls.old t → AreOut t (seconds pairs.now) → Distinct (seconds pairs.now)
+    ensures model { OnOk result ((t : Traffic) → Carries calls.old t → AreOut t (seconds pairs.now) → Distinct (seconds pairs.now)
         → Carries calls.new (all_replied status (seconds pairs.now) t)) }
+    ensures asks { OnOk result (AsksNone calls.old calls.new) }
 {
     for pair in pairs {
         reply(alloc, calls, pair.1, status, no_items(alloc))?;
@@ -102,8 +107,9 @@ pub(crate) fn reply_pairs(
     pairs: &Pairs,
     status: Status,
 ) -> Result<(), AllocError>
-    ensures { OnOk result ((t : Traffic) → Carries calls.old t → AreOut t (seconds pairs.now) → Distinct (seconds pairs.now)
+    ensures model { OnOk result ((t : Traffic) → Carries calls.old t → AreOut t (seconds pairs.now) → Distinct (seconds pairs.now)
         → Carries calls.new (all_replied status (seconds pairs.now) t)) }
+    ensures asks { OnOk result (AsksNone calls.old calls.new) }
 {
     reply_served(alloc, calls, pairs.pairs.as_slice(), status)
 }

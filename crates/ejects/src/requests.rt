@@ -9,6 +9,7 @@ ghost use Rattle.invocation.specs.declared.call.Delivery.TheVariants.{Request};
 ghost use Rattle.journal.specs.World.{Site};
 ghost use Rattle.epl_syntax.specs.Rules.OfTypes.{TypeList};
 ghost use Rattle.active_part.specs.Body.{Body};
+ghost use Rattle.ejects.specs.Counts.{AsksNone};
 ghost use Rattle.ejects.specs.Events.{IsDelivery};
 ghost use Rattle.ejects.specs.Parts.{body_at, queue_in, Stands, IsStep};
 ghost use Rattle.active_part.specs.View.{body_of, coordination_of};
@@ -134,6 +135,7 @@ impl Ejects {
         ensures steps { IfOk result (λ e. (reach : ℕ → Bool) (s : Site) → Stands (parts_of types.now self.old) s
             → CarriesDelivery from (number_of self.old) (Some (Request call)) calls.old s.traffic
             → IsStep reach (parts_of types.now self.new) calls.new s e) }
+        ensures asks { OnOk result (AsksNone calls.old calls.new) }
     {
         let to = self.table.node();
         let Some(asked) = calls.call(call) else {

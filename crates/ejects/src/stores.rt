@@ -13,6 +13,7 @@ ghost use Rattle.journal.specs.Settling.{settled};
 ghost use Rattle.journal.specs.Sites.{IsSoundSite};
 ghost use Rattle.journal.specs.Step.{AllowsAt, site_turn};
 ghost use Rattle.active_part.specs.Bodies.{told_body};
+ghost use Rattle.ejects.specs.Counts.{AsksNone};
 ghost use Rattle.ejects.specs.Marks.{AwaitsIn};
 ghost use Rattle.ejects.specs.Parts.{body_at, Stands, IsAt};
 ghost use Rattle.ejects.specs.StoreEnds.{code_of_end, IsShownAs, takes_eject, IsFirst, Told, Went, SettlesAt};
@@ -76,8 +77,9 @@ impl Ejects {
     // Nothing is kept of an Eject any more: it goes, what ran there is answered, and then what was queued. One that is not there
     // need not go.
     fn removes(&mut self, alloc: Global, calls: &mut Calls, uid: Uid) -> Result<(), AllocError>
-        ensures { OnOk result ((ts : TypeList) → is_some ((parts_of ts self.old).standing uid) ≡ true
+        ensures went { OnOk result ((ts : TypeList) → is_some ((parts_of ts self.old).standing uid) ≡ true
             → Went uid (parts_of ts self.old) (parts_of ts self.new) calls.old calls.new) }
+        ensures asks { OnOk result (AsksNone calls.old calls.new) }
     {
         match self.table.find(uid) {
             EjectStanding::Active => {
@@ -105,10 +107,11 @@ impl Ejects {
         removal: bool,
         end: StoreEnd,
     ) -> Result<(), AllocError>
-        ensures { OnOk result ((ts : TypeList) (reach : ℕ → Bool) (clock : ℕ) (how : RequestEnd) (p : Option Pick) (s : Site)
+        ensures turn { OnOk result ((ts : TypeList) (reach : ℕ → Bool) (clock : ℕ) (how : RequestEnd) (p : Option Pick) (s : Site)
             → IsSoundSite s → IsAt (parts_of ts self.old) calls.old s → IsFirst uid process removal s → IsShownAs end how
             → AllowsAt s (event.Store uid clock how p)
             → IsAt (parts_of ts self.new) calls.new (site_turn reach (event.Store uid clock how p) s)) }
+        ensures asks { OnOk result (AsksNone calls.old calls.new) }
     {
         let Some(status) = code_of(end) else {
             return Ok(());

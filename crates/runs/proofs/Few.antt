@@ -8,7 +8,7 @@ use Rattle.journal.specs.Run.{components, joined_to}
 use Rattle.runs.specs.Room.{entries_of}
 use Rattle.runs.specs.Laws.{EntriesAreFew}
 
-components-few : (path : List ℕ) → length (components path) ≤ length path + 1
+pub components-few : (path : List ℕ) → length (components path) ≤ length path + 1
 components-few [] = omega arith
 components-few (b ∷ bs) = go (b == 47) (components bs) (components-few bs)
   where

@@ -23,6 +23,10 @@ abbrev pub entries_in : List Command → ℕ
 entries_in [] = 0
 entries_in (c ∷ cs) = entries_of c + entries_in cs
 
+-- how many calls can have numbers
+abbrev pub most_calls : ℕ
+most_calls = 4294967295
+
 -- Those of a whole script that boots so many nodes, but for turns that take no key, which need no room.
 abbrev pub most_entries : ℕ → List Command → ℕ
 most_entries nodes cs = most_turns + (nodes + entries_in cs)

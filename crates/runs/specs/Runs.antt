@@ -17,7 +17,7 @@ use Rattle.journal.specs.Run.{most_turns, world_after}
 use Rattle.runs.specs.Reached.{IsReached, Offers}
 use Rattle.runs.specs.Machines.{Stands, Did, Starved, Shows, Whole, Leaves}
 use Rattle.runs.specs.Machines.{step, Failed, StandsWith, DidStep, DidAll, DidPart, ShowsAll, ShowsPart}
-use Rattle.runs.specs.Room.{entries_of, most_entries}
+use Rattle.runs.specs.Room.{entries_of, most_calls, most_entries}
 use Rattle.runs.specs.declared.run.Run.{Run}
 use Rattle.runs.specs.declared.run.Choice.{Choice}
 use Rattle.runs.specs.declared.run.Choice.TheVariants.{Following, Item}
@@ -166,7 +166,21 @@ abbrev pub KeepsShownSoFar : {M : Type 0} → Shows M → Whole M → Leaves M �
 KeepsShownSoFar shows whole leaves old new = (first : _) → ShowsAll shows first old.history.items old.machine
     → ShowsPart shows whole leaves first new.history.items new.machine
 
--- 6. The whole
+-- 6. Numbers of calls
+
+-- how many calls there are at most once the turns that are left, and so many other entries, have asked one each
+abbrev pub calls_by : {M : Type 0} → (M → ℕ) → Run M → ℕ → ℕ
+calls_by asked run others = asked run.machine + room run others
+
+-- there is a number for each of them
+abbrev pub HasNumbers : {M : Type 0} → (M → ℕ) → Run M → ℕ → Type 0
+HasNumbers asked run others = calls_by asked run others ≤ most_calls
+
+-- there are no more of them than before, where so many other entries were left, and so many are
+abbrev pub SparesNumbers : {M : Type 0} → (M → ℕ) → Run M → ℕ → Run M → ℕ → Type 0
+SparesNumbers asked old others new left = calls_by asked new left ≤ calls_by asked old others
+
+-- 7. The whole
 
 -- Nothing has happened, and the machine stands for the opening world with room for all that a script gives, and for so many entries to
 -- spare. Its commands are fit, and the worlds on its way are as machines take them.

@@ -1,5 +1,5 @@
 //! What takes turns and carries commands out.
-ghost use Rattle.std.specs.Prelude.{◌≡◌, ℕ, suc, IfOk, IfErr, OnOk, OnErr, IfSome, IsTrue};
+ghost use Rattle.std.specs.Prelude.{◌≡◌, ◌<◌, ◌≤◌, ℕ, suc, IfOk, IfErr, OnOk, OnErr, IfSome, IsTrue};
 ghost use Rattle.std.specs.List.{Contains};
 ghost use Rattle.eden_value.specs.Limits.{IsText};
 ghost use Rattle.journal.specs.World.{World};
@@ -11,7 +11,7 @@ ghost use Rattle.journal.specs.References.{cap_at};
 ghost use Rattle.journal.specs.Run.{Step, is_found, next_directory, is_open_call};
 ghost use Rattle.runs.specs.Reached.{IsReached, IsFitIn, IsNamed};
 ghost use Rattle.runs.specs.Machines.{TakesKey, CarriesOut, LooksUp};
-ghost use Rattle.runs.specs.Room.{is_single};
+ghost use Rattle.runs.specs.Room.{is_single, most_calls};
 
 use capability::Cap;
 use eden_value::Txt;
@@ -42,6 +42,13 @@ pub trait Machine {
     /// It has the turn of this key, whatever world it stands for.
     ghost enables: { Self → Key → Type 0 };
 
+    /// How many calls were asked so far, whatever world it stands for. A step asks one at most.
+    ghost asked: { Self → ℕ };
+
+    /// How many calls were asked so far.
+    fn calls_asked(&self) -> usize
+        ensures { result ≡ asked self.now };
+
     /// The least enabled key past the last one, or the least of all.
     fn following(&self, last: Option<Key>) -> Option<Key>
         requires whole { whole self.now }
@@ -63,26 +70,30 @@ pub trait Machine {
     fn take(&mut self, alloc: Global, key: Key) -> Result<Entry, AllocError>
         requires whole { whole self.old }
         requires enabled { enables self.old key }
+        requires calls { asked self.old < most_calls }
         ensures taken { IfOk result (λ e. (more : ℕ) (w : World) → IsReached w → stands self.old (suc more) w
             → Contains (enabled w) key → TakesKey stands did self.old self.new more w key e) }
         ensures starved { IfErr result (λ e. (more : ℕ) (w : World) → IsReached w → stands self.old (suc more) w
             → Contains (enabled w) key → starved self.old more w self.new) }
         ensures shows { IfOk result (λ e. shows self.old e self.new) }
         ensures leaves { OnErr result (leaves self.old self.new) }
-        ensures whole { OnOk result (whole self.new) };
+        ensures whole { OnOk result (whole self.new) }
+        ensures asks { OnOk result (asked self.new ≤ suc (asked self.old)) };
 
     /// A command that gives one entry, where it is fit. It names none but the eight nodes.
     fn carry_out(&mut self, alloc: Global, command: &Command) -> Result<Entry, AllocError>
         requires single { IsTrue (is_single command.now) }
         requires numbers { NumbersFit 8 command.now }
         requires whole { whole self.old }
+        requires calls { asked self.old < most_calls }
         ensures carried { IfOk result (λ e. (more : ℕ) (w : World) → IsReached w → stands self.old (suc more) w
             → IsFitIn w command.now → CarriesOut stands did self.old self.new more w command.now e) }
         ensures starved { IfErr result (λ e. (more : ℕ) (w : World) → IsReached w → stands self.old (suc more) w
             → IsFitIn w command.now → starved self.old more w self.new) }
         ensures shows { IfOk result (λ e. shows self.old e self.new) }
         ensures leaves { OnErr result (leaves self.old self.new) }
-        ensures whole { OnOk result (whole self.new) };
+        ensures whole { OnOk result (whole self.new) }
+        ensures asks { OnOk result (asked self.new ≤ suc (asked self.old)) };
 
     /// The call of a walk under this name: this directory, if it is one, is asked for this component.
     fn look_up(
@@ -93,6 +104,7 @@ pub trait Machine {
         component: &Txt,
     ) -> Result<Entry, AllocError>
         requires whole { whole self.old }
+        requires calls { asked self.old < most_calls }
         ensures looked { IfOk result (λ e. (more : ℕ) (w : World) → IsReached w → stands self.old (suc more) w
             → IfSome directory (IsNamed w) → IsText component.now
             → LooksUp stands did self.old self.new more w name.now directory component.now e) }
@@ -100,7 +112,8 @@ pub trait Machine {
             → IfSome directory (IsNamed w) → IsText component.now → starved self.old more w self.new) }
         ensures shows { IfOk result (λ e. shows self.old e self.new) }
         ensures leaves { OnErr result (leaves self.old self.new) }
-        ensures whole { OnOk result (whole self.new) };
+        ensures whole { OnOk result (whole self.new) }
+        ensures asks { OnOk result (asked self.new ≤ suc (asked self.old)) };
 
     /// The capability for which a name stands, or one of its results.
     fn capability(&self, by: &Ref) -> Option<Cap>

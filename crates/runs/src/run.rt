@@ -7,7 +7,7 @@ ghost use Rattle.journal.specs.Enabled.{enabled, following};
 ghost use Rattle.journal.specs.Fit.{NumbersFit};
 ghost use Rattle.runs.specs.Reached.{IsReached};
 ghost use Rattle.runs.specs.Machines.{plain, IsLeft};
-ghost use Rattle.runs.specs.Room.{is_single};
+ghost use Rattle.runs.specs.Room.{entries_in, entries_of, is_single};
 ghost use Rattle.runs.specs.Runs.{IsYield};
 
 use crate::machine::Machine;
@@ -82,6 +82,7 @@ pub fn is_single(command: &Command) -> bool
 impl<M: Machine> Run<M> {
     ghost use Rattle.runs.specs.Runs.{TakesTurn, TurnFails, TakesCommand, CommandFails, DoesDue, PartOfDue, CarriesCommand, PartOfCommand};
     ghost use Rattle.runs.specs.Runs.{KeepsShown, KeepsShownSoFar, CarriesAll, CarriesPart, chosen_by, Repeats};
+    ghost use Rattle.runs.specs.Runs.{HasNumbers, SparesNumbers};
     ghost use Rattle.runs.specs.declared.run.Choice.TheVariants.{Following};
 
     /// A run of which nothing has happened yet.
@@ -155,6 +156,7 @@ impl<M: Machine> Run<M> {
     /// Takes a turn, and tells whether it took a key. Room for the entry is taken before the turn.
     pub fn take_turn(&mut self, alloc: Global, choice: Choice) -> Result<bool, AllocError>
         requires whole { M.whole self.old.machine }
+        requires calls { HasNumbers M.asked self.old 0 }
         ensures done { IfOk result (TakesTurn M.stands M.did self.old self.new choice) }
         ensures fails { OnErr result (TurnFails M.stands M.did M.starved self.old self.new) }
         ensures history { OnErr result (self.new.history.items ≡ self.old.history.items) }
@@ -163,6 +165,7 @@ impl<M: Machine> Run<M> {
         ensures whole { OnOk result (M.whole self.new.machine) }
         // a turn that takes a key is counted
         ensures counted { IfOk result (λ went. IsTrue went → (self.old.turns < 100000) × (self.new.turns ≡ self.old.turns + 1)) }
+        ensures asks { OnOk result (SparesNumbers M.asked self.old 0 self.new 0) }
     {
         self.history.reserve(1)?;
         if self.turns >= MOST_TURNS {
@@ -188,11 +191,13 @@ impl<M: Machine> Run<M> {
     /// Takes up to n turns, in the order of keys.
     fn go(&mut self, alloc: Global, n: u32) -> Result<(), AllocError>
         requires whole { M.whole self.old.machine }
+        requires calls { HasNumbers M.asked self.old 0 }
         ensures done { OnOk result (1 ≤ n → DoesDue M.stands M.did self.old self.new (turns n)) }
         ensures part { OnErr result (1 ≤ n → PartOfDue M.stands M.did M.starved self.old self.new (turns n)) }
         ensures shown { OnOk result (KeepsShown M.shows self.old self.new) }
         ensures whole { OnOk result (M.whole self.new.machine) }
         ensures shown_part { OnErr result (KeepsShownSoFar M.shows M.whole M.leaves self.old self.new) }
+        ensures asks { OnOk result (SparesNumbers M.asked self.old 0 self.new 0) }
     {
         for _ in 0..n {
             if !self.take_turn(alloc, Choice::Following)? {
@@ -205,11 +210,13 @@ impl<M: Machine> Run<M> {
     /// Takes the turn of the enabled key at a place.
     fn turn(&mut self, alloc: Global, i: u32) -> Result<(), AllocError>
         requires whole { M.whole self.old.machine }
+        requires calls { HasNumbers M.asked self.old 0 }
         ensures done { OnOk result (DoesDue M.stands M.did self.old self.new (turn_is i)) }
         ensures part { OnErr result (PartOfDue M.stands M.did M.starved self.old self.new (turn_is i)) }
         ensures shown { OnOk result (KeepsShown M.shows self.old self.new) }
         ensures whole { OnOk result (M.whole self.new.machine) }
         ensures shown_part { OnErr result (KeepsShownSoFar M.shows M.whole M.leaves self.old self.new) }
+        ensures asks { OnOk result (SparesNumbers M.asked self.old 0 self.new 0) }
     {
         let _took = self.take_turn(alloc, Choice::Item { i })?;
         Ok(())
@@ -220,12 +227,14 @@ impl<M: Machine> Run<M> {
         requires single { IsTrue (is_single command.now) }
         requires numbers { NumbersFit 8 command.now }
         requires whole { M.whole self.old.machine }
+        requires calls { HasNumbers M.asked self.old 1 }
         ensures done { OnOk result (TakesCommand M.stands M.did self.old self.new command.now) }
         ensures fails { OnErr result (CommandFails M.stands M.did M.starved self.old self.new command.now) }
         ensures history { OnErr result (self.new.history.items ≡ self.old.history.items) }
         ensures left { OnErr result (IsLeft M.whole M.leaves self.old.machine self.new.machine) }
         ensures shown { OnOk result (KeepsShown M.shows self.old self.new) }
         ensures whole { OnOk result (M.whole self.new.machine) }
+        ensures asks { OnOk result (SparesNumbers M.asked self.old 1 self.new 0) }
     {
         self.history.reserve(1)?;
         let entry = self.machine.carry_out(alloc, command)?;
@@ -238,11 +247,13 @@ impl<M: Machine> Run<M> {
     fn carry_out(&mut self, alloc: Global, command: &Command) -> Result<(), AllocError>
         requires numbers { NumbersFit 8 command.now }
         requires whole { M.whole self.old.machine }
+        requires calls { HasNumbers M.asked self.old (entries_of command.now) }
         ensures done { OnOk result (CarriesCommand M.stands M.did self.old self.new command.now) }
         ensures part { OnErr result (PartOfCommand M.stands M.did M.starved self.old self.new command.now) }
         ensures shown { OnOk result (KeepsShown M.shows self.old self.new) }
         ensures whole { OnOk result (M.whole self.new.machine) }
         ensures shown_part { OnErr result (KeepsShownSoFar M.shows M.whole M.leaves self.old self.new) }
+        ensures asks { OnOk result (SparesNumbers M.asked self.old (entries_of command.now) self.new 0) }
     {
         if is_single(command) {
             return self.command(alloc, command);
@@ -265,6 +276,7 @@ impl<M: Machine> Run<M> {
         requires few { nodes ≤ 8 }
         requires numbers { All (NumbersFit 8) commands.now }
         requires whole { M.whole self.old.machine }
+        requires calls { HasNumbers M.asked self.old (nodes + entries_in commands.now) }
         ensures done { OnOk result (CarriesAll M.stands M.did self.old self.new nodes commands.now) }
         ensures part { OnErr result (CarriesPart M.stands M.did M.starved self.old self.new nodes commands.now) }
         ensures shown { OnOk result (KeepsShown M.shows self.old self.new) }

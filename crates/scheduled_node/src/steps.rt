@@ -1,11 +1,12 @@
 //! The turn of a key.
-ghost use Rattle.std.specs.Prelude.{◌≡◌, ◌↔◌, ◌≤◌, ◌<◌, ◌+◌, ℕ, Bool, IfErr, IfOk, IsTrue, OnErr, length};
+ghost use Rattle.std.specs.Prelude.{◌≡◌, ◌↔◌, ◌≤◌, ◌<◌, ◌+◌, ℕ, Bool, IfErr, IfOk, IsTrue, OnErr, length, OnOk};
 ghost use Rattle.epl_syntax.specs.Rules.OfTypes.{TypeList};
 ghost use Rattle.passive_store.specs.Layout.{IsLayout};
 ghost use Rattle.journal.specs.Sites.{IsSoundSite};
 ghost use Rattle.journal.specs.World.{Site};
 ghost use Rattle.checkpoint.specs.Touches.{ReadsByCalls};
 ghost use Rattle.disk_faults.specs.Shows.{IsLeftOf, ShowsCounts};
+ghost use Rattle.ejects.specs.Counts.{AsksOneAtMost};
 ghost use Rattle.ejects.specs.Creations.{MayTurn};
 ghost use Rattle.ejects.specs.Replies.{Reaches};
 ghost use Rattle.eden_kernel.specs.DiskTurns.{IsWholeBehind, Starves, StopsBy};
@@ -64,6 +65,7 @@ fn key_turn<St: Store>(
     ensures starves { IsTrue St.Device.tells → IsLayout St.layout → (s : Site) → IsSoundSite s
         → 1 ≤ (St.seen node.old.store).more → NodeStands St.layout types.now (held St.seen node.old) calls.old s
         → Starves St.layout s (St.seen node.old.store) (St.seen node.new.store) }
+    ensures asks { OnOk result (AsksOneAtMost calls.old calls.new) }
 {
     match key.kind {
         1 => {
@@ -150,6 +152,7 @@ impl<St: Store> ScheduledNode<St> {
         ensures starves { IsTrue St.Device.tells → IsLayout St.layout → IfErr result (λ _. (s : Site) → IsSoundSite s
             → 1 ≤ (St.seen self.old.node.store).more → NodeStands St.layout types.now (held St.seen self.old.node) calls.old s
             → Starves St.layout s (St.seen self.old.node.store) (St.seen self.new.node.store)) }
+        ensures asks { OnOk result (AsksOneAtMost calls.old calls.new) }
     {
         let (event, end) = key_turn(&mut self.node, alloc, types, calls, places, key)?;
         note_behind(&mut self.agenda, self.node.ejects(), calls, &event, end)?;

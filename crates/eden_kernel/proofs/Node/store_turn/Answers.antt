@@ -1,7 +1,7 @@
 use Rattle.std.proofs.Common.{◌≡◌, ◌≤◌, false, ◌&&◌, None, refl, sym, subst, ap, ◌∙◌}
 use Rattle.std.specs.Prelude.{is_some}
 use Rattle.passive_store.specs.Kept.{is_busy, unsure_in}
-use Rattle.passive_store.specs.Seen.{Seen, DiskSeen}
+use Rattle.passive_store.specs.Seen.{Seen}
 use Rattle.journal.specs.Step.{touches_store}
 use Rattle.journal.specs.declared.event.Event.TheVariants as event
 use Rattle.checkpoint.specs.Asked.{StepsTo, QueueGoes, EndsJob, StaysBegun, KeepsPower, OneCall, requests_of}

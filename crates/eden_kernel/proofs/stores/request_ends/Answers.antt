@@ -7,7 +7,7 @@ use Rattle.eden_kernel.proofs.stores.request_ends.Goals as goal
 
 pub returns-then-active-clause-ends : goal.returns-then-active-clause-ends
 returns-then-active-clause-ends c = λ ts reach clock s sound at first shown allowed.
-    c.in_ok-store_ends.ensures ts reach clock (shown_as c.args.end) None s sound at
+    c.in_ok-store_ends.ensures.turn ts reach clock (shown_as c.args.end) None s sound at
     (subst (λ b. IsFirst c.args.request.now.uid c.args.request.now.process b s) (sym c.is_removal.ensures) first) shown allowed
 
 pub returns-then-active-clause-requests : goal.returns-then-active-clause-requests
@@ -18,7 +18,7 @@ returns-then-active-clause-requests c = λ ts.
 
 pub returns-else-removed-clause-ends : goal.returns-else-removed-clause-ends
 returns-else-removed-clause-ends c = λ ts reach clock s sound at first shown allowed.
-    c.in_ok-store_ends.ensures ts reach clock (shown_as c.args.end) None s sound at
+    c.in_ok-store_ends.ensures.turn ts reach clock (shown_as c.args.end) None s sound at
     (subst (λ b. IsFirst c.args.request.now.uid c.args.request.now.process b s) (sym c.is_removal.ensures) first) shown allowed
 
 pub returns-else-removed-clause-requests : goal.returns-else-removed-clause-requests

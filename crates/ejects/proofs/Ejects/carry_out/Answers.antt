@@ -10,6 +10,8 @@ use Rattle.ejects.proofs.CreatingTurns.{process-creates}
 use Rattle.eden_model.specs.Crew.{Runs}
 use Rattle.ejects.specs.View.{part_at, parts_of}
 use Rattle.ejects.proofs.Active.{may-active}
+use Rattle.std.proofs.lemmas.Result.{on_ok_weaker}
+use Rattle.ejects.proofs.Counting.{any-on_ok, none-one}
 use Rattle.ejects.proofs.Ejects.carry_out.Goals as goal
 
 pub returns-in-Return-clause-parts : goal.returns-in-Return-clause-parts
@@ -19,7 +21,7 @@ returns-in-Return-clause-parts c = IfOk-weaker c.returns.result _ _ (λ said tol
     said sound at
     c.args.effect c.in-Return.results took.runs took.turned
     c.in-Return.is (told c.args.types.now))
-    c.returns.ensures
+    c.returns.ensures.returned
 
 pub returns-in-Invoke-clause-parts : goal.returns-in-Invoke-clause-parts
 returns-in-Invoke-clause-parts c = IfOk-weaker c.invokes.result _ _ (λ said told reach n s sound at took kept reached ready.
@@ -29,7 +31,7 @@ returns-in-Invoke-clause-parts c = IfOk-weaker c.invokes.result _ _ (λ said tol
     c.args.places.now c.args.effect c.in-Invoke.target c.in-Invoke.operation c.in-Invoke.args reached
     took.runs took.turned c.in-Invoke.is
     (told c.args.types.now))
-    c.invokes.ensures
+    c.invokes.ensures.invoked
 
 pub returns-in_ok-faults-in-Fault-clause-parts : goal.returns-in_ok-faults-in-Fault-clause-parts
 returns-in_ok-faults-in-Fault-clause-parts c reach n s sound at took kept reached ready =
@@ -37,7 +39,7 @@ returns-in_ok-faults-in-Fault-clause-parts c reach n s sound at took kept reache
     (parts_of c.args.types.now c.faults.new.self) c.args.calls.now c.faults.new.calls s c.args.uid c.args.process
     (shown.Fault c.in-Fault.cause) sound at
     c.args.effect c.in-Fault.cause c.args.stays kept refl took.runs
-    took.turned c.in-Fault.is (c.in_ok-faults-in-Fault.ensures c.args.types.now)
+    took.turned c.in-Fault.is (c.in_ok-faults-in-Fault.ensures.faulted c.args.types.now)
 
 pub returns-in_ok-sleeps-in-Deactivate-clause-parts : goal.returns-in_ok-sleeps-in-Deactivate-clause-parts
 returns-in_ok-sleeps-in-Deactivate-clause-parts c reach n s sound at took kept reached ready =
@@ -45,7 +47,7 @@ returns-in_ok-sleeps-in-Deactivate-clause-parts c reach n s sound at took kept r
     (parts_of c.args.types.now c.sleeps.new.self)
     c.args.calls.now c.sleeps.new.calls s c.args.uid c.args.process shown.Deactivate sound at c.args.effect c.args.stays kept refl
     took.runs took.turned c.in-Deactivate.is
-    (c.in_ok-sleeps-in-Deactivate.ensures c.args.types.now)
+    (c.in_ok-sleeps-in-Deactivate.ensures.slept c.args.types.now)
 
 pub returns-in-End-clause-parts : goal.returns-in-End-clause-parts
 returns-in-End-clause-parts c reach n s sound at took kept reached ready =
@@ -121,7 +123,7 @@ returns-in-Return-clause-requests c = IfOk-weaker c.returns.result _ _ (λ said 
     c.args.process sound at c.args.effect took.runs took.turned
     work size c.args.worker.now q c.args.worker.now.requests.items
     (effect.Return c.in-Return.results) tt c.in-Return.is refl)
-    c.returns.ensures
+    c.returns.ensures.returned
 
 pub returns-in-Invoke-clause-requests : goal.returns-in-Invoke-clause-requests
 returns-in-Invoke-clause-requests c = IfOk-weaker c.invokes.result _ _ (λ said told reach n s work size sound at took kept q.
@@ -130,7 +132,7 @@ returns-in-Invoke-clause-requests c = IfOk-weaker c.invokes.result _ _ (λ said 
     c.args.process sound at c.args.effect took.runs took.turned
     work size c.args.worker.now q c.args.worker.now.requests.items
     (effect.Invoke c.in-Invoke.target c.in-Invoke.operation c.in-Invoke.args) tt c.in-Invoke.is refl)
-    c.invokes.ensures
+    c.invokes.ensures.invoked
 
 pub returns-in-End-clause-requests : goal.returns-in-End-clause-requests
 returns-in-End-clause-requests c reach n s work size sound at took kept q =
@@ -248,3 +250,39 @@ faults-requires c = may-active (λ crew queued. Runs crew c.args.process) (part_
 
 pub sleeps-requires : goal.sleeps-requires
 sleeps-requires c = may-active (λ crew queued. Runs crew c.args.process) (part_at c.args.self.now c.args.uid) c.requires.runs
+
+pub returns-in-Return-clause-asks : goal.returns-in-Return-clause-asks
+returns-in-Return-clause-asks c = on_ok_weaker c.returns.result (none-one c.args.calls.now c.returns.new.calls) c.returns.ensures.asks
+
+pub returns-in_ok-faults-in-Fault-clause-asks : goal.returns-in_ok-faults-in-Fault-clause-asks
+returns-in_ok-faults-in-Fault-clause-asks c = none-one c.args.calls.now c.faults.new.calls c.in_ok-faults-in-Fault.ensures.asks
+
+pub returns-in_ok-sleeps-in-Deactivate-clause-asks : goal.returns-in_ok-sleeps-in-Deactivate-clause-asks
+returns-in_ok-sleeps-in-Deactivate-clause-asks c = none-one c.args.calls.now c.sleeps.new.calls c.in_ok-sleeps-in-Deactivate.ensures.asks
+
+pub returns-in-End-clause-asks : goal.returns-in-End-clause-asks
+returns-in-End-clause-asks c = none-one c.args.calls.now c.args.calls.now refl
+
+pub returns-in-Lock-clause-asks : goal.returns-in-Lock-clause-asks
+returns-in-Lock-clause-asks c = none-one c.args.calls.now c.args.calls.now refl
+
+pub returns-in-Leave-clause-asks : goal.returns-in-Leave-clause-asks
+returns-in-Leave-clause-asks c = none-one c.args.calls.now c.args.calls.now refl
+
+pub returns-in-Wait-clause-asks : goal.returns-in-Wait-clause-asks
+returns-in-Wait-clause-asks c = none-one c.args.calls.now c.args.calls.now refl
+
+pub returns-in-Signal-clause-asks : goal.returns-in-Signal-clause-asks
+returns-in-Signal-clause-asks c = none-one c.args.calls.now c.args.calls.now refl
+
+pub returns-in-Yield-clause-asks : goal.returns-in-Yield-clause-asks
+returns-in-Yield-clause-asks c = none-one c.args.calls.now c.args.calls.now refl
+
+pub returns-in_ok-checkpoints-in-Checkpoint-clause-asks : goal.returns-in_ok-checkpoints-in-Checkpoint-clause-asks
+returns-in_ok-checkpoints-in-Checkpoint-clause-asks c = none-one c.args.calls.now c.args.calls.now refl
+
+pub returns-in_ok-destroys-in-Destroy-clause-asks : goal.returns-in_ok-destroys-in-Destroy-clause-asks
+returns-in_ok-destroys-in-Destroy-clause-asks c = none-one c.args.calls.now c.args.calls.now refl
+
+pub returns-in-Create-clause-asks : goal.returns-in-Create-clause-asks
+returns-in-Create-clause-asks c = any-on_ok c.creates.result (none-one c.args.calls.now c.args.calls.now refl)

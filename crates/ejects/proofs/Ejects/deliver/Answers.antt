@@ -2,6 +2,8 @@ use Rattle.std.proofs.Common.{◌≡◌, Some, ◌∙◌, ap, subst}
 use Rattle.std.proofs.lemmas.Result.{IfOk-weaker}
 use Rattle.invocation.specs.Carries.{CarriesDelivery}
 use Rattle.invocation.specs.declared.call.Delivery.TheVariants.{Request, Reply}
+use Rattle.std.proofs.lemmas.Result.{on_ok_weaker}
+use Rattle.ejects.proofs.Counting.{any-on_ok, delivered-none}
 use Rattle.ejects.proofs.Ejects.deliver.Goals as goal
 
 pub returns-in-Some-Request-clause-steps : goal.returns-in-Some-Request-clause-steps
@@ -21,3 +23,12 @@ returns-in-Some-clause-steps c = IfOk-weaker c.hear.result _ _ (λ e steps reach
     (subst (λ o. CarriesDelivery c.args.from c.args.self.now.table.node o c.deliver.new.self s.traffic) is
     (subst (λ k. CarriesDelivery c.args.from k c.deliver.result c.deliver.new.self s.traffic) c.number.ensures.value
     (c.deliver.ensures.model s.traffic at.calls)))) c.hear.ensures.steps
+
+pub returns-in-Some-Request-clause-asks : goal.returns-in-Some-Request-clause-asks
+returns-in-Some-Request-clause-asks c = on_ok_weaker c.request.result
+    (λ none. none ∙ delivered-none c.args.from c.number.result c.args.calls.now c.deliver.result c.deliver.new.self c.deliver.ensures.first)
+    c.request.ensures.asks
+
+pub returns-in-Some-clause-asks : goal.returns-in-Some-clause-asks
+returns-in-Some-clause-asks c = any-on_ok c.hear.result
+    (delivered-none c.args.from c.number.result c.args.calls.now c.deliver.result c.deliver.new.self c.deliver.ensures.first)

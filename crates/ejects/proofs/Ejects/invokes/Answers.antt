@@ -7,10 +7,11 @@ use Rattle.journal.specs.declared.event.Shown.TheVariants as shown
 use Rattle.journal.specs.Processes.{refused_at_once}
 use Rattle.active_part.specs.Bodies.{asking_body}
 use Rattle.ejects.specs.View.{parts_of, with_body}
+use Rattle.ejects.proofs.Counting.{asked-one}
 use Rattle.ejects.proofs.Ejects.invokes.Goals as goal
 
-pub returns : goal.returns
-returns c ts b is =
+pub returns-clause-invoked : goal.returns-clause-invoked
+returns-clause-invoked c ts b is =
     let asks = c.in_ok-asked.ensures.cases in
     let it = c.in_ok-asked.asked in
     let refused = refused_at_once (reaches c.args.places.now c.args.uid.node c.args.target.uid.node) c.args.args in
@@ -27,3 +28,6 @@ returns c ts b is =
           (with_call k (Process c.args.uid c.args.process) c.args.target c.args.operation c.args.args it.at_once t))
           number (c.in_ok-asked.ensures.model t carries));
     }
+
+pub returns-clause-asks : goal.returns-clause-asks
+returns-clause-asks c = asked-one _ _ _ _ _ c.args.calls.now c.ask.new.self c.in_ok-asked.asked c.in_ok-asked.ensures.cases

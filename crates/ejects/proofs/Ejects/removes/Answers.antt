@@ -13,15 +13,15 @@ use Rattle.ejects.proofs.Forgetting.{by-active, none-passive, forgotten-passive,
 use Rattle.ejects.proofs.Leaving.{parts_with}
 use Rattle.ejects.proofs.Ejects.removes.Goals as goal
 
-pub returns-in_ok-sleeps-in-Active : goal.returns-in_ok-sleeps-in-Active
-returns-in_ok-sleeps-in-Active c ts there =
+pub returns-in_ok-sleeps-in-Active-clause-went : goal.returns-in_ok-sleeps-in-Active-clause-went
+returns-in_ok-sleeps-in-Active-clause-went c ts there =
     by-active ts
     (λ o. WentAs o c.args.uid (parts_of ts c.args.self.now) (parts_of ts c.sleeps.new.self) c.args.calls.now c.sleeps.new.calls)
     (get c.args.self.now.table.standings c.args.uid) (sym c.find.ensures ∙ c.in-Active.is)
-    (λ b at. c.in_ok-sleeps-in-Active.ensures ts b at)
+    (λ b at. c.in_ok-sleeps-in-Active.ensures.slept ts b at)
 
-pub returns-in_ok-reply_all-in-Passive : goal.returns-in_ok-reply_all-in-Passive
-returns-in_ok-reply_all-in-Passive c ts there =
+pub returns-in_ok-reply_all-in-Passive-clause-went : goal.returns-in_ok-reply_all-in-Passive-clause-went
+returns-in_ok-reply_all-in-Passive-clause-went c ts there =
     let table = c.args.self.now.table in
     let waits = c.args.self.now.waiting.entries in
     let passive = sym c.find.ensures ∙ c.in-Passive.is in
@@ -33,9 +33,9 @@ returns-in_ok-reply_all-in-Passive c ts there =
       parts = forgotten-passive ts table c.forget.new.self waits c.args.uid passive c.forget.ensures
           c.take_waiting-queued.new.waiting.entries c.take_waiting-queued.ensures.at;
       calls = λ t carries out once. subst (λ ks. Carries c.reply_all.new.calls (all_replied status.Gone ks t)) queue
-          (c.in_ok-reply_all-in-Passive.ensures t carries (subst (AreOut t) (sym queue) out) (subst Distinct (sym queue) once));
+          (c.in_ok-reply_all-in-Passive.ensures.model t carries (subst (AreOut t) (sym queue) out) (subst Distinct (sym queue) once));
     })
 
-pub returns-in-Absent : goal.returns-in-Absent
-returns-in-Absent c ts there =
+pub returns-in-Absent-clause-went : goal.returns-in-Absent-clause-went
+returns-in-Absent-clause-went c ts there =
     absurd (there-none ts (get c.args.self.now.table.standings c.args.uid) (sym c.find.ensures ∙ c.in-Absent.is) there)

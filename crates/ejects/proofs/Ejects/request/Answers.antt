@@ -49,4 +49,4 @@ returns-in_ok-reply-in-Refused-clause-steps c reach s stands came =
     (request-refused reach (parts_of c.args.types.now c.args.self.now) c.args.calls.now s c.args.from c.args.call x stands came (sym
     c.in-Some.ensures) c.reply.new.calls c.in-Refused.status a
     (λ t carries out. subst (λ rs. Carries c.reply.new.calls (replied c.in-Refused.status rs c.args.call t)) c.no_items.ensures
-    (c.in_ok-reply-in-Refused.ensures t carries out)))
+    (c.in_ok-reply-in-Refused.ensures.model t carries out)))

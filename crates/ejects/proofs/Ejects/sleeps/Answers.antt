@@ -7,10 +7,11 @@ use Rattle.ejects.specs.View.{parts_of}
 use Rattle.ejects.specs.Passive.{HoldsPassive}
 use Rattle.ejects.specs.Replies.{Slept, slept}
 use Rattle.ejects.proofs.Leaving.{same-body, parts_with, left-passive, left-queued, slept-with, slept-without}
+use Rattle.ejects.proofs.Counting.{orphaned-none}
 use Rattle.ejects.proofs.Ejects.sleeps.Goals as goal
 
-pub returns-then-stays : goal.returns-then-stays
-returns-then-stays c ts b is =
+pub returns-then-stays-clause-slept : goal.returns-then-stays-clause-slept
+returns-then-stays-clause-slept c ts b is =
     let part = c.in-Some.part in
     let table = c.args.self.now.table in
     let same = same-body ts table c.args.uid part b c.in-Some.ensures.part is in
@@ -28,11 +29,11 @@ returns-then-stays c ts b is =
       calls = slept-with c.args.uid b c.args.calls.now c.orphan.new.self c.reply_pairs.new.calls c.reply_pairs.new.calls
           c.into_parts-parts.result.running
           (c.into_parts-parts.ensures.running ts ∙ ap (λ (y : Body). serving_pairs y.crew.crew.processes) same)
-          c.orphan.ensures.model c.in_ok-reply_pairs.ensures;
+          c.orphan.ensures.model c.in_ok-reply_pairs.ensures.model;
     })
 
-pub returns : goal.returns
-returns c ts b is =
+pub returns-clause-slept : goal.returns-clause-slept
+returns-clause-slept c ts b is =
     let part = c.in-Some.part in
     let table = c.args.self.now.table in
     let same = same-body ts table c.args.uid part b c.in-Some.ensures.part is in
@@ -50,5 +51,13 @@ returns c ts b is =
           c.into_parts-parts.result.queued
           (c.into_parts-parts.ensures.running ts ∙ ap (λ (y : Body). serving_pairs y.crew.crew.processes) same)
           (c.into_parts-parts.ensures.queued ts ∙ ap (λ (y : Body). calls_of y.crew.queued) same)
-          c.orphan.ensures.model c.in_ok-reply_pairs.ensures c.in_ok-reply_all.ensures t carries out_runs out_queued once);
+          c.orphan.ensures.model c.in_ok-reply_pairs.ensures.model c.in_ok-reply_all.ensures.model t carries out_runs out_queued once);
     }
+
+pub returns-then-stays-clause-asks : goal.returns-then-stays-clause-asks
+returns-then-stays-clause-asks c = c.in_ok-reply_pairs.ensures.asks
+    ∙ orphaned-none c.args.uid c.args.calls.now c.orphan.new.self c.orphan.ensures.after
+
+pub returns-clause-asks : goal.returns-clause-asks
+returns-clause-asks c = c.in_ok-reply_all.ensures.asks ∙ c.in_ok-reply_pairs.ensures.asks
+    ∙ orphaned-none c.args.uid c.args.calls.now c.orphan.new.self c.orphan.ensures.after

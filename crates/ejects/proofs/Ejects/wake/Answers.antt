@@ -7,8 +7,8 @@ use Rattle.ejects.specs.View.{parts_of}
 use Rattle.ejects.proofs.Waking.{wakes}
 use Rattle.ejects.proofs.Ejects.wake.Goals as goal
 
-pub returns : goal.returns
-returns c reach s p sound allowed starts at =
+pub returns-clause-turn : goal.returns-clause-turn
+returns-clause-turn c reach s p sound allowed starts at =
     let ts = c.args.types.now in
     let kind = kind_in ts c.args.begun.now.kind in
     let first = body_of ts c.in_ok-part.part in
@@ -17,5 +17,5 @@ returns c reach s p sound allowed starts at =
     c.join_all.new.calls s c.args.uid p kind c.args.begun.now.durable first later sound allowed starts at c.take_waiting-queued.ensures.at
     (c.in_ok-part.ensures.active ∙ ap (fresh kind) c.in_ok-vars.ensures.same) c.in_ok-part.ensures.queued
     (subst (λ ks. JoinsAll first later ks c.args.calls.now c.join_all.new.calls) c.take_waiting-queued.ensures.calls
-    c.in_ok-join_all.ensures)
+    c.in_ok-join_all.ensures.joins)
     (c.in_ok-enter.ensures ts)

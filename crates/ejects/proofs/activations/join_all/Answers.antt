@@ -20,10 +20,14 @@ loop-number-preserved c =
     (body_of ts c.join_or_answer.new.part) c.args.numbers.now i k
     (subst (λ l. drop i l ≡ k ∷ drop (suc i) l) same (drop-cons items i 0 c.loop-number-test.true)) c.loop-number.invariant.joining
     c.in_ok-join_or_answer.ensures.joins in
-    record { joining = joining; room = omega (arith, c.loop-number.invariant.room, c.in_ok-join_or_answer.ensures.one) }
+    record {
+      joining = joining;
+      room = omega (arith, c.loop-number.invariant.room, c.in_ok-join_or_answer.ensures.one);
+      asks = c.in_ok-join_or_answer.ensures.asks ∙ c.loop-number.invariant.asks;
+    }
 
-pub returns : goal.returns
-returns c =
+pub returns-clause-joins : goal.returns-clause-joins
+returns-clause-joins c =
     let items = c.deref-number-items.result.now in
     let i = c.loop-number.number-index in
     let same = c.deref-number-items.ensures.value ∙ c.numbers.view_is in

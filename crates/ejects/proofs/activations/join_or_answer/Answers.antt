@@ -24,7 +24,7 @@ returns-in_ok-reply-in-Misfits-clause-joins c =
     (c.kind.ensures ts) in
     joins-misfit (body_of ts c.args.part.now) c.args.number x c.args.calls.now (sym c.in-Some.ensures) c.reply.new.calls c.in-Misfits.status
     misfits (λ t carries out. subst (λ rs. Carries c.reply.new.calls (replied c.in-Misfits.status rs c.args.number t)) c.no_items.ensures
-    (c.in_ok-reply-in-Misfits.ensures t carries out))
+    (c.in_ok-reply-in-Misfits.ensures.model t carries out))
 
 pub returns-in_default-clause-joins : goal.returns-in_default-clause-joins
 returns-in_default-clause-joins c = joins-unasked (body_of c.args.types.now c.args.part.now) c.args.number c.args.calls.now c.in_default.ensures

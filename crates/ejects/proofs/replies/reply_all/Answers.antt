@@ -10,7 +10,8 @@ loop-number-preserved c =
     let i = c.loop-number.number-index in
     let k = get_or items i 0 in
     let same = c.deref-number-items.ensures.value ∙ c.numbers.view_is in
-    answering-at c.args.status c.args.calls.now c.loop-number.calls c.reply.new.calls c.args.numbers.now i k
-    (subst (λ l. drop i l ≡ k ∷ drop (suc i) l) same (drop-cons items i 0 c.loop-number-test.true)) c.loop-number.invariant
+    let answering = answering-at c.args.status c.args.calls.now c.loop-number.calls c.reply.new.calls c.args.numbers.now i k
+    (subst (λ l. drop i l ≡ k ∷ drop (suc i) l) same (drop-cons items i 0 c.loop-number-test.true)) c.loop-number.invariant.answering
     (λ t carries out. subst (λ rs. Carries c.reply.new.calls (replied c.args.status rs k t)) c.no_items.ensures
-    (c.in_ok-reply.ensures t carries out))
+    (c.in_ok-reply.ensures.model t carries out)) in
+    record { answering = answering; asks = c.in_ok-reply.ensures.asks ∙ c.loop-number.invariant.asks }

@@ -1,4 +1,4 @@
-use Rattle.std.proofs.Common.{sym, subst, ap, arith, true}
+use Rattle.std.proofs.Common.{refl, sym, subst, ap, arith, true}
 use Rattle.passive_store.specs.Seen.{Seen}
 use Rattle.ejects.specs.Events.{IsDelivery}
 use Rattle.ejects.specs.Replies.{Reaches}
@@ -9,6 +9,8 @@ use Rattle.scheduled_node.proofs.NodeEvents.{turn-delivered, turn-started, turn-
 use Rattle.scheduled_node.proofs.KeysOf.{key-delivered, key-activated, key-started, key-turned, key-stored, node-of}
 use Rattle.scheduled_node.proofs.Standing.{allowed-by, starves-behind}
 use Rattle.scheduled_node.proofs.Touched.{starves-same, touches-stored}
+use Rattle.std.proofs.lemmas.Result.{on_ok_weaker}
+use Rattle.ejects.proofs.Counting.{none-one}
 use Rattle.scheduled_node.proofs.steps.key_turn.Goals as goal
 
 pub returns-in_ok-event-in-1-clause-turn : goal.returns-in_ok-event-in-1-clause-turn
@@ -172,3 +174,17 @@ process-requires-clause-may g c = c.requires.has.process c.in-4.is
 
 pub store_turn-requires-clause-pending : goal.store_turn-requires-clause-pending
 store_turn-requires-clause-pending g c = c.requires.has.store c.in-5.is
+
+-- one call is asked at most
+
+pub returns-in_ok-event-in-1-clause-asks : goal.returns-in_ok-event-in-1-clause-asks
+returns-in_ok-event-in-1-clause-asks g c = none-one c.args.calls.now c.deliver.new.calls c.in_ok-event-in-1.ensures.asks
+
+pub returns-in-2-clause-asks : goal.returns-in-2-clause-asks
+returns-in-2-clause-asks g c = on_ok_weaker c.activate.result (none-one c.args.calls.now c.activate.new.calls) c.activate.ensures.asks
+
+pub returns-in_ok-event-in-3-clause-asks : goal.returns-in_ok-event-in-3-clause-asks
+returns-in_ok-event-in-3-clause-asks g c = none-one c.args.calls.now c.args.calls.now refl
+
+pub returns-in-5-clause-asks : goal.returns-in-5-clause-asks
+returns-in-5-clause-asks g c = on_ok_weaker c.store_turn.result (none-one c.args.calls.now c.store_turn.new.calls) c.store_turn.ensures.asks

@@ -1,6 +1,8 @@
-use Rattle.std.proofs.Common.{refl, inl}
+use Rattle.std.proofs.Common.{◌-◌, refl, inl}
+use Rattle.journal.specs.Run.{most_turns}
 use Rattle.runs.proofs.Leading.{begun-starved, on-reached, shown-push, on-err}
 use Rattle.runs.proofs.Walking.{asked-on}
+use Rattle.runs.proofs.Asked.{number-of-entry, entry-spares}
 use Rattle.runs.proofs.run.Run.ask.Goals as goal
 
 pub returns-in_err-entry-clause-fails : goal.returns-in_err-entry-clause-fails
@@ -21,3 +23,11 @@ pub returns-clause-shown : goal.returns-clause-shown
 returns-clause-shown g c = shown-push g.M.Machine.shows c.args.self.now c.in_ok-entry.entry c.push_reserved.new.self.items
     c.look_up.new.self
     (rw (c.push_reserved.ensures.items, c.reserve.ensures.items) refl) (inl c.in_ok-entry.ensures.shows)
+
+pub look_up-requires-clause-calls : goal.look_up-requires-clause-calls
+look_up-requires-clause-calls g c = number-of-entry (g.M.Machine.asked c.args.self.now.machine) (most_turns - c.args.self.now.turns)
+    c.requires.calls
+
+pub returns-clause-asks : goal.returns-clause-asks
+returns-clause-asks g c = entry-spares (g.M.Machine.asked c.args.self.now.machine) (g.M.Machine.asked c.look_up.new.self)
+    (most_turns - c.args.self.now.turns) c.in_ok-entry.ensures.asks

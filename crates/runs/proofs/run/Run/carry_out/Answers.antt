@@ -5,6 +5,9 @@ use Rattle.runs.specs.Runs.{TakesCommand, CommandFails, CarriesCommand, PartOfCo
 use Rattle.runs.proofs.Leading.{shown-left}
 use Rattle.runs.proofs.Going.{go-command, go-part, turn-command, turn-part}
 use Rattle.runs.proofs.Carrying.{carries-single, fails-single}
+use Rattle.runs.specs.Room.{entries_of}
+use Rattle.runs.specs.Runs.{HasNumbers, SparesNumbers}
+use Rattle.runs.proofs.Asked.{single-one}
 use Rattle.runs.proofs.run.Run.carry_out.Goals as goal
 
 pub returns-then-is_single-clause-done : goal.returns-then-is_single-clause-done
@@ -67,3 +70,32 @@ pub returns-in-Walk-clause-part : goal.returns-in-Walk-clause-part
 returns-in-Walk-clause-part g c = subst (λ x. OnErr c.walk.result
     (PartOfCommand g.M.Machine.stands g.M.Machine.did g.M.Machine.starved c.args.self.now c.walk.new.self x))
     (sym c.in-Walk.is) c.walk.ensures.part
+
+pub command-requires-clause-calls : goal.command-requires-clause-calls
+command-requires-clause-calls g c = subst (HasNumbers g.M.Machine.asked c.args.self.now)
+    (single-one c.args.command.now (sym c.is_single.ensures ∙ c.if-is_single.true)) c.requires.calls
+
+pub returns-then-is_single-clause-asks : goal.returns-then-is_single-clause-asks
+returns-then-is_single-clause-asks g c = subst (λ k. OnOk c.command.result (SparesNumbers g.M.Machine.asked c.args.self.now k
+    c.command.new.self 0)) (sym (single-one c.args.command.now (sym c.is_single.ensures ∙ c.if-is_single.true))) c.command.ensures.asks
+
+pub go-requires-clause-calls : goal.go-requires-clause-calls
+go-requires-clause-calls g c = subst (λ x. HasNumbers g.M.Machine.asked c.args.self.now (entries_of x)) c.in-Go.is c.requires.calls
+
+pub returns-in-Go-clause-asks : goal.returns-in-Go-clause-asks
+returns-in-Go-clause-asks g c = subst (λ x. OnOk c.go.result (SparesNumbers g.M.Machine.asked c.args.self.now (entries_of x)
+    c.go.new.self 0)) (sym c.in-Go.is) c.go.ensures.asks
+
+pub turn-requires-clause-calls : goal.turn-requires-clause-calls
+turn-requires-clause-calls g c = subst (λ x. HasNumbers g.M.Machine.asked c.args.self.now (entries_of x)) c.in-Turn.is c.requires.calls
+
+pub returns-in-Turn-clause-asks : goal.returns-in-Turn-clause-asks
+returns-in-Turn-clause-asks g c = subst (λ x. OnOk c.turn.result (SparesNumbers g.M.Machine.asked c.args.self.now (entries_of x)
+    c.turn.new.self 0)) (sym c.in-Turn.is) c.turn.ensures.asks
+
+pub walk-requires-clause-calls : goal.walk-requires-clause-calls
+walk-requires-clause-calls g c = subst (λ x. HasNumbers g.M.Machine.asked c.args.self.now (entries_of x)) c.in-Walk.is c.requires.calls
+
+pub returns-in-Walk-clause-asks : goal.returns-in-Walk-clause-asks
+returns-in-Walk-clause-asks g c = subst (λ x. OnOk c.walk.result (SparesNumbers g.M.Machine.asked c.args.self.now (entries_of x)
+    c.walk.new.self 0)) (sym c.in-Walk.is) c.walk.ensures.asks

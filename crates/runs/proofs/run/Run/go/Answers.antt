@@ -10,6 +10,7 @@ loop-init g c = let all : c.args.n ≡ c.args.n - 0 = omega arith in record {
   going = λ some. subst (IsGoing g.M.Machine.stands g.M.Machine.did c.args.self.now c.args.self.now c.args.n) all
       (going-start g.M.Machine.stands g.M.Machine.did c.args.self.now c.args.n some);
   shown = λ first all. all;
+  asks = omega arith;
   whole = c.requires.whole;
 }
 
@@ -49,6 +50,7 @@ loop-preserved g c =
           c.in_ok-take_turn.ensures.done);
       shown = shown-then g.M.Machine.shows c.args.self.now c.loop.self c.take_turn.new.self c.loop.invariant.shown
           c.in_ok-take_turn.ensures.shown;
+      asks = omega (arith, c.loop.invariant.asks, c.in_ok-take_turn.ensures.asks);
       whole = c.in_ok-take_turn.ensures.whole;
     }
 
@@ -57,3 +59,9 @@ returns-clause-done g c some =
     let none : c.args.n - c.loop.counter ≡ 0 = omega (arith, c.loop-test.false) in
     going-end g.M.Machine.stands g.M.Machine.did c.args.self.now c.args.n c.loop.self
     (subst (IsGoing g.M.Machine.stands g.M.Machine.did c.args.self.now c.loop.self c.args.n) none (c.loop.invariant.going some))
+
+pub take_turn-requires-clause-calls : goal.take_turn-requires-clause-calls
+take_turn-requires-clause-calls g c = omega (arith, c.loop.invariant.asks, c.requires.calls)
+
+pub returns-then-not-branch-clause-asks : goal.returns-then-not-branch-clause-asks
+returns-then-not-branch-clause-asks g c = omega (arith, c.loop.invariant.asks, c.in_ok-take_turn.ensures.asks)

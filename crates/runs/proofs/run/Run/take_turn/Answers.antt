@@ -4,6 +4,7 @@ use Rattle.runs.specs.Runs.{chosen_by}
 use Rattle.journal.specs.Enabled.{enabled}
 use Rattle.runs.proofs.Repeating.{repeats-next}
 use Rattle.runs.proofs.Leading.{took-spent, took-quiet, took-key, turn-starved, on-reached, chosen-Contains, shown-push, on-err}
+use Rattle.runs.proofs.Asked.{number-of-turn, turn-spares}
 use Rattle.runs.proofs.run.Run.take_turn.Goals as goal
 
 pub returns-then-self-ge-MOST_TURNS-clause-done : goal.returns-then-self-ge-MOST_TURNS-clause-done
@@ -56,3 +57,11 @@ returns-in-None-clause-shown g c = shown-push g.M.Machine.shows c.args.self.now 
     c.push_reserved-in-None.new.self.items
     c.args.self.now.machine
     (rw (c.push_reserved-in-None.ensures.items, c.reserve.ensures.items) refl) (rw c.plain-in-None.ensures (inr (refl, refl)))
+
+pub take-requires-clause-calls : goal.take-requires-clause-calls
+take-requires-clause-calls g c = number-of-turn (g.M.Machine.asked c.args.self.now.machine) c.args.self.now.turns c.requires.calls
+    (omega (arith, c.if-self-ge-MOST_TURNS.false))
+
+pub returns-in_ok-entry-in-Some-clause-asks : goal.returns-in_ok-entry-in-Some-clause-asks
+returns-in_ok-entry-in-Some-clause-asks g c = turn-spares (g.M.Machine.asked c.args.self.now.machine) (g.M.Machine.asked c.take.new.self)
+    c.args.self.now.turns (omega (arith, c.if-self-ge-MOST_TURNS.false)) c.in_ok-entry-in-Some.ensures.asks

@@ -1,4 +1,4 @@
-use Rattle.std.proofs.Common.{subst}
+use Rattle.std.proofs.Common.{subst, arith}
 use Rattle.runs.specs.Runs.{TakesTurn}
 use Rattle.runs.specs.declared.run.Choice.TheVariants.{Following}
 use Rattle.runs.proofs.Leading.{on-err, shown-then}
@@ -9,6 +9,7 @@ pub loop-init : goal.loop-init
 loop-init g c = record {
   waiting = waiting-start g.M.Machine.stands g.M.Machine.did c.args.self.now c.args.name.now c.args.call;
   shown = λ first all. all;
+  asks = omega arith;
   whole = c.requires.whole;
 }
 
@@ -35,6 +36,7 @@ loop-preserved g c = record {
       c.if-not-is_open.ensures;
   shown = shown-then g.M.Machine.shows c.args.self.now c.loop.self c.take_turn.new.self c.loop.invariant.shown
       c.in_ok-take_turn.ensures.shown;
+  asks = omega (arith, c.loop.invariant.asks, c.in_ok-take_turn.ensures.asks);
   whole = c.in_ok-take_turn.ensures.whole;
 }
 
@@ -44,3 +46,12 @@ returns-clause-done g c =
     c.loop.invariant.waiting
     (subst (TakesTurn g.M.Machine.stands g.M.Machine.did c.loop.self c.take_turn.new.self Following) c.if-branch.false
     c.in_ok-take_turn.ensures.done)
+
+pub take_turn-requires-clause-calls : goal.take_turn-requires-clause-calls
+take_turn-requires-clause-calls g c = omega (arith, c.loop.invariant.asks, c.requires.calls)
+
+pub returns-then-not-is_open-clause-asks : goal.returns-then-not-is_open-clause-asks
+returns-then-not-is_open-clause-asks g c = omega (arith, c.loop.invariant.asks, c.in_ok-take_turn.ensures.asks)
+
+pub returns-clause-asks : goal.returns-clause-asks
+returns-clause-asks g c = omega (arith, c.loop.invariant.asks, c.in_ok-take_turn.ensures.asks)
