@@ -54,9 +54,10 @@ none-on layout n (Some d) there = (refl, refl)
 
 -- 3. All steps of a run
 
--- each step of it does this to the disk
+-- each step of it does this to the disk, where it is there
 abbrev pub EachOn : {M : Type 0} → Layout → ℕ → Did M → (M → Option DiskSeen) → Type 0
-EachOn layout n did disk = (old new : _) (s : Step) → did old s new → StepOn layout n s (disk old) (disk new)
+EachOn layout n did disk =
+    (old new : _) (s : Step) → is_some (disk old) ≡ true → did old s new → StepOn layout n s (disk old) (disk new)
 
 pub run-on : {M : Type 0} (layout : Layout) (n : ℕ) (did : Did M) (disk : M → Option DiskSeen) → (0 == n) ≡ false
     → EachOn layout n did disk → (run past : List Step) (first last : M) → is_some (disk first) ≡ true
@@ -71,7 +72,7 @@ run-on layout n did disk some each (s ∷ run) past first last there still (betw
         → StepOn layout n s (disk first) (disk between)
     go true idle same = subst (λ m. StepOn layout n s (disk first) (disk m)) (sym same)
         (still-on layout n s (disk first) some there (still.0 idle))
-    go false busy did_so = each first between s did_so
+    go false busy did_so = each first between s there did_so
 
     step : StepOn layout n s (disk first) (disk between)
     step = go (is_idle s.entry.event) refl one
@@ -99,14 +100,15 @@ ends-level layout n last None p there same = absurd (let bad : false ≡ true = 
 ends-level layout n last (Some d) p there same = subst (EndsOn layout n last (Some d)) (sym same)
     (ends-whole layout n last (unfinished last) d.told d.counts.clock)
 
-run-there : (layout : Layout) (n : ℕ) (run : List Step) (o p : Option DiskSeen) → RunOn layout n run o p → is_some p ≡ true
+pub run-there : (layout : Layout) (n : ℕ) (run : List Step) (o p : Option DiskSeen) → RunOn layout n run o p → is_some p ≡ true
 run-there layout n run None p on = absurd on
 run-there layout n run (Some a) None on = absurd on
 run-there layout n run (Some a) (Some b) on = refl
 
 -- want of memory ended the run
 abbrev pub EachEndsOn : {M : Type 0} → Layout → ℕ → Starved M → (M → Option DiskSeen) → Type 0
-EachEndsOn layout n starved disk = (old new : _) (more : ℕ) (w : World) → starved old more w new → EndsOn layout n w (disk old) (disk new)
+EachEndsOn layout n starved disk = (old new : _) (more : ℕ) (w : World) → is_some (disk old) ≡ true → starved old more w new
+    → EndsOn layout n w (disk old) (disk new)
 
 pub throughout-part : {M : Type 0} (layout : Layout) (n least : ℕ) (stands : Stands M) (did : Did M) (starved : Starved M)
     (disk : M → Option DiskSeen)
@@ -120,7 +122,8 @@ throughout-part layout n least stood did starved disk p history first last obeys
     throughout-ends layout n p history obeys x y (disk between) stands
     (subst (λ o. RunOn layout n (steps p history) o (disk between)) was on)
     (subst (λ o. EndsOn layout n (end_of p history).world (disk between) o) is (elim rest [
-      | inl begun ↦ ends between last begun.0 (end_of p history).world begun.2
+      | inl begun ↦ ends between last begun.0 (end_of p history).world
+          (run-there layout n (steps p history) (disk first) (disk between) on) begun.2
       | inr same ↦ ends-level layout n (end_of p history).world (disk between) (disk last)
           (run-there layout n (steps p history) (disk first) (disk between) on) (ap disk same)
     ]))

@@ -1,5 +1,5 @@
 -- A failure or a stop is asked of a disk: its entry shows the disk's clock, and nothing else changes but what falls due.
-use Rattle.std.proofs.Common.{◌≡◌, inl, inr, ℕ, zero, suc, ◌≤◌, ◌==◌, false, cond, [], Option, None, Some, refl}
+use Rattle.std.proofs.Common.{◌≡◌, inl, inr, ℕ, zero, suc, ◌≤◌, ◌==◌, false, cond, [], Option, None, Some, refl, is_some}
 use Rattle.std.proofs.Common.{sym, ◌∙◌, ap}
 use Rattle.std.proofs.Common.{subst, arith}
 use Rattle.std.specs.Prelude.{IfSome}
@@ -37,7 +37,7 @@ use Rattle.eden_world.specs.Worlds.{Seat, up, down, InHand, DownStands, DiskStan
 use Rattle.eden_world.specs.Steps.{TakesSeat, Goes, step_by, disk_of}
 use Rattle.eden_world.proofs.Messages.{fewer}
 use Rattle.eden_world.proofs.Numbers.{no-shell}
-use Rattle.eden_world.proofs.InWorld.{IsThere, is-there, with_node, node-with, with-itself, same-links, links-of, seat-in-world}
+use Rattle.eden_world.proofs.InWorld.{IsThere, sits-there, seat-stands, with_node, node-with, with-itself, same-links, links-of, seat-in-world}
 use Rattle.eden_world.proofs.Sites.{clocked_as, clocked-already, clocked-here}
 use Rattle.eden_world.proofs.Disks.{each-disk, state-same}
 use Rattle.eden_world.proofs.TurnEntries.{IsUp, is-up, no-names}
@@ -96,7 +96,7 @@ module _ (layout : Layout) (more : ℕ) (old new : InHand) (w : World) (c : Comm
       store_clock = subst (λ v. StoreClock w v e.clock) (sym shows.event) tt;
     };
     stands = subst (WorldStands layout more new) (sym next_is) (seat-in-world layout more old new w n (clocked_as clock it) w.traffic seat
-        stands number takes.types takes.here takes.others takes.names (keeps-same w.traffic w.traffic refl)
+        stands number (ap is_some at) takes.types takes.here takes.others takes.names (keeps-same w.traffic w.traffic refl)
         (subst (λ m. Carries m w.traffic) (sym takes.mail) stands.calls)
         (subst (λ m. SeatStands layout old.types m more (site_of w n (clocked_as clock it)) seat) (sym takes.mail) sits_later)
         (same-links n it (clocked_as clock it) w.traffic w old new at refl takes.places (links-of layout (suc more) old w stands)));
@@ -128,7 +128,7 @@ armed-up-goes layout more old new w c e n what h x stands number sits takes whol
     (on_disk (site_of w n was.it) was.stands.stands)))
   where
     was : IsUp layout (suc more) old w n h
-    was = is-up layout (suc more) old w n h stands number sits
+    was = is-up layout (suc more) old w n h stands sits
 
     node_is : h.seen.node ≡ n
     node_is = sym was.stands.whole.number ∙ was.stands.number
@@ -232,13 +232,10 @@ armed-down-goes layout more old new w c e n what noted d x stands number sits ta
     (step-still layout n (step_by w (Some c) e) x.told x.counts.clock shows.node shows.shown state_later)))
   where
     was : IsThere layout (suc more) old w n
-    was = is-there layout (suc more) old w n stands number
-
-    same : was.seat ≡ down noted d
-    same = let e : Some was.seat ≡ Some (down noted d) = sym was.sits ∙ sits in cc e
+    was = sits-there layout (suc more) old w n (down noted d) stands sits
 
     stood_before : DownStands layout (suc more) (site_of w n was.it) noted d
-    stood_before = subst (SeatStands layout old.types old.mail (suc more) (site_of w n was.it)) same was.stands
+    stood_before = seat-stands layout (suc more) old w n (down noted d) was sits
 
     -- what counts of the disk is the same
     stood : DownStands layout (suc more) (site_of w n was.it) noted x

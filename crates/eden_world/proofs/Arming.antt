@@ -1,4 +1,5 @@
 -- A failure or a stop is asked of the disk at a place of a program: what that shows, and the step of the world.
+use Rattle.std.proofs.Common.{is_some}
 use Rattle.std.proofs.Common.{◌≡◌, ◌==◌, inl, ℕ, suc, Bool, true, false, Option, None, Some, refl, sym, ◌∙◌, ap, subst, arith, unwrap_or}
 use Rattle.std.specs.Prelude.{IsTrue}
 use Rattle.std.specs.Option.{option_map}
@@ -10,7 +11,7 @@ use Rattle.passive_store.specs.Kept.{Layout}
 use Rattle.passive_store.specs.Seen.{Seen, DiskSeen}
 use Rattle.passive_store.specs.declared.store.Doubt.{Doubt}
 use Rattle.journal.specs.Commands.{AllowsCommand}
-use Rattle.journal.specs.World.{World, site_of}
+use Rattle.journal.specs.World.{World, site_of, Node, node_at}
 use Rattle.journal.specs.declared.event.Entry.{Entry}
 use Rattle.journal.specs.declared.event.Event.TheVariants as event
 use Rattle.disk_faults.specs.Elsewhere.{shown_of}
@@ -39,7 +40,7 @@ use Rattle.eden_world.proofs.CarriedOut.{clock-of-seat}
 use Rattle.eden_world.proofs.Crashing.{shown-there}
 use Rattle.eden_world.proofs.Falls.{apart}
 use Rattle.eden_world.proofs.InWorld.{IsThere, is-there}
-use Rattle.eden_world.proofs.Seating.{eight-behind}
+use Rattle.eden_world.proofs.Seating.{places-behind}
 use Rattle.eden_world.proofs.TurnEntries.{IsUp, is-up}
 use Rattle.eden_world.proofs.Untouched.{ShowsOf, elsewhere-shows}
 use Rattle.eden_world.proofs.Vacating.{back, others-stay, rest-stays}
@@ -124,7 +125,7 @@ module _ {T D : Type 0} (tells obeys : Bool) (layout : Layout) (seen : T → See
   pub arms-whole : FitsTogether seen old → FitsTogether seen new
   arms-whole fits = record {
     nodes = nodes;
-    eight = eight-behind old new x.rest fits.eight;
+    places = places-behind old new x.rest fits.places;
     seated = seated;
   }
     where
@@ -161,7 +162,7 @@ module _ {T D : Type 0} (tells obeys : Bool) (layout : Layout) (seen : T → See
 
       by-place : IsNumber n → (o : Option (Place T D)) → place_at old n ≡ o → At o
           → ShowsOf heeding n e (seen_at seen look o) (seen_at seen look (place_at new n))
-      by-place its_number None was y = tt
+      by-place its_number None was y = ap (seen_at seen look) y
       by-place its_number (Some (place.Up s)) was y =
           let a : Seat = up (held seen s.node) in
           let d : DiskSeen = (seen y.arms.0.node.store).disk in
@@ -175,7 +176,7 @@ module _ {T D : Type 0} (tells obeys : Bool) (layout : Layout) (seen : T → See
           ap (λ o. option_map disk_of (seen_at seen look o)) (y.there ∙ ap Some y.arms.1) in
           shown-there heeding n e (Some a) (seen_at seen look (place_at new n)) a (look y.arms.0) refl there
           (here-shows its_number a (look y.arms.0) there y.arms.2.counts y.arms.2.due)
-      by-place its_number (Some place.Moving) was y = tt
+      by-place its_number (Some place.Moving) was y = ap (seen_at seen look) (y.there ∙ ap Some y.arms)
 
       go : (b : Bool) → (m == n) ≡ b → ShowsOf heeding m e (seen_at seen look (place_at old m)) (seen_at seen look (place_at new m))
       go true is = subst (λ j. ShowsOf heeding j e (seen_at seen look (place_at old j)) (seen_at seen look (place_at new j)))
@@ -226,6 +227,11 @@ armed-number : (w : World) (n : ℕ) (what : Arm) → IsFitIn w (arms_by what n)
 armed-number w n (arm.Fail after) fit = record { first = fit.fit.numbers.0.0; last = omega (arith, fit.fit.numbers.0.1, fit.few) }
 armed-number w n (arm.Stop after mode) fit = record { first = fit.fit.numbers.0.0; last = omega (arith, fit.fit.numbers.0.1, fit.few) }
 
+-- the world has the node
+armed-there : (w : World) (n : ℕ) (what : Arm) → IsFitIn w (arms_by what n) → is_some (node_at w n) ≡ true
+armed-there w n (arm.Fail after) fit = fit.offers.there n fit.fit.numbers.0.0 fit.fit.numbers.0.1
+armed-there w n (arm.Stop after mode) fit = fit.offers.there n fit.fit.numbers.0.0 fit.fit.numbers.0.1
+
 pub arms-carried : {T D : Type 0} (tells obeys : Bool) (layout : Layout) (seen : T → Seen) (look : D → DiskSeen) (what : Arm) (n : ℕ)
     (old new : Program T D) (e : Entry) → ArmsPlace tells obeys layout seen look what n old new
     → ShowsArmed e n (clock_in (seen_at seen look (place_at new n))) what → CarriesBy tells layout seen look old new (arms_by what n) e
@@ -234,11 +240,16 @@ arms-carried {T} {D} tells obeys layout seen look what n old new e x shows more 
     number : IsNumber n
     number = armed-number w n what fit
 
-    there : IsThere layout (suc more) (in_hand seen look old) w n
-    there = is-there layout (suc more) (in_hand seen look old) w n h.world number
-
     nothing : seen_at seen look (place_at old n) ≡ None → GoesOn layout seen look old new more w (Some (arms_by what n)) e
-    nothing none = absurd (let bad : None ≡ Some there.seat = sym none ∙ there.sits in cc bad)
+    nothing none = on (node_at w n) refl (armed-there w n what fit)
+      where
+        on : (o : Option Node) → node_at w n ≡ o → is_some (node_at w n) ≡ true
+            → GoesOn layout seen look old new more w (Some (arms_by what n)) e
+        on None at some = absurd (let bad : false ≡ true = sym (ap is_some at) ∙ some in cc bad)
+        on (Some it) at some =
+            let there : IsThere layout (suc more) (in_hand seen look old) w n = is-there layout (suc more) (in_hand seen look old) w n it
+            h.world at in
+            absurd (let bad : None ≡ Some there.seat = sym none ∙ there.sits in cc bad)
 
     shows-at : (k : ℕ) → clock_in (seen_at seen look (place_at new n)) ≡ k → ShowsArmed e n k what
     shows-at k is = record { event = shows.event; node = shows.node; shown = shows.shown ∙ is; broken = shows.broken }
@@ -262,7 +273,7 @@ arms-carried {T} {D} tells obeys layout seen look what n old new e x shows more 
         sits = ap (seen_at seen look) was
 
         stood : IsUp layout (suc more) (in_hand seen look old) w n (held seen s.node)
-        stood = is-up layout (suc more) (in_hand seen look old) w n (held seen s.node) h.world number sits
+        stood = is-up layout (suc more) (in_hand seen look old) w n (held seen s.node) h.world sits
 
     at-down : (d y : D) (doubt : Option Doubt) → place_at old n ≡ Some (place.Down d doubt) → place_at new n ≡ Some (place.Down y doubt)
         → ArmsDisk obeys what (look d) (look y) → GoesOn layout seen look old new more w (Some (arms_by what n)) e

@@ -9,10 +9,10 @@ use Rattle.journal.specs.declared.event.Key.{Key}
 use Rattle.journal.specs.World.{World, Node, node_at, site_of}
 use Rattle.journal.specs.Enabled.{delivery, deliveries, is_past, node_keys, stations}
 use Rattle.runs.specs.Reached.{IsReached}
-use Rattle.eden_world.specs.Worlds.{eight}
-use Rattle.eden_world.specs.Listed.{nine, keys_from, mail_keys, node_keys_at, keys_at}
+use Rattle.eden_world.specs.Worlds.{numbers_from}
+use Rattle.eden_world.specs.Listed.{keys_from, mail_keys, node_keys_at, keys_at}
 use Rattle.eden_world.proofs.EnabledKeys.{IsAt, node-keys}
-use Rattle.eden_world.proofs.KeyLists.{find-append, next-from}
+use Rattle.eden_world.proofs.KeyLists.{few-stations, find-append, next-from}
 
 -- where none passes nothing is found
 none-by : {X : Type 0} (Q : X → Type 0) (P : X → Bool) (xs : List X) → ((x : X) → Q x → P x ≡ false) → AllByRecursion Q xs
@@ -35,15 +35,9 @@ none-waiting P m to [] none each = refl
 none-waiting P m to (n ∷ ns) none each = next-from P m to n ns ∙ rw (none n each.0) (none-waiting P m to ns none each.1)
 
 -- no delivery at a station to which no message is on its way
-pub no-mail : (P : Key → Bool) (m : Mail) (to : ℕ) → ((from : ℕ) → from ≤ 8 → is_waiting from to m ≡ false)
-    → find P (mail_keys m to) ≡ None
-no-mail P m to none = none-waiting P m to nine none within
-  where
-    behind : AllByRecursion (λ n. n ≤ 8) eight
-    behind = (omega arith, (omega arith, (omega arith, (omega arith, (omega arith, (omega arith, (omega arith, (omega arith, tt))))))))
-
-    within : AllByRecursion (λ n. n ≤ 8) nine
-    within = (omega arith, behind)
+pub no-mail : (P : Key → Bool) (m : Mail) (to c : ℕ) → c ≤ 9 → ((from : ℕ) → from ≤ 8 → is_waiting from to m ≡ false)
+    → find P (mail_keys c m to) ≡ None
+no-mail P m to c few none = none-waiting P m to (numbers_from 0 c) none (few-stations 0 c (omega (arith, few)))
 
 -- no key of a station
 pub no-key : (last : Option Key) (w : World) (n : ℕ) → IsReached w → ((k : Key) → k.station ≡ n → is_past last k ≡ false)

@@ -29,14 +29,14 @@ use Rattle.journal.specs.Commands.{AllowsCommand}
 use Rattle.journal.specs.Boots.{AllowsBoot, boot_turn, booted_node}
 use Rattle.journal.specs.Settling.{settled, settled_eject}
 use Rattle.journal.specs.Sites.{Everywhere, HasEpochs}
-use Rattle.journal.specs.Standing.{state, unfinished}
+use Rattle.journal.specs.Standing.{state}
 use Rattle.journal.specs.Step.{Allows, ClockFits, StoreClock, breaks, touched, happened, next, key_of, site_turn}
 use Rattle.history_laws.proofs.KeptTurns.{value-each}
 use Rattle.history_laws.proofs.SiteFrames.{keeps-site}
 use Rattle.checkpoint.specs.BarredBoots.{Bar, BarStands, FallsBarred, StaysBarred}
 use Rattle.checkpoint.specs.Boots.{put_after, BootsDown, FallsTo}
 use Rattle.checkpoint.specs.StoreStands.{NodeOnDisk}
-use Rattle.checkpoint.specs.Throughout.{StepOnDisk, EndsOnDisk}
+use Rattle.checkpoint.specs.Throughout.{StepOnDisk}
 use Rattle.checkpoint.specs.Turns.{with_clock, RestStands, ClockStands}
 use Rattle.checkpoint.specs.declared.up.BootNote.{BootNote}
 use Rattle.checkpoint.proofs.Throughout.{timed-rises}
@@ -51,7 +51,7 @@ use Rattle.eden_world.specs.Steps.{disk_of, Goes, EachEnds}
 use Rattle.eden_world.specs.Told.{Reseats, SetsUp, EntryShows, marked}
 use Rattle.eden_world.proofs.Alike.{Alike, node-alike, rest-alike, bar-alike, asleep-alike}
 use Rattle.eden_world.proofs.Broken.{no-names}
-use Rattle.eden_world.proofs.EightKeys.{number-of}
+use Rattle.eden_world.proofs.NodeKeys.{number-of}
 use Rattle.eden_world.proofs.Reach.{ups-set}
 use Rattle.eden_world.proofs.Reseating.{Renodes, renodes-turn, with_time, traffic-marked, traffic-at_node, reseated}
 use Rattle.eden_world.proofs.Falls.{alike-timed, up-timed, some-number, node-of, clock-fits, disks-besides, ends-besides, apart}
@@ -401,7 +401,7 @@ pub up-goes : (layout : Layout) (more : ℕ) (old new : InHand) (w : World) (n :
     → Reseats n (up h) old new → new.mail ≡ old.mail → SetsUp n true old.places new.places → IsWhole h → h.number ≡ n
     → BootsSo layout old.types n noted d note h → NotBarred layout n d → Goes layout more w (Some (command.Restart n)) e old new
 up-goes layout more old new w n e note noted d h is number epochs lays was its_event shows seats mail places whole its_number kernel bars =
-    let x = node-of layout (suc more) old w n is number in
+    let x = node-of layout (suc more) old w n is was in
     up-goes-at layout more old new w n x.0 e note noted d h is x.1 (epochs n x.0 x.1) lays was its_event shows seats mail places whole
     its_number
     kernel bars
@@ -413,7 +413,7 @@ pub falls-goes : (layout : Layout) (more : ℕ) (old new : InHand) (w : World) (
     → new.mail ≡ old.mail → new.places ≡ old.places → FallsSo layout n noted d (Some how) note left y
     → BarsSo layout n noted d (Some how) note left y → Goes layout more w (Some (command.Restart n)) e old new
 falls-goes layout more old new w n e how note noted left d y is number epochs lays was its_event shows seats mail places kernel bars =
-    let x = node-of layout (suc more) old w n is number in
+    let x = node-of layout (suc more) old w n is was in
     falls-goes-at layout more old new w n x.0 e how note noted left d y is x.1 (epochs n x.0 x.1) lays was its_event shows seats mail places
     kernel bars
 
@@ -422,7 +422,7 @@ pub boot-starves : (layout : Layout) (more : ℕ) (old new : InHand) (w : World)
     → Everywhere (λ m it. NextInDoubt it) w → IsLayout layout → old.seats n ≡ Some (down noted d) → Reseats n (down left y) old new
     → FallsSo layout n noted d None note left y → BarsSo layout n noted d None note left y → EachEnds layout more w old new
 boot-starves layout more old new w n note noted left d y is number epochs nexts lays was seats kernel bars =
-    let x = node-of layout (suc more) old w n is number in
+    let x = node-of layout (suc more) old w n is was in
     ends-besides layout (suc more) more n old new w d y (omega arith) is (ap (option_map disk_of) was) (ap (option_map disk_of) seats.here)
     (boot-starves-at layout more old w n x.0 note noted left d y is x.1 (epochs n x.0 x.1) (nexts n x.0 x.1) lays was kernel bars)
     (λ m other. ap (option_map disk_of) (seats.others m other))

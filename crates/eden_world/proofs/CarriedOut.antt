@@ -28,7 +28,7 @@ use Rattle.journal.specs.Commands.{AllowsCommand, open_names, ready_call}
 use Rattle.journal.specs.References.{meaning_of, cap_at}
 use Rattle.journal.specs.Run.{lookup_args}
 use Rattle.journal.specs.Step.{after_command}
-use Rattle.journal.specs.World.{World, Meaning, capability, nothing}
+use Rattle.journal.specs.World.{World, Meaning, capability, nothing, node_at}
 use Rattle.disk_faults.specs.Elsewhere.{shown_of}
 use Rattle.shell_names.specs.Names.{Names as NameList, NamesStand}
 use Rattle.shell_names.specs.Events.{IsAllowed, StandsAfter, StandsAsked}
@@ -57,7 +57,7 @@ use Rattle.journal.specs.Crashes.{linked}
 use Rattle.eden_world.proofs.FallEntries.{crash-entry, cut-entry}
 use Rattle.eden_world.proofs.Links.{cut-begins}
 use Rattle.eden_world.proofs.Joined.{join-goes}
-use Rattle.eden_world.proofs.Falls.{ends-level, node-of}
+use Rattle.eden_world.proofs.Falls.{ends-level, first-node}
 use Rattle.eden_world.proofs.InWorld.{with_mail}
 use Rattle.eden_world.proofs.Named.{AsksNow, newest, hold-goes, restrict-goes, void-restrict-goes, call-goes, void-call-goes, look-up-goes}
 use Rattle.eden_world.proofs.Named.{void-look-up-goes, left-goes}
@@ -293,7 +293,7 @@ cut-carried tells layout seen disk old new a b names e cuts is shows more w reac
       names
       h.world reached.sites (cuts h.telling).cuts (cuts h.telling).told is shows;
   agendas = (cuts h.telling).agendas more None 0 0 (linked a b false w)
-      (let y = node-of layout (suc more) (in_hand seen disk old) w 1 h.world (record { first = omega arith; last = omega arith }) in
+      (let y = first-node layout (suc more) (in_hand seen disk old) w h.world in
       cut-begins layout more (in_hand seen disk old) (cuts h.telling).between w a b (cuts h.telling).numbers h.world reached.sites
       (reached.sites 1 y.0 y.1).numbered (cuts h.telling).cuts) h.agendas;
 }
@@ -384,11 +384,9 @@ crash-starved tells obeys layout seen disk old new n mode s was number l more w 
     (up-here seen disk (place_at old n) s was) (l.left.turn h.telling) l.seats l.disks
 
 -- a node that is down, or none
-not-up : (layout : Layout) (more : ℕ) (h : InHand) (w : World) (n : ℕ) (o : Option Seat) → WorldStands layout more h w → IsNumber n
+not-up : (layout : Layout) (more : ℕ) (h : InHand) (w : World) (n : ℕ) (o : Option Seat) → WorldStands layout more h w
     → h.seats n ≡ o → ((a : Held) → o ≡ Some (up a) → ⊥) → node_up_at h.places n ≡ false
-not-up layout more h w n o stands number is none = let y = node-of layout more h w n stands number in
-    stands.ups n ∙ ap (λ p. with_item p (λ (x : Node). x.up) false) y.1
-    ∙ go o none y.0 (subst (λ p. IsSomeAnd p (SeatStands layout h.types h.mail more (site_of w n y.0))) is (stands.nodes n y.0 y.1))
+not-up layout more h w n o stands is none = stands.ups n ∙ at-node (node_at w n) refl
   where
     at-rest : (it : Node) (noted : Option Doubt) (d : DiskSeen) → DiskStands layout more (site_of w n it) noted d → it.up ≡ false
     at-rest it noted d (inl r) = r.2.is_down
@@ -400,12 +398,17 @@ not-up layout more h w n o stands number is none = let y = node-of layout more h
     go (Some (up a)) none it x = absurd (none a refl)
     go (Some (down noted d)) none it x = at-rest it noted d x.disk
 
+    at-node : (p : Option Node) → node_at w n ≡ p → with_item (node_at w n) (λ (x : Node). x.up) false ≡ false
+    at-node None at = ap (λ p. with_item p (λ (x : Node). x.up) false) at
+    at-node (Some it) at = ap (λ p. with_item p (λ (x : Node). x.up) false) at
+        ∙ go o none it (subst (λ p. IsSomeAnd p (SeatStands layout h.types h.mail more (site_of w n it))) is (stands.nodes n it at))
+
 pub crash-still : {T D : Type 0} (tells : Bool) (layout : Layout) (seen : T → Seen) (disk : D → DiskSeen) (old : Program T D) (n : ℕ)
     (mode : ImageMode) (e : Entry) → (IsNumber n → station_at old n ≡ None) → e.event ≡ event.Still n false → TouchesNone e
     → CarriesBy tells layout seen disk old old (command.Crash n mode) e
 crash-still tells layout seen disk old n mode e off is none more w reached h fit = record {
   goes = still-down-goes layout more (in_hand seen disk old) (in_hand seen disk old) w e n mode h.world
-      (not-up layout (suc more) (in_hand seen disk old) w n (seen_at seen disk (place_at old n)) h.world number refl
+      (not-up layout (suc more) (in_hand seen disk old) w n (seen_at seen disk (place_at old n)) h.world refl
       (λ a there. seat-off (place_at old n) (off number) a there))
       (record { types = refl; seats = λ m. refl; mail = refl; places = refl }) (λ other. refl) none is;
   agendas = h.agendas;
@@ -433,6 +436,4 @@ restart-still tells layout seen disk old n s e was is none more w reached h fit 
 }
   where
     here : IsUp layout (suc more) (in_hand seen disk old) w n (held seen s.node)
-    here = is-up layout (suc more) (in_hand seen disk old) w n (held seen s.node) h.world
-        (record { first = fit.fit.numbers.0; last = omega (arith, fit.fit.numbers.1, fit.few) })
-        (up-here seen disk (place_at old n) s was)
+    here = is-up layout (suc more) (in_hand seen disk old) w n (held seen s.node) h.world (up-here seen disk (place_at old n) s was)

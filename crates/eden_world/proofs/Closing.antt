@@ -12,7 +12,7 @@ use Rattle.shell_names.specs.Names.{meanings}
 use Rattle.scheduled_node.specs.declared.ScheduledNode.{ScheduledNode}
 use Rattle.eden_world.specs.Steps.{disk_of}
 use Rattle.eden_world.specs.InHand.{place_at, seen_at, AreWhole, HaveAgendas}
-use Rattle.eden_world.specs.Seated.{AreGiven, AreSeated, Begins, FitsTogether, HasEight, IsSeated, first_place, shown_in}
+use Rattle.eden_world.specs.Seated.{AreGiven, AreSeated, Begins, FitsTogether, HasPlaces, IsSeated, first_place, shown_in}
 use Rattle.eden_world.specs.declared.seats.Seat.{Seat as Place}
 use Rattle.eden_world.specs.declared.seats.Seat.TheVariants as place
 use Rattle.eden_world.specs.declared.World.{World as Program}
@@ -84,9 +84,9 @@ shown-count seen look (place.Down d doubt ∷ seats) still = ap suc (shown-count
 shown-count seen look (place.Moving ∷ seats) still = absurd (still 0 refl)
 
 pub as-many-given : {T D : Type 0} (seen : T → Seen) (look : D → DiskSeen) (p : Program T D) (disks : List D)
-    → map look disks ≡ filter_map (shown_in seen look) p.seats.items → IsSeated p → length disks ≡ 8
+    → map look disks ≡ filter_map (shown_in seen look) p.seats.items → IsSeated p → length disks ≡ length p.seats.items
 as-many-given seen look p disks is seated = sym (length-map disks look) ∙ ap length is
-    ∙ shown-count seen look p.seats.items (λ m. seated.seated (suc m)) ∙ seated.eight.seats
+    ∙ shown-count seen look p.seats.items (λ m. seated.seated (suc m))
 
 -- 4. A world before its first event
 
@@ -109,14 +109,14 @@ begins-whole seen ts disks p begins n s at = absurd (first-down disks n s (sym (
 pub begins-agendas : {T D : Type 0} (ts : TypeList) (disks : List D) (p : Program T D) → Begins ts disks p → HaveAgendas p
 begins-agendas ts disks p begins n s at = absurd (first-down disks n s (sym (begins.seats n) ∙ at))
 
-pub begins-fits : {T D : Type 0} (seen : T → Seen) (ts : TypeList) (disks : List D) (p : Program T D) → Begins ts disks p → HasEight p
+pub begins-fits : {T D : Type 0} (seen : T → Seen) (ts : TypeList) (disks : List D) (p : Program T D) → Begins ts disks p → HasPlaces p
     → FitsTogether seen p
-begins-fits seen ts disks p begins eight = record {
+begins-fits seen ts disks p begins places = record {
   nodes = begins-whole seen ts disks p begins;
-  eight = eight;
+  places = places;
   seated = λ n at. first-rests disks n (sym (begins.seats n) ∙ at);
 }
 
-pub as-many : {T D : Type 0} (seats : List (Place T D)) (disks : List D) → seats ≡ map (λ d. place.Down d None) disks → length disks ≡ 8
-    → length seats ≡ 8
-as-many seats disks is long = ap length is ∙ length-map disks (λ d. place.Down d None) ∙ long
+pub as-many : {T D : Type 0} (seats : List (Place T D)) (disks : List D) → seats ≡ map (λ d. place.Down d None) disks
+    → length seats ≡ length disks
+as-many seats disks is = ap length is ∙ length-map disks (λ d. place.Down d None)

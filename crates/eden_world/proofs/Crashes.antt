@@ -71,7 +71,7 @@ pub crash-begins : (layout : Layout) (more : ℕ) (old mid : InHand) (w : World)
     → CrashesSo layout a noted d → ((s : Site) (clock : ℕ) → IsAsleep (with_clock clock (crashed s)))
     → IsTelling layout more None n d.counts.clock (stopped_at w n (event.Crash n)) mid numbers
 crash-begins layout more old mid w n a noted d numbers is sound number fell kernel asleep =
-    let y = node-of layout (suc more) old w n is number in
+    let y = node-of layout (suc more) old w n is fell.was_up in
     let here : UpStands layout old.types old.mail (suc more) (site_of w n y.0) a = up-at layout (suc more) old w n y.0 a is y.1 fell.was_up
     in
     let x : Crashes layout a (site_of w n y.0) noted d.counts d.told = kernel old.types old.mail (site_of w n y.0) here.stands in
@@ -87,7 +87,7 @@ pub crash-goes : (layout : Layout) (more : ℕ) (old mid new : InHand) (w : Worl
     → SameDisks mid new → IsTelling layout more None n d.counts.clock (stopped_at w n (event.Crash n)) new []
     → Goes layout more w (Some (command.Crash n mode)) e old new
 crash-goes layout more old mid new w n mode e a noted d numbers is sound number fell kernel its_event shows same telling =
-    let y = node-of layout (suc more) old w n is number in
+    let y = node-of layout (suc more) old w n is fell.was_up in
     let here : UpStands layout old.types old.mail (suc more) (site_of w n y.0) a = up-at layout (suc more) old w n y.0 a is y.1 fell.was_up
     in
     let x : Crashes layout a (site_of w n y.0) noted d.counts d.told = kernel old.types old.mail (site_of w n y.0) here.stands in
@@ -127,7 +127,7 @@ pub crash-starves : (layout : Layout) (more : ℕ) (old mid new : InHand) (w : W
     → WorldStands layout (suc more) old w → IsNumber n → old.seats n ≡ Some (up a) → CrashesSo layout a noted d
     → Reseats n (down noted d) old mid → SameDisks mid new → EachEnds layout more w old new
 crash-starves layout more old mid new w n a noted d is number was kernel seats same =
-    let y = node-of layout (suc more) old w n is number in
+    let y = node-of layout (suc more) old w n is was in
     let here : UpStands layout old.types old.mail (suc more) (site_of w n y.0) a = up-at layout (suc more) old w n y.0 a is y.1 was in
     let x : Crashes layout a (site_of w n y.0) noted d.counts d.told = kernel old.types old.mail (site_of w n y.0) here.stands in
     fallen-ends layout (suc more) more n old new w y.0 (crashed (site_of w n y.0)).node a d (omega arith) is y.1
@@ -321,7 +321,7 @@ pub stop-begins : (layout : Layout) (more : ℕ) (old mid : InHand) (w : World) 
     → Fell n a (noted_of b) b.seen.disk numbers old mid → StopsSo layout old.types old.mail w n a b e
     → IsTelling layout more (key_of e) n (clock_of b) (stopped_at w n e) mid numbers
 stop-begins layout more old mid w n e a b numbers is sound number turn fell kernel =
-    let y = node-of layout (suc more) old w n is number in
+    let y = node-of layout (suc more) old w n is fell.was_up in
     stop-begins-at layout more old mid w n y.0 e a b numbers is sound y.1 turn fell kernel
 
 one-later : (c : ℕ) → more_by 1 c ≡ one_more c
@@ -379,7 +379,7 @@ pub store-stops : (layout : Layout) (more : ℕ) (old mid new : InHand) (w : Wor
     new []
     → Goes layout more w None entry old new
 store-stops layout more old mid new w n entry u how p a b numbers is sound number fell kernel due its_event shows same telling =
-    let y = node-of layout (suc more) old w n is number in
+    let y = node-of layout (suc more) old w n is fell.was_up in
     store-stops-at layout more old mid new w n y.0 entry u how p a b numbers is sound number y.1 fell kernel due its_event shows same
     telling
 
@@ -391,7 +391,7 @@ pub start-stops : (layout : Layout) (more : ℕ) (old mid new : InHand) (w : Wor
     → IsTelling layout more (key_of (event.Activate u how p)) n (clock_of b) (stopped_at w n (event.Activate u how p)) new []
     → Goes layout more w None entry old new
 start-stops layout more old mid new w n entry u how p a b numbers is sound number fell kernel its_event shows same telling =
-    let y = node-of layout (suc more) old w n is number in
+    let y = node-of layout (suc more) old w n is fell.was_up in
     stop-goes-at layout more old mid w n y.0 (event.Activate u how p) a b numbers is sound y.1 tt fell kernel new entry its_event tt shows
     same
     telling
@@ -402,7 +402,7 @@ pub stop-starves : (layout : Layout) (more : ℕ) (old mid new : InHand) (w : Wo
     b e
     → Reseats n (down (noted_of b) b.seen.disk) old mid → SameDisks mid new → EachEnds layout more w old new
 stop-starves layout more old mid new w n e a b is sound number was kernel seats same =
-    let y = node-of layout (suc more) old w n is number in
+    let y = node-of layout (suc more) old w n is was in
     let here : UpStands layout old.types old.mail (suc more) (site_of w n y.0) a = up-at layout (suc more) old w n y.0 a is y.1 was in
     let both = kernel y.0 y.1 (sound n y.0 y.1) (omega (arith, here.told)) here.stands in
     let x : Stops layout b (reaches w n) a (site_of w n y.0) e = both.0 in

@@ -83,8 +83,8 @@ left-disk tells obeys layout (Some mode) h noted d x heeding = record {
 
 left-there : (heeding : Bool) (o p : Option Seat) (a : Seat) (d : DiskSeen) → o ≡ Some a → option_map disk_of p ≡ Some d
     → IsLeftOf heeding (disk_of a) d → AreLeft heeding o p
-left-there heeding None p a d was is left = tt
-left-there heeding (Some x) None a d was is left = tt
+left-there heeding None p a d was is left = absurd (cc was)
+left-there heeding (Some x) None a d was is left = absurd (cc is)
 left-there heeding (Some x) (Some y) a d was is left =
     let before : x ≡ a = cc was in
     let after : disk_of y ≡ d = cc is in
@@ -94,7 +94,7 @@ left-there heeding (Some x) (Some y) a d was is left =
 pub shown-there : (obeys : Bool) (n : ℕ) (e : Entry) (o p : Option Seat) (a : Seat) (d : DiskSeen) → o ≡ Some a → option_map disk_of p
     ≡ Some d
     → EntryShows obeys n e (disk_of a) d → ShowsOf obeys n e o p
-shown-there obeys n e None p a d was is shows = tt
+shown-there obeys n e None p a d was is shows = absurd (cc was)
 shown-there obeys n e (Some x) None a d was is shows = absurd (cc is)
 shown-there obeys n e (Some x) (Some y) a d was is shows =
     let before : x ≡ a = cc was in
@@ -128,7 +128,7 @@ module _ {T D : Type 0} (tells obeys : Bool) (layout : Layout) (seen : T → See
           (left-disk tells obeys layout mode (held seen s.node) l.noted l.disk l.left heeding))
 
   pub left-keeps : (heeding : Bool) → IsSeated new → KeepsDisks heeding seen look old new
-  left-keeps heeding seated = record { eight = seated.eight; seated = seated.seated; left = λ m number. left-at heeding m }
+  left-keeps heeding seated = record { places = seated.places; seated = seated.seated; left = λ m number. left-at heeding m }
 
 -- 4. The entry of a crash
 

@@ -49,7 +49,7 @@ use Rattle.eden_world.specs.declared.seats.Seat.TheVariants as place
 use Rattle.eden_world.specs.declared.World.{World as Program}
 use Rattle.eden_world.proofs.Falls.{ends-level}
 use Rattle.eden_world.proofs.Named.{newest}
-use Rattle.eden_world.proofs.Seating.{agendas-behind, eight-behind}
+use Rattle.eden_world.proofs.Seating.{agendas-behind, places-behind}
 use Rattle.eden_world.proofs.Setting.{set-again, set-fits, set-level, set-seated}
 use Rattle.eden_world.proofs.Shell.{creation-goes, meaning_made, unreachable-goes}
 use Rattle.eden_world.proofs.Shown.{keeps-level}
@@ -127,7 +127,7 @@ pub node-keeps : {T D : Type 0} (obeys : Bool) (seen : T → Seen) (look : D →
     → TakesPlace n (place.Up after) mid new → seen after.node.store ≡ seen before.node.store → FitsTogether seen old
     → KeepsDisks obeys seen look old new
 node-keeps obeys seen look old mid new n before after was out again store fits = keeps-level obeys seen look old new
-    (eight-behind old new (set-again old mid new n (place.Up after) out again).rest fits.eight)
+    (places-behind old new (set-again old mid new n (place.Up after) out again).rest fits.places)
     (set-seated old new n (place.Up after) (set-again old mid new n (place.Up after) out again) (λ is. cc is) fits.seated)
     (node-level seen look old mid new n before after was out again store)
 
@@ -193,7 +193,7 @@ create-carried tells layout seen look old mid names name type_name n made e fits
     made-at s ready stands = c.creates h.telling old.calls s ready (record { node = stands; agenda = h.agendas n c.before was })
 
     here : IsUp layout (suc more) (in_hand seen look old) w n (held seen c.before.node)
-    here = is-up layout (suc more) (in_hand seen look old) w n (held seen c.before.node) h.world number (ap (seen_at seen look) was)
+    here = is-up layout (suc more) (in_hand seen look old) w n (held seen c.before.node) h.world (ap (seen_at seen look) was)
 
     its_agenda : IsAgenda (indices_of c.after.agenda) (parts_of old.types c.after.node.ejects)
     its_agenda = (made-at (site_of w n here.it) (record {

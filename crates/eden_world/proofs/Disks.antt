@@ -1,5 +1,5 @@
--- What an entry does to the disks of the eight nodes: to one of them what its step says, and to the others nothing.
-use Rattle.std.proofs.Common.{◌≡◌, ◌⊎◌, inl, inr, ℕ, ◌==◌, Bool, true, false, Option, Some, refl, sym, ◌∙◌, ap, subst}
+-- What an entry does to the disks of the nodes: to one of them what its step says, and to the others nothing.
+use Rattle.std.proofs.Common.{◌≡◌, ◌⊎◌, inl, inr, ℕ, ◌==◌, Bool, true, false, Option, Some, refl, sym, ◌∙◌, ap, subst, None}
 use Rattle.std.proofs.lemmas.Bool.{eqb-true, eq-eqb}
 use Rattle.eden_model.specs.Map.{with_item}
 use Rattle.passive_store.specs.Kept.{Layout}
@@ -17,7 +17,6 @@ use Rattle.checkpoint.proofs.WorldTurns.{node-next_other}
 use Rattle.eden_world.specs.Worlds.{Seat, InHand, IsNumber, WorldStands}
 use Rattle.eden_world.specs.Steps.{disk_of, step_by, SeatStep, EachDisk}
 use Rattle.eden_world.proofs.Numbers.{not-zero}
-use Rattle.eden_world.proofs.InWorld.{IsThere, is-there}
 
 -- the other way round
 not-same : (m n : ℕ) → (m == n) ≡ false → (n == m) ≡ false
@@ -42,13 +41,14 @@ both-seats layout n s o p a b is_a is_b step = subst (λ x. SeatStep layout n s 
     (subst (λ y. SeatStep layout n s (Some a) y) (sym is_b) step)
 
 -- a node whose state stays
-still-seat : (layout : Layout) (more : ℕ) (old new : InHand) (s : Step) (m : ℕ)
-    → WorldStands layout more old s.world → IsNumber m → new.seats m ≡ old.seats m → (s.entry.node == m) ≡ false
+still-seat : (layout : Layout) (old new : InHand) (s : Step) (m : ℕ) → new.seats m ≡ old.seats m → (s.entry.node == m) ≡ false
     → state s.later m ≡ state s.world m → SeatStep layout m s (old.seats m) (new.seats m)
-still-seat layout more old new s m stands number seats apart same =
-    let here : IsThere layout more old s.world m = is-there layout more old s.world m stands number in
-    both-seats layout m s (old.seats m) (new.seats m) here.seat here.seat here.sits (seats ∙ here.sits)
-    (lift-elsewhere layout m s (disk_of here.seat).told (disk_of here.seat).counts.clock apart same)
+still-seat layout old new s m seats apart same = go (old.seats m) refl
+  where
+    go : (o : Option Seat) → old.seats m ≡ o → SeatStep layout m s (old.seats m) (new.seats m)
+    go None none = subst (λ x. SeatStep layout m s x (new.seats m)) (sym none) tt
+    go (Some seat) sits = both-seats layout m s (old.seats m) (new.seats m) seat seat sits (seats ∙ sits)
+        (lift-elsewhere layout m s (disk_of seat).told (disk_of seat).counts.clock apart same)
 
 -- 1. An entry of node n
 
@@ -61,7 +61,7 @@ pub each-disk : (layout : Layout) (more : ℕ) (old new : InHand) (w : World) (c
 each-disk layout more old new w c e n was seat stands sits here others touches elsewhere step m number = go (m == n) refl
   where
     go : (b : Bool) → (m == n) ≡ b → SeatStep layout m (step_by w c e) (old.seats m) (new.seats m)
-    go false apart = still-seat layout more old new (step_by w c e) m stands number (others m apart) (untouched e n m touches number apart)
+    go false apart = still-seat layout old new (step_by w c e) m (others m apart) (untouched e n m touches number apart)
         (elsewhere m number apart)
     go true same = subst (λ j. SeatStep layout j (step_by w c e) (old.seats j) (new.seats j)) (sym (eqb-true m n same))
         (both-seats layout n (step_by w c e) (old.seats n) (new.seats n) was seat sits here step)
@@ -82,5 +82,5 @@ pub no-disk : (layout : Layout) (more : ℕ) (old new : InHand) (s : Step) → W
     → ((m : ℕ) → new.seats m ≡ old.seats m) → s.entry.node ≡ 0 → ((m : ℕ) → node_at s.later m ≡ node_at s.world m)
     → EachDisk layout s old new
 no-disk layout more old new s stands seats none same m number =
-    still-seat layout more old new s m stands number (seats m) (ap (λ j. j == m) none ∙ not-zero m number)
+    still-seat layout old new s m (seats m) (ap (λ j. j == m) none ∙ not-zero m number)
     (state-same m s.world s.later (same m))

@@ -33,16 +33,16 @@ use Rattle.scheduled_node.proofs.AllOf.{append-all, both-all, flat-all, from-all
 use Rattle.scheduled_node.proofs.HasTurns.{keys-have-turns}
 use Rattle.eden_world.specs.Breaking.{name_by, waiter_at, waiter_by}
 use Rattle.eden_world.specs.InHand.{place_at, seen_at, Stands}
-use Rattle.eden_world.specs.Listed.{HasTurn, is_for_shell, nine, shell_hears}
+use Rattle.eden_world.specs.Listed.{HasTurn, is_for_shell, shell_hears}
 use Rattle.eden_world.specs.Seated.{station_at, station_in}
 use Rattle.eden_world.specs.Worlds.{SeatStands, UpStands}
 use Rattle.eden_world.specs.declared.World.{World as Program}
 use Rattle.eden_world.specs.declared.seats.Seat.{Seat as Place}
 use Rattle.eden_world.specs.declared.seats.Seat.TheVariants as place
 use Rattle.eden_world.proofs.Arriving.{Arrives, arrives, first-there}
-use Rattle.eden_world.proofs.EightKeys.{number-of}
+use Rattle.eden_world.proofs.NodeKeys.{number-of}
 use Rattle.eden_world.proofs.EnabledKeys.{IsAt, node-keys}
-use Rattle.eden_world.proofs.KeyLists.{down-no-keys, is-off}
+use Rattle.eden_world.proofs.KeyLists.{down-no-keys, few-stations, is-off}
 
 -- 1. The key that is chosen is one of the keys
 
@@ -56,31 +56,14 @@ item-there i keys (Some k) is = item-Contains keys _ k (sym is)
 
 -- 2. Stations
 
-nine-few : AllByRecursion (λ n. n ≤ 8) nine
-nine-few = (
-  omega arith,
-  (
-    omega arith,
-    (
-      omega arith,
-      (
-        omega arith,
-        (
-          omega arith,
-          (omega arith, (omega arith, (omega arith, (omega arith, tt)))),
-        ),
-      ),
-    ),
-  ),
-)
-
 module _ {T D : Type 0} (tells : Bool) (layout : Layout) (seen : T → Seen) (look : D → DiskSeen) (p : Program T D) (more : ℕ) (w : World)
     (reached : IsReached w) (stands : Stands tells layout seen look p more w) where
   abbrev Has : Key → Type 0
   Has = HasTurn seen p
 
-  few-stations : AllByRecursion (λ n. n ≤ 8) (stations w)
-  few-stations = subst (λ ns. AllByRecursion (λ n. n ≤ 8) (0 ∷ ns)) (sym stands.world.numbers) nine-few
+  few-of-world : AllByRecursion (λ n. n ≤ 8) (stations w)
+  few-of-world = subst (λ ns. AllByRecursion (λ n. n ≤ 8) (0 ∷ ns)) (sym stands.world.numbers.are)
+      (omega arith, few-stations 1 stands.world.numbers.count (omega (arith, stands.world.numbers.few)))
 
   no-node : (it : Node) → node_at w 0 ≡ Some it → ⊥
   no-node it at = let n = number-of w 0 it stands.world.numbers at in omega (arith, n.first)
@@ -179,7 +162,7 @@ module _ {T D : Type 0} (tells : Bool) (layout : Layout) (seen : T → Seen) (lo
       up-has : AllByRecursion Has (deliveries w n ++ node_keys site)
       up-has = append-all Has (deliveries w n) (node_keys site)
           (passed-all Has (λ from. from ≤ 8) (λ from. is_some (next_message w.traffic from n)) (delivery n) (stations w) node-hears
-          few-stations)
+          few-of-world)
           (weaker-all (λ k. IsAt n k × NodeHasTurn p.types (held seen s.node) p.calls k) Has (node_keys site)
           (λ k both. of-node k both.0.station both.1)
           (both-all (IsAt n) (NodeHasTurn p.types (held seen s.node) p.calls) (node_keys site)
@@ -196,7 +179,7 @@ module _ {T D : Type 0} (tells : Bool) (layout : Layout) (seen : T → Seen) (lo
     down-has : it.up ≡ false → node_keys site ≡ [] → AllByRecursion Has (deliveries w n ++ node_keys site)
     down-has off none = append-all Has (deliveries w n) (node_keys site)
         (passed-all Has (λ from. from ≤ 8) (λ from. is_some (next_message w.traffic from n)) (delivery n) (stations w) (none-comes off)
-        few-stations) (subst (AllByRecursion Has) (sym none) tt)
+        few-of-world) (subst (AllByRecursion Has) (sym none) tt)
 
     node-has : AllByRecursion Has (deliveries w n ++ node_keys site)
     node-has = go (place_at p n) refl (stands.world.nodes n it at)
@@ -215,7 +198,7 @@ module _ {T D : Type 0} (tells : Bool) (layout : Layout) (seen : T → Seen) (lo
   all-have : AllByRecursion Has (enabled w)
   all-have = append-all Has (deliveries w 0) (flat_map (λ e. deliveries w e.0 ++ node_keys (site_of w e.0 e.1)) w.nodes)
       (passed-all Has (λ from. from ≤ 8) (λ from. is_some (next_message w.traffic from 0)) (delivery 0) (stations w) shell-hears
-      few-stations)
+      few-of-world)
       (flat-all Has (λ (e : ℕ × Node). node_at w e.0 ≡ Some e.1) (λ e. deliveries w e.0 ++ node_keys (site_of w e.0 e.1)) w.nodes
       (λ e at. node-has e.0 e.1 at)
       (recursion_from_All (λ (e : ℕ × Node). node_at w e.0 ≡ Some e.1) w.nodes

@@ -143,7 +143,7 @@ activation-goes layout more old new w n h x later e u how p sound stands number 
     (subst (λ ev. StoreClock w ev e.clock) (sym its_event) tt)
   where
     was : IsUp layout (suc more) old w n h
-    was = is-up layout (suc more) old w n h stands number sits
+    was = is-up layout (suc more) old w n h stands sits
 
     touches : touches_start (site_of w n was.it) u ≡ start_touches how p
     touches = start-touches (site_of w n was.it) u how p goes
@@ -246,7 +246,7 @@ store-goes layout more old new w n h x later e u how p sound stands number sits 
     (subst (λ m. StoreClockFits m (clock_before w u.node) (clock_of x) e.clock) (sym touched_is) clock_is))
   where
     was : IsUp layout (suc more) old w n h
-    was = is-up layout (suc more) old w n h stands number sits
+    was = is-up layout (suc more) old w n h stands sits
 
     site : Site
     site = site_of w n was.it

@@ -18,8 +18,8 @@ use Rattle.history_laws.proofs.EntryLists.{all-found}
 use Rattle.runs.specs.Reached.{IsReached}
 use Rattle.scheduled_node.specs.Keys.{IsKeyOf}
 use Rattle.scheduled_node.proofs.AllOf.{append-all, flat-all, from-all, image-all}
-use Rattle.eden_world.specs.Worlds.{eight}
-use Rattle.eden_world.proofs.EightKeys.{number-of}
+use Rattle.eden_world.specs.Worlds.{AreNumbers}
+use Rattle.eden_world.proofs.NodeKeys.{number-of}
 
 -- 1. The keys of a node
 
@@ -113,7 +113,7 @@ module _ (w : World) (reached : IsReached w) (n : ℕ) where
 -- 3. Of the shell
 
 -- a key of the shell is that of a delivery there
-module _ (w : World) (reached : IsReached w) (numbers : map (λ e. e.0) w.nodes ≡ eight) where
+module _ (w : World) (reached : IsReached w) (numbers : AreNumbers (map (λ e. e.0) w.nodes)) where
   abbrev OfShell : Key → Type 0
   OfShell k = k.station ≡ 0 → k ≡ delivery 0 k.sender
 

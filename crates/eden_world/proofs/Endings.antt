@@ -44,7 +44,7 @@ pub leaves-its-state : (layout : Layout) (more : ℕ) (h : InHand) (w : World) (
     → WorldStands layout more h w → IsNumber n
     → h.seats n ≡ Some seat → LeavesOnly (Stands layout n (state w n)) (contents (disk_of seat).told)
 leaves-its-state layout more h w n seat is number sits image left =
-    let x = node-of layout more h w n is number in
+    let x = node-of layout more h w n is sits in
     subst (λ (z : Standing). Stands layout n z image) (sym (ap (λ o. with_item o (λ it. state_of n it) nothing_stands) x.1))
     (seat-leaves layout more h w n x.0 seat
     (subst (λ o. IsSomeAnd o (SeatStands layout h.types h.mail more (site_of w n x.0))) sits (is.nodes n x.0 x.1)) image left)

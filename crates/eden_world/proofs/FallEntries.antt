@@ -1,5 +1,5 @@
 -- The entries with which a node falls or a link is cut, once the loop over the calls that broke has told all.
-use Rattle.std.proofs.Common.{◌≡◌, ℕ, suc, false, List, [], Option, None, Some, ◌∙◌, arith}
+use Rattle.std.proofs.Common.{◌≡◌, ℕ, suc, false, List, [], Option, None, Some, ◌∙◌}
 use Rattle.std.specs.List.{filter_map}
 use Rattle.capability.specs.declared.Uid.{Uid}
 use Rattle.eden_disk.specs.declared.disk.ImageMode.{ImageMode}
@@ -24,7 +24,7 @@ use Rattle.eden_world.specs.Worlds.{InHand, IsNumber, WorldStands}
 use Rattle.eden_world.specs.Steps.{CallsAsDue, Goes}
 use Rattle.eden_world.specs.Told.{Fell, Cuts, EntryShows, name_at, Tells}
 use Rattle.eden_world.proofs.Crashes.{CrashesSo, StopsSo, noted_of, crash-begins, crash-goes, stop-begins, store-stops, start-stops}
-use Rattle.eden_world.proofs.Falls.{node-of}
+use Rattle.eden_world.proofs.Falls.{first-node}
 use Rattle.eden_world.proofs.Links.{cut-begins, cut-goes}
 use Rattle.eden_world.proofs.Telling.{tells-end}
 
@@ -82,7 +82,7 @@ pub cut-entry : (layout : Layout) (more : ℕ) (old mid new : InHand) (w : World
     → Tells layout mid new numbers [] names → e.event ≡ event.Link a b false → EntryShows 0 0 names e
     → Goes layout more w (Some (command.Cut a b)) e old new
 cut-entry layout more old mid new w a b e numbers names is sound cut told its_event shows =
-    let y = node-of layout (suc more) old w 1 is (record { first = omega arith; last = omega arith }) in
+    let y = first-node layout (suc more) old w is in
     cut-goes layout more old mid new w a b numbers e is sound cut its_event shows.node shows.clock
     (shows.broken ∙ tells-end layout mid new numbers names told) told.disks
     (told.on more None 0 0 (linked a b false w)

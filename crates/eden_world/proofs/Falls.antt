@@ -1,4 +1,5 @@
 -- A node goes down, by a crash or a stop: what is in hand is on the way to the world behind it, and stands for that once all are told.
+use Rattle.journal.specs.Run.{Step}
 use Rattle.std.proofs.Common.{◌≡◌, ◌==◌, ◌≤◌, ◌+◌, ◌*◌, inl, ℕ, zero, suc, Bool, true, false, List, [], Option, None}
 use Rattle.std.proofs.Common.{Some, is_some}
 use Rattle.std.proofs.Common.{refl, sym, ◌∙◌, ap, subst, arith}
@@ -28,7 +29,7 @@ use Rattle.journal.specs.Step.{key_of, site_turn, stopped_at}
 use Rattle.history_laws.proofs.Falling.{falls-turn, quiet-before}
 use Rattle.history_laws.proofs.Frame.{after_at, node-at_same, node-at_other}
 use Rattle.history_laws.proofs.SiteFrames.{keeps-site}
-use Rattle.checkpoint.specs.Throughout.{StepOnDisk, EndsOnDisk}
+use Rattle.checkpoint.specs.Throughout.{StepOnDisk}
 use Rattle.checkpoint.specs.StoreStands.{NodeOnDisk}
 use Rattle.checkpoint.specs.Turns.{with_clock, RestStands}
 use Rattle.checkpoint.proofs.Lifts.{lift-elsewhere, ends-whole}
@@ -45,7 +46,7 @@ use Rattle.eden_world.specs.Told.{Fell, EntryShows, SameDisks, waiting_at, name_
 use Rattle.eden_world.proofs.SeatRoom.{told-less, world-room}
 use Rattle.eden_world.proofs.Alike.{Alike, rest-alike, asleep-alike}
 use Rattle.eden_world.proofs.Broken.{broken-names, broken-processes, askers-without_node, can-fall}
-use Rattle.eden_world.proofs.EightKeys.{number-of, node-there, keys-at_node}
+use Rattle.eden_world.proofs.NodeKeys.{number-of, node-there, numbers-at_node}
 use Rattle.eden_world.proofs.Reach.{ups-set}
 use Rattle.eden_world.proofs.Reseating.{Renodes, renodes-turn, with_time, traffic-marked, traffic-at_node, node-marked_other}
 use Rattle.eden_world.proofs.Reseating.{reseated}
@@ -78,13 +79,31 @@ some-number n some = go (n == 0) refl
     go false is = refl
     go true is = absurd (omega (arith, some, eqb-true n 0 is))
 
--- the node of a number
-pub node-of : (layout : Layout) (more : ℕ) (h : InHand) (w : World) (n : ℕ) → WorldStands layout more h w → IsNumber n
-    → (it : Node) × (node_at w n ≡ Some it)
-node-of layout more h w n is number = go (node_at w n) refl (node-there w n is.numbers number)
+-- the node of a place
+pub node-of : {seat : Seat} (layout : Layout) (more : ℕ) (h : InHand) (w : World) (n : ℕ) → WorldStands layout more h w
+    → h.seats n ≡ Some seat → (it : Node) × (node_at w n ≡ Some it)
+node-of {seat} layout more h w n is sits = go (node_at w n) refl
   where
-    go : (o : Option Node) → node_at w n ≡ o → is_some o ≡ true → (it : Node) × (node_at w n ≡ Some it)
-    go None at some = absurd (cc some)
+    go : (o : Option Node) → node_at w n ≡ o → (it : Node) × (node_at w n ≡ Some it)
+    go None none = absurd (let bad : None ≡ Some seat = sym (is.no_more n none) ∙ sits in cc bad)
+    go (Some it) at = (it, at)
+
+-- and of a disk
+pub node-of_disk : {d : DiskSeen} (layout : Layout) (more : ℕ) (h : InHand) (w : World) (n : ℕ) → WorldStands layout more h w
+    → option_map disk_of (h.seats n) ≡ Some d → (it : Node) × (node_at w n ≡ Some it)
+node-of_disk {d} layout more h w n is there = go (h.seats n) refl there
+  where
+    go : (o : Option Seat) → h.seats n ≡ o → option_map disk_of o ≡ Some d → (it : Node) × (node_at w n ≡ Some it)
+    go None sits has = absurd (cc has)
+    go (Some seat) sits has = node-of layout more h w n is sits
+
+-- there is a first one
+pub first-node : (layout : Layout) (more : ℕ) (h : InHand) (w : World) → WorldStands layout more h w
+    → (it : Node) × (node_at w 1 ≡ Some it)
+first-node layout more h w is = go (node_at w 1) refl (node-there w 1 is.numbers (omega arith) is.numbers.some)
+  where
+    go : (o : Option Node) → node_at w 1 ≡ o → is_some (node_at w 1) ≡ true → (it : Node) × (node_at w 1 ≡ Some it)
+    go None none some = absurd (let bad : false ≡ true = sym (ap is_some none) ∙ some in cc bad)
     go (Some it) at some = (it, at)
 
 -- the node at the place is up
@@ -130,7 +149,7 @@ module _ (layout : Layout) (more : ℕ) (old mid : InHand) (w : World) (n : ℕ)
   pub fall-begins : (key : Option Key) → IsTelling layout more key n d.counts.clock (stopped_at w n event) mid numbers
   fall-begins key = record {
     world = world;
-    numbers = keys-at_node n (site_turn (reaches w n) event) w is.numbers ∙ is.numbers;
+    numbers = numbers-at_node n (site_turn (reaches w n) event) w is.numbers;
     stands = reseated layout (suc more) more old mid w later n (down noted d) (with_time d.counts.clock turned.node) is (omega arith)
         fell.seats nodes
         (record {
@@ -186,19 +205,14 @@ seat-step layout n w c e (Some s) (Some t) x y a b h =
     subst (λ (z : DiskSeen). StepOnDisk layout n (step_by w c e) z.told z.counts.clock (disk_of t).told (disk_of t).counts.clock) (sym here)
     (subst (λ (z : DiskSeen). StepOnDisk layout n (step_by w c e) x.told x.counts.clock z.told z.counts.clock) (sym there) h)
 
--- each node has its disk in hand
-pub disk-there : (layout : Layout) (more : ℕ) (h : InHand) (w : World) (n : ℕ) → WorldStands layout more h w → IsNumber n
-    → (x : DiskSeen) × (option_map disk_of (h.seats n) ≡ Some x)
-disk-there layout more h w n is number = go (node_at w n) refl (node-there w n is.numbers number)
-  where
-    of-seat : (it : Node) (o : Option Seat) → IsSomeAnd o (SeatStands layout h.types h.mail more (site_of w n it))
-        → (x : DiskSeen) × (option_map disk_of o ≡ Some x)
-    of-seat it None h = absurd h
-    of-seat it (Some s) h = (disk_of s, refl)
-
-    go : (o : Option Node) → node_at w n ≡ o → is_some o ≡ true → (x : DiskSeen) × (option_map disk_of (h.seats n) ≡ Some x)
-    go None at some = absurd (cc some)
-    go (Some it) at some = of-seat it (h.seats n) (is.nodes n it at)
+-- a disk that was not touched, if there is such a place
+pub seat-level : (layout : Layout) (n : ℕ) (s : Step) (o p : Option Seat) → option_map disk_of p ≡ option_map disk_of o
+    → ((d : DiskSeen) → StepOnDisk layout n s d.told d.counts.clock d.told d.counts.clock) → SeatStep layout n s o p
+seat-level layout n s None p same each = tt
+seat-level layout n s (Some a) None same each = absurd (cc same)
+seat-level layout n s (Some a) (Some b) same each = let is : disk_of b ≡ disk_of a = cc same in
+    subst (λ (z : DiskSeen). StepOnDisk layout n s (disk_of a).told (disk_of a).counts.clock z.told z.counts.clock) (sym is)
+    (each (disk_of a))
 
 -- an entry on the disk of one node, which leaves the state of all others, and touches no other disk
 pub disks-besides : (layout : Layout) (more n : ℕ) (old new : InHand) (w : World) (c : Option Command) (e : Entry) (x y : DiskSeen)
@@ -214,19 +228,31 @@ disks-besides layout more n old new w c e x y is was now step same others m numb
         subst (λ j. SeatStep layout j (step_by w c e) (old.seats j) (new.seats j)) (sym at)
         (seat-step layout n w c e (old.seats n) (new.seats n) x y was now step)
     go false other =
-        let z = disk-there layout more old w m is number in
         let o = others m number other in
-        seat-step layout m w c e (old.seats m) (new.seats m) z.0 z.0 z.1 (same m other ∙ z.1)
-        (lift-elsewhere layout m (step_by w c e) z.0.told z.0.counts.clock o.0 o.1)
+        seat-level layout m (step_by w c e) (old.seats m) (new.seats m) (same m other)
+        (λ d. lift-elsewhere layout m (step_by w c e) d.told d.counts.clock o.0 o.1)
 
 -- a disk that was not touched
 left-whole : (layout : Layout) (more least : ℕ) (old : InHand) (w : World) (m : ℕ) (d : DiskSeen) → least ≤ more
-    → WorldStands layout more old w → IsNumber m → option_map disk_of (old.seats m) ≡ Some d → DiskEnds layout least m w d d
-left-whole layout more least old w m d less is number there = record {
+    → WorldStands layout more old w → option_map disk_of (old.seats m) ≡ Some d → DiskEnds layout least m w d d
+left-whole layout more least old w m d less is there = record {
   ends = ends-whole layout m w (unfinished w) d.told d.counts.clock;
-  room = let it = node-of layout more old w m is number in
+  room = let it = node-of_disk layout more old w m is there in
       told-less layout m more least d.told less (world-room layout more old w m it.0 d is it.1 there);
 }
+
+-- and at a place, if there is such a place
+level-ends : (layout : Layout) (more least : ℕ) (old new : InHand) (w : World) (m : ℕ) → least ≤ more → WorldStands layout more old w
+    → option_map disk_of (new.seats m) ≡ option_map disk_of (old.seats m) → SeatEnds layout least m w (old.seats m) (new.seats m)
+level-ends layout more least old new w m less is same = go (old.seats m) (new.seats m) same (λ d there. left-whole layout more least old w
+    m d less is there)
+  where
+    go : (o p : Option Seat) → option_map disk_of p ≡ option_map disk_of o
+        → ((d : DiskSeen) → option_map disk_of o ≡ Some d → DiskEnds layout least m w d d) → SeatEnds layout least m w o p
+    go None p even each = tt
+    go (Some a) None even each = absurd (cc even)
+    go (Some a) (Some b) even each = let here : disk_of b ≡ disk_of a = cc even in
+        subst (λ (z : DiskSeen). DiskEnds layout least m w (disk_of a) z) (sym here) (each (disk_of a) refl)
 
 -- There was no memory: what the disk of one node did is all that was done.
 pub ends-besides : (layout : Layout) (more least n : ℕ) (old new : InHand) (w : World) (x y : DiskSeen) → least ≤ more
@@ -247,15 +273,12 @@ ends-besides layout more least n old new w x y less is was now ends same m numbe
     go : (b : Bool) → (m == n) ≡ b → SeatEnds layout least m w (old.seats m) (new.seats m)
     go true here = let at : m ≡ n = eqb-true m n here in
         subst (λ j. SeatEnds layout least j w (old.seats j) (new.seats j)) (sym at) (both n (old.seats n) (new.seats n) x y was now ends)
-    go false other = let z = disk-there layout more old w m is number in
-        both m (old.seats m) (new.seats m) z.0 z.0 z.1 (same m other ∙ z.1) (left-whole layout more least old w m z.0 less is number z.1)
+    go false other = level-ends layout more least old new w m less is (same m other)
 
 -- and where no disk was touched
 pub ends-level : (layout : Layout) (more least : ℕ) (old new : InHand) (w : World) → least ≤ more → WorldStands layout more old w
     → SameDisks old new → EachEnds layout least w old new
-ends-level layout more least old new w less is same m number = let z = disk-there layout more old w m is number in
-    ends-besides layout more least m old new w z.0 z.0 less is z.1 (same m ∙ z.1) (left-whole layout more least old w m z.0 less is number z.1)
-    (λ k other. same k) m number
+ends-level layout more least old new w less is same m number = level-ends layout more least old new w m less is (same m)
 
 pub apart : (m n : ℕ) → (m == n) ≡ false → (n == m) ≡ false
 apart m n h = go (n == m) refl

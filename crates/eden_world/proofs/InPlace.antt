@@ -1,4 +1,5 @@
 -- A node takes its turn in its place: what stands there then, and what is left where there was no memory.
+use Rattle.std.proofs.Common.{◌≤◌}
 use Rattle.std.proofs.Common.{◌≡◌, ◌==◌, ◌<◌, ℕ, zero, suc, Bool, true, false, length, Some, None, refl, sym, ◌∙◌, ap, subst, get_or, arith}
 use Rattle.std.specs.Prelude.{◌≤◌, IsTrue, slice_get}
 use Rattle.std.specs.Option.{option_map}
@@ -17,7 +18,7 @@ use Rattle.eden_kernel.specs.DiskTurns.{Starves}
 use Rattle.eden_kernel.specs.Stands.{held, NodeStands}
 use Rattle.scheduled_node.specs.declared.ScheduledNode.{ScheduledNode}
 use Rattle.eden_world.specs.InHand.{place_at, seen_at, in_hand}
-use Rattle.eden_world.specs.Seated.{FitsTogether, HasEight, KeepsDisks, TakesPlace, heeds, instead}
+use Rattle.eden_world.specs.Seated.{FitsTogether, HasPlaces, KeepsDisks, TakesPlace, heeds, instead}
 use Rattle.eden_world.specs.Steps.{disk_of}
 use Rattle.eden_world.specs.Taken.{StarvesAtEach}
 use Rattle.eden_world.specs.Told.{SameDisks}
@@ -118,8 +119,8 @@ module _ {T D : Type 0} (tells obeys : Bool) (layout : Layout) (seen : T → See
   swapped : (a b : Place T D) → place_at old key.station ≡ Some a → Swaps key.station a b later old (new b)
   swapped = swaps-here key.station i later old is inside
 
-  eight : (a b : Place T D) → place_at old key.station ≡ Some a → HasEight (new b)
-  eight a b was = record { seats = (swapped a b was).count ∙ fits.eight.seats; nodes = fits.eight.nodes }
+  still-places : (a b : Place T D) → place_at old key.station ≡ Some a → HasPlaces (new b)
+  still-places a b was = record { seats = subst (λ m. m ≤ 8) (sym (swapped a b was).count) fits.places.seats; nodes = fits.places.nodes }
 
   same : (a : Place T D) → place_at old key.station ≡ Some a → (m : ℕ) → place_at (new a) m ≡ place_at old m
   same = same-there key.station i later old is inside
@@ -135,7 +136,7 @@ module _ {T D : Type 0} (tells obeys : Bool) (layout : Layout) (seen : T → See
 
   idle-keeps : (heeding : Bool) (a b : Place T D) → place_at old key.station ≡ Some a → b ≡ a → KeepsDisks heeding seen look old (new b)
   idle-keeps heeding a b was stays = subst (λ q. KeepsDisks heeding seen look old (new q)) (sym stays)
-      (keeps-level seen look old (new a) heeding (eight a a was)
+      (keeps-level seen look old (new a) heeding (still-places a a was)
       (λ m at. fits.seated m (sym (same a was m) ∙ at)) (level-disks a was))
 
   pub starves-here : (a b : Place T D) → place_at old key.station ≡ Some a → StarvesThere tells obeys layout seen old.types old.calls a b
@@ -153,7 +154,7 @@ module _ {T D : Type 0} (tells obeys : Bool) (layout : Layout) (seen : T → See
       let at = swapped (place.Up s) (place.Up y.now) was in
       subst (λ q. KeepsDisks (heeds tells obeys) seen look old (new q)) (sym y.stands)
       (turned-keeps seen look key.station s (place.Up y.now) (seen y.now.node.store).disk later old (new (place.Up y.now))
-      (new (place.Up y.now)) at fits refl (λ m. refl) (heeds tells obeys) (eight (place.Up s) (place.Up y.now) was)
+      (new (place.Up y.now)) at fits refl (λ m. refl) (heeds tells obeys) (still-places (place.Up s) (place.Up y.now) was)
       (seated-behind key.station (place.Up s) (place.Up y.now) later old (new (place.Up y.now)) at fits.seated (λ bad. cc bad))
       (heeded-left tells obeys _ _ y.left))
   keeps-here (place.Down d doubt) b was x = idle-keeps (heeds tells obeys) (place.Down d doubt) b was (x.idle refl)

@@ -19,10 +19,10 @@ use Rattle.journal.specs.References.{meaning_of}
 use Rattle.journal.specs.Step.{counted}
 use Rattle.history_laws.proofs.Frame.{other-node}
 use Rattle.ejects.proofs.KeptClasses.{Keeps}
-use Rattle.eden_world.specs.Worlds.{eight, Seat, InHand, SeatStands, IsNumber, WorldStands}
+use Rattle.eden_world.specs.Worlds.{AreNumbers, Seat, InHand, SeatStands, IsNumber, WorldStands}
 use Rattle.eden_world.specs.Steps.{TakesMail}
 use Rattle.eden_world.proofs.Messages.{carrying, seat-other}
-use Rattle.eden_world.proofs.Numbers.{eight-put, one-of-eight, within-eight, same-put}
+use Rattle.eden_world.proofs.Numbers.{numbers-put, within-numbers, same-put}
 
 -- 1. A place in hand
 
@@ -38,18 +38,31 @@ pub record IsThere (layout : Layout) (more : ℕ) (h : InHand) (w : World) (n : 
   pub sits : h.seats n ≡ Some seat
   pub stands : SeatStands layout h.types h.mail more (site_of w n it) seat
 
-pub is-there : (layout : Layout) (more : ℕ) (h : InHand) (w : World) (n : ℕ) → WorldStands layout more h w → IsNumber n
-    → IsThere layout more h w n
-is-there layout more h w n stands number = go (node_at w n) refl (one-of-eight n w.nodes stands.numbers number)
+-- where the world has it
+pub is-there : (layout : Layout) (more : ℕ) (h : InHand) (w : World) (n : ℕ) (it : Node) → WorldStands layout more h w
+    → node_at w n ≡ Some it → IsThere layout more h w n
+is-there layout more h w n it stands at = on (h.seats n) refl (stands.nodes n it at)
   where
-    on : (it : Node) → node_at w n ≡ Some it → (o : Option Seat) → h.seats n ≡ o
-        → IsSomeAnd o (SeatStands layout h.types h.mail more (site_of w n it)) → IsThere layout more h w n
-    on it at None sits h = absurd h
-    on it at (Some seat) sits h = record { it = it; at = at; seat = seat; sits = sits; stands = h }
+    on : (o : Option Seat) → h.seats n ≡ o → IsSomeAnd o (SeatStands layout h.types h.mail more (site_of w n it)) → IsThere layout more h w n
+    on None sits h = absurd h
+    on (Some seat) sits h = record { it = it; at = at; seat = seat; sits = sits; stands = h }
 
-    go : (o : Option Node) → node_at w n ≡ o → is_some (node_at w n) ≡ true → IsThere layout more h w n
-    go None at some = absurd (let bad : false ≡ true = sym (ap is_some at) ∙ some in cc bad)
-    go (Some it) at some = on it at (h.seats n) refl (stands.nodes n it at)
+-- and so where there is a place
+pub sits-there : (layout : Layout) (more : ℕ) (h : InHand) (w : World) (n : ℕ) (seat : Seat) → WorldStands layout more h w
+    → h.seats n ≡ Some seat → IsThere layout more h w n
+sits-there layout more h w n seat stands sits = go (node_at w n) refl
+  where
+    go : (o : Option Node) → node_at w n ≡ o → IsThere layout more h w n
+    go None none = absurd (let bad : None ≡ Some seat = sym (stands.no_more n none) ∙ sits in cc bad)
+    go (Some it) at = is-there layout more h w n it stands at
+
+-- what stands there stands for the site of its node
+pub seat-stands : (layout : Layout) (more : ℕ) (h : InHand) (w : World) (n : ℕ) (seat : Seat) → (x : IsThere layout more h w n)
+    → h.seats n ≡ Some seat → SeatStands layout h.types h.mail more (site_of w n x.it) seat
+seat-stands layout more h w n seat x sits =
+    let both : Some x.seat ≡ Some seat = sym x.sits ∙ sits in
+    let same : x.seat ≡ seat = cc both in
+    subst (SeatStands layout h.types h.mail more (site_of w n x.it)) same x.stands
 
 -- what stands at a place stands there with other messages
 pub seat-moves : (layout : Layout) (more : ℕ) (old new : InHand) (k : ℕ) (s : Site) (t : Traffic)
@@ -109,15 +122,16 @@ same-links n it x t w old new at up same links = subst (λ p. LinksStand p (with
 })
 
 pub seat-in-world : (layout : Layout) (more : ℕ) (old new : InHand) (w : World) (n : ℕ) (x : Node) (t : Traffic) (seat : Seat)
-    → WorldStands layout (suc more) old w → IsNumber n → new.types ≡ old.types → new.seats n ≡ Some seat
+    → WorldStands layout (suc more) old w → IsNumber n → is_some (node_at w n) ≡ true → new.types ≡ old.types → new.seats n ≡ Some seat
     → ((m : ℕ) → (m == n) ≡ false → new.seats m ≡ old.seats m) → ((name : List ℕ) → new.names name ≡ old.names name)
     → Keeps w.traffic t → Carries new.mail t → SeatStands layout old.types new.mail more (carrying t (site_of w n x)) seat
     → LinksStand new.places (with_node n x t w) → WorldStands layout more new (with_node n x t w)
-seat-in-world layout more old new w n x t seat stands number types here others names keeps carries sits links = record {
+seat-in-world layout more old new w n x t seat stands number had types here others names keeps carries sits links = record {
   its_layout = stands.its_layout;
   its_types = stands.its_types ∙ ap types_in (sym types);
-  numbers = eight-put n x w.nodes stands.numbers number;
+  numbers = numbers-put n x w.nodes stands.numbers number.first had;
   nodes = λ k jt there. go k jt (k == n) refl (sym (node-with n x t w k) ∙ there);
+  no_more = λ k none. absent k (k == n) refl (sym (node-with n x t w k) ∙ none);
   calls = carries;
   ups = links.ups;
   links = links.links;
@@ -130,6 +144,15 @@ seat-in-world layout more old new w n x t seat stands number types here others n
     at_n : IsSomeAnd (new.seats n) (SeatStands layout new.types new.mail more (carrying t (site_of w n x)))
     at_n = subst (λ o. IsSomeAnd o (SeatStands layout new.types new.mail more (carrying t (site_of w n x)))) (sym here)
         (subst (λ ts. SeatStands layout ts new.mail more (carrying t (site_of w n x)) seat) (sym types) sits)
+
+    absent : (k : ℕ) (b : Bool) → (k == n) ≡ b → cond (eq_by_cmp nat_cmp k n) (Some x) (node_at w k) ≡ None → new.seats k ≡ None
+    absent k false apart e = others k apart
+        ∙ stands.no_more k (subst (λ c. cond c (Some x) (node_at w k) ≡ None) (other-node k n apart) e)
+    absent k true same e =
+        let is : k ≡ n = eqb-true k n same in
+        let bad : Some x ≡ None = subst (λ c. cond c (Some x) (node_at w k) ≡ None)
+        (ap (λ j. eq_by_cmp nat_cmp j n) is ∙ same-self n) e in
+        absurd (cc bad)
 
     go : (k : ℕ) (jt : Node) (b : Bool) → (k == n) ≡ b → cond (eq_by_cmp nat_cmp k n) (Some x) (node_at w k) ≡ Some jt
         → IsSomeAnd (new.seats k) (SeatStands layout new.types new.mail more (carrying t (site_of w k jt)))
@@ -158,6 +181,7 @@ mail-in-world layout more old new w t names stands takes keeps carries named = r
   numbers = stands.numbers;
   nodes = λ k jt there. seat-moves layout more old new k (site_of w k jt) t (stands.nodes k jt there) (takes.seats k) takes.types keeps
       carries;
+  no_more = λ k none. takes.seats k ∙ stands.no_more k none;
   calls = carries;
   ups = λ n. ap (λ p. node_up_at p n) takes.places ∙ stands.ups n;
   links = λ a b least most. ap (λ p. joined_at p a b) takes.places ∙ stands.links a b least most;
@@ -174,6 +198,7 @@ counted-stands layout more h w (Some k) stands = record {
   its_types = stands.its_types;
   numbers = stands.numbers;
   nodes = stands.nodes;
+  no_more = stands.no_more;
   calls = stands.calls;
   ups = stands.ups;
   links = stands.links;
@@ -196,9 +221,9 @@ by-links places w links nodes a b least = go (is_up w b) refl
     go false is = ap (λ u. u && ((a == b) || not (is_cut w a b))) is
         ∙ sym (ap (λ u. u && ((a == b) || joined_at places a b)) (links.ups b ∙ is))
 
--- a node that is up is one of the eight
-pub up-is-number : (w : World) → map (λ e. e.0) w.nodes ≡ eight → (n : ℕ) → is_up w n ≡ true → n ≤ 8
-up-is-number w numbers n is = within-eight n w.nodes numbers (go (node_at w n) is)
+-- a node that is up has a number
+pub up-is-number : (w : World) → AreNumbers (map (λ e. e.0) w.nodes) → (n : ℕ) → is_up w n ≡ true → n ≤ 8
+up-is-number w numbers n is = within-numbers n w.nodes numbers (go (node_at w n) is)
   where
     go : (o : Option Node) → with_item o (λ it. it.up) false ≡ true → is_some o ≡ true
     go None is = absurd (cc is)

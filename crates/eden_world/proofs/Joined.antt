@@ -126,6 +126,7 @@ join-goes layout more old new w e a b stands takes entry is = record {
     numbers = stands.numbers;
     nodes = λ k jt there. seat-moves layout more old new k (site_of w k jt) w.traffic (stands.nodes k jt there) (takes.seats k) takes.types
         (keeps-same w.traffic w.traffic refl) carries;
+    no_more = λ k none. takes.seats k ∙ stands.no_more k none;
     calls = carries;
     ups = λ n. takes.ups n ∙ stands.ups n;
     links = λ x y least most. takes.joined x y least most ∙ ap (λ z. cond (same_link a b x y) true z) (stands.links x y least most)

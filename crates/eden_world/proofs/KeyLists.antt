@@ -21,28 +21,30 @@ use Rattle.journal.specs.Sites.{Sound}
 use Rattle.history_laws.proofs.EntryLists.{all-found}
 use Rattle.eden_kernel.specs.Boots.{IsAsleep, IsIdle}
 use Rattle.runs.specs.Reached.{IsReached}
-use Rattle.eden_world.specs.Worlds.{InHand, WorldStands, DownStands, DiskStands, eight}
-use Rattle.eden_world.specs.Listed.{nine, keys_from, mail_keys, keys_at}
-use Rattle.eden_world.proofs.EightKeys.{number-of}
+use Rattle.eden_world.specs.Worlds.{AreNumbers, InHand, WorldStands, DownStands, DiskStands, numbers_from}
+use Rattle.eden_world.specs.Listed.{keys_from, mail_keys, keys_at}
+use Rattle.eden_world.proofs.NodeKeys.{number-of}
 
--- 1. The nine stations
+-- 1. The stations
 
-abbrev counted : ℕ → ℕ → List ℕ
-counted k zero = []
-counted k (suc c) = k ∷ counted (k + 1) c
-
-drop-counted : (n k c : ℕ) → n < c → drop n (counted k c) ≡ (k + n) ∷ drop (n + 1) (counted k c)
+drop-counted : (n k c : ℕ) → n < c → drop n (numbers_from k c) ≡ (k + n) ∷ drop (n + 1) (numbers_from k c)
 drop-counted n k zero h = absurd (omega (arith, h))
-drop-counted zero k (suc c) h = let e : k ≡ k + 0 = omega arith in ap (λ m. m ∷ counted (k + 1) c) e
+drop-counted zero k (suc c) h = let e : k ≡ k + 0 = omega arith in ap (λ m. m ∷ numbers_from (k + 1) c) e
 drop-counted (suc n) k (suc c) h =
     let first : (k + 1) + n ≡ k + suc n = omega arith in
     let past : suc (n + 1) ≡ suc n + 1 = omega arith in
-    drop-counted n (k + 1) c (omega (arith, h)) ∙ ap (λ m. m ∷ drop (n + 1) (counted (k + 1) c)) first
-    ∙ ap (λ j. (k + suc n) ∷ drop j (counted k (suc c))) past
+    drop-counted n (k + 1) c (omega (arith, h)) ∙ ap (λ m. m ∷ drop (n + 1) (numbers_from (k + 1) c)) first
+    ∙ ap (λ j. (k + suc n) ∷ drop j (numbers_from k (suc c))) past
 
 -- the stations from one on
-pub nine-from : (n : ℕ) → n < 9 → drop n nine ≡ n ∷ drop (n + 1) nine
-nine-from n h = let e : 0 + n ≡ n = omega arith in drop-counted n 0 9 h ∙ ap (λ m. m ∷ drop (n + 1) nine) e
+pub stations-from : (c n : ℕ) → n < c → drop n (numbers_from 0 c) ≡ n ∷ drop (n + 1) (numbers_from 0 c)
+stations-from c n h = let e : 0 + n ≡ n = omega arith in
+    drop-counted n 0 c h ∙ ap (λ m. m ∷ drop (n + 1) (numbers_from 0 c)) e
+
+-- there are nine at most
+pub few-stations : (k c : ℕ) → k + c ≤ 9 → AllByRecursion (λ n. n ≤ 8) (numbers_from k c)
+few-stations k zero few = tt
+few-stations k (suc c) few = (omega (arith, few), few-stations (k + 1) c (omega (arith, few)))
 
 -- 2. A node that is down has no keys
 
@@ -115,28 +117,15 @@ is-waiting : (m : Mail) (t : Traffic) (a b : ℕ) → Carries m t → a ≤ 8 �
 is-waiting m t a b carries from to =
     first-mapped (message_of t) (queue t a b) ∙ ap (λ ms. is_some (first ms)) (carries.queues a b from to)
 
-pub deliveries-are : (layout : Layout) (more : ℕ) (h : InHand) (w : World) (to : ℕ) → WorldStands layout more h w → to ≤ 8
-    → deliveries w to ≡ mail_keys h.mail to
-deliveries-are layout more h w to stands least =
-    ap (λ ns. map (delivery to) (filter (λ from. is_some (next_message w.traffic from to)) (0 ∷ ns))) stands.numbers
+pub deliveries-are : (layout : Layout) (more : ℕ) (h : InHand) (w : World) (to c : ℕ) → (stands : WorldStands layout more h w) → to ≤ 8
+    → c ≡ suc stands.numbers.count → deliveries w to ≡ mail_keys c h.mail to
+deliveries-are layout more h w to c stands least many =
+    ap (λ ns. map (delivery to) (filter (λ from. is_some (next_message w.traffic from to)) (0 ∷ ns))) stands.numbers.are
     ∙ ap (map (delivery to)) (filter-alike (λ from. is_some (next_message w.traffic from to)) (λ from. is_waiting from to h.mail)
     (λ n. n ≤ 8)
-    (λ from few. is-waiting h.mail w.traffic from to stands.calls few least) nine (
-      omega arith,
-      (
-        omega arith,
-        (
-          omega arith,
-          (
-            omega arith,
-            (
-              omega arith,
-              (omega arith, (omega arith, (omega arith, (omega arith, tt)))),
-            ),
-          ),
-        ),
-      ),
-    ))
+    (λ from few. is-waiting h.mail w.traffic from to stands.calls few least) (numbers_from 0 (suc stands.numbers.count))
+    (few-stations 0 (suc stands.numbers.count) (omega (arith, stands.numbers.few))))
+    ∙ ap (λ k. mail_keys k h.mail to) (sym many)
 
 -- what is found of the deliveries from a station on
 pub next-from : (P : Key → Bool) (m : Mail) (to n : ℕ) (ns : List ℕ) → find P (keys_from m to (n ∷ ns))
@@ -161,19 +150,20 @@ by-number w (e ∷ es) each =
     ++ flat_map (λ e. deliveries w e.0 ++ node_keys (site_of w e.0 e.1)) es) (sym each.0)
     ∙ ap (λ ks. keys_at w e.0 ++ ks) (by-number w es each.1)
 
-shell-keys : (w : World) → map (λ e. e.0) w.nodes ≡ eight → keys_at w 0 ≡ deliveries w 0
+shell-keys : (w : World) → AreNumbers (map (λ e. e.0) w.nodes) → keys_at w 0 ≡ deliveries w 0
 shell-keys w numbers = go (node_at w 0) refl
   where
     go : (o : Option Node) → node_at w 0 ≡ o → keys_at w 0 ≡ deliveries w 0
     go None at = ap (λ o. deliveries w 0 ++ with_item o (λ it. node_keys (site_of w 0 it)) []) at ∙ append-nil (deliveries w 0)
     go (Some it) at = absurd (let n = number-of w 0 it numbers at in omega (arith, n.first))
 
-pub enabled-are : (layout : Layout) (more : ℕ) (h : InHand) (w : World) → WorldStands layout more h w → IsReached w
-    → enabled w ≡ flat_map (keys_at w) nine
-enabled-are layout more h w stands reached =
+pub enabled-are : (layout : Layout) (more : ℕ) (h : InHand) (w : World) (c : ℕ) → (stands : WorldStands layout more h w) → IsReached w
+    → c ≡ suc stands.numbers.count → enabled w ≡ flat_map (keys_at w) (numbers_from 0 c)
+enabled-are layout more h w c stands reached many =
     let each = recursion_from_All (IsFound w) w.nodes (all-found nat_cmp nat_cmp_total w.nodes reached.sound.place.ordered) in
-    ap (λ ks. deliveries w 0 ++ ks) (by-number w w.nodes each ∙ ap (flat_map (keys_at w)) stands.numbers)
-    ∙ ap (λ ks. ks ++ flat_map (keys_at w) eight) (sym (shell-keys w stands.numbers))
+    ap (λ ks. deliveries w 0 ++ ks) (by-number w w.nodes each ∙ ap (flat_map (keys_at w)) stands.numbers.are)
+    ∙ ap (λ ks. ks ++ flat_map (keys_at w) (numbers_from 1 stands.numbers.count)) (sym (shell-keys w stands.numbers))
+    ∙ ap (λ k. flat_map (keys_at w) (numbers_from 0 k)) (sym many)
 
 -- 5. What is found
 
@@ -187,11 +177,12 @@ find-append P (x ∷ xs) ys = go (P x) refl (find-append P xs ys)
     go false is h = rw is h
 
 -- the first of a station, or of those behind it
-pub find-station : (P : Key → Bool) (w : World) (n : ℕ) → n < 9
-    → find P (flat_map (keys_at w) (drop n nine)) ≡ or_else (find P (keys_at w n)) (find P (flat_map (keys_at w) (drop (n + 1) nine)))
-find-station P w n few =
-    ap (λ ns. find P (flat_map (keys_at w) ns)) (nine-from n few)
-    ∙ find-append P (keys_at w n) (flat_map (keys_at w) (drop (n + 1) nine))
+pub find-station : (P : Key → Bool) (w : World) (c n : ℕ) → n < c
+    → find P (flat_map (keys_at w) (drop n (numbers_from 0 c)))
+    ≡ or_else (find P (keys_at w n)) (find P (flat_map (keys_at w) (drop (n + 1) (numbers_from 0 c))))
+find-station P w c n few =
+    ap (λ ns. find P (flat_map (keys_at w) ns)) (stations-from c n few)
+    ∙ find-append P (keys_at w n) (flat_map (keys_at w) (drop (n + 1) (numbers_from 0 c)))
 
 -- with no last key the first of all is past it
 pub first-past : (keys : List Key) → find (is_past None) keys ≡ first keys

@@ -1,6 +1,6 @@
 -- The loops over the stations, step by step.
 use Rattle.std.proofs.Common.{◌≡◌, ℕ, ◌+◌, ◌≤◌, ◌<◌, Bool, true, false, cond, ◌&&◌, List, [], ◌∷◌, ◌++◌, length, drop}
-use Rattle.std.proofs.Common.{Option, None, Some, refl, sym, ◌∙◌, ap}
+use Rattle.std.proofs.Common.{Option, None, Some, refl, sym, ◌∙◌, ap, subst}
 use Rattle.std.specs.Prelude.{slice_get, ◌%◌, Result, Ok, Err, OnOk}
 use Rattle.std.specs.List.{find, flat_map}
 use Rattle.std.proofs.lemmas.List.{append-nil, append_assoc, drop_all}
@@ -9,8 +9,14 @@ use Rattle.invocation.specs.Mail.{Mail, is_waiting}
 use Rattle.journal.specs.declared.event.Key.{Key}
 use Rattle.journal.specs.World.{World}
 use Rattle.journal.specs.Enabled.{delivery, following, item, is_past}
-use Rattle.eden_world.specs.Listed.{nine, keys_from, keys_at}
-use Rattle.eden_world.proofs.KeyLists.{nine-from, next-from, find-append, find-station, first-past}
+use Rattle.eden_world.specs.Listed.{keys_from, keys_at}
+use Rattle.eden_world.specs.Worlds.{numbers_from}
+use Rattle.eden_world.proofs.NodeKeys.{numbers-count}
+use Rattle.eden_world.proofs.KeyLists.{stations-from, next-from, find-append, find-station, first-past}
+
+-- no station is left
+past-all : (c n : ℕ) → c ≤ n → drop n (numbers_from 0 c) ≡ []
+past-all c n past = drop_all n (numbers_from 0 c) (subst (λ k. k ≤ n) (sym (numbers-count 0 c)) past)
 
 -- 1. The first delivery
 
@@ -22,37 +28,37 @@ and-right true b is = is
 and-right false b is = refl
 
 -- what is found of the deliveries from a station and those behind it
-found-from : (P : Key → Bool) (m : Mail) (to n : ℕ) → n < 9 → find P (keys_from m to (drop n nine))
-    ≡ cond (is_waiting n to m && P (delivery to n)) (Some (delivery to n)) (find P (keys_from m to (drop (n + 1) nine)))
-found-from P m to n few = ap (λ ns. find P (keys_from m to ns)) (nine-from n few) ∙ next-from P m to n (drop (n + 1) nine)
+found-from : (P : Key → Bool) (m : Mail) (to c n : ℕ) → n < c → find P (keys_from m to (drop n (numbers_from 0 c)))
+    ≡ cond (is_waiting n to m && P (delivery to n)) (Some (delivery to n)) (find P (keys_from m to (drop (n + 1) (numbers_from 0 c))))
+found-from P m to c n few = ap (λ ns. find P (keys_from m to ns)) (stations-from c n few) ∙ next-from P m to n (drop (n + 1) (numbers_from 0 c))
 
-pub delivery-found : (P : Key → Bool) (m : Mail) (to n : ℕ) (x : Option Key) → n < 9 → is_waiting n to m ≡ true → P (delivery to n) ≡ true
-    → find P (keys_from m to (drop n nine)) ≡ x → Some (delivery to n) ≡ x
-delivery-found P m to n x few waits past inv = sym (found-from P m to n few ∙ (rw waits (rw past refl))) ∙ inv
+pub delivery-found : (P : Key → Bool) (m : Mail) (to c n : ℕ) (x : Option Key) → n < c → is_waiting n to m ≡ true → P (delivery to n) ≡ true
+    → find P (keys_from m to (drop n (numbers_from 0 c))) ≡ x → Some (delivery to n) ≡ x
+delivery-found P m to c n x few waits past inv = sym (found-from P m to c n few ∙ (rw waits (rw past refl))) ∙ inv
 
-pub delivery-none : (P : Key → Bool) (m : Mail) (to n : ℕ) (x : Option Key) → n < 9 → (is_waiting n to m && P (delivery to n)) ≡ false
-    → find P (keys_from m to (drop n nine)) ≡ x → find P (keys_from m to (drop (n + 1) nine)) ≡ x
-delivery-none P m to n x few not_it inv = sym (found-from P m to n few ∙ (rw not_it refl)) ∙ inv
+pub delivery-none : (P : Key → Bool) (m : Mail) (to c n : ℕ) (x : Option Key) → n < c → (is_waiting n to m && P (delivery to n)) ≡ false
+    → find P (keys_from m to (drop n (numbers_from 0 c))) ≡ x → find P (keys_from m to (drop (n + 1) (numbers_from 0 c))) ≡ x
+delivery-none P m to c n x few not_it inv = sym (found-from P m to c n few ∙ (rw not_it refl)) ∙ inv
 
-pub deliveries-end : (P : Key → Bool) (m : Mail) (to n : ℕ) (x : Option Key) → 9 ≤ n
-    → find P (keys_from m to (drop n nine)) ≡ x → None ≡ x
-deliveries-end P m to n x past inv = sym (ap (λ ns. find P (keys_from m to ns)) (drop_all n nine past)) ∙ inv
+pub deliveries-end : (P : Key → Bool) (m : Mail) (to c n : ℕ) (x : Option Key) → c ≤ n
+    → find P (keys_from m to (drop n (numbers_from 0 c))) ≡ x → None ≡ x
+deliveries-end P m to c n x past inv = sym (ap (λ ns. find P (keys_from m to ns)) (past-all c n past)) ∙ inv
 
 -- 2. The first key
 
-pub station-found : (P : Key → Bool) (w : World) (n : ℕ) (k : Key) (x : Option Key) → n < 9 → Some k ≡ find P (keys_at w n)
-    → find P (flat_map (keys_at w) (drop n nine)) ≡ x → Some k ≡ x
-station-found P w n k x few is inv =
-    ap (λ o. or_else o (find P (flat_map (keys_at w) (drop (n + 1) nine)))) is ∙ sym (find-station P w n few) ∙ inv
+pub station-found : (P : Key → Bool) (w : World) (c n : ℕ) (k : Key) (x : Option Key) → n < c → Some k ≡ find P (keys_at w n)
+    → find P (flat_map (keys_at w) (drop n (numbers_from 0 c))) ≡ x → Some k ≡ x
+station-found P w c n k x few is inv =
+    ap (λ o. or_else o (find P (flat_map (keys_at w) (drop (n + 1) (numbers_from 0 c))))) is ∙ sym (find-station P w c n few) ∙ inv
 
-pub station-none : (P : Key → Bool) (w : World) (n : ℕ) (x : Option Key) → n < 9 → None ≡ find P (keys_at w n)
-    → find P (flat_map (keys_at w) (drop n nine)) ≡ x → find P (flat_map (keys_at w) (drop (n + 1) nine)) ≡ x
-station-none P w n x few is inv =
-    ap (λ o. or_else o (find P (flat_map (keys_at w) (drop (n + 1) nine)))) is ∙ sym (find-station P w n few) ∙ inv
+pub station-none : (P : Key → Bool) (w : World) (c n : ℕ) (x : Option Key) → n < c → None ≡ find P (keys_at w n)
+    → find P (flat_map (keys_at w) (drop n (numbers_from 0 c))) ≡ x → find P (flat_map (keys_at w) (drop (n + 1) (numbers_from 0 c))) ≡ x
+station-none P w c n x few is inv =
+    ap (λ o. or_else o (find P (flat_map (keys_at w) (drop (n + 1) (numbers_from 0 c))))) is ∙ sym (find-station P w c n few) ∙ inv
 
-pub stations-end : (P : Key → Bool) (w : World) (n : ℕ) (x : Option Key) → 9 ≤ n
-    → find P (flat_map (keys_at w) (drop n nine)) ≡ x → None ≡ x
-stations-end P w n x past inv = sym (ap (λ ns. find P (flat_map (keys_at w) ns)) (drop_all n nine past)) ∙ inv
+pub stations-end : (P : Key → Bool) (w : World) (c n : ℕ) (x : Option Key) → c ≤ n
+    → find P (flat_map (keys_at w) (drop n (numbers_from 0 c))) ≡ x → None ≡ x
+stations-end P w c n x past inv = sym (ap (λ ns. find P (flat_map (keys_at w) ns)) (past-all c n past)) ∙ inv
 
 -- the first past the last one, or the first of all
 pub follows-found : (last : Option Key) (keys : List Key) (k : Key) → Some k ≡ find (is_past last) keys → Some k ≡ following last keys
@@ -89,27 +95,27 @@ one-by-one m to n ns = go (is_waiting n to m) refl
     go true at = rw at refl
     go false at = rw at refl
 
-pub delivery-listed : (m : Mail) (to n : ℕ) (keys new all : List Key) → n < 9 → new ≡ keys ++ keys_from m to (n ∷ [])
-    → keys ++ keys_from m to (drop n nine) ≡ all → new ++ keys_from m to (drop (n + 1) nine) ≡ all
-delivery-listed m to n keys new all few is inv =
-    let rest = keys_from m to (drop (n + 1) nine) in
+pub delivery-listed : (m : Mail) (to c n : ℕ) (keys new all : List Key) → n < c → new ≡ keys ++ keys_from m to (n ∷ [])
+    → keys ++ keys_from m to (drop n (numbers_from 0 c)) ≡ all → new ++ keys_from m to (drop (n + 1) (numbers_from 0 c)) ≡ all
+delivery-listed m to c n keys new all few is inv =
+    let rest = keys_from m to (drop (n + 1) (numbers_from 0 c)) in
     ap (λ ks. ks ++ rest) is ∙ append_assoc keys (keys_from m to (n ∷ [])) rest
-    ∙ sym (ap (λ ks. keys ++ ks) (ap (keys_from m to) (nine-from n few) ∙ one-by-one m to n (drop (n + 1) nine))) ∙ inv
+    ∙ sym (ap (λ ks. keys ++ ks) (ap (keys_from m to) (stations-from c n few) ∙ one-by-one m to n (drop (n + 1) (numbers_from 0 c)))) ∙ inv
 
-pub deliveries-listed : (m : Mail) (to n : ℕ) (keys all : List Key) → 9 ≤ n → keys ++ keys_from m to (drop n nine) ≡ all → keys ≡ all
-deliveries-listed m to n keys all past inv =
-    sym (append-nil keys) ∙ sym (ap (λ ns. keys ++ keys_from m to ns) (drop_all n nine past)) ∙ inv
+pub deliveries-listed : (m : Mail) (to c n : ℕ) (keys all : List Key) → c ≤ n → keys ++ keys_from m to (drop n (numbers_from 0 c)) ≡ all → keys ≡ all
+deliveries-listed m to c n keys all past inv =
+    sym (append-nil keys) ∙ sym (ap (λ ns. keys ++ keys_from m to ns) (past-all c n past)) ∙ inv
 
-pub station-listed : (w : World) (n : ℕ) (keys new all : List Key) → n < 9 → new ≡ keys ++ keys_at w n
-    → keys ++ flat_map (keys_at w) (drop n nine) ≡ all → new ++ flat_map (keys_at w) (drop (n + 1) nine) ≡ all
-station-listed w n keys new all few is inv =
-    let rest = flat_map (keys_at w) (drop (n + 1) nine) in
+pub station-listed : (w : World) (c n : ℕ) (keys new all : List Key) → n < c → new ≡ keys ++ keys_at w n
+    → keys ++ flat_map (keys_at w) (drop n (numbers_from 0 c)) ≡ all → new ++ flat_map (keys_at w) (drop (n + 1) (numbers_from 0 c)) ≡ all
+station-listed w c n keys new all few is inv =
+    let rest = flat_map (keys_at w) (drop (n + 1) (numbers_from 0 c)) in
     ap (λ ks. ks ++ rest) is ∙ append_assoc keys (keys_at w n) rest
-    ∙ sym (ap (λ ns. keys ++ flat_map (keys_at w) ns) (nine-from n few)) ∙ inv
+    ∙ sym (ap (λ ns. keys ++ flat_map (keys_at w) ns) (stations-from c n few)) ∙ inv
 
-pub stations-listed : (w : World) (n : ℕ) (keys all : List Key) → 9 ≤ n → keys ++ flat_map (keys_at w) (drop n nine) ≡ all → keys ≡ all
-stations-listed w n keys all past inv =
-    sym (append-nil keys) ∙ sym (ap (λ ns. keys ++ flat_map (keys_at w) ns) (drop_all n nine past)) ∙ inv
+pub stations-listed : (w : World) (c n : ℕ) (keys all : List Key) → c ≤ n → keys ++ flat_map (keys_at w) (drop n (numbers_from 0 c)) ≡ all → keys ≡ all
+stations-listed w c n keys all past inv =
+    sym (append-nil keys) ∙ sym (ap (λ ns. keys ++ flat_map (keys_at w) ns) (past-all c n past)) ∙ inv
 
 -- the keys of a station, deliveries before its node's
 pub station-keys-listed : (keys mid new deliveries nodes all : List Key) → mid ≡ keys ++ deliveries → new ≡ mid ++ nodes

@@ -72,7 +72,7 @@ module _ (layout : Layout) (more : ℕ) (old new : InHand) (w : World) (n : ℕ)
     (room : (s : Site) → 1 ≤ h.seen.more → NodeStands layout old.types h old.mail s → h.seen.more ≤ x.seen.more + 1)
     (broken : e.broken ≡ []) where
   was : IsUp layout (suc more) old w n h
-  was = is-up layout (suc more) old w n h stands number sits
+  was = is-up layout (suc more) old w n h stands sits
 
   some : 1 ≤ h.seen.more
   some = omega (arith, was.stands.told)

@@ -1,5 +1,5 @@
 -- The whole run of a program over its disks is a legal run; and so far, where want of memory ended it.
-use Rattle.std.proofs.Common.{◌≡◌, ◌==◌, ◌≤◌, ℕ, Bool, false, List, [], length, None, Some, is_some, sym, ap, subst, arith}
+use Rattle.std.proofs.Common.{◌≡◌, ◌==◌, ◌≤◌, ℕ, Bool, false, List, [], length, None, Some, is_some, sym, ap, subst, arith, true}
 use Rattle.std.specs.Ordering.{nat_cmp}
 use Rattle.std.proofs.lemmas.Bool.Decides.{nat_tests}
 use Rattle.eden_model.specs.Map.{value_at, with_item}
@@ -28,9 +28,9 @@ use Rattle.eden_world.specs.Legal.{disk_run, disk_runs}
 use Rattle.eden_world.specs.Seated.{AreGiven, Begins, EachShows, FitsTogether, KeepsDisks}
 use Rattle.eden_world.specs.Worlds.{IsNumber}
 use Rattle.eden_world.specs.declared.World.{World as Program}
-use Rattle.eden_world.proofs.AlongRuns.{RunOn, run-on, throughout, throughout-part}
+use Rattle.eden_world.proofs.AlongRuns.{RunOn, run-on, throughout, throughout-part, run-there}
 use Rattle.eden_world.proofs.DiskClocks.{ends-at}
-use Rattle.eden_world.proofs.Falls.{node-of}
+use Rattle.eden_world.proofs.Falls.{node-of_disk}
 use Rattle.eden_world.proofs.IdleSteps.{StillIfIdle, still-steps}
 use Rattle.eden_world.proofs.LegalDisks.{IsAtPlace, at-place, clock-stands, did-on, disk_at, ends-on, left-on, shown-on}
 use Rattle.eden_world.proofs.Numbers.{not-zero}
@@ -73,6 +73,16 @@ still : (layout : Layout) (script : Script) (runs : List DiskRun) (history : Lis
 still layout script runs history begins =
     still-steps (start layout script runs) history (of-any 1 script.nodes (opening_world layout script runs) script.commands) begins
 
+-- the disk of a place is there all along
+pub there-along : {T D : Type 0} (layout : Layout) (seen : T → Seen) (look : D → DiskSeen) (script : Script) (runs : List DiskRun)
+    (first last : Program T D) (history : List Entry) → FollowsSoFar (opening_world layout script runs) script.nodes script.commands history
+    → DidAll (Did layout seen look) first (run_over layout script runs history) last → (n : ℕ) → IsNumber n
+    → is_some (disk_at seen look n first) ≡ true → is_some (disk_at seen look n last) ≡ true
+there-along layout seen look script runs first last history begins came n number there =
+    run-there layout n (run_over layout script runs history) (disk_at seen look n first) (disk_at seen look n last)
+    (run-on layout n (Did layout seen look) (disk_at seen look n) (not-zero n number) (did-on layout seen look n number)
+    (run_over layout script runs history) [] first last there (still layout script runs history begins) came)
+
 -- a crash leaves of each disk only what stands for the first state
 first-state : (layout : Layout) (script : Script) (runs : List DiskRun) (n : ℕ) (obeys : Bool) (d : DiskRun) (x y : DiskSeen)
     → IsLayout layout → AreHandedIn layout runs → value_at nat_cmp n (numbered runs) ≡ Some d → d ≡ disk_run obeys x y
@@ -106,7 +116,7 @@ right-behind : {T D : Type 0} (tells obeys : Bool) (layout : Layout) (seen : T �
     → EndsAt (clock_before (end_over layout script runs history) n) (disk_run obeys x.old x.new)
 right-behind tells obeys layout seen look script runs first last history more n d x begins came stands =
     let w : World = end_over layout script runs history in
-    let it = node-of layout more (in_hand seen look last) w n stands.world x.number in
+    let it = node-of_disk layout more (in_hand seen look last) w n stands.world x.is in
     subst (λ o. EndsAt o (disk_run obeys x.old x.new)) (sym (ap (λ o. with_item o (λ (z : Node). z.clock) None) it.1))
     (ends-at layout n (start layout script runs) history (disk_run obeys x.old x.new) it.0 (later n x.number)
     (of-any 1 script.nodes (opening_world layout script runs) script.commands) begins
@@ -118,17 +128,17 @@ right-behind tells obeys layout seen look script runs first last history more n 
 
 pub legal-run : {T D : Type 0} (tells obeys : Bool) (layout : Layout) (seen : T → Seen) (look : D → DiskSeen) (script : Script)
     (types : TypeList) (before after : List D) (first : Program T D) (run : Run (Program T D))
-    → IsLayout layout → IsFit script → AreHandedIn layout (disk_runs obeys look before after) → length before ≡ 8
+    → IsLayout layout → IsFit script → AreHandedIn layout (disk_runs obeys look before after) → length before ≤ 8
     → Begins types before first
     → IsDone (Stands tells layout seen look) (Did layout seen look) first run
     (opening_world layout script (disk_runs obeys look before after)) script.nodes script.commands 0
     → ShowsAll (EachShows obeys seen look) first run.history.items run.machine → AreGiven seen look run.machine after
     → LeaveRoom layout (disk_runs obeys look before after)
     → IsLegalRun layout script (disk_runs obeys look before after) run.history.items
-legal-run tells obeys layout seen look script types before after first run lays fit handed eight begins done shows given room =
+legal-run tells obeys layout seen look script types before after first run lays fit handed few begins done shows given room =
     runs-are-legal layout script runs history lays handed
     (write-none (names_of script.types) script.nodes script.commands fit.commands) done.follows stand ends
-    (faults-shown obeys obeys seen look types before after first run.machine history (omega (arith, eight)) begins given shows) commands
+    (faults-shown obeys obeys seen look types before after first run.machine history few begins given shows) commands
     counted armed room
   where
     runs : List DiskRun
@@ -144,7 +154,7 @@ legal-run tells obeys layout seen look script types before after first run lays 
     last = end_over layout script runs history
 
     at : (n : ℕ) (d : DiskRun) → value_at nat_cmp n (numbered runs) ≡ Some d → IsAtPlace obeys seen look first run.machine n d
-    at n d there = at-place obeys seen look types before after first run.machine n d (omega (arith, eight)) begins given there
+    at n d there = at-place obeys seen look types before after first run.machine n d few begins given there
 
     stand : EachDiskStands layout last run_is nothing_added runs
     stand n d there = let x = at n d there in
@@ -184,17 +194,17 @@ legal-run tells obeys layout seen look script types before after first run lays 
 
 pub legal-part : {T D : Type 0} (tells obeys : Bool) (layout : Layout) (seen : T → Seen) (look : D → DiskSeen) (script : Script)
     (types : TypeList) (before after : List D) (first : Program T D) (run : Run (Program T D))
-    → IsLayout layout → IsFit script → AreHandedIn layout (disk_runs obeys look before after) → length before ≡ 8
+    → IsLayout layout → IsFit script → AreHandedIn layout (disk_runs obeys look before after) → length before ≤ 8
     → Begins types before first
     → IsCutShort (Stands tells layout seen look) (Did layout seen look) (Ends layout seen look) first run
     (opening_world layout script (disk_runs obeys look before after)) script.nodes script.commands 0
     → ShowsPart (EachShows obeys seen look) (FitsTogether seen) (KeepsDisks obeys seen look) first run.history.items run.machine
     → AreGiven seen look run.machine after → LeaveRoom layout (disk_runs obeys look before after)
     → IsLegalSoFar layout script (disk_runs obeys look before after) run.history.items
-legal-part tells obeys layout seen look script types before after first run lays fit handed eight begins cut shows given room =
+legal-part tells obeys layout seen look script types before after first run lays fit handed few begins cut shows given room =
     runs-are-legal-so-far layout script runs history lays handed
     (write-none (names_of script.types) script.nodes script.commands fit.commands) cut.begins stand
-    (faults-shown_so_far obeys obeys seen look types before after first run.machine history (omega (arith, eight)) begins given shows)
+    (faults-shown_so_far obeys obeys seen look types before after first run.machine history few begins given shows)
     (λ n d there. let x = at n d there in
     subst (λ (z : DiskRun). EachHasItsCommand run_is n z) (sym x.run) (part n d x).commands)
     (λ n d there. let x = at n d there in
@@ -216,7 +226,7 @@ legal-part tells obeys layout seen look script types before after first run lays
     last = end_over layout script runs history
 
     at : (n : ℕ) (d : DiskRun) → value_at nat_cmp n (numbered runs) ≡ Some d → IsAtPlace obeys seen look first run.machine n d
-    at n d there = at-place obeys seen look types before after first run.machine n d (omega (arith, eight)) begins given there
+    at n d there = at-place obeys seen look types before after first run.machine n d few begins given there
 
     stand : EachDiskStands layout last run_is (unfinished last) runs
     stand n d there = let x = at n d there in

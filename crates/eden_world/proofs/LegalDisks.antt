@@ -1,5 +1,5 @@
 -- The disk at a place of a program: as it was handed in, what a run did to it and shows of it, and as it is given back.
-use Rattle.std.proofs.Common.{◌≡◌, ◌≤◌, inl, inr, ℕ, suc, Bool, List, length, Option, None, Some, refl, sym}
+use Rattle.std.proofs.Common.{◌≡◌, ◌≤◌, inl, inr, ℕ, suc, Bool, true, false, List, length, Option, None, Some, is_some, refl, sym}
 use Rattle.std.proofs.Common.{◌∙◌, ap, subst, arith}
 use Rattle.std.specs.Prelude.{IfSome, IsSomeAnd, slice_get}
 use Rattle.std.specs.Option.{option_map}
@@ -17,7 +17,7 @@ use Rattle.disk_faults.specs.Runs.{EntryShows}
 use Rattle.disk_faults.specs.Shows.{IsLeftOf}
 use Rattle.eden_world.specs.InHand.{Did, Ends, place_at, seen_at}
 use Rattle.eden_world.specs.Legal.{disk_run, disk_runs}
-use Rattle.eden_world.specs.Seated.{AreGiven, Begins, EachShows, KeepsDisks}
+use Rattle.eden_world.specs.Seated.{AreGiven, Begins, EachShows, KeepsDisks, StaysSo}
 use Rattle.eden_world.specs.Steps.{SeatEnds, SeatStep, disk_of}
 use Rattle.eden_world.specs.Worlds.{Seat, up, down, InHand, IsNumber, SeatStands, WorldStands}
 use Rattle.eden_world.specs.declared.World.{World as Program}
@@ -32,20 +32,19 @@ disk_at seen look n p = option_map disk_of (seen_at seen look (place_at p n))
 
 -- 1. What is said of a place is said of its disk
 
-seat-steps : (layout : Layout) (n : ℕ) (s : Step) (o p : Option Seat) → SeatStep layout n s o p
+seat-steps : (layout : Layout) (n : ℕ) (s : Step) (o p : Option Seat) → is_some (option_map disk_of o) ≡ true → SeatStep layout n s o p
     → StepOn layout n s (option_map disk_of o) (option_map disk_of p)
-seat-steps layout n s None p one = absurd one
-seat-steps layout n s (Some a) None one = absurd one
-seat-steps layout n s (Some a) (Some b) one = one
+seat-steps layout n s None p there one = absurd (let bad : false ≡ true = there in cc bad)
+seat-steps layout n s (Some a) None there one = absurd one
+seat-steps layout n s (Some a) (Some b) there one = one
 
-seat-ends : (layout : Layout) (more n : ℕ) (w : World) (o p : Option Seat) → SeatEnds layout more n w o p
-    → EndsOn layout n w (option_map disk_of o) (option_map disk_of p)
-seat-ends layout more n w None p one = absurd one
-seat-ends layout more n w (Some a) None one = absurd one
-seat-ends layout more n w (Some a) (Some b) one = one.ends
+seat-ends : (layout : Layout) (more n : ℕ) (w : World) (o p : Option Seat) → is_some (option_map disk_of o) ≡ true
+    → SeatEnds layout more n w o p → EndsOn layout n w (option_map disk_of o) (option_map disk_of p)
+seat-ends layout more n w None p there one = absurd (let bad : false ≡ true = there in cc bad)
+seat-ends layout more n w (Some a) None there one = absurd one
+seat-ends layout more n w (Some a) (Some b) there one = one.ends
 
-seat-shows : (obeys : Bool) (n : ℕ) (e : Entry) (o p : Option Seat)
-    → IfSome o (λ a. IsSomeAnd p (λ b. EntryShows obeys n e (disk_of a) (disk_of b)))
+seat-shows : (obeys : Bool) (n : ℕ) (e : Entry) (o p : Option Seat) → StaysSo (EntryShows obeys n e) o p
     → IfSome (option_map disk_of o) (λ a. IsSomeAnd (option_map disk_of p) (λ b. EntryShows obeys n e a b))
 seat-shows obeys n e None p one = tt
 seat-shows obeys n e (Some a) None one = absurd one
@@ -57,15 +56,22 @@ seat-left obeys None p one = tt
 seat-left obeys (Some a) None one = tt
 seat-left obeys (Some a) (Some b) one = one
 
+-- a place does not come to be, and does not go
+pub seat-same : (P : DiskSeen → DiskSeen → Type 0) (o p : Option Seat) → StaysSo P o p
+    → is_some (option_map disk_of p) ≡ is_some (option_map disk_of o)
+seat-same P None p stays = ap (λ q. is_some (option_map disk_of q)) stays
+seat-same P (Some a) None stays = absurd stays
+seat-same P (Some a) (Some b) stays = refl
+
 pub did-on : {T D : Type 0} (layout : Layout) (seen : T → Seen) (look : D → DiskSeen) (n : ℕ) → IsNumber n
     → EachOn {M = Program T D} layout n (Did layout seen look) (disk_at seen look n)
-did-on layout seen look n number old new s did =
-    seat-steps layout n s (seen_at seen look (place_at old n)) (seen_at seen look (place_at new n)) (did n number)
+did-on layout seen look n number old new s there did =
+    seat-steps layout n s (seen_at seen look (place_at old n)) (seen_at seen look (place_at new n)) there (did n number)
 
 pub ends-on : {T D : Type 0} (layout : Layout) (seen : T → Seen) (look : D → DiskSeen) (n : ℕ) → IsNumber n
     → EachEndsOn {M = Program T D} layout n (Ends layout seen look) (disk_at seen look n)
-ends-on layout seen look n number old new more w ends =
-    seat-ends layout more n w (seen_at seen look (place_at old n)) (seen_at seen look (place_at new n)) (ends n number)
+ends-on layout seen look n number old new more w there ends =
+    seat-ends layout more n w (seen_at seen look (place_at old n)) (seen_at seen look (place_at new n)) there (ends n number)
 
 pub shown-on : {T D : Type 0} (obeys : Bool) (seen : T → Seen) (look : D → DiskSeen) (n : ℕ) → IsNumber n
     → EachShown {M = Program T D} obeys n (EachShows obeys seen look) (disk_at seen look n)
@@ -79,7 +85,7 @@ left-on obeys seen look n number old new left =
 
 -- 2. Before the first event, and at the end
 
-first-disk : {T D : Type 0} (seen : T → Seen) (look : D → DiskSeen) (types : TypeList) (before : List D) (p : Program T D)
+pub first-disk : {T D : Type 0} (seen : T → Seen) (look : D → DiskSeen) (types : TypeList) (before : List D) (p : Program T D)
     → Begins types before p → (m : ℕ) → disk_at seen look (suc m) p ≡ option_map look (slice_get before m)
 first-disk {T = T} {D = D} seen look types before p begins m =
     ap (λ o. option_map disk_of (seen_at seen look o)) (begins.seats (suc m)) ∙ go (slice_get before m)

@@ -10,7 +10,7 @@ pub mod Shell
 pub mod Armed
 pub mod Joined
 pub mod Wanting
-pub mod EightKeys
+pub mod NodeKeys
 pub mod Reach
 pub mod Alike
 pub mod Reseating
@@ -56,6 +56,7 @@ pub mod SeatRoom
 pub mod Legal
 pub mod OpenedRuns
 pub mod LegalCarried
+pub mod AsMany
 pub mod Shown
 pub mod Setting
 pub mod Created
@@ -73,3 +74,4 @@ pub mod Arming
 pub mod Arriving
 pub mod Due
 pub mod Places
+pub mod Counting

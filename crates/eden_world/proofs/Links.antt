@@ -27,8 +27,8 @@ use Rattle.eden_world.specs.Steps.{disk_of, step_by, Goes}
 use Rattle.eden_world.specs.Told.{Cuts, SameDisks, waiting_at, name_at, CanBeTold, marked, IsTelling}
 use Rattle.eden_world.proofs.Alike.{seat-alike}
 use Rattle.eden_world.proofs.Broken.{broken-names, broken-processes, askers-without_link, can-cut}
-use Rattle.eden_world.proofs.EightKeys.{number-of}
-use Rattle.eden_world.proofs.Falls.{some-number, disk-there, seat-step}
+use Rattle.eden_world.proofs.NodeKeys.{number-of}
+use Rattle.eden_world.proofs.Falls.{some-number, seat-level}
 use Rattle.eden_world.proofs.States.{states-told}
 use Rattle.eden_world.proofs.Telling.{telling-done}
 
@@ -103,6 +103,7 @@ module _ (layout : Layout) (more : ℕ) (old mid : InHand) (w : World) (a b : �
       its_types = is.its_types ∙ ap types_in (sym cut.types);
       numbers = is.numbers;
       nodes = seat-kept;
+      no_more = λ k none. cut.seats k ∙ is.no_more k none;
       calls = carries;
       ups = λ n. ap (λ us. not (n == 0) && slice_index_or us n false) cut.up ∙ is.ups n;
       links = λ x y to from. cut.links x y to from ∙ ap (cond (same_link a b x y) false) (is.links x y to from) ∙ sym
@@ -131,10 +132,9 @@ cut-goes layout more old mid new w a b numbers e is sound cut its_event node clo
     store_clock = subst (λ ev. StoreClock w ev e.clock) (sym its_event) tt;
   };
   stands = subst (WorldStands layout more new) (sym next_is) (telling-done layout more None 0 0 (linked a b false w) new telling);
-  disks = λ m number. let z = disk-there layout (suc more) old w m is number in
-      seat-step layout m w (Some (command.Cut a b)) e (old.seats m) (new.seats m) z.0 z.0 z.1
-      (same m ∙ ap (option_map disk_of) (cut.seats m) ∙ z.1)
-      (lift-elsewhere layout m (step_by w (Some (command.Cut a b)) e) z.0.told z.0.counts.clock
+  disks = λ m number. seat-level layout m (step_by w (Some (command.Cut a b)) e) (old.seats m) (new.seats m)
+      (same m ∙ ap (option_map disk_of) (cut.seats m))
+      (λ d. lift-elsewhere layout m (step_by w (Some (command.Cut a b)) e) d.told d.counts.clock
       (ap (λ k. k == m) node ∙ none m number) (ap (λ v. state v m) next_is ∙ states-told (processes_of (broken_by_link a b) w.traffic)
       (record w { cuts = (a, b) ∷ w.cuts; traffic = without_link a b w.traffic })
       (λ k it at. (sound k it at).node.in_order) m));

@@ -5,13 +5,8 @@ use Rattle.std.specs.Ordering.{nat_cmp, eq_by_cmp}
 use Rattle.std.specs.declared.cmp.Ordering.{Ordering}
 use Rattle.std.specs.declared.cmp.Ordering.TheVariants.{Less, Equal, Greater}
 use Rattle.eden_model.specs.Map.{value_at, put_at}
-use Rattle.eden_model.proofs.Numbers.{same-true, same-self}
-use Rattle.eden_world.specs.Worlds.{IsNumber, eight}
-
--- so many numbers from one on
-abbrev numbers_from : ℕ → ℕ → List ℕ
-numbers_from k zero = []
-numbers_from k (suc c) = k ∷ numbers_from (k + 1) c
+use Rattle.eden_model.proofs.Numbers.{same-true}
+use Rattle.eden_world.specs.Worlds.{AreNumbers, IsNumber, numbers_from}
 
 abbrev keys : {X : Type 0} → List (ℕ × X) → List ℕ
 keys es = map (λ e. e.0) es
@@ -25,7 +20,7 @@ tail-is a b xs ys e = cc e
 later-than : (n k : ℕ) → k < n → nat_cmp n k ≡ Greater
 later-than n k h = grind (arith, h)
 
-apart-from : (n k : ℕ) → k < n → eq_by_cmp nat_cmp n k ≡ false
+pub apart-from : (n k : ℕ) → k < n → eq_by_cmp nat_cmp n k ≡ false
 apart-from n k h = rw (later-than n k h) refl
 
 keys-put : {X : Type 0} (c k n : ℕ) (x : X) (es : List (ℕ × X)) → keys es ≡ numbers_from k c → k ≤ n → n < k + c
@@ -45,35 +40,6 @@ keys-put {X = X} (suc c) k n x (e ∷ es) is least most = go (nat_cmp n e.0) ref
     go Greater at later = rw at (ap (λ l. e.0 ∷ l) (later (grind (arith, at, first, least)))
         ∙ ap (λ j. j ∷ numbers_from (k + 1) c) first)
 
-there : {X : Type 0} (c k n : ℕ) (es : List (ℕ × X)) → keys es ≡ numbers_from k c → k ≤ n → n < k + c
-    → is_some (value_at nat_cmp n es) ≡ true
-there zero k n es is least most = absurd (omega (arith, least, most))
-there (suc c) k n [] is least most = absurd (let bad : [] ≡ k ∷ numbers_from (k + 1) c = is in cc bad)
-there (suc c) k n (e ∷ es) is least most = go (eq_by_cmp nat_cmp n e.0) refl
-    (λ past. there c (k + 1) n es (tail-is e.0 k (keys es) (numbers_from (k + 1) c) is) past (omega (arith, most)))
-  where
-    apart : eq_by_cmp nat_cmp n e.0 ≡ false → n ≡ k → ⊥
-    apart at same = let first : e.0 ≡ k = head-is e.0 k (keys es) (numbers_from (k + 1) c) is in
-        let bad : true ≡ false = sym (same-self n) ∙ ap (eq_by_cmp nat_cmp n) (same ∙ sym first) ∙ at in cc bad
-
-    past-first : (n ≡ k → ⊥) → k + 1 ≤ n
-    past-first other = omega (arith, least, other)
-
-    go : (b : Bool) → eq_by_cmp nat_cmp n e.0 ≡ b → (k + 1 ≤ n → is_some (value_at nat_cmp n es) ≡ true)
-        → is_some (cond (eq_by_cmp nat_cmp n e.0) (Some e.1) (value_at nat_cmp n es)) ≡ true
-    go true at later = rw at refl
-    go false at later = rw at (later (past-first (apart at)))
-
--- the eight nodes stay
-pub eight-put : {X : Type 0} (n : ℕ) (x : X) (es : List (ℕ × X)) → map (λ e. e.0) es ≡ eight → IsNumber n
-    → map (λ e. e.0) (put_at nat_cmp n x es) ≡ eight
-eight-put n x es is number = keys-put 8 1 n x es is number.first (omega (arith, number.last))
-
--- and each of them is there
-pub one-of-eight : {X : Type 0} (n : ℕ) (es : List (ℕ × X)) → map (λ e. e.0) es ≡ eight → IsNumber n
-    → is_some (value_at nat_cmp n es) ≡ true
-one-of-eight n es is number = there 8 1 n es is number.first (omega (arith, number.last))
-
 only : {X : Type 0} (c k n : ℕ) (es : List (ℕ × X)) → keys es ≡ numbers_from k c → is_some (value_at nat_cmp n es) ≡ true → n < k + c
 only zero k n [] is found = absurd (cc found)
 only zero k n (e ∷ es) is found = absurd (let bad : e.0 ∷ keys es ≡ [] = is in cc bad)
@@ -92,9 +58,20 @@ only {X = X} (suc c) k n (e ∷ es) is found = go (eq_by_cmp nat_cmp n e.0) refl
     go true at found later = here (same-true n e.0 at)
     go false at found later = one_more (later found)
 
--- and no other
-pub within-eight : {X : Type 0} (n : ℕ) (es : List (ℕ × X)) → map (λ e. e.0) es ≡ eight → is_some (value_at nat_cmp n es) ≡ true → n ≤ 8
-within-eight n es is found = let below : n < 9 = only 8 1 n es is found in omega (arith, below)
+-- there is no other
+pub within-numbers : {X : Type 0} (n : ℕ) (es : List (ℕ × X)) → AreNumbers (map (λ e. e.0) es) → is_some (value_at nat_cmp n es) ≡ true
+    → n ≤ 8
+within-numbers n es is found = let below : n < 1 + is.count = only is.count 1 n es is.are found in omega (arith, below, is.few)
+
+-- the nodes stay where one of them changes
+pub numbers-put : {X : Type 0} (n : ℕ) (x : X) (es : List (ℕ × X)) → AreNumbers (map (λ e. e.0) es) → 1 ≤ n
+    → is_some (value_at nat_cmp n es) ≡ true → AreNumbers (map (λ e. e.0) (put_at nat_cmp n x es))
+numbers-put n x es is first found = record {
+  count = is.count;
+  some = is.some;
+  few = is.few;
+  are = keys-put is.count 1 n x es is.are first (only is.count 1 n es is.are found);
+}
 
 put-itself : {X : Type 0} (c k n : ℕ) (x : X) (es : List (ℕ × X)) → keys es ≡ numbers_from k c → k ≤ n → value_at nat_cmp n es ≡ Some x
     → put_at nat_cmp n x es ≡ es
@@ -120,9 +97,9 @@ put-itself {X = X} (suc c) k n x (e ∷ es) is least found = go (nat_cmp n e.0) 
     go Greater at later = rw at (ap (λ l. e ∷ l) (later (grind (arith, at, first, least)) (behind (rw at refl))))
 
 -- what is there already may be put once more
-pub same-put : {X : Type 0} (n : ℕ) (x : X) (es : List (ℕ × X)) → map (λ e. e.0) es ≡ eight → IsNumber n → value_at nat_cmp n es ≡ Some x
-    → put_at nat_cmp n x es ≡ es
-same-put n x es is number found = put-itself 8 1 n x es is number.first found
+pub same-put : {X : Type 0} (n : ℕ) (x : X) (es : List (ℕ × X)) → AreNumbers (map (λ e. e.0) es) → IsNumber n
+    → value_at nat_cmp n es ≡ Some x → put_at nat_cmp n x es ≡ es
+same-put n x es is number found = put-itself is.count 1 n x es is.are number.first found
 
 -- a number is no shell's
 pub no-shell : (n : ℕ) → IsNumber n → (n == 0) ≡ false

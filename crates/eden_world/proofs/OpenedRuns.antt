@@ -1,5 +1,5 @@
 -- The disks of a run are seen as they were handed in, so the program that began over them is opened.
-use Rattle.std.proofs.Common.{◌≡◌, Bool, List, [], ◌∷◌, length, map, Option, None, Some, refl, sym, ◌∙◌, ap, subst}
+use Rattle.std.proofs.Common.{◌≡◌, ◌≤◌, Bool, List, [], ◌∷◌, length, map, Option, None, Some, refl, sym, ap, subst}
 use Rattle.std.proofs.Common.{arith}
 use Rattle.std.specs.Prelude.{IfSome, slice_get}
 use Rattle.std.specs.Option.{option_map}
@@ -35,13 +35,14 @@ each-sized obeys look before after sized n d there =
     (sized-at look (slice_get before r.index) r.old (sized r.index) r.was)
 
 pub opened-runs : {D : Type 0} (obeys : Bool) (layout : Layout) (look : D → DiskSeen) (before after : List D) → IsLayout layout
-    → ReadsByCalls layout → AreHandedIn layout (disk_runs obeys look before after) → length before ≡ 8 → length after ≡ 8
-    → AreSized look before → IsOpened layout look before (disk_runs obeys look before after)
-opened-runs obeys layout look before after lays reads handed eight given sized = record {
+    → ReadsByCalls layout → AreHandedIn layout (disk_runs obeys look before after) → 1 ≤ length before → length before ≤ 8
+    → length after ≡ length before → AreSized look before → IsOpened layout look before (disk_runs obeys look before after)
+opened-runs obeys layout look before after lays reads handed some few given sized = record {
   its_layout = lays;
   reads = reads;
   handed_in = handed;
-  eight = runs-length obeys look before after (given ∙ sym eight) ∙ eight;
-  seen = as-seen obeys look before after (given ∙ sym eight);
+  some = subst (λ m. 1 ≤ m) (sym (runs-length obeys look before after given)) some;
+  few = subst (λ m. m ≤ 8) (sym (runs-length obeys look before after given)) few;
+  seen = as-seen obeys look before after given;
   sized = each-sized obeys look before after sized;
 }

@@ -1,5 +1,5 @@
 -- Before the first entry: over disks that are handed in as they have to be what is in hand stands for the opening world.
-use Rattle.std.proofs.Common.{◌≡◌, ◌≤◌, inl, inr, ◌==◌, ℕ, Bool, true, false, cond, not, ◌&&◌, List, [], ◌∷◌, length, map}
+use Rattle.std.proofs.Common.{◌≡◌, ◌≤◌, ◌+◌, inl, inr, ◌==◌, ℕ, Bool, true, false, cond, not, ◌&&◌, List, [], ◌∷◌, length, map}
 use Rattle.std.proofs.Common.{Option, None}
 use Rattle.std.proofs.Common.{Some, Result, Ok, Err, refl, sym, ◌∙◌, ap, subst, arith}
 use Rattle.std.specs.Prelude.{IsSomeAnd}
@@ -18,13 +18,13 @@ use Rattle.journal.specs.declared.command.Script.{Script}
 use Rattle.journal.specs.World.{World, Node, Site, Eject, site_of}
 use Rattle.journal.specs.Opening.{IsToldFor, most_changes, is_untold, node_of, node_from, entries_of, ledger_of, passive, passive_entry}
 use Rattle.journal.specs.Standing.{DiskRun}
-use Rattle.journal.specs.LegalRun.{AreHandedIn, AreToldFor, EachDisk, IsHandedIn, images, numbered, opening_world}
+use Rattle.journal.specs.LegalRun.{AreHandedIn, AreToldFor, EachDisk, IsHandedIn, images, numbered, numbered_from, opening_world}
 use Rattle.history_laws.proofs.AtTheOpening.{at-the-opening}
 use Rattle.checkpoint.specs.BarredBoots.{damaged, overfull}
 use Rattle.checkpoint.specs.Throughout.{StandsFirst}
 use Rattle.checkpoint.proofs.FirstSites.{rests-first, barred-first}
 use Rattle.eden_kernel.specs.Boots.{IsIdle}
-use Rattle.eden_world.specs.Worlds.{InHand, WorldStands, SeatStands, DownStands, DiskStands, eight}
+use Rattle.eden_world.specs.Worlds.{InHand, WorldStands, SeatStands, DownStands, DiskStands, numbers_from}
 use Rattle.eden_world.specs.Openings.{IsFirst, first_seen}
 
 -- 1. A node that is handed in
@@ -135,29 +135,22 @@ found-node layout n (e ∷ es) = go (eq_by_cmp nat_cmp n e.0) refl (found-node l
     go true tied later = let number : e.0 ≡ n = sym (eq-same nat_cmp nat_cmp-IsAntisymmetric n e.0 tied) in
         rw tied (λ i. Some (node_of layout (number i, image_of e.1)))
 
-eight-keys : (layout : Layout) (disks : List DiskRun) → length disks ≡ 8
-    → map (λ (e : ℕ × Node). e.0) (map (λ d. (d.0, node_of layout d)) (images (numbered disks))) ≡ eight
-eight-keys layout (a ∷ b ∷ c ∷ d ∷ e ∷ f ∷ g ∷ h ∷ []) is = refl
-eight-keys layout [] is = absurd (omega (arith, is))
-eight-keys layout (a ∷ []) is = absurd (omega (arith, is))
-eight-keys layout (a ∷ b ∷ []) is = absurd (omega (arith, is))
-eight-keys layout (a ∷ b ∷ c ∷ []) is = absurd (omega (arith, is))
-eight-keys layout (a ∷ b ∷ c ∷ d ∷ []) is = absurd (omega (arith, is))
-eight-keys layout (a ∷ b ∷ c ∷ d ∷ e ∷ []) is = absurd (omega (arith, is))
-eight-keys layout (a ∷ b ∷ c ∷ d ∷ e ∷ f ∷ []) is = absurd (omega (arith, is))
-eight-keys layout (a ∷ b ∷ c ∷ d ∷ e ∷ f ∷ g ∷ []) is = absurd (omega (arith, is))
-eight-keys layout (a ∷ b ∷ c ∷ d ∷ e ∷ f ∷ g ∷ h ∷ x ∷ xs) is = absurd (omega (arith, is))
+its-keys : (layout : Layout) (k : ℕ) (disks : List DiskRun)
+    → map (λ (e : ℕ × Node). e.0) (map (λ d. (d.0, node_of layout d)) (images (numbered_from k disks))) ≡ numbers_from k (length disks)
+its-keys layout k [] = refl
+its-keys layout k (d ∷ disks) = ap (λ ks. k ∷ ks) (its-keys layout (k + 1) disks)
 
 -- 3. The world
 
 pub opens : (layout : Layout) (more : ℕ) (script : Script) (disks : List DiskRun) (h : InHand) → IsLayout layout → AreHandedIn layout disks
-    → AreToldFor layout more disks → length disks ≡ 8 → IsFirst script disks h
+    → AreToldFor layout more disks → 1 ≤ length disks → length disks ≤ 8 → IsFirst script disks h
     → WorldStands layout more h (opening_world layout script disks)
-opens layout more script disks h lays handed told long first = record {
+opens layout more script disks h lays handed told some few first = record {
   its_layout = refl;
   its_types = ap types_in (sym first.types);
-  numbers = eight-keys layout disks long;
+  numbers = record { count = length disks; some = some; few = few; are = its-keys layout 1 disks };
   nodes = λ n it at. by_disk n it (value_at nat_cmp n (numbered disks)) refl (sym (found-node layout n (numbered disks)) ∙ at);
+  no_more = λ n none. no-place n (value_at nat_cmp n (numbered disks)) refl (sym (found-node layout n (numbered disks)) ∙ none);
   calls = first.calls;
   ups = λ n. ap (λ b. not (n == 0) && b) (first.ups n) ∙ never (n == 0)
       ∙ sym (ap (λ o. with_item o (λ (x : Node). x.up) false) (found-node layout n (numbered disks))
@@ -174,6 +167,10 @@ opens layout more script disks h lays handed told long first = record {
     off n None = refl
     off n (Some d) = down-from n (length (image_of d)) (layout.map_of n (image_of d)) (layout.is_overfull n (image_of d))
         (is_untold layout n (image_of d))
+
+    no-place : (n : ℕ) (o : Option DiskRun) → value_at nat_cmp n (numbered disks) ≡ o → node_by layout n o ≡ None → h.seats n ≡ None
+    no-place n None there none = first.no_more n there
+    no-place n (Some d) there none = absurd (cc none)
 
     by_disk : (n : ℕ) (it : Node) (o : Option DiskRun) → value_at nat_cmp n (numbered disks) ≡ o → node_by layout n o ≡ Some it
         → IsSomeAnd (h.seats n) (SeatStands layout h.types h.mail more (site_of (opening_world layout script disks) n it))

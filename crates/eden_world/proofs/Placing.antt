@@ -1,5 +1,5 @@
 -- What stands at one place of a program is taken from there and another put in its stead: what is in hand then.
-use Rattle.std.proofs.Common.{◌≡◌, ◌==◌, ℕ, zero, suc, Bool, true, false, length, Option, None, Some, refl, sym, ◌∙◌, ap, subst}
+use Rattle.std.proofs.Common.{◌≡◌, ◌==◌, ℕ, zero, suc, Bool, true, false, length, Option, None, Some, refl, sym, ◌∙◌, ap, subst, ◌≤◌}
 use Rattle.std.specs.Prelude.{◌≢◌, unwrap_or}
 use Rattle.std.proofs.lemmas.Bool.{eqb-true}
 use Rattle.invocation.specs.Mail.{Mail}
@@ -91,9 +91,9 @@ pub whole-behind : {T D : Type 0} (seen : T → Seen) (n : ℕ) (a b : Place T D
     → b ≢ place.Moving → FitsTogether seen new
 whole-behind seen n a b later old new x fits node still = record {
   nodes = whole-nodes seen n a b later old new x fits.nodes node;
-  eight = record {
-    seats = x.count ∙ fits.eight.seats;
-    nodes = ap (λ p. p.nodes) x.places ∙ fits.eight.nodes;
+  places = record {
+    seats = subst (λ m. m ≤ 8) (sym x.count) fits.places.seats;
+    nodes = ap (λ p. p.nodes) x.places ∙ fits.places.nodes;
   };
   seated = seated-behind n a b later old new x fits.seated still;
 }

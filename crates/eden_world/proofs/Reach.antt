@@ -6,7 +6,7 @@ use Rattle.passive_store.specs.Kept.{Layout}
 use Rattle.journal.specs.World.{World, reaches, is_up, is_cut}
 use Rattle.eden_world.specs.Worlds.{InHand, WorldStands}
 use Rattle.eden_world.specs.Told.{SetsUp}
-use Rattle.eden_world.proofs.EightKeys.{up-number}
+use Rattle.eden_world.proofs.NodeKeys.{up-number}
 
 -- from each station
 pub reach-of : (layout : Layout) (more : ℕ) (h : InHand) (w : World) → WorldStands layout more h w → (a b : ℕ) → a ≤ 8

@@ -19,10 +19,10 @@ use Rattle.journal.specs.World.{World, Meaning, Site, Node, node_at, site_of, at
 use Rattle.journal.specs.Step.{clocked}
 use Rattle.history_laws.proofs.Frame.{after_at, node-at_same, node-at_other, other-node}
 use Rattle.ejects.proofs.KeptClasses.{Keeps}
-use Rattle.eden_world.specs.Worlds.{Seat, InHand, WorldStands, SeatStands, eight}
+use Rattle.eden_world.specs.Worlds.{AreNumbers, Seat, InHand, WorldStands, SeatStands}
 use Rattle.eden_world.specs.Told.{Reseats, marked}
 use Rattle.eden_world.proofs.Alike.{seat-alike}
-use Rattle.eden_world.proofs.EightKeys.{keys-at_node, keys-marked}
+use Rattle.eden_world.proofs.NodeKeys.{keys-at_node, keys-marked, numbers-at_node, same-numbers}
 
 -- 1. Worlds
 
@@ -108,28 +108,28 @@ node-marked_none key n c w m is = go (m == n) refl
 
 -- a change of node n, whose entry shows the clock of its disk
 pub renodes-turn : (key : Option Key) (n c : ℕ) (f : Site → Site) (w : World) (it : Node) → (n == 0) ≡ false
-    → map (λ e. e.0) w.nodes ≡ eight → node_at w n ≡ Some it
+    → AreNumbers (map (λ e. e.0) w.nodes) → node_at w n ≡ Some it
     → Renodes n (with_time c (f (site_of w n it)).node) w (marked key n c (at_node n f w))
 renodes-turn key n c f w it some numbers is = record {
   types = (rest-marked key n c (at_node n f w)).types ∙ (rest-at_node n f w).types;
   layout = (rest-marked key n c (at_node n f w)).layout ∙ (rest-at_node n f w).layout;
   cuts = (rest-marked key n c (at_node n f w)).cuts ∙ (rest-at_node n f w).cuts;
   names = (rest-marked key n c (at_node n f w)).names ∙ (rest-at_node n f w).names;
-  numbers = keys-marked key n c (at_node n f w) (keys-at_node n f w numbers ∙ numbers) ∙ keys-at_node n f w numbers;
+  numbers = keys-marked key n c (at_node n f w) (numbers-at_node n f w numbers) ∙ keys-at_node n f w numbers;
   here = node-marked key n c (at_node n f w) (f (site_of w n it)).node some (node-at_same n f w ∙ ap (option_map (after_at n f w)) is);
   others = λ m other. node-marked_other key n c (at_node n f w) m other ∙ node-at_other m n f w other;
 }
 
 -- a change of another node than the one whose clock the entry shows, as seen behind that
 pub renodes-other : (key : Option Key) (n c m : ℕ) (f : Site → Site) (w : World) (it : Node) → (m == n) ≡ false
-    → map (λ e. e.0) w.nodes ≡ eight → node_at w m ≡ Some it
+    → AreNumbers (map (λ e. e.0) w.nodes) → node_at w m ≡ Some it
     → Renodes m (f (site_of w m it)).node (marked key n c w) (marked key n c (at_node m f w))
 renodes-other key n c m f w it other numbers is = record {
   types = (rest-marked key n c (at_node m f w)).types ∙ (rest-at_node m f w).types ∙ sym (rest-marked key n c w).types;
   layout = (rest-marked key n c (at_node m f w)).layout ∙ (rest-at_node m f w).layout ∙ sym (rest-marked key n c w).layout;
   cuts = (rest-marked key n c (at_node m f w)).cuts ∙ (rest-at_node m f w).cuts ∙ sym (rest-marked key n c w).cuts;
   names = (rest-marked key n c (at_node m f w)).names ∙ (rest-at_node m f w).names ∙ sym (rest-marked key n c w).names;
-  numbers = keys-marked key n c (at_node m f w) (keys-at_node m f w numbers ∙ numbers) ∙ keys-at_node m f w numbers
+  numbers = keys-marked key n c (at_node m f w) (numbers-at_node m f w numbers) ∙ keys-at_node m f w numbers
       ∙ sym (keys-marked key n c w numbers);
   here = node-marked_other key n c (at_node m f w) m other ∙ node-at_same m f w ∙ ap (option_map (after_at m f w)) is;
   others = λ k apart. by_number k apart (k == n) refl;
@@ -160,7 +160,8 @@ pub reseated : (layout : Layout) (more rest : ℕ) (old new : InHand) (w later :
 reseated layout more rest old new w later n seat it is less seats nodes stands carries keeps ups joined = record {
   its_layout = nodes.layout ∙ is.its_layout;
   its_types = nodes.types ∙ is.its_types ∙ ap types_in (sym seats.types);
-  numbers = nodes.numbers ∙ is.numbers;
+  numbers = same-numbers _ _ nodes.numbers is.numbers;
+  no_more = λ k none. absent k none (k == n) refl;
   nodes = λ k jt at. subst (λ ts. IsSomeAnd (new.seats k) (SeatStands layout ts new.mail rest (site_of later k jt))) (sym seats.types)
       (go k jt at (k == n) refl);
   calls = carries;
@@ -172,6 +173,11 @@ reseated layout more rest old new w later n seat it is less seats nodes stands c
   where
     here : IsSomeAnd (new.seats n) (SeatStands layout old.types new.mail rest (site_of later n it))
     here = subst (λ o. IsSomeAnd o (SeatStands layout old.types new.mail rest (site_of later n it))) (sym seats.here) stands
+
+    absent : (k : ℕ) → node_at later k ≡ None → (b : Bool) → (k == n) ≡ b → new.seats k ≡ None
+    absent k none true same =
+        let bad : Some it ≡ None = sym nodes.here ∙ ap (node_at later) (sym (eqb-true k n same)) ∙ none in absurd (cc bad)
+    absent k none false other = seats.others k other ∙ is.no_more k (sym (nodes.others k other) ∙ none)
 
     go : (k : ℕ) (jt : Node) → node_at later k ≡ Some jt → (b : Bool) → (k == n) ≡ b
         → IsSomeAnd (new.seats k) (SeatStands layout old.types new.mail rest (site_of later k jt))

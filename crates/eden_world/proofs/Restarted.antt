@@ -39,7 +39,7 @@ use Rattle.scheduled_node.specs.declared.ScheduledNode.{ScheduledNode}
 use Rattle.eden_world.specs.Worlds.{down, IsNumber}
 use Rattle.eden_world.specs.Told.{Reseats, EntryShows}
 use Rattle.eden_world.specs.InHand.{in_hand, place_at, seen_at, IsWholeAt}
-use Rattle.eden_world.specs.Seated.{TakesPlace, KeepsRest, FitsTogether, HasEight, EachShows, KeepsDisks, heeds}
+use Rattle.eden_world.specs.Seated.{TakesPlace, KeepsRest, FitsTogether, HasPlaces, EachShows, KeepsDisks, heeds}
 use Rattle.eden_world.specs.Seated.{instead, station_at, station_in, clock_in}
 use Rattle.eden_world.specs.Carried.{CarriesBy, Starves}
 use Rattle.eden_world.specs.declared.World.{World as Program}
@@ -48,7 +48,7 @@ use Rattle.eden_world.specs.declared.seats.Seat.TheVariants as place
 use Rattle.eden_world.proofs.BootEntries.{NotBarred, FallsSo, BarsSo, down-at, up-goes, falls-goes, boot-starves}
 use Rattle.eden_world.proofs.CarriedOut.{restart-still}
 use Rattle.eden_world.proofs.Falls.{ends-level, node-of}
-use Rattle.eden_world.proofs.Seating.{agendas-behind, agendas-without, eight-behind}
+use Rattle.eden_world.proofs.Seating.{agendas-behind, agendas-without, places-behind}
 use Rattle.eden_world.proofs.Setting.{places-level, places-seated, set-again, set-back, set-fits}
 use Rattle.eden_world.proofs.Shown.{boot-counts, boot-left, entry-on, keeps-level, keeps-one, one-shows}
 use Rattle.eden_world.proofs.Vacating.{back, others-stay, rest-stays}
@@ -114,7 +114,7 @@ restart-up tells layout seen disk old mid last places n d doubt note s e was out
     seat = ap (seen_at seen disk) was
 
     its_agenda : IsAgenda (indices_of s.agenda) (parts_of old.types s.node.ejects)
-    its_agenda = let y = node-of layout (suc more) (in_hand seen disk old) w n h.world (its-number w n fit) in
+    its_agenda = let y = node-of layout (suc more) (in_hand seen disk old) w n h.world seat in
         let x = down-at layout (suc more) (in_hand seen disk old) w n y.0 doubt (disk d) h.world y.1 seat in
         elim x.disk [
           | inl r ↦ (ups_so h.telling old.types old.calls (site_of w n y.0) h.its_layout (reached.epochs n y.0 y.1) r.0 (omega (arith, r.1))
@@ -183,16 +183,16 @@ item-within (y ∷ xs) zero x is = omega arith
 item-within (y ∷ xs) (suc k) x is = omega (arith, item-within xs k x is)
 
 -- a place has a number of a node
-pub place-number : {T D : Type 0} (p : Program T D) (n : ℕ) (x : Place T D) → place_at p n ≡ Some x → HasEight p → (1 ≤ n) × (n ≤ 8)
-place-number p zero x is eight = absurd (let bad : None ≡ Some x = is in cc bad)
-place-number p (suc k) x is eight = (omega arith, omega (arith, item-within p.seats.items k x is, eight.seats))
+pub place-number : {T D : Type 0} (p : Program T D) (n : ℕ) (x : Place T D) → place_at p n ≡ Some x → HasPlaces p → (1 ≤ n) × (n ≤ 8)
+place-number p zero x is places = absurd (let bad : None ≡ Some x = is in cc bad)
+place-number p (suc k) x is places = (omega arith, omega (arith, item-within p.seats.items k x is, places.seats))
 
 pub whole-up : {T D : Type 0} (seen : T → Seen) (old mid last : Program T D) (places : Stations) (n : ℕ) (s : ScheduledNode T D)
     → TakesPlace n place.Moving old mid → TakesPlace n (place.Up s) mid last → places.nodes ≡ last.places.nodes → IsWhole (held seen s.node)
     → s.node.number ≡ n → FitsTogether seen old → FitsTogether seen (record last { places = places })
 whole-up seen old mid last places n s out again nodes whole number fits = record {
   nodes = now.nodes;
-  eight = record { seats = now.eight.seats; nodes = nodes ∙ now.eight.nodes };
+  places = record { seats = now.places.seats; nodes = nodes ∙ now.places.nodes };
   seated = now.seated;
 }
   where
@@ -251,7 +251,7 @@ pub restart-leaves : {T D : Type 0} (tells obeys : Bool) (seen : T → Seen) (di
     → (IsTrue tells → FallShows obeys n ended note (disk d) (disk y)) → FitsTogether seen old
     → KeepsDisks (heeds tells obeys) seen disk old last
 restart-leaves tells obeys seen disk old mid last n d y doubt left note ended is_none was out again calls shows fits =
-    keeps-one (heeds tells obeys) seen disk old last n (disk d) (disk y) now.eight now.seated (ap (λ o. option_map disk_of (seen_at seen disk o)) was)
+    keeps-one (heeds tells obeys) seen disk old last n (disk d) (disk y) now.places now.seated (ap (λ o. option_map disk_of (seen_at seen disk o)) was)
     (ap (λ o. option_map disk_of (seen_at seen disk o)) (back old mid last n (place.Down y left) out again
     ∙ ap (instead (place.Down y left)) was)) (others-stay old mid last n place.Moving (place.Down y left) out again)
     (boot-left tells obeys (disk d) (disk y)
@@ -274,7 +274,7 @@ pub idle-leaves : {T D : Type 0} (obeys : Bool) (seen : T → Seen) (disk : D �
     → taken ≡ unwrap_or (place_at old n) place.Moving → TakesPlace n place.Moving old mid → TakesPlace n taken mid last
     → FitsTogether seen old → KeepsDisks obeys seen disk old last
 idle-leaves obeys seen disk old mid last n taken is out again fits = keeps-level obeys seen disk old last
-    (eight-behind old last (rest-stays old mid last out.rest again.rest) fits.eight)
+    (places-behind old last (rest-stays old mid last out.rest again.rest) fits.places)
     (places-seated old last (set-back old mid last n taken is out again) fits.seated)
     (places-level seen disk old last (set-back old mid last n taken is out again))
 

@@ -11,7 +11,7 @@ use Rattle.agenda.specs.Keys.{IsAgenda}
 use Rattle.agenda.specs.Indexed.{indices_of}
 use Rattle.scheduled_node.specs.declared.ScheduledNode.{ScheduledNode}
 use Rattle.eden_world.specs.InHand.{place_at, AreWhole, HaveAgendas, IsWholeAt}
-use Rattle.eden_world.specs.Seated.{TakesPlace, KeepsRest, HasEight, instead, station_in}
+use Rattle.eden_world.specs.Seated.{TakesPlace, KeepsRest, HasPlaces, instead, station_in}
 use Rattle.eden_world.specs.declared.seats.Seat.{Seat as Place}
 use Rattle.eden_world.specs.declared.seats.Seat.TheVariants as place
 use Rattle.eden_world.specs.declared.World.{World as Program}
@@ -110,10 +110,10 @@ pub agendas-without : {T D : Type 0} (old new : Program T D) (n : ℕ)
 agendas-without old new n others types none =
     agendas-behind old new n others types (λ s at. absurd (not-up (place_at new n) s none at))
 
-pub eight-behind : {T D : Type 0} (old new : Program T D) → KeepsRest old new → HasEight old → HasEight new
-eight-behind old new rest eight = record {
-  seats = rest.count ∙ eight.seats;
-  nodes = ap (λ ps. ps.nodes) rest.places ∙ eight.nodes;
+pub places-behind : {T D : Type 0} (old new : Program T D) → KeepsRest old new → HasPlaces old → HasPlaces new
+places-behind old new rest places = record {
+  seats = subst (λ m. m ≤ 8) (sym rest.count) places.seats;
+  nodes = ap (λ ps. ps.nodes) rest.places ∙ places.nodes;
 }
 
 -- nothing stands there that is up while it moves

@@ -11,7 +11,7 @@ use Rattle.eden_world.specs.Told.{SameDisks}
 use Rattle.eden_world.specs.declared.seats.Seat.{Seat as Place}
 use Rattle.eden_world.specs.declared.seats.Seat.TheVariants as place
 use Rattle.eden_world.specs.declared.World.{World as Program}
-use Rattle.eden_world.proofs.Seating.{eight-behind, whole-behind}
+use Rattle.eden_world.proofs.Seating.{places-behind, whole-behind}
 use Rattle.eden_world.proofs.Vacating.{back, others-stay, rest-stays, stays-idle}
 
 -- 1. One change
@@ -56,7 +56,7 @@ pub set-fits : {T D : Type 0} (seen : T → Seen) (old new : Program T D) (n : �
 set-fits seen old new n x takes still whole fits = record {
   nodes = whole-behind seen old new n takes.others
       (λ s at. whole s (set-so (place_at old n) x (place.Up s) (sym takes.here ∙ at))) fits.nodes;
-  eight = eight-behind old new takes.rest fits.eight;
+  places = places-behind old new takes.rest fits.places;
   seated = set-seated old new n x takes still fits.seated;
 }
 

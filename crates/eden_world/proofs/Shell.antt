@@ -80,6 +80,7 @@ named-stands layout more h new w name m stands names = record {
   its_types = stands.its_types;
   numbers = stands.numbers;
   nodes = stands.nodes;
+  no_more = stands.no_more;
   calls = stands.calls;
   ups = stands.ups;
   links = stands.links;
@@ -106,7 +107,7 @@ module _ (layout : Layout) (more : ℕ) (old new : InHand) (w : World) (n : ℕ)
     (entry : TouchesNone e) (its_event : e.event ≡ event.Made name (status_of made) (uid_made made))
     (there : reached old.places 0 n ≡ true) where
   abbrev was : IsUp layout (suc more) old w n h
-  was = is-up layout (suc more) old w n h stands number sits
+  was = is-up layout (suc more) old w n h stands sits
 
   abbrev site : Site
   site = site_of w n was.it
@@ -163,7 +164,7 @@ module _ (layout : Layout) (more : ℕ) (old new : InHand) (w : World) (n : ℕ)
   stands_later : WorldStands layout more new (next w (Some (command.Create name n type_name)) e)
   stands_later = subst (WorldStands layout more new) (sym next_is) (named-stands layout more mid new world_later name
       (meaning_made (uid_made made))
-      (seat-in-world layout more old mid w n behind.node behind.traffic (up x) stands number takes.types takes.here takes.others
+      (seat-in-world layout more old mid w n behind.node behind.traffic (up x) stands number (ap is_some was.at) takes.types takes.here takes.others
       (λ other. refl)
       (keeps-same w.traffic behind.traffic (ap (λ (z : Traffic). z.calls) (traffic-born made t site)))
       (subst (Carries mid.mail) (sym (traffic-born made t site)) (subst (λ m. Carries m w.traffic)

@@ -1,6 +1,6 @@
 -- What an entry shows of the disks, and what is left of them where there was no memory: where one place changed, and where no disk did.
 use Rattle.std.proofs.Common.{◌≡◌, ◌==◌, ℕ, Bool, true, false, Option, None, Some, refl, sym, ◌∙◌, ap, subst}
-use Rattle.std.specs.Prelude.{IfSome, IsSomeAnd, IsTrue}
+use Rattle.std.specs.Prelude.{IsTrue}
 use Rattle.std.specs.Option.{option_map}
 use Rattle.std.proofs.lemmas.Bool.{eqb-true, eq-eqb}
 use Rattle.eden_disk.specs.Calls.{faults_after, stops_after}
@@ -21,13 +21,13 @@ use Rattle.disk_faults.proofs.Entries.{entry-elsewhere}
 use Rattle.eden_kernel.specs.Shows.{boot_event}
 use Rattle.eden_kernel.proofs.Showing.{none-falls}
 use Rattle.eden_world.specs.InHand.{in_hand, place_at, seen_at}
-use Rattle.eden_world.specs.Seated.{AreSeated, EachShows, HasEight, KeepsDisks, heeds}
+use Rattle.eden_world.specs.Seated.{AreSeated, EachShows, HasPlaces, KeepsDisks, StaysSo, heeds}
 use Rattle.eden_world.specs.Steps.{disk_of}
 use Rattle.eden_world.specs.Told.{SameDisks}
 use Rattle.eden_world.specs.Worlds.{Seat, IsNumber}
 use Rattle.eden_world.specs.declared.World.{World as Program}
 use Rattle.eden_world.proofs.Numbers.{not-zero}
-use Rattle.eden_world.proofs.Untouched.{AreLeft, level-keeps, level-left}
+use Rattle.eden_world.proofs.Untouched.{AreLeft, level-keeps, level-left, no-seat}
 
 -- 1. The counts of a disk behind a boot
 
@@ -95,9 +95,8 @@ entry-on obeys n v e a b shows is calls node clock = record {
 }
 
 shown-both : (obeys : Bool) (n : ℕ) (e : Entry) (o p : Option Seat) (a b : DiskSeen) → option_map disk_of o ≡ Some a
-    → option_map disk_of p ≡ Some b → EntryShows obeys n e a b
-    → IfSome o (λ x. IsSomeAnd p (λ y. EntryShows obeys n e (disk_of x) (disk_of y)))
-shown-both obeys n e None p a b was now shows = tt
+    → option_map disk_of p ≡ Some b → EntryShows obeys n e a b → StaysSo (EntryShows obeys n e) o p
+shown-both obeys n e None p a b was now shows = absurd (cc was)
 shown-both obeys n e (Some x) None a b was now shows = absurd (cc now)
 shown-both obeys n e (Some x) (Some y) a b was now shows =
     let before : disk_of x ≡ a = cc was in
@@ -107,8 +106,8 @@ shown-both obeys n e (Some x) (Some y) a b was now shows =
 -- a disk that was not touched
 pub shown-same : (obeys : Bool) (n : ℕ) (e : Entry) (o p : Option Seat) → option_map disk_of p ≡ option_map disk_of o
     → (shown_of e.event == n) ≡ false → (e.node == n) ≡ false
-    → IfSome o (λ x. IsSomeAnd p (λ y. EntryShows obeys n e (disk_of x) (disk_of y)))
-shown-same obeys n e None p same other away = tt
+    → StaysSo (EntryShows obeys n e) o p
+shown-same obeys n e None p same other away = no-seat p same
 shown-same obeys n e (Some x) None same other away = absurd (cc same)
 shown-same obeys n e (Some x) (Some y) same other away =
     let one : disk_of y ≡ disk_of x = cc same in
@@ -133,11 +132,10 @@ pub one-shows : {T D : Type 0} (obeys : Bool) (seen : T → Seen) (look : D → 
     → EachShows obeys seen look old e new
 one-shows obeys seen look old new n e a b was now others its_event node shows m number = go (m == n) refl
   where
-    go : (c : Bool) → (m == n) ≡ c → IfSome (seen_at seen look (place_at old m)) (λ x.
-        IsSomeAnd (seen_at seen look (place_at new m)) (λ y. EntryShows obeys m e (disk_of x) (disk_of y)))
+    go : (c : Bool) → (m == n) ≡ c
+        → StaysSo (EntryShows obeys m e) (seen_at seen look (place_at old m)) (seen_at seen look (place_at new m))
     go true same = let at : m ≡ n = eqb-true m n same in
-        subst (λ j. IfSome (seen_at seen look (place_at old j)) (λ x.
-        IsSomeAnd (seen_at seen look (place_at new j)) (λ y. EntryShows obeys j e (disk_of x) (disk_of y)))) (sym at)
+        subst (λ j. StaysSo (EntryShows obeys j e) (seen_at seen look (place_at old j)) (seen_at seen look (place_at new j))) (sym at)
         (shown-both obeys n e (seen_at seen look (place_at old n)) (seen_at seen look (place_at new n)) a b was now shows)
     go false other = shown-same obeys m e (seen_at seen look (place_at old m)) (seen_at seen look (place_at new m))
         (ap (λ o. option_map disk_of (seen_at seen look o)) (others m other)) (other-is (shown_of e.event) m n its_event other)
@@ -154,24 +152,24 @@ level-shows obeys seen look old new e same its_event node n number =
 
 left-of : (obeys : Bool) (o p : Option Seat) (a b : DiskSeen) → option_map disk_of o ≡ Some a → option_map disk_of p ≡ Some b
     → IsLeftOf obeys a b → AreLeft obeys o p
-left-of obeys None p a b was now left = tt
-left-of obeys (Some x) None a b was now left = tt
+left-of obeys None p a b was now left = absurd (cc was)
+left-of obeys (Some x) None a b was now left = absurd (cc now)
 left-of obeys (Some x) (Some y) a b was now left =
     let before : disk_of x ≡ a = cc was in
     let after : disk_of y ≡ b = cc now in
     subst (λ (d : DiskSeen). IsLeftOf obeys d (disk_of y)) (sym before) (subst (IsLeftOf obeys a) (sym after) left)
 
-pub keeps-level : {T D : Type 0} (obeys : Bool) (seen : T → Seen) (look : D → DiskSeen) (old new : Program T D) → HasEight new
+pub keeps-level : {T D : Type 0} (obeys : Bool) (seen : T → Seen) (look : D → DiskSeen) (old new : Program T D) → HasPlaces new
     → AreSeated new → SameDisks (in_hand seen look old) (in_hand seen look new) → KeepsDisks obeys seen look old new
-keeps-level obeys seen look old new eight seated same =
-    level-keeps obeys seen look old new (record { eight = eight; seated = seated }) same
+keeps-level obeys seen look old new places seated same =
+    level-keeps obeys seen look old new (record { places = places; seated = seated }) same
 
 pub keeps-one : {T D : Type 0} (obeys : Bool) (seen : T → Seen) (look : D → DiskSeen) (old new : Program T D) (n : ℕ) (a b : DiskSeen)
-    → HasEight new → AreSeated new → option_map disk_of (seen_at seen look (place_at old n)) ≡ Some a
+    → HasPlaces new → AreSeated new → option_map disk_of (seen_at seen look (place_at old n)) ≡ Some a
     → option_map disk_of (seen_at seen look (place_at new n)) ≡ Some b
     → ((m : ℕ) → (m == n) ≡ false → place_at new m ≡ place_at old m) → IsLeftOf obeys a b → KeepsDisks obeys seen look old new
-keeps-one obeys seen look old new n a b eight seated was now others left = record {
-  eight = eight;
+keeps-one obeys seen look old new n a b places seated was now others left = record {
+  places = places;
   seated = seated;
   left = λ m number. go m (m == n) refl;
 }

@@ -1,7 +1,7 @@
--- What an entry shows of the disks at the eight places, and what a call that found no memory leaves of them.
+-- What an entry shows of the disks at their places, and what a call that found no memory leaves of them.
 use Rattle.std.proofs.Common.{◌≡◌, ◌⊎◌, inl, inr, ◌==◌, ◌||◌, ◌≤◌, ℕ, Bool, true, false, not, List, Option, None, Some}
 use Rattle.std.proofs.Common.{refl, sym, ◌∙◌, ap, subst, arith}
-use Rattle.std.specs.Prelude.{IfSome, IsSomeAnd, IsTrue}
+use Rattle.std.specs.Prelude.{IsTrue}
 use Rattle.std.specs.Option.{option_map}
 use Rattle.std.proofs.lemmas.Bool.{eqb-true, eq-eqb}
 use Rattle.std.proofs.lemmas.Bool.Decides.{nat_tests}
@@ -17,12 +17,12 @@ use Rattle.disk_faults.specs.Shows.{IsLeftOf, ShowsCounts, NoneFalls, count_behi
 use Rattle.disk_faults.proofs.Entries.{entry-here, entry-elsewhere}
 use Rattle.scheduled_node.specs.Touched.{IsNodeTurn}
 use Rattle.eden_world.specs.InHand.{place_at, seen_at, in_hand}
-use Rattle.eden_world.specs.Seated.{EachShows, HasEight, AreSeated, KeepsDisks, heeds}
+use Rattle.eden_world.specs.Seated.{EachShows, HasPlaces, AreSeated, KeepsDisks, StaysSo, heeds}
 use Rattle.eden_world.specs.Steps.{ShowsIf, disk_of, turn_touches, event_touches}
 use Rattle.eden_world.specs.Told.{SameDisks}
 use Rattle.eden_world.specs.Worlds.{Seat, IsNumber}
 use Rattle.eden_world.specs.declared.World.{World as Program}
-use Rattle.eden_world.proofs.Untouched.{AreLeft, level-keeps, level-left}
+use Rattle.eden_world.proofs.Untouched.{AreLeft, level-keeps, level-left, no-seat}
 
 -- 1. Disks that tell and obey
 
@@ -151,8 +151,8 @@ turn-elsewhere obeys b m n clock v e d some other turn is shows = entry-elsewher
 
 -- of one place, by its disk before and behind
 of-place : (m : ℕ) (P : DiskSeen → DiskSeen → Type 0) (o p : Option Seat) (x y : DiskSeen) → option_map disk_of o ≡ Some x
-    → option_map disk_of p ≡ Some y → P x y → IfSome o (λ a. IsSomeAnd p (λ b. P (disk_of a) (disk_of b)))
-of-place m P None p x y was now h = tt
+    → option_map disk_of p ≡ Some y → P x y → StaysSo P o p
+of-place m P None p x y was now h = absurd (cc was)
 of-place m P (Some a) None x y was now h = absurd (cc now)
 of-place m P (Some a) (Some b) x y was now h =
     let old : disk_of a ≡ x = cc was in
@@ -160,20 +160,12 @@ of-place m P (Some a) (Some b) x y was now h =
     subst (λ d. P d (disk_of b)) (sym old) (subst (P x) (sym new) h)
 
 same-place : (P : DiskSeen → DiskSeen → Type 0) (o p : Option Seat) → option_map disk_of p ≡ option_map disk_of o → ((d : DiskSeen) → P d d)
-    → IfSome o (λ a. IsSomeAnd p (λ b. P (disk_of a) (disk_of b)))
-same-place P None p same each = tt
+    → StaysSo P o p
+same-place P None p same each = no-seat p same
 same-place P (Some a) None same each = absurd (cc same)
 same-place P (Some a) (Some b) same each =
     let is : disk_of b ≡ disk_of a = cc same in
     subst (P (disk_of a)) (sym is) (each (disk_of a))
-
-if-there : (P : Seat → Type 0) (p : Option Seat) → IsSomeAnd p P → IfSome p P
-if-there P None h = tt
-if-there P (Some b) h = h
-
-each-if : (P : Seat → Seat → Type 0) (o p : Option Seat) → IfSome o (λ a. IsSomeAnd p (P a)) → IfSome o (λ a. IfSome p (P a))
-each-if P None p h = tt
-each-if P (Some a) p h = if-there (P a) p h
 
 module _ {T D : Type 0} (seen : T → Seen) (look : D → DiskSeen) (old new : Program T D) where
   abbrev before : ℕ → Option DiskSeen
@@ -188,26 +180,25 @@ module _ {T D : Type 0} (seen : T → Seen) (look : D → DiskSeen) (old new : P
       → ((m : ℕ) (d : DiskSeen) → IsNumber m → (m == n) ≡ false → EntryShows obeys m e d d) → EachShows obeys seen look old e new
   each-shows obeys e n x y was now here same others m number = go (m == n) refl
     where
-      go : (b : Bool) → (m == n) ≡ b → IfSome (seen_at seen look (place_at old m)) (λ a.
-          IsSomeAnd (seen_at seen look (place_at new m)) (λ b. EntryShows obeys m e (disk_of a) (disk_of b)))
+      go : (b : Bool) → (m == n) ≡ b
+          → StaysSo (EntryShows obeys m e) (seen_at seen look (place_at old m)) (seen_at seen look (place_at new m))
       go true is = let at : m ≡ n = eqb-true m n is in
           of-place m (EntryShows obeys m e) _ _ x y (ap before at ∙ was) (ap behind at ∙ now)
           (subst (λ k. EntryShows obeys k e x y) (sym at) here)
       go false is = same-place (EntryShows obeys m e) _ _ (same m is) (λ d. others m d number is)
 
-  pub keeps-besides : (obeys : Bool) (n : ℕ) (x y : DiskSeen) → HasEight new → AreSeated new → before n ≡ Some x → behind n ≡ Some y
+  pub keeps-besides : (obeys : Bool) (n : ℕ) (x y : DiskSeen) → HasPlaces new → AreSeated new → before n ≡ Some x → behind n ≡ Some y
       → IsLeftOf obeys x y → ((m : ℕ) → (m == n) ≡ false → behind m ≡ before m) → KeepsDisks obeys seen look old new
-  keeps-besides obeys n x y eight seated was now here same = record { eight = eight; seated = seated; left = each }
+  keeps-besides obeys n x y places seated was now here same = record { places = places; seated = seated; left = each }
     where
       each : (m : ℕ) → IsNumber m → AreLeft obeys (seen_at seen look (place_at old m)) (seen_at seen look (place_at new m))
       each m number = go (m == n) refl
         where
           go : (b : Bool) → (m == n) ≡ b → AreLeft obeys (seen_at seen look (place_at old m)) (seen_at seen look (place_at new m))
           go true is = let at : m ≡ n = eqb-true m n is in
-              each-if (λ a b. IsLeftOf obeys (disk_of a) (disk_of b)) (seen_at seen look (place_at old m))
-              (seen_at seen look (place_at new m)) (of-place m (IsLeftOf obeys) _ _ x y (ap before at ∙ was) (ap behind at ∙ now) here)
+              of-place m (IsLeftOf obeys) _ _ x y (ap before at ∙ was) (ap behind at ∙ now) here
           go false is = level-left obeys (seen_at seen look (place_at old m)) (seen_at seen look (place_at new m)) (same m is)
 
-  pub keeps-level : (obeys : Bool) → HasEight new → AreSeated new → SameDisks (in_hand seen look old) (in_hand seen look new)
+  pub keeps-level : (obeys : Bool) → HasPlaces new → AreSeated new → SameDisks (in_hand seen look old) (in_hand seen look new)
       → KeepsDisks obeys seen look old new
-  keeps-level obeys eight seated same = level-keeps obeys seen look old new (record { eight = eight; seated = seated }) same
+  keeps-level obeys places seated same = level-keeps obeys seen look old new (record { places = places; seated = seated }) same

@@ -105,7 +105,7 @@ module _ {T D : Type 0} (tells : Bool) (layout : Layout) (seen : T → Seen) (lo
   module _ (more : ℕ) (w : World) (reached : IsReached w)
       (stood : Stands tells layout seen look old (suc more) w) (enabled_is : Contains (enabled w) key) where
     was : IsUp layout (suc more) (hand old) w n a
-    was = is-up layout (suc more) (hand old) w n a stood.world number (ap (seen_at seen look) x.was)
+    was = is-up layout (suc more) (hand old) w n a stood.world (ap (seen_at seen look) x.was)
 
     taken : (it : Node) → node_at w n ≡ Some it → IsSoundSite (site_of w n it) → 1 ≤ a.seen.more
         → NodeStands layout old.types a old.calls (site_of w n it)

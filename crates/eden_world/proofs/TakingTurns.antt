@@ -52,7 +52,7 @@ module _ {T D : Type 0} (tells : Bool) (layout : Layout) (seen : T → Seen) (lo
   module _ (more : ℕ) (w : World) (reached : IsReached w)
       (stood : Stands tells layout seen look old (suc more) w) (enabled_is : Contains (enabled w) key) where
     was : IsUp layout (suc more) (hand old) w n (held seen s.node)
-    was = is-up layout (suc more) (hand old) w n (held seen s.node) stood.world number (ap (seen_at seen look) x.was)
+    was = is-up layout (suc more) (hand old) w n (held seen s.node) stood.world (ap (seen_at seen look) x.was)
 
     some : 1 ≤ (seen s.node.store).more
     some = omega (arith, was.stands.told)

@@ -16,7 +16,6 @@ use Rattle.eden_model.specs.Traffic.{Traffic, shell_name, waiting_process}
 use Rattle.eden_model.specs.declared.Asker.TheVariants.{Shell, Eject as Process}
 use Rattle.epl_syntax.specs.declared.effect.Answer.{Answer}
 use Rattle.epl_syntax.specs.declared.effect.Answer.TheVariants.{Reply as Answered}
-use Rattle.epl_syntax.specs.Meaning.{types_in}
 use Rattle.invocation.specs.declared.call.Call.{Call}
 use Rattle.invocation.specs.Mail.{Mail}
 use Rattle.invocation.specs.Numbers.{item_in}
@@ -43,7 +42,7 @@ use Rattle.eden_world.specs.Worlds.{Seat, up, down, InHand, WorldStands, SeatSta
 use Rattle.eden_world.specs.Steps.{disk_of, TakesSeat}
 use Rattle.eden_world.specs.Told.{Reseats, waiting_at, name_at, CanBeTold, IsLooseAt, IsToldNode, marked, IsTelling, Tells}
 use Rattle.eden_world.proofs.Alike.{Alike, node-alike}
-use Rattle.eden_world.proofs.EightKeys.{keys-at_node}
+use Rattle.eden_world.proofs.NodeKeys.{numbers-at_node}
 use Rattle.eden_world.proofs.Reseating.{Renodes, renodes-other, traffic-marked}
 use Rattle.eden_world.proofs.Reseating.{node-marked_other}
 use Rattle.eden_world.proofs.Reseating.{node-marked_none}
@@ -187,31 +186,6 @@ tell-none layout more key n clock last h k left u p t some not_up = record {
 
 -- 4. A process of a node that is up
 
--- the seat of a number that no node has counts for nothing
-unseated : (layout : Layout) (more n : ℕ) (seat : Seat) (later : Mail) (old new : InHand) (w : World) → WorldStands layout more old w
-    → node_at w n ≡ None → TakesSeat n seat later old new → later ≡ old.mail → WorldStands layout more new w
-unseated layout more n seat later old new w is absent takes same = record {
-  its_layout = is.its_layout;
-  its_types = is.its_types ∙ ap types_in (sym takes.types);
-  numbers = is.numbers;
-  nodes = λ k it at. go k it at (k == n) refl;
-  calls = subst (λ m. Carries m w.traffic) (sym mail) is.calls;
-  ups = λ m. ap (λ (pl : Stations). node_up_at pl m) takes.places ∙ is.ups m;
-  links = λ a b x y. ap (λ (pl : Stations). joined_at pl a b) takes.places ∙ is.links a b x y;
-  names = λ name. is.names name ∙ sym (takes.names name);
-}
-  where
-    mail : new.mail ≡ old.mail
-    mail = takes.mail ∙ same
-
-    go : (k : ℕ) (it : Node) → node_at w k ≡ Some it → (b : Bool) → (k == n) ≡ b
-        → IsSomeAnd (new.seats k) (SeatStands layout new.types new.mail more (site_of w k it))
-    go k it at true here = absurd (let bad : None ≡ Some it = sym absent ∙ ap (node_at w) (sym (eqb-true k n here)) ∙ at in cc bad)
-    go k it at false other = subst (λ o. IsSomeAnd o (SeatStands layout new.types new.mail more (site_of w k it)))
-        (sym (takes.others k other))
-        (subst (λ ts. IsSomeAnd (old.seats k) (SeatStands layout ts new.mail more (site_of w k it))) (sym takes.types)
-        (subst (λ m. IsSomeAnd (old.seats k) (SeatStands layout old.types m more (site_of w k it))) (sym mail) (is.nodes k it at)))
-
 up-tells : (u : Uid) (p : ℕ) (a : Answer) (s : Site) → (tells u p a s).node.up ≡ s.node.up
 unfolding on_eject
 up-tells u p a s = refl
@@ -328,19 +302,11 @@ tell-up layout more key n clock last old new k left u p a b t some seat was_told
             (subst (λ m. Carries m after.traffic) (sym takes.mail) carries) at_site
 
     go : (o : Option Node) → node_at t.world u.node ≡ o → IsTelling layout more key n clock last new left
-    go None is = record {
-      world = t.world;
-      numbers = t.numbers;
-      stands = unseated layout more u.node (up b) old.mail old new before t.stands absent takes refl;
-      can = can.1;
-      ends = ap (tells_each left_now) (sym (at-none u.node (tells u p broken) t.world is)) ∙ ends;
-    }
-      where
-        absent : node_at before u.node ≡ None
-        absent = node-marked_none key n clock t.world u.node is
+    go None is = absurd (let bad : None ≡ Some (up a) =
+        sym (t.stands.no_more u.node (node-marked_none key n clock t.world u.node is)) ∙ seat in cc bad)
     go (Some it) is = record {
       world = tells_one (u, p) t.world;
-      numbers = keys-at_node u.node (tells u p broken) t.world t.numbers ∙ t.numbers;
+      numbers = numbers-at_node u.node (tells u p broken) t.world t.numbers;
       stands = told_world it is;
       can = all-behind n t.world (u, p) left_now can.1;
       ends = ends;

@@ -1,6 +1,6 @@
 -- The loop that tells all, as a program carries it out.
-use Rattle.std.proofs.Common.{◌≡◌, ◌≤◌, ◌<◌, ◌+◌, ℕ, true, List, [], ◌∷◌, drop, get_or, length, Option, None, Some}
-use Rattle.std.proofs.Common.{refl, sym, ◌∙◌, ap, subst, is_some}
+use Rattle.std.proofs.Common.{◌≡◌, ◌≤◌, ◌<◌, ◌+◌, ℕ, List, [], ◌∷◌, drop, get_or, length, Option, None, Some}
+use Rattle.std.proofs.Common.{refl, sym, ◌∙◌, ap, subst}
 use Rattle.std.proofs.lemmas.List.{at_drop_more, at_drop_all}
 use Rattle.std.specs.Prelude.{IsSomeAnd}
 use Rattle.std.specs.List.{filter_map, cons_option, AllByRecursion}
@@ -28,8 +28,7 @@ use Rattle.eden_world.specs.declared.World.{World as Program}
 use Rattle.eden_world.specs.declared.seats.Seat.{Seat as Place}
 use Rattle.eden_world.specs.declared.seats.Seat.TheVariants as place
 use Rattle.eden_world.specs.declared.breaks.Waiter.TheVariants as waits
-use Rattle.eden_world.proofs.Numbers.{one-of-eight}
-use Rattle.eden_world.proofs.Reseating.{node-marked_other}
+use Rattle.eden_world.proofs.Reseating.{node-marked_other, node-marked_none}
 use Rattle.eden_world.proofs.Telling.{body-loose, tells-start, tells-shell, tells-up, tells-none, tells-nobody, asked-by_process, IsNotUp}
 
 -- 1. The site at which a process is told
@@ -40,10 +39,9 @@ record IsTold (layout : Layout) (h : InHand) (u : Uid) (p : ℕ) (a : Held) : Ty
   stands : NodeStands layout h.types a h.mail site
 
 told-there : (layout : Layout) (more : ℕ) (key : Option Key) (n clock : ℕ) (last : World) (h : InHand) (k : ℕ) (left : List ℕ) (u : Uid)
-    (p : ℕ) (a : Held) → IsTelling layout more key n clock last h (k ∷ left) → waiting_at h.mail k ≡ Some (u, p) → IsNumber u.node
+    (p : ℕ) (a : Held) → IsTelling layout more key n clock last h (k ∷ left) → waiting_at h.mail k ≡ Some (u, p)
     → h.seats u.node ≡ Some (up a) → IsTold layout h u p a
-told-there layout more key n clock last h k left u p a t some number seat = go (node_at t.world u.node) refl
-    (one-of-eight u.node t.world.nodes t.numbers number)
+told-there layout more key n clock last h k left u p a t some seat = go (node_at t.world u.node) refl
   where
     can : CanBeTold n t.world (u, p)
     can = (subst (λ o. AllByRecursion (CanBeTold n t.world) (cons_option o (filter_map (waiting_at h.mail) left))) some t.can).0
@@ -63,9 +61,10 @@ told-there layout more key n clock last h k left u p a t some number seat = go (
           stands = here.stands;
         }
 
-    go : (o : Option Node) → node_at t.world u.node ≡ o → is_some o ≡ true → IsTold layout h u p a
-    go None at is = absurd (cc is)
-    go (Some it) at is = at-node it at
+    go : (o : Option Node) → node_at t.world u.node ≡ o → IsTold layout h u p a
+    go None none = absurd (let bad : None ≡ Some (up a) =
+        sym (t.stands.no_more u.node (node-marked_none key n clock t.world u.node none)) ∙ seat in cc bad)
+    go (Some it) at = at-node it at
 
 -- 2. One number more
 
@@ -105,7 +104,7 @@ module _ {T D : Type 0} (layout : Layout) (seen : T → Seen) (look : D → Disk
       let y : IsTold layout (hand mid) u p (held seen s.node) = told-there layout more key n clock last (hand mid) k left u p
       (held seen s.node)
       (part.tells.on more key n clock last telling) (asked-by_process mid.calls k c u p is asker).1
-      (number-of seen u.node s (fits.nodes u.node s here)) (ap (seen_at seen look) here) in
+      (ap (seen_at seen look) here) in
       (y.site, y.body, y.stands)
 
   by-asker : (c : Call) → item_in k mid.calls.calls ≡ Some c → (a : Asker) → c.asker ≡ a

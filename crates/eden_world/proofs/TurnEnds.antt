@@ -13,7 +13,7 @@ use Rattle.eden_kernel.specs.declared.stores.TurnEnd.TheVariants as turn_end
 use Rattle.scheduled_node.specs.declared.ScheduledNode.{ScheduledNode}
 use Rattle.eden_world.specs.Breaking.{Loses}
 use Rattle.eden_world.specs.InHand.{place_at, in_hand}
-use Rattle.eden_world.specs.Seated.{AreSeated, EachShows, FitsTogether, HasEight, KeepsDisks, KeepsRest, Vacates}
+use Rattle.eden_world.specs.Seated.{AreSeated, EachShows, FitsTogether, HasPlaces, KeepsDisks, KeepsRest, Vacates}
 use Rattle.eden_world.specs.Seated.{heeds, station_at, station_in}
 use Rattle.eden_world.specs.Steps.{ShowsIf, turn_touches}
 use Rattle.eden_world.specs.Taken.{StarvesAtEach, TakesAtEach}
@@ -89,9 +89,9 @@ module _ {T D : Type 0} (tells obeys : Bool) (layout : Layout) (seen : T → See
       stops-starved more w reached stood there = stop-ends tells layout seen look key.station key x.was x.now left.disk left.noted old mid
           last new.calls taken.event gone fits (says-so turn_end.Down stopped) refl left.left same more w reached stood there
 
-      pub stops-keeps : HasEight last → AreSeated last → KeepsDisks (heeds tells obeys) seen look old last
-      stops-keeps eight seated = turned-keeps seen look key.station x.was seat (seen x.now.node.store).disk old.calls old mid last gone fits
-          (ap (λ d. Some d) left.left.disk) same (heeds tells obeys) eight seated
+      pub stops-keeps : HasPlaces last → AreSeated last → KeepsDisks (heeds tells obeys) seen look old last
+      stops-keeps places seated = turned-keeps seen look key.station x.was seat (seen x.now.node.store).disk old.calls old mid last gone fits
+          (ap (λ d. Some d) left.left.disk) same (heeds tells obeys) places seated
           (heeded-left tells obeys _ _ (shown-left obeys _ _ taken.event _ _ x.turned.event x.turned.shows))
 
       module _ (names : List (List ℕ)) (e : Entry) (is : e.event ≡ taken.event)

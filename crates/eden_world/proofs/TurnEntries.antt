@@ -1,5 +1,5 @@
--- A turn of one node behind which it goes on: in the world, and to the eight disks.
-use Rattle.std.proofs.Common.{◌≡◌, inl, inr, ℕ, zero, suc, ◌+◌, ◌≤◌, Bool, false, cond, List, [], ◌∷◌, Option, None, Some}
+-- A turn of one node behind which it goes on: in the world, and to the disks.
+use Rattle.std.proofs.Common.{◌≡◌, inl, inr, ℕ, zero, suc, ◌+◌, ◌≤◌, Bool, false, cond, List, [], ◌∷◌, Option, None, Some, is_some}
 use Rattle.std.proofs.Common.{refl, sym, ◌∙◌, ap, subst, arith}
 use Rattle.std.specs.Prelude.{IsSomeAnd, IfSome}
 use Rattle.std.specs.List.{filter_map}
@@ -34,7 +34,7 @@ use Rattle.eden_world.specs.Worlds.{up, InHand, UpStands, SeatStands, IsNumber, 
 use Rattle.eden_world.specs.Steps.{IsTurnAt, TurnsIn, TakesSeat, TurnsGo, Shows, Goes, EachDisk, step_by}
 use Rattle.eden_world.proofs.Messages.{carrying}
 use Rattle.eden_world.proofs.Numbers.{no-shell}
-use Rattle.eden_world.proofs.InWorld.{IsThere, is-there, with_node, LinksStand, links-of, same-links, seat-in-world, counted-stands}
+use Rattle.eden_world.proofs.InWorld.{IsThere, sits-there, seat-stands, with_node, LinksStand, links-of, same-links, seat-in-world, counted-stands}
 use Rattle.eden_world.proofs.Sites.{SamePlace, site-is, at-node-is, clocked_as, clock-is, clocked-is}
 use Rattle.eden_world.proofs.Disks.{Touches, each-disk, states-elsewhere}
 
@@ -178,19 +178,16 @@ pub record IsUp (layout : Layout) (more : ℕ) (h : InHand) (w : World) (n : ℕ
   pub at : node_at w n ≡ Some it
   pub stands : UpStands layout h.types h.mail more (site_of w n it) x
 
-pub is-up : (layout : Layout) (more : ℕ) (h : InHand) (w : World) (n : ℕ) (x : Held) → WorldStands layout more h w → IsNumber n
+pub is-up : (layout : Layout) (more : ℕ) (h : InHand) (w : World) (n : ℕ) (x : Held) → WorldStands layout more h w
     → h.seats n ≡ Some (up x) → IsUp layout more h w n x
-is-up layout more h w n x stands number sits = record {
+is-up layout more h w n x stands sits = record {
   it = here.it;
   at = here.at;
-  stands = subst (SeatStands layout h.types h.mail more (site_of w n here.it)) same here.stands;
+  stands = seat-stands layout more h w n (up x) here sits;
 }
   where
     here : IsThere layout more h w n
-    here = is-there layout more h w n stands number
-
-    same : here.seat ≡ up x
-    same = let e : Some here.seat ≡ Some (up x) = sym here.sits ∙ sits in cc e
+    here = sits-there layout more h w n (up x) stands sits
 
 -- 5. Its turn
 
@@ -200,7 +197,7 @@ module _ (layout : Layout) (more : ℕ) (old new : InHand) (w : World) (n : ℕ)
     (room : h.seen.more ≤ x.seen.more + 1) (turns : TurnsIn layout old w n h x later e.event) (is : IsTurnAt n e.event)
     (shows : Shows e n (clock_of h) (clock_of x)) where
   abbrev was : IsUp layout (suc more) old w n h
-  was = is-up layout (suc more) old w n h stands number sits
+  was = is-up layout (suc more) old w n h stands sits
 
   abbrev site : Site
   site = site_of w n was.it
@@ -255,7 +252,7 @@ module _ (layout : Layout) (more : ℕ) (old new : InHand) (w : World) (n : ℕ)
 
   stands_later : WorldStands layout more new (next w None e)
   stands_later = subst (WorldStands layout more new) (sym next_is) (counted-stands layout more new world_later (key_of e.event)
-      (seat-in-world layout more old new w n node_later behind.traffic (up x) stands number takes.types takes.here takes.others takes.names
+      (seat-in-world layout more old new w n node_later behind.traffic (up x) stands number (ap is_some was.at) takes.types takes.here takes.others takes.names
       (keeps-operations (reaches w n) e.event site (sound n was.it was.at) turn.allowed)
       (subst (λ m. Carries m behind.traffic) (sym takes.mail) node_stands.calls.calls) seat_stands links_later))
 

@@ -18,7 +18,7 @@ use Rattle.eden_kernel.specs.Stands.{held, IsWhole, NodeStands}
 use Rattle.scheduled_node.specs.Touched.{IsNodeTurn}
 use Rattle.scheduled_node.specs.declared.ScheduledNode.{ScheduledNode}
 use Rattle.eden_world.specs.InHand.{place_at, seen_at, in_hand, IsWholeAt}
-use Rattle.eden_world.specs.Seated.{AreSeated, EachShows, FitsTogether, HasEight, KeepsDisks, heeds}
+use Rattle.eden_world.specs.Seated.{AreSeated, EachShows, FitsTogether, HasPlaces, KeepsDisks, heeds}
 use Rattle.eden_world.specs.Steps.{ShowsIf, disk_of, turn_touches}
 use Rattle.eden_world.specs.Taken.{StarvesAtEach}
 use Rattle.eden_world.specs.Told.{SameDisks}
@@ -74,9 +74,9 @@ module _ {T D : Type 0} (seen : T → Seen) (look : D → DiskSeen) (n : ℕ) (s
       turn_here : IsNodeTurn n v
       turn_here = subst (λ k. IsNodeTurn k v) its_number turn
 
-  pub turned-keeps : (obeys : Bool) → HasEight new → AreSeated new → IsLeftOf obeys disk y → KeepsDisks obeys seen look old new
-  turned-keeps obeys eight seated left =
-      keeps-besides seen look old new obeys n disk y eight seated (ap shown x.was) now_is left others_same
+  pub turned-keeps : (obeys : Bool) → HasPlaces new → AreSeated new → IsLeftOf obeys disk y → KeepsDisks obeys seen look old new
+  turned-keeps obeys places seated left =
+      keeps-besides seen look old new obeys n disk y places seated (ap shown x.was) now_is left others_same
 
 -- 3. There was no memory for it
 

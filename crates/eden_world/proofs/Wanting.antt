@@ -1,5 +1,5 @@
 -- Want of memory in a turn: there is no entry, and each disk stands for the last world at each moment behind its last entry.
-use Rattle.std.proofs.Common.{◌≡◌, ℕ, suc, ◌==◌, ◌≤◌, Bool, true, false, List, [], Option, Some, refl, sym, ◌∙◌, subst, arith}
+use Rattle.std.proofs.Common.{◌≡◌, ℕ, suc, ◌==◌, ◌≤◌, Bool, true, false, List, [], Option, Some, refl, sym, ◌∙◌, subst, arith, None}
 use Rattle.std.proofs.lemmas.Bool.{eqb-true}
 use Rattle.std.proofs.lemmas.List.{append-nil}
 use Rattle.eden_disk.specs.Told.{EachMoment, LeavesOnly, contents}
@@ -18,7 +18,7 @@ use Rattle.eden_kernel.specs.Stands.{Held, NodeStands}
 use Rattle.eden_kernel.specs.Turns.{clock_of}
 use Rattle.eden_world.specs.Worlds.{Seat, up, InHand, IsNumber, WorldStands}
 use Rattle.eden_world.specs.Steps.{disk_of, DiskEnds, SeatEnds, EachEnds}
-use Rattle.eden_world.proofs.InWorld.{IsThere, is-there}
+use Rattle.eden_world.proofs.InWorld.{IsThere, sits-there}
 use Rattle.eden_world.proofs.SeatRoom.{kept-less, seat-room, told-less}
 use Rattle.eden_world.proofs.TurnEntries.{IsUp, is-up}
 
@@ -31,15 +31,20 @@ both-ends : (layout : Layout) (more n : ℕ) (w : World) (o p : Option Seat) (a 
 both-ends layout more n w o p a b is_a is_b ends = subst (λ x. SeatEnds layout more n w x p) (sym is_a)
     (subst (λ y. SeatEnds layout more n w (Some a) y) (sym is_b) ends)
 
-still-ends : (layout : Layout) (more : ℕ) (old new : InHand) (w : World) (m : ℕ) → WorldStands layout (suc more) old w → IsNumber m
+still-ends : (layout : Layout) (more : ℕ) (old new : InHand) (w : World) (m : ℕ) → WorldStands layout (suc more) old w
     → new.seats m ≡ old.seats m → SeatEnds layout more m w (old.seats m) (new.seats m)
-still-ends layout more old new w m stands number same =
-    let here : IsThere layout (suc more) old w m = is-there layout (suc more) old w m stands number in
-    both-ends layout more m w (old.seats m) (new.seats m) here.seat here.seat here.sits (same ∙ here.sits) (record {
+still-ends layout more old new w m stands same = by_seat (old.seats m) refl
+  where
+    on : IsThere layout (suc more) old w m → SeatEnds layout more m w (old.seats m) (new.seats m)
+    on here = both-ends layout more m w (old.seats m) (new.seats m) here.seat here.seat here.sits (same ∙ here.sits) (record {
       ends = ends-whole layout m w (unfinished w) (disk_of here.seat).told (disk_of here.seat).counts.clock;
       room = told-less layout m (suc more) more (disk_of here.seat).told (omega arith)
           (seat-room layout old.types old.mail (suc more) (site_of w m here.it) here.seat here.stands);
     })
+
+    by_seat : (o : Option Seat) → old.seats m ≡ o → SeatEnds layout more m w (old.seats m) (new.seats m)
+    by_seat None none = subst (λ x. SeatEnds layout more m w x (new.seats m)) (sym none) tt
+    by_seat (Some seat) sits = on (sits-there layout (suc more) old w m seat stands sits)
 
 -- in an activation, or in a turn of the store
 pub turn-starves : (layout : Layout) (more : ℕ) (old new : InHand) (w : World) (n : ℕ) (h x : Held) → WorldStands layout (suc more) old w
@@ -49,7 +54,7 @@ pub turn-starves : (layout : Layout) (more : ℕ) (old new : InHand) (w : World)
 turn-starves layout more old new w n h x stands is_number sits here others starves m number = go (m == n) refl
   where
     was : IsUp layout (suc more) old w n h
-    was = is-up layout (suc more) old w n h stands is_number sits
+    was = is-up layout (suc more) old w n h stands sits
 
     its : Starves layout (site_of w n was.it) h.seen x.seen
     its = starves was.it was.at (omega (arith, was.stands.told)) was.stands.stands
@@ -77,6 +82,6 @@ turn-starves layout more old new w n h x stands is_number sits here others starv
         (kept-less layout h.seen.node h.seen.more more x.seen.disk.told (omega (arith, was.stands.told)) its.room)
 
     go : (b : Bool) → (m == n) ≡ b → SeatEnds layout more m w (old.seats m) (new.seats m)
-    go false apart = still-ends layout more old new w m stands number (others m apart)
+    go false apart = still-ends layout more old new w m stands (others m apart)
     go true is = subst (λ j. SeatEnds layout more j w (old.seats j) (new.seats j)) (sym (eqb-true m n is))
         (both-ends layout more n w (old.seats n) (new.seats n) (up h) (up x) sits here (record { ends = ends; room = room }))

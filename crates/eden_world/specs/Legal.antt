@@ -46,8 +46,8 @@ AreSized look disks = (m : ℕ) → IfSome (slice_get disks m) (λ d. IsSized (l
 
 -- 2. What is taken for granted
 
--- The script is fit and gives no more entries than a run can change a disk by. The disks are eight that tell, are handed in as they have
--- to be, and are of the size of their images; and eight are given back.
+-- The script is fit and gives no more entries than a run can change a disk by. There is a disk for each of its nodes, and there are eight
+-- at most. They tell, are handed in as they have to be, and are of the size of their images; and as many are given back.
 pub record IsInOrder {D : Type 0} (tells obeys : Bool) (layout : Layout) (look : D → DiskSeen) (script : Script)
     (before after : List D) : Type 0 where
   pub telling : IsTrue tells
@@ -56,8 +56,9 @@ pub record IsInOrder {D : Type 0} (tells obeys : Bool) (layout : Layout) (look :
   pub fit : IsFit script
   pub few : most_entries script.nodes script.commands ≤ most_changes
   pub handed_in : AreHandedIn layout (disk_runs obeys look before after)
-  pub eight : length before ≡ 8
-  pub given : length after ≡ 8
+  pub enough : script.nodes ≤ length before
+  pub places : length before ≤ 8
+  pub given : length after ≡ length before
   pub sized : AreSized look before
 
 -- The program begins over these disks, and nothing has happened yet.

@@ -1,5 +1,5 @@
 -- The keys of a world's turns, station by station.
-use Rattle.std.specs.Prelude.{◌≡◌, ◌≤◌, ℕ, Bool, true, false, List, [], ◌∷◌, ◌++◌, map, is_some, IsSomeAnd}
+use Rattle.std.specs.Prelude.{◌≡◌, ◌≤◌, ℕ, suc, Bool, true, false, List, [], ◌++◌, length, map, is_some, IsSomeAnd}
 use Rattle.std.specs.List.{filter}
 use Rattle.eden_model.specs.Map.{first, with_item}
 use Rattle.invocation.specs.Mail.{Mail, is_waiting, queue_at}
@@ -13,20 +13,20 @@ use Rattle.eden_kernel.specs.Stands.{held}
 use Rattle.scheduled_node.specs.Keys.{HasTurn as NodeHasTurn}
 use Rattle.eden_world.specs.Breaking.{name_by, waiter_at}
 use Rattle.eden_world.specs.Seated.{station_at}
-use Rattle.eden_world.specs.Worlds.{eight}
+use Rattle.eden_world.specs.Worlds.{numbers_from}
 use Rattle.eden_world.specs.declared.World.{World as Program}
 
--- the shell and the nodes
-abbrev pub nine : List ℕ
-nine = 0 ∷ eight
+-- how many stations there are: the shell, and a node at each place
+abbrev pub station_count : {T D : Type 0} → Program T D → ℕ
+station_count p = suc (length p.seats.items)
 
 -- the keys of the deliveries from some stations to one, by what waits in the calls
 abbrev pub keys_from : Mail → ℕ → List ℕ → List Key
 keys_from m to froms = map (delivery to) (filter (λ from. is_waiting from to m) froms)
 
--- from all stations
-abbrev pub mail_keys : Mail → ℕ → List Key
-mail_keys m to = keys_from m to nine
+-- from so many stations, with the shell
+abbrev pub mail_keys : ℕ → Mail → ℕ → List Key
+mail_keys c m to = keys_from m to (numbers_from 0 c)
 
 -- the keys of a node; none at the shell
 abbrev pub node_keys_at : World → ℕ → List Key

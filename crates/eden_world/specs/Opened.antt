@@ -1,5 +1,5 @@
 -- The opening worlds for which a program stands that begins over the disks of a run.
-use Rattle.std.specs.Prelude.{◌≡◌, ℕ, Bool, List, length, map, IsTrue}
+use Rattle.std.specs.Prelude.{◌≡◌, ◌≤◌, ℕ, Bool, List, length, map, IsTrue}
 use Rattle.eden_disk.specs.Told.{contents}
 use Rattle.epl_syntax.specs.Rules.OfTypes.{TypeList}
 use Rattle.passive_store.specs.Kept.{Layout}
@@ -13,12 +13,14 @@ use Rattle.eden_world.specs.InHand.{Stands}
 use Rattle.eden_world.specs.Openings.{first_seen}
 use Rattle.eden_world.specs.declared.World.{World as Program}
 
--- Eight disks that tell are handed in as they have to be, each as it is seen in the run and of the size of its image.
+-- Disks that tell, of which there is one at least and eight at most, are handed in as they have to be, each as it is seen in the run and
+-- of the size of its image.
 pub record IsOpened {D : Type 0} (layout : Layout) (look : D → DiskSeen) (disks : List D) (runs : List DiskRun) : Type 0 where
   pub its_layout : IsLayout layout
   pub reads : ReadsByCalls layout
   pub handed_in : AreHandedIn layout runs
-  pub eight : length runs ≡ 8
+  pub some : 1 ≤ length runs
+  pub few : length runs ≤ 8
   pub seen : map look disks ≡ map first_seen runs
   pub sized : EachDisk runs (λ n d. length (contents d.before).now ≡ d.first.size)
 

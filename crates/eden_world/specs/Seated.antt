@@ -1,6 +1,6 @@
 -- What stands at the places of a program, and what its calls do to one of them.
 use Rattle.std.specs.Prelude.{◌≡◌, ◌≢◌, ◌==◌, ◌≤◌, ℕ, zero, suc, Bool, true, false, cond, List, length, Option, None, Some, IsTrue}
-use Rattle.std.specs.Prelude.{slice_get, IfSome, IsSomeAnd}
+use Rattle.std.specs.Prelude.{slice_get, IsSomeAnd}
 use Rattle.std.specs.Option.{option_map}
 use Rattle.eden_disk.specs.declared.disk.ImageMode.{ImageMode}
 use Rattle.eden_model.specs.Map.{with_item}
@@ -53,11 +53,15 @@ AreSeated p = (n : ℕ) → place_at p n ≢ Some place.Moving
 abbrev pub shown_in : {T D : Type 0} → (T → Seen) → (D → DiskSeen) → Place T D → Option DiskSeen
 shown_in seen look s = option_map disk_of (seen_at seen look (Some s))
 
+-- how many calls were asked
+abbrev pub asked_in : {T D : Type 0} → Program T D → ℕ
+asked_in p = length p.calls.calls
+
 -- 2. What becomes of one place
 
--- there are eight places, and the links know of as many
-pub record HasEight {T D : Type 0} (p : Program T D) : Type 0 where
-  pub seats : length p.seats.items ≡ 8
+-- there are eight places at most, and the links know of eight
+pub record HasPlaces {T D : Type 0} (p : Program T D) : Type 0 where
+  pub seats : length p.seats.items ≤ 8
   pub nodes : p.places.nodes ≡ 8
 
 -- Nothing changed but what stands at the places, and there are as many.
@@ -130,23 +134,27 @@ AreGiven seen look p disks = (n : ℕ) → option_map look (slice_get disks n) �
 
 -- 6. The whole, and what an entry shows of the disks
 
--- its parts fit together: eight places, at none of which a node comes up or goes down, and nodes whose parts fit together
+-- its parts fit together: eight places at most, at none of which a node comes up or goes down, and nodes whose parts fit together
 pub record FitsTogether {T D : Type 0} (seen : T → Seen) (p : Program T D) : Type 0 where
   pub nodes : AreWhole seen p
-  pub eight : HasEight p
+  pub places : HasPlaces p
   pub seated : AreSeated p
 
--- each of the eight places has its disk
+-- each of its places, of which there are eight at most, has its disk
 pub record IsSeated {T D : Type 0} (p : Program T D) : Type 0 where
-  pub eight : HasEight p
+  pub places : HasPlaces p
   pub seated : AreSeated p
+
+-- of what stands at a place before and behind: where there is a disk there is one behind, of which this holds; and there is no other
+abbrev pub StaysSo : (DiskSeen → DiskSeen → Type 0) → Option Seat → Option Seat → Type 0
+StaysSo P None new = new ≡ None
+StaysSo P (Some a) new = IsSomeAnd new (λ b. P (disk_of a) (disk_of b))
 
 -- No memory was found: each disk is at its place, no count of it fell, and if it obeys it is armed as before.
 pub record KeepsDisks {T D : Type 0} (obeys : Bool) (seen : T → Seen) (look : D → DiskSeen) (old new : Program T D) : Type 0 where
-  pub eight : HasEight new
+  pub places : HasPlaces new
   pub seated : AreSeated new
-  pub left : (n : ℕ) → IsNumber n → IfSome (seen_at seen look (place_at old n)) (λ a.
-      IfSome (seen_at seen look (place_at new n)) (λ b. IsLeftOf obeys (disk_of a) (disk_of b)))
+  pub left : (n : ℕ) → IsNumber n → StaysSo (IsLeftOf obeys) (seen_at seen look (place_at old n)) (seen_at seen look (place_at new n))
 
 -- what is shown of a disk was due, if it tells and obeys
 abbrev pub heeds : Bool → Bool → Bool
@@ -154,5 +162,5 @@ heeds tells obeys = cond tells obeys false
 
 -- of the disk at each place, by what is seen of it before and behind it
 abbrev pub EachShows : {T D : Type 0} → Bool → (T → Seen) → (D → DiskSeen) → Program T D → Entry → Program T D → Type 0
-EachShows obeys seen look old e new = (n : ℕ) → IsNumber n → IfSome (seen_at seen look (place_at old n)) (λ a.
-    IsSomeAnd (seen_at seen look (place_at new n)) (λ b. EntryShows obeys n e (disk_of a) (disk_of b)))
+EachShows obeys seen look old e new = (n : ℕ) → IsNumber n
+    → StaysSo (EntryShows obeys n e) (seen_at seen look (place_at old n)) (seen_at seen look (place_at new n))

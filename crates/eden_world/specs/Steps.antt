@@ -1,6 +1,6 @@
 -- What an entry does to what a program has in hand: it stands for the world after it, and each disk did what it may.
 use Rattle.std.specs.Prelude.{◌≡◌, ◌⊎◌, ◌≤◌, ◌==◌, ◌+◌, ◌||◌, ℕ, suc, Bool, true, false, cond, not, List, []}
-use Rattle.std.specs.Prelude.{Option, None, Some, is_some, IsSomeAnd}
+use Rattle.std.specs.Prelude.{Option, None, Some, is_some, IfSome, IsSomeAnd}
 use Rattle.capability.specs.declared.Cap.{Cap}
 use Rattle.eden_disk.specs.Calls.{Counts, DeviceCalls}
 use Rattle.eden_disk.specs.Told.{contents, LeavesOnly}
@@ -120,12 +120,12 @@ CallsAsDue s how before after = CallsSo (touches_store s) how before after
 abbrev pub step_by : World → Option Command → Entry → Step
 step_by w c e = record { world = w; entry = e; later = next w c e }
 
--- what it did to the disk of a place, by what was seen of it before and after
+-- what it did to the disk of a place, if there is such a place, by what was seen of it before and after
 abbrev pub SeatStep : Layout → ℕ → Step → Option Seat → Option Seat → Type 0
-SeatStep layout n s old new = IsSomeAnd old (λ a. IsSomeAnd new (λ b.
+SeatStep layout n s old new = IfSome old (λ a. IsSomeAnd new (λ b.
     StepOnDisk layout n s (disk_of a).told (disk_of a).counts.clock (disk_of b).told (disk_of b).counts.clock))
 
--- to each of the eight
+-- to each of them
 abbrev pub EachDisk : Layout → Step → InHand → InHand → Type 0
 EachDisk layout s old new = (n : ℕ) → IsNumber n → SeatStep layout n s (old.seats n) (new.seats n)
 
@@ -198,10 +198,10 @@ pub record DiskEnds (layout : Layout) (more n : ℕ) (last : World) (old new : D
   pub ends : EndsOnDisk layout n last (unfinished last) old.told old.counts.clock new.told new.counts.clock
   pub room : LeavesOnly (IsToldFor layout n more) (contents new.told)
 
--- the disk of a place
+-- the disk of a place, if there is such a place
 abbrev pub SeatEnds : Layout → ℕ → ℕ → World → Option Seat → Option Seat → Type 0
-SeatEnds layout more n last old new = IsSomeAnd old (λ a. IsSomeAnd new (λ b. DiskEnds layout more n last (disk_of a) (disk_of b)))
+SeatEnds layout more n last old new = IfSome old (λ a. IsSomeAnd new (λ b. DiskEnds layout more n last (disk_of a) (disk_of b)))
 
--- each of the eight
+-- each of them
 abbrev pub EachEnds : Layout → ℕ → World → InHand → InHand → Type 0
 EachEnds layout more last old new = (n : ℕ) → IsNumber n → SeatEnds layout more n last (old.seats n) (new.seats n)

@@ -25,7 +25,7 @@ use Rattle.ejects.specs.Parts.{body_at}
 use Rattle.ejects.specs.View.{parts_of}
 use Rattle.eden_kernel.specs.Stands.{Held, IsWhole, NodeStands}
 use Rattle.eden_kernel.specs.Turns.{told_broken}
-use Rattle.eden_world.specs.Worlds.{Seat, up, down, InHand, WorldStands, eight}
+use Rattle.eden_world.specs.Worlds.{Seat, up, down, InHand, WorldStands, AreNumbers}
 use Rattle.eden_world.specs.Steps.{disk_of}
 
 -- 1. What changed in hand
@@ -111,7 +111,7 @@ marked key n clock w = counted key (clocked n clock w)
 pub record IsTelling (layout : Layout) (more : ℕ) (key : Option Key) (n clock : ℕ) (last : World) (h : InHand) (left : List ℕ) : Type 0
   where
     pub world : World
-    pub numbers : map (λ e. e.0) world.nodes ≡ eight
+    pub numbers : AreNumbers (map (λ e. e.0) world.nodes)
     pub stands : WorldStands layout more h (marked key n clock world)
     pub can : AllByRecursion (CanBeTold n world) (filter_map (waiting_at h.mail) left)
     pub ends : tells_each (filter_map (waiting_at h.mail) left) world ≡ last

@@ -1,5 +1,5 @@
 -- When the nodes, the calls and the names that a program has in hand stand for a world.
-use Rattle.std.specs.Prelude.{◌≡◌, ◌⊎◌, ◌≤◌, ℕ, ◌∷◌, [], List, map, not, Option, None, Some, IsSomeAnd}
+use Rattle.std.specs.Prelude.{◌≡◌, ◌⊎◌, ◌≤◌, ◌+◌, ℕ, zero, suc, ◌∷◌, [], List, map, not, Option, None, Some, IsSomeAnd}
 use Rattle.epl_syntax.specs.Rules.OfTypes.{TypeList}
 use Rattle.epl_syntax.specs.Meaning.{types_in}
 use Rattle.invocation.specs.Mail.{Mail}
@@ -15,7 +15,7 @@ use Rattle.checkpoint.specs.BarredBoots.{Bar, BarStands}
 use Rattle.eden_kernel.specs.Boots.{IsAsleep}
 use Rattle.eden_kernel.specs.Stands.{Held, IsWhole, NodeStands}
 
--- 1. The eight places
+-- 1. The places
 
 -- what stands at a place: a node that is up, or the disk of one that is down, with what was in doubt there
 pub data Seat : Type 0 where
@@ -64,16 +64,26 @@ pub record IsNumber (n : ℕ) : Type 0 where
   pub first : 1 ≤ n
   pub last : n ≤ 8
 
--- the numbers of the nodes, in ascending order
-abbrev pub eight : List ℕ
-eight = 1 ∷ 2 ∷ 3 ∷ 4 ∷ 5 ∷ 6 ∷ 7 ∷ 8 ∷ []
+-- so many numbers from one on, in ascending order
+abbrev pub numbers_from : ℕ → ℕ → List ℕ
+numbers_from k zero = []
+numbers_from k (suc c) = k ∷ numbers_from (k + 1) c
+
+-- these are the numbers of nodes, from 1 on, in ascending order: of one at least, and of eight at most
+pub record AreNumbers (ns : List ℕ) : Type 0 where
+  pub count : ℕ
+  pub some : 1 ≤ count
+  pub few : count ≤ 8
+  pub are : ns ≡ numbers_from 1 count
 
 -- It stands for the world, with the room of each store told for so many more changes.
 pub record WorldStands (layout : Layout) (more : ℕ) (h : InHand) (w : World) : Type 0 where
   pub its_layout : w.layout ≡ layout
   pub its_types : w.types ≡ types_in h.types
-  pub numbers : map (λ e. e.0) w.nodes ≡ eight
+  pub numbers : AreNumbers (map (λ e. e.0) w.nodes)
   pub nodes : (n : ℕ) (it : Node) → node_at w n ≡ Some it → IsSomeAnd (h.seats n) (SeatStands layout h.types h.mail more (site_of w n it))
+  -- where the world has no node there is no place
+  pub no_more : (n : ℕ) → node_at w n ≡ None → h.seats n ≡ None
   pub calls : Carries h.mail w.traffic
   -- which nodes are up, and which links are joined
   pub ups : (n : ℕ) → node_up_at h.places n ≡ is_up w n

@@ -1,8 +1,9 @@
 //! Calls of the shell.
-ghost use Rattle.std.specs.Prelude.{◌≡◌, ◌∷◌, [], IfOk, IfErr, OnOk, codes, OnErr};
+ghost use Rattle.std.specs.Prelude.{◌≡◌, ◌∷◌, [], IfOk, IfErr, OnOk, codes, OnErr, ◌<◌, length};
 ghost use Rattle.journal.specs.Run.{lookup_args};
 ghost use Rattle.passive_store.specs.Seen.{disk_seen};
 ghost use Rattle.journal.specs.declared.command.Command.TheVariants as commands;
+ghost use Rattle.ejects.specs.Counts.{AsksOneAtMost};
 ghost use Rattle.eden_world.specs.Carried.{CallsBy, CarriesBy, EndsStill, LooksUpBy, WalksBy};
 ghost use Rattle.eden_world.specs.Seated.{EachShows, FitsTogether, KeepsDisks, heeds};
 
@@ -42,7 +43,8 @@ where
         operation: Txt,
         args: Items,
     ) -> Result<Entry, AllocError>
-        requires { FitsTogether St.seen self.old }
+        requires whole { FitsTogether St.seen self.old }
+        requires calls { length self.old.calls.calls < 4294967295 }
         ensures whole { OnOk result (FitsTogether St.seen self.new) }
         ensures called { let look = disk_seen St.Device.counts St.Device.told St.Device.due in
             IfOk result (CallsBy St.Device.tells St.layout St.seen look self.old self.new name.now target operation args) }
@@ -54,10 +56,8 @@ where
             IfOk result (λ e. EachShows (heeds St.Device.tells St.Device.obeys) St.seen look self.old e self.new) }
         ensures leaves { let look = disk_seen St.Device.counts St.Device.told St.Device.due in
             OnErr result (KeepsDisks (heeds St.Device.tells St.Device.obeys) St.seen look self.old self.new) }
+        ensures asks { OnOk result (AsksOneAtMost self.old.calls self.new.calls) }
     {
-        if !self.may_ask() {
-            return Err(AllocError);
-        }
         let asker = Asker::Shell {
             name: name.share()?,
         };
@@ -77,7 +77,8 @@ where
         operation: &Txt,
         args: &Args,
     ) -> Result<Entry, AllocError>
-        requires { FitsTogether St.seen self.old }
+        requires whole { FitsTogether St.seen self.old }
+        requires calls { length self.old.calls.calls < 4294967295 }
         ensures whole { OnOk result (FitsTogether St.seen self.new) }
         ensures carried { let look = disk_seen St.Device.counts St.Device.told St.Device.due in
             IfOk result (CarriesBy St.Device.tells St.layout St.seen look self.old self.new
@@ -88,6 +89,7 @@ where
             IfOk result (λ e. EachShows (heeds St.Device.tells St.Device.obeys) St.seen look self.old e self.new) }
         ensures leaves { let look = disk_seen St.Device.counts St.Device.told St.Device.due in
             OnErr result (KeepsDisks (heeds St.Device.tells St.Device.obeys) St.seen look self.old self.new) }
+        ensures asks { OnOk result (AsksOneAtMost self.old.calls self.new.calls) }
     {
         match self.names.ready(alloc, target, args)? {
             Some((cap, items)) => {
@@ -109,7 +111,8 @@ where
         directory: Option<Cap>,
         component: &Txt,
     ) -> Result<Entry, AllocError>
-        requires { FitsTogether St.seen self.old }
+        requires whole { FitsTogether St.seen self.old }
+        requires calls { length self.old.calls.calls < 4294967295 }
         ensures whole { OnOk result (FitsTogether St.seen self.new) }
         ensures looked { let look = disk_seen St.Device.counts St.Device.told St.Device.due in
             IfOk result (LooksUpBy St.Device.tells St.layout St.seen look self.old self.new name.now directory component.now) }
@@ -119,6 +122,7 @@ where
             IfOk result (λ e. EachShows (heeds St.Device.tells St.Device.obeys) St.seen look self.old e self.new) }
         ensures leaves { let look = disk_seen St.Device.counts St.Device.told St.Device.due in
             OnErr result (KeepsDisks (heeds St.Device.tells St.Device.obeys) St.seen look self.old self.new) }
+        ensures asks { OnOk result (AsksOneAtMost self.old.calls self.new.calls) }
     {
         match directory {
             Some(cap) => {

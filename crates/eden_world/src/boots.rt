@@ -3,6 +3,7 @@ ghost use Rattle.std.specs.Prelude.{◌≡◌, ◌≤◌, IfOk, IfErr, OnOk, OnE
 ghost use Rattle.passive_store.specs.Seen.{disk_seen};
 ghost use Rattle.journal.specs.declared.command.Command.TheVariants as commands;
 ghost use Rattle.journal.specs.declared.event.Event.TheVariants as events;
+ghost use Rattle.ejects.specs.Counts.{AsksOneAtMost};
 ghost use Rattle.eden_world.specs.Carried.{CarriesBy, Starves};
 ghost use Rattle.eden_world.specs.Seated.{EachShows, FitsTogether, KeepsDisks, heeds};
 
@@ -31,7 +32,7 @@ impl<St: Store + Drop> World<St>
 where
     St::Device: Drop,
 {
-    // A node is booted, unless it is up.
+    // A node is booted, unless it is up. Where there is no such place nothing is.
     pub(crate) fn restart(&mut self, alloc: Global, number: u8) -> Result<Entry, AllocError>
         requires whole { FitsTogether St.seen self.old }
         requires first { 1 ≤ number }
@@ -45,11 +46,19 @@ where
             IfOk result (λ e. EachShows (heeds St.Device.tells St.Device.obeys) St.seen look self.old e self.new) }
         ensures leaves { let look = disk_seen St.Device.counts St.Device.told St.Device.due in
             OnErr result (KeepsDisks (heeds St.Device.tells St.Device.obeys) St.seen look self.old self.new) }
+        ensures asks { OnOk result (AsksOneAtMost self.old.calls self.new.calls) }
     {
         if self.station(number).is_some() {
             let event = Event::Still {
                 node: number,
                 up: true,
+            };
+            return Ok(entry_of_none(alloc, event));
+        }
+        if self.seat(number).is_none() {
+            let event = Event::Still {
+                node: number,
+                up: false,
             };
             return Ok(entry_of_none(alloc, event));
         }

@@ -1,6 +1,7 @@
 //! Calls break as a node goes down or a link is cut: the processes that waited for them are told.
 ghost use Rattle.std.specs.Prelude.{◌≡◌, ◌≤◌, IfOk, IsTrue, OnOk, Some, is_some};
 ghost use Rattle.passive_store.specs.Seen.{disk_seen};
+ghost use Rattle.ejects.specs.Counts.{AsksNone};
 ghost use Rattle.scheduled_node.specs.declared.ScheduledNode.{ScheduledNode as Manned};
 ghost use Rattle.eden_world.specs.Breaking.{waiter_at, name_by, TellsAt, KeepsAgendas, TellsBy, TellsAll, Loses, Leaves};
 ghost use Rattle.eden_world.specs.Breaking.{FallsAndTells, CutsAndTells};
@@ -82,6 +83,7 @@ where
             → OnOk result (TellsAt St.layout uid process (in_hand St.seen look self.old) (in_hand St.seen look self.new)
             ((in_hand St.seen look self.old).seats uid.node)) }
         ensures agendas { IsTrue St.Device.tells → OnOk result (KeepsAgendas St.layout St.seen uid process self.old self.new) }
+        ensures calls { self.new.calls ≡ self.old.calls }
     {
         if self.station(uid.node).is_none() {
             return Ok(());
@@ -111,6 +113,7 @@ where
         ensures told { IsTrue St.Device.tells → OnOk result (TellsBy St.layout St.seen
             (disk_seen St.Device.counts St.Device.told St.Device.due) (waiter_at self.old.calls number) names.old.items names.new.items
             self.old self.new) }
+        ensures calls { self.new.calls ≡ self.old.calls }
     {
         match who_waits(&self.calls, number)? {
             Waiter::Shell { name } => match names.push(name) {
@@ -131,6 +134,7 @@ where
             SameDisks (in_hand St.seen look self.old) (in_hand St.seen look self.new) }
         ensures told { IsTrue St.Device.tells → IfOk result (λ names. TellsAll St.layout St.seen
             (disk_seen St.Device.counts St.Device.told St.Device.due) broken.now names self.old self.new) }
+        ensures calls { self.new.calls ≡ self.old.calls }
     {
         let mut names = Vec::new(alloc);
         for number in broken.as_slice() {
@@ -150,6 +154,7 @@ where
             SameDisks (in_hand St.seen look self.old) (in_hand St.seen look self.new) }
         ensures told { IsTrue St.Device.tells → IfOk result (λ names. Loses St.layout St.seen
             (disk_seen St.Device.counts St.Device.told St.Device.due) number names self.old self.new) }
+        ensures asks { OnOk result (AsksNone self.old.calls self.new.calls) }
     {
         self.places.set_up(number, false);
         let broken = self.calls.break_node(alloc, number)?;
@@ -173,6 +178,7 @@ where
         ensures falls { IsTrue St.Device.tells → IfOk result (λ names. (s : Manned _ _) → station_at self.old number ≡ Some s
             → FallsAndTells St.Device.tells St.Device.obeys St.layout St.seen (disk_seen St.Device.counts St.Device.told St.Device.due)
             mode number s names self.old self.new) }
+        ensures asks { OnOk result (AsksNone self.old.calls self.new.calls) }
     {
         self.vacate(number, mode);
         self.lose(alloc, number)
@@ -189,6 +195,7 @@ where
             SameDisks (in_hand St.seen look self.old) (in_hand St.seen look self.new) }
         ensures cuts { IsTrue St.Device.tells → IfOk result (λ names. CutsAndTells St.layout St.seen
             (disk_seen St.Device.counts St.Device.told St.Device.due) a b names self.old self.new) }
+        ensures asks { OnOk result (AsksNone self.old.calls self.new.calls) }
     {
         self.places.set_link(a, b, false);
         let broken = self.calls.break_link(alloc, a, b)?;

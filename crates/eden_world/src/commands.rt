@@ -1,17 +1,18 @@
 //! The commands of a script that give one entry.
-ghost use Rattle.std.specs.Prelude.{◌≡◌, ◌≤◌, ◌∷◌, ◌++◌, [], IfOk, IfErr, IsTrue, OnOk, OnErr, is_some};
+ghost use Rattle.std.specs.Prelude.{◌≡◌, ◌≤◌, ◌∷◌, ◌++◌, [], IfOk, IfErr, IsTrue, OnOk, OnErr, is_some, ◌<◌, suc};
 ghost use Rattle.eden_model.specs.Traffic.{Traffic, is_open, names_of};
 ghost use Rattle.invocation.specs.Carries.{Carries};
 ghost use Rattle.eden_disk.specs.Calls.{calls_until};
 ghost use Rattle.passive_store.specs.Seen.{disk_seen};
 ghost use Rattle.journal.specs.declared.command.Command.TheVariants as commands;
 ghost use Rattle.journal.specs.Fit.{NumbersFit};
-ghost use Rattle.runs.specs.Room.{is_single};
+ghost use Rattle.runs.specs.Room.{is_single, most_calls};
+ghost use Rattle.ejects.specs.Counts.{AsksOneAtMost};
 ghost use Rattle.eden_kernel.specs.Stands.{held, IsWhole};
 ghost use Rattle.scheduled_node.specs.declared.ScheduledNode.{ScheduledNode};
 ghost use Rattle.eden_world.specs.Arming.{ArmsSeat};
 ghost use Rattle.eden_world.specs.Carried.{CarriesBy, EndsStill, Starves, arms_by};
-ghost use Rattle.eden_world.specs.Seated.{EachShows, FitsTogether, KeepsDisks, heeds, station_at};
+ghost use Rattle.eden_world.specs.Seated.{EachShows, FitsTogether, KeepsDisks, asked_in, heeds, station_at};
 ghost use Rattle.eden_world.specs.Unanswered.{open_names};
 ghost use Rattle.eden_world.specs.declared.seats.Seat.TheVariants as place;
 
@@ -80,6 +81,7 @@ where
             IfOk result (λ e. EachShows (heeds St.Device.tells St.Device.obeys) St.seen look self.old e self.new) }
         ensures leaves { let look = disk_seen St.Device.counts St.Device.told St.Device.due in
             OnErr result (KeepsDisks (heeds St.Device.tells St.Device.obeys) St.seen look self.old self.new) }
+        ensures asks { OnOk result (AsksOneAtMost self.old.calls self.new.calls) }
     {
         if !self.is_up(node) {
             return Ok(entry_of_none(alloc, Event::Still { node, up: false }));
@@ -108,6 +110,7 @@ where
             IfOk result (λ e. EachShows (heeds St.Device.tells St.Device.obeys) St.seen look self.old e self.new) }
         ensures leaves { let look = disk_seen St.Device.counts St.Device.told St.Device.due in
             OnErr result (KeepsDisks (heeds St.Device.tells St.Device.obeys) St.seen look self.old self.new) }
+        ensures asks { OnOk result (AsksOneAtMost self.old.calls self.new.calls) }
     {
         let broken = self.cut(alloc, a, b)?;
         Ok(Entry {
@@ -136,6 +139,7 @@ where
             IfOk result (λ e. EachShows (heeds St.Device.tells St.Device.obeys) St.seen look self.old e self.new) }
         ensures leaves { let look = disk_seen St.Device.counts St.Device.told St.Device.due in
             OnErr result (KeepsDisks (heeds St.Device.tells St.Device.obeys) St.seen look self.old self.new) }
+        ensures asks { OnOk result (AsksOneAtMost self.old.calls self.new.calls) }
     {
         self.places.set_link(a, b, true);
         let event = Event::Link { a, b, joined: true };
@@ -155,6 +159,7 @@ where
             IfOk result (λ e. EachShows (heeds St.Device.tells St.Device.obeys) St.seen look self.old e self.new) }
         ensures leaves { let look = disk_seen St.Device.counts St.Device.told St.Device.due in
             OnErr result (KeepsDisks (heeds St.Device.tells St.Device.obeys) St.seen look self.old self.new) }
+        ensures asks { OnOk result (AsksOneAtMost self.old.calls self.new.calls) }
     {
         let seat = armed(self.unseat(node), what);
         self.set_seat(node, seat);
@@ -193,6 +198,7 @@ where
         requires whole { FitsTogether St.seen self.old }
         requires single { IsTrue (is_single command.now) }
         requires numbers { NumbersFit 8 command.now }
+        requires calls { asked_in self.old < most_calls }
         ensures whole { OnOk result (FitsTogether St.seen self.new) }
         ensures carried { let look = disk_seen St.Device.counts St.Device.told St.Device.due in
             IfOk result (CarriesBy St.Device.tells St.layout St.seen look self.old self.new command.now) }
@@ -202,6 +208,7 @@ where
             IfOk result (λ e. EachShows (heeds St.Device.tells St.Device.obeys) St.seen look self.old e self.new) }
         ensures leaves { let look = disk_seen St.Device.counts St.Device.told St.Device.due in
             OnErr result (KeepsDisks (heeds St.Device.tells St.Device.obeys) St.seen look self.old self.new) }
+        ensures asks { OnOk result (asked_in self.new ≤ suc (asked_in self.old)) }
     {
         match command {
             Command::Create {

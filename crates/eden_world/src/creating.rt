@@ -4,6 +4,7 @@ ghost use Rattle.epl_syntax.specs.Meaning.{type_of, types_in};
 ghost use Rattle.edentypes.specs.View.{kind_in};
 ghost use Rattle.passive_store.specs.Seen.{disk_seen};
 ghost use Rattle.journal.specs.declared.command.Command.TheVariants as commands;
+ghost use Rattle.ejects.specs.Counts.{AsksOneAtMost};
 ghost use Rattle.eden_world.specs.Carried.{CarriesBy, CreatesIn, EndsStill};
 ghost use Rattle.eden_world.specs.Creating.{MadeAt, creates_at, status_of};
 ghost use Rattle.scheduled_node.specs.Scheduled.{uid_made};
@@ -49,6 +50,7 @@ where
             IfErr result (λ _. EndsStill St.Device.tells St.layout St.seen look self.old self.new) }
         ensures leaves { let look = disk_seen St.Device.counts St.Device.told St.Device.due in
             OnErr result (KeepsDisks (heeds St.Device.tells St.Device.obeys) St.seen look self.old self.new) }
+        ensures calls { self.new.calls ≡ self.old.calls }
     {
         match self.unseat(node) {
             Seat::Up { mut station } => {
@@ -76,6 +78,7 @@ where
             IfErr result (λ _. EndsStill St.Device.tells St.layout St.seen look self.old self.new) }
         ensures leaves { let look = disk_seen St.Device.counts St.Device.told St.Device.due in
             OnErr result (KeepsDisks (heeds St.Device.tells St.Device.obeys) St.seen look self.old self.new) }
+        ensures calls { self.new.calls ≡ self.old.calls }
     {
         match edentypes::find(&self.types, type_name) {
             Some(kind) if self.places.reach(0, node) && self.is_up(node) => {
@@ -103,6 +106,7 @@ where
             IfOk result (λ e. EachShows (heeds St.Device.tells St.Device.obeys) St.seen look self.old e self.new) }
         ensures leaves { let look = disk_seen St.Device.counts St.Device.told St.Device.due in
             OnErr result (KeepsDisks (heeds St.Device.tells St.Device.obeys) St.seen look self.old self.new) }
+        ensures asks { OnOk result (AsksOneAtMost self.old.calls self.new.calls) }
     {
         let made = self.create_reached(alloc, node, type_name)?;
         let (status, uid) = ended(made);

@@ -7,7 +7,8 @@ ghost use Rattle.journal.specs.Enabled as journal;
 ghost use Rattle.journal.specs.declared.event.Key.{Key as AnyKey};
 ghost use Rattle.runs.specs.Reached.{IsReached};
 ghost use Rattle.eden_world.specs.InHand.{Stands};
-ghost use Rattle.eden_world.specs.Listed.{HasTurn, mail_keys, keys_at, keys_from, shell_hears};
+ghost use Rattle.eden_world.specs.Listed.{HasTurn, mail_keys, keys_at, keys_from, shell_hears, station_count};
+ghost use Rattle.eden_world.specs.Seated.{FitsTogether};
 
 use crate::World;
 use crate::breaks::is_named;
@@ -16,9 +17,6 @@ use invocation::{Calls, Message};
 use journal::Key;
 use passive_store::Store;
 use std::alloc::{AllocError, Global};
-
-// The number of stations: the shell and the nodes.
-const STATIONS: u8 = 9;
 
 // The uid in the keys of turns that are no Eject's.
 const NO_UID: Uid = Uid {
@@ -96,10 +94,19 @@ impl<St: Store + Drop> World<St>
 where
     St::Device: Drop,
 {
+    // The number of stations: the shell, and a node at each place.
+    fn stations(&self) -> u8
+        requires { FitsTogether St.seen self.now }
+        ensures { result ≡ station_count self.now }
+    {
+        self.seats.len() as u8 + 1
+    }
+
     // The first delivery at a station past the last key.
     fn next_delivery(&self, to: u8, last: Option<Key>) -> Option<Key>
-        requires { to ≤ 8 }
-        ensures { result ≡ find (journal.is_past last) (mail_keys self.now.calls to) }
+        requires whole { FitsTogether St.seen self.now }
+        requires to { to ≤ 8 }
+        ensures { result ≡ find (journal.is_past last) (mail_keys (station_count self.now) self.now.calls to) }
     {
         if is_behind_mail(last, to) {
             return None;
@@ -107,7 +114,7 @@ where
         if !self.calls.may_have_mail(to) {
             return None;
         }
-        for from in 0..STATIONS {
+        for from in 0..self.stations() {
             let key = delivery(to, from);
             if self.calls.waiting(from, to) && is_past(last, key) {
                 return Some(key);
@@ -118,7 +125,8 @@ where
 
     // The first key of a station past the last one.
     fn next_at(&self, number: u8, last: Option<Key>) -> Option<Key>
-        requires { number ≤ 8 }
+        requires whole { FitsTogether St.seen self.now }
+        requires number { number ≤ 8 }
         ensures { (more : ℕ) (w : Model) → IsReached w
             → Stands St.Device.tells St.layout St.seen (disk_seen St.Device.counts St.Device.told St.Device.due) self.now more w
             → result ≡ find (journal.is_past last) (keys_at w number) }
@@ -134,11 +142,12 @@ where
 
     // The first key past the last one.
     fn next(&self, last: Option<Key>) -> Option<Key>
+        requires { FitsTogether St.seen self.now }
         ensures { (more : ℕ) (w : Model) → IsReached w
             → Stands St.Device.tells St.layout St.seen (disk_seen St.Device.counts St.Device.told St.Device.due) self.now more w
             → result ≡ find (journal.is_past last) (journal.enabled w) }
     {
-        for number in 0..STATIONS {
+        for number in 0..self.stations() {
             if let Some(key) = self.next_at(number, last) {
                 return Some(key);
             }
@@ -185,6 +194,7 @@ where
 
     // The least enabled key past the last one, or the least of all.
     fn next_of_all(&self, last: Option<Key>) -> Option<Key>
+        requires { FitsTogether St.seen self.now }
         ensures { (more : ℕ) (w : Model) → IsReached w
             → Stands St.Device.tells St.layout St.seen (disk_seen St.Device.counts St.Device.told St.Device.due) self.now more w
             → result ≡ journal.following last (journal.enabled w) }
@@ -196,7 +206,8 @@ where
     }
 
     /// The least enabled key past the last one, or the least of all.
-    pub fn key_following(&self, last: Option<Key>) -> Option<Key>
+    pub(crate) fn key_following(&self, last: Option<Key>) -> Option<Key>
+        requires { FitsTogether St.seen self.now }
         ensures follows { (more : ℕ) (w : Model) → IsReached w
             → Stands St.Device.tells St.layout St.seen (disk_seen St.Device.counts St.Device.told St.Device.due) self.now more w
             → result ≡ journal.following last (journal.enabled w) }
@@ -220,10 +231,11 @@ where
 
     // Appends the deliveries at a station, in their order.
     fn list_deliveries(&self, to: u8, keys: &mut Vec<Key>) -> Result<(), AllocError>
-        requires { to ≤ 8 }
-        ensures { OnOk result (keys.new.items ≡ keys.old.items ++ mail_keys self.now.calls to) }
+        requires whole { FitsTogether St.seen self.now }
+        requires to { to ≤ 8 }
+        ensures { OnOk result (keys.new.items ≡ keys.old.items ++ mail_keys (station_count self.now) self.now.calls to) }
     {
-        for from in 0..STATIONS {
+        for from in 0..self.stations() {
             self.list_delivery(to, from, keys)?;
         }
         Ok(())
@@ -231,7 +243,8 @@ where
 
     // Appends the keys of a station, in their order.
     fn list_at(&self, number: u8, keys: &mut Vec<Key>) -> Result<(), AllocError>
-        requires { number ≤ 8 }
+        requires whole { FitsTogether St.seen self.now }
+        requires number { number ≤ 8 }
         ensures { OnOk result ((more : ℕ) (w : Model) → IsReached w
             → Stands St.Device.tells St.layout St.seen (disk_seen St.Device.counts St.Device.told St.Device.due) self.now more w
             → keys.new.items ≡ keys.old.items ++ keys_at w number) }
@@ -245,19 +258,21 @@ where
 
     // All enabled keys, in their order.
     fn list(&self, alloc: Global) -> Result<Vec<Key>, AllocError>
+        requires { FitsTogether St.seen self.now }
         ensures { IfOk result (λ keys. (more : ℕ) (w : Model) → IsReached w
             → Stands St.Device.tells St.layout St.seen (disk_seen St.Device.counts St.Device.told St.Device.due) self.now more w
             → keys.items ≡ journal.enabled w) }
     {
         let mut keys = Vec::new(alloc);
-        for number in 0..STATIONS {
+        for number in 0..self.stations() {
             self.list_at(number, &mut keys)?;
         }
         Ok(keys)
     }
 
     /// The enabled key at this place, counted round.
-    pub fn key_at(&self, alloc: Global, i: u32) -> Result<Option<Key>, AllocError>
+    pub(crate) fn key_at(&self, alloc: Global, i: u32) -> Result<Option<Key>, AllocError>
+        requires { FitsTogether St.seen self.now }
         ensures chosen { IfOk result (λ key. (more : ℕ) (w : Model) → IsReached w
             → Stands St.Device.tells St.layout St.seen (disk_seen St.Device.counts St.Device.told St.Device.due) self.now more w
             → key ≡ journal.item i (journal.enabled w)) }

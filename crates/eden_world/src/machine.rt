@@ -3,7 +3,7 @@ ghost use Rattle.std.specs.Prelude.{ℕ};
 ghost use Rattle.passive_store.specs.Seen.{disk_seen};
 ghost use Rattle.eden_world.specs.InHand.{Did, Ends, Stands};
 ghost use Rattle.eden_world.specs.Listed.{HasTurn};
-ghost use Rattle.eden_world.specs.Seated.{EachShows, FitsTogether, KeepsDisks, heeds};
+ghost use Rattle.eden_world.specs.Seated.{EachShows, FitsTogether, KeepsDisks, asked_in, heeds};
 
 use crate::World;
 use capability::Cap;
@@ -29,7 +29,13 @@ where
 
     ghost enables = { HasTurn St.seen };
 
+    ghost asked = { asked_in };
+
     ghost leaves = { KeepsDisks (heeds St.Device.tells St.Device.obeys) St.seen (disk_seen St.Device.counts St.Device.told St.Device.due) };
+
+    fn calls_asked(&self) -> usize {
+        self.calls.all().len()
+    }
 
     fn following(&self, last: Option<Key>) -> Option<Key> {
         self.key_following(last)

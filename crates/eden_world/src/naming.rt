@@ -2,6 +2,7 @@
 ghost use Rattle.std.specs.Prelude.{IfOk, IfErr, OnOk, OnErr};
 ghost use Rattle.passive_store.specs.Seen.{disk_seen};
 ghost use Rattle.journal.specs.declared.command.Command.TheVariants as commands;
+ghost use Rattle.ejects.specs.Counts.{AsksOneAtMost};
 ghost use Rattle.eden_world.specs.Carried.{CarriesBy, EndsStill};
 ghost use Rattle.eden_world.specs.Seated.{EachShows, FitsTogether, KeepsDisks, heeds};
 
@@ -29,6 +30,7 @@ where
             IfOk result (λ e. EachShows (heeds St.Device.tells St.Device.obeys) St.seen look self.old e self.new) }
         ensures leaves { let look = disk_seen St.Device.counts St.Device.told St.Device.due in
             OnErr result (KeepsDisks (heeds St.Device.tells St.Device.obeys) St.seen look self.old self.new) }
+        ensures asks { OnOk result (AsksOneAtMost self.old.calls self.new.calls) }
     {
         let event = self.names.hold(alloc, name, uid)?;
         Ok(entry_of_none(alloc, event))
@@ -52,6 +54,7 @@ where
             IfOk result (λ e. EachShows (heeds St.Device.tells St.Device.obeys) St.seen look self.old e self.new) }
         ensures leaves { let look = disk_seen St.Device.counts St.Device.told St.Device.due in
             OnErr result (KeepsDisks (heeds St.Device.tells St.Device.obeys) St.seen look self.old self.new) }
+        ensures asks { OnOk result (AsksOneAtMost self.old.calls self.new.calls) }
     {
         let event = self.names.restrict(alloc, name, target, mask)?;
         Ok(entry_of_none(alloc, event))

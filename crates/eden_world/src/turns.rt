@@ -1,13 +1,15 @@
 //! Turns: of the shell, and of the nodes.
-ghost use Rattle.std.specs.Prelude.{◌≡◌, ◌<◌, ◌≤◌, IfErr, IfOk, IsSomeAnd, IsTrue, OnOk, Some, length, OnErr, true};
+ghost use Rattle.std.specs.Prelude.{◌≡◌, ◌<◌, ◌≤◌, IfErr, IfOk, IsSomeAnd, IsTrue, OnOk, Some, length, OnErr, suc, true};
 ghost use Rattle.passive_store.specs.Seen.{disk_seen};
 ghost use Rattle.journal.specs.Enabled as enabled;
+ghost use Rattle.runs.specs.Room.{most_calls};
+ghost use Rattle.ejects.specs.Counts.{AsksOneAtMost};
 ghost use Rattle.eden_kernel.specs.Stands.{held, IsWhole};
 ghost use Rattle.eden_kernel.specs.Turns.{clock_of};
 ghost use Rattle.scheduled_node.specs.declared.ScheduledNode.{ScheduledNode as Manned};
 ghost use Rattle.scheduled_node.specs.Keys.{HasTurn as NodeHasTurn};
 ghost use Rattle.eden_world.specs.Listed.{HasTurn, shell_hears};
-ghost use Rattle.eden_world.specs.Seated.{EachShows, FitsTogether, KeepsDisks, heeds, station_at, station_in};
+ghost use Rattle.eden_world.specs.Seated.{EachShows, FitsTogether, KeepsDisks, asked_in, heeds, station_at, station_in};
 ghost use Rattle.eden_world.specs.Taken.{TakesAtEach, StarvesAtEach};
 ghost use Rattle.eden_world.specs.Turning.{StarvesThere, TurnsHere, TurnsThere};
 ghost use Rattle.eden_world.specs.declared.seats.Seat.TheVariants as place;
@@ -60,6 +62,7 @@ where
     ensures turns { IfOk result (λ t. TurnsThere St.Device.tells St.Device.obeys St.layout St.seen types.now places.now key
         t seat.old calls.old seat.new calls.new) }
     ensures starves { IfErr result (λ e. StarvesThere St.Device.tells St.Device.obeys St.layout St.seen types.now calls.old seat.old seat.new) }
+    ensures asks { OnOk result (AsksOneAtMost calls.old calls.new) }
 {
     match seat {
         Seat::Up { station } => {
@@ -82,13 +85,6 @@ impl<St: Store + Drop> World<St>
 where
     St::Device: Drop,
 {
-    // Whether another call may be asked.
-    pub(crate) fn may_ask(&self) -> bool
-        ensures { IsTrue result → length self.now.calls.calls < 4294967295 }
-    {
-        self.calls.call(u32::MAX).is_none()
-    }
-
     // The shell hears the first message from a station, which answers a call of its own.
     fn hear(&mut self, alloc: Global, from: u8) -> Result<Entry, AllocError>
         requires whole { FitsTogether St.seen self.old }
@@ -103,6 +99,7 @@ where
             (disk_seen St.Device.counts St.Device.told St.Device.due) self.old e self.new) }
         ensures leaves { let look = disk_seen St.Device.counts St.Device.told St.Device.due in
             OnErr result (KeepsDisks (heeds St.Device.tells St.Device.obeys) St.seen look self.old self.new) }
+        ensures asks { OnOk result (AsksOneAtMost self.old.calls self.new.calls) }
     {
         let Some(message) = self.calls.first(from, 0) else {
             unreachable!()
@@ -147,6 +144,7 @@ where
             (disk_seen St.Device.counts St.Device.told St.Device.due) self.old self.new key) }
         ensures leaves { let look = disk_seen St.Device.counts St.Device.told St.Device.due in
             OnErr result (KeepsDisks (heeds St.Device.tells St.Device.obeys) St.seen look self.old self.new) }
+        ensures asks { OnOk result (AsksOneAtMost self.old.calls self.new.calls) }
     {
         match self.seats.get_mut(usize::from(key.station) - 1) {
             Some(seat) => turn_in(seat, alloc, &self.types, &mut self.calls, &self.places, key),
@@ -160,6 +158,7 @@ where
         requires node { 1 ≤ key.station }
         requires has { IsSomeAnd (station_at self.old key.station)
             (λ s. NodeHasTurn self.old.types (held St.seen s.node) self.old.calls key) }
+        requires calls { length self.old.calls.calls < 4294967295 }
         ensures whole { OnOk result (FitsTogether St.seen self.new) }
         ensures taken { IfOk result (λ e. TakesAtEach St.Device.tells St.layout St.seen
             (disk_seen St.Device.counts St.Device.told St.Device.due) self.old self.new key e) }
@@ -169,10 +168,8 @@ where
             (disk_seen St.Device.counts St.Device.told St.Device.due) self.old e self.new) }
         ensures leaves { let look = disk_seen St.Device.counts St.Device.told St.Device.due in
             OnErr result (KeepsDisks (heeds St.Device.tells St.Device.obeys) St.seen look self.old self.new) }
+        ensures asks { OnOk result (AsksOneAtMost self.old.calls self.new.calls) }
     {
-        if !self.may_ask() {
-            return Err(AllocError);
-        }
         let TurnTaken {
             event,
             end,
@@ -196,6 +193,7 @@ where
     pub fn take_key(&mut self, alloc: Global, key: Key) -> Result<Entry, AllocError>
         requires whole { FitsTogether St.seen self.old }
         requires enabled { HasTurn St.seen self.old key }
+        requires calls { asked_in self.old < most_calls }
         ensures whole { OnOk result (FitsTogether St.seen self.new) }
         ensures taken { IfOk result (λ e. TakesAtEach St.Device.tells St.layout St.seen
             (disk_seen St.Device.counts St.Device.told St.Device.due) self.old self.new key e) }
@@ -205,6 +203,7 @@ where
             (disk_seen St.Device.counts St.Device.told St.Device.due) self.old e self.new) }
         ensures leaves { let look = disk_seen St.Device.counts St.Device.told St.Device.due in
             OnErr result (KeepsDisks (heeds St.Device.tells St.Device.obeys) St.seen look self.old self.new) }
+        ensures asks { OnOk result (asked_in self.new ≤ suc (asked_in self.old)) }
     {
         if key.station == 0 {
             return self.hear(alloc, key.sender);

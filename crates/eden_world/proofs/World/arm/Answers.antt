@@ -4,6 +4,8 @@ use Rattle.eden_world.specs.InHand.{place_at}
 use Rattle.eden_world.specs.Seated.{heeds}
 use Rattle.eden_world.proofs.Arming.{arms-carried, arms-place, arms-shows, arms-whole, heeds-obeys}
 use Rattle.eden_world.proofs.Placing.{was-up}
+use Rattle.eden_world.specs.declared.seats.Seat.TheVariants as place
+use Rattle.eden_world.proofs.Counting.{same-one, swapped-same}
 use Rattle.eden_world.proofs.World.arm.Goals as goal
 
 pub armed-seat-requires-clause-whole : goal.armed-seat-requires-clause-whole
@@ -55,3 +57,7 @@ returns-clause-shows g c =
           ∙ c.clock_at-clock.ensures;
       broken = c.entry.ensures.broken;
     })
+
+pub returns-clause-asks : goal.returns-clause-asks
+returns-clause-asks g c = same-one c.args.self.now.calls c.set_seat.new.self.calls (swapped-same c.args.node c.args.node (place.Moving)
+    c.armed-seat.result c.args.self.now c.unseat.new.self c.set_seat.new.self c.unseat.ensures.takes c.set_seat.ensures.takes)

@@ -4,6 +4,7 @@ use Rattle.checkpoint.proofs.Activations.{any-err}
 use Rattle.eden_world.specs.Seated.{heeds}
 use Rattle.eden_world.proofs.CarriedOut.{call-carried, void-carried, ends-still}
 use Rattle.eden_world.proofs.Untouched.{still-keeps, still-shows}
+use Rattle.eden_world.proofs.Counting.{same-one}
 use Rattle.eden_world.proofs.World.call.Goals as goal
 
 pub returns-in_err-cap-clause-starved : goal.returns-in_err-cap-clause-starved
@@ -38,17 +39,20 @@ returns-in_ok-name-in-None-clause-carried g c = void-carried g.St.Device.Disk.te
 
 pub returns-in_err-cap-clause-leaves : goal.returns-in_err-cap-clause-leaves
 returns-in_err-cap-clause-leaves g c = any-err c.from_residual.result _ (still-keeps (heeds g.St.Device.Disk.tells g.St.Device.Disk.obeys) g.St.Store.seen
-    (disk_seen g.St.Device.Disk.counts g.St.Device.Disk.told g.St.Device.Disk.due) c.args.self.now c.args.self.now c.requires refl refl)
+    (disk_seen g.St.Device.Disk.counts g.St.Device.Disk.told g.St.Device.Disk.due) c.args.self.now c.args.self.now c.requires.whole refl refl)
 
 pub returns-in_err-operation-in-Some-clause-leaves : goal.returns-in_err-operation-in-Some-clause-leaves
 returns-in_err-operation-in-Some-clause-leaves g c = any-err c.from_residual-in_err-operation-in-Some.result _ (still-keeps (heeds g.St.Device.Disk.tells g.St.Device.Disk.obeys) g.St.Store.seen
-    (disk_seen g.St.Device.Disk.counts g.St.Device.Disk.told g.St.Device.Disk.due) c.args.self.now c.args.self.now c.requires refl refl)
+    (disk_seen g.St.Device.Disk.counts g.St.Device.Disk.told g.St.Device.Disk.due) c.args.self.now c.args.self.now c.requires.whole refl refl)
 
 pub returns-in_err-name-in-None-clause-leaves : goal.returns-in_err-name-in-None-clause-leaves
 returns-in_err-name-in-None-clause-leaves g c = any-err c.from_residual-in_err-name-in-None.result _ (still-keeps (heeds g.St.Device.Disk.tells g.St.Device.Disk.obeys) g.St.Store.seen
-    (disk_seen g.St.Device.Disk.counts g.St.Device.Disk.told g.St.Device.Disk.due) c.args.self.now c.args.self.now c.requires refl refl)
+    (disk_seen g.St.Device.Disk.counts g.St.Device.Disk.told g.St.Device.Disk.due) c.args.self.now c.args.self.now c.requires.whole refl refl)
 
 pub returns-in_ok-name-in-None-clause-shows : goal.returns-in_ok-name-in-None-clause-shows
 returns-in_ok-name-in-None-clause-shows g c = still-shows (heeds g.St.Device.Disk.tells g.St.Device.Disk.obeys) g.St.Store.seen
     (disk_seen g.St.Device.Disk.counts g.St.Device.Disk.told g.St.Device.Disk.due) c.args.self.now c.args.self.now
     c.entry_of_none.result _ refl c.entry_of_none.ensures.event refl c.entry_of_none.ensures.none
+
+pub returns-in_ok-name-in-None-clause-asks : goal.returns-in_ok-name-in-None-clause-asks
+returns-in_ok-name-in-None-clause-asks g c = same-one c.args.self.now.calls c.args.self.now.calls refl

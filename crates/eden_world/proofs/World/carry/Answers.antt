@@ -8,6 +8,8 @@ use Rattle.eden_world.specs.Seated.{heeds}
 use Rattle.eden_world.proofs.CarriedOut.{err-so, starves-so, still-starves}
 use Rattle.eden_world.proofs.Untouched.{still-keeps}
 use Rattle.journal.specs.Fit.{NumbersFit}
+use Rattle.ejects.proofs.Counting.{any-on_ok}
+use Rattle.eden_world.proofs.Counting.{same-one}
 use Rattle.eden_world.proofs.World.carry.Goals as goal
 
 -- the numbers of the command
@@ -110,3 +112,6 @@ pub returns-in-End-clause-leaves : goal.returns-in-End-clause-leaves
 returns-in-End-clause-leaves g c = any-err c.end.result _ (still-keeps (heeds g.St.Device.Disk.tells g.St.Device.Disk.obeys) g.St.Store.seen
     (disk_seen g.St.Device.Disk.counts g.St.Device.Disk.told g.St.Device.Disk.due) c.args.self.now c.args.self.now c.requires.whole refl
     refl)
+
+pub returns-in-End-clause-asks : goal.returns-in-End-clause-asks
+returns-in-End-clause-asks g c = any-on_ok c.end.result (same-one c.args.self.now.calls c.args.self.now.calls refl)

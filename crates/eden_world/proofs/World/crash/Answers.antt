@@ -5,6 +5,8 @@ use Rattle.eden_world.specs.Seated.{heeds, station_at}
 use Rattle.eden_world.proofs.CarriedOut.{crash-carried, crash-starved, crash-still}
 use Rattle.eden_world.proofs.Crashing.{crash-shows, left-keeps, none-up, up-at}
 use Rattle.eden_world.proofs.Untouched.{still-shows}
+use Rattle.ejects.proofs.Counting.{none-one}
+use Rattle.eden_world.proofs.Counting.{same-one}
 use Rattle.eden_world.proofs.World.crash.Goals as goal
 
 pub returns-then-not-is_up-clause-carried : goal.returns-then-not-is_up-clause-carried
@@ -59,3 +61,9 @@ returns-clause-shows g c =
     (disk_seen g.St.Device.Disk.counts g.St.Device.Disk.told g.St.Device.Disk.due) c.args.mode c.args.node u.node c.args.self.now
     c.fall.new.self _
     u.is u.number (c.in_ok-broken.ensures.leaves u.node u.is) refl refl c.clock_at-clock.ensures
+
+pub returns-then-not-is_up-clause-asks : goal.returns-then-not-is_up-clause-asks
+returns-then-not-is_up-clause-asks g c = same-one c.args.self.now.calls c.args.self.now.calls refl
+
+pub returns-clause-asks : goal.returns-clause-asks
+returns-clause-asks g c = none-one c.args.self.now.calls c.fall.new.self.calls c.in_ok-broken.ensures.asks

@@ -4,6 +4,8 @@ use Rattle.checkpoint.proofs.Activations.{any-err}
 use Rattle.eden_world.specs.Seated.{heeds}
 use Rattle.eden_world.specs.InHand.{place_at}
 use Rattle.eden_world.proofs.Created.{any-on-err, creates-in-ok, level-ends, node-fits, node-keeps, node-level, taken-up}
+use Rattle.eden_world.specs.declared.seats.Seat.TheVariants as place
+use Rattle.eden_world.proofs.Counting.{swapped-same}
 use Rattle.eden_world.proofs.World.create_at.Goals as goal
 
 pub create-made-requires : goal.create-made-requires
@@ -42,3 +44,7 @@ returns-clause-leaves g c = any-on-err c.create-made.result _ (node-keeps (heeds
     (taken-up (place_at c.args.self.now c.args.node) c.unseat.result c.in-Up.station c.unseat.ensures.old c.in-Up.is)
     c.unseat.ensures.takes c.set_seat.ensures.takes
     c.create-made.ensures.store c.requires.whole)
+
+pub returns-clause-calls : goal.returns-clause-calls
+returns-clause-calls g c = swapped-same c.args.node c.args.node (place.Moving) (place.Up c.create-made.new.self) c.args.self.now
+    c.unseat.new.self c.set_seat.new.self c.unseat.ensures.takes c.set_seat.ensures.takes

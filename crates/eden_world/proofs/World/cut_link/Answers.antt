@@ -4,6 +4,7 @@ use Rattle.checkpoint.proofs.Activations.{any-err}
 use Rattle.eden_world.specs.Seated.{heeds}
 use Rattle.eden_world.proofs.CarriedOut.{cut-carried, cut-starved}
 use Rattle.eden_world.proofs.Untouched.{level-keeps, level-shows}
+use Rattle.ejects.proofs.Counting.{none-one}
 use Rattle.eden_world.proofs.World.cut_link.Goals as goal
 
 pub returns-in_err-broken-clause-starved : goal.returns-in_err-broken-clause-starved
@@ -28,3 +29,6 @@ returns-clause-shows g c = level-shows (heeds g.St.Device.Disk.tells g.St.Device
     (disk_seen g.St.Device.Disk.counts g.St.Device.Disk.told g.St.Device.Disk.due) c.args.self.now c.cut.new.self _ _
     c.in_ok-broken.ensures.disks
     refl refl refl
+
+pub returns-clause-asks : goal.returns-clause-asks
+returns-clause-asks g c = none-one c.args.self.now.calls c.cut.new.self.calls c.in_ok-broken.ensures.asks

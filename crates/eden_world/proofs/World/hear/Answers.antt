@@ -8,6 +8,7 @@ use Rattle.invocation.specs.declared.call.Delivery.TheVariants as message
 use Rattle.eden_world.specs.Breaking.{name_by, waiter_at}
 use Rattle.eden_world.proofs.Hearing.{Hears, hears-takes}
 use Rattle.eden_world.proofs.Losing.{still-starves}
+use Rattle.ejects.proofs.Counting.{delivered-none, none-one}
 use Rattle.eden_world.proofs.World.hear.Goals as goal
 
 pub returns-in_err-name-clause-starved : goal.returns-in_err-name-clause-starved
@@ -37,3 +38,7 @@ returns-clause-taken g c =
     (subst (λ r. Delivers c.args.from 0 c.args.self.now.calls r c.deliver.new.self) is c.deliver.ensures.first)
     (λ t carries. subst (λ r. CarriesDelivery c.args.from 0 r c.deliver.new.self t) is (c.deliver.ensures.model t carries))
     c.in_ok-hear-in-Some-Reply.ensures.stands c.entry_of_none.ensures.event c.entry_of_none.ensures.none
+
+pub returns-clause-asks : goal.returns-clause-asks
+returns-clause-asks g c = none-one c.args.self.now.calls c.deliver.new.self
+    (delivered-none c.args.from 0 c.args.self.now.calls c.deliver.result c.deliver.new.self c.deliver.ensures.first)

@@ -4,6 +4,7 @@ use Rattle.checkpoint.proofs.Activations.{any-err}
 use Rattle.eden_world.specs.Seated.{heeds}
 use Rattle.eden_world.proofs.CarriedOut.{hold-carried, hold-shown, ends-still}
 use Rattle.eden_world.proofs.Untouched.{still-keeps, still-shows}
+use Rattle.eden_world.proofs.Counting.{same-one}
 use Rattle.eden_world.proofs.World.hold.Goals as goal
 
 pub returns-in_err-event-clause-starved : goal.returns-in_err-event-clause-starved
@@ -31,3 +32,6 @@ pub returns-in_err-event-clause-leaves : goal.returns-in_err-event-clause-leaves
 returns-in_err-event-clause-leaves g c = any-err c.from_residual.result _ (still-keeps (heeds g.St.Device.Disk.tells g.St.Device.Disk.obeys) g.St.Store.seen
     (disk_seen g.St.Device.Disk.counts g.St.Device.Disk.told g.St.Device.Disk.due) c.args.self.now
     (record c.args.self.now { names = c.hold.new.self }) c.requires refl refl)
+
+pub returns-clause-asks : goal.returns-clause-asks
+returns-clause-asks g c = same-one c.args.self.now.calls c.args.self.now.calls refl

@@ -5,7 +5,8 @@ use Rattle.journal.specs.World.{World}
 use Rattle.journal.specs.Enabled.{enabled}
 use Rattle.runs.specs.Reached.{IsReached}
 use Rattle.eden_world.specs.InHand.{Stands}
-use Rattle.eden_world.specs.Listed.{nine, keys_at}
+use Rattle.eden_world.specs.Listed.{keys_at, station_count}
+use Rattle.eden_world.specs.Worlds.{numbers_from}
 use Rattle.eden_world.proofs.World.list.Given as goal
 
 -- the keys so far and those of the stations that are left are all
@@ -13,4 +14,4 @@ abbrev pub invariant-loop-number : goal.invariant-loop-number
 invariant-loop-number g l = (more : ℕ) (w : World) → IsReached w
     → Stands g.St.Device.Disk.tells g.St.Store.layout g.St.Store.seen
     (disk_seen g.St.Device.Disk.counts g.St.Device.Disk.told g.St.Device.Disk.due) l.self more w
-    → l.keys.items ++ flat_map (keys_at w) (drop l.number nine) ≡ enabled w
+    → l.keys.items ++ flat_map (keys_at w) (drop l.number (numbers_from 0 (station_count l.self))) ≡ enabled w

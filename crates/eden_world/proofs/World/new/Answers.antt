@@ -1,4 +1,5 @@
-use Rattle.std.proofs.Common.{refl}
+use Rattle.std.proofs.Common.{◌≤◌, ap, length, refl, subst, sym}
+use Rattle.invocation.specs.Mail.{Mail}
 use Rattle.passive_store.specs.Seen.{disk_seen}
 use Rattle.eden_world.specs.declared.World.{World as Program}
 use Rattle.eden_world.proofs.Closing.{as-many, begun, begins-fits}
@@ -29,7 +30,7 @@ returns-clause-whole g c =
     begins-fits g.St.Store.seen c.args.types c.args.disks.items p
     (begun c.args.types c.args.disks.items p refl c.in_ok-seats.ensures.ok c.in-Ok.ensures.model c.new-2.ensures.up c.new-2.ensures.joined
     c.new-3.ensures.none) (record {
-      seats = as-many c.in_ok-seats.seats.items c.args.disks.items c.in_ok-seats.ensures.ok c.requires.eight;
+      seats = subst (λ m. m ≤ 8) (sym (as-many c.in_ok-seats.seats.items c.args.disks.items c.in_ok-seats.ensures.ok)) c.requires.few;
       nodes = c.new-2.ensures.nodes;
     })
 
@@ -46,3 +47,6 @@ returns-clause-stands g c =
     (disk_seen g.St.Device.Disk.counts g.St.Device.Disk.told g.St.Device.Disk.due) c.args.types c.args.disks.items p
     (begun c.args.types c.args.disks.items p refl c.in_ok-seats.ensures.ok c.in-Ok.ensures.model c.new-2.ensures.up c.new-2.ensures.joined
     c.new-3.ensures.none)
+
+pub returns-clause-asked : goal.returns-clause-asked
+returns-clause-asked g c = ap (λ (m : Mail). length m.calls) c.in-Ok.ensures.none

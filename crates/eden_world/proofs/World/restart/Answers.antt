@@ -1,14 +1,16 @@
-use Rattle.std.proofs.Common.{◌∙◌, sym}
+use Rattle.std.proofs.Common.{refl, ◌∙◌, sym}
 use Rattle.passive_store.specs.Seen.{disk_seen}
 use Rattle.eden_world.specs.InHand.{place_at}
 use Rattle.eden_world.proofs.Restarted.{place-number, restart-falls, restart-falls-shows, restart-leaves}
 use Rattle.eden_world.proofs.Restarted.{restart-starves, restart-up, restart-up-shows, up-stays, was-down, whole-down, whole-up}
+use Rattle.eden_world.specs.declared.seats.Seat.TheVariants as place
+use Rattle.eden_world.proofs.Counting.{same-one, swapped-same}
 use Rattle.eden_world.proofs.World.restart.Goals as goal
 
 pub boot-requires : goal.boot-requires
 boot-requires g c = record {
   node = place-number c.args.self.now c.args.number _ (was-down (place_at c.args.self.now c.args.number) c.unseat.result c.in-Down.disk
-      c.in-Down.doubt c.unseat.ensures.old c.in-Down.is) c.requires.whole.eight;
+      c.in-Down.doubt c.unseat.ensures.old c.in-Down.is) c.requires.whole.places;
 }
 
 -- 1. It comes up
@@ -100,3 +102,18 @@ returns-then-is_some-clause-carried g c = up-stays g.St.Device.Disk.tells g.St.S
     (disk_seen g.St.Device.Disk.counts g.St.Device.Disk.told g.St.Device.Disk.due) c.args.self.now c.args.number c.station.result
     c.entry_of_none.result c.station.ensures (sym c.is_some.ensures ∙ c.if-is_some.true) c.entry_of_none.ensures.event
     c.entry_of_none.ensures.none
+
+-- 3. It asks no call
+
+pub returns-then-is_some-clause-asks : goal.returns-then-is_some-clause-asks
+returns-then-is_some-clause-asks g c = same-one c.args.self.now.calls c.args.self.now.calls refl
+
+pub returns-in-Ok-clause-asks : goal.returns-in-Ok-clause-asks
+returns-in-Ok-clause-asks g c = same-one c.args.self.now.calls c.set_seat.new.self.calls (swapped-same c.args.number c.args.number
+    (place.Moving) (place.Up c.in-Ok.station) c.args.self.now c.unseat.new.self c.set_seat.new.self c.unseat.ensures.takes
+    c.set_seat.ensures.takes)
+
+pub returns-in-Some-clause-asks : goal.returns-in-Some-clause-asks
+returns-in-Some-clause-asks g c = same-one c.args.self.now.calls c.set_seat-in-Err.new.self.calls (swapped-same c.args.number
+    c.args.number (place.Moving) (place.Down c.in-Err.disk c.in-Err.fall.doubt) c.args.self.now c.unseat.new.self
+    c.set_seat-in-Err.new.self c.unseat.ensures.takes c.set_seat-in-Err.ensures.takes)

@@ -4,6 +4,7 @@ use Rattle.passive_store.specs.Seen.{disk_seen}
 use Rattle.eden_world.specs.declared.seats.Seat.TheVariants as place
 use Rattle.eden_world.proofs.Placing.{was-up, swaps-still}
 use Rattle.eden_world.proofs.TellingOne.{both-on_ok, told-whole, told-at, told-agendas}
+use Rattle.eden_world.proofs.Counting.{swapped-same}
 use Rattle.eden_world.proofs.World.tell.Goals as goal
 
 pub returns-clause-whole : goal.returns-clause-whole
@@ -40,3 +41,7 @@ pub broken-told-requires : goal.broken-told-requires
 broken-told-requires g c = record {
   whole = (c.requires.whole.nodes c.args.uid.node c.in-Up.station (was-up _ _ (sym c.in-Up.is ∙ c.unseat.ensures.old))).whole;
 }
+
+pub returns-clause-calls : goal.returns-clause-calls
+returns-clause-calls g c = swapped-same c.args.uid.node c.args.uid.node (place.Moving) (place.Up c.broken-told.new.self) c.args.self.now
+    c.unseat.new.self c.set_seat.new.self c.unseat.ensures.takes c.set_seat.ensures.takes

@@ -1,4 +1,4 @@
-use Rattle.std.proofs.Common.{drop}
+use Rattle.std.proofs.Common.{◌≡◌, drop}
 use Rattle.std.specs.Prelude.{IsTrue}
 use Rattle.passive_store.specs.Seen.{disk_seen}
 use Rattle.eden_world.specs.Breaking.{TellsPart}
@@ -15,4 +15,4 @@ invariant-loop-number g l =
     × SameDisks (in_hand g.St.Store.seen look l.fn.self) (in_hand g.St.Store.seen look l.self)
     × (IsTrue g.St.Device.Disk.tells → TellsPart g.St.Store.layout g.St.Store.seen look l.broken (drop l.number-index l.broken)
     l.names.items
-    l.fn.self l.self)
+    l.fn.self l.self) × (l.self.calls ≡ l.fn.self.calls)

@@ -1,5 +1,5 @@
--- The nodes of a world are numbered from 1 to 8, and a change of a node keeps their numbers.
-use Rattle.std.proofs.Common.{◌≡◌, ◌==◌, ◌≤◌, ◌<◌, ℕ, ◌+◌, Bool, true, false, cond, List, [], ◌∷◌, map, length, Option, None, Some, refl}
+-- The nodes of a world are numbered from 1 on, and a change of a node keeps their numbers.
+use Rattle.std.proofs.Common.{◌≡◌, ◌==◌, ◌≤◌, ◌<◌, ℕ, zero, suc, ◌+◌, Bool, true, false, cond, List, [], ◌∷◌, map, length, Option, None, Some, refl}
 use Rattle.std.proofs.Common.{sym}
 use Rattle.std.proofs.Common.{◌∙◌, ap, arith}
 use Rattle.std.specs.Prelude.{is_some}
@@ -14,7 +14,7 @@ use Rattle.eden_model.proofs.Numbers.{same-true, same-self}
 use Rattle.journal.specs.declared.event.Key.{Key}
 use Rattle.journal.specs.World.{World, Node, Site, node_at, at_node, is_up}
 use Rattle.journal.specs.Step.{clocked}
-use Rattle.eden_world.specs.Worlds.{IsNumber, eight}
+use Rattle.eden_world.specs.Worlds.{AreNumbers, IsNumber, numbers_from}
 use Rattle.eden_world.specs.Told.{marked}
 
 -- 1. Entries whose numbers rise by one
@@ -35,11 +35,20 @@ numbered-by n (k ∷ ks) (e ∷ es) same rises =
     let tail : map (λ e. e.0) es ≡ ks = cc same in
     (head ∙ rises.0, numbered-by (n + 1) ks es tail rises.1)
 
-eight-rise : RisesFrom 1 eight
-eight-rise = (refl, (refl, (refl, (refl, (refl, (refl, (refl, (refl, tt))))))))
+they-rise : (k c : ℕ) → RisesFrom k (numbers_from k c)
+they-rise k zero = tt
+they-rise k (suc c) = (refl, they-rise (k + 1) c)
 
-pub numbered : (w : World) → map (λ e. e.0) w.nodes ≡ eight → NumberedFrom 1 w.nodes
-numbered w same = numbered-by 1 eight w.nodes same eight-rise
+pub numbers-count : (k c : ℕ) → length (numbers_from k c) ≡ c
+numbers-count k zero = refl
+numbers-count k (suc c) = ap suc (numbers-count (k + 1) c)
+
+pub numbered : (w : World) → AreNumbers (map (λ e. e.0) w.nodes) → NumberedFrom 1 w.nodes
+numbered w same = numbered-by 1 (numbers_from 1 same.count) w.nodes same.are (they-rise 1 same.count)
+
+-- there are as many nodes as numbers
+as-many : (w : World) → (same : AreNumbers (map (λ (e : ℕ × Node). e.0) w.nodes)) → length w.nodes ≡ same.count
+as-many w same = sym (length-map w.nodes (λ (e : ℕ × Node). e.0)) ∙ ap length same.are ∙ numbers-count 1 same.count
 
 pub found-within : {X : Type 0} (n m : ℕ) (x : X) (es : List (ℕ × X)) → NumberedFrom m es → value_at nat_cmp n es ≡ Some x
     → (m ≤ n) × (n < m + length es)
@@ -97,26 +106,31 @@ keys-changed {X} n m f es row = go (value_at nat_cmp n es) refl
 -- 2. The nodes of a world
 
 -- who has a node has a number
-pub number-of : (w : World) (n : ℕ) (it : Node) → map (λ e. e.0) w.nodes ≡ eight → node_at w n ≡ Some it → IsNumber n
+pub number-of : (w : World) (n : ℕ) (it : Node) → AreNumbers (map (λ e. e.0) w.nodes) → node_at w n ≡ Some it → IsNumber n
 number-of w n it same is =
     let r = found-within n 1 it w.nodes (numbered w same) is in
-    let eight_long : length (map (λ (e : ℕ × Node). e.0) w.nodes) ≡ 8 = ap length same in
-    record { first = r.0; last = omega (arith, r.1, eight_long, length-map w.nodes (λ (e : ℕ × Node). e.0)) }
+    record { first = r.0; last = omega (arith, r.1, as-many w same, same.few) }
 
-pub node-there : (w : World) (n : ℕ) → map (λ e. e.0) w.nodes ≡ eight → IsNumber n → is_some (node_at w n) ≡ true
-node-there w n same number =
-    let eight_long : length (map (λ (e : ℕ × Node). e.0) w.nodes) ≡ 8 = ap length same in
-    present-within n 1 w.nodes (numbered w same) number.first
-    (omega (arith, number.last, eight_long, length-map w.nodes (λ (e : ℕ × Node). e.0)))
+-- a number up to their count has a node
+pub node-there : (w : World) (n : ℕ) → (same : AreNumbers (map (λ (e : ℕ × Node). e.0) w.nodes)) → 1 ≤ n → n ≤ same.count
+    → is_some (node_at w n) ≡ true
+node-there w n same first last = present-within n 1 w.nodes (numbered w same) first (omega (arith, last, as-many w same))
 
-pub up-number : (w : World) (n : ℕ) → map (λ e. e.0) w.nodes ≡ eight → is_up w n ≡ true → IsNumber n
+-- and none past it
+pub node-within : (w : World) (n : ℕ) (it : Node) → (same : AreNumbers (map (λ (e : ℕ × Node). e.0) w.nodes)) → node_at w n ≡ Some it
+    → n ≤ same.count
+node-within w n it same is =
+    let r = found-within n 1 it w.nodes (numbered w same) is in
+    omega (arith, r.1, as-many w same)
+
+pub up-number : (w : World) (n : ℕ) → AreNumbers (map (λ e. e.0) w.nodes) → is_up w n ≡ true → IsNumber n
 up-number w n same up = go (node_at w n) refl
   where
     go : (o : Option Node) → node_at w n ≡ o → IsNumber n
     go None is = absurd (let bad : false ≡ true = sym (ap (λ o. with_item o (λ (it : Node). it.up) false) is) ∙ up in cc bad)
     go (Some it) is = number-of w n it same is
 
-pub keys-at_node : (n : ℕ) (f : Site → Site) (w : World) → map (λ e. e.0) w.nodes ≡ eight
+pub keys-at_node : (n : ℕ) (f : Site → Site) (w : World) → AreNumbers (map (λ e. e.0) w.nodes)
     → map (λ e. e.0) (at_node n f w).nodes ≡ map (λ e. e.0) w.nodes
 unfolding at_node
 keys-at_node n f w same = go (node_at w n) refl
@@ -125,7 +139,7 @@ keys-at_node n f w same = go (node_at w n) refl
     go None is = rw is refl
     go (Some it) is = rw is (keys-put n 1 it _ w.nodes (numbered w same) is)
 
-pub keys-marked : (key : Option Key) (n c : ℕ) (w : World) → map (λ e. e.0) w.nodes ≡ eight
+pub keys-marked : (key : Option Key) (n c : ℕ) (w : World) → AreNumbers (map (λ e. e.0) w.nodes)
     → map (λ e. e.0) (marked key n c w).nodes ≡ map (λ e. e.0) w.nodes
 keys-marked key n c w same = by_key key
   where
@@ -140,3 +154,12 @@ keys-marked key n c w same = by_key key
     by_key : (key : Option Key) → map (λ e. e.0) (marked key n c w).nodes ≡ map (λ e. e.0) w.nodes
     by_key None = here
     by_key (Some k) = here
+
+-- 3. The same numbers
+
+pub same-numbers : (ms ns : List ℕ) → ms ≡ ns → AreNumbers ns → AreNumbers ms
+same-numbers ms ns same is = record { count = is.count; some = is.some; few = is.few; are = same ∙ is.are }
+
+pub numbers-at_node : (n : ℕ) (f : Site → Site) (w : World) → AreNumbers (map (λ e. e.0) w.nodes)
+    → AreNumbers (map (λ e. e.0) (at_node n f w).nodes)
+numbers-at_node n f w is = same-numbers _ _ (keys-at_node n f w is) is
