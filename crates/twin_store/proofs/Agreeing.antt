@@ -1,17 +1,17 @@
 -- One disk is left in use, or both agree.
-use Rattle.std.specs.Prelude.{◌≡◌, ◌⊎◌, ℕ, ◌+◌, ◌≤◌, ◌<◌, Bool, true, false, IsTrue, List, Option, None, Some, Result, Ok, Err, OnOk}
-use Rattle.std.proofs.Common.{refl, sym, ap, subst, ◌∙◌, inl, inr, arith}
+use Rattle.std.specs.Prelude.{◌≡◌, ℕ, ◌+◌, ◌≤◌, ◌<◌, Bool, true, false, IsTrue, Option, None, Some, Result, Ok, Err}
+use Rattle.std.proofs.Common.{refl, sym, subst, ◌∙◌, inr, arith}
 use Rattle.std.proofs.lemmas.Bool.{false≢true}
 use Rattle.passive_store.specs.Kept.{Layout}
 use Rattle.twin_store.specs.declared.served.TwinRefusal.{TwinRefusal}
-use Rattle.twin_store.specs.Vouched.{Bodies, SameEjects, generation_in, Vow, IsVouched, VouchBy, generation_of}
+use Rattle.twin_store.specs.Vouched.{Bodies, generation_in, Vow, IsVouched, VouchBy}
 use Rattle.twin_store.specs.Footings.{Finds, IsMapped, IfMapped, AreVouched}
-use Rattle.twin_store.specs.Sides.{SideSeen, InUse, Away, is_in_use, disk_of, bodies_on, IsKept, SideGoes, Bears}
-use Rattle.twin_store.specs.Twins.{pair, TwinSeen, TwinHas, SideHas, Holds, IsSure, Claims, SidesVouched, StepsVouched, IsLevel, Levels}
-use Rattle.twin_store.specs.Twins.{Agrees, IsCovered, Raises, IsRaised}
+use Rattle.twin_store.specs.Sides.{SideSeen, InUse, Away, is_in_use, disk_of, bodies_on, SideGoes, Bears}
+use Rattle.twin_store.specs.Twins.{pair, TwinSeen, SideHas, IsSure, Claims, SidesVouched, IsLevel, Levels}
+use Rattle.twin_store.specs.Twins.{Agrees, Raises, IsRaised}
 use Rattle.twin_store.proofs.Vouching.{one_of, one_raised}
 use Rattle.twin_store.proofs.Going.{both_ways, used_or_not}
-use Rattle.twin_store.proofs.Finding.{finds_weaker, maps_weaker}
+use Rattle.twin_store.proofs.Finding.{finds_weaker}
 use Rattle.twin_store.proofs.Siding.{sides_told, first_changed, second_changed, first_found, second_found, first_alike, second_alike}
 
 not_true : (b : Bool) → (b ≡ true → ⊥) → b ≡ false
@@ -183,7 +183,8 @@ module _ (tells : Bool) (layout : Layout) (node g : ℕ) (so : IsTrue tells) (a 
           record {
             first = λ gone. absurd (both_ways (is_in_use to) s.used gone);
             second = λ gone. subst (λ k. Finds layout k (IfMapped (λ m. generation_in k m ≤ n)) (disk_of b).told) c.node
-                (away_within layout v g n a b on off (one_of covers (λ claims. claims) (λ claims. absurd (both_ways v.second claims no_second)))
+                (away_within layout v g n a b on off
+                (one_of covers (λ claims. claims) (λ claims. absurd (both_ways v.second claims no_second)))
                 no_second (within_first v c.node on)
                 (omega (arith, next)) h);
           },

@@ -1,19 +1,16 @@
 -- The second disk is brought to the first's values, and both get a generation where neither has one.
-use Rattle.std.specs.Prelude.{◌≡◌, ◌⊎◌, ℕ, ◌≤◌, ◌<◌, ◌^◌, Bool, true, false, IsTrue, is_some, List, Option, None, Some, Result, Ok, Err}
-use Rattle.std.specs.Prelude.{OnOk}
-use Rattle.std.proofs.Common.{refl, sym, ap, subst, ◌∙◌, inl, inr, arith, zero, suc}
+use Rattle.std.specs.Prelude.{◌≡◌, ◌⊎◌, ℕ, ◌≤◌, ◌<◌, ◌^◌, Bool, true, false, IsTrue, List, Option, Some, Result, Ok, Err}
+use Rattle.std.proofs.Common.{refl, sym, ap, subst, ◌∙◌, arith, zero, suc}
 use Rattle.std.specs.Int.{w32, to_be_bytes}
-use Rattle.std.proofs.lemmas.Bool.{false≢true}
 use Rattle.passive_store.specs.Kept.{Layout, reserved_uid}
 use Rattle.passive_store.specs.Seen.{asked}
 use Rattle.twin_store.specs.declared.served.TwinRefusal.{TwinRefusal}
-use Rattle.twin_store.specs.Vouched.{Bodies, SameEjects, generation_in, generation_by, Vow, IsVouched}
-use Rattle.twin_store.specs.Footings.{AreVouched}
-use Rattle.twin_store.specs.Sides.{SideSeen, is_in_use, disk_of, bodies_on, IsKept, SideGoes, SideServes}
+use Rattle.twin_store.specs.Vouched.{generation_in, generation_by, Vow}
+use Rattle.twin_store.specs.Sides.{SideSeen, is_in_use, bodies_on, SideGoes, SideServes}
 use Rattle.twin_store.specs.Copies.{IsCopied}
-use Rattle.twin_store.specs.Twins.{pair, TwinSeen, SideHas, Claims, SidesVouched, IsLevel, IsEven, Levels, IsBrought}
+use Rattle.twin_store.specs.Twins.{pair, TwinSeen, SideHas, Claims, SidesVouched, IsEven, Levels, IsBrought}
 use Rattle.twin_store.proofs.Vouching.{one_of}
-use Rattle.twin_store.proofs.Going.{both_ways, used_or_not}
+use Rattle.twin_store.proofs.Going.{both_ways}
 use Rattle.twin_store.proofs.Siding.{sides_told}
 use Rattle.twin_store.proofs.Levelling.{IsReady, AreNew, level_by, put_level, serves_at, even_at, copied_at, second_brought_over}
 use Rattle.twin_store.proofs.Levelling.{second_brought_told}

@@ -1,13 +1,13 @@
 -- A whole copy: its target is cleared, begun and filled.
-use Rattle.std.specs.Prelude.{◌≡◌, ◌⊎◌, ℕ, Bool, true, false, IsTrue, is_some, List, Option, None, Some, Result, Ok, Err}
-use Rattle.std.proofs.Common.{refl, sym, ap, subst, ◌∙◌, inl, inr}
+use Rattle.std.specs.Prelude.{◌≡◌, ℕ, Bool, true, None, Result, Ok, Err}
+use Rattle.std.proofs.Common.{sym, subst, ◌∙◌, inl, inr}
 use Rattle.std.specs.FinMap as map
 use Rattle.capability.specs.declared.Uid.{Uid}
-use Rattle.passive_store.specs.Kept.{Layout, IsEject}
+use Rattle.passive_store.specs.Kept.{Layout}
 use Rattle.twin_store.specs.declared.served.TwinRefusal.{TwinRefusal}
 use Rattle.twin_store.specs.Vouched.{Bodies, generation_in}
 use Rattle.twin_store.specs.Footings.{Finds, IsMapped}
-use Rattle.twin_store.specs.Sides.{SideSeen, is_in_use, disk_of, bodies_on, IsSound, SideGoes, Bears, Bore, IsCopying, IsClear}
+use Rattle.twin_store.specs.Sides.{SideSeen, is_in_use, disk_of, bodies_on, IsSound, SideGoes, Bears, IsCopying, IsClear}
 use Rattle.twin_store.specs.Copies.{IsAtRest, IsAlike, Clears, BeginsFilling, CopiesAll, HasNoMore, IsCopied}
 use Rattle.twin_store.proofs.Vouching.{one_of}
 use Rattle.twin_store.proofs.Going.{used_or_not}

@@ -1,27 +1,28 @@
 -- A change of what a pair of disks keeps.
-use Rattle.std.specs.Prelude.{◌≡◌, ◌⊎◌, ℕ, ◌+◌, ◌≤◌, ◌<◌, Bool, true, false, IsTrue, List, Option, None, Some, Result, Ok, Err, IfErr, OnOk}
-use Rattle.std.specs.Prelude.{OnErr}
+use Rattle.std.specs.Prelude.{◌≡◌, ◌⊎◌, ℕ, ◌+◌, ◌≤◌, ◌<◌, Bool, true, false, IsTrue, List, Option, None, Some, Result, Ok, Err}
+use Rattle.std.specs.Prelude.{length}
 use Rattle.std.proofs.Common.{refl, sym, ap, subst, ◌∙◌, inl, inr, arith}
-use Rattle.std.specs.FinMap as map
-use Rattle.std.proofs.lemmas.Bool.{false≢true, cases_lt}
+use Rattle.std.proofs.lemmas.Bool.{cases_lt}
 use Rattle.capability.specs.declared.Uid.{Uid}
 use Rattle.eden_disk.specs.Told.{Told}
-use Rattle.passive_store.specs.Kept.{Layout, IsEject, reserved_uid}
-use Rattle.passive_store.specs.Seen.{Asked}
+use Rattle.passive_store.specs.Kept.{Layout, reserved_uid}
+use Rattle.passive_store.specs.Seen.{Asked, asked}
 use Rattle.twin_store.specs.declared.served.TwinRefusal.{TwinRefusal}
 use Rattle.twin_store.specs.declared.served.TwinRefusal.TheVariants.{Lost, Full}
-use Rattle.twin_store.specs.Vouched.{Bodies, SameEjects, changed_by, generation_in, generation_by, Vow, IsHeld, IsOwnChange, IsVouched}
+use Rattle.twin_store.specs.Vouched.{Bodies, SameEjects, changed_by, generation_in, generation_by, Vow, IsOwnChange, IsVouched}
 use Rattle.twin_store.specs.Vouched.{bodies_found}
 use Rattle.twin_store.specs.Footings.{Finds, IsMapped, IfMapped, AreVouched}
-use Rattle.twin_store.specs.Serving.{Same, MayKeep}
+use Rattle.twin_store.specs.Serving.{Same, has_room_in}
 use Rattle.twin_store.specs.Sides.{SideSeen, InUse, Away, is_in_use, disk_of, bodies_on, IsKept, SideGoes, SideServes}
-use Rattle.twin_store.specs.Twins.{TwinSeen, pair, IsTwinReady, SideHas, TwinHas, Holds, IsSure, vow, LeavesVouched, TwinGoes, TwinChanges}
-use Rattle.twin_store.specs.Twins.{ChangesFirst}
+use Rattle.twin_store.specs.Sides.{IsFullOn, IsShortOn, LacksRoom, HasRoomOn, HasLeft}
+use Rattle.twin_store.specs.Twins.{TwinSeen, pair, IsTwinReady, SideHas, Holds, IsSure, vow, LeavesVouched, TwinChanges}
+use Rattle.twin_store.specs.Twins.{ChangesFirst, IsFullTwin}
 use Rattle.twin_store.specs.Twins.{ChangesSecond, Raises, IsRaised}
 use Rattle.twin_store.proofs.Vouching.{one_of}
 use Rattle.twin_store.proofs.Going.{both_ways, goes_none, goes_on, used_or_not}
-use Rattle.twin_store.proofs.Finding.{finds_weaker, maps_weaker, may_keep_either, same_on, same_back, generation_changed}
+use Rattle.twin_store.proofs.Finding.{finds_weaker, maps_weaker, may_keep_either, generation_changed}
 use Rattle.twin_store.proofs.Sided.{changed_alike}
+use Rattle.twin_store.proofs.Stopping.{stopped_on}
 use Rattle.twin_store.proofs.Raising.{not_lost}
 use Rattle.twin_store.proofs.Clearing.{kept_again}
 
@@ -253,7 +254,10 @@ module _ (tells : Bool) (layout : Layout) (c : Option Asked) (node generation : 
       → is_in_use first ≡ false
       → ChangesFirst {T = U} tells layout c (Ok value) (pair node generation first second) (pair node generation first second)
   first_out value first second ready off = record {
-    goes = record { node = refl; first = goes_none first; second = goes_none second; ready = ready; lost = tt };
+    goes = record
+        { node = refl; first = goes_none first; second = goes_none second; ready = ready; lost = tt; stopped = inl (refl, refl) };
+    full = tt;
+    other = λ same. refl;
     held = λ so held h. record { generation = h.generation; first = λ on. absurd (both_ways (is_in_use first) on off); second = h.second };
     sure = λ so held h s. s;
     vouched = λ so. tt;
@@ -263,7 +267,16 @@ module _ (tells : Bool) (layout : Layout) (c : Option Asked) (node generation : 
       → SideServes {T = T} tells layout node c (Err e) old new
       → ChangesFirst {T = U} tells layout c (Err e) (pair node generation old second) (pair node generation new second)
   first_refused e old new second on s = record {
-    goes = record { node = refl; first = s.goes; second = goes_none second; ready = tt; lost = λ is. absurd (not_lost e s.only is) };
+    goes = record {
+      node = refl;
+      first = s.goes;
+      second = goes_none second;
+      ready = tt;
+      lost = λ is. absurd (not_lost e s.only is);
+      stopped = inl (s.stops, refl);
+    };
+    full = λ is. inl (inl (s.full is));
+    other = tt;
     held = λ so. tt;
     sure = λ so. tt;
     vouched = λ so held h sure. both_by held new second h.generation s.used
@@ -280,8 +293,11 @@ module _ (tells : Bool) (layout : Layout) (c : Option Asked) (node generation : 
       first = s.goes;
       second = goes_none second;
       lost = tt;
+      stopped = inl (s.stops, refl);
       ready = record { number = ready.number; first = s.ready; second = ready.second; some = inl s.used };
     };
+    full = tt;
+    other = λ same. refl;
     held = λ so held h. record {
       generation = h.generation;
       second = h.second;
@@ -295,7 +311,10 @@ module _ (tells : Bool) (layout : Layout) (c : Option Asked) (node generation : 
       → SideServes {T = T} tells layout node c (Ok None) old new → Raises tells layout node generation (Err e) second behind
       → ChangesFirst {T = U} tells layout c (Err e) (pair node generation old second) (pair node generation new behind)
   first_spent {T} e old new second behind on s r = record {
-    goes = record { node = refl; first = s.goes; second = r.goes; ready = tt; lost = λ is. (s.used, r.lost is) };
+    goes = record
+        { node = refl; first = s.goes; second = r.goes; ready = tt; lost = λ is. (s.used, r.lost is); stopped = inr (s.stops, r.stops) };
+    full = λ is. inr (inl (on, s.used));
+    other = tt;
     held = λ so. tt;
     sure = λ so. tt;
     vouched = λ so held h sure.
@@ -331,8 +350,11 @@ module _ (tells : Bool) (layout : Layout) (c : Option Asked) (node generation : 
       first = s.goes;
       second = r.goes;
       lost = tt;
+      stopped = inl (s.stops, r.stops);
       ready = record { number = ready.number; first = s.ready; second = r.ready; some = inr r.used };
     };
+    full = tt;
+    other = λ same. absurd (both_ways (is_in_use new) (same ∙ on) s.used);
     held = λ so held h.
         let new_has : SideHas layout node n (bodies_on second) behind = r.has so in
         let next : n ≡ generation + 1 = r.next in record {
@@ -362,7 +384,9 @@ module _ (tells : Bool) (layout : Layout) (c : Option Asked) (node generation : 
       → is_in_use second ≡ false
       → ChangesSecond {T = U} tells layout c (Ok value) (pair node generation first second) (pair node generation first second)
   second_out value first second ready off = record {
-    goes = record { node = refl; first = goes_none first; second = goes_none second; ready = ready; lost = tt };
+    goes = record
+        { node = refl; first = goes_none first; second = goes_none second; ready = ready; lost = tt; stopped = inl (refl, refl) };
+    full = tt;
     held = λ so held h. record { generation = h.generation; first = h.first; second = λ on. absurd (both_ways (is_in_use second) on off) };
     sure = λ so held h s. s;
     vouched = λ so. tt;
@@ -372,7 +396,15 @@ module _ (tells : Bool) (layout : Layout) (c : Option Asked) (node generation : 
       → SideServes {T = T} tells layout node c (Err e) old new
       → ChangesSecond {T = U} tells layout c (Err e) (pair node generation first old) (pair node generation first new)
   second_refused e first old new on s = record {
-    goes = record { node = refl; first = goes_none first; second = s.goes; ready = tt; lost = λ is. absurd (not_lost e s.only is) };
+    goes = record {
+      node = refl;
+      first = goes_none first;
+      second = s.goes;
+      ready = tt;
+      lost = λ is. absurd (not_lost e s.only is);
+      stopped = inr (refl, s.stops);
+    };
+    full = λ is. inl (s.full is);
     held = λ so. tt;
     sure = λ so. tt;
     vouched = λ so held h sure. second_by held first new h.generation s.used
@@ -389,8 +421,10 @@ module _ (tells : Bool) (layout : Layout) (c : Option Asked) (node generation : 
       first = goes_none first;
       second = s.goes;
       lost = tt;
+      stopped = inr (refl, s.stops);
       ready = record { number = ready.number; first = ready.first; second = s.ready; some = inr s.used };
     };
+    full = tt;
     held = λ so held h. record {
       generation = h.generation;
       first = h.first;
@@ -404,7 +438,9 @@ module _ (tells : Bool) (layout : Layout) (c : Option Asked) (node generation : 
       → SideServes {T = T} tells layout node c (Ok None) old new → Raises tells layout node generation (Err e) first behind
       → ChangesSecond {T = U} tells layout c (Err e) (pair node generation first old) (pair node generation behind new)
   second_spent {T} e first behind old new on s r = record {
-    goes = record { node = refl; first = r.goes; second = s.goes; ready = tt; lost = λ is. (r.lost is, s.used) };
+    goes = record
+        { node = refl; first = r.goes; second = s.goes; ready = tt; lost = λ is. (r.lost is, s.used); stopped = inl (r.stops, s.stops) };
+    full = λ is. inr (on, s.used);
     held = λ so. tt;
     sure = λ so. tt;
     vouched = λ so held h sure.
@@ -440,8 +476,10 @@ module _ (tells : Bool) (layout : Layout) (c : Option Asked) (node generation : 
       first = r.goes;
       second = s.goes;
       lost = tt;
+      stopped = inl (r.stops, s.stops);
       ready = record { number = ready.number; first = r.ready; second = s.ready; some = inl r.used };
     };
+    full = tt;
     held = λ so held h.
         let new_has : SideHas layout node n (bodies_on first) behind = r.has so in
         let next : n ≡ generation + 1 = r.next in record {
@@ -497,23 +535,70 @@ still_vouched layout c t held h sure =
     (disk_of t.second).told off off_too
     (leaves_none layout t.node held c _ _ (disk_of t.first).told (disk_of t.second).told (sure.first off) (sure.second off_too))))
 
-pub full_before : {U : Type 0} (tells : Bool) (layout : Layout) (c : Option Asked) (t : TwinSeen)
-    → TwinChanges {T = U} tells layout c (Err Full) t t
-full_before tells layout c t = record {
-  goes = record { node = refl; first = goes_none t.first; second = goes_none t.second; ready = tt; lost = λ is. absurd (full_not_lost is) };
+-- what is too long for a disk finds no room there
+short_full : (tells : Bool) (layout : Layout) (uid : Uid) (body : List ℕ) (side : SideSeen) → IsShortOn tells layout (length body) side
+    → IsFullOn tells layout (Some (asked uid (Some body))) side
+short_full tells layout uid body (InUse s) h = λ so told. inr (h so told)
+short_full tells layout uid body (Away d) h = h
+
+-- a disk in use has room and lacks it
+room_lacked : (tells : Bool) (layout : Layout) (size : ℕ) (side : SideSeen) → IsTrue tells → HasRoomOn tells layout size side
+    → LacksRoom layout size side → ⊥
+room_lacked tells layout size (InUse s) so has lacks = both_ways (has_room_in layout s size) (has so lacks.0) lacks.1
+room_lacked tells layout size (Away d) so has lacks = lacks
+
+pub room_there : {P : Type 0} (tells : Bool) (layout : Layout) (body : List ℕ) (t : TwinSeen) → IsTrue tells
+    → HasRoomOn tells layout (length body) t.first → HasRoomOn tells layout (length body) t.second
+    → LacksRoom layout (length body) t.first ⊎ LacksRoom layout (length body) t.second → P
+room_there tells layout body t so first second lacks =
+    absurd (one_of lacks (λ h. room_lacked tells layout (length body) t.first so first h)
+    (λ h. room_lacked tells layout (length body) t.second so second h))
+
+pub full_before : {U : Type 0} (tells : Bool) (layout : Layout) (uid : Uid) (body : List ℕ) (t : TwinSeen)
+    → IsShortOn tells layout (length body) t.first ⊎ IsShortOn tells layout (length body) t.second
+    → TwinChanges {T = U} tells layout (Some (asked uid (Some body))) (Err Full) t t
+full_before tells layout uid body t short = record {
+  goes = record {
+    node = refl;
+    first = goes_none t.first;
+    second = goes_none t.second;
+    ready = tt;
+    lost = λ is. absurd (full_not_lost is);
+    stopped = inl (refl, refl);
+  };
+  full = λ is. inl (one_of short (λ h. inl (short_full tells layout uid body t.first h))
+      (λ h. inr (short_full tells layout uid body t.second h)));
   held = λ so. tt;
   sure = λ so. tt;
-  vouched = λ so held h sure. still_vouched layout c t held h sure;
+  vouched = λ so held h sure. still_vouched layout (Some (asked uid (Some body))) t held h sure;
 }
 
 pub refused_first : {T U : Type 0} (tells : Bool) (layout : Layout) (c : Option Asked) (e : TwinRefusal) (a b : TwinSeen)
     → ChangesFirst {T = T} tells layout c (Err e) a b → TwinChanges {T = U} tells layout c (Err e) a b
 refused_first tells layout c e a b f = record {
-  goes = record { node = f.goes.node; first = f.goes.first; second = f.goes.second; ready = tt; lost = f.goes.lost };
+  goes = record
+      { node = f.goes.node; first = f.goes.first; second = f.goes.second; ready = tt; lost = f.goes.lost; stopped = f.goes.stopped };
+  full = f.full;
   held = λ so. tt;
   sure = λ so. tt;
   vouched = f.vouched;
 }
+
+-- a disk that leaves use later, left it from the start on
+pub left_from : (a b d : SideSeen) → SideGoes a b → HasLeft b d → HasLeft a d
+left_from a b d goes left = (goes.left left.0, left.1)
+
+-- what the second disk had no room for behind the first
+full_behind : {T : Type 0} (tells : Bool) (layout : Layout) (c : Option Asked) (value : T) (a b d : TwinSeen)
+    → ChangesFirst {T = T} tells layout c (Ok value) a b → SideGoes b.first d.first
+    → IsFullOn tells layout c b.second ⊎ HasLeft b.second d.second → IsFullTwin tells layout c a d
+full_behind tells layout c value a b d f goes (inr left) = inr (inr (left_from a.second b.second d.second f.goes.second left))
+full_behind tells layout c value a b d f goes (inl full) =
+    one_of (used_or_not (is_in_use b.first))
+    (λ on. inl (inr (subst (IsFullOn tells layout c) (f.other (on ∙ sym (f.goes.first.left on))) full)))
+    (λ off. one_of (used_or_not (is_in_use a.first))
+    (λ on. inr (inl (on, subst (λ s. is_in_use s ≡ false) (sym (goes.still off)) off)))
+    (λ out. inl (inr (subst (IsFullOn tells layout c) (f.other (off ∙ sym out)) full))))
 
 pub changed_both : {T U : Type 0} (tells : Bool) (layout : Layout) (c : Option Asked) (value : T) (r : Result U TwinRefusal)
     (a b d : TwinSeen)
@@ -525,19 +610,25 @@ changed_both tells layout c value (Ok done) a b d f s = record {
     second = goes_on a.second b.second d.second f.goes.second s.goes.second;
     ready = s.goes.ready;
     lost = tt;
+    stopped = stopped_on value (Ok done) (disk_of a.first) (disk_of b.first) (disk_of d.first) (disk_of a.second) (disk_of b.second)
+        (disk_of d.second) f.goes.stopped s.goes.stopped;
   };
+  full = tt;
   held = λ so held h. s.held so held (f.held so held h);
   sure = λ so held h sure. s.sure so held (f.held so held h) (f.sure so held h sure);
   vouched = λ so. tt;
 }
-changed_both tells layout c value (Err e) a b d f s = record {
+changed_both {T} {U} tells layout c value (Err e) a b d f s = record {
   goes = record {
     node = s.goes.node ∙ f.goes.node;
     first = goes_on a.first b.first d.first f.goes.first s.goes.first;
     second = goes_on a.second b.second d.second f.goes.second s.goes.second;
     ready = tt;
     lost = s.goes.lost;
+    stopped = stopped_on {T = T} {U = U} value (Err e) (disk_of a.first) (disk_of b.first) (disk_of d.first) (disk_of a.second)
+        (disk_of b.second) (disk_of d.second) f.goes.stopped s.goes.stopped;
   };
+  full = λ is. full_behind tells layout c value a b d f s.goes.first (s.full is);
   held = λ so. tt;
   sure = λ so. tt;
   vouched = λ so held h sure. s.vouched so held (f.held so held h) (f.sure so held h sure);

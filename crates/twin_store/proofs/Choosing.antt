@@ -1,13 +1,12 @@
 -- The disk of the greater generation is right, and at equal ones the first.
-use Rattle.std.specs.Prelude.{◌≡◌, ◌⊎◌, ℕ, ◌≤◌, ◌<◌, max, unwrap_or, Bool, true, false, Option, None, Some, Result, Ok, Err}
-use Rattle.std.proofs.Common.{refl, sym, ap, subst, ◌∙◌, inl, inr, arith}
+use Rattle.std.specs.Prelude.{◌≡◌, ◌⊎◌, ℕ, ◌≤◌, ◌<◌, unwrap_or, true, false, Option, None, Some, Result, Ok, Err}
+use Rattle.std.proofs.Common.{sym, subst, ◌∙◌, arith}
 use Rattle.std.proofs.Math.Nat.{max-eq_left, max-eq_right, le-max_left, le-max_right}
-use Rattle.std.proofs.lemmas.Bool.{false≢true}
 use Rattle.passive_store.specs.Kept.{Layout}
 use Rattle.twin_store.specs.declared.served.TwinRefusal.{TwinRefusal}
 use Rattle.twin_store.specs.Vouched.{generation_in}
 use Rattle.twin_store.specs.Sides.{SideSeen, is_in_use, bodies_on, SideGoes}
-use Rattle.twin_store.specs.Twins.{TwinSeen, IsUsedBy, IsGenerationOf, AreAtRest, AreRead, ReadsBoth, IsLess, IsEven, IsLevel, Levels}
+use Rattle.twin_store.specs.Twins.{TwinSeen, IsUsedBy, IsGenerationOf, AreAtRest, AreRead, ReadsBoth, IsLess, IsEven, Levels}
 use Rattle.twin_store.proofs.Vouching.{one_of}
 use Rattle.twin_store.proofs.Going.{both_ways}
 use Rattle.twin_store.proofs.Agreeing.{claims_before}

@@ -1,6 +1,6 @@
 -- The target of a copy is cleared, uid after uid.
 use Rattle.std.specs.Prelude.{◌≡◌, ◌⊎◌, ℕ, ◌<◌, ◌&&◌, not, Bool, true, false, IsTrue, is_some, List, Option, None, Some, Result, Ok, Err}
-use Rattle.std.specs.Prelude.{IfSome, IfErr, OnOk}
+use Rattle.std.specs.Prelude.{IfSome}
 use Rattle.std.proofs.Common.{refl, sym, ap, subst, ◌∙◌, inl, inr}
 use Rattle.std.specs.FinMap as map
 use Rattle.std.proofs.lemmas.Bool.{false≢true}
@@ -13,14 +13,14 @@ use Rattle.twin_store.specs.declared.served.TwinRefusal.{TwinRefusal}
 use Rattle.twin_store.specs.Ranks.{rank_of}
 use Rattle.twin_store.specs.Vouched.{Bodies, changed_by, generation_in, generation_by}
 use Rattle.twin_store.specs.Footings.{Finds, IsMapped}
-use Rattle.twin_store.specs.Serving.{Same, MayKeep}
-use Rattle.twin_store.specs.Sides.{SideSeen, is_in_use, disk_of, bodies_on, IsSideReady, IsKept, SideGoes, SideServes, Bears, Bore}
-use Rattle.twin_store.specs.Sides.{IsCopying, IsClear, AllClear, IsNextOn}
+use Rattle.twin_store.specs.Serving.{Same}
+use Rattle.twin_store.specs.Sides.{SideSeen, is_in_use, disk_of, bodies_on, IsSideReady, IsKept, SideGoes, SideServes, Bears}
+use Rattle.twin_store.specs.Sides.{IsCopying, IsClear, IsNextOn}
 use Rattle.twin_store.specs.Copies.{IsAtRest, Clears}
 use Rattle.twin_store.proofs.Vouching.{one_of, same_or_not, other}
 use Rattle.twin_store.proofs.Going.{both_ways, goes_none, goes_on, used_or_not}
 use Rattle.twin_store.proofs.Finding.{maps_weaker, may_keep_either, same_on, same_back, at_change, generation_stays}
-use Rattle.twin_store.proofs.Walking.{AllBefore, IsBefore, walk_first, walk_more}
+use Rattle.twin_store.proofs.Walking.{AllBefore, walk_first, walk_more}
 
 -- 1. One call on a disk that bears P
 
@@ -109,6 +109,7 @@ clear_with all source x y uid q same (inl h) =
 pub record IsClearing (tells : Bool) (layout : Layout) (all : Bool) (node : ℕ) (source old now : SideSeen)
     (next : Option Uid) : Type 0 where
   pub goes : SideGoes old now
+  pub stops : (disk_of now).counts.stops ≡ (disk_of old).counts.stops
   pub ready : IsSideReady node now
   pub own : IfSome next (IsEject node)
   pub fits : IfSome next (λ uid. rank_of uid < 18446744073709551616)
@@ -123,6 +124,7 @@ pub clearing_first : (tells : Bool) (layout : Layout) (all : Bool) (node : ℕ) 
     → (IsTrue tells → is_in_use old ≡ true → IsNextOn node old None next) → IsClearing tells layout all node source old old next
 clearing_first tells layout all node source old next ready own fits walk = record {
   goes = goes_none old;
+  stops = refl;
   ready = ready;
   own = own;
   fits = fits;
@@ -144,6 +146,7 @@ pub clearing_spared : (tells : Bool) (layout : Layout) (all : Bool) (node : ℕ)
     → (IsTrue tells → is_in_use now ≡ true → IsNextOn node now (Some at) next) → IsClearing tells layout all node source old now next
 clearing_spared tells layout all node source old now at next l here own fits walk = record {
   goes = l.goes;
+  stops = l.stops;
   ready = l.ready;
   own = own;
   fits = fits;
@@ -182,6 +185,7 @@ pub clearing_removed : (tells : Bool) (layout : Layout) (all : Bool) (node : ℕ
     → (IsTrue tells → is_in_use to ≡ true → IsNextOn node to (Some at) next) → IsClearing tells layout all node source old to next
 clearing_removed tells layout all node source old now to at next answer l s how own fits walk = record {
   goes = goes_on old now to l.goes s.goes;
+  stops = s.stops ∙ l.stops;
   ready = s.ready;
   own = own;
   fits = fits;

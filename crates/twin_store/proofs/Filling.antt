@@ -1,28 +1,29 @@
 -- The target of a copy gets what the source keeps, uid after uid.
-use Rattle.std.specs.Prelude.{◌≡◌, ◌⊎◌, ℕ, ◌<◌, ◌≤◌, Bool, true, false, IsTrue, is_some, List, length, Option, None, Some, Result, Ok, Err}
-use Rattle.std.specs.Prelude.{IfSome, IfErr, IfOk, OnOk}
+use Rattle.std.specs.Prelude.{◌≡◌, ◌⊎◌, ℕ, ◌<◌, Bool, true, false, IsTrue, is_some, List, length, Option, None, Some, Result, Ok, Err}
+use Rattle.std.specs.Prelude.{IfSome, OnOk}
 use Rattle.std.proofs.Common.{refl, sym, ap, subst, ◌∙◌, inl, inr, arith}
 use Rattle.std.specs.FinMap as map
 use Rattle.std.proofs.lemmas.Bool.{false≢true}
 use Rattle.capability.specs.declared.Uid.{Uid}
-use Rattle.passive_store.specs.Kept.{Layout, IsEject, IsOwn, bodies_after}
-use Rattle.passive_store.specs.Seen.{Asked, asked}
+use Rattle.passive_store.specs.Kept.{Layout, IsEject, bodies_after}
+use Rattle.passive_store.specs.Seen.{asked}
 use Rattle.twin_store.specs.declared.served.TwinRefusal.{TwinRefusal}
 use Rattle.twin_store.specs.Ranks.{rank_of}
-use Rattle.twin_store.specs.Vouched.{Bodies, SameEjects, changed_by}
+use Rattle.twin_store.specs.Vouched.{Bodies}
 use Rattle.twin_store.specs.Footings.{Finds, IsMapped}
-use Rattle.twin_store.specs.Serving.{Same, IfFound}
+use Rattle.twin_store.specs.Serving.{Same, stops_by}
 use Rattle.twin_store.specs.Sides.{SideSeen, is_in_use, disk_of, bodies_on, IsSideReady, IsKept, IsSound, SideGoes, SideServes, SideMoves}
 use Rattle.twin_store.specs.Sides.{BothMove, Bears, Bore}
-use Rattle.twin_store.specs.Sides.{IsCopying, IsNextOn}
+use Rattle.twin_store.specs.Sides.{IsCopying, IsNextOn, StopsOne}
 use Rattle.twin_store.specs.Copies.{IsAtRest, LooksFor, Fills, TakesOne, CopiesAll, HasNoMore, taken}
 use Rattle.twin_store.proofs.Vouching.{one_of, same_or_not, other}
 use Rattle.twin_store.proofs.Going.{both_ways, goes_none, goes_on, used_or_not}
-use Rattle.twin_store.proofs.Finding.{maps_weaker, same_on, same_back, at_change}
+use Rattle.twin_store.proofs.Finding.{maps_weaker, same_on, at_change}
 use Rattle.twin_store.proofs.Sided.{changed_alike}
+use Rattle.twin_store.proofs.Stopping.{stopped_on}
 use Rattle.twin_store.proofs.Raising.{stays_bore, stays_refused}
 use Rattle.twin_store.proofs.Clearing.{IsClosed, finds_served, bears_served, copying_same, copying_with}
-use Rattle.twin_store.proofs.Walking.{AllBefore, IsBefore, walk_first, walk_more}
+use Rattle.twin_store.proofs.Walking.{AllBefore, walk_first, walk_more}
 
 -- 1. A look for a body
 
@@ -148,9 +149,10 @@ fills_put tells layout node uid body answer old mid new l s so = record {
   put = λ short rest on. put_kept tells layout node uid body answer (bodies_on old) mid new s so (l.bore rest).bears.has on;
 }
 
-pub moved_on : {T : Type 0} (node : ℕ) (r : Result T TwinRefusal) (a b c : SideSeen) → SideGoes a b → SideMoves node r b c
-    → SideMoves node r a c
-moved_on node r a b c g m = record { only = m.only; goes = goes_on a b c g m.goes; ready = m.ready }
+pub moved_on : {T : Type 0} (node : ℕ) (r : Result T TwinRefusal) (a b c : SideSeen) → SideGoes a b
+    → (disk_of b).counts.stops ≡ (disk_of a).counts.stops → SideMoves node r b c → SideMoves node r a c
+moved_on node r a b c g same m =
+    record { only = m.only; goes = goes_on a b c g m.goes; stops = m.stops ∙ ap (stops_by r) same; ready = m.ready }
 
 -- 3. One uid
 
@@ -221,6 +223,7 @@ takes_put tells layout node uid body r source new old to s so there f = record {
 pub record IsFilling (tells : Bool) (layout : Layout) (node : ℕ) (source now old to : SideSeen) (next : Option Uid) : Type 0 where
   pub source_goes : SideGoes source now
   pub target_goes : SideGoes old to
+  pub stops : StopsOne {T = Unit {0}} (Ok tt) (disk_of source) (disk_of now) (disk_of old) (disk_of to)
   pub source_ready : IsSideReady node now
   pub target_ready : IsSideReady node to
   pub own : IfSome next (IsEject node)
@@ -258,6 +261,7 @@ pub filling_first : (tells : Bool) (layout : Layout) (node : ℕ) (source old : 
 filling_first tells layout node source old next ready target_ready own fits walk some = record {
   source_goes = goes_none source;
   target_goes = goes_none old;
+  stops = inl (refl, refl);
   source_ready = ready;
   target_ready = target_ready;
   own = own;
@@ -419,6 +423,8 @@ pub filling_more : (tells : Bool) (layout : Layout) (node : ℕ) (source now mor
 filling_more tells layout node source now more old mid to at next l b t own fits walk some = record {
   source_goes = goes_on source now more l.source_goes b.source;
   target_goes = goes_on old mid to l.target_goes b.target;
+  stops = stopped_on {T = Unit {0}} {U = Unit {0}} tt (Ok tt) (disk_of source) (disk_of now) (disk_of more) (disk_of old) (disk_of mid)
+      (disk_of to) l.stops b.stops;
   source_ready = b.source_ready;
   target_ready = b.target_ready;
   own = own;
@@ -480,6 +486,8 @@ both_refused tells layout node source now more old mid to at e l b = record {
   only = b.only;
   source = goes_on source now more l.source_goes b.source;
   target = goes_on old mid to l.target_goes b.target;
+  stops = stopped_on {T = Unit {0}} {U = Unit {0}} tt (Err e) (disk_of source) (disk_of now) (disk_of more) (disk_of old) (disk_of mid)
+      (disk_of to) l.stops b.stops;
   source_ready = tt;
   target_ready = tt;
 }

@@ -1,8 +1,8 @@
 -- What may be found on a disk, and what a change makes of a map and its generation.
-use Rattle.std.specs.Prelude.{◌≡◌, ◌⊎◌, ℕ, ◌≤◌, ◌<◌, ◌^◌, Bool, true, false, List, Option, None, Some, Result, Ok, Err}
-use Rattle.std.proofs.Common.{refl, sym, ap, subst, ◌∙◌, inl, inr, cond, arith}
+use Rattle.std.specs.Prelude.{◌≡◌, ◌⊎◌, ℕ, ◌≤◌, ◌<◌, ◌^◌, false, List, Option, None, Some, Result, Ok, Err}
+use Rattle.std.proofs.Common.{refl, sym, ap, ◌∙◌, inl, inr, cond, arith}
 use Rattle.std.specs.FinMap as map
-use Rattle.std.specs.Int.{w32, to_be_bytes, from_be_bytes}
+use Rattle.std.specs.Int.{w32, to_be_bytes}
 use Rattle.std.specs.Ordering.{eq_by_cmp, is_eq}
 use Rattle.std.proofs.lemmas.Cmp.{tied_itself}
 use Rattle.std.proofs.lemmas.Nat.{from_be_bytes-to_be_bytes_4}
@@ -11,7 +11,7 @@ use Rattle.capability.specs.Uids.{uid_cmp}
 use Rattle.capability.proofs.Uids.{uid_cmp_total}
 use Rattle.eden_disk.specs.Told.{Told}
 use Rattle.passive_store.specs.Kept.{Layout, IsEject, reserved_uid, bodies_after}
-use Rattle.passive_store.specs.Seen.{Asked, asked}
+use Rattle.passive_store.specs.Seen.{Asked}
 use Rattle.twin_store.specs.declared.served.TwinRefusal.{TwinRefusal}
 use Rattle.twin_store.specs.declared.served.TwinRefusal.TheVariants.{Lost, Stopped, Full, GenerationsSpent, OutOfMemory}
 use Rattle.twin_store.specs.Vouched.{Bodies, SameEjects, changed_by, generation_in, generation_by, IsOwnChange}

@@ -1,7 +1,6 @@
 -- One disk is made to keep what the other keeps, and what both vouch for meanwhile.
-use Rattle.std.specs.Prelude.{◌≡◌, ◌⊎◌, ℕ, ◌+◌, ◌≤◌, ◌<◌, ◌^◌, Bool, true, false, IsTrue, List, Option, None, Some, Result, Ok, Err, OnOk}
+use Rattle.std.specs.Prelude.{◌≡◌, ℕ, ◌≤◌, ◌<◌, ◌^◌, Bool, true, false, IsTrue, List, Option, None, Some, Result, Ok, Err}
 use Rattle.std.proofs.Common.{refl, sym, ap, subst, ◌∙◌, inl, inr, arith}
-use Rattle.std.specs.FinMap as map
 use Rattle.std.specs.Int.{w32, to_be_bytes}
 use Rattle.std.proofs.lemmas.Bool.{false≢true}
 use Rattle.passive_store.specs.Kept.{Layout, reserved_uid}
@@ -9,18 +8,17 @@ use Rattle.passive_store.specs.Seen.{asked}
 use Rattle.twin_store.specs.declared.served.TwinRefusal.{TwinRefusal}
 use Rattle.twin_store.specs.Vouched.{Bodies, SameEjects, generation_in, generation_by, Vow, IsOwnChange, IsVouched}
 use Rattle.twin_store.specs.VouchedLaws.{IsPartOf, IsMixed}
-use Rattle.twin_store.specs.Footings.{Finds, IsMapped, AreVouched}
+use Rattle.twin_store.specs.Footings.{IsMapped, AreVouched}
 use Rattle.twin_store.specs.Serving.{Same}
-use Rattle.twin_store.specs.Sides.{SideSeen, InUse, Away, is_in_use, disk_of, bodies_on, IsKept, SideGoes, SideServes, Bears, Bore}
+use Rattle.twin_store.specs.Sides.{SideSeen, InUse, Away, is_in_use, disk_of, bodies_on, IsKept, SideGoes, SideServes, Bears}
 use Rattle.twin_store.specs.Sides.{IsCopying}
-use Rattle.twin_store.specs.Copies.{IsAtRest, IsAlike, IsCopied}
-use Rattle.twin_store.specs.Twins.{pair, TwinSeen, TwinHas, SideHas, Holds, Claims, SidesVouched, StepsVouched, IsLevel, IsLess, IsEven}
+use Rattle.twin_store.specs.Copies.{IsCopied}
+use Rattle.twin_store.specs.Twins.{pair, SideHas, SidesVouched, IsLevel, IsLess, IsEven}
 use Rattle.twin_store.specs.Twins.{Levels, IsRaised}
 use Rattle.twin_store.proofs.Vouching.{one_of, second_brought, lesser_refilled, lesser_raised, second_begins}
 use Rattle.twin_store.proofs.Going.{both_ways, used_or_not}
-use Rattle.twin_store.proofs.Finding.{maps_weaker, same_alike}
 use Rattle.twin_store.proofs.Raising.{leaves_raised, has_raised}
-use Rattle.twin_store.proofs.Siding.{IsBeside, beside_used, sides_told, first_changed, second_changed, first_found, second_found}
+use Rattle.twin_store.proofs.Siding.{beside_used, sides_told, first_changed, second_changed, first_found, second_found}
 use Rattle.twin_store.proofs.Siding.{first_alike, second_alike}
 use Rattle.twin_store.proofs.Siding.{first_stays, second_stays, first_same, second_same}
 use Rattle.twin_store.proofs.Changing.{pair_up}
@@ -398,7 +396,8 @@ module _ (tells : Bool) (layout : Layout) (node g : ℕ) (so : IsTrue tells) (fi
         (h.kept, omega (arith, h.generation_is)))
         (right_kept tells layout node g so first second to new l c)
         (λ used on_too. let h : SideHas layout node g (bodies_on to) behind = has used in (
-          λ uid own. sym (h.same uid own ∙ (copied_ready tells layout node g so first second to new l c on).same (s.goes.left used) uid own),
+          λ uid own. sym (h.same uid own
+              ∙ (copied_ready tells layout node g so first second to new l c on).same (s.goes.left used) uid own),
           h.generation_is,
           (copied_ready tells layout node g so first second to new l c on).is,
           some_generation tells layout node g so first second to new l

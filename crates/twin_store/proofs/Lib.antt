@@ -16,5 +16,6 @@ mod Reading
 mod Serving
 mod Sided
 mod Siding
+mod Stopping
 pub mod Vouching
 mod Walking

@@ -1,29 +1,35 @@
 -- A look at what a pair of disks keeps.
-use Rattle.std.specs.Prelude.{◌≡◌, ◌⊎◌, ℕ, Bool, true, false, IsTrue, List, Option, None, Some, Result, Ok, Err, IfErr, OnOk, OnErr}
-use Rattle.std.proofs.Common.{refl, sym, ap, subst, ◌∙◌, inl, inr}
+use Rattle.std.specs.Prelude.{◌≡◌, ◌⊎◌, ℕ, Bool, true, false, IsTrue, List, Option, None, Some, Result, Ok, Err, IfErr}
+use Rattle.std.proofs.Common.{refl, ◌∙◌, inl, inr}
 use Rattle.std.specs.FinMap as map
 use Rattle.capability.specs.declared.Uid.{Uid}
 use Rattle.passive_store.specs.Kept.{Layout, IsEject}
 use Rattle.twin_store.specs.declared.served.TwinRefusal.{TwinRefusal}
-use Rattle.twin_store.specs.declared.served.TwinRefusal.TheVariants.{Lost}
-use Rattle.twin_store.specs.Vouched.{Bodies}
-use Rattle.twin_store.specs.Serving.{IfFound}
-use Rattle.twin_store.specs.Sides.{SideSeen, is_in_use, disk_of, bodies_on, SideServes}
-use Rattle.twin_store.specs.Twins.{TwinSeen, pair, IsTwinReady, Holds, TwinGoes, TwinChanges, ChangesFirst, ChangesSecond, LooksFirst}
-use Rattle.twin_store.specs.Twins.{TwinGets, Raises}
+use Rattle.twin_store.specs.declared.served.TwinRefusal.TheVariants.{Lost, Full}
+use Rattle.twin_store.specs.Sides.{SideSeen, InUse, Away, is_in_use, disk_of, bodies_on, SideGoes, SideServes, IsFullOn, HasLeft}
+use Rattle.twin_store.specs.Twins.{TwinSeen, pair, IsTwinReady, TwinChanges, ChangesFirst, ChangesSecond, LooksFirst}
+use Rattle.twin_store.specs.Twins.{TwinGets, Raises, IsFullTwin}
 use Rattle.twin_store.proofs.Vouching.{one_of}
-use Rattle.twin_store.proofs.Going.{both_ways, goes_none, goes_on, used_or_not}
-use Rattle.twin_store.proofs.Changing.{vouched_as, leaves_none, call_may}
+use Rattle.twin_store.proofs.Going.{both_ways, goes_none, goes_on}
+use Rattle.twin_store.proofs.Changing.{vouched_as, leaves_none, call_may, left_from}
+use Rattle.twin_store.proofs.Stopping.{stopped_on}
 use Rattle.twin_store.proofs.Changing as change
 
 -- a change of nothing
 first_changes : {U : Type 0} (tells : Bool) (layout : Layout) (r : Result U TwinRefusal) (a b : TwinSeen)
     → ChangesFirst {T = U} tells layout None r a b → TwinChanges {T = U} tells layout None r a b
-first_changes tells layout r a b f = record { goes = f.goes; held = f.held; sure = f.sure; vouched = f.vouched }
+first_changes tells layout r a b f = record { goes = f.goes; full = f.full; held = f.held; sure = f.sure; vouched = f.vouched }
+
+full_second : {U : Type 0} (tells : Bool) (layout : Layout) (r : Result U TwinRefusal) (a b : TwinSeen)
+    → IfErr r (λ e. e ≡ Full → IsFullOn tells layout None a.second ⊎ HasLeft a.second b.second)
+    → IfErr r (λ e. e ≡ Full → IsFullTwin tells layout None a b)
+full_second tells layout (Ok value) a b h = tt
+full_second tells layout (Err e) a b h = λ is. one_of (h is) (λ f. inl (inr f)) (λ left. inr (inr left))
 
 second_changes : {U : Type 0} (tells : Bool) (layout : Layout) (r : Result U TwinRefusal) (a b : TwinSeen)
     → ChangesSecond {T = U} tells layout None r a b → TwinChanges {T = U} tells layout None r a b
-second_changes tells layout r a b f = record { goes = f.goes; held = f.held; sure = f.sure; vouched = f.vouched }
+second_changes tells layout r a b f =
+    record { goes = f.goes; full = full_second tells layout r a b f.full; held = f.held; sure = f.sure; vouched = f.vouched }
 
 module _ (tells : Bool) (layout : Layout) (uid : Uid) (node generation : ℕ) where
   -- 1. The first disk
@@ -100,7 +106,15 @@ module _ (tells : Bool) (layout : Layout) (uid : Uid) (node generation : ℕ) wh
       → TwinGets tells layout uid (Err Lost) (pair node generation first old) (pair node generation first new)
   second_lost first old new off on s = record {
     changes = record {
-      goes = record { node = refl; first = goes_none first; second = s.goes; ready = tt; lost = λ is. (off, s.used) };
+      goes = record {
+        node = refl;
+        first = goes_none first;
+        second = s.goes;
+        ready = tt;
+        lost = λ is. (off, s.used);
+        stopped = inl (refl, s.stops);
+      };
+      full = λ is. inr (inr (on, s.used));
       held = λ so. tt;
       sure = λ so. tt;
       vouched = λ so held h sure.
@@ -123,7 +137,9 @@ got_first tells layout uid body a b l = record {
       second = l.changes.goes.second;
       ready = l.changes.goes.ready;
       lost = tt;
+      stopped = l.changes.goes.stopped;
     };
+    full = tt;
     held = l.changes.held;
     sure = l.changes.sure;
     vouched = λ so. tt;
@@ -141,13 +157,27 @@ got_none tells layout uid e a b l = record {
       second = l.changes.goes.second;
       ready = tt;
       lost = l.changes.goes.lost;
+      stopped = l.changes.goes.stopped;
     };
+    full = l.changes.full;
     held = λ so. tt;
     sure = λ so. tt;
     vouched = l.changes.vouched;
   };
   found = λ so. tt;
 }
+
+-- a look finds no room only where a disk left use
+no_full : (tells : Bool) (layout : Layout) (side : SideSeen) → IsFullOn tells layout None side → ⊥
+no_full tells layout (InUse s) h = h
+no_full tells layout (Away d) h = h
+
+full_look : (tells : Bool) (layout : Layout) (a b c : TwinSeen) → SideGoes a.first b.first → SideGoes a.second b.second
+    → IsFullTwin tells layout None b c → IsFullTwin tells layout None a c
+full_look tells layout a b c first second (inl (inl h)) = absurd (no_full tells layout b.first h)
+full_look tells layout a b c first second (inl (inr h)) = absurd (no_full tells layout b.second h)
+full_look tells layout a b c first second (inr (inl h)) = inr (inl (left_from a.first b.first c.first first h))
+full_look tells layout a b c first second (inr (inr h)) = inr (inr (left_from a.second b.second c.second second h))
 
 pub got_second : (tells : Bool) (layout : Layout) (uid : Uid) (r : Result (Option (List ℕ)) TwinRefusal) (a b c : TwinSeen)
     → LooksFirst tells layout uid (Ok None) a b → TwinGets tells layout uid r b c → TwinGets tells layout uid r a c
@@ -160,7 +190,10 @@ got_second tells layout uid (Ok body) a b c l g = record {
       second = goes_on a.second b.second c.second l.changes.goes.second g.changes.goes.second;
       ready = g.changes.goes.ready;
       lost = tt;
+      stopped = stopped_on {T = Option (Option (List ℕ))} None (Ok body) (disk_of a.first) (disk_of b.first) (disk_of c.first)
+          (disk_of a.second) (disk_of b.second) (disk_of c.second) l.changes.goes.stopped g.changes.goes.stopped;
     };
+    full = tt;
     held = λ so held h. g.changes.held so held (l.changes.held so held h);
     sure = λ so held h sure. g.changes.sure so held (l.changes.held so held h) (l.changes.sure so held h sure);
     vouched = λ so. tt;
@@ -176,7 +209,10 @@ got_second tells layout uid (Err e) a b c l g = record {
       second = goes_on a.second b.second c.second l.changes.goes.second g.changes.goes.second;
       ready = tt;
       lost = g.changes.goes.lost;
+      stopped = stopped_on {T = Option (Option (List ℕ))} {U = Option (List ℕ)} None (Err e) (disk_of a.first) (disk_of b.first)
+          (disk_of c.first) (disk_of a.second) (disk_of b.second) (disk_of c.second) l.changes.goes.stopped g.changes.goes.stopped;
     };
+    full = λ is. full_look tells layout a b c l.changes.goes.first l.changes.goes.second (g.changes.full is);
     held = λ so. tt;
     sure = λ so. tt;
     vouched = λ so held h sure. g.changes.vouched so held (l.changes.held so held h) (l.changes.sure so held h sure);

@@ -1,5 +1,5 @@
 -- A disk that was opened, and some calls on it.
-use Rattle.std.specs.Prelude.{◌≡◌, ◌⊎◌, ℕ, Bool, true, false, IsTrue, List, [], ◌∷◌, ◌++◌, Result, Ok, Err}
+use Rattle.std.specs.Prelude.{◌≡◌, ℕ, Bool, true, false, IsTrue, List, [], ◌∷◌, ◌++◌, Result, Ok, Err}
 use Rattle.std.proofs.Common.{refl, sym, ap, subst, ◌∙◌, inl, inr}
 use Rattle.std.proofs.lemmas.Bool.{false≢true}
 use Rattle.eden_disk.specs.Told.{Act, Contents, Told, contents, contents_from, at_rest, Left, LeavesOnly, ThroughActs, EachMoment}
@@ -51,6 +51,7 @@ pub opened_ok : (tells obeys : Bool) (layout : Layout) (node : ℕ) (old : DiskS
     → (IsTrue tells → Left (contents old.told) (contents old.told).now) → IsOpenedSide tells layout node old (InUse s)
 opened_ok tells obeys layout node old s o whole = record {
   by = record { size = o.counts.size; used = λ on. o.counts.faults; away = λ off. absurd (false≢true (sym off)) };
+  stops = o.counts.stops;
   ready = record { node_is = o.node_is; idle = o.idle.0; power = o.counts.power };
   kept = λ so on. leaves_sure layout node s.more s.kept (λ m. Same m s.kept.bodies) s.disk.told (o.stands so) (λ uid. refl);
   stands = λ so f h. subst (MayFind f) (o.map so) (found_in layout node f (contents old.told).now (h (contents old.told).now (whole so)));
@@ -63,6 +64,7 @@ pub opened_failed : (tells obeys : Bool) (layout : Layout) (node : ℕ) (old new
     → (IsTrue tells → Left (contents old.told) (contents old.told).now) → IsOpenedSide tells layout node old (Away new)
 opened_failed tells obeys layout node old new o whole = record {
   by = record { size = o.counts.size; used = λ on. absurd (false≢true on); away = λ off. inl o.counts.faults };
+  stops = o.counts.stops;
   ready = tt;
   kept = λ so on. absurd (false≢true on);
   stands = λ so f h. footing_kept tells obeys layout node (Err Failed) old new o whole so f h;
@@ -79,6 +81,7 @@ opened_damaged tells obeys layout node place old new o whole = record {
     used = λ on. absurd (false≢true on);
     away = λ off. inr (o.counts.faults, λ so. (place, o.damaged so place refl));
   };
+  stops = o.counts.stops;
   ready = tt;
   kept = λ so on. absurd (false≢true on);
   stands = λ so f h. footing_kept tells obeys layout node (Err (Damaged place)) old new o whole so f h;

@@ -1,25 +1,25 @@
 -- An opening of two disks.
-use Rattle.std.specs.Prelude.{◌≡◌, ◌⊎◌, ℕ, ◌<◌, ◌&&◌, nat_lt, Bool, true, false, IsTrue, List, Option, None, Some, Result, Ok, Err, OnOk}
-use Rattle.std.proofs.Common.{refl, sym, ap, subst, ◌∙◌, inl, inr, arith}
+use Rattle.std.specs.Prelude.{◌≡◌, ℕ, ◌<◌, ◌&&◌, nat_lt, Bool, true, false, IsTrue, Option, None, Some, Ok, Err}
+use Rattle.std.proofs.Common.{refl, sym, subst, ◌∙◌, arith}
 use Rattle.std.proofs.lemmas.Bool.{false≢true, ltb-true}
 use Rattle.eden_disk.specs.Told.{Told, contents}
-use Rattle.eden_disk.specs.Calls.{Counts, one_more}
-use Rattle.passive_store.specs.Kept.{Kept, Layout}
+use Rattle.eden_disk.specs.Calls.{one_more}
+use Rattle.passive_store.specs.Kept.{Layout}
 use Rattle.passive_store.specs.Layout.{IsLayout}
 use Rattle.passive_store.specs.Seen.{DiskSeen}
 use Rattle.twin_store.specs.declared.served.TwinRefusal.{TwinRefusal}
-use Rattle.twin_store.specs.Vouched.{Bodies, SameEjects, Vow, IsHeld, IsOwnChange, Vouches, VouchBy, IsVouched, bodies_found}
-use Rattle.twin_store.specs.Footings.{Footing, MayFind, IsFooted, Finds, AreVouched}
+use Rattle.twin_store.specs.Vouched.{Bodies, SameEjects, Vow, IsHeld, IsOwnChange, VouchBy, IsVouched, bodies_found}
+use Rattle.twin_store.specs.Footings.{Footing, MayFind, IsFooted, AreVouched}
 use Rattle.twin_store.specs.Sides.{SideSeen, InUse, Away, is_in_use, disk_of, bodies_on, SideGoes, IsOpenedSide, IsOpenedBy}
 use Rattle.twin_store.specs.Twins.{TwinSeen, pair, vow, spared, is_spared, Holds, Claims, SidesVouched, IsCovered, IsRight, Agrees}
 use Rattle.twin_store.specs.Twins.{AreAtRest}
 use Rattle.twin_store.specs.Twins.{TwinGoes, IsOpenedTwin, StaysVouched}
 use Rattle.twin_store.proofs.Vouching.{one_of, fault_by, held_alike}
-use Rattle.twin_store.proofs.Going.{both_ways, used_or_not}
+use Rattle.twin_store.proofs.Going.{used_or_not}
 use Rattle.twin_store.proofs.Finding.{finds_weaker}
-use Rattle.twin_store.proofs.Siding.{first_same, second_same, sides_told}
+use Rattle.twin_store.proofs.Siding.{first_same}
 use Rattle.twin_store.proofs.Opened.{opened_behind}
-use Rattle.twin_store.proofs.Changing.{pair_up}
+use Rattle.twin_store.proofs.Stopping.{none_by}
 
 -- 1. A vow with fewer disks
 
@@ -309,6 +309,8 @@ module _ (tells : Bool) (layout : Layout) (node g : ℕ) (old one : DiskSeen) (a
   opened_twin m agrees = record {
     ready = m.ready;
     node_is = m.node;
+    first_stops = (none_by {T = Unit {0}} tt (disk_of a) (disk_of new.first) (disk_of b) (disk_of new.second) m.stopped).0 ∙ p.stops;
+    second_stops = (none_by {T = Unit {0}} tt (disk_of a) (disk_of new.first) (disk_of b) (disk_of new.second) m.stopped).1 ∙ q.stops;
     first_opened = opened_behind tells layout node old a new.first p.by m.first;
     second_opened = opened_behind tells layout node one b new.second q.by m.second;
     right = λ so l. right_opened tells layout node g so old one a b p q new m.node m.first m.second (agrees so (at_rest_at_first so l));

@@ -1,24 +1,21 @@
 -- A disk of a pair gets a generation.
-use Rattle.std.specs.Prelude.{◌≡◌, ◌⊎◌, ℕ, ◌+◌, ◌≤◌, ◌<◌, ◌^◌, Bool, true, false, IsTrue, is_some, not, List, length, Option, None, Some}
-use Rattle.std.specs.Prelude.{Result, Ok, Err, IfErr}
+use Rattle.std.specs.Prelude.{◌≡◌, ◌⊎◌, ℕ, ◌+◌, ◌<◌, ◌^◌, Bool, true, false, IsTrue, is_some, List, Option, None, Some}
+use Rattle.std.specs.Prelude.{Result, Ok, Err}
 use Rattle.std.proofs.Common.{refl, sym, ap, subst, ◌∙◌, inl, inr, arith}
 use Rattle.std.specs.FinMap as map
 use Rattle.std.specs.Int.{w32, to_be_bytes}
 use Rattle.std.proofs.lemmas.Bool.{false≢true}
-use Rattle.capability.specs.declared.Uid.{Uid}
-use Rattle.passive_store.specs.Kept.{Layout, IsEject, reserved_uid, bodies_after}
+use Rattle.passive_store.specs.Kept.{Layout, reserved_uid, bodies_after}
 use Rattle.passive_store.specs.Seen.{asked}
 use Rattle.twin_store.specs.declared.served.TwinRefusal.{TwinRefusal}
 use Rattle.twin_store.specs.declared.served.TwinRefusal.TheVariants.{Lost, Stopped, Full, GenerationsSpent, OutOfMemory}
 use Rattle.twin_store.specs.Vouched.{Bodies, SameEjects, generation_in, generation_by}
 use Rattle.twin_store.specs.Footings.{Finds, IsMapped}
-use Rattle.twin_store.specs.Serving.{IsPassedOn, Same, MayKeep, IfFound}
-use Rattle.twin_store.specs.Sides.{SideSeen, InUse, Away, is_in_use, disk_of, bodies_on, IsKept, SideGoes, SideServes, SideMoves, Bore}
-use Rattle.twin_store.specs.Sides.{Bears}
+use Rattle.twin_store.specs.Serving.{IsPassedOn, Same}
+use Rattle.twin_store.specs.Sides.{SideSeen, is_in_use, disk_of, bodies_on, IsKept, SideServes, Bore}
 use Rattle.twin_store.specs.Copies.{IsAtRest, IsAlike, BeginsFilling}
-use Rattle.twin_store.specs.Twins.{Raises, IsRaised, SideHas, ReadsGeneration, IsGenerationOf}
-use Rattle.twin_store.proofs.Vouching.{one_of}
-use Rattle.twin_store.proofs.Going.{both_ways, goes_none, used_or_not}
+use Rattle.twin_store.specs.Twins.{Raises, IsRaised, SideHas, ReadsGeneration}
+use Rattle.twin_store.proofs.Going.{both_ways, goes_none}
 use Rattle.twin_store.proofs.Finding.{maps_weaker, may_keep_either, may_keep_same, same_alike, same_on, same_back, generation_put}
 use Rattle.twin_store.proofs.Finding.{ejects_stay}
 
@@ -94,6 +91,7 @@ pub raise_out : (tells : Bool) (layout : Layout) (node generation : ℕ) (side :
     → Raises tells layout node generation (Err Lost) side side
 raise_out tells layout node generation side off = record {
   goes = goes_none side;
+  stops = refl;
   ready = tt;
   used = tt;
   next = tt;
@@ -107,6 +105,7 @@ pub raise_spent : (tells : Bool) (layout : Layout) (node generation : ℕ) (side
     → Raises tells layout node generation (Err GenerationsSpent) side side
 raise_spent tells layout node generation side is_last = record {
   goes = goes_none side;
+  stops = refl;
   ready = tt;
   used = tt;
   next = tt;
@@ -124,6 +123,7 @@ pub raise_refused : (tells : Bool) (layout : Layout) (node generation n : ℕ) (
     → Raises tells layout node generation (Err e) old new
 raise_refused tells layout node generation n e old new next small s = record {
   goes = s.goes;
+  stops = s.stops;
   ready = tt;
   used = tt;
   next = tt;
@@ -139,6 +139,7 @@ pub raise_failed : (tells : Bool) (layout : Layout) (node generation n : ℕ) (o
     → Raises tells layout node generation (Err Lost) old new
 raise_failed tells layout node generation n old new next small s = record {
   goes = s.goes;
+  stops = s.stops;
   ready = tt;
   used = tt;
   next = tt;
@@ -155,6 +156,7 @@ pub raised : (tells : Bool) (layout : Layout) (node generation n : ℕ) (done : 
     → Raises tells layout node generation (Ok n) old new
 raised tells layout node generation n done old new next small s = record {
   goes = s.goes;
+  stops = s.stops;
   ready = s.ready;
   used = s.used;
   next = next;
@@ -203,7 +205,7 @@ stays_refused {T} tells layout node e old new s so on = record {
 pub read_refused : (tells : Bool) (layout : Layout) (node : ℕ) (e : TwinRefusal) (old new : SideSeen)
     → SideServes {T = Option (List ℕ)} tells layout node None (Err e) old new → ReadsGeneration tells layout node (Err e) old new
 read_refused tells layout node e old new s = record {
-  moves = record { only = s.only; goes = s.goes; ready = tt };
+  moves = record { only = s.only; goes = s.goes; stops = s.stops; ready = tt };
   used = tt;
   kept = λ so on. stays_refused tells layout node e old new s so on;
   is = λ so. tt;
@@ -212,7 +214,7 @@ read_refused tells layout node e old new s = record {
 pub read_away : (tells : Bool) (layout : Layout) (node : ℕ) (old new : SideSeen)
     → SideServes {T = Option (List ℕ)} tells layout node None (Ok None) old new → ReadsGeneration tells layout node (Ok None) old new
 read_away tells layout node old new s = record {
-  moves = record { only = tt; goes = s.goes; ready = s.ready };
+  moves = record { only = tt; goes = s.goes; stops = s.stops; ready = s.ready };
   used = s.used;
   kept = λ so on. stays_bore tells layout node None None old new s so on;
   is = λ so. tt;
@@ -223,7 +225,7 @@ pub read_there : (tells : Bool) (layout : Layout) (node n : ℕ) (found : Option
     → (IsTrue tells → is_in_use old ≡ true → found ≡ map.get (bodies_on old) (reserved_uid node)) → n ≡ generation_by found
     → ReadsGeneration tells layout node (Ok (Some n)) old new
 read_there tells layout node n found old new s get is = record {
-  moves = record { only = tt; goes = s.goes; ready = s.ready };
+  moves = record { only = tt; goes = s.goes; stops = s.stops; ready = s.ready };
   used = s.used;
   kept = λ so on. stays_bore tells layout node (Some found) (Some n) old new s so on;
   is = λ so. is ∙ (ap generation_by (get so (s.goes.left s.used)) ∙ sym (ap generation_by (s.kept so (reserved_uid node))));

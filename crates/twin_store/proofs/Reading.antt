@@ -1,13 +1,12 @@
 -- The generations of both disks are read.
-use Rattle.std.specs.Prelude.{◌≡◌, ℕ, max, unwrap_or, Bool, true, false, IsTrue, List, Option, None, Some, Result, Ok, Err}
-use Rattle.std.proofs.Common.{refl, sym, ap, subst, ◌∙◌}
-use Rattle.std.specs.FinMap as map
+use Rattle.std.specs.Prelude.{◌≡◌, ℕ, max, unwrap_or, Bool, true, IsTrue, Option, Result, Ok, Err}
+use Rattle.std.proofs.Common.{sym, subst, ◌∙◌}
 use Rattle.passive_store.specs.Kept.{Layout}
 use Rattle.twin_store.specs.declared.served.TwinRefusal.{TwinRefusal}
 use Rattle.twin_store.specs.Vouched.{Bodies, Vow}
 use Rattle.twin_store.specs.Serving.{Same}
-use Rattle.twin_store.specs.Sides.{SideSeen, is_in_use, bodies_on, IsKept, IsSound, SideGoes, Bore}
-use Rattle.twin_store.specs.Twins.{pair, Claims, SidesVouched, ReadsGeneration, ReadsBoth, AreAtRest, AreRead, IsUsedBy, IsGenerationOf}
+use Rattle.twin_store.specs.Sides.{SideSeen, is_in_use, bodies_on, IsSound, Bore}
+use Rattle.twin_store.specs.Twins.{pair, SidesVouched, ReadsGeneration, ReadsBoth, AreAtRest}
 use Rattle.twin_store.proofs.Siding.{sides_told, first_stays, second_stays, first_stays_told, second_stays_told}
 
 pub same_sound : (node : ℕ) (m n : Bodies) → Same n m → IsSound node m → IsSound node n

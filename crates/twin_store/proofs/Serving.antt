@@ -1,10 +1,9 @@
 -- What the calls of a store leave, for a twin.
-use Rattle.std.specs.Prelude.{◌≡◌, ◌⊎◌, ℕ, ◌≤◌, Bool, true, false, IsTrue, List, [], ◌∷◌, length, Option, None, Some, Result, Ok, Err}
-use Rattle.std.specs.Prelude.{IfErr, IfOk, OnOk}
+use Rattle.std.specs.Prelude.{◌≡◌, ◌⊎◌, ℕ, ◌≤◌, Bool, true, false, IsTrue, List, [], ◌∷◌, Option, None, Some, Result, Ok, Err}
+use Rattle.std.specs.Prelude.{IfErr, IfOk, OnOk, ◌≢◌}
 use Rattle.std.proofs.Common.{refl, sym, ap, subst, ◌∙◌, inl, inr, cond, arith}
 use Rattle.std.specs.FinMap as map
 use Rattle.std.specs.Ordering.{eq_by_cmp}
-use Rattle.std.proofs.lemmas.Bool.{false≢true}
 use Rattle.capability.specs.declared.Uid.{Uid}
 use Rattle.capability.specs.Uids.{uid_cmp}
 use Rattle.capability.proofs.Uids.{uid_cmp_total}
@@ -15,12 +14,15 @@ use Rattle.passive_store.specs.declared.store.Pick.TheVariants.{Old, New}
 use Rattle.passive_store.specs.declared.store.StoreRefusal.{StoreRefusal}
 use Rattle.passive_store.specs.declared.store.StoreRefusal.TheVariants.{Failed, Stopped, Full, Damaged, OutOfMemory}
 use Rattle.passive_store.specs.Kept.{Kept, Layout, StoreChange, Stands, Work, Idle, Unsettled, LeavesKept, kept_after, settled}
-use Rattle.passive_store.specs.Kept.{work_changed, kept_changed}
+use Rattle.passive_store.specs.Kept.{work_changed, kept_changed, IsFullBy}
 use Rattle.passive_store.specs.Kept.{work_unchanged, work_settled, IsDiskRefusal, IsEarlyRefusal, end_of_store, bodies_after, body_at}
-use Rattle.passive_store.specs.Seen.{Seen, Asked, asked, change_asked, Whole, Changes, Puts, Deletes, Gets, FindsNothing, Removes, Goes}
+use Rattle.passive_store.specs.Seen.{Seen, Asked, asked, change_asked, has_room_for, Whole, Changes, Puts, Deletes, Gets, Goes}
+use Rattle.twin_store.specs.declared.served.TwinRefusal.TheVariants.{Full as TwinFull, Stopped as TwinStopped}
+use Rattle.twin_store.specs.declared.served.TwinRefusal.TheVariants.{OutOfMemory as TwinOutOfMemory}
 use Rattle.twin_store.specs.Vouched.{Bodies, changed_by, bodies_found}
 use Rattle.twin_store.specs.Footings.{Finds, IsMapped, Standing}
 use Rattle.twin_store.specs.Serving.{served_as, end_of_served, IsReady, CountsBy, Same, MayKeep, IsServed, Serves, IfFound, IsPassedOn}
+use Rattle.twin_store.specs.Serving.{IsFullIn}
 use Rattle.twin_store.proofs.Vouching.{one_of, same_or_not}
 
 -- 1. What images keep
@@ -173,16 +175,50 @@ kept_done : (pick : Option Pick) (c : StoreChange) (r : Result (Unit {0}) StoreR
 kept_done pick c (Ok done) old new e = λ uid. ap (λ (x : Kept). map.get x.bodies uid) e ∙ same_changed pick c old uid
 kept_done pick c (Err refusal) old new e = tt
 
+stopped_not_full : TwinStopped ≡ TwinFull → ⊥
+stopped_not_full is = cc
+
+memory_not_full : TwinOutOfMemory ≡ TwinFull → ⊥
+memory_not_full is = cc
+
+-- a change is refused for want of room only where there is none
+full_by : (tells : Bool) (layout : Layout) (ask : Asked) (r : Result (Unit {0}) StoreRefusal) (pick : Option Pick) (old : Seen)
+    → old.work ≡ Idle
+    → (IsTrue tells → 1 ≤ old.more
+    → IsFullBy (has_room_for layout old.disk.counts.size (settled pick old.work old.kept) ask) pick old.work r)
+    → IfErr (served_as r) (λ e. e ≡ TwinFull → IsFullIn tells layout (Some ask) old)
+full_by tells layout ask (Ok done) pick old idle h = tt
+full_by tells layout ask (Err Failed) pick old idle h = tt
+full_by tells layout ask (Err Stopped) pick old idle h = λ is. absurd (stopped_not_full is)
+full_by tells layout ask (Err Full) pick old idle h = λ is so told.
+    inl (ap (λ k. has_room_for layout old.disk.counts.size k ask)
+    (sym (ap (λ w. settled pick w old.kept) idle ∙ settled_idle pick old.kept)) ∙ h so told)
+full_by tells layout ask (Err (Damaged place)) pick old idle h = tt
+full_by tells layout ask (Err OutOfMemory) pick old idle h = λ is. absurd (memory_not_full is)
+
+-- a call that is never refused so
+never_full : {T : Type 0} (P : Type 0) (r : Result T StoreRefusal) → IfErr r (λ e. e ≢ Full)
+    → IfErr (served_as r) (λ e. e ≡ TwinFull → P)
+never_full P (Ok value) h = tt
+never_full P (Err Failed) h = tt
+never_full P (Err Stopped) h = λ is. absurd (stopped_not_full is)
+never_full P (Err Full) h = absurd (h refl)
+never_full P (Err (Damaged place)) h = tt
+never_full P (Err OutOfMemory) h = λ is. absurd (memory_not_full is)
+
 pub serves_changes : (tells obeys : Bool) (layout : Layout) (node : ℕ) (ask : Asked) (r : Result (Unit {0}) StoreRefusal) (old new : Seen)
     → IsReady node old → Whole tells obeys layout ask r old new → Changes tells layout ask r old new
+    → (IsTrue tells → 1 ≤ old.more
+    → IsFullBy (has_room_for layout old.disk.counts.size (settled new.picked old.work old.kept) ask) new.picked old.work r)
     → Serves tells layout node (Some ask) (served_as r) old new
-serves_changes tells obeys layout node ask r old new ready whole changes =
+serves_changes tells obeys layout node ask r old new ready whole changes full =
     let c : StoreChange = change_asked layout ask changes.mark in
     let work : new.work ≡ work_changed new.picked c Idle r = changes.work ∙ ap (λ w. work_changed new.picked c w r) ready.idle in
     let kept : IsTrue tells → new.kept ≡ kept_changed new.picked c Idle old.kept r =
     λ so. changes.kept so ∙ ap (λ w. kept_changed new.picked c w old.kept r) ready.idle in
     record {
       only = only_by r;
+      full = full_by tells layout ask r new.picked old ready.idle full;
       counts = counts_by r changes.ran.made old.disk.counts new.disk.counts whole.undamaged changes.ran.counts;
       served = is_served tells node (Some ask) r old new
           (ready_again node changes.ran.made r old new ready whole.goes.node (done_changed new.picked c r new.work work) changes.ran.counts)
@@ -197,7 +233,8 @@ serves_changes tells obeys layout node ask r old new ready whole changes =
 
 pub serves_put : (tells obeys : Bool) (layout : Layout) (node : ℕ) (ask : Asked) (r : Result (Unit {0}) StoreRefusal) (old new : Seen)
     → IsReady node old → Puts tells obeys layout ask r old new → Serves tells layout node (Some ask) (served_as r) old new
-serves_put tells obeys layout node ask r old new ready p = serves_changes tells obeys layout node ask r old new ready p.whole p.changes
+serves_put tells obeys layout node ask r old new ready p =
+    serves_changes tells obeys layout node ask r old new ready p.whole p.changes p.full
 
 on_ok : {T P : Type 0} (r : Result T StoreRefusal) → P → OnOk r P
 on_ok (Ok value) p = p
@@ -206,11 +243,12 @@ on_ok (Err e) p = tt
 -- a call behind which the store is idle and keeps what it kept
 serves_still : {T : Type 0} (tells obeys : Bool) (layout : Layout) (node made : ℕ) (c : Option Asked) (r : Result T StoreRefusal)
     (old new : Seen)
-    → IsReady node old → Goes tells obeys layout r old new → IfErr r (λ e. IsDiskRefusal e ⊎ IsEarlyRefusal e)
+    → IsReady node old → Goes tells obeys layout r old new → IfErr r (λ e. IsDiskRefusal e ⊎ IsEarlyRefusal e) → IfErr r (λ e. e ≢ Full)
     → DeviceCalls made old.disk.counts new.disk.counts (end_of_store r) → new.work ≡ Idle → (IsTrue tells → new.kept ≡ old.kept)
     → (IsTrue tells → OnOk r (Same old.kept.bodies (changed_by c old.kept.bodies))) → Serves tells layout node c (served_as r) old new
-serves_still tells obeys layout node made c r old new ready goes only calls idle kept same = record {
+serves_still tells obeys layout node made c r old new ready goes only roomy calls idle kept same = record {
   only = only_by r;
+  full = never_full (IsFullIn tells layout c old) r roomy;
   counts = counts_by r made old.disk.counts new.disk.counts only calls;
   served = is_served tells node c r old new (ready_again node made r old new ready goes.node (on_ok r idle) calls)
       (λ so. subst (λ (k : Kept). OnOk r (Same k.bodies (changed_by c old.kept.bodies))) (sym (kept so)) (same so));
@@ -246,11 +284,11 @@ pub serves_delete : (tells obeys : Bool) (layout : Layout) (node : ℕ) (uid : U
 serves_delete tells obeys layout node uid r old new ready d =
     one_of d.changes
     (λ f. serves_still tells obeys layout node f.settles.ran.made (Some (asked uid None)) r old new ready d.whole.goes d.whole.undamaged
-    f.settles.ran.counts (f.settles.work ∙ (ap (λ w. work_unchanged new.picked w r) ready.idle ∙ unchanged_work new.picked r))
+    f.room f.settles.ran.counts (f.settles.work ∙ (ap (λ w. work_unchanged new.picked w r) ready.idle ∙ unchanged_work new.picked r))
     (λ so. kept_still new.picked old.work old.kept new.kept ready.idle (f.settles.kept so))
     (λ so. nothing_there r uid old.kept (settled new.picked old.work old.kept)
     (ap (λ w. settled new.picked w old.kept) ready.idle ∙ settled_idle new.picked old.kept) (f.none so)))
-    (λ f. serves_changes tells obeys layout node (asked uid None) r old new ready d.whole f.changes)
+    (λ f. serves_changes tells obeys layout node (asked uid None) r old new ready d.whole f.changes f.full)
 
 get_refusal : {T : Type 0} (r : Result T StoreRefusal) → IfErr r (λ e. IsDiskRefusal e ⊎ (e ≡ OutOfMemory))
     → IfErr r (λ e. IsDiskRefusal e ⊎ IsEarlyRefusal e)
@@ -258,10 +296,25 @@ get_refusal (Ok value) h = tt
 get_refusal (Err e) (inl h) = inl h
 get_refusal (Err e) (inr h) = inr (inr h)
 
+get_not_full : {T : Type 0} (r : Result T StoreRefusal) → IfErr r (λ e. IsDiskRefusal e ⊎ (e ≡ OutOfMemory)) → IfErr r (λ e. e ≢ Full)
+get_not_full (Ok value) h = tt
+get_not_full (Err e) (inl (inl h)) = λ is. failed_not_full (sym h ∙ is)
+  where
+    failed_not_full : Failed ≡ Full → ⊥
+    failed_not_full is = cc
+get_not_full (Err e) (inl (inr h)) = λ is. stop_not_full (sym h ∙ is)
+  where
+    stop_not_full : Stopped ≡ Full → ⊥
+    stop_not_full is = cc
+get_not_full (Err e) (inr h) = λ is. want_not_full (sym h ∙ is)
+  where
+    want_not_full : OutOfMemory ≡ Full → ⊥
+    want_not_full is = cc
+
 pub serves_get : (tells obeys : Bool) (layout : Layout) (node : ℕ) (uid : Uid) (r : Result (Option (List ℕ)) StoreRefusal) (old new : Seen)
     → IsReady node old → Gets tells obeys layout uid r old new → Serves tells layout node None (served_as r) old new
 serves_get tells obeys layout node uid r old new ready d =
-    serves_still tells obeys layout node d.ran.made None r old new ready d.goes (get_refusal r d.only) d.ran.counts
+    serves_still tells obeys layout node d.ran.made None r old new ready d.goes (get_refusal r d.only) (get_not_full r d.only) d.ran.counts
     (d.work ∙ settled_work new.picked old.work ready.idle) (λ so. kept_still new.picked old.work old.kept new.kept ready.idle (d.kept so))
     (λ so. on_ok r (λ uid. refl))
 

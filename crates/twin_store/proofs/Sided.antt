@@ -1,19 +1,20 @@
 -- One call on one disk of a pair.
-use Rattle.std.specs.Prelude.{◌≡◌, ◌⊎◌, ℕ, Bool, true, false, IsTrue, is_some, List, Option, None, Some, Result, Ok, Err}
-use Rattle.std.proofs.Common.{refl, sym, ap, subst, ◌∙◌, inl, inr, cond}
+use Rattle.std.specs.Prelude.{◌≡◌, ℕ, Bool, false, is_some, List, Option, None, Some, Result, Ok, Err}
+use Rattle.std.proofs.Common.{refl, sym, ap, ◌∙◌, cond}
 use Rattle.std.specs.FinMap as map
 use Rattle.std.specs.Ordering.{eq_by_cmp}
 use Rattle.std.proofs.lemmas.Bool.{false≢true}
 use Rattle.capability.specs.declared.Uid.{Uid}
 use Rattle.capability.specs.Uids.{uid_cmp}
 use Rattle.capability.proofs.Uids.{uid_cmp_total}
-use Rattle.eden_disk.specs.Calls.{faults_after, AtFault, one_more}
-use Rattle.passive_store.specs.Kept.{Layout, IsEject, bodies_after}
-use Rattle.passive_store.specs.Seen.{Seen, DiskSeen, Asked}
+use Rattle.eden_disk.specs.Calls.{faults_after, one_more}
+use Rattle.passive_store.specs.Kept.{Layout, bodies_after}
+use Rattle.passive_store.specs.Seen.{Seen, Asked}
 use Rattle.twin_store.specs.declared.served.TwinRefusal.{TwinRefusal}
 use Rattle.twin_store.specs.declared.served.TwinRefusal.TheVariants.{Lost, Stopped, Full, GenerationsSpent, OutOfMemory}
 use Rattle.twin_store.specs.Vouched.{Bodies, changed_by}
 use Rattle.twin_store.specs.Serving.{Serves, end_of_served}
+use Rattle.twin_store.proofs.Stopping.{stops_end}
 use Rattle.twin_store.specs.Sides.{InUse, Away, opened_side, SideSeen, is_in_use, SideGoes, SideServes}
 
 -- what a change makes of one uid depends on what was there
@@ -65,6 +66,8 @@ pub side_served : {T : Type 0} (tells : Bool) (layout : Layout) (node : ℕ) (c 
     → SideServes tells layout node c (Ok found) (InUse old) (opened_side (is_some found) new)
 side_served tells layout node c (Some value) old new s = record {
   only = tt;
+  full = tt;
+  stops = s.counts.stops;
   goes = stays old new s.counts.size s.counts.faults;
   used = refl;
   ready = s.served.0;
@@ -73,6 +76,8 @@ side_served tells layout node c (Some value) old new s = record {
 }
 side_served tells layout node c None old new s = record {
   only = tt;
+  full = tt;
+  stops = s.counts.stops;
   goes = leaves_use old new s.counts.size s.counts.faults;
   used = refl;
   ready = tt;
@@ -84,6 +89,8 @@ pub side_refused : {T : Type 0} (tells : Bool) (layout : Layout) (node : ℕ) (c
     → Serves {T = T} tells layout node c (Err e) old new → SideServes {T = T} tells layout node c (Err e) (InUse old) (InUse new)
 side_refused {T} tells layout node c e old new s = record {
   only = s.only;
+  full = s.full;
+  stops = s.counts.stops ∙ stops_end {T = T} (Err e) old.disk.counts.stops;
   goes = stays old new s.counts.size (s.counts.faults ∙ same_end {T = T} (Err e) e old.disk.counts.faults refl);
   used = refl;
   ready = tt;
@@ -97,6 +104,8 @@ pub side_away : {T : Type 0} (tells : Bool) (layout : Layout) (node : ℕ) (c : 
 side_away tells layout node c (InUse s) off = absurd (false≢true (sym off))
 side_away tells layout node c (Away d) off = record {
   only = tt;
+  full = tt;
+  stops = refl;
   goes = record { size = refl; left = λ e. e; rose = λ used gone. absurd (false≢true used); same = λ e. refl; still = λ e. refl };
   used = refl;
   ready = tt;

@@ -1,21 +1,19 @@
 -- What two disks vouch for while one of them changes.
-use Rattle.std.specs.Prelude.{◌≡◌, ◌⊎◌, ℕ, ◌+◌, ◌≤◌, ◌<◌, Bool, true, false, List, Option, None, Some, Result, Ok, Err}
+use Rattle.std.specs.Prelude.{◌≡◌, ℕ, ◌+◌, ◌≤◌, ◌<◌, Bool, true, false, Option, None, Some, Result, Ok}
 use Rattle.std.proofs.Common.{refl, sym, ap, subst, ◌∙◌, inl, inr}
 use Rattle.std.proofs.lemmas.Bool.{false≢true}
-use Rattle.eden_disk.specs.Told.{Told}
-use Rattle.passive_store.specs.Kept.{Kept, Layout, reserved_uid}
-use Rattle.passive_store.specs.Seen.{Seen, DiskSeen}
-use Rattle.twin_store.specs.Vouched.{Bodies, SameEjects, generation_in, generation_by, bodies_found, Vow, IsHeld, Vouches, VouchBy}
+use Rattle.passive_store.specs.Kept.{Layout}
+use Rattle.twin_store.specs.Vouched.{Bodies, SameEjects, generation_in, Vow, IsHeld, Vouches, VouchBy}
 use Rattle.twin_store.specs.Vouched.{IsVouched, FirstGivesWay}
 use Rattle.twin_store.specs.Vouched.{SecondGivesWay, Agree, generation_of}
-use Rattle.twin_store.specs.Footings.{Footing, MayFind, IsFooted, Finds, IsMapped, AreVouched}
+use Rattle.twin_store.specs.Footings.{Finds, IsMapped, AreVouched}
 use Rattle.twin_store.specs.Serving.{Same}
 use Rattle.twin_store.specs.declared.served.TwinRefusal.{TwinRefusal}
-use Rattle.twin_store.specs.Sides.{SideSeen, InUse, Away, is_in_use, disk_of, bodies_on, IsKept, SideGoes, Bears, Bore}
+use Rattle.twin_store.specs.Sides.{SideSeen, InUse, Away, is_in_use, disk_of, bodies_on, SideGoes, Bears, Bore}
 use Rattle.twin_store.specs.Twins.{SidesVouched}
 use Rattle.twin_store.proofs.Vouching.{one_of, held_alike, bare_alike}
 use Rattle.twin_store.specs.Copies.{IsAlike}
-use Rattle.twin_store.proofs.Finding.{finds_weaker, maps_weaker, same_alike}
+use Rattle.twin_store.proofs.Finding.{finds_weaker, same_alike}
 use Rattle.twin_store.proofs.Going.{used_or_not}
 use Rattle.twin_store.proofs.Changing.{pair_up}
 

@@ -1,24 +1,21 @@
 -- Of two disks that vouch: what is mixed of both, which is right, and what is left where one is lost.
-use Rattle.std.specs.Prelude.{◌≡◌, ◌≢◌, ◌⊎◌, ℕ, ◌+◌, ◌≤◌, ◌<◌, Bool, true, false, List, [], Option, None, Some, Result, Ok, Err, IsTrue}
+use Rattle.std.specs.Prelude.{◌≡◌, ◌⊎◌, ℕ, ◌+◌, ◌≤◌, ◌<◌, Bool, true, false, List, Option, None, Some, IsTrue}
 use Rattle.std.specs.Prelude.{◌||◌}
 use Rattle.std.proofs.Common.{refl, sym, ap, subst, ◌∙◌, inl, inr, cond, arith, zero, suc}
 use Rattle.std.specs.FinMap as map
-use Rattle.std.specs.FinMap.{FinMap}
 use Rattle.std.specs.Ordering.{eq_by_cmp, is_eq}
 use Rattle.std.specs.declared.cmp.Ordering.{Ordering}
 use Rattle.std.specs.declared.cmp.Ordering.TheVariants.{Less, Equal, Greater}
-use Rattle.std.specs.Cmp.{eq_by_cmp_equiv}
 use Rattle.std.proofs.lemmas.Bool.{false≢true}
 use Rattle.capability.specs.declared.Uid.{Uid}
 use Rattle.capability.specs.Uids.{uid_cmp}
 use Rattle.capability.proofs.Uids.{uid_cmp_total, uid_cmp-IsAntisymmetric}
-use Rattle.eden_disk.specs.Told.{Told, contents, Left}
 use Rattle.passive_store.specs.Kept.{Layout, IsEject, reserved_uid, bodies_after}
 use Rattle.passive_store.specs.Seen.{Asked}
 use Rattle.twin_store.specs.Vouched.{Bodies, SameEjects, changed_by, generation_in, generation_by, Vow, IsHeld, IsNew, IsOwnChange, Vouches}
 use Rattle.twin_store.specs.Vouched.{IsBare, VouchBy}
-use Rattle.twin_store.specs.Vouched.{FirstGivesWay, SecondGivesWay, Agree, generation_of, IsVouched}
-use Rattle.twin_store.specs.Footings.{Footing, Standing, Damaged, TooMuch, MayFind, IsFooted, IsOn, AreVouched}
+use Rattle.twin_store.specs.Vouched.{FirstGivesWay, SecondGivesWay, generation_of}
+use Rattle.twin_store.specs.Footings.{Footing, Standing, Damaged, TooMuch, MayFind, IsOn}
 use Rattle.twin_store.specs.VouchedLaws.{IsMixed, MixedIsHeld, GreaterIsRight, FaultLeavesOther, BlankLeavesOther, SecondMayBeBrought}
 use Rattle.twin_store.specs.VouchedLaws.{LesserMayBeRefilled, IsPartOf, LesserMayBeRaised, SecondMayBegin, OneMayBeRaised, ImagesAreVouched}
 use Rattle.twin_store.specs.VouchedLaws.{without_first, without_second}

@@ -12,7 +12,6 @@ use Rattle.capability.specs.Uids.{uid_cmp}
 use Rattle.capability.proofs.Uids.{uid_cmp_total, uid_cmp-IsAntisymmetric}
 use Rattle.passive_store.specs.Kept.{IsEject, IsNextOf, reserved_uid}
 use Rattle.twin_store.specs.Ranks.{rank_of, IsLater}
-use Rattle.twin_store.specs.Vouched.{Bodies}
 use Rattle.twin_store.specs.Sides.{SideSeen, bodies_on, IsNextOn}
 
 -- the uid comes before this one; before None each does

@@ -1,6 +1,6 @@
 -- What may be found on a disk after a crash, and what two disks vouch for after one of each.
 use Rattle.std.specs.Prelude.{◌≡◌, ℕ, List, Option, None, Some, Result, Ok, Err}
-use Rattle.eden_disk.specs.Told.{Told, contents, Left, LeavesOnly}
+use Rattle.eden_disk.specs.Told.{Told, contents, LeavesOnly}
 use Rattle.passive_store.specs.Kept.{Kept, Layout, StoreChange, IsAnyOf, Stands, IsDamagedFrom, IsOverfull}
 use Rattle.twin_store.specs.Vouched.{Bodies, bodies_found, Vow, IsVouched}
 

@@ -1,12 +1,13 @@
 -- What one call of a store in use leaves, as its twin sees it.
-use Rattle.std.specs.Prelude.{◌≡◌, ◌⊎◌, ℕ, Bool, IsTrue, List, Option, None, Some, Result, Ok, Err, IfErr}
+use Rattle.std.specs.Prelude.{◌≡◌, ◌⊎◌, ℕ, ◌≤◌, Bool, false, IsTrue, List, length, Option, None, Some, Result, Ok, Err, IfErr}
 use Rattle.std.specs.FinMap as map
 use Rattle.capability.specs.declared.Uid.{Uid}
-use Rattle.eden_disk.specs.Calls.{Counts, End, Fine, AtFault, AtStop, faults_after, stops_after, power_after}
+use Rattle.eden_disk.specs.Calls.{Counts, End, Fine, AtFault, AtStop, faults_after, stops_after, power_after, one_more}
 use Rattle.passive_store.specs.declared.store.StoreRefusal.{StoreRefusal}
 use Rattle.passive_store.specs.declared.store.StoreRefusal.TheVariants as store
 use Rattle.passive_store.specs.Kept.{Layout, Idle}
-use Rattle.passive_store.specs.Seen.{Seen, Asked}
+use Rattle.passive_store.specs.LogLayout.{within_room}
+use Rattle.passive_store.specs.Seen.{Seen, Asked, has_room_for}
 use Rattle.twin_store.specs.declared.served.TwinRefusal.{TwinRefusal}
 use Rattle.twin_store.specs.declared.served.TwinRefusal.TheVariants.{Lost, Stopped, Full, GenerationsSpent, OutOfMemory}
 use Rattle.twin_store.specs.Vouched.{Bodies, changed_by}
@@ -30,6 +31,19 @@ end_of_served (Err Stopped) = AtStop
 end_of_served (Err Full) = Fine
 end_of_served (Err GenerationsSpent) = Fine
 end_of_served (Err OutOfMemory) = Fine
+
+-- the count of stops of a disk behind a refusal: a stop raises it, and nothing else
+abbrev pub stops_at : TwinRefusal → ℕ → ℕ
+stops_at Lost n = n
+stops_at Stopped n = one_more n
+stops_at Full n = n
+stops_at GenerationsSpent n = n
+stops_at OutOfMemory n = n
+
+-- the same behind some calls that came to this
+abbrev pub stops_by : {T : Type 0} → Result T TwinRefusal → ℕ → ℕ
+stops_by (Ok value) n = n
+stops_by (Err e) n = stops_at e n
 
 -- A store of this node that has power, and no change under way or in doubt.
 pub record IsReady (node : ℕ) (s : Seen) : Type 0 where
@@ -64,6 +78,21 @@ IsServed tells node c (Ok (Some value)) old new = IsReady node new × (IsTrue te
 IsServed tells node c (Ok None) old new = Unit {0}
 IsServed tells node c (Err e) old new = Unit {0}
 
+-- whether a body of this length finds room, by what is kept
+abbrev pub has_room_in : Layout → Seen → ℕ → Bool
+has_room_in layout s size = within_room (layout.room_of s.disk.counts.size s.kept.bodies s.kept.ledger) size
+
+-- the bytes that are put are longer than the longest body that finds room
+abbrev pub IsTooLong : Layout → Seen → Option (List ℕ) → Type 0
+IsTooLong layout s None = ⊥
+IsTooLong layout s (Some body) = has_room_in layout s (length body) ≡ false
+
+-- A store has no room for this change, as far as it tells its room; for none it is never so.
+abbrev pub IsFullIn : Bool → Layout → Option Asked → Seen → Type 0
+IsFullIn tells layout None s = ⊥
+IsFullIn tells layout (Some ask) s =
+    IsTrue tells → 1 ≤ s.more → (has_room_for layout s.disk.counts.size s.kept ask ≡ false) ⊎ IsTooLong layout s ask.body
+
 -- the refusals of a store that a twin passes on
 abbrev pub IsPassedOn : TwinRefusal → Type 0
 IsPassedOn e = (e ≡ Stopped) ⊎ ((e ≡ Full) ⊎ (e ≡ OutOfMemory))
@@ -72,6 +101,7 @@ IsPassedOn e = (e ≡ Stopped) ⊎ ((e ≡ Full) ⊎ (e ≡ OutOfMemory))
 pub record Serves {T : Type 0} (tells : Bool) (layout : Layout) (node : ℕ) (c : Option Asked) (result : Result (Option T) TwinRefusal)
     (old new : Seen) : Type 0 where
   pub only : IfErr result IsPassedOn
+  pub full : IfErr result (λ e. e ≡ Full → IsFullIn tells layout c old)
   pub counts : CountsBy (end_of_served result) old.disk.counts new.disk.counts
   pub served : IsServed tells node c result old new
   -- what is found on the disk after a crash

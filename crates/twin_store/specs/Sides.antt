@@ -1,6 +1,6 @@
 -- What is seen of one of the two disks of a twin, and what calls leave of it.
-use Rattle.std.specs.Prelude.{◌≡◌, ◌⊎◌, ℕ, ◌≤◌, Bool, true, false, IsTrue, IsSome, is_some, List, length, Option, None, Some}
-use Rattle.std.specs.Prelude.{Result, Ok, Err, OnOk, IfErr, IfOk, IfSome}
+use Rattle.std.specs.Prelude.{◌≡◌, ◌⊎◌, ℕ, ◌≤◌, Bool, true, false, IsTrue, is_some, List, length, Option, None, Some}
+use Rattle.std.specs.Prelude.{Result, Ok, Err, OnOk, IfErr}
 use Rattle.std.specs.FinMap as map
 use Rattle.capability.specs.declared.Uid.{Uid}
 use Rattle.eden_disk.specs.Calls.{one_more, armed}
@@ -10,12 +10,12 @@ use Rattle.passive_store.specs.Kept.{Layout, IsEject, IsOwn, IsNextOf, reserved_
 use Rattle.passive_store.specs.Layout.{IsLayout}
 use Rattle.passive_store.specs.Seen.{Seen, DiskSeen, Asked}
 use Rattle.twin_store.specs.declared.served.TwinRefusal.{TwinRefusal}
-use Rattle.twin_store.specs.declared.served.TwinRefusal.TheVariants.{Lost, GenerationsSpent}
+use Rattle.twin_store.specs.declared.served.TwinRefusal.TheVariants.{Full}
 use Rattle.twin_store.specs.declared.side.Side.{Side}
 use Rattle.twin_store.specs.declared.side.Side.TheVariants as side
-use Rattle.twin_store.specs.Vouched.{Bodies, SameEjects, changed_by, generation_in, bodies_found}
+use Rattle.twin_store.specs.Vouched.{Bodies, changed_by, generation_in}
 use Rattle.twin_store.specs.Footings.{Footing, MayFind, IsFooted, Finds, IsMapped}
-use Rattle.twin_store.specs.Serving.{IsReady, MayKeep, Same, IsPassedOn}
+use Rattle.twin_store.specs.Serving.{IsReady, MayKeep, Same, IsPassedOn, stops_by, has_room_in, IsFullIn}
 
 -- what is seen of a disk of a pair: of its store where it is in use, and else of the disk
 pub data SideSeen : Type 0 where
@@ -73,6 +73,43 @@ pub record SideGoes (old new : SideSeen) : Type 0 where
   -- a disk out of use is left as it is
   pub still : is_in_use old ≡ false → new ≡ old
 
+-- the count of stops of a disk rose by one where these calls were stopped on it, and is as it was else
+abbrev pub StopsBy : {T : Type 0} → Result T TwinRefusal → DiskSeen → DiskSeen → Type 0
+StopsBy result old new = new.counts.stops ≡ stops_by result old.counts.stops
+
+-- Some calls on two disks: a stop raised the count of stops of one of them, and nothing else raised any.
+abbrev pub StopsOne : {T : Type 0} → Result T TwinRefusal → (old new from to : DiskSeen) → Type 0
+StopsOne result old new from to =
+    (StopsBy result old new × (to.counts.stops ≡ from.counts.stops)) ⊎ ((new.counts.stops ≡ old.counts.stops) × StopsBy result from to)
+
+-- the same of a refusal
+abbrev pub StopsAt : TwinRefusal → (old new from to : DiskSeen) → Type 0
+StopsAt e old new from to = StopsOne {T = Unit {0}} (Err e) old new from to
+
+-- a disk in use has no room for this change, as far as its store tells its room
+abbrev pub IsFullOn : Bool → Layout → Option Asked → SideSeen → Type 0
+IsFullOn tells layout c (InUse s) = IsFullIn tells layout c s
+IsFullOn tells layout c (Away d) = ⊥
+
+-- a disk in use has no room for a body of this length, as far as its store tells its room
+abbrev pub IsShortOn : Bool → Layout → ℕ → SideSeen → Type 0
+IsShortOn tells layout size (InUse s) = IsTrue tells → 1 ≤ s.more → has_room_in layout s size ≡ false
+IsShortOn tells layout size (Away d) = ⊥
+
+-- a disk in use tells its room, and has none for a body of this length
+abbrev pub LacksRoom : Layout → ℕ → SideSeen → Type 0
+LacksRoom layout size (InUse s) = (1 ≤ s.more) × (has_room_in layout s size ≡ false)
+LacksRoom layout size (Away d) = ⊥
+
+-- a disk that is in use and tells its room has room for a body of this length
+abbrev pub HasRoomOn : Bool → Layout → ℕ → SideSeen → Type 0
+HasRoomOn tells layout size (InUse s) = IsTrue tells → 1 ≤ s.more → has_room_in layout s size ≡ true
+HasRoomOn tells layout size (Away d) = Unit {0}
+
+-- a disk left use
+abbrev pub HasLeft : SideSeen → SideSeen → Type 0
+HasLeft old new = (is_in_use old ≡ true) × (is_in_use new ≡ false)
+
 -- a call that was served, or refused, leaves the disk in use, and one that failed does not
 abbrev pub UsedBy : {T : Type 0} → Result (Option T) TwinRefusal → SideSeen → Type 0
 UsedBy (Ok (Some value)) new = is_in_use new ≡ true
@@ -93,7 +130,9 @@ IsReadyBy node (Err e) new = Unit {0}
 pub record SideServes {T : Type 0} (tells : Bool) (layout : Layout) (node : ℕ) (c : Option Asked) (result : Result (Option T) TwinRefusal)
     (old new : SideSeen) : Type 0 where
   pub only : IfErr result IsPassedOn
+  pub full : IfErr result (λ e. e ≡ Full → IsFullOn tells layout c old)
   pub goes : SideGoes old new
+  pub stops : StopsBy result (disk_of old) (disk_of new)
   pub used : UsedBy result new
   pub ready : IsReadyBy node result new
   pub kept : IsTrue tells → KeptBy c result old new
@@ -123,6 +162,7 @@ pub record IsOpenedBy (tells : Bool) (layout : Layout) (node : ℕ) (old : DiskS
 -- A disk was opened.
 pub record IsOpenedSide (tells : Bool) (layout : Layout) (node : ℕ) (old : DiskSeen) (new : SideSeen) : Type 0 where
   pub by : IsOpenedBy tells layout node old new
+  pub stops : (disk_of new).counts.stops ≡ old.counts.stops
   pub ready : IsSideReady node new
   pub kept : IsTrue tells → is_in_use new ≡ true → IsKept layout node new
   pub stands : IsTrue tells → (footing : Footing) → IsFooted layout node footing old.told → IsOpenedOn layout node footing new
@@ -134,6 +174,7 @@ pub record IsOpenedSide (tells : Bool) (layout : Layout) (node : ℕ) (old : Dis
 pub record SideMoves {T : Type 0} (node : ℕ) (result : Result T TwinRefusal) (old new : SideSeen) : Type 0 where
   pub only : IfErr result IsPassedOn
   pub goes : SideGoes old new
+  pub stops : StopsBy result (disk_of old) (disk_of new)
   pub ready : IsReadyBy node result new
 
 -- Some calls on both disks of a pair.
@@ -141,6 +182,7 @@ pub record BothMove {T : Type 0} (node : ℕ) (result : Result T TwinRefusal) (o
   pub only : IfErr result IsPassedOn
   pub source : SideGoes old new
   pub target : SideGoes from to
+  pub stops : StopsOne result (disk_of old) (disk_of new) (disk_of from) (disk_of to)
   pub source_ready : IsReadyBy node result new
   pub target_ready : IsReadyBy node result to
 

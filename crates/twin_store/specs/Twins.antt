@@ -9,13 +9,13 @@ use Rattle.passive_store.specs.Kept.{Layout}
 use Rattle.passive_store.specs.Layout.{IsLayout}
 use Rattle.passive_store.specs.Seen.{Seen, DiskSeen, Asked}
 use Rattle.twin_store.specs.declared.served.TwinRefusal.{TwinRefusal}
-use Rattle.twin_store.specs.declared.served.TwinRefusal.TheVariants.{Lost, GenerationsSpent}
+use Rattle.twin_store.specs.declared.served.TwinRefusal.TheVariants.{Lost, Full, GenerationsSpent}
 use Rattle.twin_store.specs.declared.twin.TwinStore.{TwinStore}
 use Rattle.twin_store.specs.Vouched.{Bodies, SameEjects, changed_by, generation_in, Vow, IsHeld, IsOwnChange, IsVouched}
 use Rattle.twin_store.specs.Footings.{Finds, IsMapped, IfMapped, AreVouched}
 use Rattle.twin_store.specs.Serving.{IsPassedOn, IfFound, Same}
 use Rattle.twin_store.specs.Sides.{SideSeen, InUse, Away, side_seen, is_in_use, disk_of, bodies_on, IsSideReady, IsReadyBy, IsKept, IsSound}
-use Rattle.twin_store.specs.Sides.{SideGoes, SideArms}
+use Rattle.twin_store.specs.Sides.{SideGoes, SideArms, StopsBy, StopsOne, IsFullOn, HasLeft}
 use Rattle.eden_disk.specs.declared.disk.Arm.{Arm}
 use Rattle.twin_store.specs.Sides.{IsOpenedBy, SideMoves, Bore}
 use Rattle.twin_store.specs.Copies.{IsAtRest}
@@ -65,6 +65,8 @@ pub record TwinGoes {T : Type 0} (result : Result T TwinRefusal) (old new : Twin
   pub second : SideGoes old.second new.second
   pub ready : OnOk result (IsTwinReady new)
   pub lost : IfErr result (λ e. e ≡ Lost → (is_in_use new.first ≡ false) × (is_in_use new.second ≡ false))
+  -- Stopped comes only where the count of stops of a disk rose
+  pub stopped : StopsOne result (disk_of old.first) (disk_of new.first) (disk_of old.second) (disk_of new.second)
 
 -- Some calls on both disks of a twin, which may both leave use.
 pub record TwinMoves {T : Type 0} (result : Result T TwinRefusal) (old new : TwinSeen) : Type 0 where
@@ -72,6 +74,7 @@ pub record TwinMoves {T : Type 0} (result : Result T TwinRefusal) (old new : Twi
   pub only : IfErr result IsPassedOn
   pub first : SideGoes old.first new.first
   pub second : SideGoes old.second new.second
+  pub stopped : StopsOne result (disk_of old.first) (disk_of new.first) (disk_of old.second) (disk_of new.second)
   pub ready : OnOk result (AreReady new)
 
 -- 1. What is held
@@ -107,10 +110,16 @@ LeavesVouched layout held c t =
 
 -- 2. Changes and looks
 
+-- A disk in use has no room for the change, or a disk left use, so that the other had to take a generation before it.
+abbrev pub IsFullTwin : Bool → Layout → Option Asked → TwinSeen → TwinSeen → Type 0
+IsFullTwin tells layout c old new =
+    (IsFullOn tells layout c old.first ⊎ IsFullOn tells layout c old.second) ⊎ (HasLeft old.first new.first ⊎ HasLeft old.second new.second)
+
 -- A change of what both disks keep, or none.
 pub record TwinChanges {T : Type 0} (tells : Bool) (layout : Layout) (c : Option Asked) (result : Result T TwinRefusal)
     (old new : TwinSeen) : Type 0 where
   pub goes : TwinGoes result old new
+  pub full : IfErr result (λ e. e ≡ Full → IsFullTwin tells layout c old new)
   -- behind a change that was made, what is held has it
   pub held : IsTrue tells → OnOk result ((held : Bodies) → Holds layout held old → Holds layout (changed_by c held) new)
   pub sure : IsTrue tells → OnOk result ((held : Bodies) → Holds layout held old → IsSure layout old → IsSure layout new)
@@ -121,6 +130,9 @@ pub record TwinChanges {T : Type 0} (tells : Bool) (layout : Layout) (c : Option
 pub record ChangesFirst {T : Type 0} (tells : Bool) (layout : Layout) (c : Option Asked) (result : Result T TwinRefusal)
     (old new : TwinSeen) : Type 0 where
   pub goes : TwinGoes result old new
+  pub full : IfErr result (λ e. e ≡ Full → IsFullTwin tells layout c old new)
+  -- where the first disk stays in use, the second is not called
+  pub other : OnOk result (is_in_use new.first ≡ is_in_use old.first → new.second ≡ old.second)
   pub held : IsTrue tells → OnOk result ((held : Bodies) → Holds layout held old → TwinHas layout (changed_by c held) held new)
   pub sure : IsTrue tells → OnOk result ((held : Bodies) → Holds layout held old → IsSure layout old → IsSure layout new)
   pub vouched : IsTrue tells → OnErr result ((held : Bodies) → Holds layout held old → IsSure layout old → LeavesVouched layout held c new)
@@ -129,6 +141,7 @@ pub record ChangesFirst {T : Type 0} (tells : Bool) (layout : Layout) (c : Optio
 pub record ChangesSecond {T : Type 0} (tells : Bool) (layout : Layout) (c : Option Asked) (result : Result T TwinRefusal)
     (old new : TwinSeen) : Type 0 where
   pub goes : TwinGoes result old new
+  pub full : IfErr result (λ e. e ≡ Full → IsFullOn tells layout c old.second ⊎ HasLeft old.second new.second)
   pub held : IsTrue tells
       → OnOk result ((held : Bodies) → TwinHas layout (changed_by c held) held old → Holds layout (changed_by c held) new)
   pub sure : IsTrue tells
@@ -181,6 +194,7 @@ pub record IsRaised (node next : ℕ) (old m : Bodies) : Type 0 where
 -- A disk is given the next generation, or it is lost, or stopped, or there is no such generation.
 pub record Raises (tells : Bool) (layout : Layout) (node generation : ℕ) (result : Result ℕ TwinRefusal) (old new : SideSeen) : Type 0 where
   pub goes : SideGoes old new
+  pub stops : StopsBy result (disk_of old) (disk_of new)
   pub ready : IsReadyBy node result new
   pub used : OnOk result (is_in_use new ≡ true)
   pub next : IfOk result (λ n. n ≡ generation + 1)
@@ -304,6 +318,9 @@ pub record IsOpenedTwin (tells : Bool) (layout : Layout) (node : ℕ) (first sec
   pub node_is : t.node ≡ node
   pub first_opened : IsOpenedBy tells layout node first t.first
   pub second_opened : IsOpenedBy tells layout node second t.second
+  -- no disk was stopped
+  pub first_stops : (disk_of t.first).counts.stops ≡ first.counts.stops
+  pub second_stops : (disk_of t.second).counts.stops ≡ second.counts.stops
   pub right : IsTrue tells → IsLayout layout → IsRight layout node first second t
 
 -- What two disks vouched for before an opening that was refused, they vouch for behind it, but for a disk that met a fault.

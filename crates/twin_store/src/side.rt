@@ -5,10 +5,10 @@ ghost use Rattle.std.specs.FinMap as map;
 ghost use Rattle.eden_disk.specs.Calls.{calls_until};
 ghost use Rattle.passive_store.specs.Kept.{IsOwn, IsEject, IsNextKept};
 ghost use Rattle.passive_store.specs.Seen.{asked, disk_seen};
-ghost use Rattle.twin_store.specs.Serving.{IfFound, IsPassedOn};
+ghost use Rattle.twin_store.specs.Serving.{IfFound, IsPassedOn, stops_at};
 ghost use Rattle.twin_store.specs.Footings.{Footing, IsFooted};
 ghost use Rattle.twin_store.specs.Sides.{side_seen, is_in_use, disk_of, bodies_on, IsSideReady, SideServes, IsOpenedSide, IsNextOn};
-ghost use Rattle.twin_store.specs.Sides.{SideArms};
+ghost use Rattle.twin_store.specs.Sides.{SideArms, IsShortOn, HasRoomOn};
 
 use crate::served::{TwinRefusal, delete_in, get_in, put_in};
 use capability::{Body, Uid};
@@ -64,6 +64,8 @@ impl<St: Store> Side<St> {
         ensures refused { IfErr result (λ r. IsPassedOn r.1) }
         ensures same { let look = disk_seen St.Device.counts St.Device.told St.Device.due in
             IfErr result (λ r. (look r.0).counts.faults ≡ (look disk).counts.faults) }
+        ensures stops { let look = disk_seen St.Device.counts St.Device.told St.Device.due in
+            IfErr result (λ r. (look r.0).counts.stops ≡ stops_at r.1 (look disk).counts.stops) }
         ensures stands { let look = disk_seen St.Device.counts St.Device.told St.Device.due in
             IsTrue St.Device.tells → IfErr result (λ r. (footing : Footing)
             → IsFooted St.layout node footing (look disk).told → IsFooted St.layout node footing (look r.0).told) }
@@ -154,7 +156,12 @@ impl<St: Store> Side<St> {
     }
 
     /// Whether a body of this length has room, on a disk in use.
-    pub(crate) fn has_room(&self, length: usize) -> bool {
+    pub(crate) fn has_room(&self, length: usize) -> bool
+        ensures no { result ≡ Bool.false → IsShortOn St.Device.tells St.layout length
+            (side_seen St.seen (disk_seen St.Device.counts St.Device.told St.Device.due) self.now) }
+        ensures yes { result ≡ Bool.true → HasRoomOn St.Device.tells St.layout length
+            (side_seen St.seen (disk_seen St.Device.counts St.Device.told St.Device.due) self.now) }
+    {
         match self {
             Side::Opened { store, used: true } => match store.room() {
                 Some(room) => length <= room as usize,

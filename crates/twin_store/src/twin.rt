@@ -1,13 +1,13 @@
 //! A store over two disks.
-ghost use Rattle.std.specs.Prelude.{◌≡◌, ◌≤◌, ◌<◌, Bool, Option, IsTrue, OnOk, IfOk, IfErr, length};
-ghost use Rattle.twin_store.specs.declared.served.TwinRefusal.TheVariants.{Lost};
+ghost use Rattle.std.specs.Prelude.{◌≡◌, ◌⊎◌, ◌≤◌, ◌<◌, Bool, Option, IsTrue, OnOk, IfOk, IfErr, Result, length};
+ghost use Rattle.twin_store.specs.declared.served.TwinRefusal.TheVariants.{Lost, Full};
 ghost use Rattle.eden_disk.specs.Calls.{calls_until};
 ghost use Rattle.passive_store.specs.Kept.{IsEject};
 ghost use Rattle.passive_store.specs.Seen.{asked, disk_seen};
 ghost use Rattle.twin_store.specs.Sides.{is_in_use, disk_of, IsLostDisk};
 ghost use Rattle.twin_store.specs.Twins.{twin_seen, IsTwinReady, LooksFirst, TwinGets, TwinChanges, ChangesFirst, ChangesSecond};
 ghost use Rattle.twin_store.specs.Twins.{AreReady, TwinMoves, TwinGoes, IsOpenedTwin, StaysVouched, AreAtRest, ReadsBoth, IsLess};
-ghost use Rattle.twin_store.specs.Sides.{RoseOnce};
+ghost use Rattle.twin_store.specs.Sides.{RoseOnce, StopsAt, IsShortOn, HasRoomOn, LacksRoom};
 ghost use Rattle.twin_store.specs.Twins.{TwinArms};
 ghost use Rattle.twin_store.specs.Twins.{AreRead, IsEven, IsBrought, IsLevel, Levels, Agrees};
 
@@ -61,6 +61,10 @@ impl<St: Store> TwinStore<St> {
         // The count of faults of each disk is as it was, or rose by one.
         ensures counts { let look = disk_seen St.Device.counts St.Device.told St.Device.due in
             IfErr result (λ r. RoseOnce (look first) (look r.0) × RoseOnce (look second) (look r.1)) }
+
+        // Stopped comes only where the count of stops of a disk rose in this call.
+        ensures stopped { let look = disk_seen St.Device.counts St.Device.told St.Device.due in
+            IfErr result (λ r. StopsAt r.2 (look first) (look r.0) (look second) (look r.1)) }
     {
         let first = match Side::open(alloc, first, node) {
             Ok(side) => side,
@@ -90,8 +94,13 @@ impl<St: Store> TwinStore<St> {
         requires ready { IsTwinReady (twin_seen St.seen (disk_seen St.Device.counts St.Device.told St.Device.due) self.old) }
         requires own { IsEject (twin_seen St.seen (disk_seen St.Device.counts St.Device.told St.Device.due) self.old).node uid }
         requires limit { length body.now ≤ 262144 }
-        ensures { let of = twin_seen St.seen (disk_seen St.Device.counts St.Device.told St.Device.due) in
+        ensures changes { let of = twin_seen St.seen (disk_seen St.Device.counts St.Device.told St.Device.due) in
             TwinChanges St.Device.tells St.layout (Option.Some (asked uid (Option.Some body.now))) result (of self.old) (of self.new) }
+
+        // Where a disk in use tells that it has no room, the put is refused, and nothing changes.
+        ensures short { let of = twin_seen St.seen (disk_seen St.Device.counts St.Device.told St.Device.due) in IsTrue St.Device.tells
+            → LacksRoom St.layout (length body.now) (of self.old).first ⊎ LacksRoom St.layout (length body.now) (of self.old).second
+            → (result ≡ Result.Err Full) × (of self.new ≡ of self.old) }
     {
         let length = body.len();
         if !self.has_room(length) {
@@ -265,7 +274,16 @@ impl<St: Store> TwinStore<St> {
     }
 
     /// Whether each disk in use says that a body of this length has room. It makes no device call.
-    pub fn has_room(&self, length: usize) -> bool {
+    ///
+    /// It says no only where a disk in use has none, and yes only where each has, as far as their stores tell their room.
+    pub fn has_room(&self, length: usize) -> bool
+        ensures no { let t = twin_seen St.seen (disk_seen St.Device.counts St.Device.told St.Device.due) self.now in
+            result ≡ Bool.false
+            → IsShortOn St.Device.tells St.layout length t.first ⊎ IsShortOn St.Device.tells St.layout length t.second }
+        ensures yes { let t = twin_seen St.seen (disk_seen St.Device.counts St.Device.told St.Device.due) self.now in
+            result ≡ Bool.true
+            → HasRoomOn St.Device.tells St.layout length t.first × HasRoomOn St.Device.tells St.layout length t.second }
+    {
         self.first.has_room(length) && self.second.has_room(length)
     }
 

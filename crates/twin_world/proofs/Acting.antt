@@ -1,36 +1,44 @@
 -- What the code does at one place is a step of its command.
-use Rattle.std.proofs.Common.{◌≡◌, ◌≢◌, ◌⊎◌, inl, inr, ℕ, ◌+◌, ◌<◌, ◌≤◌, ◌^◌, ◌-◌, Bool, true, false, List, [], ◌∷◌, ◌++◌, length, Option, None, Some}
+use Rattle.std.proofs.Common.{◌≡◌, ◌≢◌, ◌⊎◌, inl, inr, ℕ, ◌+◌, ◌<◌, ◌≤◌, ◌^◌, ◌-◌, Bool, true, false, List, [], ◌∷◌, ◌++◌, length, Option}
+use Rattle.std.proofs.Common.{None, Some}
 use Rattle.std.proofs.Common.{refl, sym, ap, subst, ◌∙◌, arith, append-nil}
 use Rattle.std.proofs.lemmas.List.{drop_all, length-replicate}
-use Rattle.std.specs.Prelude.{not, nat_lt, IsTrue, replicate, Result, Ok, Err, IfOk, OnOk}
+use Rattle.std.specs.Prelude.{not, nat_lt, IsTrue, replicate, Result, Ok, Err, IfOk, IfErr, OnOk}
 use Rattle.std.specs.declared.alloc.AllocError.{AllocError}
 use Rattle.eden_disk.specs.declared.disk.DiskRefusal.{DiskRefusal}
 use Rattle.eden_disk.specs.declared.disk.DiskRefusal.TheVariants.{Failed, Stopped}
 use Rattle.eden_disk.specs.declared.disk.Arm.{Arm}
 use Rattle.eden_disk.specs.declared.disk.ImageMode.{ImageMode}
-use Rattle.eden_disk.specs.Calls.{Counts, one_more, faults_after, end_of, SyncTold}
-use Rattle.eden_disk.specs.Told.{Told, contents, noted, Wrote, Synced, at_rest, overlay, Left}
+use Rattle.eden_disk.specs.Calls.{Counts, one_more, faults_after, stops_after, end_of, SyncTold}
+use Rattle.eden_disk.specs.Told.{Told, contents, noted, Wrote, Synced, at_rest, overlay}
 use Rattle.passive_store.specs.Kept.{Layout}
-use Rattle.passive_store.specs.Layout.{IsLayout}
 use Rattle.passive_store.specs.Seen.{Seen, DiskSeen}
 use Rattle.script_words.specs.Tree.{WrittenMode}
 use Rattle.twin_store.specs.declared.served.TwinRefusal.{TwinRefusal}
-use Rattle.twin_store.specs.declared.served.TwinRefusal.TheVariants.{OutOfMemory}
+use Rattle.twin_store.specs.declared.served.TwinRefusal.TheVariants.{OutOfMemory, Full, Lost}
 use Rattle.twin_store.specs.Footings.{Finds, IsMapped, IfMapped}
 use Rattle.twin_store.specs.Serving.{Same}
 use Rattle.twin_store.specs.Sides.{SideSeen, is_in_use, disk_of, bodies_on, IsSideReady, SideGoes, SideArms, RoseOnce}
-use Rattle.twin_store.specs.Sides.{IsOpenedBy, IsLostDisk}
-use Rattle.twin_store.specs.Twins.{TwinSeen, twin_seen, IsTwinReady, IsSomeUsed, TwinGoes, TwinHas, SideHas, Holds, IsSure, IsOpenedTwin, StaysVouched}
+use Rattle.twin_store.specs.Sides.{IsOpenedBy, IsLostDisk, StopsAt, IsShortOn}
+use Rattle.twin_store.specs.Twins.{TwinSeen, twin_seen, IsTwinReady, IsSomeUsed, TwinGoes, SideHas, Holds, IsSure, IsOpenedTwin}
+use Rattle.twin_store.specs.Twins.{StaysVouched, IsFullTwin}
 use Rattle.twin_store.specs.Twins.{TwinArms}
 use Rattle.twin_store.specs.Vouched.{Bodies, SameEjects, generation_in}
 use Rattle.twin_world.specs.Asks.{ChangesAs, LooksAs}
+use Rattle.twin_world.specs.Causes.{is_stopped, is_stop, OneStopped, IsTold}
 use Rattle.twin_world.specs.Commands.{Command, opens, puts, gets, deletes, closes, blanks, fails, stops, is_second, node_of, IsInReach}
-use Rattle.twin_world.specs.Disks.{ZerosKeepNothing, CanRise}
-use Rattle.twin_world.specs.InHand.{Serves, Rests, has_left, IsNoted, IsNotedOpening, made_by, found_by}
-use Rattle.twin_world.specs.Logs.{Answer, WrongState, Opened, Made, Found, NoRoom, Refused, CutShort, Entry, Pair, Texts, Change, texts_after}
+use Rattle.twin_world.specs.InHand.{Serves, Rests, has_left, IsNoted, made_by, found_by}
+use Rattle.twin_world.specs.Logs.{Answer, WrongState, Opened, Made, Found, NoRoom, Refused, CutShort, Entry, Pair, Texts, Change}
+use Rattle.twin_world.specs.Logs.{texts_after}
 use Rattle.twin_world.specs.Logs.{InState, ChangesSo, LooksSo, Leads, behind, blanked, changed_by, looked_by, open_by}
-use Rattle.twin_world.specs.Places.{Standing, Serving, Resting, Away, standing, IsSound, StandsFor, disks_at, AllRoseOnce, Turns, Acts, IsLeft, AreLeft}
-use Rattle.twin_world.specs.Places.{GoesOnAs, IsWoken, IsZeroed, IsDoneAs, IsAskedDisk, IsAskedSide, IsAsked, IsNoText, IsBlankedOnce, blanked_as}
+use Rattle.twin_world.specs.Places.{Standing, Serving, Resting, Away, standing, IsSound, StandsFor, disks_at, AllRoseOnce, Turns, Acts}
+use Rattle.twin_world.specs.Places.{AreLeft}
+use Rattle.twin_world.specs.Places.{GoesOnAs, IsWoken, IsZeroed, IsDoneAs, IsAskedDisk, IsAskedSide, IsAsked, IsNoText, IsBlankedOnce}
+use Rattle.twin_world.specs.Places.{blanked_as}
+use Rattle.twin_world.specs.Places.{IsStoppedOnce, is_failed, asked_for}
+use Rattle.twin_world.proofs.Causing.{is_cause, calm, call-caused, made-calm, found-calm, made-refused, found-refused, lost-image}
+use Rattle.twin_world.proofs.Causing.{refused-same}
+use Rattle.twin_world.proofs.Causing.{blank-calm}
 use Rattle.twin_world.specs.Steps.{IsWhole}
 use Rattle.twin_world.specs.View.{answer_of, entry_by, meant}
 use Rattle.twin_world.specs.declared.commands.TwinCommand.{TwinCommand}
@@ -42,8 +50,12 @@ use Rattle.twin_world.specs.declared.place.Place.{Place}
 use Rattle.twin_world.specs.declared.place.Place.TheVariants as place
 use Rattle.twin_store.specs.declared.twin.TwinStore.{TwinStore}
 use Rattle.twin_world.proofs.Bridging.{closing-is-step}
+use Rattle.twin_world.proofs.Telling.{risen-marked, one-stopped, stopped-between, made-stops, found-stops, same-told}
+use Rattle.twin_world.proofs.Telling.{goes-told, left-told-by, asked-told, blank-marked, unmarked, blank-stopped-first}
+use Rattle.twin_world.proofs.Telling.{blank-stopped-second}
+use Rattle.twin_world.proofs.Telling.{stop-as}
 use Rattle.twin_world.proofs.Opening.{opening-is-step, shut-is-step}
-use Rattle.twin_world.proofs.Leaving.{rests-left, left-same, left-told, rests-zeroed-first, rests-zeroed-second, rests-spoiled}
+use Rattle.twin_world.proofs.Leaving.{rests-left, left-told, rests-zeroed-first, rests-zeroed-second, rests-spoiled}
 
 -- 1. Counts of faults
 
@@ -80,7 +92,8 @@ goes-rose a b g = go (is_in_use a) (is_in_use b) refl refl
     go false false e f = inl (g.same (f ∙ sym e))
     go false true e f = absurd (cc (sym e ∙ g.left f))
 
-left-rose : (tells : Bool) (a b one two : DiskSeen) (new : Standing) (l : AreLeft tells a b new) (c d : DiskSeen) → RoseOnce c a → RoseOnce d b
+left-rose : (tells : Bool) (a b one two : DiskSeen) (new : Standing) (l : AreLeft tells a b new) (c d : DiskSeen) → RoseOnce c a
+    → RoseOnce d b
     → AllRoseOnce (c ∷ d ∷ []) (disks_at new)
 left-rose tells a b one two new l c d r s =
     subst (λ (z : Standing). AllRoseOnce (c ∷ d ∷ []) (disks_at z)) (sym l.is)
@@ -135,15 +148,18 @@ turn-as : (layout : Layout) (n : ℕ) (c : Command) (d : Done) (a : Answer) (old
     → Turns layout n (record { command = c; answer = a; first_failed = d.first_failed; second_failed = d.second_failed }) old new
     → Turns layout n (entry_by c d) old new
 turn-as layout n c d a old new e t =
-    subst (λ (a : Answer). Turns layout n (record { command = c; answer = a; first_failed = d.first_failed; second_failed = d.second_failed })
+    subst (λ (a : Answer). Turns layout n
+    (record { command = c; answer = a; first_failed = d.first_failed; second_failed = d.second_failed })
     old new) (sym e) t
 
 acts-wrong : (tells : Bool) (layout : Layout) (n : ℕ) (c : Command) (b : Bool) (d : Done) (s : Standing) → needs c ≡ Some b
-    → answer_of d.answer ≡ WrongState → ((p : Pair) (m : Texts) → StandsFor layout n p m s → p.is_open ≢ b)
-    → Acts tells layout n c (Ok d) s s
-acts-wrong tells layout n c b d s is wrong other = record {
+    → answer_of d.answer ≡ WrongState → d.first_failed ≡ false → d.second_failed ≡ false
+    → ((p : Pair) (m : Texts) → StandsFor layout n p m s → p.is_open ≢ b) → Acts tells layout n c (Ok d) s s
+acts-wrong tells layout n c b d s is wrong first second other = record {
   sound = λ h. h;
   rose = same-rose (disks_at s);
+  told = same-told (entry_by c d) s first second (stop-as (answer_of d.answer) WrongState false wrong refl);
+  caused = calm tells layout (entry_by c d) s (ap is_cause wrong);
   turns = λ so l z can. turn-as layout n c d WrongState s s wrong
       (λ p m h.
       let e : Entry = record { command = c; answer = WrongState; first_failed = d.first_failed; second_failed = d.second_failed } in
@@ -152,19 +168,23 @@ acts-wrong tells layout n c b d s is wrong other = record {
 
 -- a command that needs the node closed, where it is open or away
 pub wrong-closed : (tells : Bool) (layout : Layout) (n : ℕ) (c : Command) (d : Done) (s : Standing) → needs c ≡ Some false
-    → answer_of d.answer ≡ WrongState → ((one two : DiskSeen) → s ≡ Resting one two → ⊥) → Acts tells layout n c (Ok d) s s
-wrong-closed tells layout n c d (Serving t) is wrong never =
-    acts-wrong tells layout n c false d (Serving t) is wrong (λ p m h e. cc (sym h.up ∙ e))
-wrong-closed tells layout n c d (Resting a b) is wrong never = absurd (never a b refl)
-wrong-closed tells layout n c d Away is wrong never = acts-wrong tells layout n c false d Away is wrong (λ p m h. absurd h)
+    → answer_of d.answer ≡ WrongState → d.first_failed ≡ false → d.second_failed ≡ false
+    → ((one two : DiskSeen) → s ≡ Resting one two → ⊥) → Acts tells layout n c (Ok d) s s
+wrong-closed tells layout n c d (Serving t) is wrong first second never =
+    acts-wrong tells layout n c false d (Serving t) is wrong first second (λ p m h e. cc (sym h.up ∙ e))
+wrong-closed tells layout n c d (Resting a b) is wrong first second never = absurd (never a b refl)
+wrong-closed tells layout n c d Away is wrong first second never =
+    acts-wrong tells layout n c false d Away is wrong first second (λ p m h. absurd h)
 
 -- one that needs it open, where it is closed or away
 pub wrong-open : (tells : Bool) (layout : Layout) (n : ℕ) (c : Command) (d : Done) (s : Standing) → needs c ≡ Some true
-    → answer_of d.answer ≡ WrongState → ((t : TwinSeen) → s ≡ Serving t → ⊥) → Acts tells layout n c (Ok d) s s
-wrong-open tells layout n c d (Serving t) is wrong never = absurd (never t refl)
-wrong-open tells layout n c d (Resting a b) is wrong never =
-    acts-wrong tells layout n c true d (Resting a b) is wrong (λ p m h e. cc (sym h.down ∙ e))
-wrong-open tells layout n c d Away is wrong never = acts-wrong tells layout n c true d Away is wrong (λ p m h. absurd h)
+    → answer_of d.answer ≡ WrongState → d.first_failed ≡ false → d.second_failed ≡ false
+    → ((t : TwinSeen) → s ≡ Serving t → ⊥) → Acts tells layout n c (Ok d) s s
+wrong-open tells layout n c d (Serving t) is wrong first second never = absurd (never t refl)
+wrong-open tells layout n c d (Resting a b) is wrong first second never =
+    acts-wrong tells layout n c true d (Resting a b) is wrong first second (λ p m h e. cc (sym h.down ∙ e))
+wrong-open tells layout n c d Away is wrong first second never =
+    acts-wrong tells layout n c true d Away is wrong first second (λ p m h. absurd h)
 
 -- 3. Behind a call of an open pair
 
@@ -216,65 +236,100 @@ look-turns tells layout n serial (Err r) old t new e so looks go memory noted p 
 
 module _ (tells : Bool) (layout : Layout) (n serial : ℕ) (old t : TwinSeen) (new : Standing) where
   pub acts-put : (text : List ℕ) (asked : Asked (Unit {0})) (r : Result Done AllocError) → TwinGoes asked.answer old t
+      → IfErr asked.answer (λ x. x ≡ Full → IsFullTwin tells layout (asked_for (puts n serial text)) old t)
       → asked.first_failed ≡ has_left old.first t.first → asked.second_failed ≡ has_left old.second t.second
       → (IsTrue tells → ChangesAs layout n (record { serial = serial; text = Some text }) asked.answer old t)
       → GoesOnAs tells asked.answer t new → IfOk r (IsDoneAs made_by asked) → Acts tells layout n (puts n serial text) r (Serving old) new
-  acts-put text asked (Ok d) g first second changes go done = record {
+  acts-put text asked (Ok d) g full first second changes go done = record {
     sound = (goes-on tells n asked.answer old t new g go).0;
     rose = (goes-on tells n asked.answer old t new g go).1;
+    told = goes-told tells asked.answer old t new (entry_by (puts n serial text) d) g go (done.first ∙ first) (done.second ∙ second)
+        (ap is_stop done.answer ∙ made-stops asked.answer);
+    caused = call-caused tells layout (entry_by (puts n serial text) d) made_by asked.answer old t made-calm made-refused done.answer g full
+        (done.first ∙ first) (done.second ∙ second);
     turns = λ so l z can. turn-as layout n (puts n serial text) d (made_by asked.answer) (Serving old) new done.answer
         (λ p m s. change-turns tells layout n (record { serial = serial; text = Some text }) asked.answer old t new
-        (record { command = puts n serial text; answer = made_by asked.answer; first_failed = d.first_failed; second_failed = d.second_failed })
+        (record {
+          command = puts n serial text;
+          answer = made_by asked.answer;
+          first_failed = d.first_failed;
+          second_failed = d.second_failed;
+        })
         so (changes so) go done.memory (record { first = done.first ∙ first; second = done.second ∙ second }) p m s);
   }
-  acts-put text asked (Err x) g first second changes go done = record {
+  acts-put text asked (Err x) g full first second changes go done = record {
     sound = (goes-on tells n asked.answer old t new g go).0;
     rose = (goes-on tells n asked.answer old t new g go).1;
+    told = tt;
+    caused = tt;
     turns = λ so l z can. tt;
   }
 
   pub acts-delete : (asked : Asked (Unit {0})) (r : Result Done AllocError) → TwinGoes asked.answer old t
+      → IfErr asked.answer (λ x. x ≡ Full → IsFullTwin tells layout (asked_for (deletes n serial)) old t)
       → asked.first_failed ≡ has_left old.first t.first → asked.second_failed ≡ has_left old.second t.second
       → (IsTrue tells → ChangesAs layout n (record { serial = serial; text = None }) asked.answer old t)
       → GoesOnAs tells asked.answer t new → IfOk r (IsDoneAs made_by asked) → Acts tells layout n (deletes n serial) r (Serving old) new
-  acts-delete asked (Ok d) g first second changes go done = record {
+  acts-delete asked (Ok d) g full first second changes go done = record {
     sound = (goes-on tells n asked.answer old t new g go).0;
     rose = (goes-on tells n asked.answer old t new g go).1;
+    told = goes-told tells asked.answer old t new (entry_by (deletes n serial) d) g go (done.first ∙ first) (done.second ∙ second)
+        (ap is_stop done.answer ∙ made-stops asked.answer);
+    caused = call-caused tells layout (entry_by (deletes n serial) d) made_by asked.answer old t made-calm made-refused done.answer g full
+        (done.first ∙ first) (done.second ∙ second);
     turns = λ so l z can. turn-as layout n (deletes n serial) d (made_by asked.answer) (Serving old) new done.answer
         (λ p m s. change-turns tells layout n (record { serial = serial; text = None }) asked.answer old t new
-        (record { command = deletes n serial; answer = made_by asked.answer; first_failed = d.first_failed; second_failed = d.second_failed })
+        (record {
+          command = deletes n serial;
+          answer = made_by asked.answer;
+          first_failed = d.first_failed;
+          second_failed = d.second_failed;
+        })
         so (changes so) go done.memory (record { first = done.first ∙ first; second = done.second ∙ second }) p m s);
   }
-  acts-delete asked (Err x) g first second changes go done = record {
+  acts-delete asked (Err x) g full first second changes go done = record {
     sound = (goes-on tells n asked.answer old t new g go).0;
     rose = (goes-on tells n asked.answer old t new g go).1;
+    told = tt;
+    caused = tt;
     turns = λ so l z can. tt;
   }
 
   pub acts-get : (asked : Asked (Option (List ℕ))) (r : Result Done AllocError) → TwinGoes asked.answer old t
+      → IfErr asked.answer (λ x. x ≡ Full → IsFullTwin tells layout (asked_for (gets n serial)) old t)
       → asked.first_failed ≡ has_left old.first t.first → asked.second_failed ≡ has_left old.second t.second
       → (IsTrue tells → LooksAs layout n serial asked.answer old t)
       → GoesOnAs tells asked.answer t new → IfOk r (IsDoneAs found_by asked) → Acts tells layout n (gets n serial) r (Serving old) new
-  acts-get asked (Ok d) g first second looks go done = record {
+  acts-get asked (Ok d) g full first second looks go done = record {
     sound = (goes-on tells n asked.answer old t new g go).0;
     rose = (goes-on tells n asked.answer old t new g go).1;
+    told = goes-told tells asked.answer old t new (entry_by (gets n serial) d) g go (done.first ∙ first) (done.second ∙ second)
+        (ap is_stop done.answer ∙ found-stops asked.answer);
+    caused = call-caused tells layout (entry_by (gets n serial) d) found_by asked.answer old t found-calm found-refused done.answer g full
+        (done.first ∙ first) (done.second ∙ second);
     turns = λ so l z can. turn-as layout n (gets n serial) d (found_by asked.answer) (Serving old) new done.answer
         (λ p m s. look-turns tells layout n serial asked.answer old t new
         (record { command = gets n serial; answer = found_by asked.answer; first_failed = d.first_failed; second_failed = d.second_failed })
         so (looks so) go done.memory (record { first = done.first ∙ first; second = done.second ∙ second }) p m s);
   }
-  acts-get asked (Err x) g first second looks go done = record {
+  acts-get asked (Err x) g full first second looks go done = record {
     sound = (goes-on tells n asked.answer old t new g go).0;
     rose = (goes-on tells n asked.answer old t new g go).1;
+    told = tt;
+    caused = tt;
     turns = λ so l z can. tt;
   }
 
 -- a change for which there is no room
 pub acts-full : (tells : Bool) (layout : Layout) (n serial : ℕ) (text : List ℕ) (d : Done) (t : TwinSeen) → answer_of d.answer ≡ NoRoom
+    → d.first_failed ≡ false → d.second_failed ≡ false
+    → IsShortOn tells layout (length text) t.first ⊎ IsShortOn tells layout (length text) t.second
     → Acts tells layout n (puts n serial text) (Ok d) (Serving t) (Serving t)
-acts-full tells layout n serial text d t is = record {
+acts-full tells layout n serial text d t is first second short = record {
   sound = λ h. h;
   rose = same-rose (disks_at (Serving t));
+  told = same-told (entry_by (puts n serial text) d) (Serving t) first second (stop-as (answer_of d.answer) NoRoom false is refl);
+  caused = record { room = λ none. short; full = λ f. absurd (cc (sym is ∙ f)); lost = λ f. absurd (cc (sym is ∙ f)) };
   turns = λ so l z can. turn-as layout n (puts n serial text) d NoRoom (Serving t) (Serving t) is
       (λ p m s. (m, (s.up, λ k. refl), s));
 }
@@ -287,7 +342,8 @@ can-whole k h = omega (arith, h)
 rests-woken : (tells : Bool) (layout : Layout) (n : ℕ) (p : Pair) (m : Texts) (a b one two : DiskSeen) → IsTrue tells → IsWoken tells a one
     → IsWoken tells b two → Rests layout n p m a b → Rests layout n p m one two
 rests-woken tells layout n p m a b one two so l k r =
-    rests-left tells layout n p m a b one two so (left-told tells a one l.faults l.told) (left-told tells b two k.faults k.told) r
+    rests-left tells layout n p m a b one two so (left-told tells a one l.faults l.stops l.told)
+    (left-told tells b two k.faults k.stops k.told) r
 
 is-whole : (tells : Bool) (a one : DiskSeen) → IsTrue tells → IsWoken tells a one → a.counts.faults + 0 < 2 ^ 64 - 1 → IsWhole one
 is-whole tells a one so w can =
@@ -305,6 +361,15 @@ acts-opened tells layout n a b one two t new d wa wb o is answer first second = 
     same-rises a one (disk_of t.first) wa.faults (rose-by tells layout n one t.first o.first_opened),
     (same-rises b two (disk_of t.second) wb.faults (rose-by tells layout n two t.second o.second_opened), tt),
   );
+  told = subst (λ (z : Standing). IsTold (entry_by (opens n) d) (a ∷ b ∷ []) (disks_at z)) (sym is) (record {
+    first_marked = risen-marked d.first_failed a one (disk_of t.first) wa.faults (rose-by tells layout n one t.first o.first_opened) first;
+    second_marked = risen-marked d.second_failed b two (disk_of t.second) wb.faults (rose-by tells layout n two t.second o.second_opened)
+        second;
+    stopped = subst (λ k. OneStopped k a (disk_of t.first) b (disk_of t.second))
+        (sym (stop-as (answer_of d.answer) (Opened (is_in_use t.first) (is_in_use t.second)) false answer refl))
+        (o.first_stops ∙ wa.stops, o.second_stops ∙ wb.stops);
+  });
+  caused = calm tells layout (entry_by (opens n) d) (Resting a b) (ap is_cause answer);
   turns = λ so l z can. turn-as layout n (opens n) d (Opened (is_in_use t.first) (is_in_use t.second)) (Resting a b) new answer
       (λ p m r.
       let e : Entry = record {
@@ -321,42 +386,66 @@ acts-opened tells layout n a b one two t new d wa wb o is answer first second = 
 
 pub acts-shut : (tells : Bool) (layout : Layout) (n : ℕ) (a b one two three four : DiskSeen) (new : Standing) (why : TwinRefusal)
     (x y : Bool) (r : Result Done AllocError) → IsWoken tells a one → IsWoken tells b two → StaysVouched tells layout n one three two four
-    → RoseOnce one three × RoseOnce two four → AreLeft tells three four new
+    → (why ≡ Lost → IsLostDisk tells layout n one three × IsLostDisk tells layout n two four)
+    → RoseOnce one three × RoseOnce two four → StopsAt why one three two four → AreLeft tells three four new
     → x ≡ not (nat_lt three.counts.faults (one_more one.counts.faults))
     → y ≡ not (nat_lt four.counts.faults (one_more two.counts.faults))
     → IfOk r (λ d. d.answer ≡ coded.Refused why) → IfOk r (λ d. d.first_failed ≡ x) → IfOk r (λ d. d.second_failed ≡ y)
     → IfOk r (λ d. why ≢ OutOfMemory) → Acts tells layout n (opens n) r (Resting a b) new
-acts-shut tells layout n a b one two three four new why x y (Ok d) wa wb stays rose left first second answer f g memory = record {
+acts-shut tells layout n a b one two three four new why x y (Ok d) wa wb stays lost rose halt left first second answer f g want = record {
   sound = λ h. left-sound tells n three four new left;
   rose = left-rose tells three four left.one left.two new left a b (same-rises a one three wa.faults rose.0)
       (same-rises b two four wb.faults rose.1);
+  told = left-told-by tells (entry_by (opens n) d) a b three four new left
+      (risen-marked d.first_failed a one three wa.faults rose.0 (f ∙ first))
+      (risen-marked d.second_failed b two four wb.faults rose.1 (g ∙ second))
+      (subst (λ k. OneStopped k a three b four)
+      (sym (stop-as (answer_of d.answer) (Refused why) (is_stopped why) (ap answer_of answer) refl))
+      (stopped-between (is_stopped why) a one three three b two four four wa.stops wb.stops refl refl
+      (one-stopped {T = Unit {0}} (Err why) one three two four halt)));
+  caused = record {
+    room = λ said. absurd (cc (sym (ap answer_of answer) ∙ said));
+    full = λ said. tt;
+    lost = λ said. let is : why ≡ Lost = refused-same why Lost (sym (ap answer_of answer) ∙ said) in (
+      lost-image tells layout n d.first_failed a one three wa (lost is).0 (f ∙ first),
+      lost-image tells layout n d.second_failed b two four wb (lost is).1 (g ∙ second),
+    );
+  };
   turns = λ so l z can. turn-as layout n (opens n) d (Refused why) (Resting a b) new (ap answer_of answer)
       (λ p m r.
-      let e : Entry = record { command = opens n; answer = Refused why; first_failed = d.first_failed; second_failed = d.second_failed } in (
+      let e : Entry = record { command = opens n; answer = Refused why; first_failed = d.first_failed; second_failed = d.second_failed }
+      in (
         m,
-        (r.down, (memory, λ k. refl)),
+        (r.down, (want, λ k. refl)),
         left-stands tells layout n (open_by (Refused why) e p) m three four new so left
             (shut-is-step layout n p m why e one three two four l (rests-woken tells layout n p m a b one two so wa wb r)
             (subst (λ (x : Bool). StaysVouched x layout n one three two four) so stays)
             (record { first_met = f ∙ first; second_met = g ∙ second })),
       ));
 }
-acts-shut tells layout n a b one two three four new why x y (Err e) wa wb stays rose left first second answer f g memory = record {
+acts-shut tells layout n a b one two three four new why x y (Err e) wa wb stays lost rose halt left first second answer f g want = record {
   sound = λ h. left-sound tells n three four new left;
   rose = left-rose tells three four left.one left.two new left a b (same-rises a one three wa.faults rose.0)
       (same-rises b two four wb.faults rose.1);
+  told = tt;
+  caused = tt;
   turns = λ so l z can. tt;
 }
 
 -- 5. Closings
 
 pub acts-closed : (tells : Bool) (layout : Layout) (n : ℕ) (t : TwinSeen) (one two : DiskSeen) (d : Done) → one ≡ disk_of t.first
-    → two ≡ disk_of t.second → answer_of d.answer ≡ Made → Acts tells layout n (closes n) (Ok d) (Serving t) (Resting one two)
-acts-closed tells layout n t one two d first second is = record {
+    → two ≡ disk_of t.second → answer_of d.answer ≡ Made → d.first_failed ≡ false → d.second_failed ≡ false
+    → Acts tells layout n (closes n) (Ok d) (Serving t) (Resting one two)
+acts-closed tells layout n t one two d first second is first_mark second_mark = record {
   sound = λ h. tt;
   rose = subst (λ (z : DiskSeen). AllRoseOnce (disks_at (Serving t)) (z ∷ two ∷ [])) (sym first)
       (subst (λ (z : DiskSeen). AllRoseOnce (disks_at (Serving t)) (disk_of t.first ∷ z ∷ [])) (sym second)
       (same-rose (disks_at (Serving t))));
+  told = subst (λ (z : DiskSeen). IsTold (entry_by (closes n) d) (disks_at (Serving t)) (z ∷ two ∷ [])) (sym first)
+      (subst (λ (z : DiskSeen). IsTold (entry_by (closes n) d) (disks_at (Serving t)) (disk_of t.first ∷ z ∷ [])) (sym second)
+      (same-told (entry_by (closes n) d) (Serving t) first_mark second_mark (stop-as (answer_of d.answer) Made false is refl)));
+  caused = calm tells layout (entry_by (closes n) d) (Serving t) (ap is_cause is);
   turns = λ so l z can. turn-as layout n (closes n) d Made (Serving t) (Resting one two) is
       (λ p m s. (
         m,
@@ -376,12 +465,33 @@ blank-rose (Err Failed) a b e = inr e
 blank-rose (Err Stopped) a b e = inl e
 
 module _ (tells : Bool) (layout : Layout) (n d : ℕ) (a b : DiskSeen) where
+  told-first : (one : DiskSeen) (new : Standing) (how : Result (Unit {0}) DiskRefusal) (x : Done) → AreLeft tells one b new
+      → one.counts.faults ≡ faults_after (end_of how) a.counts.faults → one.counts.stops ≡ stops_after (end_of how) a.counts.stops
+      → x.first_failed ≡ is_failed how → x.second_failed ≡ false → answer_of x.answer ≡ blanked_as how
+      → IsTold (entry_by (blanks d) x) (a ∷ b ∷ []) (disks_at new)
+  told-first one new how x left counts stopped first second answer =
+      left-told-by tells (entry_by (blanks d) x) a b one b new left (blank-marked how x.first_failed a one first counts)
+      (unmarked x.second_failed b second)
+      (subst (λ k. OneStopped k a one b b) (sym (ap is_stop answer)) (blank-stopped-first how a one b stopped))
+
+  told-second : (two : DiskSeen) (new : Standing) (how : Result (Unit {0}) DiskRefusal) (x : Done) → AreLeft tells a two new
+      → two.counts.faults ≡ faults_after (end_of how) b.counts.faults → two.counts.stops ≡ stops_after (end_of how) b.counts.stops
+      → x.first_failed ≡ false → x.second_failed ≡ is_failed how → answer_of x.answer ≡ blanked_as how
+      → IsTold (entry_by (blanks d) x) (a ∷ b ∷ []) (disks_at new)
+  told-second two new how x left counts stopped first second answer =
+      left-told-by tells (entry_by (blanks d) x) a b a two new left (unmarked x.first_failed a first)
+      (blank-marked how x.second_failed b two second counts)
+      (subst (λ k. OneStopped k a a b two) (sym (ap is_stop answer)) (blank-stopped-second how a b two stopped))
+
   pub acts-blank-first : (one : DiskSeen) (new : Standing) (how : Result (Unit {0}) DiskRefusal) (x : Done) → is_second d ≡ false
-      → one.counts.faults ≡ faults_after (end_of how) a.counts.faults → OnOk how (IsZeroed tells one) → AreLeft tells one b new
+      → one.counts.faults ≡ faults_after (end_of how) a.counts.faults → one.counts.stops ≡ stops_after (end_of how) a.counts.stops
+      → OnOk how (IsZeroed tells one) → AreLeft tells one b new → x.first_failed ≡ is_failed how → x.second_failed ≡ false
       → answer_of x.answer ≡ blanked_as how → Acts tells layout n (blanks d) (Ok x) (Resting a b) new
-  acts-blank-first one new (Ok done) x is counts zeroed left answer = record {
+  acts-blank-first one new (Ok done) x is counts stopped zeroed left first second answer = record {
     sound = λ h. left-sound tells n one b new left;
     rose = left-rose tells one b left.one left.two new left a b (blank-rose (Ok done) a one counts) (inl refl);
+    told = told-first one new (Ok done) x left counts stopped first second answer;
+    caused = calm tells layout (entry_by (blanks d) x) (Resting a b) (ap is_cause answer ∙ blank-calm (Ok done));
     turns = λ so l z can. turn-as layout n (blanks d) x Made (Resting a b) new answer
         (λ p m r. (
           m,
@@ -391,9 +501,11 @@ module _ (tells : Bool) (layout : Layout) (n d : ℕ) (a b : DiskSeen) where
               (rests-zeroed-first layout n (zeroed so).0 p m a b one z (zeroed so).1 r)),
         ));
   }
-  acts-blank-first one new (Err Failed) x is counts zeroed left answer = record {
+  acts-blank-first one new (Err Failed) x is counts stopped zeroed left first second answer = record {
     sound = λ h. left-sound tells n one b new left;
     rose = left-rose tells one b left.one left.two new left a b (blank-rose (Err Failed) a one counts) (inl refl);
+    told = told-first one new (Err Failed) x left counts stopped first second answer;
+    caused = calm tells layout (entry_by (blanks d) x) (Resting a b) (ap is_cause answer ∙ blank-calm (Err Failed));
     turns = λ so l z can. turn-as layout n (blanks d) x (CutShort false) (Resting a b) new answer
         (λ p m r. (
           m,
@@ -402,9 +514,11 @@ module _ (tells : Bool) (layout : Layout) (n d : ℕ) (a b : DiskSeen) where
               (rests-spoiled layout n (is_second d) p m a b one b r),
         ));
   }
-  acts-blank-first one new (Err Stopped) x is counts zeroed left answer = record {
+  acts-blank-first one new (Err Stopped) x is counts stopped zeroed left first second answer = record {
     sound = λ h. left-sound tells n one b new left;
     rose = left-rose tells one b left.one left.two new left a b (blank-rose (Err Stopped) a one counts) (inl refl);
+    told = told-first one new (Err Stopped) x left counts stopped first second answer;
+    caused = calm tells layout (entry_by (blanks d) x) (Resting a b) (ap is_cause answer ∙ blank-calm (Err Stopped));
     turns = λ so l z can. turn-as layout n (blanks d) x (CutShort true) (Resting a b) new answer
         (λ p m r. (
           m,
@@ -415,11 +529,14 @@ module _ (tells : Bool) (layout : Layout) (n d : ℕ) (a b : DiskSeen) where
   }
 
   pub acts-blank-second : (two : DiskSeen) (new : Standing) (how : Result (Unit {0}) DiskRefusal) (x : Done) → is_second d ≡ true
-      → two.counts.faults ≡ faults_after (end_of how) b.counts.faults → OnOk how (IsZeroed tells two) → AreLeft tells a two new
+      → two.counts.faults ≡ faults_after (end_of how) b.counts.faults → two.counts.stops ≡ stops_after (end_of how) b.counts.stops
+      → OnOk how (IsZeroed tells two) → AreLeft tells a two new → x.first_failed ≡ false → x.second_failed ≡ is_failed how
       → answer_of x.answer ≡ blanked_as how → Acts tells layout n (blanks d) (Ok x) (Resting a b) new
-  acts-blank-second two new (Ok done) x is counts zeroed left answer = record {
+  acts-blank-second two new (Ok done) x is counts stopped zeroed left first second answer = record {
     sound = λ h. left-sound tells n a two new left;
     rose = left-rose tells a two left.one left.two new left a b (inl refl) (blank-rose (Ok done) b two counts);
+    told = told-second two new (Ok done) x left counts stopped first second answer;
+    caused = calm tells layout (entry_by (blanks d) x) (Resting a b) (ap is_cause answer ∙ blank-calm (Ok done));
     turns = λ so l z can. turn-as layout n (blanks d) x Made (Resting a b) new answer
         (λ p m r. (
           m,
@@ -429,9 +546,11 @@ module _ (tells : Bool) (layout : Layout) (n d : ℕ) (a b : DiskSeen) where
               (rests-zeroed-second layout n (zeroed so).0 p m a b two z (zeroed so).1 r)),
         ));
   }
-  acts-blank-second two new (Err Failed) x is counts zeroed left answer = record {
+  acts-blank-second two new (Err Failed) x is counts stopped zeroed left first second answer = record {
     sound = λ h. left-sound tells n a two new left;
     rose = left-rose tells a two left.one left.two new left a b (inl refl) (blank-rose (Err Failed) b two counts);
+    told = told-second two new (Err Failed) x left counts stopped first second answer;
+    caused = calm tells layout (entry_by (blanks d) x) (Resting a b) (ap is_cause answer ∙ blank-calm (Err Failed));
     turns = λ so l z can. turn-as layout n (blanks d) x (CutShort false) (Resting a b) new answer
         (λ p m r. (
           m,
@@ -440,9 +559,11 @@ module _ (tells : Bool) (layout : Layout) (n d : ℕ) (a b : DiskSeen) where
               (rests-spoiled layout n (is_second d) p m a b a two r),
         ));
   }
-  acts-blank-second two new (Err Stopped) x is counts zeroed left answer = record {
+  acts-blank-second two new (Err Stopped) x is counts stopped zeroed left first second answer = record {
     sound = λ h. left-sound tells n a two new left;
     rose = left-rose tells a two left.one left.two new left a b (inl refl) (blank-rose (Err Stopped) b two counts);
+    told = told-second two new (Err Stopped) x left counts stopped first second answer;
+    caused = calm tells layout (entry_by (blanks d) x) (Resting a b) (ap is_cause answer ∙ blank-calm (Err Stopped));
     turns = λ so l z can. turn-as layout n (blanks d) x (CutShort true) (Resting a b) new answer
         (λ p m r. (
           m,
@@ -459,6 +580,8 @@ pub acts-unblanked : (tells : Bool) (layout : Layout) (n d : ℕ) (e : AllocErro
 acts-unblanked tells layout n d e a b one two first second = record {
   sound = λ h. tt;
   rose = (inl first, (inl second, tt));
+  told = tt;
+  caused = tt;
   turns = λ so l z can. tt;
 }
 
@@ -482,7 +605,8 @@ has-asked tells layout node node2 generation generation2 held a b so nodes gener
     }))
 
 module _ (tells : Bool) (layout : Layout) (n : ℕ) (t u : TwinSeen) (so : IsTrue tells) (node : u.node ≡ t.node)
-    (generation : u.generation ≡ t.generation) (first : IsAskedSide tells t.first u.first) (second : IsAskedSide tells t.second u.second) where
+    (generation : u.generation ≡ t.generation) (first : IsAskedSide tells t.first u.first)
+    (second : IsAskedSide tells t.second u.second) where
   holds-asked : (held : Bodies) → Holds layout held t → Holds layout held u
   holds-asked held h = record {
     generation = subst (λ (k : ℕ). 1 ≤ k) (sym generation) h.generation;
@@ -506,7 +630,8 @@ module _ (tells : Bool) (layout : Layout) (n : ℕ) (t u : TwinSeen) (so : IsTru
         (h.second (sym second.used ∙ off))));
   }
 
-asked-some : (t u : TwinSeen) → is_in_use u.first ≡ is_in_use t.first → is_in_use u.second ≡ is_in_use t.second → IsSomeUsed t → IsSomeUsed u
+asked-some : (t u : TwinSeen) → is_in_use u.first ≡ is_in_use t.first → is_in_use u.second ≡ is_in_use t.second → IsSomeUsed t
+    → IsSomeUsed u
 asked-some t u first second (inl h) = inl (first ∙ h)
 asked-some t u first second (inr h) = inr (second ∙ h)
 
@@ -543,8 +668,9 @@ asked-stands tells layout n p m (Serving t) (Resting c d) so l s = absurd l
 asked-stands tells layout n p m (Serving t) Away so l s = absurd l
 asked-stands tells layout n p m (Resting a b) (Serving u) so l s = absurd l
 asked-stands tells layout n p m (Resting a b) (Resting c d) so l s =
-    rests-left tells layout n p m a b c d so (left-told tells a c (ap (λ (k : Counts). k.faults) l.0.counts) l.0.told)
-    (left-told tells b d (ap (λ (k : Counts). k.faults) l.1.counts) l.1.told) s
+    rests-left tells layout n p m a b c d so (left-told tells a c (ap (λ (k : Counts). k.faults) l.0.counts)
+    (ap (λ (k : Counts). k.stops) l.0.counts) l.0.told)
+    (left-told tells b d (ap (λ (k : Counts). k.faults) l.1.counts) (ap (λ (k : Counts). k.stops) l.1.counts) l.1.told) s
 asked-stands tells layout n p m (Resting a b) Away so l s = absurd l
 asked-stands tells layout n p m Away new so l s = absurd s
 
@@ -563,26 +689,32 @@ asked-rose tells (Serving t) (Serving u) l =
 asked-rose tells (Serving t) (Resting c d) l = absurd l
 asked-rose tells (Serving t) Away l = absurd l
 asked-rose tells (Resting a b) (Serving u) l = absurd l
-asked-rose tells (Resting a b) (Resting c d) l = (inl (ap (λ (k : Counts). k.faults) l.0.counts), (inl (ap (λ (k : Counts). k.faults) l.1.counts), tt))
+asked-rose tells (Resting a b) (Resting c d) l =
+    (inl (ap (λ (k : Counts). k.faults) l.0.counts), (inl (ap (λ (k : Counts). k.faults) l.1.counts), tt))
 asked-rose tells (Resting a b) Away l = absurd l
 asked-rose tells Away (Serving u) l = absurd l
 asked-rose tells Away (Resting c d) l = absurd l
 asked-rose tells Away Away l = tt
 
 pub acts-fail : (tells : Bool) (layout : Layout) (n d after : ℕ) (x : Done) (old new : Standing) → IsAsked tells old new
-    → answer_of x.answer ≡ Made → Acts tells layout n (fails d after) (Ok x) old new
-acts-fail tells layout n d after x old new l is = record {
+    → answer_of x.answer ≡ Made → x.first_failed ≡ false → x.second_failed ≡ false → Acts tells layout n (fails d after) (Ok x) old new
+acts-fail tells layout n d after x old new l is first second = record {
   sound = asked-sound tells n old new l;
   rose = asked-rose tells old new l;
+  told = asked-told tells (entry_by (fails d after) x) old new l first second (stop-as (answer_of x.answer) Made false is refl);
+  caused = calm tells layout (entry_by (fails d after) x) old (ap is_cause is);
   turns = λ so lawful z can. turn-as layout n (fails d after) x Made old new is
       (λ p m s. (m, λ k. refl, asked-stands tells layout n p m old new so l s));
 }
 
 pub acts-stop : (tells : Bool) (layout : Layout) (n d after : ℕ) (how : WrittenMode) (x : Done) (old new : Standing)
-    → IsAsked tells old new → answer_of x.answer ≡ Made → Acts tells layout n (stops d after how) (Ok x) old new
-acts-stop tells layout n d after how x old new l is = record {
+    → IsAsked tells old new → answer_of x.answer ≡ Made → x.first_failed ≡ false → x.second_failed ≡ false
+    → Acts tells layout n (stops d after how) (Ok x) old new
+acts-stop tells layout n d after how x old new l is first second = record {
   sound = asked-sound tells n old new l;
   rose = asked-rose tells old new l;
+  told = asked-told tells (entry_by (stops d after how) x) old new l first second (stop-as (answer_of x.answer) Made false is refl);
+  caused = calm tells layout (entry_by (stops d after how) x) old (ap is_cause is);
   turns = λ so lawful z can. turn-as layout n (stops d after how) x Made old new is
       (λ p m s. (m, λ k. refl, asked-stands tells layout n p m old new so l s));
 }
@@ -606,7 +738,8 @@ module _ {T D : Type 0} (seen : T → Seen) (look : D → DiskSeen) where
   sound-at n p q is h = subst (λ (z : Place T D). IsSound n (standing seen look z)) (sym is) h
 
   -- where a place is none of two disks that are closed, or that are open
-  pub never-rest : (p : Place T D) → ((a b : D) → p ≡ place.Rest a b → ⊥) → (one two : DiskSeen) → standing seen look p ≡ Resting one two → ⊥
+  pub never-rest : (p : Place T D) → ((a b : D) → p ≡ place.Rest a b → ⊥) → (one two : DiskSeen) → standing seen look p ≡ Resting one two
+      → ⊥
   never-rest (place.Open t) never one two e = cc e
   never-rest (place.Rest a b) never one two e = never a b refl
   never-rest place.Away never one two e = cc e
@@ -803,23 +936,31 @@ no-text (command.Stop k after mode) p g d = tt
 
 -- 13. Blankings at a place
 
-pub blanked-first : (tells : Bool) (layout : Layout) (n d : ℕ) (a b one : DiskSeen) (new : Standing) (all : Result (Result (Unit {0}) DiskRefusal) AllocError)
-    (how : Result (Unit {0}) DiskRefusal) (x : Done) → all ≡ Ok how → is_second d ≡ false → IsBlankedOnce all a.counts.faults one.counts.faults
-    → IfOk all (λ h. OnOk h (IsZeroed tells one)) → AreLeft tells one b new → answer_of x.answer ≡ blanked_as how
+pub blanked-first : (tells : Bool) (layout : Layout) (n d : ℕ) (a b one : DiskSeen) (new : Standing)
+    (all : Result (Result (Unit {0}) DiskRefusal) AllocError) (how : Result (Unit {0}) DiskRefusal) (x : Done)
+    → all ≡ Ok how → is_second d ≡ false → IsBlankedOnce all a.counts.faults one.counts.faults
+    → IsStoppedOnce all a.counts.stops one.counts.stops → IfOk all (λ h. OnOk h (IsZeroed tells one)) → AreLeft tells one b new
+    → x.first_failed ≡ is_failed how → x.second_failed ≡ false → answer_of x.answer ≡ blanked_as how
     → Acts tells layout n (blanks d) (Ok x) (Resting a b) new
-blanked-first tells layout n d a b one new all how x is second counts zero left answer =
+blanked-first tells layout n d a b one new all how x is second counts stopped zero left mark other answer =
     acts-blank-first tells layout n d a b one new how x second
     (subst (λ (z : Result (Result (Unit {0}) DiskRefusal) AllocError). IsBlankedOnce z a.counts.faults one.counts.faults) is counts)
-    (subst (λ (z : Result (Result (Unit {0}) DiskRefusal) AllocError). IfOk z (λ h. OnOk h (IsZeroed tells one))) is zero) left answer
+    (subst (λ (z : Result (Result (Unit {0}) DiskRefusal) AllocError). IsStoppedOnce z a.counts.stops one.counts.stops) is stopped)
+    (subst (λ (z : Result (Result (Unit {0}) DiskRefusal) AllocError). IfOk z (λ h. OnOk h (IsZeroed tells one))) is zero) left mark other
+    answer
 
-pub blanked-second : (tells : Bool) (layout : Layout) (n d : ℕ) (a b two : DiskSeen) (new : Standing) (all : Result (Result (Unit {0}) DiskRefusal) AllocError)
-    (how : Result (Unit {0}) DiskRefusal) (x : Done) → all ≡ Ok how → is_second d ≡ true → IsBlankedOnce all b.counts.faults two.counts.faults
-    → IfOk all (λ h. OnOk h (IsZeroed tells two)) → AreLeft tells a two new → answer_of x.answer ≡ blanked_as how
+pub blanked-second : (tells : Bool) (layout : Layout) (n d : ℕ) (a b two : DiskSeen) (new : Standing)
+    (all : Result (Result (Unit {0}) DiskRefusal) AllocError) (how : Result (Unit {0}) DiskRefusal) (x : Done)
+    → all ≡ Ok how → is_second d ≡ true → IsBlankedOnce all b.counts.faults two.counts.faults
+    → IsStoppedOnce all b.counts.stops two.counts.stops → IfOk all (λ h. OnOk h (IsZeroed tells two)) → AreLeft tells a two new
+    → x.first_failed ≡ false → x.second_failed ≡ is_failed how → answer_of x.answer ≡ blanked_as how
     → Acts tells layout n (blanks d) (Ok x) (Resting a b) new
-blanked-second tells layout n d a b two new all how x is second counts zero left answer =
+blanked-second tells layout n d a b two new all how x is second counts stopped zero left other mark answer =
     acts-blank-second tells layout n d a b two new how x second
     (subst (λ (z : Result (Result (Unit {0}) DiskRefusal) AllocError). IsBlankedOnce z b.counts.faults two.counts.faults) is counts)
-    (subst (λ (z : Result (Result (Unit {0}) DiskRefusal) AllocError). IfOk z (λ h. OnOk h (IsZeroed tells two))) is zero) left answer
+    (subst (λ (z : Result (Result (Unit {0}) DiskRefusal) AllocError). IsStoppedOnce z b.counts.stops two.counts.stops) is stopped)
+    (subst (λ (z : Result (Result (Unit {0}) DiskRefusal) AllocError). IfOk z (λ h. OnOk h (IsZeroed tells two))) is zero) left other mark
+    answer
 
 pub not-blanked : (all : Result (Result (Unit {0}) DiskRefusal) AllocError) (e : AllocError) (a b : ℕ) → all ≡ Err e → IsBlankedOnce all a b
     → b ≡ a

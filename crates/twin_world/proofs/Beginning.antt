@@ -1,22 +1,22 @@
 -- The world before its first command, and the disks that it gives back.
-use Rattle.std.proofs.Common.{◌≡◌, ◌∙◌, ap, sym, refl, subst, ℕ, zero, suc, ◌+◌, ◌*◌, ◌-◌, ◌≤◌, List, [], ◌∷◌, ◌++◌, map, length, arith}
-use Rattle.std.proofs.Common.{Bool, true, false, Option, None, Some, inl, inr, append_assoc}
-use Rattle.std.specs.Prelude.{slice_get, Result, Ok}
+use Rattle.std.proofs.Common.{◌≡◌, ◌∙◌, ap, sym, refl, subst, ℕ, zero, suc, List, [], ◌∷◌, ◌++◌, map, length, arith}
+use Rattle.std.proofs.Common.{true, Option, None, Some, inl, inr, append_assoc}
+use Rattle.std.specs.Prelude.{Result, Ok}
 use Rattle.std.specs.Option.{option_map}
 use Rattle.std.specs.FinMap as finite
-use Rattle.std.proofs.lemmas.List.{length-map, length-append}
+use Rattle.std.proofs.lemmas.List.{length-append, map-append}
 use Rattle.capability.specs.Uids.{uid_cmp}
 use Rattle.passive_store.specs.Kept.{Layout, Kept}
 use Rattle.passive_store.specs.Seen.{Seen, DiskSeen}
-use Rattle.twin_store.specs.Footings.{Footing, Standing as StandingOn, AreVouched}
+use Rattle.twin_store.specs.Footings.{Standing as StandingOn}
 use Rattle.twin_store.specs.Vouched.{Bodies, bodies_found, IsVouched}
 use Rattle.twin_store.specs.Twins.{vow}
-use Rattle.twin_world.specs.Commands.{IsNode, IsDisk}
+use Rattle.twin_world.specs.Commands.{IsNode}
 use Rattle.twin_world.specs.Disks.{KeepsNothing, KeepNothing, CanRise}
 use Rattle.twin_world.specs.InHand.{uid_of, texts_in, Rests}
 use Rattle.twin_world.specs.Logs.{blank_pair, no_texts, SameTexts}
-use Rattle.twin_world.specs.Places.{Standing, Serving, Resting, Away, standing, IsSound, StandsFor, disks_at, given_by}
-use Rattle.twin_world.specs.Worlds.{standings, standing_at, IsWorld, CanGoOn, AreBlank, LastPair}
+use Rattle.twin_world.specs.Places.{Standing, Serving, Resting, Away, IsSound, StandsFor, disks_at, given_by}
+use Rattle.twin_world.specs.Worlds.{standings, standing_at, IsWorld, CanGoOn, AreBlank, LastPair, all_disks}
 use Rattle.twin_world.specs.declared.place.Place.{Place}
 use Rattle.twin_world.specs.declared.place.Place.TheVariants as place
 
@@ -108,7 +108,7 @@ eight-of disks three two one none fourth third second first places eight w x y z
     }
 
 -- something of each of four nodes
-by-node : (P : ℕ → Type 0) → P 1 → P 2 → P 3 → P 4 → (n : ℕ) → IsNode n → P n
+pub by-node : (P : ℕ → Type 0) → P 1 → P 2 → P 3 → P 4 → (n : ℕ) → IsNode n → P n
 by-node P one two three four zero is = absurd (omega (arith, is.0))
 by-node P one two three four (suc zero) is = one
 by-node P one two three four (suc (suc zero)) is = two
@@ -153,6 +153,9 @@ module _ {T D : Type 0} (seen : T → Seen) (look : D → DiskSeen) (disks : Lis
   pub new-world : IsWorld (standings seen look places)
   new-world = subst IsWorld (sym stand)
       (rest-world (look x.a) (look x.b) (look x.c) (look x.d) (look x.e) (look x.f) (look x.g) (look x.h))
+
+  pub new-disks : all_disks (standings seen look places) ≡ map look disks
+  new-disks = ap all_disks stand ∙ sym shown
 
   pub new-rise : (k : ℕ) → CanRise k (map look disks) → CanGoOn k (standings seen look places)
   new-rise k r = subst (CanGoOn k) (sym stand)
@@ -214,3 +217,14 @@ pub four-pushed : {X : Type 0} (a b p q r s : List X) (w x y z : X) → a ≡ []
 four-pushed a b p q r s w x y z none same first second third fourth =
     fourth ∙ ap (λ l. l ++ z ∷ []) (third ∙ ap (λ l. l ++ y ∷ []) (second ∙ ap (λ l. l ++ x ∷ []) (first ∙ ap (λ l. l ++ w ∷ [])
     (same ∙ none))))
+
+-- the disks of a place are put behind those so far
+pub given-on : {D : Type 0} (look : D → DiskSeen) (s : Standing) (ss : List Standing) (before : List D) (first second : D)
+    (all : List DiskSeen) → map look before ++ all_disks (s ∷ ss) ≡ all → look first ∷ look second ∷ [] ≡ disks_at s
+    → map look ((before ++ first ∷ []) ++ second ∷ []) ++ all_disks ss ≡ all
+given-on look s ss before first second all is same =
+    ap (λ l. l ++ all_disks ss) (map-append look (before ++ first ∷ []) (second ∷ [])
+    ∙ ap (λ l. l ++ look second ∷ []) (map-append look before (first ∷ [])))
+    ∙ append_assoc (map look before ++ look first ∷ []) (look second ∷ []) (all_disks ss)
+    ∙ append_assoc (map look before) (look first ∷ []) (look second ∷ all_disks ss)
+    ∙ ap (λ l. map look before ++ (l ++ all_disks ss)) same ∙ is

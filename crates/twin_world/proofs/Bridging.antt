@@ -9,7 +9,7 @@ use Rattle.capability.specs.declared.Uid.{Uid}
 use Rattle.passive_store.specs.Kept.{Layout, IsEject, bodies_after}
 use Rattle.passive_store.specs.Seen.{DiskSeen, Asked}
 use Rattle.twin_store.specs.declared.served.TwinRefusal.{TwinRefusal}
-use Rattle.twin_store.specs.declared.served.TwinRefusal.TheVariants.{Lost, OutOfMemory}
+use Rattle.twin_store.specs.declared.served.TwinRefusal.TheVariants.{OutOfMemory}
 use Rattle.twin_store.specs.Vouched.{Bodies, IsOwnChange}
 use Rattle.twin_store.specs.Footings.{AreVouched}
 use Rattle.twin_store.specs.Sides.{SideSeen, is_in_use, disk_of, SideGoes}

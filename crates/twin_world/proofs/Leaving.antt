@@ -3,7 +3,7 @@ use Rattle.std.proofs.Common.{◌≡◌, ◌⊎◌, inl, inr, ℕ, Bool, true, f
 use Rattle.std.specs.Prelude.{◌&&◌, ◌||◌, not, IsTrue, replicate, Result, Ok, Err}
 use Rattle.std.specs.FinMap as map
 use Rattle.eden_disk.specs.Calls.{IsCut}
-use Rattle.eden_disk.specs.Told.{Told, Contents, contents, at_rest, Left, LeavesOnly}
+use Rattle.eden_disk.specs.Told.{Told, Contents, contents, at_rest, LeavesOnly}
 use Rattle.passive_store.specs.Kept.{Kept, Layout, StoreChange, IsAnyOf}
 use Rattle.eden_disk.proofs.Held.{only_now}
 use Rattle.passive_store.specs.Seen.{DiskSeen, Asked}
@@ -14,7 +14,7 @@ use Rattle.twin_store.specs.Footings.{Footing, Standing, Damaged, TooMuch, MayFi
 use Rattle.twin_store.specs.Twins.{vow}
 use Rattle.twin_world.specs.Disks.{ZerosKeepNothing}
 use Rattle.twin_world.specs.Logs.{Pair, Texts, blanked}
-use Rattle.twin_world.specs.InHand.{asked_by, Vouching, Rests}
+use Rattle.twin_world.specs.InHand.{asked_by, Rests}
 use Rattle.twin_world.specs.Places.{IsLeft}
 
 -- 1. Power cuts
@@ -60,10 +60,11 @@ rests-left tells layout n p m a b one two so l k r = record {
 }
 
 pub left-same : (tells : Bool) (d : DiskSeen) → IsLeft tells d d
-left-same tells d = record { faults = refl; told = λ so. inl refl }
+left-same tells d = record { faults = refl; stops = refl; told = λ so. inl refl }
 
-pub left-told : (tells : Bool) (a b : DiskSeen) → b.counts.faults ≡ a.counts.faults → b.told ≡ a.told → IsLeft tells a b
-left-told tells a b counts same = record { faults = counts; told = λ so. inl same }
+pub left-told : (tells : Bool) (a b : DiskSeen) → b.counts.faults ≡ a.counts.faults → b.counts.stops ≡ a.counts.stops → b.told ≡ a.told
+    → IsLeft tells a b
+left-told tells a b faults stops same = record { faults = faults; stops = stops; told = λ so. inl same }
 
 -- 3. Blankings
 
@@ -123,7 +124,8 @@ to-none-second w false m x h = tt
 bare-first : (v : Vow) (x y found : Option Bodies) → IsVouched v x y → (found ≡ None) ⊎ (found ≡ Some map.empty)
     → IsVouched (without_first v) found y
 bare-first v x y found h (inl e) =
-    subst (λ o. IsVouched (without_first v) o y) (sym e) (to-none-first (without_first v) v.second map.empty y (blank_leaves_other v x y h).0)
+    subst (λ o. IsVouched (without_first v) o y) (sym e)
+    (to-none-first (without_first v) v.second map.empty y (blank_leaves_other v x y h).0)
 bare-first v x y found h (inr e) = subst (λ o. IsVouched (without_first v) o y) (sym e) (blank_leaves_other v x y h).0
 
 bare-second : (v : Vow) (x y found : Option Bodies) → IsVouched v x y → (found ≡ None) ⊎ (found ≡ Some map.empty)

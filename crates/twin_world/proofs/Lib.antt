@@ -3,8 +3,11 @@ pub mod Bridging
 pub mod Opening
 pub mod Asking
 pub mod Leaving
+pub mod Telling
+pub mod Causing
 pub mod Acting
 pub mod Moving
+pub mod Counting
 pub mod Runs
 pub mod Spelled
 pub mod Meaning

@@ -1,22 +1,21 @@
 -- One place of the world changes.
-use Rattle.std.proofs.Common.{◌≡◌, ◌≢◌, ◌⊎◌, inl, inr, ℕ, zero, suc, ◌+◌, ◌-◌, ◌<◌, ◌≤◌, ◌^◌, Bool, true, false, List, [], ◌∷◌, map, length}
-use Rattle.std.proofs.Common.{Option, None, Some, refl, sym, ap, subst, ◌∙◌, arith, slice_set, get_or, get_or-set_same, get_or-set_other}
-use Rattle.std.specs.Prelude.{◌==◌, ◌/◌, IsTrue, Result, Ok, Err, IfOk}
+use Rattle.std.proofs.Common.{◌≡◌, ◌≢◌, ◌⊎◌, inl, inr, ℕ, suc, ◌+◌, ◌-◌, ◌<◌, ◌^◌, Bool, true, false, List, [], ◌∷◌, map, length}
+use Rattle.std.proofs.Common.{refl, sym, ap, subst, ◌∙◌, arith, slice_set, get_or, get_or-set_same, get_or-set_other}
+use Rattle.std.specs.Prelude.{◌==◌, Result, Ok, Err, IfOk}
 use Rattle.std.specs.declared.alloc.AllocError.{AllocError}
 use Rattle.std.proofs.lemmas.Bool.{eqb-true, eqb-false}
 use Rattle.std.proofs.lemmas.List.{length-set, map-set, get_or-map, length-map}
 use Rattle.eden_disk.specs.Calls.{one_more}
 use Rattle.passive_store.specs.Kept.{Layout}
-use Rattle.passive_store.specs.Layout.{IsLayout}
 use Rattle.passive_store.specs.Seen.{Seen, DiskSeen}
-use Rattle.twin_store.specs.Sides.{RoseOnce}
 use Rattle.twin_world.specs.Commands.{Command, opens, puts, gets, deletes, closes, blanks, fails, stops, node_of, node_of_disk, IsNode}
 use Rattle.twin_world.specs.Commands.{IsDisk, IsInReach}
-use Rattle.twin_world.specs.Disks.{ZerosKeepNothing, CanRise}
-use Rattle.twin_world.specs.Logs.{Entry, Pair, Texts, Leads, behind, Steps, is_of, known_behind}
-use Rattle.twin_world.specs.Places.{Standing, Away, standing, IsSound, StandsFor, disks_at, AllRoseOnce, Turns, Acts}
-use Rattle.twin_world.specs.View.{answer_of, entry_by}
-use Rattle.twin_world.specs.Worlds.{standing_at, IsWorld, CanGoOn, StepsAll, Moves}
+use Rattle.twin_world.specs.Disks.{CanRise}
+use Rattle.twin_world.specs.Causes.{IsTold}
+use Rattle.twin_world.specs.Logs.{Entry, Texts, behind, Steps, is_of, known_behind}
+use Rattle.twin_world.specs.Places.{Standing, Away, standing, IsSound, StandsFor, disks_at, AllRoseOnce, Turns, Acts, IsCaused}
+use Rattle.twin_world.specs.View.{entry_by}
+use Rattle.twin_world.specs.Worlds.{standing_at, IsWorld, CanGoOn, StepsAll, Moves, IsToldAt, TellsAll, IsCausedAt}
 use Rattle.twin_world.specs.declared.answer.Done.{Done}
 use Rattle.twin_world.specs.declared.place.Place.{Place}
 
@@ -103,7 +102,8 @@ module _ (ss : List Standing) (n : ℕ) (s : Standing) (is : IsNode n) (four : l
       go : (m ≡ n) ⊎ (m ≢ n) → CanRise k (disks_at (standing_at behind_it m))
       go (inl e) = subst (λ j. CanRise k (disks_at (standing_at behind_it j))) (sym e)
           (subst (λ z. CanRise k (disks_at z)) (sym (at-own ss n s four is)) can)
-      go (inr d) = subst (λ z. CanRise k (disks_at z)) (sym (at-other ss n m s is on d)) (rise-less k (disks_at (standing_at ss m)) (h m on))
+      go (inr d) = subst (λ z. CanRise k (disks_at z)) (sym (at-other ss n m s is on d))
+          (rise-less k (disks_at (standing_at ss m)) (h m on))
 
   set-steps : (layout : Layout) (e : Entry) → node_of e.command ≡ n → Turns layout n e (standing_at ss n) s → StepsAll layout e ss behind_it
   set-steps layout e mine t m on p x h = go (same? m n)
@@ -124,14 +124,39 @@ module _ (ss : List Standing) (n : ℕ) (s : Standing) (is : IsNode n) (four : l
           (sym (not-equal (node_of e.command) m (λ q. d (sym q ∙ mine))))
           (x, (λ k. refl), subst (StandsFor layout m p x) (sym (at-other ss n m s is on d)) h)
 
+  set-told : (e : Entry) → node_of e.command ≡ n → IsTold e (disks_at (standing_at ss n)) (disks_at s) → TellsAll e ss behind_it
+  set-told e mine t m on = go (same? m n)
+    where
+      go : (m ≡ n) ⊎ (m ≢ n) → IsToldAt (is_of m e) e (disks_at (standing_at ss m)) (disks_at (standing_at behind_it m))
+      go (inl q) =
+          subst (λ b. IsToldAt b e (disks_at (standing_at ss m)) (disks_at (standing_at behind_it m)))
+          (sym (is-equal (node_of e.command) m (mine ∙ sym q)))
+          (subst (λ k. IsTold e (disks_at (standing_at ss k)) (disks_at (standing_at behind_it k))) (sym q)
+          (subst (λ z. IsTold e (disks_at (standing_at ss n)) (disks_at z)) (sym (at-own ss n s four is)) t))
+      go (inr d) =
+          subst (λ b. IsToldAt b e (disks_at (standing_at ss m)) (disks_at (standing_at behind_it m)))
+          (sym (not-equal (node_of e.command) m (λ q. d (sym q ∙ mine)))) (ap disks_at (at-other ss n m s is on d))
+
   pub moves : (tells : Bool) (layout : Layout) (c : Command) (r : Result Done AllocError) → node_of c ≡ n → IsWorld ss
       → Acts tells layout n c r (standing_at ss n) s → Moves tells layout c r ss behind_it
   moves tells layout c r mine world acts = record {
     world = record { places = length-set ss (n - 1) s ∙ four; sound = set-sound world.sound (acts.sound (world.sound n is)) };
     rise = λ k can. set-rise k can (rise-all k (disks_at (standing_at ss n)) (disks_at s) acts.rose (can n is));
+    told = all-told r acts.told;
+    caused = all-caused r acts.caused;
     steps = λ so l z can. all r (acts.turns so l z (can n is));
   }
     where
+      all-told : (r : Result Done AllocError) → IfOk r (λ d. IsTold (entry_by c d) (disks_at (standing_at ss n)) (disks_at s))
+          → IfOk r (λ d. TellsAll (entry_by c d) ss behind_it)
+      all-told (Ok d) t = set-told (entry_by c d) mine t
+      all-told (Err e) t = tt
+
+      all-caused : (r : Result Done AllocError) → IfOk r (λ d. IsCaused tells layout (entry_by c d) (standing_at ss n))
+          → IfOk r (λ d. IsCausedAt tells layout (entry_by c d) ss)
+      all-caused (Ok d) h = subst (λ k. IsCaused tells layout (entry_by c d) (standing_at ss k)) (sym mine) h
+      all-caused (Err e) h = tt
+
       all : (r : Result Done AllocError) → IfOk r (λ d. Turns layout n (entry_by c d) (standing_at ss n) s)
           → IfOk r (λ d. StepsAll layout (entry_by c d) ss behind_it)
       all (Ok d) t = set-steps layout (entry_by c d) mine t

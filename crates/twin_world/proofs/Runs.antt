@@ -1,17 +1,18 @@
 -- Commands one behind the other.
-use Rattle.std.proofs.Common.{◌≡◌, ◌⊎◌, inl, inr, ℕ, zero, suc, ◌+◌, ◌≤◌, List, [], ◌∷◌, ◌++◌, map, length, refl, sym, ap, subst, ◌∙◌}
+use Rattle.std.proofs.Common.{◌≡◌, ◌⊎◌, inl, inr, ℕ, zero, suc, List, [], ◌∷◌, ◌++◌, map, length, refl, sym, ap, subst, ◌∙◌}
 use Rattle.std.proofs.Common.{arith, append_assoc, append-nil}
-use Rattle.std.specs.Prelude.{◌==◌, IsTrue, Bool, true, false}
+use Rattle.std.specs.Prelude.{IsTrue, Bool, false}
 use Rattle.std.proofs.lemmas.List.{map-append}
 use Rattle.passive_store.specs.Kept.{Layout}
 use Rattle.passive_store.specs.Layout.{IsLayout}
 use Rattle.twin_world.specs.Commands.{Command, node_of, IsNode, IsInReach}
 use Rattle.twin_world.specs.Disks.{ZerosKeepNothing}
-use Rattle.twin_world.specs.Logs.{Entry, Log, Pair, Texts, Steps, is_of, known_behind, Follows, AllInReach, IsLegalTwin, blank_pair, no_texts}
+use Rattle.twin_world.specs.Logs.{Entry, Pair, Texts, Steps, is_of, known_behind, Follows, AllInReach, IsLegalTwin, blank_pair}
+use Rattle.twin_world.specs.Logs.{no_texts}
 use Rattle.twin_world.specs.Places.{Standing, StandsFor, disks_at}
 use Rattle.twin_world.specs.Scripts.{commands_of, AreInReach}
 use Rattle.twin_world.specs.View.{entry_of}
-use Rattle.twin_world.specs.Worlds.{standing_at, IsWorld, CanGoOn, AreBlank, StepsAll, LeadsTo, Reaches}
+use Rattle.twin_world.specs.Worlds.{standing_at, IsWorld, CanGoOn, AreBlank, StepsAll, LeadsTo, Reaches, TellsAll, IsCausedAt, Runs}
 use Rattle.twin_world.specs.declared.answer.Entry.{Entry as CodedEntry}
 use Rattle.twin_world.proofs.Moving.{reach-node, not-equal, rise-none}
 
@@ -29,6 +30,13 @@ reaches-more : (layout : Layout) (es : List Entry) (e : Entry) (ss ss2 ss3 : Lis
     → StepsAll layout e ss2 ss3 → Reaches layout (es ++ e ∷ []) ss ss3
 reaches-more layout es e ss ss2 ss3 r step n is p m h =
     leads-more layout n es e p m (standing_at ss2 n) (standing_at ss3 n) (r n is p m h) (step n is)
+
+runs-more : (tells : Bool) (layout : Layout) (es : List Entry) (e : Entry) (ss ss2 ss3 : List Standing) → Runs tells layout es ss ss2
+    → TellsAll e ss2 ss3 → IsCausedAt tells layout e ss2 → Runs tells layout (es ++ e ∷ []) ss ss3
+runs-more tells layout [] e ss ss2 ss3 h told caused =
+    (ss3, subst (λ z. TellsAll e z ss3) h told, subst (IsCausedAt tells layout e) h caused, refl)
+runs-more tells layout (d ∷ es) e ss ss2 ss3 h told caused =
+    (h.0, h.1, h.2, runs-more tells layout es e h.0 ss2 ss3 h.3 told caused)
 
 -- 2. A whole log
 
@@ -80,6 +88,7 @@ pub record Ran (tells : Bool) (layout : Layout) (ss ss2 : List Standing) (es : L
   pub world : IsWorld ss2
   pub reach : AreInReach rest
   pub cut : commands_of es ++ rest ≡ all
+  pub runs : Runs tells layout es ss ss2
   pub reached : IsTrue tells → IsLayout layout → ZerosKeepNothing layout → CanGoOn (length all) ss → Reached layout es (length rest) ss ss2
 
 pub ran-first : (tells : Bool) (layout : Layout) (ss : List Standing) (es : List Entry) (all : List Command) → IsWorld ss
@@ -89,21 +98,23 @@ ran-first tells layout ss es all world reach none =
       world = world;
       reach = reach;
       cut = refl;
+      runs = refl;
       reached = λ so l z can. record { can = can; reaches = λ n is p m h. h };
     })
 
 pub ran-step : (tells : Bool) (layout : Layout) (ss ss2 ss3 : List Standing) (es later : List Entry) (all rest behind : List Command)
     (e : Entry) → Ran tells layout ss ss2 es all rest → rest ≡ e.command ∷ behind → later ≡ es ++ e ∷ [] → IsWorld ss3
-    → ((k : ℕ) → CanGoOn (suc k) ss2 → CanGoOn k ss3)
+    → ((k : ℕ) → CanGoOn (suc k) ss2 → CanGoOn k ss3) → TellsAll e ss2 ss3 → IsCausedAt tells layout e ss2
     → (IsTrue tells → IsLayout layout → ZerosKeepNothing layout → CanGoOn 0 ss2 → StepsAll layout e ss2 ss3)
     → Ran tells layout ss ss3 later all behind
-ran-step tells layout ss ss2 ss3 es later all rest behind e r cut more world rise steps =
+ran-step tells layout ss ss2 ss3 es later all rest behind e r cut more world rise told caused steps =
     subst (λ z. Ran tells layout ss ss3 z all behind) (sym more) (record {
       world = world;
       reach = (subst AreInReach cut r.reach).1;
       cut = ap (λ z. z ++ behind) (map-append (λ (x : Entry). x.command) es (e ∷ []))
           ∙ append_assoc (commands_of es) (e.command ∷ []) behind
           ∙ ap (λ z. commands_of es ++ z) (sym cut) ∙ r.cut;
+      runs = runs-more tells layout es e ss ss2 ss3 r.runs told caused;
       reached = λ so l z can.
           let old = r.reached so l z can in
           let fit : CanGoOn (suc (length behind)) ss2 = subst (λ (cs : List Command). CanGoOn (length cs) ss2) cut old.can in

@@ -1,5 +1,5 @@
 -- The disks of a script: those that keep nothing, and those that were overwritten with zeros.
-use Rattle.std.specs.Prelude.{◌≡◌, ℕ, ◌+◌, ◌-◌, ◌*◌, ◌<◌, ◌^◌, List, [], ◌∷◌, replicate, slice_get, Some, Ok}
+use Rattle.std.specs.Prelude.{◌≡◌, ℕ, ◌+◌, ◌-◌, ◌<◌, ◌^◌, List, [], ◌∷◌, replicate, slice_get, Some, Ok}
 use Rattle.std.specs.FinMap as map
 use Rattle.eden_disk.specs.Told.{Told}
 use Rattle.passive_store.specs.Kept.{Kept, Layout}

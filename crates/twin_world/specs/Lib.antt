@@ -1,4 +1,5 @@
 pub mod Asks
+pub mod Causes
 pub mod Commands
 pub mod Disks
 pub mod InHand

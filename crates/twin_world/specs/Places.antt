@@ -1,22 +1,23 @@
 -- What stands at the place of a node, and what a command does there.
-use Rattle.std.specs.Prelude.{◌≡◌, ◌⊎◌, ℕ, Bool, true, false, IsTrue, List, [], ◌∷◌, replicate, Option, None, Some}
+use Rattle.std.specs.Prelude.{◌≡◌, ◌⊎◌, ℕ, Bool, true, false, IsTrue, List, [], ◌∷◌, length, replicate, Option, None, Some}
 use Rattle.std.specs.Prelude.{Result, Ok, Err, IfOk}
 use Rattle.std.specs.declared.alloc.AllocError.{AllocError}
 use Rattle.eden_disk.specs.declared.disk.DiskRefusal.{DiskRefusal}
 use Rattle.eden_disk.specs.declared.disk.DiskRefusal.TheVariants.{Failed, Stopped}
-use Rattle.eden_disk.specs.Calls.{IsCut, end_of, faults_after}
-use Rattle.eden_disk.specs.Told.{Told, contents, at_rest, Left}
+use Rattle.eden_disk.specs.Calls.{IsCut, end_of, faults_after, stops_after}
+use Rattle.eden_disk.specs.Told.{contents, at_rest, Left}
 use Rattle.passive_store.specs.Kept.{Layout}
 use Rattle.passive_store.specs.Layout.{IsLayout}
-use Rattle.passive_store.specs.Seen.{Seen, DiskSeen}
+use Rattle.passive_store.specs.Seen.{Seen, DiskSeen, Asked as AskedOf, asked}
 use Rattle.twin_store.specs.declared.served.TwinRefusal.{TwinRefusal}
-use Rattle.twin_store.specs.declared.served.TwinRefusal.TheVariants.{OutOfMemory}
-use Rattle.twin_store.specs.Sides.{SideSeen, is_in_use, disk_of, bodies_on, IsSideReady, RoseOnce}
+use Rattle.twin_store.specs.declared.served.TwinRefusal.TheVariants.{OutOfMemory, Full, Lost}
+use Rattle.twin_store.specs.Sides.{SideSeen, is_in_use, disk_of, bodies_on, IsSideReady, RoseOnce, IsShortOn, IsFullOn, IsUnmapped}
+use Rattle.twin_world.specs.Causes.{IsTold}
 use Rattle.twin_store.specs.Twins.{TwinSeen, twin_seen, IsTwinReady}
-use Rattle.twin_world.specs.Commands.{Command, puts, gets, deletes}
-use Rattle.twin_world.specs.Logs.{Answer, Made, CutShort, Entry, Pair, Texts, Leads, behind}
+use Rattle.twin_world.specs.Commands.{Command, puts, gets, deletes, node_of}
+use Rattle.twin_world.specs.Logs.{Answer, Made, NoRoom, Refused, CutShort, Entry, Pair, Texts, Leads, behind}
 use Rattle.twin_world.specs.Disks.{ZerosKeepNothing, CanRise}
-use Rattle.twin_world.specs.InHand.{Serves, Rests}
+use Rattle.twin_world.specs.InHand.{Serves, Rests, uid_of}
 use Rattle.twin_world.specs.View.{answer_of, entry_by}
 use Rattle.twin_world.specs.declared.answer.Done.{Done}
 use Rattle.twin_world.specs.declared.ask.Asked.{Asked}
@@ -69,10 +70,53 @@ abbrev pub Turns : Layout → ℕ → Entry → Standing → Standing → Type 0
 Turns layout n e old new = (p : Pair) (m : Texts) → StandsFor layout n p m old
     → (x : Texts) × Leads e.command e.answer e p m x × StandsFor layout n (behind e.command e.answer e p) x new
 
+-- a disk in use there has no room for the text of a put, as far as its store tells its room
+abbrev pub LacksRoom : Bool → Layout → Command → Standing → Type 0
+LacksRoom tells layout (puts n serial text) (Serving t) =
+    IsShortOn tells layout (length text) t.first ⊎ IsShortOn tells layout (length text) t.second
+LacksRoom tells layout _ _ = ⊥
+
+-- what a command asks of a store
+abbrev pub asked_for : Command → Option AskedOf
+asked_for (puts n serial text) = Some (asked (uid_of n serial) (Some text))
+asked_for (deletes n serial) = Some (asked (uid_of n serial) None)
+asked_for _ = None
+
+-- A disk in use has no room for what is asked, as far as its store tells its room, or a disk met a fault, so that the other had to take a
+-- generation first. Of openings nothing is said.
+abbrev pub IsFullHere : Bool → Layout → Entry → Standing → Type 0
+IsFullHere tells layout e (Serving t) =
+    (IsFullOn tells layout (asked_for e.command) t.first ⊎ IsFullOn tells layout (asked_for e.command) t.second)
+    ⊎ ((e.first_failed ≡ true) ⊎ (e.second_failed ≡ true))
+IsFullHere tells layout e (Resting first second) = Unit {0}
+IsFullHere tells layout e Away = ⊥
+
+-- a disk of a pair that is open met a fault, or was out of use; one that is opened met a fault, or its image has no map
+abbrev pub IsLostSide : Bool → SideSeen → Type 0
+IsLostSide failed side = (failed ≡ true) ⊎ (is_in_use side ≡ false)
+
+abbrev pub IsLostImage : Bool → Layout → ℕ → Bool → DiskSeen → Type 0
+IsLostImage tells layout n failed d = (failed ≡ true) ⊎ (IsTrue tells → IsUnmapped layout n d)
+
+-- so it is of both disks
+abbrev pub AreLost : Bool → Layout → Entry → Standing → Type 0
+AreLost tells layout e (Serving t) = IsLostSide e.first_failed t.first × IsLostSide e.second_failed t.second
+AreLost tells layout e (Resting first second) =
+    IsLostImage tells layout (node_of e.command) e.first_failed first × IsLostImage tells layout (node_of e.command) e.second_failed second
+AreLost tells layout e Away = ⊥
+
+-- Answers that say that there is no room, or no disk, have their cause in what stands there.
+pub record IsCaused (tells : Bool) (layout : Layout) (e : Entry) (old : Standing) : Type 0 where
+  pub room : e.answer ≡ NoRoom → LacksRoom tells layout e.command old
+  pub full : e.answer ≡ Refused Full → IsFullHere tells layout e old
+  pub lost : e.answer ≡ Refused Lost → AreLost tells layout e old
+
 -- A command was carried out there. Want of memory is no answer.
 pub record Acts (tells : Bool) (layout : Layout) (n : ℕ) (c : Command) (r : Result Done AllocError) (old new : Standing) : Type 0 where
   pub sound : IsSound n old → IsSound n new
   pub rose : AllRoseOnce (disks_at old) (disks_at new)
+  pub told : IfOk r (λ d. IsTold (entry_by c d) (disks_at old) (disks_at new))
+  pub caused : IfOk r (λ d. IsCaused tells layout (entry_by c d) old)
   pub turns : IsTrue tells → IsLayout layout → ZerosKeepNothing layout → CanRise 0 (disks_at old)
       → IfOk r (λ d. Turns layout n (entry_by c d) old new)
 
@@ -81,6 +125,7 @@ pub record Acts (tells : Bool) (layout : Layout) (n : ℕ) (c : Command) (r : Re
 -- A disk that is handed on is as it was, or lost its power.
 pub record IsLeft (tells : Bool) (old new : DiskSeen) : Type 0 where
   pub faults : new.counts.faults ≡ old.counts.faults
+  pub stops : new.counts.stops ≡ old.counts.stops
   pub told : IsTrue tells → (new.told ≡ old.told) ⊎ IsCut old.counts.clock old.told new.told
 
 -- Two disks were closed, with a power cut of both or without.
@@ -99,6 +144,7 @@ GoesOnAs tells (Err r) t new = AreLeft tells (disk_of t.first) (disk_of t.second
 -- A disk that is to be opened has power, and a crash may leave what a read sees.
 pub record IsWoken (tells : Bool) (old new : DiskSeen) : Type 0 where
   pub faults : new.counts.faults ≡ old.counts.faults
+  pub stops : new.counts.stops ≡ old.counts.stops
   pub told : new.told ≡ old.told
   pub power : IsTrue new.counts.power
   pub whole : IsTrue tells → Left (contents new.told) (contents new.told).now
@@ -138,6 +184,17 @@ IsAsked tells _ _ = ⊥
 abbrev pub IsBlankedOnce : Result (Result (Unit {0}) DiskRefusal) AllocError → ℕ → ℕ → Type 0
 IsBlankedOnce (Ok how) old new = new ≡ faults_after (end_of how) old
 IsBlankedOnce (Err e) old new = new ≡ old
+
+-- the same of the count of stops
+abbrev pub IsStoppedOnce : Result (Result (Unit {0}) DiskRefusal) AllocError → ℕ → ℕ → Type 0
+IsStoppedOnce (Ok how) old new = new ≡ stops_after (end_of how) old
+IsStoppedOnce (Err e) old new = new ≡ old
+
+-- whether a blanking marks its disk
+abbrev pub is_failed : Result (Unit {0}) DiskRefusal → Bool
+is_failed (Ok done) = false
+is_failed (Err Failed) = true
+is_failed (Err Stopped) = false
 
 -- the disks of a place that were given back
 abbrev pub given_by : Option (DiskSeen × DiskSeen) → List DiskSeen

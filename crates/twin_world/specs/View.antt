@@ -1,5 +1,5 @@
 -- What the code's values are.
-use Rattle.std.specs.Prelude.{map, ◌≡◌, IfSome}
+use Rattle.std.specs.Prelude.{map}
 use Rattle.script_words.specs.Meaning.{written_mode}
 use Rattle.twin_world.specs.Commands.{Command, opens, puts, gets, deletes, closes, blanks, fails, stops}
 use Rattle.twin_world.specs.Logs as logs

@@ -1,10 +1,13 @@
 //! What is asked of a pair of disks that is open.
-ghost use Rattle.std.specs.Prelude.{◌≡◌, ◌≤◌, IsTrue, Option, length};
+ghost use Rattle.std.specs.Prelude.{◌≡◌, ◌≤◌, IsTrue, IfErr, Option, length};
 ghost use Rattle.passive_store.specs.Seen.{disk_seen};
-ghost use Rattle.twin_store.specs.Twins.{twin_seen, IsTwinReady, TwinGoes};
+ghost use Rattle.twin_store.specs.declared.served.TwinRefusal.TheVariants.{Full};
+ghost use Rattle.twin_store.specs.Twins.{twin_seen, IsTwinReady, TwinGoes, IsFullTwin};
 ghost use Rattle.twin_world.specs.Logs.{change};
 ghost use Rattle.twin_world.specs.InHand.{has_left};
 ghost use Rattle.twin_world.specs.Asks.{ChangesAs, LooksAs};
+ghost use Rattle.twin_world.specs.Commands.{puts, gets, deletes};
+ghost use Rattle.twin_world.specs.Places.{asked_for};
 
 use capability::{Body, Uid};
 use passive_store::Store;
@@ -36,6 +39,8 @@ pub fn put_text<St: Store>(
     requires limit { length text.now ≤ 1024 }
     ensures goes { let of = twin_seen St.seen (disk_seen St.Device.counts St.Device.told St.Device.due) in
         TwinGoes result.answer (of twin.old) (of twin.new) }
+    ensures full { let of = twin_seen St.seen (disk_seen St.Device.counts St.Device.told St.Device.due) in IfErr result.answer
+        (λ e. e ≡ Full → IsFullTwin St.Device.tells St.layout (asked_for (puts n serial text.now)) (of twin.old) (of twin.new)) }
     ensures first { let of = twin_seen St.seen (disk_seen St.Device.counts St.Device.told St.Device.due) in
         result.first_failed ≡ has_left (of twin.old).first (of twin.new).first }
     ensures second { let of = twin_seen St.seen (disk_seen St.Device.counts St.Device.told St.Device.due) in
@@ -70,6 +75,8 @@ pub fn delete_text<St: Store>(
     requires serial { 1 ≤ serial }
     ensures goes { let of = twin_seen St.seen (disk_seen St.Device.counts St.Device.told St.Device.due) in
         TwinGoes result.answer (of twin.old) (of twin.new) }
+    ensures full { let of = twin_seen St.seen (disk_seen St.Device.counts St.Device.told St.Device.due) in IfErr result.answer
+        (λ e. e ≡ Full → IsFullTwin St.Device.tells St.layout (asked_for (deletes n serial)) (of twin.old) (of twin.new)) }
     ensures first { let of = twin_seen St.seen (disk_seen St.Device.counts St.Device.told St.Device.due) in
         result.first_failed ≡ has_left (of twin.old).first (of twin.new).first }
     ensures second { let of = twin_seen St.seen (disk_seen St.Device.counts St.Device.told St.Device.due) in
@@ -104,6 +111,8 @@ pub fn get_text<St: Store>(
     requires serial { 1 ≤ serial }
     ensures goes { let of = twin_seen St.seen (disk_seen St.Device.counts St.Device.told St.Device.due) in
         TwinGoes result.answer (of twin.old) (of twin.new) }
+    ensures full { let of = twin_seen St.seen (disk_seen St.Device.counts St.Device.told St.Device.due) in IfErr result.answer
+        (λ e. e ≡ Full → IsFullTwin St.Device.tells St.layout (asked_for (gets n serial)) (of twin.old) (of twin.new)) }
     ensures first { let of = twin_seen St.seen (disk_seen St.Device.counts St.Device.told St.Device.due) in
         result.first_failed ≡ has_left (of twin.old).first (of twin.new).first }
     ensures second { let of = twin_seen St.seen (disk_seen St.Device.counts St.Device.told St.Device.due) in

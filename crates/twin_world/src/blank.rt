@@ -1,11 +1,11 @@
 //! A disk is overwritten with zeros.
 ghost use Rattle.std.specs.Prelude.{◌≡◌, ◌≤◌, ℕ, Bool, IsTrue, IfOk, OnOk, length, replicate};
-ghost use Rattle.eden_disk.specs.Calls.{end_of, faults_after};
+ghost use Rattle.eden_disk.specs.Calls.{end_of, faults_after, stops_after};
 ghost use Rattle.eden_disk.specs.Told.{contents, at_rest, overlay};
 ghost use Rattle.passive_store.specs.Seen.{disk_seen};
 ghost use Rattle.twin_world.specs.Commands.{is_second};
 ghost use Rattle.twin_world.specs.Commands as command;
-ghost use Rattle.twin_world.specs.Places.{Resting, standing, Acts, IsZeroed, IsBlankedOnce, blanked_as};
+ghost use Rattle.twin_world.specs.Places.{Resting, standing, Acts, IsZeroed, IsBlankedOnce, IsStoppedOnce, blanked_as, is_failed};
 ghost use Rattle.twin_world.specs.View.{answer_of};
 
 use crate::answer::{Answer, Done};
@@ -28,6 +28,7 @@ fn overwrite<D: Disk>(disk: &mut D, bytes: &[u8]) -> Result<(), DiskRefusal>
     requires power { IsTrue (D.counts disk.old).power }
     requires whole { length bytes.now ≤ (D.counts disk.old).size }
     ensures faults { (D.counts disk.new).faults ≡ faults_after (end_of result) (D.counts disk.old).faults }
+    ensures stops { (D.counts disk.new).stops ≡ stops_after (end_of result) (D.counts disk.old).stops }
     ensures told { IsTrue D.tells → OnOk result (contents (D.told disk.new)
         ≡ at_rest (overlay 0 bytes.now (contents (D.told disk.old)).now)) }
 {
@@ -38,6 +39,7 @@ fn overwrite<D: Disk>(disk: &mut D, bytes: &[u8]) -> Result<(), DiskRefusal>
 /// Gives a disk power, and overwrites it with zeros.
 fn blank<D: Disk>(alloc: Global, disk: D) -> (D, Result<Result<(), DiskRefusal>, AllocError>)
     ensures faults { IsBlankedOnce result.1 (D.counts disk).faults (D.counts result.0).faults }
+    ensures stops { IsStoppedOnce result.1 (D.counts disk).stops (D.counts result.0).stops }
     ensures zeroed { let look = disk_seen D.counts D.told D.due in IfOk result.1 (λ how. OnOk how (IsZeroed D.tells (look result.0))) }
 {
     let mut disk = disk;
@@ -54,7 +56,8 @@ fn blank<D: Disk>(alloc: Global, disk: D) -> (D, Result<Result<(), DiskRefusal>,
 
 /// What a blanking is answered, and whether the disk failed.
 fn blanking(how: Result<(), DiskRefusal>) -> (Answer, bool)
-    ensures { answer_of result.0 ≡ blanked_as how }
+    ensures answer { answer_of result.0 ≡ blanked_as how }
+    ensures marked { result.1 ≡ is_failed how }
 {
     match how {
         Ok(()) => (Answer::Made, false),

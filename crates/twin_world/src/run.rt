@@ -7,7 +7,7 @@ ghost use Rattle.twin_world.specs.Logs.{IsLegalTwin};
 ghost use Rattle.twin_world.specs.Scripts.{commands_of, AreInReach};
 ghost use Rattle.twin_world.specs.Texts as texts;
 ghost use Rattle.twin_world.specs.View.{meant, entry_of, log_of};
-ghost use Rattle.twin_world.specs.Worlds.{standings, IsWorld, CanGoOn, AreBlank, Reaches};
+ghost use Rattle.twin_world.specs.Worlds.{standings, IsWorld, CanGoOn, AreBlank, Reaches, Runs};
 
 use crate::answer::{Done, Entry, Log};
 use crate::commands::TwinCommand;
@@ -35,6 +35,9 @@ where
     requires reach { AreInReach (map meant commands.items) }
     ensures world { IsWorld (standings St.seen (disk_seen St.Device.counts St.Device.told St.Device.due) world.new.places.items) }
     ensures all { IfOk result (λ log. commands_of (map entry_of log.entries.items) ≡ map meant commands.items) }
+    ensures runs { let look = disk_seen St.Device.counts St.Device.told St.Device.due in
+        IfOk result (λ log. Runs St.Device.tells St.layout (map entry_of log.entries.items)
+        (standings St.seen look world.old.places.items) (standings St.seen look world.new.places.items)) }
     ensures reaches { let look = disk_seen St.Device.counts St.Device.told St.Device.due in IsTrue St.Device.tells → IsLayout St.layout
         → ZerosKeepNothing St.layout → CanGoOn (length commands.items) (standings St.seen look world.old.places.items)
         → IfOk result (λ log. Reaches St.layout (map entry_of log.entries.items) (standings St.seen look world.old.places.items)
@@ -70,6 +73,9 @@ where
     ensures world { IsWorld (standings St.seen (disk_seen St.Device.counts St.Device.told St.Device.due) world.new.places.items) }
     ensures all { IfOk result (λ done. commands_of (map entry_of done.log.entries.items) ≡ map meant commands.items) }
     ensures text { IfOk result (λ done. done.text.items ≡ texts.text_of (log_of done.log)) }
+    ensures runs { let look = disk_seen St.Device.counts St.Device.told St.Device.due in
+        IfOk result (λ done. Runs St.Device.tells St.layout (map entry_of done.log.entries.items)
+        (standings St.seen look world.old.places.items) (standings St.seen look world.new.places.items)) }
     ensures legal { let look = disk_seen St.Device.counts St.Device.told St.Device.due in IsTrue St.Device.tells → IsLayout St.layout
         → ZerosKeepNothing St.layout → CanGoOn (length commands.items) (standings St.seen look world.old.places.items)
         → AreBlank St.layout (standings St.seen look world.old.places.items)

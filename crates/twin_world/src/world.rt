@@ -5,7 +5,7 @@ ghost use Rattle.passive_store.specs.Seen.{disk_seen};
 ghost use Rattle.twin_world.specs.Commands.{IsInReach};
 ghost use Rattle.twin_world.specs.Disks.{KeepNothing, CanRise};
 ghost use Rattle.twin_world.specs.View.{meant};
-ghost use Rattle.twin_world.specs.Worlds.{standings, IsWorld, AreBlank, CanGoOn, Moves, LastPair};
+ghost use Rattle.twin_world.specs.Worlds.{standings, IsWorld, AreBlank, CanGoOn, Moves, LastPair, all_disks};
 
 use crate::act::{act_at, disks_in, node};
 use crate::answer::Done;
@@ -68,6 +68,8 @@ where
             → IfOk result (λ w. CanGoOn k (standings St.seen look w.places.items)) }
         ensures blank { let look = disk_seen St.Device.counts St.Device.told St.Device.due in KeepNothing St.layout (map look disks.items)
             → IfOk result (λ w. AreBlank St.layout (standings St.seen look w.places.items)) }
+        ensures stand { let look = disk_seen St.Device.counts St.Device.told St.Device.due in
+            IfOk result (λ w. all_disks (standings St.seen look w.places.items) ≡ map look disks.items) }
         ensures kept { IfErr result (λ e. e.0 ≡ disks) }
     {
         let mut places = Vec::new(alloc);
@@ -92,6 +94,8 @@ where
         requires empty { room.items ≡ [] }
         requires room { 8 ≤ vec_capacity room }
         ensures eight { length result.items ≡ 8 }
+        ensures given { let look = disk_seen St.Device.counts St.Device.told St.Device.due in
+            map look result.items ≡ all_disks (standings St.seen look self.places.items) }
     {
         let mut disks = room;
         for place in self.places {

@@ -26,7 +26,9 @@ delete_place-requires-clause-serial g c =
 pub returns-in-Put : goal.returns-in-Put
 returns-in-Put g c =
     let look = disk_seen g.St.Device.Disk.counts g.St.Device.Disk.told g.St.Device.Disk.due in
-    acts-as g.St.Device.Disk.tells g.St.Store.layout c.args.n (puts c.args.n c.in-Put.serial c.as_slice.result.now) (meant c.args.command.now) c.put_place.result.1 (standing g.St.Store.seen look c.args.place) (standing g.St.Store.seen look c.put_place.result.0)
+    acts-as g.St.Device.Disk.tells g.St.Store.layout c.args.n (puts c.args.n c.in-Put.serial c.as_slice.result.now)
+    (meant c.args.command.now) c.put_place.result.1 (standing g.St.Store.seen look c.args.place)
+    (standing g.St.Store.seen look c.put_place.result.0)
     (put-means c.args.command.now c.args.n c.in-Put.n c.in-Put.serial c.in-Put.text c.as_slice.result.now c.in-Put.is c.requires.node
     c.as_slice.ensures)
     c.put_place.ensures
@@ -34,13 +36,15 @@ returns-in-Put g c =
 pub returns-in-Get : goal.returns-in-Get
 returns-in-Get g c =
     let look = disk_seen g.St.Device.Disk.counts g.St.Device.Disk.told g.St.Device.Disk.due in
-    acts-as g.St.Device.Disk.tells g.St.Store.layout c.args.n (gets c.args.n c.in-Get.serial) (meant c.args.command.now) c.get_place.result.1 (standing g.St.Store.seen look c.args.place) (standing g.St.Store.seen look c.get_place.result.0)
+    acts-as g.St.Device.Disk.tells g.St.Store.layout c.args.n (gets c.args.n c.in-Get.serial) (meant c.args.command.now)
+    c.get_place.result.1 (standing g.St.Store.seen look c.args.place) (standing g.St.Store.seen look c.get_place.result.0)
     (get-means c.args.command.now c.args.n c.in-Get.n c.in-Get.serial c.in-Get.is c.requires.node)
     c.get_place.ensures
 
 pub returns-in-Delete : goal.returns-in-Delete
 returns-in-Delete g c =
     let look = disk_seen g.St.Device.Disk.counts g.St.Device.Disk.told g.St.Device.Disk.due in
-    acts-as g.St.Device.Disk.tells g.St.Store.layout c.args.n (deletes c.args.n c.in-Delete.serial) (meant c.args.command.now) c.delete_place.result.1 (standing g.St.Store.seen look c.args.place) (standing g.St.Store.seen look c.delete_place.result.0)
+    acts-as g.St.Device.Disk.tells g.St.Store.layout c.args.n (deletes c.args.n c.in-Delete.serial) (meant c.args.command.now)
+    c.delete_place.result.1 (standing g.St.Store.seen look c.args.place) (standing g.St.Store.seen look c.delete_place.result.0)
     (delete-means c.args.command.now c.args.n c.in-Delete.n c.in-Delete.serial c.in-Delete.is c.requires.node)
     c.delete_place.ensures

@@ -11,5 +11,6 @@ act-new-requires-clause-sound g c =
 pub returns : goal.returns
 returns g c =
     let look = disk_seen g.St.Device.Disk.counts g.St.Device.Disk.told g.St.Device.Disk.due in
-    acts-from-to g.St.Store.seen look g.St.Device.Disk.tells g.St.Store.layout c.args.n (meant c.args.command.now) c.act-new.result.1 c.args.place.now c.replace-old.result
+    acts-from-to g.St.Store.seen look g.St.Device.Disk.tells g.St.Store.layout c.args.n (meant c.args.command.now) c.act-new.result.1
+    c.args.place.now c.replace-old.result
     c.act-new.result.0 c.replace.new.dest c.replace-old.ensures.value c.replace.ensures.after c.act-new.ensures

@@ -10,4 +10,5 @@ returns-then-second_one g c =
 pub returns-else-second_one : goal.returns-else-second_one
 returns-else-second_one g c =
     let look = disk_seen g.St.Device.Disk.counts g.St.Device.Disk.told g.St.Device.Disk.due in
-    asked-first g.St.Device.Disk.tells (look c.args.first) (look c.args.second) (look c.armed-else-second_one.result) c.armed-else-second_one.ensures
+    asked-first g.St.Device.Disk.tells (look c.args.first) (look c.args.second) (look c.armed-else-second_one.result)
+    c.armed-else-second_one.ensures

@@ -20,11 +20,14 @@ delete_open-requires-clause-node g c =
 pub returns-in-Open : goal.returns-in-Open
 returns-in-Open g c =
     let look = disk_seen g.St.Device.Disk.counts g.St.Device.Disk.told g.St.Device.Disk.due in
-    acts-at g.St.Store.seen look g.St.Device.Disk.tells g.St.Store.layout c.args.n (deletes c.args.n c.args.serial) c.delete_open.result.1 c.args.place
+    acts-at g.St.Store.seen look g.St.Device.Disk.tells g.St.Store.layout c.args.n (deletes c.args.n c.args.serial) c.delete_open.result.1
+    c.args.place
     (place.Open c.in-Open.twin) (standing g.St.Store.seen look c.delete_open.result.0) c.in-Open.is c.delete_open.ensures
 
 pub returns-in_default : goal.returns-in_default
 returns-in_default g c =
     let look = disk_seen g.St.Device.Disk.counts g.St.Device.Disk.told g.St.Device.Disk.due in
-    wrong-open g.St.Device.Disk.tells g.St.Store.layout c.args.n (deletes c.args.n c.args.serial) c.plain.result (standing g.St.Store.seen look c.args.place) refl
-    (ap answer_of c.plain.ensures.answer) (never-open g.St.Store.seen look c.args.place c.in_default.not-Open)
+    wrong-open g.St.Device.Disk.tells g.St.Store.layout c.args.n (deletes c.args.n c.args.serial) c.plain.result
+    (standing g.St.Store.seen look c.args.place) refl
+    (ap answer_of c.plain.ensures.answer) c.plain.ensures.first c.plain.ensures.second
+    (never-open g.St.Store.seen look c.args.place c.in_default.not-Open)

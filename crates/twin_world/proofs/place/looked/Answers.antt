@@ -18,7 +18,8 @@ returns-in-Ok-clause-done g c =
 pub returns-in-Err-clause-place : goal.returns-in-Err-clause-place
 returns-in-Err-clause-place g c =
     let look = disk_seen g.St.Device.Disk.counts g.St.Device.Disk.told g.St.Device.Disk.due in
-    goes-err g.St.Device.Disk.tells c.args.asked.answer c.in-Err.refusal (twin_seen g.St.Store.seen look c.args.twin) (standing g.St.Store.seen look c.shut.result) c.in-Err.is c.shut.ensures
+    goes-err g.St.Device.Disk.tells c.args.asked.answer c.in-Err.refusal (twin_seen g.St.Store.seen look c.args.twin)
+    (standing g.St.Store.seen look c.shut.result) c.in-Err.is c.shut.ensures
 
 pub returns-in-Err-clause-done : goal.returns-in-Err-clause-done
 returns-in-Err-clause-done g c =

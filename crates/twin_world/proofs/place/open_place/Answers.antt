@@ -16,5 +16,7 @@ returns-in-Rest g c =
 pub returns-in_default : goal.returns-in_default
 returns-in_default g c =
     let look = disk_seen g.St.Device.Disk.counts g.St.Device.Disk.told g.St.Device.Disk.due in
-    wrong-closed g.St.Device.Disk.tells g.St.Store.layout c.args.n (opens c.args.n) c.plain.result (standing g.St.Store.seen look c.args.place) refl
-    (ap answer_of c.plain.ensures.answer) (never-rest g.St.Store.seen look c.args.place c.in_default.not-Rest)
+    wrong-closed g.St.Device.Disk.tells g.St.Store.layout c.args.n (opens c.args.n) c.plain.result
+    (standing g.St.Store.seen look c.args.place) refl
+    (ap answer_of c.plain.ensures.answer) c.plain.ensures.first c.plain.ensures.second
+    (never-rest g.St.Store.seen look c.args.place c.in_default.not-Rest)

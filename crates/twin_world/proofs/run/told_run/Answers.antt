@@ -10,5 +10,6 @@ returns-clause-legal g c =
     λ so l z can blank.
     let look = disk_seen g.St.Device.Disk.counts g.St.Device.Disk.told g.St.Device.Disk.due in
     legal g.St.Store.layout (map entry_of c.in_ok-log.log.entries.items) (map meant c.args.commands.items)
-    (standings g.St.Store.seen look c.args.world.now.places.items) (standings g.St.Store.seen look c.run_all.new.world.places.items) c.requires.reach
+    (standings g.St.Store.seen look c.args.world.now.places.items) (standings g.St.Store.seen look c.run_all.new.world.places.items)
+    c.requires.reach
     c.in_ok-log.ensures.all blank (c.in_ok-log.ensures.reaches so l z can)

@@ -1,8 +1,7 @@
-use Rattle.std.proofs.Common.{sym, subst, ap, ◌∙◌}
-use Rattle.std.specs.Prelude.{◌≡◌, Some, None, Ok, Err}
+use Rattle.std.proofs.Common.{ap, ◌∙◌}
 use Rattle.std.proofs.lemmas.Result.{err_from_is_err_and}
-use Rattle.passive_store.specs.Seen.{asked, disk_seen}
-use Rattle.twin_store.specs.Sides.{SideSeen, InUse, side_seen, opened_side, SideServes}
+use Rattle.passive_store.specs.Seen.{disk_seen}
+use Rattle.twin_store.specs.Sides.{side_seen, opened_side}
 use Rattle.twin_store.proofs.Sided.{side_served, side_refused}
 use Rattle.twin_store.proofs.side.Side.delete.Goals as goal
 

@@ -1,5 +1,5 @@
-use Rattle.std.proofs.Common.{sym, subst}
-use Rattle.std.specs.Prelude.{Ok, Err}
+use Rattle.std.proofs.Common.{subst}
+use Rattle.std.specs.Prelude.{Err}
 use Rattle.passive_store.specs.Seen.{disk_seen, Opens}
 use Rattle.twin_store.proofs.Opened.{opened_ok, opened_failed, opened_damaged, footing_kept}
 use Rattle.twin_store.proofs.side.Side.open.Goals as goal

@@ -1,4 +1,4 @@
-use Rattle.std.specs.Prelude.{Some, None, Ok, Err}
+use Rattle.std.specs.Prelude.{Some, None}
 use Rattle.passive_store.specs.Seen.{asked, disk_seen}
 use Rattle.twin_store.specs.Twins.{twin_seen}
 use Rattle.twin_store.proofs.Changing.{changed_both}

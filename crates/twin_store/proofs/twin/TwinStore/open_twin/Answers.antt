@@ -3,6 +3,7 @@ use Rattle.twin_store.specs.Sides.{side_seen}
 use Rattle.twin_store.specs.Twins.{twin_seen}
 use Rattle.std.proofs.Common.{inl, refl}
 use Rattle.twin_store.proofs.Opened.{rose_in, opened_behind}
+use Rattle.twin_store.proofs.Stopping.{second_unopened, opened_then}
 use Rattle.twin_store.proofs.Openings.{first_unopened, second_refused, opened_twin, closed_vouched}
 use Rattle.twin_store.proofs.twin.TwinStore.open_twin.Goals as goal
 
@@ -65,3 +66,21 @@ returns-in-Err-agree-clause-counts g c =
           (opened_behind g.St.Device.Disk.tells g.St.Store.layout c.args.node (look c.args.second) (of c.in-Ok-open.side) t.second
           c.in-Ok-open.ensures.opened.by c.in-Err-agree.ensures.moves.second),
     )
+
+pub returns-in-Err-clause-stopped : goal.returns-in-Err-clause-stopped
+returns-in-Err-clause-stopped g c = inl (c.in-Err.ensures.stops, refl)
+
+pub returns-in-Err-open-clause-stopped : goal.returns-in-Err-open-clause-stopped
+returns-in-Err-open-clause-stopped g c =
+    let look = disk_seen g.St.Device.Disk.counts g.St.Device.Disk.told g.St.Device.Disk.due in
+    second_unopened c.in-Err-open.refusal (look c.args.first) (look c.close.result) (look c.args.second) (look c.in-Err-open.disk)
+    (side_seen g.St.Store.seen look c.in-Ok.side) c.close.ensures c.in-Ok.ensures.opened.stops c.in-Err-open.ensures.stops
+
+pub returns-in-Err-agree-clause-stopped : goal.returns-in-Err-agree-clause-stopped
+returns-in-Err-agree-clause-stopped g c =
+    let look = disk_seen g.St.Device.Disk.counts g.St.Device.Disk.told g.St.Device.Disk.due in
+    let t = twin_seen g.St.Store.seen look c.agree.new.self in
+    let of = side_seen g.St.Store.seen look in
+    opened_then c.in-Err-agree.refusal (look c.args.first) (look c.close-first.result.0) (look c.args.second)
+    (look c.close-first.result.1) (of c.in-Ok.side) (of c.in-Ok-open.side) t.first t.second c.close-first.ensures.0
+    c.close-first.ensures.1 c.in-Ok.ensures.opened.stops c.in-Ok-open.ensures.opened.stops c.in-Err-agree.ensures.moves.stopped

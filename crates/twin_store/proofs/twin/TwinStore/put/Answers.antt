@@ -1,14 +1,33 @@
-use Rattle.std.specs.Prelude.{Some, None, Ok, Err}
+use Rattle.std.specs.Prelude.{Some}
 use Rattle.passive_store.specs.Seen.{asked, disk_seen}
 use Rattle.twin_store.specs.Twins.{twin_seen}
-use Rattle.twin_store.proofs.Changing.{changed_both, full_before}
+use Rattle.std.proofs.Common.{refl}
+use Rattle.twin_store.proofs.Changing.{changed_both, full_before, room_there}
 use Rattle.twin_store.proofs.twin.TwinStore.put.Goals as goal
 
-pub returns : goal.returns
-returns g c =
+pub returns-clause-changes : goal.returns-clause-changes
+returns-clause-changes g c =
     let of = twin_seen g.St.Store.seen (disk_seen g.St.Device.Disk.counts g.St.Device.Disk.told g.St.Device.Disk.due) in
     changed_both g.St.Device.Disk.tells g.St.Store.layout (Some (asked c.args.uid (Some c.args.body.now))) tt c.put_second.result
     (of c.args.self.now) (of c.put_first.new.self) (of c.put_second.new.self) c.in_ok-put_first.ensures c.put_second.ensures
 
-pub returns-then-not-has_room : goal.returns-then-not-has_room
-returns-then-not-has_room g c = full_before _ g.St.Store.layout _ _
+pub returns-then-not-has_room-clause-changes : goal.returns-then-not-has_room-clause-changes
+returns-then-not-has_room-clause-changes g c =
+    let of = twin_seen g.St.Store.seen (disk_seen g.St.Device.Disk.counts g.St.Device.Disk.told g.St.Device.Disk.due) in
+    full_before g.St.Device.Disk.tells g.St.Store.layout c.args.uid c.args.body.now (of c.args.self.now)
+    (c.has_room.ensures.no c.if-not-has_room.true)
+
+pub returns-then-not-has_room-clause-short : goal.returns-then-not-has_room-clause-short
+returns-then-not-has_room-clause-short g c = λ so lacks. (refl, refl)
+
+pub returns-clause-short : goal.returns-clause-short
+returns-clause-short g c = λ so lacks.
+    let of = twin_seen g.St.Store.seen (disk_seen g.St.Device.Disk.counts g.St.Device.Disk.told g.St.Device.Disk.due) in
+    let has = c.has_room.ensures.yes c.if-not-has_room.false in
+    room_there g.St.Device.Disk.tells g.St.Store.layout c.args.body.now (of c.args.self.now) so has.0 has.1 lacks
+
+pub returns-in_err-put_first-clause-short : goal.returns-in_err-put_first-clause-short
+returns-in_err-put_first-clause-short g c = λ so lacks.
+    let of = twin_seen g.St.Store.seen (disk_seen g.St.Device.Disk.counts g.St.Device.Disk.told g.St.Device.Disk.due) in
+    let has = c.has_room.ensures.yes c.if-not-has_room.false in
+    room_there g.St.Device.Disk.tells g.St.Store.layout c.args.body.now (of c.args.self.now) so has.0 has.1 lacks

@@ -1,10 +1,10 @@
-use Rattle.std.proofs.Common.{rules, ◌≡◌, ◌∙◌, ℕ, sym, ap, subst, List, ◌∷◌, map, length, arith}
+use Rattle.std.proofs.Common.{rules, ◌≡◌, ◌∙◌, sym, ap, subst, ◌∷◌, ◌++◌, map, length, arith}
 use Rattle.std.specs.Option.{option_map}
 use Rattle.std.specs.Vec.Iter.{into_iter_items, into_iter_len}
 use Rattle.std.proofs.lemmas.List.{length-map}
 use Rattle.passive_store.specs.Seen.{disk_seen}
 use Rattle.twin_world.specs.Places.{standing}
-use Rattle.twin_world.specs.Worlds.{standings}
+use Rattle.twin_world.specs.Worlds.{standings, all_disks}
 use Rattle.twin_world.proofs.Beginning.{AllStand, world-stands, stands-given, none-of, none-shown}
 use Rattle.twin_world.proofs.world.TwinWorld.close.Goals as goal
 
@@ -23,6 +23,8 @@ loop-place-init g c =
           (world-stands (standings g.St.Store.seen look c.args.self.places.items) c.requires.world);
       count = omega (arith, none, four, all);
       room = omega (arith, none, four, all, c.requires.room);
+      given = ap (λ l. map look l ++ all_disks (map (standing g.St.Store.seen look) (into_iter_items it))) c.requires.empty
+          ∙ ap (λ l. all_disks (map (standing g.St.Store.seen look) l)) same;
       counted = counted;
     }
 
