@@ -1,11 +1,10 @@
 -- How each public call ends: what is told of it by what is due.
 use Rattle.std.proofs.Common.{◌≡◌, ℕ, suc, Bool, true, false, Option, None, Some, refl, sym, ◌∙◌, ap, subst}
-use Rattle.std.specs.Prelude.{if◌then◌else◌, ◌==◌, nat_lt}
+use Rattle.std.specs.Prelude.{if◌then◌else◌, ◌==◌}
 use Rattle.capability.specs.declared.Uid.{Uid}
-use Rattle.capability.specs.Uids.{uid_eq}
 use Rattle.eden_value.specs.Datum.{Datum}
 use Rattle.passive_store.specs.Seen.{Seen}
-use Rattle.move_laws.specs.Wander.{Record, Here, Lent, Gone, generation, Letter, Take, Known}
+use Rattle.move_laws.specs.Wander.{Record, Here, Lent, Gone, Letter, Take}
 use Rattle.move_laws.specs.World.{Node, Ended, Refused, Answered, Call, Due, Refuses, Gives, Puts, Mind, Forgotten, Same, Learnt}
 use Rattle.move_laws.specs.World.{Acted, Declined, TooLong, NoRoom, NoMemory, Given, Cut, Done, Carried, Starved, Unsettled, Unread, Behind}
 use Rattle.move_laws.specs.World.{Make, Wake, Save, Lend, Again, TakeIt, CloseIt, save_by, lend_by, wake_by, again_by, take_by, close_by}

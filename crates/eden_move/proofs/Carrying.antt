@@ -1,7 +1,7 @@
 -- How the parts of a call make a whole call.
 use Rattle.std.proofs.Common.{◌≡◌, ◌⊎◌, inl, inr, ℕ, suc, ◌≤◌, Bool, true, false, List, Option, None, Some, is_some, refl, sym, ◌∙◌, ap}
 use Rattle.std.proofs.Common.{subst, arith}
-use Rattle.std.specs.Prelude.{IsTrue, IsSome, IfSome, Result, Ok, Err, MatchResult, IfOk, IfErr, OnOk, if◌then◌else◌, ◌==◌, ◌&&◌, nat_lt}
+use Rattle.std.specs.Prelude.{IsTrue, IfSome, Result, Ok, Err, MatchResult, IfOk, IfErr, OnOk, if◌then◌else◌, ◌==◌, ◌&&◌, nat_lt}
 use Rattle.std.specs.Prelude.{nat_le}
 use Rattle.std.specs.Option.{option_map}
 use Rattle.capability.specs.declared.Uid.{Uid}
@@ -13,9 +13,9 @@ use Rattle.passive_store.specs.declared.store.StoreRefusal.TheVariants as store
 use Rattle.passive_store.specs.Kept.{IsDiskRefusal, IsEarlyRefusal, body_at}
 use Rattle.passive_store.specs.Seen.{Seen}
 use Rattle.move_laws.specs.Wander.{Record, Here, Lent, Gone, Letter, Take, Known, generation}
-use Rattle.move_laws.specs.World.{Node, Harm, Fails, Stops, harmed, refusal_of, Refused, Ended, Call, Due, Puts, Mind, Forgotten, Same}
-use Rattle.move_laws.specs.World.{Learnt, minded, minding, fallen}
-use Rattle.move_laws.specs.World.{changed, doubting, Acted, NoRoom, NoMemory, Cut, TooLong, Carried, Unsettled, Unread, Behind, settled_by}
+use Rattle.move_laws.specs.World.{Node, Fails, Stops, harmed, Refused, Ended, Call, Due, Puts, Mind, Forgotten, Same}
+use Rattle.move_laws.specs.World.{Learnt, minded, fallen}
+use Rattle.move_laws.specs.World.{doubting, NoRoom, NoMemory, Cut, TooLong, Unsettled, Unread, Behind, settled_by}
 use Rattle.move_laws.specs.World.{reads, due, due_by, needing_here, Done, Given, Declined, Answered}
 use Rattle.move_laws.specs.World.{Make, Wake, Save, Lend, Again, TakeIt, CloseIt, save_by, lend_by, wake_by, again_by, take_by, close_by}
 use Rattle.move_laws.specs.World.{keeping, GenerationsSpent, Refuses, Gives}
@@ -23,14 +23,13 @@ use Rattle.eden_move.specs.declared.refusal.MoveRefusal.{MoveRefusal}
 use Rattle.eden_move.specs.declared.refusal.MoveRefusal.TheVariants.{Fault, OutOfMemory}
 use Rattle.eden_move.specs.declared.refusal.MoveRefusal.TheVariants as coded
 use Rattle.eden_move.specs.declared.due.Found.{Found}
-use Rattle.eden_move.specs.declared.due.Found.TheVariants.{Nothing, Unread as NotRead}
 use Rattle.std.proofs.lemmas.Bool.{eqb-false, leb-true, leb-false}
 use Rattle.eden_move.specs.Records.{record_in, is_long, in_bounds, IsRecord}
 use Rattle.eden_move.proofs.Recorded.{record-fits}
 use Rattle.eden_move.specs.Minds.{Remembered, as_memory, as_active, mind_by}
 use Rattle.eden_move.specs.Calls.{refusal_by, seen_refusal, Finds}
 use Rattle.eden_move.specs.Shown.{key, IsWanderer, Shows, IsSettled, IsHarmed, Went, Acts, FoundIn, IsFitMind, IsFitMemory, IsFitCall}
-use Rattle.eden_move.specs.Shown.{IsFitDue, IsFitPost}
+use Rattle.eden_move.specs.Shown.{IsFitDue}
 
 -- 1. Memory
 

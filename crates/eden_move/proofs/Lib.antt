@@ -5,3 +5,4 @@ pub mod Carrying
 pub mod Calling
 pub mod Placing
 pub mod Going
+pub mod Rooming

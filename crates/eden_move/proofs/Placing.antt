@@ -1,5 +1,5 @@
 -- A place of memory that is made.
-use Rattle.std.proofs.Common.{◌≡◌, Bool, false, Option, None, Some, is_some, cond, refl, sym, ◌∙◌, ap}
+use Rattle.std.proofs.Common.{◌≡◌, false, Option, None, Some, is_some, cond, refl, sym, ◌∙◌, ap}
 use Rattle.std.specs.declared.cmp.Ordering.{Ordering}
 use Rattle.std.specs.declared.cmp.Ordering.TheVariants.{Less, Equal, Greater}
 use Rattle.std.specs.Ordering.{is_eq}

@@ -1,7 +1,7 @@
 -- What each call of a store shows of a node.
-use Rattle.std.proofs.Common.{◌≡◌, ◌≢◌, ◌⊎◌, inl, inr, ◌≤◌, ℕ, Bool, true, false, List, [], ◌∷◌, Option, None, Some, is_some, cond, refl}
-use Rattle.std.proofs.Common.{sym, ◌∙◌, ap, subst, arith}
-use Rattle.std.specs.Prelude.{IsTrue, if◌then◌else◌, Result, Ok, Err, MatchResult}
+use Rattle.std.proofs.Common.{◌≡◌, ◌⊎◌, inl, inr, ℕ, Bool, true, false, Option, None, Some, is_some, cond, refl}
+use Rattle.std.proofs.Common.{sym, ◌∙◌, ap, subst}
+use Rattle.std.specs.Prelude.{IsTrue, if◌then◌else◌}
 use Rattle.std.specs.Option.{option_map}
 use Rattle.std.specs.declared.cmp.Ordering.{Ordering}
 use Rattle.std.specs.declared.cmp.Ordering.TheVariants.{Less, Equal, Greater}
@@ -19,7 +19,7 @@ use Rattle.passive_store.specs.Kept.{is_unsettled}
 use Rattle.passive_store.specs.Kept.{work_settled, settled}
 use Rattle.passive_store.specs.Seen.{Seen}
 use Rattle.move_laws.specs.Wander.{Record}
-use Rattle.move_laws.specs.World.{changed, Node, Pick, Old, New, keeping, doubting, made_of, settled_by, SettlesAs}
+use Rattle.move_laws.specs.World.{changed, Node, Old, New, keeping, doubting, made_of}
 use Rattle.move_laws.proofs.Hops.{own-uid, uids?}
 use Rattle.eden_move.specs.Records.{record_in}
 use Rattle.eden_move.specs.Minds.{Remembered}

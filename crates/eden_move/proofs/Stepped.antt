@@ -1,5 +1,5 @@
 -- What a settling, a read and a put of a store leave of a node.
-use Rattle.std.proofs.Common.{◌≡◌, ◌⊎◌, inl, inr, ℕ, Bool, true, false, List, Option, None, Some, is_some, refl, sym, ◌∙◌, ap, subst}
+use Rattle.std.proofs.Common.{◌≡◌, ◌⊎◌, inl, inr, ℕ, Bool, false, List, Option, None, Some, is_some, refl, sym, ◌∙◌, ap, subst}
 use Rattle.std.specs.Prelude.{IsTrue, IsSome, Result, Ok, Err, is_ok, ◌&&◌, MatchResult, IfOk, IfErr, OnErr}
 use Rattle.std.specs.Option.{option_map}
 use Rattle.capability.specs.declared.Uid.{Uid}
@@ -130,7 +130,7 @@ put-both result old new m x c u r p idle node only picked work kept s = go resul
     go (Err OutOfMemory) only none work kept = inl (inr refl, same-shows old new m x idle node (work ∙ idle) (kept ∙ same) s)
 
 -- where nothing is in doubt a settling leaves what is kept
-idle-keeps : (pick : Option StorePick) (w : Work) (k : Kept) → w ≡ Idle → settled pick w k ≡ k
+pub idle-keeps : (pick : Option StorePick) (w : Work) (k : Kept) → w ≡ Idle → settled pick w k ≡ k
 idle-keeps None w k is = refl
 idle-keeps (Some pick.Old) w k is = refl
 idle-keeps (Some pick.New) Idle k is = refl

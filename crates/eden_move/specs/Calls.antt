@@ -1,5 +1,5 @@
 -- Calls, letters and refusals of the code, as those of a world.
-use Rattle.std.specs.Prelude.{◌≡◌, ℕ, Bool, true, false, IsTrue, is_some, List, Option, None, Some, Result, Ok, Err}
+use Rattle.std.specs.Prelude.{◌≡◌, ℕ, Bool, true, false, IsTrue, is_some, Option, None, Some, Result, Ok, Err}
 use Rattle.std.specs.Option.{option_map}
 use Rattle.capability.specs.declared.Uid.{Uid}
 use Rattle.eden_value.specs.Datum.{Datum}

@@ -1,19 +1,20 @@
 -- What is seen of a node in which Ejects wander: its store and its memory, as a node of the world.
-use Rattle.std.specs.Prelude.{◌≡◌, ◌⊎◌, ℕ, ◌≤◌, Bool, true, false, IsTrue, is_some, List, Option, None, Some, IfSome}
+use Rattle.std.specs.Prelude.{◌≡◌, ◌⊎◌, ℕ, ◌≤◌, Bool, true, false, IsTrue, List, length, Option, None, Some, IfSome, Result, Ok, Err}
 use Rattle.std.specs.Option.{option_map}
 use Rattle.capability.specs.declared.Uid.{Uid}
 use Rattle.eden_value.specs.Datum.{Datum}
 use Rattle.eden_value.specs.Limits.{IsValue}
-use Rattle.eden_disk.specs.Calls.{End, faults_after, stops_after, power_after}
-use Rattle.passive_store.specs.Kept.{StoreChange, Layout, LeavesKept, doubt_in, body_at, is_busy}
-use Rattle.passive_store.specs.Seen.{Seen}
+use Rattle.eden_disk.specs.Calls.{End, Fine, AtFault, AtStop, faults_after, stops_after, power_after, more_by}
+use Rattle.passive_store.specs.declared.store.Pick.{Pick as StorePick}
+use Rattle.passive_store.specs.Kept.{StoreChange, Layout, LeavesKept, doubt_in, body_at, is_busy, settling_calls, settled}
+use Rattle.passive_store.specs.Seen.{Seen, asked, has_room_for}
 use Rattle.move_laws.specs.Wander.{Record, Letter, Take, Known}
-use Rattle.move_laws.specs.World.{Node, Pick, SettlesAs, settled_by, Harm, harmed, refusal_of, Refused, Ended, Call, Make, Wake, Save, Lend}
-use Rattle.move_laws.specs.World.{Again, TakeIt}
+use Rattle.move_laws.specs.World.{Node, Pick, SettlesAs, settled_by, Harm, harmed, refusal_of, Ended, Call, Make, Wake, Save, Lend}
+use Rattle.move_laws.specs.World.{Again, TakeIt, reads, due}
 use Rattle.move_laws.specs.World.{CloseIt, Due, Refuses, Gives, Puts, Mind, Forgotten, Same, Learnt, Acted, Carried}
 use Rattle.eden_move.specs.declared.refusal.MoveRefusal.{MoveRefusal}
-use Rattle.eden_move.specs.declared.refusal.MoveRefusal.TheVariants.{OutOfMemory}
-use Rattle.eden_move.specs.Records.{record_in, in_bounds, is_long, IsRecord}
+use Rattle.eden_move.specs.declared.refusal.MoveRefusal.TheVariants.{Fault, Stopped, Full}
+use Rattle.eden_move.specs.Records.{record_in, record_bytes, in_bounds, is_long, IsRecord}
 use Rattle.eden_move.specs.Minds.{Remembered, as_memory, as_active}
 use Rattle.eden_move.specs.Calls.{seen_refusal, Finds}
 use Rattle.eden_move.specs.declared.due.Found.{Found}
@@ -142,11 +143,116 @@ pub record IsOpen (number : ℕ) (s : Seen) : Type 0 where
 abbrev pub Stands : Layout → Seen → Type 0
 Stands layout s = LeavesKept layout s.node s.more s.kept s.work s.disk.told
 
+-- Of so many device calls these were made: all or none of them, or the first ones, where the disk refused the last of these.
+abbrev pub MadeOf : End → ℕ → ℕ → Type 0
+MadeOf Fine all made = (made ≡ 0) ⊎ (made ≡ all)
+MadeOf AtFault all made = made ≤ all
+MadeOf AtStop all made = made ≤ all
+
+-- so many are of the device calls that read what is kept under a uid
+abbrev pub AreOfReading : Layout → End → ℕ → Type 0
+AreOfReading layout end made = (body : Option (List ℕ)) × MadeOf end (layout.reading_calls body) made
+
+-- so many are of the device calls of the job of a put, on what a disk held then
+abbrev pub AreOfJob : Layout → End → ℕ → Type 0
+AreOfJob layout end made =
+    (node : ℕ) × (at : Option ℕ) × (image : List ℕ) × (uid : Uid) × (body : List ℕ)
+    × MadeOf end (length (layout.job_calls node at image uid (Some body))) made
+
+-- How many device calls were made: of a settling, then of the reading of a record, then of the put of one; none of a part that is not made.
+pub record Made (settling reading putting tells : Bool) (layout : Layout) (end : End) (old new : Seen) : Type 0 where
+  pub settles : ℕ
+  pub reads : ℕ
+  pub puts : ℕ
+  pub clock : new.disk.counts.clock ≡ more_by puts (more_by reads (more_by settles old.disk.counts.clock))
+  pub of_settling : MadeOf end (settling_calls old.work) settles
+  pub of_reading : IsTrue tells → AreOfReading layout end reads
+  pub of_job : IsTrue tells → AreOfJob layout end puts
+  pub unsettled : settling ≡ false → settles ≡ 0
+  pub unread : reading ≡ false → reads ≡ 0
+  pub unput : putting ≡ false → puts ≡ 0
+
 -- What each call does to the disk: its count of faults rises by one exactly where the call ends in a fault, and that of stops likewise;
--- and behind it a crash leaves what it may.
-pub record Goes (tells : Bool) (layout : Layout) (end : End) (old new : Seen) : Type 0 where
+-- behind it a crash leaves what it may; and it makes no device calls but those of the parts that it may have.
+pub record Goes (settling reading putting tells : Bool) (layout : Layout) (end : End) (old new : Seen) : Type 0 where
+  pub made : Made settling reading putting tells layout end old new
   pub size : new.disk.counts.size ≡ old.disk.counts.size
   pub power : new.disk.counts.power ≡ power_after end
   pub faults : new.disk.counts.faults ≡ faults_after end old.disk.counts.faults
   pub stops : new.disk.counts.stops ≡ stops_after end old.disk.counts.stops
   pub stands : IsTrue tells → Stands layout old → Stands layout new
+
+-- whether a call may put a record
+abbrev pub may_put : Call Datum → Bool
+may_put (Make v) = true
+may_put Wake = false
+may_put (Save v) = true
+may_put (Lend to) = true
+may_put Again = false
+may_put (TakeIt from g v) = true
+may_put (CloseIt from g) = true
+
+-- What a call does to the disk, by what is in memory of its Eject: it may settle; it reads the record only where its rule says so, which
+-- for a save and a lending is where nothing is in memory; and it puts one only where it is a call that may.
+abbrev pub CallGoes : Bool → Layout → Call Datum → Option Remembered → End → Seen → Seen → Type 0
+CallGoes tells layout c m end old new = Goes true (reads c (as_memory m)) (may_put c) tells layout end old new
+
+-- whether it is due to put a record
+abbrev pub is_put : Due Datum → Bool
+is_put (Refuses r) = false
+is_put (Gives m post) = false
+is_put (Puts r m post) = true
+
+-- 6. Room
+
+-- whether bytes find room under the key of an Eject, by what a store keeps
+abbrev pub finds_room : Layout → Seen → Uid → List ℕ → Bool
+finds_room layout s u body = has_room_for layout s.disk.counts.size s.kept (asked (key s.node u) (Some body))
+
+-- what is due has so much room: where it puts a record, this finds room or finds none
+abbrev pub HasRoom : Layout → Seen → Uid → Due Datum → Bool → Type 0
+HasRoom layout s u (Refuses r) room = Unit {0}
+HasRoom layout s u (Gives m post) room = Unit {0}
+HasRoom layout s u (Puts r m post) room = finds_room layout s u (record_bytes r) ≡ room
+
+-- whether there was room for a put that was refused so, if that is known: Full comes before its first device call
+abbrev pub room_by_put : MoveRefusal → Option Bool
+room_by_put Fault = Some true
+room_by_put Stopped = Some true
+room_by_put Full = Some false
+room_by_put e = None
+
+-- whether there was room for a put that ended so
+abbrev pub room_of_put : {T : Type 0} → Result T MoveRefusal → Option Bool
+room_of_put (Ok done) = Some true
+room_of_put (Err e) = room_by_put e
+
+-- the same of a whole call, of which a fault and a stop may have come before the put
+abbrev pub room_by_call : MoveRefusal → Option Bool
+room_by_call Full = Some false
+room_by_call e = None
+
+abbrev pub room_of_call : {T : Type 0} → Result T MoveRefusal → Option Bool
+room_of_call (Ok done) = Some true
+room_of_call (Err e) = room_by_call e
+
+-- from one store to another at most a settling came between: what is kept is what this pick makes of it, and the room is told as long
+pub record KeepsRoom (old new : Seen) : Type 0 where
+  pub node : new.node ≡ old.node
+  pub size : new.disk.counts.size ≡ old.disk.counts.size
+  pub more : new.more ≡ old.more
+  pub pick : Option StorePick
+  pub kept : new.kept ≡ settled pick old.work old.kept
+
+-- once the node is settled, what the call is due to do has so much room
+pub record RoomBehind (layout : Layout) (u : Uid) (c : Call Datum) (x : Node Datum) (s : Seen) (m : Uid → Option Remembered) (room : Bool)
+    : Type 0 where
+  pub store : Seen
+  pub keeps : KeepsRoom s store
+  pub settles : IsSettled x store m
+  pub has : HasRoom layout store u (due u c (settled_by settles.pick x)) room
+
+-- As long as the room is told, the call is refused as Full exactly where what it is due to put finds no room.
+abbrev pub IsFullCall : {T : Type 0} → Bool → Layout → Uid → Call Datum → Result T MoveRefusal → Seen → (Uid → Option Remembered) → Type 0
+IsFullCall tells layout u c result s m = IsTrue tells → 1 ≤ s.more → (x : Node Datum) → x.up ≡ true → Shows s m x
+    → IfSome (room_of_call result) (RoomBehind layout u c x s m)

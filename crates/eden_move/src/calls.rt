@@ -1,5 +1,5 @@
 //! The calls of a node in which Ejects wander.
-ghost use Rattle.std.specs.Prelude.{◌≡◌, ◌≢◌, ◌≤◌, ℕ, Bool, IsTrue, IfOk, Err, Some, None};
+ghost use Rattle.std.specs.Prelude.{◌≡◌, ◌≢◌, ◌≤◌, ◌+◌, ℕ, Bool, IsTrue, IfOk, Err, Some, None};
 ghost use Rattle.eden_value.specs.View.{datum};
 ghost use Rattle.eden_disk.specs.Calls.{calls_until};
 ghost use Rattle.passive_store.specs.Seen.{Arms, Opens, opened, disk_seen, disk_opened};
@@ -9,7 +9,7 @@ ghost use Rattle.eden_move.specs.declared.letter.Letter.TheVariants.{Take, Known
 ghost use Rattle.eden_move.specs.declared.refusal.MoveRefusal.TheVariants.{Stopped};
 ghost use Rattle.eden_move.specs.Minds.{remembered, value_known};
 ghost use Rattle.eden_move.specs.Calls.{uid_of, seen_letter, ended_as, letter_call, took_ended, IsTook, own_uid, end_of};
-ghost use Rattle.eden_move.specs.Shown.{IsWanderer, IsOpen, Shows, Carries, opened_node, Goes};
+ghost use Rattle.eden_move.specs.Shown.{IsWanderer, IsOpen, Shows, Carries, opened_node, Goes, CallGoes, IsFullCall};
 
 use crate::due::{Answer, Call};
 use crate::letter::{Letter, Took};
@@ -54,7 +54,11 @@ impl<St: Store> MoveNode<St> {
         ensures of { IsOpen self.new.number (St.seen self.new.store) }
         ensures node { (St.seen self.new.store).node ≡ (St.seen self.old.store).node }
         ensures power { (result ≡ Err Stopped → ⊥) → IsTrue (St.seen self.new.store).disk.counts.power }
-        ensures goes { Goes St.Device.tells St.layout (end_of result) (St.seen self.old.store) (St.seen self.new.store) }
+        ensures goes { CallGoes St.Device.tells St.layout (make_call (datum value))
+            (remembered self.old.mind (own_uid self.old.number serial)) (end_of result) (St.seen self.old.store) (St.seen self.new.store) }
+        ensures more { (St.seen self.old.store).more ≤ (St.seen self.new.store).more + 1 }
+        ensures full { IsFullCall St.Device.tells St.layout (own_uid self.old.number serial) (make_call (datum value)) result
+            (St.seen self.old.store) (remembered self.old.mind) }
         ensures uid { IfOk result (λ uid. uid ≡ own_uid self.old.number serial) }
         ensures carries { IsTrue St.Device.tells → Carries (own_uid self.old.number serial) (make_call (datum value))
             (ended_as Bool.true (λ _. None) result)
@@ -79,7 +83,9 @@ impl<St: Store> MoveNode<St> {
         ensures of { IsOpen self.new.number (St.seen self.new.store) }
         ensures node { (St.seen self.new.store).node ≡ (St.seen self.old.store).node }
         ensures power { (result ≡ Err Stopped → ⊥) → IsTrue (St.seen self.new.store).disk.counts.power }
-        ensures goes { Goes St.Device.tells St.layout (end_of result) (St.seen self.old.store) (St.seen self.new.store) }
+        ensures goes { CallGoes St.Device.tells St.layout wake_call (remembered self.old.mind uid) (end_of result)
+            (St.seen self.old.store) (St.seen self.new.store) }
+        ensures more { (St.seen self.old.store).more ≤ (St.seen self.new.store).more + 1 }
         ensures carries { IsTrue St.Device.tells → Carries uid wake_call (ended_as Bool.false (λ _. None) result)
             (St.seen self.old.store) (remembered self.old.mind) (St.seen self.new.store) (remembered self.new.mind) }
         // The value is the one that is in memory from then on.
@@ -100,7 +106,11 @@ impl<St: Store> MoveNode<St> {
         ensures of { IsOpen self.new.number (St.seen self.new.store) }
         ensures node { (St.seen self.new.store).node ≡ (St.seen self.old.store).node }
         ensures power { (result ≡ Err Stopped → ⊥) → IsTrue (St.seen self.new.store).disk.counts.power }
-        ensures goes { Goes St.Device.tells St.layout (end_of result) (St.seen self.old.store) (St.seen self.new.store) }
+        ensures goes { CallGoes St.Device.tells St.layout (save_call (datum value)) (remembered self.old.mind uid) (end_of result)
+            (St.seen self.old.store) (St.seen self.new.store) }
+        ensures more { (St.seen self.old.store).more ≤ (St.seen self.new.store).more + 1 }
+        ensures full { IsFullCall St.Device.tells St.layout uid (save_call (datum value)) result
+            (St.seen self.old.store) (remembered self.old.mind) }
         ensures carries { IsTrue St.Device.tells → Carries uid (save_call (datum value)) (ended_as Bool.true (λ _. None) result)
             (St.seen self.old.store) (remembered self.old.mind) (St.seen self.new.store) (remembered self.new.mind) }
     {
@@ -119,7 +129,11 @@ impl<St: Store> MoveNode<St> {
         ensures of { IsOpen self.new.number (St.seen self.new.store) }
         ensures node { (St.seen self.new.store).node ≡ (St.seen self.old.store).node }
         ensures power { (result ≡ Err Stopped → ⊥) → IsTrue (St.seen self.new.store).disk.counts.power }
-        ensures goes { Goes St.Device.tells St.layout (end_of result) (St.seen self.old.store) (St.seen self.new.store) }
+        ensures goes { CallGoes St.Device.tells St.layout (lend_call to) (remembered self.old.mind uid) (end_of result)
+            (St.seen self.old.store) (St.seen self.new.store) }
+        ensures more { (St.seen self.old.store).more ≤ (St.seen self.new.store).more + 1 }
+        ensures full { IsFullCall St.Device.tells St.layout uid (lend_call to) result
+            (St.seen self.old.store) (remembered self.old.mind) }
         ensures about { IfOk result (λ letter. uid_of letter ≡ uid) }
         ensures carries { IsTrue St.Device.tells → Carries uid (lend_call to) (ended_as Bool.true (λ l. Some (seen_letter l)) result)
             (St.seen self.old.store) (remembered self.old.mind) (St.seen self.new.store) (remembered self.new.mind) }
@@ -139,7 +153,9 @@ impl<St: Store> MoveNode<St> {
         ensures of { IsOpen self.new.number (St.seen self.new.store) }
         ensures node { (St.seen self.new.store).node ≡ (St.seen self.old.store).node }
         ensures power { (result ≡ Err Stopped → ⊥) → IsTrue (St.seen self.new.store).disk.counts.power }
-        ensures goes { Goes St.Device.tells St.layout (end_of result) (St.seen self.old.store) (St.seen self.new.store) }
+        ensures goes { CallGoes St.Device.tells St.layout again_call (remembered self.old.mind uid) (end_of result)
+            (St.seen self.old.store) (St.seen self.new.store) }
+        ensures more { (St.seen self.old.store).more ≤ (St.seen self.new.store).more + 1 }
         ensures about { IfOk result (λ letter. uid_of letter ≡ uid) }
         ensures carries { IsTrue St.Device.tells → Carries uid again_call (ended_as Bool.false (λ l. Some (seen_letter l)) result)
             (St.seen self.old.store) (remembered self.old.mind) (St.seen self.new.store) (remembered self.new.mind) }
@@ -166,7 +182,11 @@ impl<St: Store> MoveNode<St> {
         ensures of { IsOpen self.new.number (St.seen self.new.store) }
         ensures node { (St.seen self.new.store).node ≡ (St.seen self.old.store).node }
         ensures power { (result ≡ Err Stopped → ⊥) → IsTrue (St.seen self.new.store).disk.counts.power }
-        ensures goes { Goes St.Device.tells St.layout (end_of result) (St.seen self.old.store) (St.seen self.new.store) }
+        ensures goes { CallGoes St.Device.tells St.layout (TakeIt from generation (datum value)) (remembered self.old.mind uid)
+            (end_of result) (St.seen self.old.store) (St.seen self.new.store) }
+        ensures more { (St.seen self.old.store).more ≤ (St.seen self.new.store).more + 1 }
+        ensures full { IsFullCall St.Device.tells St.layout uid (TakeIt from generation (datum value)) result
+            (St.seen self.old.store) (remembered self.old.mind) }
         ensures kind { (to : ℕ) → IfOk result (IsTook (Take uid to generation value)) }
         ensures carries { IsTrue St.Device.tells → (to : ℕ)
             → Carries uid (TakeIt from generation (datum value)) (took_ended (Take uid to generation value) result)
@@ -198,7 +218,11 @@ impl<St: Store> MoveNode<St> {
         ensures of { IsOpen self.new.number (St.seen self.new.store) }
         ensures node { (St.seen self.new.store).node ≡ (St.seen self.old.store).node }
         ensures power { (result ≡ Err Stopped → ⊥) → IsTrue (St.seen self.new.store).disk.counts.power }
-        ensures goes { Goes St.Device.tells St.layout (end_of result) (St.seen self.old.store) (St.seen self.new.store) }
+        ensures goes { CallGoes St.Device.tells St.layout (CloseIt from generation) (remembered self.old.mind uid) (end_of result)
+            (St.seen self.old.store) (St.seen self.new.store) }
+        ensures more { (St.seen self.old.store).more ≤ (St.seen self.new.store).more + 1 }
+        ensures full { IsFullCall St.Device.tells St.layout uid (CloseIt from generation) result
+            (St.seen self.old.store) (remembered self.old.mind) }
         ensures kind { (to : ℕ) → IfOk result (IsTook (Known uid to generation)) }
         ensures carries { IsTrue St.Device.tells → (to : ℕ)
             → Carries uid (CloseIt from generation) (took_ended (Known uid to generation) result)
@@ -225,7 +249,11 @@ impl<St: Store> MoveNode<St> {
         ensures of { IsOpen self.new.number (St.seen self.new.store) }
         ensures node { (St.seen self.new.store).node ≡ (St.seen self.old.store).node }
         ensures power { (result ≡ Err Stopped → ⊥) → IsTrue (St.seen self.new.store).disk.counts.power }
-        ensures goes { Goes St.Device.tells St.layout (end_of result) (St.seen self.old.store) (St.seen self.new.store) }
+        ensures goes { Goes Bool.true Bool.true Bool.true St.Device.tells St.layout (end_of result)
+            (St.seen self.old.store) (St.seen self.new.store) }
+        ensures more { (St.seen self.old.store).more ≤ (St.seen self.new.store).more + 1 }
+        ensures full { IsFullCall St.Device.tells St.layout (uid_of letter.now) (letter_call from letter.now) result
+            (St.seen self.old.store) (remembered self.old.mind) }
         ensures kind { IfOk result (IsTook letter.now) }
         ensures carries { IsTrue St.Device.tells → Carries (uid_of letter.now) (letter_call from letter.now) (took_ended letter.now result)
             (St.seen self.old.store) (remembered self.old.mind) (St.seen self.new.store) (remembered self.new.mind) }

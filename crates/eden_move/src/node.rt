@@ -1,5 +1,6 @@
 //! A node of the world in which Ejects wander, and how it carries out a call.
-ghost use Rattle.std.specs.Prelude.{◌≡◌, ◌≤◌, ◌⊎◌, Bool, IsTrue, IfOk, IfErr, OnOk, MatchResult, Option, Result, Err, is_some, length};
+ghost use Rattle.std.specs.Prelude.{◌≡◌, ◌≤◌, ◌+◌, ◌⊎◌, Bool, IsTrue, IfOk, IfErr};
+ghost use Rattle.std.specs.Prelude.{IfSome, OnOk, MatchResult, Option, Result, Err, is_some, length};
 ghost use Rattle.std.specs.Prelude.{if◌then◌else◌};
 ghost use Rattle.std.specs.Option.{option_map};
 ghost use Rattle.eden_value.specs.Datum.{Datum};
@@ -10,13 +11,14 @@ ghost use Rattle.passive_store.specs.Seen.{Arms, Opens, opened, disk_seen, disk_
 ghost use Rattle.capability.specs.Uids.{uid_eq};
 ghost use Rattle.move_laws.specs.Wander.{Record as AnyRecord, Letter as AnyLetter};
 ghost use Rattle.move_laws.specs.World.{Node, Call as AnyCall, Mind as Becomes, Refused, reads, due, Puts, keeping};
-ghost use Rattle.eden_move.specs.declared.refusal.MoveRefusal.TheVariants.{OutOfMemory, Stopped, Fault};
-ghost use Rattle.eden_move.specs.Records.{seen_record, record_in, is_long, IsRecord};
+ghost use Rattle.eden_move.specs.declared.refusal.MoveRefusal.TheVariants.{OutOfMemory, Stopped, Fault, Full};
+ghost use Rattle.eden_move.specs.Records.{seen_record, record_in, record_bytes, is_long, IsRecord};
 ghost use Rattle.eden_move.specs.Minds.{remembered, has_place, as_memory, memory_seen};
 ghost use Rattle.eden_move.specs.Calls.{refusal_by, seen_refusal, seen_call, seen_due, Finds, IsRead, AnswersFor, KeepsRunning, put_ended};
 ghost use Rattle.eden_move.specs.Calls.{IsAnswer, IsKnownBy, ended, end_of};
 ghost use Rattle.eden_move.specs.Shown.{IsWanderer, IsOpen, Shows, IsSettled, IsHarmed, Went, Acts, FoundIn, IsFitDue, IsFitMind};
-ghost use Rattle.eden_move.specs.Shown.{IsFitCall, Carries, Goes};
+ghost use Rattle.eden_move.specs.Shown.{IsFitCall, Carries, Goes, CallGoes, may_put, is_put, finds_room, HasRoom, room_of_put, KeepsRoom};
+ghost use Rattle.eden_move.specs.Shown.{IsFullCall};
 
 use crate::due::{Answer, Call, Due, Found, Memory, due_of, reads};
 use crate::mind::Mind;
@@ -82,9 +84,12 @@ impl<St: Store> MoveNode<St> {
         ensures of { IsOpen self.new.number (St.seen self.new.store) }
         ensures node { (St.seen self.new.store).node ≡ (St.seen self.old.store).node }
         ensures power { (result ≡ Err Stopped → ⊥) → IsTrue (St.seen self.new.store).disk.counts.power }
-        ensures goes { Goes St.Device.tells St.layout (end_of result) (St.seen self.old.store) (St.seen self.new.store) }
+        ensures goes { Goes Bool.true Bool.false Bool.false St.Device.tells St.layout (end_of result)
+            (St.seen self.old.store) (St.seen self.new.store) }
         ensures work { OnOk result ((St.seen self.new.store).work ≡ Idle) }
         ensures mind { OnOk result (remembered self.new.mind ≡ remembered self.old.mind) }
+        ensures room { IsTrue St.Device.tells → OnOk result (KeepsRoom (St.seen self.old.store) (St.seen self.new.store)) }
+        ensures more { (St.seen self.new.store).more ≡ (St.seen self.old.store).more }
         ensures settled { IsTrue St.Device.tells → (x : Node Datum) → Shows (St.seen self.old.store) (remembered self.old.mind) x
             → MatchResult result
             (λ _. IsSettled x (St.seen self.new.store) (remembered self.new.mind))
@@ -105,10 +110,13 @@ impl<St: Store> MoveNode<St> {
         ensures of { IsOpen self.new.number (St.seen self.new.store) }
         ensures node { (St.seen self.new.store).node ≡ (St.seen self.old.store).node }
         ensures power { (result ≡ Err Stopped → ⊥) → IsTrue (St.seen self.new.store).disk.counts.power }
-        ensures goes { Goes St.Device.tells St.layout (end_of result) (St.seen self.old.store) (St.seen self.new.store) }
+        ensures goes { Goes Bool.false Bool.true Bool.false St.Device.tells St.layout (end_of result)
+            (St.seen self.old.store) (St.seen self.new.store) }
         ensures work { OnOk result ((St.seen self.new.store).work ≡ Idle) }
         ensures mind { OnOk result (remembered self.new.mind ≡ remembered self.old.mind) }
         ensures read { IfOk result IsRead }
+        ensures room { IsTrue St.Device.tells → OnOk result (KeepsRoom (St.seen self.old.store) (St.seen self.new.store)) }
+        ensures more { (St.seen self.new.store).more ≡ (St.seen self.old.store).more }
         ensures found { IsTrue St.Device.tells → (x : Node Datum) → Shows (St.seen self.old.store) (remembered self.old.mind) x
             → MatchResult result
             (λ found. Finds found (x.kept uid) × Shows (St.seen self.new.store) (remembered self.new.mind) x)
@@ -130,10 +138,13 @@ impl<St: Store> MoveNode<St> {
         ensures of { IsOpen self.new.number (St.seen self.new.store) }
         ensures node { (St.seen self.new.store).node ≡ (St.seen self.old.store).node }
         ensures power { (result ≡ Err Stopped → ⊥) → IsTrue (St.seen self.new.store).disk.counts.power }
-        ensures goes { Goes St.Device.tells St.layout (end_of result) (St.seen self.old.store) (St.seen self.new.store) }
+        ensures goes { Goes Bool.false reading Bool.false St.Device.tells St.layout (end_of result)
+            (St.seen self.old.store) (St.seen self.new.store) }
         ensures work { OnOk result ((St.seen self.new.store).work ≡ Idle) }
         ensures mind { OnOk result (remembered self.new.mind ≡ remembered self.old.mind) }
         ensures read { reading ≡ Bool.true → IfOk result IsRead }
+        ensures room { IsTrue St.Device.tells → OnOk result (KeepsRoom (St.seen self.old.store) (St.seen self.new.store)) }
+        ensures more { (St.seen self.new.store).more ≡ (St.seen self.old.store).more }
         ensures found { IsTrue St.Device.tells → (x : Node Datum) → Shows (St.seen self.old.store) (remembered self.old.mind) x
             → MatchResult result
             (λ found. Finds found (x.kept uid) × Shows (St.seen self.new.store) (remembered self.new.mind) x)
@@ -159,10 +170,15 @@ impl<St: Store> MoveNode<St> {
         ensures of { IsOpen self.new.number (St.seen self.new.store) }
         ensures node { (St.seen self.new.store).node ≡ (St.seen self.old.store).node }
         ensures power { (result ≡ Err Stopped → ⊥) → IsTrue (St.seen self.new.store).disk.counts.power }
-        ensures goes { Goes St.Device.tells St.layout (end_of result) (St.seen self.old.store) (St.seen self.new.store) }
+        ensures goes { Goes Bool.true reading Bool.false St.Device.tells St.layout (end_of result)
+            (St.seen self.old.store) (St.seen self.new.store) }
         ensures work { OnOk result ((St.seen self.new.store).work ≡ Idle) }
         ensures mind { OnOk result (remembered self.new.mind ≡ remembered self.old.mind) }
         ensures read { reading ≡ Bool.true → IfOk result IsRead }
+        ensures room { IsTrue St.Device.tells → OnOk result (KeepsRoom (St.seen self.old.store) (St.seen self.new.store)) }
+        ensures more { (St.seen self.new.store).more ≡ (St.seen self.old.store).more }
+        ensures early { IsTrue St.Device.tells → (x : Node Datum) → Shows (St.seen self.old.store) (remembered self.old.mind) x
+            → IfErr result (λ e. e ≡ Full → ⊥) }
         ensures found { IsTrue St.Device.tells → (x : Node Datum) → Shows (St.seen self.old.store) (remembered self.old.mind) x
             → MatchResult result
             (λ found. FoundIn uid x found (St.seen self.new.store) (remembered self.new.mind))
@@ -185,9 +201,13 @@ impl<St: Store> MoveNode<St> {
         ensures of { IsOpen self.new.number (St.seen self.new.store) }
         ensures node { (St.seen self.new.store).node ≡ (St.seen self.old.store).node }
         ensures power { (result ≡ Err Stopped → ⊥) → IsTrue (St.seen self.new.store).disk.counts.power }
-        ensures goes { Goes St.Device.tells St.layout (end_of result) (St.seen self.old.store) (St.seen self.new.store) }
+        ensures goes { Goes Bool.false Bool.false Bool.true St.Device.tells St.layout (end_of result)
+            (St.seen self.old.store) (St.seen self.new.store) }
         ensures mind { OnOk result (remembered self.new.mind ≡ remembered self.old.mind) }
         ensures place { OnOk result (self.new.mind ≡ self.old.mind) }
+        ensures more { (St.seen self.old.store).more ≤ (St.seen self.new.store).more + 1 }
+        ensures full { IsTrue St.Device.tells → 1 ≤ (St.seen self.old.store).more → IfSome (room_of_put result)
+            (λ room. finds_room St.layout (St.seen self.old.store) uid body ≡ room) }
         ensures put { IsTrue St.Device.tells → (x : Node Datum) (r : AnyRecord Datum) → record_in body ≡ Option.Some r
             → is_long r ≡ Bool.false
             → Shows (St.seen self.old.store) (remembered self.old.mind) x → MatchResult result
@@ -210,9 +230,13 @@ impl<St: Store> MoveNode<St> {
         ensures of { IsOpen self.new.number (St.seen self.new.store) }
         ensures node { (St.seen self.new.store).node ≡ (St.seen self.old.store).node }
         ensures power { (result ≡ Err Stopped → ⊥) → IsTrue (St.seen self.new.store).disk.counts.power }
-        ensures goes { Goes St.Device.tells St.layout (end_of result) (St.seen self.old.store) (St.seen self.new.store) }
+        ensures goes { Goes Bool.false Bool.false Bool.true St.Device.tells St.layout (end_of result)
+            (St.seen self.old.store) (St.seen self.new.store) }
         ensures mind { OnOk result (remembered self.new.mind ≡ remembered self.old.mind) }
         ensures place { OnOk result (self.new.mind ≡ self.old.mind) }
+        ensures more { (St.seen self.old.store).more ≤ (St.seen self.new.store).more + 1 }
+        ensures full { IsTrue St.Device.tells → 1 ≤ (St.seen self.old.store).more → IfSome (room_of_put result)
+            (λ room. finds_room St.layout (St.seen self.old.store) uid (record_bytes (seen_record «record».now)) ≡ room) }
         ensures put { IsTrue St.Device.tells → IsRecord (seen_record «record».now) → (x : Node Datum)
             → Shows (St.seen self.old.store) (remembered self.old.mind) x → MatchResult result
             (λ _. (is_long (seen_record «record».now) ≡ Bool.false)
@@ -238,7 +262,11 @@ impl<St: Store> MoveNode<St> {
         ensures of { IsOpen self.new.number (St.seen self.new.store) }
         ensures node { (St.seen self.new.store).node ≡ (St.seen self.old.store).node }
         ensures power { (result ≡ Err Stopped → ⊥) → IsTrue (St.seen self.new.store).disk.counts.power }
-        ensures goes { Goes St.Device.tells St.layout (end_of result) (St.seen self.old.store) (St.seen self.new.store) }
+        ensures goes { Goes Bool.false Bool.false Bool.true St.Device.tells St.layout (end_of result)
+            (St.seen self.old.store) (St.seen self.new.store) }
+        ensures more { (St.seen self.old.store).more ≤ (St.seen self.new.store).more + 1 }
+        ensures full { IsTrue St.Device.tells → 1 ≤ (St.seen self.old.store).more → IfSome (room_of_put result)
+            (λ room. finds_room St.layout (St.seen self.old.store) uid (record_bytes (seen_record «record»)) ≡ room) }
         ensures acts { IsTrue St.Device.tells → IsRecord (seen_record «record») → IsFitMind (memory_seen memory) → (x : Node Datum)
             → Shows (St.seen self.old.store) (remembered self.old.mind) x
             → (post : Option (AnyLetter Datum)) → Acts uid (Puts (seen_record «record») (memory_seen memory) post) x
@@ -264,9 +292,13 @@ impl<St: Store> MoveNode<St> {
         ensures of { IsOpen self.new.number (St.seen self.new.store) }
         ensures node { (St.seen self.new.store).node ≡ (St.seen self.old.store).node }
         ensures power { (result ≡ Err Stopped → ⊥) → IsTrue (St.seen self.new.store).disk.counts.power }
-        ensures goes { Goes St.Device.tells St.layout (end_of result) (St.seen self.old.store) (St.seen self.new.store) }
+        ensures goes { Goes Bool.false Bool.false (is_put (seen_due due)) St.Device.tells St.layout (end_of result)
+            (St.seen self.old.store) (St.seen self.new.store) }
         ensures answers { (c : AnyCall Datum) → AnswersFor uid c due → IfOk result (λ done. IsAnswer uid c done.1) }
         ensures shown { (c : AnyCall Datum) → AnswersFor uid c due → IfOk result (λ done. IsKnownBy (remembered self.new.mind uid) done.1) }
+        ensures more { (St.seen self.old.store).more ≤ (St.seen self.new.store).more + 1 }
+        ensures full { IsTrue St.Device.tells → 1 ≤ (St.seen self.old.store).more → IfSome (room_of_put result)
+            (HasRoom St.layout (St.seen self.old.store) uid (seen_due due)) }
         ensures acts { IsTrue St.Device.tells → IsFitDue (seen_due due) → (x : Node Datum)
             → Shows (St.seen self.old.store) (remembered self.old.mind) x
             → Acts uid (seen_due due) x (ended result) (St.seen self.new.store) (remembered self.new.mind) }
@@ -298,9 +330,13 @@ impl<St: Store> MoveNode<St> {
         ensures of { IsOpen self.new.number (St.seen self.new.store) }
         ensures node { (St.seen self.new.store).node ≡ (St.seen self.old.store).node }
         ensures power { (result ≡ Err Stopped → ⊥) → IsTrue (St.seen self.new.store).disk.counts.power }
-        ensures goes { Goes St.Device.tells St.layout (end_of result) (St.seen self.old.store) (St.seen self.new.store) }
+        ensures goes { Goes Bool.false Bool.false (is_put (seen_due due)) St.Device.tells St.layout (end_of result)
+            (St.seen self.old.store) (St.seen self.new.store) }
         ensures answers { (c : AnyCall Datum) → AnswersFor uid c due → IfOk result (λ done. IsAnswer uid c done.1) }
         ensures shown { (c : AnyCall Datum) → AnswersFor uid c due → IfOk result (λ done. IsKnownBy (remembered self.new.mind uid) done.1) }
+        ensures more { (St.seen self.old.store).more ≤ (St.seen self.new.store).more + 1 }
+        ensures full { IsTrue St.Device.tells → 1 ≤ (St.seen self.old.store).more → IfSome (room_of_put result)
+            (HasRoom St.layout (St.seen self.old.store) uid (seen_due due)) }
         ensures acts { IsTrue St.Device.tells → IsFitDue (seen_due due) → (x : Node Datum)
             → Shows (St.seen self.old.store) (remembered self.old.mind) x
             → Acts uid (seen_due due) x (ended result) (St.seen self.new.store) (remembered self.new.mind) }
@@ -326,9 +362,14 @@ impl<St: Store> MoveNode<St> {
         ensures of { IsOpen self.new.number (St.seen self.new.store) }
         ensures node { (St.seen self.new.store).node ≡ (St.seen self.old.store).node }
         ensures power { (result ≡ Err Stopped → ⊥) → IsTrue (St.seen self.new.store).disk.counts.power }
-        ensures goes { Goes St.Device.tells St.layout (end_of result) (St.seen self.old.store) (St.seen self.new.store) }
+        ensures goes { Goes Bool.false Bool.false (may_put (seen_call call)) St.Device.tells St.layout (end_of result)
+            (St.seen self.old.store) (St.seen self.new.store) }
         ensures answers { IfOk result (λ done. IsAnswer uid (seen_call call) done.1) }
         ensures shown { IfOk result (λ done. IsKnownBy (remembered self.new.mind uid) done.1) }
+        ensures more { (St.seen self.old.store).more ≤ (St.seen self.new.store).more + 1 }
+        ensures full { IsTrue St.Device.tells → 1 ≤ (St.seen self.old.store).more → (x : Node Datum) → x.up ≡ Bool.true
+            → Finds found (x.kept uid) → Shows (St.seen self.old.store) (remembered self.old.mind) x
+            → IfSome (room_of_put result) (HasRoom St.layout (St.seen self.old.store) uid (due uid (seen_call call) x)) }
         ensures acts { IsTrue St.Device.tells → IsFitCall (seen_call call) → (x : Node Datum) → x.up ≡ Bool.true
             → Finds found (x.kept uid) → Shows (St.seen self.old.store) (remembered self.old.mind) x
             → Acts uid (due uid (seen_call call) x) x (ended result) (St.seen self.new.store) (remembered self.new.mind) }
@@ -347,9 +388,13 @@ impl<St: Store> MoveNode<St> {
         ensures of { IsOpen self.new.number (St.seen self.new.store) }
         ensures node { (St.seen self.new.store).node ≡ (St.seen self.old.store).node }
         ensures power { (result ≡ Err Stopped → ⊥) → IsTrue (St.seen self.new.store).disk.counts.power }
-        ensures goes { Goes St.Device.tells St.layout (end_of result) (St.seen self.old.store) (St.seen self.new.store) }
+        ensures goes { CallGoes St.Device.tells St.layout (seen_call call) (remembered self.old.mind uid) (end_of result)
+            (St.seen self.old.store) (St.seen self.new.store) }
         ensures answers { IfOk result (λ done. IsAnswer uid (seen_call call) done.1) }
         ensures shown { IfOk result (λ done. IsKnownBy (remembered self.new.mind uid) done.1) }
+        ensures more { (St.seen self.old.store).more ≤ (St.seen self.new.store).more + 1 }
+        ensures full { IsFullCall St.Device.tells St.layout uid (seen_call call) result
+            (St.seen self.old.store) (remembered self.old.mind) }
         ensures carries { IsTrue St.Device.tells → Carries uid (seen_call call) (ended result)
             (St.seen self.old.store) (remembered self.old.mind) (St.seen self.new.store) (remembered self.new.mind) }
     {

@@ -7,7 +7,7 @@ ghost use Rattle.std.specs.Option.{option_map};
 ghost use Rattle.move_laws.specs.Wander.{generation};
 ghost use Rattle.eden_codec.specs.declared.encode.EncodeRefusal.TheVariants.{TooLarge};
 ghost use Rattle.eden_move.specs.Records.{seen_record, record_in, record_values, record_rep, int_value, int_first, only_one};
-ghost use Rattle.eden_move.specs.Records.{record_at, record_by, record_of, is_long, IsRecord};
+ghost use Rattle.eden_move.specs.Records.{record_at, record_by, record_of, record_bytes, is_long, IsRecord};
 
 use capability::{BODY_LIMIT, Body};
 use eden_codec::{DecodeRefusal, EncodeRefusal, Rep, decode_rep, encode_rep};
@@ -103,6 +103,7 @@ fn rep_of(alloc: Global, record: &Record) -> Result<Rep, AllocError>
 pub fn bytes_of(alloc: Global, record: &Record) -> Result<Body, EncodeRefusal>
     // They spell the record, where its numbers and its value are within their limits.
     ensures spells { IsRecord (seen_record «record».now) → IfOk result (λ body. record_in body ≡ Some (seen_record «record».now)) }
+    ensures bytes { IfOk result (λ body. body ≡ record_bytes (seen_record «record».now)) }
     ensures limit { IfOk result (λ body. length body ≤ BODY_LIMIT) }
     ensures short { IfOk result (λ _. is_long (seen_record «record».now) ≡ Bool.false) }
     ensures too_large { result ≡ Err TooLarge → is_long (seen_record «record».now) ≡ Bool.true }

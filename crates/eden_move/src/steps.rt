@@ -9,7 +9,7 @@ ghost use Rattle.move_laws.specs.World.{Node, keeping, doubting};
 ghost use Rattle.move_laws.specs.Wander.{Record as AnyRecord};
 ghost use Rattle.eden_move.specs.Records.{record_in};
 ghost use Rattle.eden_move.specs.Minds.{Remembered};
-ghost use Rattle.eden_move.specs.Shown.{key, IsWanderer, Shows, IsSettled, Goes};
+ghost use Rattle.eden_move.specs.Shown.{key, IsWanderer, Shows, IsSettled, Goes, KeepsRoom};
 
 use capability::{Body, Uid};
 use passive_store::{Store, StoreRefusal};
@@ -34,7 +34,10 @@ pub fn settles<St: Store>(store: &mut St) -> Result<(), StoreRefusal>
     ensures work { OnOk result ((St.seen store.new).work ≡ Idle) }
     ensures node { (St.seen store.new).node ≡ (St.seen store.old).node }
     ensures power { (result ≡ Err Stopped → ⊥) → IsTrue (St.seen store.new).disk.counts.power }
-    ensures goes { Goes St.Device.tells St.layout (end_of_store result) (St.seen store.old) (St.seen store.new) }
+    ensures goes { Goes Bool.true Bool.false Bool.false St.Device.tells St.layout (end_of_store result)
+        (St.seen store.old) (St.seen store.new) }
+    ensures room { IsTrue St.Device.tells → KeepsRoom (St.seen store.old) (St.seen store.new) }
+    ensures more { (St.seen store.new).more ≡ (St.seen store.old).more }
     ensures settled { IsTrue St.Device.tells → (m : Uid → Option Remembered) (x : Node Datum) → Shows (St.seen store.old) m x
         → MatchResult result
         (λ _. IsSettled x (St.seen store.new) m)
@@ -57,7 +60,10 @@ pub fn reads_kept<St: Store>(
     ensures work { (St.seen store.new).work ≡ Idle }
     ensures node { (St.seen store.new).node ≡ (St.seen store.old).node }
     ensures power { (result ≡ Err Stopped → ⊥) → IsTrue (St.seen store.new).disk.counts.power }
-    ensures goes { Goes St.Device.tells St.layout (end_of_store result) (St.seen store.old) (St.seen store.new) }
+    ensures goes { Goes Bool.false Bool.true Bool.false St.Device.tells St.layout (end_of_store result)
+        (St.seen store.old) (St.seen store.new) }
+    ensures room { IsTrue St.Device.tells → KeepsRoom (St.seen store.old) (St.seen store.new) }
+    ensures more { (St.seen store.new).more ≡ (St.seen store.old).more }
     ensures read { IsTrue St.Device.tells → (m : Uid → Option Remembered) (x : Node Datum) → Shows (St.seen store.old) m x
         → Shows (St.seen store.new) m x × MatchResult result
         (λ body. option_map record_in body ≡ x.kept uid)
@@ -82,7 +88,8 @@ pub fn puts_record<St: Store>(
     ensures idle { is_busy (St.seen store.new).work ≡ Bool.false }
     ensures node { (St.seen store.new).node ≡ (St.seen store.old).node }
     ensures power { (result ≡ Err Stopped → ⊥) → IsTrue (St.seen store.new).disk.counts.power }
-    ensures goes { Goes St.Device.tells St.layout (end_of_store result) (St.seen store.old) (St.seen store.new) }
+    ensures goes { Goes Bool.false Bool.false Bool.true St.Device.tells St.layout (end_of_store result)
+        (St.seen store.old) (St.seen store.new) }
     ensures put { IsTrue St.Device.tells → (m : Uid → Option Remembered) (x : Node Datum) (r : AnyRecord Datum)
         → Shows (St.seen store.old) m x → record_in body ≡ Option.Some r
         → MatchResult result

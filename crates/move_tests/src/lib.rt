@@ -4,6 +4,8 @@
 #[cfg(test)]
 mod common;
 #[cfg(test)]
+mod eden_move_calls;
+#[cfg(test)]
 mod move_world_scripts;
 #[cfg(test)]
 mod move_world_stops;

@@ -22,6 +22,7 @@ use Rattle.move_world.specs.Logs.{blank_node, blank_world}
 use Rattle.move_world.specs.Seats.{Standing, Resting, Away, standing, opened_as, IsSound, StandsFor}
 use Rattle.move_world.specs.Asking.{Manned}
 use Rattle.move_world.specs.Worlds.{standings, IsWorld, IsOf}
+use Rattle.move_world.specs.Counted.{AreTheDisks}
 use Rattle.move_world.specs.declared.seat.Seat.{Seat}
 use Rattle.move_world.specs.declared.seat.Seat.TheVariants as seat
 
@@ -110,6 +111,10 @@ module _ {T D : Type 0} (seen : T → Seen) (look : D → DiskSeen) (disks : Lis
       (subst (λ (l : List (List Letter)). IsOf layout (map Resting (map look disks)) l blank_world) (sym letters)
       (is_blank (map look disks) many layout none))
 
+  pub new_disks : AreTheDisks (map look disks) (standings seen look seats)
+  new_disks = subst (AreTheDisks (map look disks)) (sym stand) (λ n is.
+      let at = here (map look disks) many n is in at.there ∙ sym (ap disk_at at.stands))
+
 -- 5. Disks are given back
 
 module _ {T D : Type 0} (seen : T → Seen) (look : D → DiskSeen) where
@@ -122,7 +127,7 @@ module _ {T D : Type 0} (seen : T → Seen) (look : D → DiskSeen) where
   shown_count (seat.Shut d ∷ seats) h = ap suc (shown_count seats (λ k small. h (suc k) (omega (arith, small))))
   shown_count (seat.Moving ∷ seats) h = absurd (h 0 (omega arith) refl)
 
-  none_away : (seats : List (Seat T D)) (ls : List (List Letter)) → IsWorld (standings seen look seats) ls → (k : ℕ) → k < length seats
+  pub none_away : (seats : List (Seat T D)) (ls : List (List Letter)) → IsWorld (standings seen look seats) ls → (k : ℕ) → k < length seats
       → slice_index_or (standings seen look seats) k Away ≡ Away → ⊥
   none_away seats ls h k small away =
       let eight : length seats ≡ 8 = sym (length-map seats (standing seen look)) ∙ h.seats in
@@ -135,6 +140,22 @@ module _ {T D : Type 0} (seen : T → Seen) (look : D → DiskSeen) where
   eight_given seats ls disks h is =
       sym (length-map disks look) ∙ ap length is ∙ shown_count seats (none_away seats ls h)
       ∙ sym (length-map seats (standing seen look)) ∙ h.seats
+
+  shown_at : (seats : List (Seat T D))
+      → ((k : ℕ) → k < length seats → slice_index_or (standings seen look seats) k Away ≡ Away → ⊥) → (k : ℕ)
+      → slice_get (filter_map (shown_in seen look) seats) k ≡ disk_at (slice_index_or (standings seen look seats) k Away)
+  shown_at [] h k = refl
+  shown_at (seat.Opened n true ∷ seats) h zero = refl
+  shown_at (seat.Opened n true ∷ seats) h (suc k) = shown_at seats (λ k small. h (suc k) (omega (arith, small))) k
+  shown_at (seat.Opened n false ∷ seats) h zero = refl
+  shown_at (seat.Opened n false ∷ seats) h (suc k) = shown_at seats (λ k small. h (suc k) (omega (arith, small))) k
+  shown_at (seat.Shut d ∷ seats) h zero = refl
+  shown_at (seat.Shut d ∷ seats) h (suc k) = shown_at seats (λ k small. h (suc k) (omega (arith, small))) k
+  shown_at (seat.Moving ∷ seats) h k = absurd (h 0 (omega arith) refl)
+
+  pub given_disks : (seats : List (Seat T D)) (ls : List (List Letter)) (disks : List D) → IsWorld (standings seen look seats) ls
+      → map look disks ≡ filter_map (shown_in seen look) seats → AreTheDisks (map look disks) (standings seen look seats)
+  given_disks seats ls disks h is n on = ap (λ l. slice_get l (n - 1)) is ∙ shown_at seats (none_away seats ls h) (n - 1)
 
   pub eight_seats : (seats : List (Seat T D)) (ls : List (List Letter)) → IsWorld (standings seen look seats) ls → length seats ≡ 8
   eight_seats seats ls h = sym (length-map seats (standing seen look)) ∙ h.seats

@@ -11,3 +11,4 @@ pub mod Spelled
 pub mod Meaning
 pub mod Scripted
 pub mod Beginning
+pub mod Counts

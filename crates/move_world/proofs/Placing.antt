@@ -32,6 +32,10 @@ use Rattle.move_world.specs.Seats.{Standing, Serving, Resting, Away, standing, i
 use Rattle.move_world.specs.Seats.{CrashedAt, OpenedAt, ArmedAt}
 use Rattle.move_world.specs.declared.seat.Seat.{Seat}
 use Rattle.move_world.specs.Worlds.{standing_at, IsWorld, IsOf, Steps, given, IsNoted, AskedIn, DeliveredIn, ArmedIn, came_as, asked_by}
+use Rattle.eden_disk.specs.Calls.{End}
+use Rattle.move_world.specs.Counting.{end_in}
+use Rattle.move_world.specs.Counted.{Counted, CountedAt}
+use Rattle.move_world.proofs.Counts.{counted-at}
 use Rattle.move_world.proofs.Posted.{IsFound, found}
 use Rattle.move_world.specs.declared.answer.Answer.{Answer as CodedAnswer}
 use Rattle.move_world.specs.declared.answer.Answer.TheVariants as answer
@@ -53,6 +57,13 @@ at-other : (ss : List Standing) (n m : ℕ) (s : Standing) → IsNode n → IsNo
     → standing_at (slice_set ss (n - 1) s) m ≡ standing_at ss m
 at-other ss n m s is on d = let apart : m - 1 ≢ n - 1 = λ e. d (omega (arith, e, is.0, on.0)) in get_or-set_other ss (n - 1) (m - 1) s
     Away apart
+
+-- one place counted a command
+set-counted : (ss : List Standing) (n : ℕ) (s : Standing) (end : End) → IsNode n → length ss ≡ 8 → Counted end (standing_at ss n) s
+    → CountedAt n end ss (slice_set ss (n - 1) s)
+set-counted ss n s end is eight h =
+    counted-at ss (slice_set ss (n - 1) s) n end (subst (Counted end (standing_at ss n)) (sym (at-own ss n s eight is)) h)
+    (λ m on d. at-other ss n m s is on d)
 
 -- one place has something else
 pub set-sound : (ss : List Standing) (ls ls2 : List (List Letter)) (n : ℕ) (s : Standing) → IsNode n → IsSound n s → IsWorld ss ls
@@ -486,6 +497,19 @@ module _ {T D : Type 0} (seen : T → Seen) (look : D → DiskSeen) (seats : Lis
     pub place-world : IsWorld shown ls → IsSound n (standing seen look new) → IsWorld (map (standing seen look) (slice_set seats i new)) ls
     place-world h sound =
         subst (λ z. IsWorld z ls) (sym place-new) (set-sound shown ls ls n (standing seen look new) is sound h h.letters h.wander)
+
+    pub place-counted : (end : End) → Counted end (standing seen look old) (standing seen look new)
+        → CountedAt n end shown (map (standing seen look) (slice_set seats i new))
+    place-counted end h =
+        subst (CountedAt n end shown) (sym place-new)
+        (set-counted shown n (standing seen look new) end is eight
+        (subst (λ s. Counted end s (standing seen look new)) (sym place-old) h))
+
+    pub place-counted-ok : (r : Result CodedAnswer AllocError)
+        → IfOk r (λ a. Counted (end_in (answer_of a)) (standing seen look old) (standing seen look new))
+        → IfOk r (λ a. CountedAt n (end_in (answer_of a)) shown (map (standing seen look) (slice_set seats i new)))
+    place-counted-ok (Ok a) h = place-counted (end_in (answer_of a)) h
+    place-counted-ok (Err e) h = tt
 
     pub place-kept : (ls2 : List (List Letter)) → IsWorld shown ls → IsSound n (standing seen look new) → ls2 ≡ ls
         → IsWorld (map (standing seen look) (slice_set seats i new)) ls2

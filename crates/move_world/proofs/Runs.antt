@@ -15,6 +15,9 @@ use Rattle.move_world.specs.Logs.{Entry, Leads, Follows, AllInReach, openings_fr
 use Rattle.move_world.specs.View.{meant, entry_of, log_of}
 use Rattle.move_world.specs.Seats.{Standing}
 use Rattle.move_world.specs.Worlds.{IsWorld, IsOf, Steps, FollowsTo, Reaches, commands_of, AreInReach}
+use Rattle.move_world.specs.Counting.{end_in, node_of}
+use Rattle.move_world.specs.Counted.{CountedAt, AllCounted}
+use Rattle.move_world.proofs.Counts.{counted-first, counted-more}
 use Rattle.move_world.specs.declared.answer.Log.{Log as CodedLog}
 
 -- 1. One more
@@ -100,6 +103,7 @@ pub record Ran (tells : Bool) (layout : Layout) (ss ss2 : List Standing) (ls ls2
   pub reach : AreInReach rest
   pub cut : commands_of es ++ rest ≡ all
   pub reaches : IsTrue tells → (w : World Datum) → IsOf layout ss ls w → Reaches layout w es ss2 ls2
+  pub counted : AllCounted es ss ss2
 
 pub ran-first : (tells : Bool) (layout : Layout) (ss : List Standing) (ls : List (List Letter)) (es : List Entry) (all : List Command)
     → IsWorld ss ls → AreInReach all → es ≡ [] → Ran tells layout ss ss ls ls es all all
@@ -109,14 +113,15 @@ ran-first tells layout ss ls es all world reach none =
       reach = reach;
       cut = refl;
       reaches = λ so w h. ([], w, refl, h);
+      counted = counted-first ss;
     })
 
 pub ran-step : (tells : Bool) (layout : Layout) (ss ss2 ss3 : List Standing) (ls ls2 ls3 : List (List Letter)) (es later : List Entry)
     (all rest behind : List Command) (e : Entry) → Ran tells layout ss ss2 ls ls2 es all rest → rest ≡ e.command ∷ behind
     → later ≡ es ++ e ∷ [] → IsWorld ss3 ls3
     → (IsTrue tells → (w : World Datum) → IsOf layout ss2 ls2 w → Steps layout e.command e.answer ss3 ls3 w)
-    → Ran tells layout ss ss3 ls ls3 later all behind
-ran-step tells layout ss ss2 ss3 ls ls2 ls3 es later all rest behind e r cut more world steps =
+    → CountedAt (node_of e.command) (end_in e.answer) ss2 ss3 → Ran tells layout ss ss3 ls ls3 later all behind
+ran-step tells layout ss ss2 ss3 ls ls2 ls3 es later all rest behind e r cut more world steps counted =
     subst (λ z. Ran tells layout ss ss3 ls ls3 z all behind) (sym more) (record {
       world = world;
       reach = (subst AreInReach cut r.reach).1;
@@ -124,6 +129,7 @@ ran-step tells layout ss ss2 ss3 ls ls2 ls3 es later all rest behind e r cut mor
           ∙ append_assoc (commands_of es) (e.command ∷ []) behind
           ∙ ap (λ z. commands_of es ++ z) (sym cut) ∙ r.cut;
       reaches = λ so w h. reaches-more layout w es e ss2 ss3 ls2 ls3 (r.reaches so w h) (steps so);
+      counted = counted-more es e ss ss2 ss3 r.counted counted;
     })
 
 pub ran-head : (tells : Bool) (layout : Layout) (ss ss2 : List Standing) (ls ls2 : List (List Letter)) (es : List Entry)

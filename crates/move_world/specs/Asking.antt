@@ -14,6 +14,7 @@ use Rattle.eden_move.specs.Shown.{IsWanderer, IsOpen, Stands, Carries}
 use Rattle.move_world.specs.Commands.{IsNode}
 use Rattle.move_world.specs.Logs.{Answer, Ends, Shows}
 use Rattle.move_world.specs.View.{answer_of}
+use Rattle.move_world.specs.Counting.{end_in, refusals_in, refusals_after}
 use Rattle.eden_move.specs.declared.letter.Letter.{Letter}
 use Rattle.move_world.specs.declared.answer.Answer.{Answer as CodedAnswer}
 use Rattle.move_world.specs.declared.answer.Answer.TheVariants as answer
@@ -100,4 +101,6 @@ pub record Heard (tells : Bool) (layout : Layout) (u : Uid) (c : Call Datum) (r 
   pub reply : IfOk r (λ a. IsReply c (new.mind u) (answer_of a))
   pub about : IfOk r (IsAbout u)
   pub memory : IfOk r (λ a. how_in (answer_of a) ≢ Refused OutOfMemory)
+  -- its disk counted how the call ended
+  pub counts : IfOk r (λ a. refusals_in new.seen.disk.counts ≡ refusals_after (end_in (answer_of a)) (refusals_in old.seen.disk.counts))
   pub carries : IsTrue tells → IfOk r (λ a. Carries u c (how_in (answer_of a)) old.seen old.mind new.seen new.mind)

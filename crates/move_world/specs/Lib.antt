@@ -10,3 +10,5 @@ pub mod Seats
 pub mod Worlds
 pub mod Disks
 pub mod Scripts
+pub mod Counting
+pub mod Counted

@@ -7,6 +7,7 @@ ghost use Rattle.move_world.specs.Disks.{KeepNothing, shown_in};
 ghost use Rattle.move_world.specs.Kept.{rows};
 ghost use Rattle.move_world.specs.Logs.{blank_world};
 ghost use Rattle.move_world.specs.Worlds.{standings, IsWorld, IsOf};
+ghost use Rattle.move_world.specs.Counted.{AreTheDisks};
 ghost use Rattle.move_world.specs.declared.seat.Seat.TheVariants as place;
 
 use crate::letters::Letters;
@@ -50,6 +51,8 @@ where
             (standings St.seen (disk_seen St.Device.counts St.Device.told St.Device.due) w.seats.items) (rows w.letters)) }
         ensures blank { let look = disk_seen St.Device.counts St.Device.told St.Device.due in KeepNothing St.layout (map look disks.items)
             → IfOk result (λ w. IsOf St.layout (standings St.seen look w.seats.items) (rows w.letters) blank_world) }
+        ensures counts { let look = disk_seen St.Device.counts St.Device.told St.Device.due in
+            IfOk result (λ w. AreTheDisks (map look disks.items) (standings St.seen look w.seats.items)) }
         ensures kept { IfErr result (λ e. e.0 ≡ disks) }
     {
         let letters = match Letters::new(alloc) {
@@ -68,6 +71,8 @@ where
         requires room { 8 ≤ vec_capacity room }
         ensures disks { let look = disk_seen St.Device.counts St.Device.told St.Device.due in
             map look result.items ≡ filter_map (shown_in St.seen look) self.seats.items }
+        ensures counts { let look = disk_seen St.Device.counts St.Device.told St.Device.due in
+            AreTheDisks (map look result.items) (standings St.seen look self.seats.items) }
         ensures eight { length result.items ≡ 8 }
     {
         let mut disks = room;

@@ -4,7 +4,8 @@ ghost use Rattle.eden_value.specs.Datum.{Datum};
 ghost use Rattle.passive_store.specs.Seen.{disk_seen};
 ghost use Rattle.move_laws.specs.World.{World as AnyWorld};
 ghost use Rattle.move_world.specs.Kept.{rows};
-ghost use Rattle.move_world.specs.Logs.{openings_from, blank_world, IsLegalMove};
+ghost use Rattle.move_world.specs.Logs.{openings_from, blank_world, all_entries, IsLegalMove};
+ghost use Rattle.move_world.specs.Counted.{AllCounted};
 ghost use Rattle.move_world.specs.View.{meant, entry_of, log_of};
 ghost use Rattle.move_world.specs.Worlds.{standings, IsWorld, IsOf, Reaches, commands_of, AreInReach};
 
@@ -40,6 +41,9 @@ where
     ensures world { IsWorld (standings St.seen (disk_seen St.Device.counts St.Device.told St.Device.due) world.new.seats.items)
         (rows world.new.letters) }
     ensures all { IfOk result (λ es. commands_of (map entry_of es.items) ≡ map meant commands.items) }
+    ensures counted { let look = disk_seen St.Device.counts St.Device.told St.Device.due in
+        IfOk result (λ es. AllCounted (map entry_of es.items)
+        (standings St.seen look world.old.seats.items) (standings St.seen look world.new.seats.items)) }
     ensures reaches { let look = disk_seen St.Device.counts St.Device.told St.Device.due in IsTrue St.Device.tells → (w : AnyWorld Datum)
         → IsOf St.layout (standings St.seen look world.old.seats.items) (rows world.old.letters) w
         → IfOk result (λ es. Reaches St.layout w (map entry_of es.items)
@@ -72,6 +76,9 @@ where
         (rows world.new.letters) }
     ensures nodes { IfOk result (λ log. log.nodes ≡ nodes) }
     ensures all { IfOk result (λ log. commands_of (map entry_of log.entries.items) ≡ map meant commands.items) }
+    ensures counted { let look = disk_seen St.Device.counts St.Device.told St.Device.due in
+        IfOk result (λ log. AllCounted (all_entries (log_of log))
+        (standings St.seen look world.old.seats.items) (standings St.seen look world.new.seats.items)) }
     ensures legal { let look = disk_seen St.Device.counts St.Device.told St.Device.due in IsTrue St.Device.tells
         → IsOf St.layout (standings St.seen look world.old.seats.items) (rows world.old.letters) blank_world
         → IfOk result (λ log. IsLegalMove (log_of log)) }

@@ -16,7 +16,9 @@ ghost use Rattle.move_world.specs.InHand.{Rests};
 ghost use Rattle.move_world.specs.Logs.{Down};
 ghost use Rattle.move_world.specs.Asking.{manned, how_in, uid_in, call_in, MayAsk, Heard, IsAbout};
 ghost use Rattle.move_world.specs.Seats.{standing, opened_as, IsSound, StandsFor, AskedAt, CrashedAt, OpenedAt, ArmedAt, IsCutFrom};
-ghost use Rattle.move_world.specs.Seats.{is_serving};
+ghost use Rattle.move_world.specs.Seats.{is_serving, Resting};
+ghost use Rattle.move_world.specs.Counting.{end_in, refusals_in};
+ghost use Rattle.move_world.specs.Counted.{Counted};
 
 use crate::answer::{Answer, Ended};
 use crate::ask::{Ask, carry_out};
@@ -85,6 +87,8 @@ pub fn ask_seat<St: Store>(
     requires may { MayAsk n what.now }
     ensures sound { IsSound n (standing St.seen (disk_seen St.Device.counts St.Device.told St.Device.due) seat.new) }
     ensures about { IfOk result (IsAbout (uid_in n what.now)) }
+    ensures counted { let look = disk_seen St.Device.counts St.Device.told St.Device.due in
+        IfOk result (λ a. Counted (end_in (answer_of a)) (standing St.seen look seat.old) (standing St.seen look seat.new)) }
     ensures asked { let look = disk_seen St.Device.counts St.Device.told St.Device.due in IsTrue St.Device.tells
         → IsFitCall (call_in what.now) → (w : AnyWorld Datum) → ArePostsFit w.posted
         → StandsFor St.layout n (standing St.seen look seat.old) (w.node n)
@@ -98,7 +102,8 @@ pub fn ask_seat<St: Store>(
 
 /// The disk without power, as a crash leaves it.
 fn cut<D: Disk>(disk: D, mode: ImageMode) -> D
-    ensures { IsTrue D.tells → IsCutFrom (D.counts disk).clock (D.told disk) (D.told result) }
+    ensures counts { refusals_in (D.counts result) ≡ refusals_in (D.counts disk) }
+    ensures cut { IsTrue D.tells → IsCutFrom (D.counts disk).clock (D.told disk) (D.told result) }
 {
     let mut disk = disk;
     // What a read sees is an image that a crash may leave: so says the size.
@@ -111,6 +116,8 @@ fn cut<D: Disk>(disk: D, mode: ImageMode) -> D
 fn crash_seat<St: Store>(seat: Seat<St>, mode: ImageMode) -> (Seat<St>, Answer)
     ensures sound { (n : ℕ) → IsSound n (standing St.seen (disk_seen St.Device.counts St.Device.told St.Device.due) seat)
         → IsSound n (standing St.seen (disk_seen St.Device.counts St.Device.told St.Device.due) result.0) }
+    ensures counted { let look = disk_seen St.Device.counts St.Device.told St.Device.due in
+        Counted (end_in (answer_of result.1)) (standing St.seen look seat) (standing St.seen look result.0) }
     ensures crashed { let look = disk_seen St.Device.counts St.Device.told St.Device.due in IsTrue St.Device.tells
         → (n : ℕ) (w : AnyWorld Datum) → StandsFor St.layout n (standing St.seen look seat) (w.node n)
         → CrashedAt St.layout n (answer_of result.1) (standing St.seen look result.0) w }
@@ -140,6 +147,8 @@ fn down(refusal: StoreRefusal) -> Result<Answer, AllocError>
 fn open<St: Store>(alloc: Global, n: u8, disk: St::Device) -> (Seat<St>, Result<Answer, AllocError>)
     requires { IsNode n }
     ensures sound { IsSound n (standing St.seen (disk_seen St.Device.counts St.Device.told St.Device.due) result.0) }
+    ensures counted { let look = disk_seen St.Device.counts St.Device.told St.Device.due in
+        IfOk result.1 (λ a. Counted (end_in (answer_of a)) (Resting (look disk)) (standing St.seen look result.0)) }
     ensures opened { let look = disk_seen St.Device.counts St.Device.told St.Device.due in IsTrue St.Device.tells
         → (w : AnyWorld Datum) → Rests St.layout n (look disk).told (w.node n)
         → IfOk result.1 (λ a. OpenedAt St.layout n (answer_of a) (standing St.seen look result.0) w) }
@@ -163,6 +172,8 @@ fn open_seat<St: Store>(
     requires number { IsNode n }
     requires sound { IsSound n (standing St.seen (disk_seen St.Device.counts St.Device.told St.Device.due) seat) }
     ensures sound { IsSound n (standing St.seen (disk_seen St.Device.counts St.Device.told St.Device.due) result.0) }
+    ensures counted { let look = disk_seen St.Device.counts St.Device.told St.Device.due in
+        IfOk result.1 (λ a. Counted (end_in (answer_of a)) (standing St.seen look seat) (standing St.seen look result.0)) }
     ensures opened { let look = disk_seen St.Device.counts St.Device.told St.Device.due in IsTrue St.Device.tells
         → (w : AnyWorld Datum) → StandsFor St.layout n (standing St.seen look seat) (w.node n)
         → IfOk result.1 (λ a. OpenedAt St.layout n (answer_of a) (standing St.seen look result.0) w) }
@@ -179,6 +190,8 @@ pub fn arm_seat<St: Store>(seat: &mut Seat<St>, what: Arm) -> Answer
     requires { 1 ≤ calls_until what }
     ensures sound { (n : ℕ) → IsSound n (standing St.seen (disk_seen St.Device.counts St.Device.told St.Device.due) seat.old)
         → IsSound n (standing St.seen (disk_seen St.Device.counts St.Device.told St.Device.due) seat.new) }
+    ensures counted { let look = disk_seen St.Device.counts St.Device.told St.Device.due in
+        Counted (end_in (answer_of result)) (standing St.seen look seat.old) (standing St.seen look seat.new) }
     ensures armed { let look = disk_seen St.Device.counts St.Device.told St.Device.due in IsTrue St.Device.tells
         → (n : ℕ) (w : AnyWorld Datum) → StandsFor St.layout n (standing St.seen look seat.old) (w.node n)
         → ArmedAt St.layout n (answer_of result) (standing St.seen look seat.new) w }
@@ -220,6 +233,8 @@ where
     St::Device: Drop,
     ensures sound { (n : ℕ) → IsSound n (standing St.seen (disk_seen St.Device.counts St.Device.told St.Device.due) seat.old)
         → IsSound n (standing St.seen (disk_seen St.Device.counts St.Device.told St.Device.due) seat.new) }
+    ensures counted { let look = disk_seen St.Device.counts St.Device.told St.Device.due in
+        Counted (end_in (answer_of result)) (standing St.seen look seat.old) (standing St.seen look seat.new) }
     ensures crashed { let look = disk_seen St.Device.counts St.Device.told St.Device.due in IsTrue St.Device.tells
         → (n : ℕ) (w : AnyWorld Datum) → StandsFor St.layout n (standing St.seen look seat.old) (w.node n)
         → CrashedAt St.layout n (answer_of result) (standing St.seen look seat.new) w }
@@ -238,6 +253,8 @@ where
     requires number { IsNode n }
     requires sound { IsSound n (standing St.seen (disk_seen St.Device.counts St.Device.told St.Device.due) seat.old) }
     ensures sound { IsSound n (standing St.seen (disk_seen St.Device.counts St.Device.told St.Device.due) seat.new) }
+    ensures counted { let look = disk_seen St.Device.counts St.Device.told St.Device.due in
+        IfOk result (λ a. Counted (end_in (answer_of a)) (standing St.seen look seat.old) (standing St.seen look seat.new)) }
     ensures opened { let look = disk_seen St.Device.counts St.Device.told St.Device.due in IsTrue St.Device.tells
         → (w : AnyWorld Datum) → StandsFor St.layout n (standing St.seen look seat.old) (w.node n)
         → IfOk result (λ a. OpenedAt St.layout n (answer_of a) (standing St.seen look seat.new) w) }

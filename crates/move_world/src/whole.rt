@@ -4,7 +4,8 @@ ghost use Rattle.eden_value.specs.Datum.{Datum};
 ghost use Rattle.passive_store.specs.Seen.{disk_seen};
 ghost use Rattle.move_world.specs.Disks.{KeepNothing};
 ghost use Rattle.move_world.specs.Kept.{rows};
-ghost use Rattle.move_world.specs.Logs.{blank_world, IsLegalMove};
+ghost use Rattle.move_world.specs.Logs.{blank_world, all_entries, IsLegalMove};
+ghost use Rattle.move_world.specs.Counted.{AllCounted, CountsAsTold};
 ghost use Rattle.move_world.specs.Texts as texts;
 ghost use Rattle.move_world.specs.View.{meant, entry_of, log_of};
 ghost use Rattle.move_world.specs.Worlds.{standings, IsWorld, IsOf, commands_of, AreInReach};
@@ -44,6 +45,9 @@ where
     ensures nodes { IfOk result (λ done. done.log.nodes ≡ nodes) }
     ensures all { IfOk result (λ done. commands_of (map entry_of done.log.entries.items) ≡ map meant commands.items) }
     ensures text { IfOk result (λ done. done.text.items ≡ texts.text_of (log_of done.log)) }
+    ensures counted { let look = disk_seen St.Device.counts St.Device.told St.Device.due in
+        IfOk result (λ done. AllCounted (all_entries (log_of done.log))
+        (standings St.seen look world.old.seats.items) (standings St.seen look world.new.seats.items)) }
     ensures legal { let look = disk_seen St.Device.counts St.Device.told St.Device.due in IsTrue St.Device.tells
         → IsOf St.layout (standings St.seen look world.old.seats.items) (rows world.old.letters) blank_world
         → IfOk result (λ done. IsLegalMove (log_of done.log)) }
@@ -72,6 +76,9 @@ where
     ensures text { IfOk result (λ done. done.text.items ≡ texts.text_of (log_of done.log)) }
     ensures legal { let look = disk_seen St.Device.counts St.Device.told St.Device.due in IsTrue St.Device.tells
         → KeepNothing St.layout (map look disks.old.items) → IfOk result (λ done. IsLegalMove (log_of done.log)) }
+    // Each disk counts as many more faults and stops as the log has answers of its node that say so.
+    ensures counts { let look = disk_seen St.Device.counts St.Device.told St.Device.due in
+        IfOk result (λ done. CountsAsTold (log_of done.log) (map look disks.old.items) (map look disks.new.items)) }
     ensures eight { length disks.new.items ≡ 8 }
 {
     let MoveScript { nodes, commands } = script;

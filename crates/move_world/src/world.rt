@@ -15,6 +15,8 @@ ghost use Rattle.move_world.specs.View.{answer_of, meant};
 ghost use Rattle.move_world.specs.Asking.{uid_in, call_in, MayAsk};
 ghost use Rattle.move_world.specs.Seats.{is_serving};
 ghost use Rattle.move_world.specs.Worlds.{standings, standing_at, IsWorld, IsOf, Steps, AskedIn, DeliveredIn, ArmedIn, came_as, asked_by};
+ghost use Rattle.move_world.specs.Counting.{end_in, node_of};
+ghost use Rattle.move_world.specs.Counted.{CountedAt};
 
 use crate::answer::Answer;
 use crate::ask::Ask;
@@ -96,6 +98,9 @@ where
         requires may { MayAsk n what.now }
         ensures world { IsWorld (standings St.seen (disk_seen St.Device.counts St.Device.told St.Device.due) self.new.seats.items)
             (rows self.new.letters) }
+        ensures counted { let look = disk_seen St.Device.counts St.Device.told St.Device.due in
+            IfOk result (λ a. CountedAt n (end_in (answer_of a))
+            (standings St.seen look self.old.seats.items) (standings St.seen look self.new.seats.items)) }
         ensures asked { let look = disk_seen St.Device.counts St.Device.told St.Device.due in IsTrue St.Device.tells
             → IsFitCall (call_in what.now) → (w : AnyWorld Datum)
             → IsOf St.layout (standings St.seen look self.old.seats.items) (rows self.old.letters) w
@@ -115,6 +120,9 @@ where
         requires wanderer { IsWanderer (uid_of letter) }
         ensures world { IsWorld (standings St.seen (disk_seen St.Device.counts St.Device.told St.Device.due) self.new.seats.items)
             (rows self.new.letters) }
+        ensures counted { let look = disk_seen St.Device.counts St.Device.told St.Device.due in
+            IfOk result (λ x. CountedAt b (end_in (answer_of x))
+            (standings St.seen look self.old.seats.items) (standings St.seen look self.new.seats.items)) }
         ensures delivered { let look = disk_seen St.Device.counts St.Device.told St.Device.due in IsTrue St.Device.tells
             → IsFitPost (Some (seen_letter letter)) → (w : AnyWorld Datum)
             → IsOf St.layout (standings St.seen look self.old.seats.items) (rows self.old.letters) w
@@ -138,6 +146,9 @@ where
         requires number { 1 ≤ i }
         ensures world { IsWorld (standings St.seen (disk_seen St.Device.counts St.Device.told St.Device.due) self.new.seats.items)
             (rows self.new.letters) }
+        ensures counted { let look = disk_seen St.Device.counts St.Device.told St.Device.due in
+            IfOk result (λ x. CountedAt b (end_in (answer_of x))
+            (standings St.seen look self.old.seats.items) (standings St.seen look self.new.seats.items)) }
         ensures steps { let look = disk_seen St.Device.counts St.Device.told St.Device.due in IsTrue St.Device.tells → (w : AnyWorld Datum)
             → IsOf St.layout (standings St.seen look self.old.seats.items) (rows self.old.letters) w
             → IfOk result (λ x. Steps St.layout (commands.carries a b i) (answer_of x)
@@ -159,6 +170,8 @@ where
         requires node { IsNode n }
         ensures world { IsWorld (standings St.seen (disk_seen St.Device.counts St.Device.told St.Device.due) self.new.seats.items)
             (rows self.new.letters) }
+        ensures counted { let look = disk_seen St.Device.counts St.Device.told St.Device.due in CountedAt n (end_in (answer_of result))
+            (standings St.seen look self.old.seats.items) (standings St.seen look self.new.seats.items) }
         ensures steps { let look = disk_seen St.Device.counts St.Device.told St.Device.due in IsTrue St.Device.tells → (w : AnyWorld Datum)
             → IsOf St.layout (standings St.seen look self.old.seats.items) (rows self.old.letters) w
             → Steps St.layout (commands.crashes n (written_mode mode)) (answer_of result)
@@ -174,6 +187,9 @@ where
         requires node { IsNode n }
         ensures world { IsWorld (standings St.seen (disk_seen St.Device.counts St.Device.told St.Device.due) self.new.seats.items)
             (rows self.new.letters) }
+        ensures counted { let look = disk_seen St.Device.counts St.Device.told St.Device.due in
+            IfOk result (λ x. CountedAt n (end_in (answer_of x))
+            (standings St.seen look self.old.seats.items) (standings St.seen look self.new.seats.items)) }
         ensures steps { let look = disk_seen St.Device.counts St.Device.told St.Device.due in IsTrue St.Device.tells → (w : AnyWorld Datum)
             → IsOf St.layout (standings St.seen look self.old.seats.items) (rows self.old.letters) w
             → IfOk result (λ x. Steps St.layout (commands.restarts n) (answer_of x)
@@ -190,6 +206,8 @@ where
         requires soon { 1 ≤ calls_until what }
         ensures world { IsWorld (standings St.seen (disk_seen St.Device.counts St.Device.told St.Device.due) self.new.seats.items)
             (rows self.new.letters) }
+        ensures counted { let look = disk_seen St.Device.counts St.Device.told St.Device.due in CountedAt n (end_in (answer_of result))
+            (standings St.seen look self.old.seats.items) (standings St.seen look self.new.seats.items) }
         ensures armed { let look = disk_seen St.Device.counts St.Device.told St.Device.due in IsTrue St.Device.tells → (w : AnyWorld Datum)
             → IsOf St.layout (standings St.seen look self.old.seats.items) (rows self.old.letters) w
             → ArmedIn St.layout n (answer_of result) (standings St.seen look self.new.seats.items) (rows self.new.letters) w }
@@ -205,6 +223,9 @@ where
         requires other { asked_by (meant command.now) ≡ None }
         ensures world { IsWorld (standings St.seen (disk_seen St.Device.counts St.Device.told St.Device.due) self.new.seats.items)
             (rows self.new.letters) }
+        ensures counted { let look = disk_seen St.Device.counts St.Device.told St.Device.due in
+            IfOk result (λ x. CountedAt (node_of (meant command.now)) (end_in (answer_of x))
+            (standings St.seen look self.old.seats.items) (standings St.seen look self.new.seats.items)) }
         ensures steps { let look = disk_seen St.Device.counts St.Device.told St.Device.due in IsTrue St.Device.tells → (w : AnyWorld Datum)
             → IsOf St.layout (standings St.seen look self.old.seats.items) (rows self.old.letters) w
             → IfOk result (λ x. Steps St.layout (meant command.now) (answer_of x)
@@ -233,6 +254,9 @@ where
         requires reach { IsInReach (meant command.now) }
         ensures world { IsWorld (standings St.seen (disk_seen St.Device.counts St.Device.told St.Device.due) self.new.seats.items)
             (rows self.new.letters) }
+        ensures counted { let look = disk_seen St.Device.counts St.Device.told St.Device.due in
+            IfOk result (λ x. CountedAt (node_of (meant command.now)) (end_in (answer_of x))
+            (standings St.seen look self.old.seats.items) (standings St.seen look self.new.seats.items)) }
         ensures steps { let look = disk_seen St.Device.counts St.Device.told St.Device.due in IsTrue St.Device.tells → (w : AnyWorld Datum)
             → IsOf St.layout (standings St.seen look self.old.seats.items) (rows self.old.letters) w
             → IfOk result (λ x. Steps St.layout (meant command.now) (answer_of x)

@@ -1,4 +1,4 @@
-use Rattle.std.proofs.Common.{◌≤◌, ap, length, Ok, Err}
+use Rattle.std.proofs.Common.{ap, length, Err}
 use Rattle.eden_move.proofs.Recorded.{read-spelled, read-fits, none-spelled, none-long, not-long}
 use Rattle.eden_move.proofs.record.record_of.Goals as goal
 

@@ -1,11 +1,11 @@
-use Rattle.std.proofs.Common.{◌≡◌, ◌∙◌, ap, refl, sym, subst, arith, ℕ, Some}
+use Rattle.std.proofs.Common.{◌≡◌, ◌∙◌, ap, refl, sym, subst, arith, Some}
 use Rattle.capability.specs.declared.Uid.{Uid}
 use Rattle.passive_store.specs.Kept.{IsFullBy, settled}
 use Rattle.passive_store.specs.Seen.{Asked, Seen, change_asked, asked, has_room_for}
 use Rattle.eden_move.specs.Records.{record_in}
 use Rattle.eden_move.specs.Shown.{key}
 use Rattle.eden_move.proofs.Stepped.{full-idle, put-both}
-use Rattle.eden_move.proofs.Going.{goes-by}
+use Rattle.eden_move.proofs.Going.{goes-put}
 use Rattle.eden_move.proofs.steps.puts_record.Goals as goal
 
 pub returns-clause-put : goal.returns-clause-put
@@ -22,8 +22,8 @@ returns-clause-put g c tells m x r s is = put-both c.put.result (g.St.Store.seen
     (c.put.ensures.changes.kept tells) s
 
 pub returns-clause-goes : goal.returns-clause-goes
-returns-clause-goes g c = goes-by _ _ _ c.put.ensures.changes.ran.made _ _ c.put.ensures.changes.ran.counts
-    c.put.ensures.whole.goes.stands
+returns-clause-goes g c = goes-put _ _ c.put.result _ _ c.put.ensures.changes.calls _ _ c.requires.idle
+    c.put.ensures.changes.ran c.put.ensures.changes.by_layout c.put.ensures.whole.goes.stands
 
 -- no record stands under the reserved uid
 pub returns-clause-more : goal.returns-clause-more

@@ -2,14 +2,19 @@ use Rattle.std.proofs.Common.{true, Some}
 use Rattle.move_laws.specs.World.{Lend}
 use Rattle.eden_move.specs.Calls.{seen_letter}
 use Rattle.move_world.specs.Asking.{manned}
-use Rattle.move_world.proofs.Hearing.{heard-answered, heard-refused, no-stop, is-fine}
+use Rattle.move_world.proofs.Hearing.{raised, heard-answered, heard-refused, no-stop, is-fine}
 use Rattle.move_world.proofs.ask.ask_lend.Goals as goal
 
 pub returns-in-Err : goal.returns-in-Err
 returns-in-Err g c =
     heard-refused g.St.Device.Disk.tells g.St.Store.layout c.args.uid (Lend c.args.to) c.in-Err.refusal c.refused.result
     (manned g.St.Store.seen c.args.node.now) (manned g.St.Store.seen c.lend.new.self)
-    (record { of = c.lend.ensures.of; node = c.lend.ensures.node; stands = c.lend.ensures.goes.stands })
+    (record {
+      of = c.lend.ensures.of;
+      node = c.lend.ensures.node;
+      counts = raised _ _ _ _ _ _ _ _ c.in-Err.ensures.goes;
+      stands = c.lend.ensures.goes.stands;
+    })
     (no-stop c.in-Err.refusal _ c.in-Err.ensures.power) c.refused.ensures.is c.refused.ensures.none c.refused.ensures.about
     c.in-Err.ensures.carries
 
@@ -18,6 +23,11 @@ returns-in-Ok g c =
     heard-answered g.St.Device.Disk.tells g.St.Store.layout c.args.uid (Lend c.args.to) true (Some (seen_letter c.in-Ok.letter))
     c.answered.result
     (manned g.St.Store.seen c.args.node.now) (manned g.St.Store.seen c.lend.new.self)
-    (record { of = c.lend.ensures.of; node = c.lend.ensures.node; stands = c.lend.ensures.goes.stands })
+    (record {
+      of = c.lend.ensures.of;
+      node = c.lend.ensures.node;
+      counts = raised _ _ _ _ _ _ _ _ c.in-Ok.ensures.goes;
+      stands = c.lend.ensures.goes.stands;
+    })
     (is-fine c.in-Ok.letter _ c.in-Ok.ensures.power) c.answered.ensures.is tt c.in-Ok.ensures.carries
     (c.answered.ensures.about c.args.uid c.in-Ok.ensures.about)

@@ -2,14 +2,19 @@ use Rattle.std.proofs.Common.{true, None}
 use Rattle.eden_value.specs.View.{datum}
 use Rattle.move_laws.specs.World.{Save}
 use Rattle.move_world.specs.Asking.{manned}
-use Rattle.move_world.proofs.Hearing.{heard-answered, heard-refused, no-stop, is-fine}
+use Rattle.move_world.proofs.Hearing.{raised, heard-answered, heard-refused, no-stop, is-fine}
 use Rattle.move_world.proofs.ask.ask_save.Goals as goal
 
 pub returns-in-Err : goal.returns-in-Err
 returns-in-Err g c =
     heard-refused g.St.Device.Disk.tells g.St.Store.layout c.args.uid (Save (datum c.args.value)) c.in-Err.refusal c.refused.result
     (manned g.St.Store.seen c.args.node.now) (manned g.St.Store.seen c.save.new.self)
-    (record { of = c.save.ensures.of; node = c.save.ensures.node; stands = c.save.ensures.goes.stands })
+    (record {
+      of = c.save.ensures.of;
+      node = c.save.ensures.node;
+      counts = raised _ _ _ _ _ _ _ _ c.in-Err.ensures.goes;
+      stands = c.save.ensures.goes.stands;
+    })
     (no-stop c.in-Err.refusal _ c.in-Err.ensures.power) c.refused.ensures.is c.refused.ensures.none c.refused.ensures.about
     c.in-Err.ensures.carries
 
@@ -17,6 +22,11 @@ pub returns-in-Ok : goal.returns-in-Ok
 returns-in-Ok g c =
     heard-answered g.St.Device.Disk.tells g.St.Store.layout c.args.uid (Save (datum c.args.value)) true None c.answered.result
     (manned g.St.Store.seen c.args.node.now) (manned g.St.Store.seen c.save.new.self)
-    (record { of = c.save.ensures.of; node = c.save.ensures.node; stands = c.save.ensures.goes.stands })
+    (record {
+      of = c.save.ensures.of;
+      node = c.save.ensures.node;
+      counts = raised _ _ _ _ _ _ _ _ c.in-Ok.ensures.goes;
+      stands = c.save.ensures.goes.stands;
+    })
     (is-fine c.in-Ok.field-0 _ c.in-Ok.ensures.power) c.answered.ensures.is tt c.in-Ok.ensures.carries (c.answered.ensures.about
     c.args.uid tt)

@@ -24,4 +24,7 @@ loop-command-preserved g c =
     (map meant c.into_iter-command-iterator.result.rest.items) (map meant c.loop-command.command-iterator.rest.items)
     (map meant c.next.new.self.rest.items) (entry_of e) c.loop-command.invariant (ap (map meant) c.in-Some.ensures.steps.0)
     (entries-more c.loop-command.entries.items c.push.new.self.items e c.in_ok-push.ensures.items) c.step.ensures.world
-    c.in_ok-answer.ensures.steps
+    c.in_ok-answer.ensures.steps c.in_ok-answer.ensures.counted
+
+pub returns-clause-counted : goal.returns-clause-counted
+returns-clause-counted g c = c.loop-command.invariant.counted

@@ -7,3 +7,9 @@ returns-clause-carries g c tells to fits x up s = elim c.match-carry.branch [
   | in-Ok w ↦ rw w.result-is (closed-went _ _ _ x _ _ _ _ (w.in-Ok.ensures.carries tells fits x up s))
   | in-Err w ↦ rw w.result-is (w.in-Err.ensures.carries tells fits x up s)
 ]
+
+pub returns-clause-full : goal.returns-clause-full
+returns-clause-full g c = elim c.match-carry.branch [
+  | in-Ok w ↦ rw w.result-is w.in-Ok.ensures.full
+  | in-Err w ↦ rw w.result-is w.in-Err.ensures.full
+]

@@ -11,3 +11,6 @@ returns-in-Ok-clause-acts g c tells fits mind x s post =
 
 pub returns-in-Ok-clause-goes : goal.returns-in-Ok-clause-goes
 returns-in-Ok-clause-goes g c = c.in-Ok.ensures.goes
+
+pub returns-in-Ok-clause-full : goal.returns-in-Ok-clause-full
+returns-in-Ok-clause-full g c = c.in-Ok.ensures.full

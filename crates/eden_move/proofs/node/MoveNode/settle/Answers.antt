@@ -1,9 +1,9 @@
-use Rattle.std.proofs.Common.{is_some}
-use Rattle.std.specs.Prelude.{IsTrue}
+use Rattle.passive_store.specs.Seen.{Seen}
 use Rattle.eden_move.specs.Minds.{remembered}
 use Rattle.eden_move.specs.Shown.{IsHarmed}
 use Rattle.eden_move.proofs.Carrying.{behind-refused, harmed-by}
 use Rattle.eden_move.proofs.Going.{end-alike, goes-refused}
+use Rattle.std.proofs.Common.{ap, ◌∙◌}
 use Rattle.eden_move.proofs.node.MoveNode.settle.Goals as goal
 
 pub returns-in-Err-clause-settled : goal.returns-in-Err-clause-settled
@@ -23,5 +23,14 @@ pub returns-in-Ok-clause-goes : goal.returns-in-Ok-clause-goes
 returns-in-Ok-clause-goes g c = c.in-Ok.ensures.goes
 
 pub returns-in-Err-clause-goes : goal.returns-in-Err-clause-goes
-returns-in-Err-clause-goes g c = goes-refused _ _ _ c.refused.result _ _ _
+returns-in-Err-clause-goes g c = goes-refused _ _ _ _ _ _ c.refused.result _ _ _
     (end-alike c.in-Err.refusal c.refused.result c.refused.ensures.is) c.refused.ensures.store c.in-Err.ensures.goes
+
+pub returns-in-Ok-clause-room : goal.returns-in-Ok-clause-room
+returns-in-Ok-clause-room g c tells = c.settles.ensures.room tells
+
+pub returns-in-Ok-clause-more : goal.returns-in-Ok-clause-more
+returns-in-Ok-clause-more g c = c.settles.ensures.more
+
+pub returns-in-Err-clause-more : goal.returns-in-Err-clause-more
+returns-in-Err-clause-more g c = ap (λ (s : Seen). s.more) c.refused.ensures.store ∙ c.settles.ensures.more

@@ -6,6 +6,9 @@ use Rattle.move_world.specs.Kept.{rows}
 use Rattle.move_world.specs.Asking.{uid_in, call_in}
 use Rattle.move_world.proofs.Seating.{wanders}
 use Rattle.move_world.proofs.Placing.{place-sound, place-stands, place-world, place-kept, place-asked, place-asked-in}
+use Rattle.move_world.proofs.Placing.{place-counted}
+use Rattle.move_world.specs.Counting.{end_in}
+use Rattle.move_world.specs.View.{answer_of}
 use Rattle.move_world.proofs.world.MoveWorld.ask.Goals as goal
 
 pub ask_seat-requires-clause-sound : goal.ask_seat-requires-clause-sound
@@ -53,3 +56,10 @@ returns-clause-asked g c = λ so call w of.
     (place-stands g.St.Store.seen (disk_seen g.St.Device.Disk.counts g.St.Device.Disk.told g.St.Device.Disk.due) c.args.self.now.seats.items
     (rows c.args.self.now.letters) c.args.n (c.from.result - 1) _ c.index_mut.result.now c.ask_seat.new.seat
     (ap (λ k. k - 1) c.from.ensures) c.requires.node c.requires.world.seats c.index_mut.ensures.value g.St.Store.layout w of))
+
+pub returns-clause-counted : goal.returns-clause-counted
+returns-clause-counted g c =
+    place-counted g.St.Store.seen (disk_seen g.St.Device.Disk.counts g.St.Device.Disk.told g.St.Device.Disk.due) c.args.self.now.seats.items
+    (rows c.args.self.now.letters) c.args.n (c.from.result - 1) _ c.index_mut.result.now c.ask_seat.new.seat
+    (ap (λ k. k - 1) c.from.ensures) c.requires.node c.requires.world.seats c.index_mut.ensures.value (end_in (answer_of c.in_ok-answer.answer))
+    c.in_ok-answer.ensures.counted

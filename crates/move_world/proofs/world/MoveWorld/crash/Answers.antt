@@ -4,6 +4,8 @@ use Rattle.script_words.specs.Meaning.{written_mode}
 use Rattle.move_world.specs.Kept.{rows}
 use Rattle.move_world.specs.View.{answer_of}
 use Rattle.move_world.proofs.Placing.{place-sound, place-stands, place-world, place-crashed}
+use Rattle.move_world.proofs.Placing.{place-counted}
+use Rattle.move_world.specs.Counting.{end_in}
 use Rattle.move_world.proofs.world.MoveWorld.crash.Goals as goal
 
 pub returns-clause-world : goal.returns-clause-world
@@ -26,3 +28,10 @@ returns-clause-steps g c = λ so w of.
     g.St.Device.Disk.due) c.args.self.now.seats.items
     (rows c.args.self.now.letters) c.args.n (c.from.result - 1) _ c.index_mut.result.now c.crash_at.new.seat
     (ap (λ k. k - 1) c.from.ensures) c.requires.node c.requires.world.seats c.index_mut.ensures.value g.St.Store.layout w of))
+
+pub returns-clause-counted : goal.returns-clause-counted
+returns-clause-counted g c =
+    place-counted g.St.Store.seen (disk_seen g.St.Device.Disk.counts g.St.Device.Disk.told g.St.Device.Disk.due) c.args.self.now.seats.items
+    (rows c.args.self.now.letters) c.args.n (c.from.result - 1) _ c.index_mut.result.now c.crash_at.new.seat
+    (ap (λ k. k - 1) c.from.ensures) c.requires.node c.requires.world.seats c.index_mut.ensures.value (end_in (answer_of c.crash_at.result))
+    c.crash_at.ensures.counted

@@ -2,6 +2,7 @@ use Rattle.std.proofs.Common.{◌-◌, ap}
 use Rattle.passive_store.specs.Seen.{disk_seen}
 use Rattle.move_world.specs.Kept.{rows}
 use Rattle.move_world.proofs.Placing.{place-sound, place-stands, place-world, place-opened}
+use Rattle.move_world.proofs.Placing.{place-counted-ok}
 use Rattle.move_world.proofs.world.MoveWorld.restart.Goals as goal
 
 pub open_at-requires-clause-sound : goal.open_at-requires-clause-sound
@@ -28,3 +29,10 @@ returns-clause-steps g c = λ so w of.
     g.St.Device.Disk.due) c.args.self.now.seats.items
     (rows c.args.self.now.letters) c.args.n (c.from.result - 1) _ c.index_mut.result.now c.open_at.new.seat
     (ap (λ k. k - 1) c.from.ensures) c.requires.node c.requires.world.seats c.index_mut.ensures.value g.St.Store.layout w of))
+
+pub returns-clause-counted : goal.returns-clause-counted
+returns-clause-counted g c =
+    place-counted-ok g.St.Store.seen (disk_seen g.St.Device.Disk.counts g.St.Device.Disk.told g.St.Device.Disk.due) c.args.self.now.seats.items
+    (rows c.args.self.now.letters) c.args.n (c.from.result - 1) _ c.index_mut.result.now c.open_at.new.seat
+    (ap (λ k. k - 1) c.from.ensures) c.requires.node c.requires.world.seats c.index_mut.ensures.value c.open_at.result
+    c.open_at.ensures.counted
