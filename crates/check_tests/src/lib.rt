@@ -8,4 +8,6 @@ mod plain_choices_tests;
 #[cfg(test)]
 mod plain_ejects_tests;
 #[cfg(test)]
+mod plain_sites_tests;
+#[cfg(test)]
 mod plain_stores_tests;

@@ -4,7 +4,7 @@ use Rattle.std.specs.Option.{option_map}
 use Rattle.epl_syntax.specs.Rules.OfTypes.{TypeList}
 use Rattle.journal.specs.EjectChange.{EjectChange, body, removal}
 use Rattle.journal.specs.World.{Active, Eject}
-use Rattle.active_part.specs.Body.{active_of, calls_of}
+use Rattle.active_part.specs.Body.{Body, active_of, calls_of}
 use Rattle.active_part.specs.View.{body_of}
 use Rattle.active_part.specs.declared.part.Part.{Part}
 use Rattle.checkpoint.specs.declared.worker.Wish.{Wish}
@@ -33,6 +33,10 @@ eject_of ts e = record {
   kept = e.kept;
   doubt = option_map change_of e.doubt;
 }
+
+-- the Eject with this active part, and the queue that stands in it
+abbrev pub with_body : Body → Eject → Eject
+with_body b e = record e { active = Some (active_of b); queued = calls_of b.crew.queued }
 
 -- the Eject with this change in doubt
 abbrev pub with_doubt : EjectChange → Eject → Eject

@@ -6,14 +6,15 @@
 mod processes;
 mod storage;
 
-ghost use Rattle.std.specs.Prelude.{◌≡◌, ◌<◌, ◌++◌, ◌∷◌, [], false, None, IfSome, OnOk, is_some, length};
+ghost use Rattle.std.specs.Prelude.{◌≡◌, ◌↔◌, ◌<◌, ◌≤◌, ◌++◌, ◌∷◌, [], false, None, IfSome, IsTrue, OnOk, is_some, length};
+ghost use Rattle.std.specs.Option.{option_map};
 ghost use Rattle.eden_model.specs.Crew.{serving_pairs};
 ghost use Rattle.epl_syntax.specs.Rules.OfTypes.{TypeList};
 ghost use Rattle.journal.specs.Crashes.{fallen};
 ghost use Rattle.journal.specs.Ejects.{is_there, newborn, with_active, with_queued};
 ghost use Rattle.active_part.specs.Body.{active_of, calls_of};
 ghost use Rattle.active_part.specs.View.{body_of, coordination_of};
-ghost use Rattle.plain_ejects.specs.View.{eject_of, active_in};
+ghost use Rattle.plain_ejects.specs.View.{eject_of, active_in, with_body};
 
 use active_part::Part;
 use capability::{Body, CallNumbers};
@@ -42,6 +43,13 @@ fn no_calls(alloc: Global) -> CallNumbers
     CallNumbers {
         items: Vec::new(alloc),
     }
+}
+
+/// How many calls there are.
+fn count(calls: &CallNumbers) -> usize
+    ensures { result ≡ length calls.now }
+{
+    calls.items.len()
 }
 
 /// The queued calls of an active part, and those that run, each with the process that serves it.
@@ -80,13 +88,14 @@ impl PlainEject {
         self.part.is_some() || (self.kept.is_some() || self.doubt.is_some())
     }
 
-    /// Whether 64 calls are queued in its active part, so that there is no place for one more.
+    /// Whether 64 calls are queued, so that one more is refused, and there may be no place for it.
     pub fn is_full(&self) -> bool
-        ensures { result ≡ false → IfSome self.now.part (λ it. length (coordination_of it).queued < 64) }
+        ensures full { (ts : TypeList) → IsTrue result ↔ (64 ≤ length (eject_of ts self.now).queued) }
+        ensures room { result ≡ false → IfSome self.now.part (λ it. length (coordination_of it).queued < 64) }
     {
         match &self.part {
             Some(part) => part.is_full(),
-            None => false,
+            None => count(&self.waiting) >= 64,
         }
     }
 
@@ -108,8 +117,7 @@ impl PlainEject {
     /// Its active part goes, and what is queued stays. The calls that ran, each with the process that served it, by process number; none
     /// where it was passive.
     pub fn deactivate(&mut self) -> Option<Pairs>
-        ensures running { (ts : TypeList) → IfSome (active_in ts self.old)
-            (λ it. IfSome result (λ ran. ran ≡ serving_pairs it.crew.processes)) }
+        ensures running { (ts : TypeList) → result ≡ option_map (λ it. serving_pairs it.crew.processes) (active_in ts self.old) }
         ensures after { (ts : TypeList) → eject_of ts self.new ≡ with_active None (eject_of ts self.old) }
     {
         match replace(&mut self.part, None) {
@@ -120,6 +128,13 @@ impl PlainEject {
             }
             None => None,
         }
+    }
+
+    /// It is active with this part, in which all its queued calls stand.
+    pub fn wake(&mut self, part: Part)
+        ensures { (ts : TypeList) → eject_of ts self.new ≡ with_body (body_of ts part) (eject_of ts self.old) }
+    {
+        self.part = Some(part);
     }
 
     /// The queued calls of a passive Eject, in order. None is queued any more.

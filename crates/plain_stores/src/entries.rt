@@ -1,16 +1,18 @@
 //! The Ejects of a node by their uids.
-ghost use Rattle.std.specs.Prelude.{◌≡◌, T, IfSome, is_some, map, option_copied};
+ghost use Rattle.std.specs.Prelude.{◌≡◌, ◌≤◌, T, IfSome, None, OnOk, is_some, length, map, option_copied};
 ghost use Rattle.std.specs.FinMap.Entries.{is_sorted};
 ghost use Rattle.std.specs.List.{filter_map};
 ghost use Rattle.std.specs.Option.{option_map};
+ghost use Rattle.std.specs.Ordering.{is_lt};
 ghost use Rattle.eden_model.specs.Crew.{Waits, outside};
-ghost use Rattle.eden_model.specs.Map.{changed_at, each_value, first, same_uid, uid_cmp, value_at};
+ghost use Rattle.eden_model.specs.Map.{changed_at, each_value, first, put_at, same_uid, uid_cmp, value_at};
 ghost use Rattle.epl_syntax.specs.Rules.OfTypes.{TypeList};
 ghost use Rattle.journal.specs.Crashes.{fallen};
 ghost use Rattle.journal.specs.EjectChange.{kept_of};
 ghost use Rattle.journal.specs.Ejects.{on_active, told};
 ghost use Rattle.journal.specs.Settling.{doubt_entry, settled_eject};
 ghost use Rattle.plain_ejects.specs.View.{change_of, eject_of, with_doubt, with_kept};
+ghost use Rattle.plain_stores.specs.Places.{IsBehindLesser};
 ghost use Rattle.plain_stores.specs.View.{ejects_of, IsPlaceOf};
 
 use capability::Uid;
@@ -18,7 +20,7 @@ use checkpoint::Wish;
 use epl_syntax::Answer;
 use passive_store::Pick;
 use plain_ejects::PlainEject;
-use std::alloc::Global;
+use std::alloc::{AllocError, Global};
 
 /// An Eject under its uid.
 #[derive(Drop)]
@@ -46,6 +48,36 @@ pub fn place_of(entries: &[PlainEntry], uid: Uid) -> Option<usize>
         }
     }
     None
+}
+
+/// Whether the entry is that of an Eject with a lesser uid.
+fn is_lesser(entry: &PlainEntry, uid: Uid) -> bool
+    ensures { result ≡ is_lt (uid_cmp entry.now.uid uid) }
+{
+    entry.uid < uid
+}
+
+/// How many of the first Ejects have lesser uids.
+fn place_behind(entries: &[PlainEntry], uid: Uid) -> usize
+    ensures within { result ≤ length entries.now }
+    ensures behind { IsBehindLesser (λ (e : PlainEntry). e.uid) uid entries.now result }
+{
+    for i in 0..entries.len() {
+        if !is_lesser(&entries[i], uid) {
+            return i;
+        }
+    }
+    entries.len()
+}
+
+/// A new Eject joins the others, under a uid that none of them has.
+pub fn add(entries: &mut Vec<PlainEntry>, uid: Uid, eject: PlainEject) -> Result<(), AllocError>
+    ensures { OnOk result ((ts : TypeList) → value_at uid_cmp uid (ejects_of ts entries.old.items) ≡ None
+        → ejects_of ts entries.new.items ≡ put_at uid_cmp uid (eject_of ts eject) (ejects_of ts entries.old.items)) }
+{
+    let place = place_behind(entries, uid);
+    entries.insert(place, PlainEntry { uid, eject })?;
+    Ok(())
 }
 
 /// The Eject of this uid.

@@ -15,7 +15,7 @@ ghost use Rattle.epl_syntax.specs.Rules.OfTypes.{TypeList};
 ghost use Rattle.journal.specs.Opening.{node_from};
 ghost use Rattle.plain_stores.specs.View.{node_of};
 
-pub use entries::{PlainEntry, find, place_of, tell};
+pub use entries::{PlainEntry, add, find, place_of, tell};
 pub use requests::PlainRequest;
 use std::alloc::Global;
 use std::collections::VecDeque;

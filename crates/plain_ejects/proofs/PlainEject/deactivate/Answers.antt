@@ -1,5 +1,4 @@
-use Rattle.std.proofs.Common.{◌≡◌, ◌∙◌, ℕ, List, Option, None, Some, ap, subst}
-use Rattle.std.specs.Prelude.{IfSome}
+use Rattle.std.proofs.Common.{◌≡◌, ◌∙◌, ℕ, List, Option, None, Some, ap}
 use Rattle.std.specs.Option.{option_map}
 use Rattle.eden_model.specs.Crew.{serving_pairs}
 use Rattle.epl_syntax.specs.Rules.OfTypes.{TypeList}
@@ -23,9 +22,14 @@ deactivated-as ts e p new queued is gone left = ap (λ n. eject_of ts (record e 
     ∙ (ap (asleep e) left ∙ ap (λ o. asleep e (queue_of ts o e.waiting)) is)
 
 pub returns-in-Some-clause-running : goal.returns-in-Some-clause-running
-returns-in-Some-clause-running c ts = subst (λ o. IfSome (option_map (λ (p : Part). active_of (body_of ts p)) o)
-    (λ it. c.taken_apart-queued.result.1 ≡ serving_pairs it.crew.processes)) c.in-Some.ensures.value
-    (c.taken_apart-queued.ensures.running ts)
+returns-in-Some-clause-running c ts = ap Some (c.taken_apart-queued.ensures.running ts)
+    ∙ ap (λ o. option_map (λ it. serving_pairs it.crew.processes) (option_map (λ (p : Part). active_of (body_of ts p)) o))
+    c.in-Some.ensures.value
+
+pub returns-in-None-clause-running : goal.returns-in-None-clause-running
+returns-in-None-clause-running c ts =
+    ap (λ o. option_map (λ it. serving_pairs it.crew.processes) (option_map (λ (p : Part). active_of (body_of ts p)) o))
+    c.in-None.ensures.value
 
 pub returns-in-Some-clause-after : goal.returns-in-Some-clause-after
 returns-in-Some-clause-after c ts = deactivated-as ts c.args.self.now c.in-Some.part c.replace.new.dest c.taken_apart-queued.result.0

@@ -1,0 +1,4 @@
+pub mod Entries
+pub mod Sites
+pub mod Deliveries
+pub mod StoreTurns

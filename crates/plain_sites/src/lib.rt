@@ -1,0 +1,13 @@
+//! A site as the definitions have it: a node and all calls. What each event there changes, by equality.
+#![tactic(auto)]
+
+mod births;
+mod ejects;
+mod endings;
+mod messages;
+mod stores;
+
+pub use births::{bear, next_uid};
+pub use endings::{crash, end_active, turn_away, turn_away_unkept};
+pub use messages::{deliver, hear, refusal};
+pub use stores::take_turn;
