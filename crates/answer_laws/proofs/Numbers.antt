@@ -14,7 +14,7 @@ use Rattle.shell_answers.specs.Reading.{Reading, HindersTask}
 use Rattle.shell_answers.specs.Answers.{Call, Answers}
 use Rattle.shell_answers.specs.declared.words.Job.TheVariants.{Run, Gen}
 use Rattle.shell_answers.specs.declared.words.Task.{Task}
-use Rattle.shell_answers.specs.declared.words.Task.TheVariants.{History, Wire, Move}
+use Rattle.shell_answers.specs.declared.words.Task.TheVariants.{History, Wire, Move, Twin}
 use Rattle.shell_answers.specs.declared.further.Further.{Further}
 use Rattle.shell_answers.specs.declared.outcome.Outcome.{Outcome}
 use Rattle.shell_answers.specs.declared.outcome.Outcome.TheVariants.{Ran, BadWords, BadScript, ReadFault, WriteFault, OutOfMemory, TooLong}
@@ -47,24 +47,30 @@ module _ (words : List (List ℕ)) (number : ℕ) (asks : Asks words (Gen number
   no-move : AsksFor words Move → ⊥
   no-move is = apart (codes "gen") (codes "move") refl words [] (asks.0 ∷ []) asks.2 is
 
+  no-twin : AsksFor words Twin → ⊥
+  no-twin is = apart (codes "gen") (codes "twin") refl words [] (asks.0 ∷ []) asks.2 is
+
   module _ (clean : ItHasNoBadLine) (s : Reading) where
     no-bad-script : (line : ℕ) (why : ScriptCause) (task : Task) → AsksFor words task → HindersTask s task (BadScript line why) → ⊥
     no-bad-script line why (History (Run m)) so h = no-run m so
     no-bad-script line why (History (Gen n)) so h = clean n line why (subst (λ bytes. IsBadLine bytes line why) h.1.1 h.2)
     no-bad-script line why Wire so h = no-wire so
     no-bad-script line why Move so h = no-move so
+    no-bad-script line why Twin so h = no-twin so
 
     no-read-fault : (task : Task) → AsksFor words task → HindersTask s task ReadFault → ⊥
     no-read-fault (History (Run m)) so h = no-run m so
     no-read-fault (History (Gen n)) so h = h
     no-read-fault Wire so h = no-wire so
     no-read-fault Move so h = no-move so
+    no-read-fault Twin so h = no-twin so
 
     not-too-long : (task : Task) → AsksFor words task → HindersTask s task TooLong → ⊥
     not-too-long (History (Run m)) so h = no-run m so
     not-too-long (History (Gen n)) so h = h
     not-too-long Wire so h = no-wire so
     not-too-long Move so h = no-move so
+    not-too-long Twin so h = no-twin so
 
 pub runs : ItHasNoBadLine → (c : Call) (outcome : Outcome) (history : List Entry) (more : Further) (number : ℕ)
     → Asks c.words (Gen number) → Answers c outcome history more → (Rose c.sink.faults c.sink.faults_after → ⊥) → (outcome ≡ Ran) ⊎ (outcome ≡ OutOfMemory)

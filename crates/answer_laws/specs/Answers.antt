@@ -9,7 +9,7 @@ use Rattle.journal.specs.LegalRun.{AreHandedIn}
 use Rattle.eden_world.specs.Legal.{disk_runs}
 use Rattle.shell_answers.specs.Words.{Asks}
 use Rattle.shell_answers.specs.Reading.{Reading, IsAsked}
-use Rattle.shell_answers.specs.Answers.{Call, Writing, Answers}
+use Rattle.shell_answers.specs.Answers.{Call, Writing, Answers, disks_of_nodes}
 use Rattle.shell_answers.specs.declared.words.Job.{Job}
 use Rattle.shell_answers.specs.declared.words.Job.TheVariants.{Gen}
 use Rattle.shell_answers.specs.declared.further.Further.{Further}
@@ -35,17 +35,22 @@ pub record HasBesides (c : Call) (history : List Entry) : Type 0 where
   pub script : Script
   -- which they do
   pub asked : IsAsked c.words c.source job script
-  -- what holds of its run
-  pub besides : HoldsBesides c.disks.layout script c.disks.runs history
+  -- what holds of its run, over the disks of its nodes
+  pub besides : HoldsBesides c.disks.layout script (disks_of_nodes script c.disks.runs) history
 
 -- there is no history, or so it is with the history
 abbrev pub IsBesides : Call → List Entry → Type 0
 IsBesides c history = (history ≡ []) ⊎ HasBesides c history
 
--- So it is with whatever is answered over eight disks with blocks that tell, and are handed in as they have to be.
+-- the disks of the nodes of the script that is asked for are handed in as they have to be
+abbrev pub NodesAreHandedIn : Call → Type 0
+NodesAreHandedIn c = (job : Job) (script : Script) → IsAsked c.words c.source job script
+    → AreHandedIn c.disks.layout (disks_of_nodes script c.disks.runs)
+
+-- So it is with whatever is answered over eight disks with blocks that tell, of which those of the nodes are handed in as they have to be.
 abbrev pub AnswersHoldBesides : Type 0
 AnswersHoldBesides = (c : Call) (outcome : Outcome) (history : List Entry) (more : Further) → c.disks.layout ≡ block_layout
-    → length c.disks.runs ≡ 8 → IsTrue c.disks.tells → AreHandedIn c.disks.layout c.disks.runs → Answers c outcome history more
+    → length c.disks.runs ≡ 8 → IsTrue c.disks.tells → NodesAreHandedIn c → Answers c outcome history more
     → IsBesides c history
 
 -- a call over eight disks in memory

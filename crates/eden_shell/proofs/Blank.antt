@@ -1,6 +1,6 @@
 -- Zeros on a disk where blocks may stand: nothing is kept there, and the room is told for more changes than a run makes. So they are handed
 -- in as they have to be.
-use Rattle.std.proofs.Common.{◌≡◌, ℕ, zero, suc, ◌-◌, ◌/◌, ◌≤◌, ◌<◌, Bool, true, false, ◌==◌, ◌&&◌, ◌||◌, not, List, [], ◌∷◌, length}
+use Rattle.std.proofs.Common.{◌≡◌, ℕ, zero, suc, ◌-◌, ◌/◌, ◌≤◌, ◌<◌, Bool, true, false, ◌&&◌, not, List, [], ◌∷◌, length}
 use Rattle.std.proofs.Common.{replicate, is_some, IsTrue, subst, refl, sym, ◌∙◌, ap, arith}
 use Rattle.std.specs.Prelude.{if◌then◌else◌, find, sum_by, nat_le, slice_index, slice_get, slice_index_or, ◌^◌, Ok, Err, Some}
 use Rattle.std.specs.List.{All}
@@ -117,7 +117,7 @@ fit_allowed n size more few sized = record {
     nothing_there kept u none there = absurd (cc (ap (λ es. is_some (value_at uid_cmp u es)) none ∙ there))
 
 -- an image of a size that is not allowed has no map, so there is nothing to be said of it
-no_map : (node : ℕ) (image : List ℕ) → is_block_size (length image) ≡ false → block_map node image ≡ Err 0
+pub no_map : (node : ℕ) (image : List ℕ) → is_block_size (length image) ≡ false → block_map node image ≡ Err 0
 no_map node image unsized = ap (λ b. if b then map_by (format_of image) node image else Err 0) unsized
 
 fit_other : (n size more : ℕ) → is_block_size size ≡ false → IsFitFor block_layout n more (zeros size)

@@ -1,23 +1,24 @@
 -- Zeros on a disk where blocks may stand keep nothing, whatever a crash leaves of them.
-use Rattle.std.proofs.Common.{◌≡◌, ℕ, zero, suc, ◌-◌, ◌<◌, Bool, true, false, ◌&&◌, List, [], ◌∷◌, length, map, replicate, subst, refl, sym}
-use Rattle.std.proofs.Common.{◌∙◌, ap, arith, IsTrue, Option, Some, None}
-use Rattle.std.specs.Prelude.{slice_get, slice_index, Ok, ◌≤◌}
-use Rattle.std.specs.List.{All}
+use Rattle.std.proofs.Common.{◌≡◌, ℕ, zero, suc, ◌-◌, Bool, true, false, ◌&&◌, List, [], ◌∷◌, length, map, subst, refl, sym}
+use Rattle.std.proofs.Common.{◌∙◌, ap, arith, Some}
+use Rattle.std.specs.Prelude.{slice_get}
 use Rattle.std.proofs.lemmas.List.Elements.{All-head, All-tail}
 use Rattle.eden_disk.specs.SimDisk.{Simulated, blank_of}
 use Rattle.eden_disk.specs.Told.{Told}
 use Rattle.eden_disk.proofs.Held.{only_now}
 use Rattle.passive_store.specs.Seen.{DiskSeen}
-use Rattle.passive_store.specs.Kept.{nothing_kept, Idle, LeavesKept, Stands}
+use Rattle.passive_store.specs.Kept.{Kept, nothing_kept, Idle, LeavesKept, Stands}
 use Rattle.block_tables.specs.Blocks.{is_block_size}
-use Rattle.passive_blocks.specs.BlockLayout.{Blank, format_of, overfull_by, block_layout}
+use Rattle.passive_blocks.specs.BlockLayout.{format_of, overfull_by, block_layout}
 use Rattle.journal.specs.RefusedRuns.{blank_told, zeros}
-use Rattle.journal.specs.Standing.{DiskRun}
 use Rattle.eden_world.specs.Legal.{disk_run, disk_runs}
-use Rattle.move_world.specs.Disks.{KeepsNothing, KeepNothing}
+use Rattle.move_world.specs.Disks.{KeepsNothing}
 use Rattle.shell_answers.specs.Answers.{seen_before}
-use Rattle.eden_shell.specs.Blank.{AreBlank, AreOfBlocks, BlankDisksKeepNothing, sim_seen}
-use Rattle.eden_shell.proofs.Blank.{zeros_are_blank, zeros_keep_nothing, sim-zeros}
+use Rattle.twin_world.specs.Commands as twin_commands
+use Rattle.twin_world.specs.Disks as twins
+use Rattle.eden_shell.specs.Blank.{AreBlank, AreOfBlocks, BlankDisksKeepNothing, BlankDisksKeepNoTexts, BlankDisksCanRise, sim_seen}
+use Rattle.eden_shell.proofs.Blank.{no_map, zeros_are_blank, zeros_keep_nothing, sim-zeros}
+use Rattle.std.proofs.lemmas.List.{length-replicate}
 
 and-false : (b c : Bool) → c ≡ false → b && c ≡ false
 and-false true c is = is
@@ -61,3 +62,33 @@ at-place (x ∷ before) (y ∷ after) (suc k) d blank sized is =
 pub blank-keep : BlankDisksKeepNothing
 blank-keep before after blank sized n d node there =
     let r = at-place before after (n - 1) d blank sized there in zeros-empty n r.0 d.told r.1 r.2
+
+-- the same, as a disk of a pair
+twin-empty : (node size : ℕ) (told : Told) → is_block_size size ≡ true → told ≡ blank_told size
+    → twins.KeepsNothing block_layout node told
+twin-empty node size told sized is = subst (λ (t : Told). twins.KeepsNothing block_layout node t) (sym is)
+    (record { kept = nothing_kept; none = refl; stands = zeros-leave node size sized })
+
+pub blank-no-texts : BlankDisksKeepNoTexts
+blank-no-texts before after blank sized d disk among there =
+    let r = at-place before after (d - 1) disk blank sized there in twin-empty (twin_commands.node_of_disk d) r.0 disk.told r.1 r.2
+
+pub blank-rise : BlankDisksCanRise
+blank-rise [] after k few blank = tt
+blank-rise (x ∷ before) [] k few blank = tt
+blank-rise (x ∷ before) (y ∷ after) k few blank =
+    let one = All-head (λ z. (size : ℕ) × (z ≡ blank_of size)) x before blank in
+    let none : x.counts.faults ≡ 0 = ap (λ (z : Simulated). z.counts.faults) one.1 in (
+      omega (arith, none, few),
+      blank-rise before after k few (All-tail (λ z. (size : ℕ) × (z ≡ blank_of size)) x before blank),
+    )
+
+-- an image of zeros keeps nothing, if it has a map
+pub zeros-no-texts : twins.ZerosKeepNothing block_layout
+zeros-no-texts node size kept there = go (is_block_size size) refl
+  where
+    go : (b : Bool) → is_block_size size ≡ b → kept.bodies ≡ nothing_kept.bodies
+    go true sized = let same : nothing_kept ≡ kept = cc (sym (zeros_keep_nothing node size sized) ∙ there) in
+        sym (ap (λ (k : Kept). k.bodies) same)
+    go false unsized = absurd (cc (sym (no_map node (zeros size)
+        (ap (λ n. is_block_size n) (length-replicate {A = ℕ} size 0) ∙ unsized)) ∙ there))

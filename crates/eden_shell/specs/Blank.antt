@@ -10,6 +10,7 @@ use Rattle.journal.specs.LegalRun.{IsHandedIn, IsHandedInFor, AreHandedInFor}
 use Rattle.journal.specs.RefusedRuns.{blank_told}
 use Rattle.eden_world.specs.Legal.{disk_runs}
 use Rattle.move_world.specs.Disks.{KeepNothing}
+use Rattle.twin_world.specs.Disks as twins
 use Rattle.shell_answers.specs.Answers.{seen_before}
 
 -- A disk of so many zeros is handed in as it has to be: where blocks may stand on it, nothing is kept there and the room is told for all
@@ -43,3 +44,12 @@ AreOfBlocks runs = All (λ d. is_block_size d.first.size ≡ true) runs
 abbrev pub BlankDisksKeepNothing : Type 0
 BlankDisksKeepNothing = (before after : List Simulated) → AreBlank before → AreOfBlocks (disk_runs true sim_seen before after)
     → KeepNothing block_layout (map seen_before (disk_runs true sim_seen before after))
+
+-- nor of a pair of disks, and its count of faults can rise as often as a script has commands
+abbrev pub BlankDisksKeepNoTexts : Type 0
+BlankDisksKeepNoTexts = (before after : List Simulated) → AreBlank before → AreOfBlocks (disk_runs true sim_seen before after)
+    → twins.KeepNothing block_layout (map seen_before (disk_runs true sim_seen before after))
+
+abbrev pub BlankDisksCanRise : Type 0
+BlankDisksCanRise = (before after : List Simulated) (k : ℕ) → k ≤ 1048576 → AreBlank before
+    → twins.CanRise k (map seen_before (disk_runs true sim_seen before after))

@@ -11,11 +11,12 @@ ghost use Rattle.eden_shell.specs.Legally.{IsLegally};
 use crate::shell::eden;
 use eden_disk::SimDisk;
 use eden_io::{Sink, Source};
+use line_forms::rows_are_fit;
 use shell_answers::Report;
 use std::alloc::Global;
 
 /// What `eden` does, over eight disks of zeros in memory. Nothing is left to be taken for granted there: a run that came to its end is
-/// legal, and so is the log of Ejects that wander, whatever the words, the script, the source and the sink.
+/// legal, and so is the log of Ejects that wander or of pairs of disks, whatever the words, the script, the source and the sink.
 pub fn eden_over_blank<S: Source, K: Sink>(
     alloc: Global,
     words: &Vec<String>,
@@ -51,5 +52,6 @@ pub fn eden_over_blank<S: Source, K: Sink>(
         result.outcome result.history result.further }
     ensures eight { length disks.new.items ≡ 8 }
 {
+    rows_are_fit();
     eden(alloc, words, source, sink, disks)
 }

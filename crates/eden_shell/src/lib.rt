@@ -7,9 +7,13 @@ mod in_memory;
 mod law;
 mod moving;
 mod shell;
+mod twins;
 
 pub use handing::hand_on;
 pub use in_memory::eden_over_blank;
-pub use law::{a_power_cut_hands_on, blank_disks_keep_nothing, blank_disks_may_be_handed_in};
+pub use law::{
+    a_power_cut_hands_on, blank_disks_keep_no_texts, blank_disks_keep_nothing,
+    blank_disks_may_be_handed_in,
+};
 pub use shell::eden;
 pub use shell_answers::{Further, Job, Outcome, Report, Task, host_dir, status};

@@ -11,6 +11,7 @@ ghost use Rattle.shell_answers.specs.declared.words.Task.{Task};
 
 use crate::carry::carry_script;
 use crate::moving::tell_moves;
+use crate::twins::tell_twins;
 use eden_disk::Disk;
 use eden_io::{Sink, Source};
 use eden_script::{a_script_is_fit, one_reading};
@@ -22,10 +23,11 @@ use shell_answers::{
 use std::alloc::Global;
 
 /// Reads the words and the source, carries the script out over these disks, and writes the text of its history. For a wire it writes what
-/// the script of the wire writes, and for Ejects that wander the text of their log.
+/// the script of the wire writes, and for Ejects that wander, and for pairs of disks, the text of their log.
 ///
 /// There are eight disks, in the order of their nodes, and they stand there again. The history that is returned is the one
-/// whose text was written; for a wire it is empty, and no disk is touched; for Ejects that wander it is empty, and the log is there.
+/// whose text was written; for a wire it is empty, and no disk is touched; for Ejects that wander and pairs of disks it is empty, and the
+/// log is there.
 pub fn eden<S: Source, K: Sink, D: Disk + Drop>(
     alloc: Global,
     words: &Vec<String>,
@@ -68,6 +70,7 @@ pub fn eden<S: Source, K: Sink, D: Disk + Drop>(
         }
         Ok(Asked::Wire { text }) => deliver(alloc, Further::Nothing, &text, sink),
         Ok(Asked::Move { script }) => tell_moves(alloc, script, sink, disks),
+        Ok(Asked::Twin { script }) => tell_twins(alloc, script, sink, disks),
         Err(outcome) => refuse(alloc, outcome, sink),
     }
 }

@@ -1,6 +1,6 @@
 -- What holds besides of a legal run of each script that was read: of its values, its monitors, its pipelines, of what is enabled and what
 -- is down, and of what nodes ask of disks that neither failed nor stopped.
-use Rattle.std.specs.Prelude.{◌≡◌, ℕ, true, false, ℤ, pos, List, [], Some, length}
+use Rattle.std.specs.Prelude.{◌≡◌, ◌≤◌, ℕ, true, false, ℤ, pos, List, [], Some, length}
 use Rattle.std.specs.List.{All}
 use Rattle.passive_store.specs.Kept.{Layout}
 use Rattle.passive_blocks.specs.BlockLayout.{block_layout}
@@ -87,14 +87,14 @@ pub record HoldsBesides (layout : Layout) (script : Script) (disks : List DiskRu
   -- of each node whose disk neither failed nor stopped
   pub undisturbed : EachDisk disks (λ n d. IsUndisturbedRun d → IsServed n (run_over layout script disks history))
 
--- So it is of each script that was read, over eight disks with blocks, which are handed in as they have to be, where the run is legal.
+-- So it is of each script that was read, over eight disks with blocks at most, which are handed in as they have to be, where the run is legal.
 abbrev pub LegalRunsHoldBesides : Type 0
 LegalRunsHoldBesides = (bytes : List ℕ) (script : Script) (disks : List DiskRun) (history : List Entry) → IsScript bytes script
-    → length disks ≡ 8 → AreHandedIn block_layout disks → IsLegalRun block_layout script disks history
+    → length disks ≤ 8 → AreHandedIn block_layout disks → IsLegalRun block_layout script disks history
     → HoldsBesides block_layout script disks history
 
 -- and where want of memory ended it
 abbrev pub LegalPartsHoldBesides : Type 0
 LegalPartsHoldBesides = (bytes : List ℕ) (script : Script) (disks : List DiskRun) (history : List Entry) → IsScript bytes script
-    → length disks ≡ 8 → AreHandedIn block_layout disks → IsLegalSoFar block_layout script disks history
+    → length disks ≤ 8 → AreHandedIn block_layout disks → IsLegalSoFar block_layout script disks history
     → HoldsBesides block_layout script disks history

@@ -21,6 +21,7 @@ use Rattle.line_forms.specs.Scripts as lines
 use Rattle.lossy_wire.specs.Commands.{wire_kind}
 use Rattle.lossy_wire.proofs.One.{wire_plain}
 use Rattle.move_world.specs.Commands.{Command, move_kind}
+use Rattle.move_world.specs.Counted.{CountsAsTold}
 use Rattle.move_world.specs.Disks.{KeepNothing}
 use Rattle.move_world.specs.Logs.{IsLegalMove}
 use Rattle.move_world.specs.Texts as moves
@@ -28,16 +29,26 @@ use Rattle.move_world.specs.View.{log_of}
 use Rattle.move_world.specs.Worlds.{commands_of}
 use Rattle.move_world.specs.declared.answer.Log.{Log}
 use Rattle.move_world.proofs.Meaning.{move_plain}
+use Rattle.twin_world.specs.Commands as twin_commands
+use Rattle.twin_world.specs.Commands.{twin_kind}
+use Rattle.twin_world.specs.Disks as twin_disks
+use Rattle.twin_world.specs.Logs as twin_logs
+use Rattle.twin_world.specs.Scripts as twin_scripts
+use Rattle.twin_world.specs.Texts as twins
+use Rattle.twin_world.specs.View as twin_view
+use Rattle.twin_world.specs.Worlds.{AllCounted, RunsOver}
+use Rattle.twin_world.specs.declared.answer.Log as twin_coded
+use Rattle.twin_world.proofs.Meaning.{twin_plain}
 use Rattle.shell_answers.specs.Words.{Asks, AsksFor, mode_of}
 use Rattle.shell_answers.specs.Outcomes.{line_of}
-use Rattle.shell_answers.specs.Reading.{Reading, IsRead, TookTooMany, IsAsked, IsWired, IsMoved, HindersRead, Hinders, HindersLines}
-use Rattle.shell_answers.specs.Reading.{HindersTask, Refuses, SpellsFor, SpellsLines}
+use Rattle.shell_answers.specs.Reading.{Reading, IsRead, TookTooMany, IsAsked, IsWired, IsMoved, IsTwinned, HindersRead, Hinders}
+use Rattle.shell_answers.specs.Reading.{HindersLines, HindersTask, Refuses, SpellsFor, SpellsLines}
 use Rattle.shell_answers.specs.Answers.{Call, IsUntouched, IsCarriedOut, IsNothing, HasRun, IsDone, IsNotBegun, IsRefused}
-use Rattle.shell_answers.specs.Answers.{IsBegun, Answers, Delivers, handed_in}
+use Rattle.shell_answers.specs.Answers.{IsBegun, Answers, Delivers, given_back, handed_in}
 use Rattle.shell_answers.specs.declared.words.Job.{Job}
 use Rattle.shell_answers.specs.declared.words.Job.TheVariants.{Run, Gen}
 use Rattle.shell_answers.specs.declared.words.Task.{Task}
-use Rattle.shell_answers.specs.declared.words.Task.TheVariants.{History, Wire, Move}
+use Rattle.shell_answers.specs.declared.words.Task.TheVariants.{History, Wire, Move, Twin}
 use Rattle.shell_answers.specs.declared.further.Further.{Further}
 use Rattle.shell_answers.specs.declared.further.Further.TheVariants as further
 use Rattle.shell_answers.specs.declared.outcome.Outcome.{Outcome}
@@ -72,20 +83,24 @@ refuses_task words s (History (Run m)) Ran asks h = h
 refuses_task words s (History (Gen number)) Ran asks h = h
 refuses_task words s Wire Ran asks h = h
 refuses_task words s Move Ran asks h = h
+refuses_task words s Twin Ran asks h = h
 refuses_task words s (History (Run m)) BadWords asks h = absurd h
 refuses_task words s (History (Gen number)) BadWords asks h = absurd h
 refuses_task words s Wire BadWords asks h = absurd h
 refuses_task words s Move BadWords asks h = absurd h
+refuses_task words s Twin BadWords asks h = absurd h
 refuses_task words s task (BadScript line why) asks h = (task, asks, h)
 refuses_task words s task ReadFault asks h = (task, asks, h)
 refuses_task words s (History (Run m)) WriteFault asks h = h
 refuses_task words s (History (Gen number)) WriteFault asks h = h
 refuses_task words s Wire WriteFault asks h = h
 refuses_task words s Move WriteFault asks h = h
+refuses_task words s Twin WriteFault asks h = h
 refuses_task words s (History (Run m)) OutOfMemory asks h = h
 refuses_task words s (History (Gen number)) OutOfMemory asks h = h
 refuses_task words s Wire OutOfMemory asks h = h
 refuses_task words s Move OutOfMemory asks h = h
+refuses_task words s Twin OutOfMemory asks h = h
 refuses_task words s task TooLong asks h = (task, asks, h)
 
 module _ (c : Call) (h : List Entry) (more : Further) (none : IsNothing h more) (untouched : All IsUntouched c.disks.runs) where
@@ -205,7 +220,8 @@ wired c h more _ none untouched asked =
 module _ (c : Call) (h : List Entry) (more : Further) (nodes : ℕ) (commands : List Command) (log : Log) (text : List ℕ)
     (asked : IsMoved c.words c.source nodes commands) (no_history : h ≡ []) (is_log : more ≡ further.Move log)
     (same_nodes : log.nodes ≡ nodes) (same : commands_of (log_of log).entries ≡ commands) (is_text : text ≡ moves.text_of (log_of log))
-    (legal : IsTrue c.disks.tells → KeepNothing c.disks.layout (handed_in c.disks) → IsLegalMove (log_of log)) where
+    (legal : IsTrue c.disks.tells → KeepNothing c.disks.layout (handed_in c.disks) → IsLegalMove (log_of log))
+    (counts : CountsAsTold (log_of log) (handed_in c.disks) (given_back c.disks)) where
   asked-so : IsMoved c.words c.source log.nodes (commands_of (log_of log).entries)
   asked-so = subst (λ (n : ℕ). IsMoved c.words c.source n (commands_of (log_of log).entries)) (sym same_nodes)
       (subst (λ (cs : List Command). IsMoved c.words c.source nodes cs) (sym same) asked)
@@ -215,7 +231,7 @@ module _ (c : Call) (h : List Entry) (more : Further) (nodes : ℕ) (commands : 
     Move,
     asked.asks,
     subst (λ (m : Further). IsDone Move c h m text) (sym is_log)
-        (record { asked = asked-so; legal = legal; is_text = is_text; no_history = no_history }),
+        (record { asked = asked-so; legal = legal; counts = counts; is_text = is_text; no_history = no_history }),
   )
 
 -- want of memory ended it
@@ -224,6 +240,35 @@ pub move-starved : (c : Call) (h : List Entry) (more : Further) (nodes : ℕ) (c
     → (outcome ≡ OutOfMemory → Keeps c.sink.written c.sink.written_after) → Answers c outcome h more
 move-starved c h more nodes commands asked none outcome is keeps = subst (λ (x : Outcome). Answers c x h more) (sym is)
     (inr (Move, asked.asks, record { nodes = nodes; commands = commands; asked = asked; nothing = none; unwritten = keeps is }))
+
+-- the log of pairs of disks has the commands that were read
+module _ (c : Call) (h : List Entry) (more : Further) (commands : List twin_commands.Command) (log : twin_coded.Log) (text : List ℕ)
+    (asked : IsTwinned c.words c.source commands) (no_history : h ≡ []) (is_log : more ≡ further.Twin log)
+    (same : twin_scripts.commands_of (twin_view.log_of log).entries ≡ commands) (is_text : text ≡ twins.text_of (twin_view.log_of log))
+    (legal : IsTrue c.disks.tells → twin_disks.KeepNothing c.disks.layout (handed_in c.disks)
+    → twin_disks.CanRise (length (twin_view.log_of log).entries) (handed_in c.disks) → twin_logs.IsLegalTwin (twin_view.log_of log))
+    (runs : RunsOver c.disks.tells c.disks.layout (twin_view.log_of log).entries (handed_in c.disks) (given_back c.disks))
+    (counts : AllCounted (twin_view.log_of log).entries (handed_in c.disks) (given_back c.disks)) where
+  pub twinned : (task : Task) × AsksFor c.words task × IsDone task c h more text
+  twinned = (
+    Twin,
+    asked.asks,
+    subst (λ (m : Further). IsDone Twin c h m text) (sym is_log) (record {
+      asked = subst (λ (cs : List twin_commands.Command). IsTwinned c.words c.source cs) (sym same) asked;
+      legal = legal;
+      runs = runs;
+      counts = counts;
+      is_text = is_text;
+      no_history = no_history;
+    }),
+  )
+
+-- want of memory ended it
+pub twin-starved : (c : Call) (h : List Entry) (more : Further) (commands : List twin_commands.Command)
+    → IsTwinned c.words c.source commands → IsNothing h more → (outcome : Outcome) → outcome ≡ OutOfMemory
+    → (outcome ≡ OutOfMemory → Keeps c.sink.written c.sink.written_after) → Answers c outcome h more
+twin-starved c h more commands asked none outcome is keeps = subst (λ (x : Outcome). Answers c x h more) (sym is)
+    (inr (Twin, asked.asks, record { commands = commands; asked = asked; nothing = none; unwritten = keeps is }))
 
 -- 4. A text that spells a script runs
 
@@ -241,12 +286,14 @@ data Sort : Type 0 where
   gens : Sort
   wires : Sort
   wanderers : Sort
+  pairs : Sort
 
 abbrev sort_of : Task → Sort
 sort_of (History (Run m)) = runs
 sort_of (History (Gen number)) = gens
 sort_of Wire = wires
 sort_of Move = wanderers
+sort_of Twin = pairs
 
 -- the first byte of some words, by which tasks differ
 abbrev first_byte : List (List ℕ) → ℕ
@@ -255,7 +302,12 @@ first_byte ([] ∷ words) = 0
 first_byte ((byte ∷ bytes) ∷ words) = byte
 
 abbrev sort_by : ℕ → Sort
-sort_by byte = if byte == 103 then gens else (if byte == 119 then wires else (if byte == 109 then wanderers else runs))
+sort_by byte =
+    if byte == 103 then gens
+    else (if byte == 119 then wires
+    else (if byte == 109 then wanderers
+    else (if byte == 116 then pairs
+    else runs)))
 
 sort-of-run : (words : List (List ℕ)) (m : Mode) → Asks words (Run m) → sort_by (first_byte words) ≡ runs
 sort-of-run words mode.Plain (inl a) = ap (λ (l : List (List ℕ)). sort_by (first_byte l)) a
@@ -270,6 +322,7 @@ its-sort words (History (Run m)) a = sort-of-run words m a
 its-sort words (History (Gen number)) a = ap (λ (l : List (List ℕ)). sort_by (first_byte l)) a.2
 its-sort words Wire a = ap (λ (l : List (List ℕ)). sort_by (first_byte l)) a
 its-sort words Move a = ap (λ (l : List (List ℕ)). sort_by (first_byte l)) a
+its-sort words Twin a = ap (λ (l : List (List ℕ)). sort_by (first_byte l)) a
 
 -- what was read has this bad line, as a script of its sort
 abbrev IsBadAs : Sort → Reading → ℕ → ScriptCause → Type 0
@@ -277,6 +330,7 @@ IsBadAs runs s line why = (bytes : List ℕ) × IsRead s bytes × IsBadLine byte
 IsBadAs gens s line why = Unit {0}
 IsBadAs wires s line why = HindersLines wire_kind s (BadScript line why)
 IsBadAs wanderers s line why = HindersLines move_kind s (BadScript line why)
+IsBadAs pairs s line why = HindersLines twin_kind s (BadScript line why)
 
 bad-as : (s : Reading) (task : Task) (line : ℕ) (why : ScriptCause) → HindersTask s task (BadScript line why)
     → IsBadAs (sort_of task) s line why
@@ -284,6 +338,7 @@ bad-as s (History (Run m)) line why h = h
 bad-as s (History (Gen number)) line why h = tt
 bad-as s Wire line why h = h
 bad-as s Move line why h = h
+bad-as s Twin line why h = h
 
 -- no words ask for two tasks that read otherwise
 bad-for : (words : List (List ℕ)) (s : Reading) (task other : Task) → AsksFor words task → AsksFor words other → (line : ℕ)
@@ -310,6 +365,7 @@ module _ (c : Call) (bytes : List ℕ) (one : AtMostOne bytes) (all : ScriptsAre
   no-bad-line (History (Gen number)) spells line why bad = absurd spells
   no-bad-line Wire spells line why bad = no-bad-lines wire_kind wire_plain spells line why bad
   no-bad-line Move spells line why bad = no-bad-lines move_kind move_plain spells line why bad
+  no-bad-line Twin spells line why bad = no-bad-lines twin_kind twin_plain spells line why bad
 
   took-few : length bytes ≤ 1048576 → TookTooMany c.source → ⊥
   took-few few it =
@@ -323,12 +379,14 @@ module _ (c : Call) (bytes : List ℕ) (one : AtMostOne bytes) (all : ScriptsAre
   no-more few (History (Gen number)) took = took
   no-more few Wire took = took-few few took
   no-more few Move took = took-few few took
+  no-more few Twin took = took-few few took
 
   no-read-fault : (Rose c.source.faults c.source.faults_after → ⊥) → (other : Task) → HindersTask c.source other ReadFault → ⊥
   no-read-fault none (History (Run n)) rose = none rose
   no-read-fault none (History (Gen number)) rose = rose
   no-read-fault none Wire rose = none rose
   no-read-fault none Move rose = none rose
+  no-read-fault none Twin rose = none rose
 
   pub complete : (h : List Entry) (more : Further) (task : Task) → AsksFor c.words task → SpellsFor task bytes → length bytes ≤ 1048576
       → (Rose c.source.faults c.source.faults_after → ⊥) → (Rose c.sink.faults c.sink.faults_after → ⊥)

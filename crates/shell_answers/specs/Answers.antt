@@ -1,5 +1,5 @@
 -- What the program answers: which outcome is due for the words, for what was read and for the disks, and what of it was written.
-use Rattle.std.specs.Prelude.{◌≡◌, ◌⊎◌, ℕ, Bool, true, Option, List, [], IsTrue, map}
+use Rattle.std.specs.Prelude.{◌≡◌, ◌⊎◌, ℕ, Bool, true, Option, List, [], IsTrue, drop, length, map, take}
 use Rattle.std.specs.List.{All}
 use Rattle.std.specs.Io.KnownBytes.{Appends, Keeps}
 use Rattle.eden_io.specs.Causes.{Rose}
@@ -13,17 +13,25 @@ use Rattle.journal.specs.Standing.{DiskRun}
 use Rattle.journal.specs.Faults.{ShowsEach, ShowsNoMore}
 use Rattle.journal.specs.LegalRun.{IsLegalRun, IsLegalSoFar, AreHandedIn, EachDisk}
 use Rattle.move_world.specs.Commands.{Command}
+use Rattle.move_world.specs.Counted.{CountsAsTold}
 use Rattle.move_world.specs.Disks.{KeepNothing}
 use Rattle.move_world.specs.Logs.{Log, IsLegalMove}
 use Rattle.move_world.specs.Texts as moves
 use Rattle.move_world.specs.View.{log_of}
 use Rattle.move_world.specs.Worlds.{commands_of}
+use Rattle.twin_world.specs.Commands as twin_commands
+use Rattle.twin_world.specs.Disks as twin_disks
+use Rattle.twin_world.specs.Logs as twin_logs
+use Rattle.twin_world.specs.Scripts as twin_scripts
+use Rattle.twin_world.specs.Texts as twins
+use Rattle.twin_world.specs.View as twin_view
+use Rattle.twin_world.specs.Worlds.{AllCounted, RunsOver}
 use Rattle.shell_answers.specs.Words.{AsksFor, mode_of}
 use Rattle.shell_answers.specs.Outcomes.{line_of}
-use Rattle.shell_answers.specs.Reading.{Reading, IsAsked, IsMoved, HasWire, Refuses}
+use Rattle.shell_answers.specs.Reading.{Reading, IsAsked, IsMoved, IsTwinned, HasWire, Refuses}
 use Rattle.shell_answers.specs.declared.words.Job.{Job}
 use Rattle.shell_answers.specs.declared.words.Task.{Task}
-use Rattle.shell_answers.specs.declared.words.Task.TheVariants.{History, Wire, Move}
+use Rattle.shell_answers.specs.declared.words.Task.TheVariants.{History, Wire, Move, Twin}
 use Rattle.shell_answers.specs.declared.further.Further.{Further}
 use Rattle.shell_answers.specs.declared.further.Further.TheVariants as further
 use Rattle.shell_answers.specs.declared.outcome.Outcome.{Outcome}
@@ -80,18 +88,39 @@ seen_before d = record { counts = d.first; told = d.before; due = d.due }
 abbrev pub handed_in : Disks → List DiskSeen
 handed_in d = map seen_before d.runs
 
+-- a disk as it was seen behind the call
+abbrev pub seen_after : DiskRun → DiskSeen
+seen_after d = record { counts = d.last; told = d.after; due = d.left }
+
+-- the disks as they were given back
+abbrev pub given_back : Disks → List DiskSeen
+given_back d = map seen_after d.runs
+
 -- 3. Histories
 
--- The entries are the legal history of the script over these disks, where they tell and were handed in as they have to be. Whether they
--- tell or not, each fault and each stop of a disk is shown, and no other.
+-- the disks of the nodes that a script boots, in their order: the first
+abbrev pub disks_of_nodes : Script → List DiskRun → List DiskRun
+disks_of_nodes script runs = take script.nodes runs
+
+-- and those behind them, which no node of it has
+abbrev pub other_disks : Script → List DiskRun → List DiskRun
+other_disks script runs = drop script.nodes runs
+
+-- The entries are the legal history of the script over the disks of its nodes, where these tell and were handed in as they have to be.
+-- Whether they tell or not, each fault and each stop of such a disk is shown, and no other. The other disks, whatever they hold, are as
+-- they were.
 pub record IsLegalOver (d : Disks) (script : Script) (history : List Entry) : Type 0 where
-  pub legal : IsTrue d.tells → AreHandedIn d.layout d.runs → IsLegalRun d.layout script d.runs history
-  pub faults : EachDisk d.runs (ShowsEach history)
+  pub legal : IsTrue d.tells → AreHandedIn d.layout (disks_of_nodes script d.runs)
+      → IsLegalRun d.layout script (disks_of_nodes script d.runs) history
+  pub faults : EachDisk (disks_of_nodes script d.runs) (ShowsEach history)
+  pub others : All IsUntouched (other_disks script d.runs)
 
 -- They are those with which it begins, where want of memory ended the run.
 pub record IsLegalPartOver (d : Disks) (script : Script) (history : List Entry) : Type 0 where
-  pub legal : IsTrue d.tells → AreHandedIn d.layout d.runs → IsLegalSoFar d.layout script d.runs history
-  pub faults : EachDisk d.runs (ShowsNoMore history)
+  pub legal : IsTrue d.tells → AreHandedIn d.layout (disks_of_nodes script d.runs)
+      → IsLegalSoFar d.layout script (disks_of_nodes script d.runs) history
+  pub faults : EachDisk (disks_of_nodes script d.runs) (ShowsNoMore history)
+  pub others : All IsUntouched (other_disks script d.runs)
 
 -- A script was carried out: to its end, or as far as there was memory. Where it is said to be whole, no disk wanted memory either.
 pub record IsCarriedOut (d : Disks) (script : Script) (history : List Entry) (whole : Bool) : Type 0 where
@@ -126,23 +155,44 @@ pub record HasWired (c : Call) (history : List Entry) (more : Further) (text : L
   pub not_begun : IsNotBegun c history more
 
 -- A script of Ejects that wander was carried out, with this log: its commands are those that were read, the text is the log's, and where
--- the disks tell and none of them kept anything it is legal. There is no history.
+-- the disks tell and none of them kept anything it is legal. Each disk counts as many more faults and stops as the log has answers of its
+-- node that say so. There is no history.
 pub record HasMoved (c : Call) (history : List Entry) (log : Log) (text : List ℕ) : Type 0 where
   pub asked : IsMoved c.words c.source log.nodes (commands_of log.entries)
   pub legal : IsTrue c.disks.tells → KeepNothing c.disks.layout (handed_in c.disks) → IsLegalMove log
+  pub counts : CountsAsTold log (handed_in c.disks) (given_back c.disks)
   pub is_text : text ≡ moves.text_of log
   pub no_history : history ≡ []
 
--- so it is with the log that there is further
+-- A script of pairs of disks was carried out, with this log: its commands are those that were read, the text is the log's, and where the
+-- disks tell, none of them kept anything, and their counts of faults can rise as often as there are commands, it is legal. It tells of a
+-- run over these disks, in which what refuses has its cause, and the count of faults of each disk of a node rises as often as entries mark
+-- it, those of stops of both together as often as answers say that one stopped. There is no history.
+pub record HasTwinned (c : Call) (history : List Entry) (log : twin_logs.Log) (text : List ℕ) : Type 0 where
+  pub asked : IsTwinned c.words c.source (twin_scripts.commands_of log.entries)
+  pub legal : IsTrue c.disks.tells → twin_disks.KeepNothing c.disks.layout (handed_in c.disks)
+      → twin_disks.CanRise (length log.entries) (handed_in c.disks) → twin_logs.IsLegalTwin log
+  pub runs : RunsOver c.disks.tells c.disks.layout log.entries (handed_in c.disks) (given_back c.disks)
+  pub counts : AllCounted log.entries (handed_in c.disks) (given_back c.disks)
+  pub is_text : text ≡ twins.text_of log
+  pub no_history : history ≡ []
+
+-- so it is with the log of Ejects that wander that there is further
 abbrev pub HasMovedBy : Call → List Entry → Further → List ℕ → Type 0
-HasMovedBy c history further.Nothing text = ⊥
 HasMovedBy c history (further.Move log) text = HasMoved c history (log_of log) text
+HasMovedBy c history _ text = ⊥
+
+-- and with that of pairs of disks
+abbrev pub HasTwinnedBy : Call → List Entry → Further → List ℕ → Type 0
+HasTwinnedBy c history (further.Twin log) text = HasTwinned c history (twin_view.log_of log) text
+HasTwinnedBy c history _ text = ⊥
 
 -- what is due where a task came to its end, task by task
 abbrev pub IsDone : Task → Call → List Entry → Further → List ℕ → Type 0
 IsDone (History job) c history more text = HasRun c job history more text
 IsDone Wire c history more text = HasWired c history more text
 IsDone Move c history more text = HasMovedBy c history more text
+IsDone Twin c history more text = HasTwinnedBy c history more text
 
 -- the call was refused with this outcome, for which there is one line
 pub record IsRefused (c : Call) (outcome : Outcome) (history : List Entry) (more : Further) (text : List ℕ) : Type 0 where
@@ -172,11 +222,19 @@ pub record HasMoveBegun (c : Call) (history : List Entry) (more : Further) : Typ
   pub nothing : IsNothing history more
   pub unwritten : Keeps c.sink.written c.sink.written_after
 
+-- A script of pairs of disks was begun: there is neither a history nor a log, and nothing was written.
+pub record HasTwinBegun (c : Call) (history : List Entry) (more : Further) : Type 0 where
+  pub commands : List twin_commands.Command
+  pub asked : IsTwinned c.words c.source commands
+  pub nothing : IsNothing history more
+  pub unwritten : Keeps c.sink.written c.sink.written_after
+
 -- what is there where want of memory ended a task that had begun, task by task; a wire touches nothing before its text is whole
 abbrev pub IsBegun : Task → Call → List Entry → Further → Type 0
 IsBegun (History job) c history more = HasBegun c job history more
 IsBegun Wire c history more = ⊥
 IsBegun Move c history more = HasMoveBegun c history more
+IsBegun Twin c history more = HasTwinBegun c history more
 
 -- 5. Answers
 

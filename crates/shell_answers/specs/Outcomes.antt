@@ -37,7 +37,7 @@ bad_script_line line why = codes "bad script line " ++ decimal line ++ codes ": 
 
 -- the line that is written where an outcome comes before a run, with its line feed
 abbrev pub line_of : Outcome → List ℕ
-line_of BadWords = codes "usage: eden run [--trace] | host DIR [--trace] | gen N | wire | run --full | move\n"
+line_of BadWords = codes "usage: eden run [--trace] | host DIR [--trace] | gen N | wire | twin | run --full | move\n"
 line_of (BadScript line why) = bad_script_line line why
 line_of ReadFault = codes "read fault\n"
 line_of TooLong = codes "script too long\n"

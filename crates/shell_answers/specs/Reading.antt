@@ -13,11 +13,14 @@ use Rattle.line_forms.specs.Scripts as lines
 use Rattle.move_world.specs.Commands.{Command, move_kind}
 use Rattle.move_world.specs.Scripts.{IsMoveScript}
 use Rattle.move_world.specs.View.{meant}
+use Rattle.twin_world.specs.Commands as twins
+use Rattle.twin_world.specs.Scripts.{IsTwinScript}
+use Rattle.twin_world.specs.View as twin_view
 use Rattle.shell_answers.specs.Words.{Asks, AsksFor}
 use Rattle.shell_answers.specs.declared.words.Job.{Job}
 use Rattle.shell_answers.specs.declared.words.Job.TheVariants.{Run, Gen}
 use Rattle.shell_answers.specs.declared.words.Task.{Task}
-use Rattle.shell_answers.specs.declared.words.Task.TheVariants.{History, Wire, Move}
+use Rattle.shell_answers.specs.declared.words.Task.TheVariants.{History, Wire, Move, Twin}
 use Rattle.shell_answers.specs.declared.reading.Asked.{Asked}
 use Rattle.shell_answers.specs.declared.reading.Asked.TheVariants as asked
 use Rattle.shell_answers.specs.declared.outcome.Outcome.{Outcome}
@@ -83,16 +86,21 @@ HasWire s text = (bytes : List ℕ) × IsRead s bytes × IsText bytes text
 abbrev pub HasMoves : Reading → ℕ → List Command → Type 0
 HasMoves s nodes commands = (bytes : List ℕ) × IsRead s bytes × IsMoveScript bytes nodes commands
 
+-- what was read is a script of pairs of disks, with these commands
+abbrev pub HasTwins : Reading → List twins.Command → Type 0
+HasTwins s commands = (bytes : List ℕ) × IsRead s bytes × IsTwinScript bytes commands
+
 -- the bytes spell a script of this kind
 abbrev pub SpellsLines : Kind → List ℕ → Type 0
 SpellsLines kind bytes = (most : ℕ) × (rows : List Row) × lines.IsScript kind bytes most rows
 
--- the bytes spell what a task reads: a script of a run, one of a wire, or one of Ejects that wander; `gen` reads none
+-- the bytes spell what a task reads: a script of a run, of a wire, of Ejects that wander, or of pairs of disks; `gen` reads none
 abbrev pub SpellsFor : Task → List ℕ → Type 0
 SpellsFor (History (Run m)) bytes = (script : Script) × IsScript bytes script
 SpellsFor (History (Gen number)) bytes = ⊥
 SpellsFor Wire bytes = SpellsLines wire_kind bytes
 SpellsFor Move bytes = SpellsLines move_kind bytes
+SpellsFor Twin bytes = SpellsLines twins.twin_kind bytes
 
 -- The words ask for this job, and its bytes spell this script.
 pub record IsAsked (words : List (List ℕ)) (s : Reading) (job : Job) (script : Script) : Type 0 where
@@ -111,17 +119,24 @@ pub record IsMoved (words : List (List ℕ)) (s : Reading) (nodes : ℕ) (comman
   pub asks : AsksFor words Move
   pub moves : HasMoves s nodes commands
 
+-- The words ask for pairs of disks, and what was read is a script of such, with these commands.
+pub record IsTwinned (words : List (List ℕ)) (s : Reading) (commands : List twins.Command) : Type 0 where
+  pub asks : AsksFor words Twin
+  pub twins : HasTwins s commands
+
 -- what the words ask for, with its script
 abbrev pub IsAskedFor : List (List ℕ) → Reading → Asked → Type 0
 IsAskedFor words s (asked.History job script) = IsAsked words s job script
 IsAskedFor words s (asked.Wire text) = IsWired words s text.items
 IsAskedFor words s (asked.Move script) = IsMoved words s script.nodes (map meant script.commands.items)
+IsAskedFor words s (asked.Twin script) = IsTwinned words s (map twin_view.meant script.commands.items)
 
 -- a script of a run is short enough for all that its boots and commands do
 abbrev pub IsShort : Asked → Type 0
 IsShort (asked.History job script) = script.nodes + entries_in script.commands ≤ 1048576
 IsShort (asked.Wire text) = Unit {0}
 IsShort (asked.Move script) = Unit {0}
+IsShort (asked.Twin script) = Unit {0}
 
 -- 3. Why there is none
 
@@ -147,6 +162,7 @@ abbrev pub HindersTask : Reading → Task → Outcome → Type 0
 HindersTask s (History job) outcome = Hinders s job outcome
 HindersTask s Wire outcome = HindersLines wire_kind s outcome
 HindersTask s Move outcome = HindersLines move_kind s outcome
+HindersTask s Twin outcome = HindersLines twins.twin_kind s outcome
 
 -- why a call ends before a run: the words ask for nothing, or for a task that has no script
 abbrev pub Refuses : List (List ℕ) → Reading → Outcome → Type 0

@@ -6,7 +6,7 @@ use Rattle.journal.specs.declared.event.Mode.TheVariants as mode
 use Rattle.shell_answers.specs.declared.words.Job.{Job}
 use Rattle.shell_answers.specs.declared.words.Job.TheVariants.{Run, Gen}
 use Rattle.shell_answers.specs.declared.words.Task.{Task}
-use Rattle.shell_answers.specs.declared.words.Task.TheVariants.{History, Wire, Move}
+use Rattle.shell_answers.specs.declared.words.Task.TheVariants.{History, Wire, Move, Twin}
 
 -- a directory: some bytes that do not begin with `-`
 abbrev pub IsDirectory : List ℕ → Type 0
@@ -42,11 +42,12 @@ Asks words (Run mode.Summary) = ⊥
 -- `gen N`
 Asks words (Gen number) = (word : List ℕ) × SpellsNumber word number × (words ≡ codes "gen" ∷ word ∷ [])
 
--- what the words ask for: a run whose history is written, or `wire`, or `move`
+-- what the words ask for: a run whose history is written, or `wire`, `twin` or `move`
 abbrev pub AsksFor : List (List ℕ) → Task → Type 0
 AsksFor words (History job) = Asks words job
 AsksFor words Wire = words ≡ codes "wire" ∷ []
 AsksFor words Move = words ≡ codes "move" ∷ []
+AsksFor words Twin = words ≡ codes "twin" ∷ []
 
 -- in which mode the history of a job is written
 abbrev pub mode_of : Job → Mode

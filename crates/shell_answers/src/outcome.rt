@@ -83,7 +83,7 @@ pub fn add_line(outcome: Outcome, out: &mut Vec<u8>) -> Result<(), AllocError>
     match outcome {
         Outcome::BadWords => {
             out.extend_from_slice(
-                b"usage: eden run [--trace] | host DIR [--trace] | gen N | wire | run --full | move\n",
+                b"usage: eden run [--trace] | host DIR [--trace] | gen N | wire | twin | run --full | move\n",
             )
         }
         Outcome::BadScript { line, cause } => add_bad_script(line, cause, out),

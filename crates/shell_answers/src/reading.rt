@@ -5,7 +5,9 @@ ghost use Rattle.lossy_wire.specs.Commands.{wire_kind};
 ghost use Rattle.move_world.specs.Commands.{move_kind};
 ghost use Rattle.move_world.specs.View.{meant};
 ghost use Rattle.shell_answers.specs.Reading.{HasBytesFrom, HasMoves, HasScript, HasWire, Hinders, HindersLines, HindersRead, IsAskedFor};
-ghost use Rattle.shell_answers.specs.Reading.{IsRead, IsShort, Refuses, reading};
+ghost use Rattle.shell_answers.specs.Reading.{HasTwins, IsRead, IsShort, Refuses, reading};
+ghost use Rattle.twin_world.specs.Commands.{twin_kind};
+ghost use Rattle.twin_world.specs.View as twin_view;
 
 use crate::outcome::Outcome;
 use crate::words::{Job, Task, task_of};
@@ -16,6 +18,7 @@ use journal::Script;
 use lossy_wire::run_wire;
 use move_world::MoveScript;
 use std::alloc::Global;
+use twin_world::TwinScript;
 
 // The greatest length of a script, in bytes.
 const SCRIPT_LIMIT: u32 = 1_048_576;
@@ -29,6 +32,8 @@ pub enum Asked {
     Wire { text: Vec<u8> },
     /// A script of Ejects that wander is to be carried out.
     Move { script: MoveScript },
+    /// A script of pairs of disks is to be carried out.
+    Twin { script: TwinScript },
 }
 
 // All that the source has, or the outcome that comes where it cannot be read whole.
@@ -110,6 +115,22 @@ fn read_move<S: Source>(alloc: Global, source: &mut S) -> Result<MoveScript, Out
     }
 }
 
+// The script of pairs of disks that the source has, or the outcome that comes before.
+#[tactic(auto, using(crate::proofs::Answering::hinders_lines))]
+fn read_twin<S: Source>(alloc: Global, source: &mut S) -> Result<TwinScript, Outcome>
+    ensures script { IfOk result (λ s. HasTwins (reading S.left S.ended S.faults source.old source.new)
+        (map twin_view.meant s.commands.items)) }
+    ensures hinders { IfErr result (λ o. (o ≡ Outcome.OutOfMemory)
+        ⊎ HindersLines twin_kind (reading S.left S.ended S.faults source.old source.new) o) }
+{
+    let bytes = all_bytes(alloc, source)?;
+    match twin_world::read_script(alloc, &bytes) {
+        Ok(script) => Ok(script),
+        Err(ScriptRefusal::Bad { line, cause }) => Err(Outcome::BadScript { line, cause }),
+        Err(ScriptRefusal::OutOfMemory) => Err(Outcome::OutOfMemory),
+    }
+}
+
 /// What the words ask for, with its script; or the outcome that comes before a run.
 ///
 /// The source is read to its end, but for `gen` it is not read.
@@ -137,6 +158,10 @@ pub fn read_script<S: Source>(
         Some(Task::Move) => {
             let script = read_move(alloc, source)?;
             Ok(Asked::Move { script })
+        }
+        Some(Task::Twin) => {
+            let script = read_twin(alloc, source)?;
+            Ok(Asked::Twin { script })
         }
         None => Err(Outcome::BadWords),
     }

@@ -26,6 +26,8 @@ pub enum Task {
     Wire,
     /// Carries out the script of Ejects that wander that the source has.
     Move,
+    /// Carries out the script of pairs of disks that the source has.
+    Twin,
 }
 
 fn is_directory(word: &[u8]) -> bool
@@ -179,16 +181,19 @@ fn is_alone(words: &Vec<String>, wanted: &str) -> bool
     }
 }
 
-// `wire`, `move`
+// `wire`, `move`, `twin`
 fn of_word(words: &Vec<String>) -> Option<Task>
     ensures some { IfSome result (AsksFor (map string_bytes words.now.items)) }
     ensures wire { IsNone result → AsksFor (map string_bytes words.now.items) Task.Wire → ⊥ }
     ensures moves { IsNone result → AsksFor (map string_bytes words.now.items) Task.Move → ⊥ }
+    ensures twins { IsNone result → AsksFor (map string_bytes words.now.items) Task.Twin → ⊥ }
 {
     if is_alone(words, "wire") {
         Some(Task::Wire)
     } else if is_alone(words, "move") {
         Some(Task::Move)
+    } else if is_alone(words, "twin") {
+        Some(Task::Twin)
     } else {
         None
     }

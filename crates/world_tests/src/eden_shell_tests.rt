@@ -38,7 +38,7 @@ fn call_of(
 }
 
 const USAGE: &str =
-    "usage: eden run [--trace] | host DIR [--trace] | gen N | wire | run --full | move\n";
+    "usage: eden run [--trace] | host DIR [--trace] | gen N | wire | twin | run --full | move\n";
 
 const NO_COMMAND: Outcome = Outcome::BadScript {
     line: 1,
@@ -77,6 +77,24 @@ const LENT: &str =
     "1 1.1.1 made\nnode 1 down stop\nnode 1 up\n1 1.1.1 refused lent 2\n1 1.1.1 sent\n\
     2 1.1.1 here\n2 1.1.1 active 5\n";
 
+/// A script of a pair of disks, each of which is blanked, and what it writes.
+const BLANKED: &str =
+    "twins\nopen 1\nput 1 1 \"a\"\nclose 1\nblank 1\nopen 1\nget 1 1\nclose 1\nblank 2\nopen 1\n\
+    get 1 1\nend\n";
+
+const SURVIVED: &str =
+    "open 1 both\nput 1 1 ok\nclose 1\nblank 1\nopen 1 both\nget 1 1 \"a\"\nclose 1\nblank 2\n\
+    open 1 both\nget 1 1 \"a\"\n";
+
+/// One with a disk that fails, and what it writes.
+const FAILED: &str =
+    "twins\nopen 1\nput 1 1 \"a\"\nfail 2 1\nput 1 1 \"b\"\nclose 1\nopen 1\nget 1 1\n\
+    delete 1 1\nget 1 1\nend\n";
+
+const KEPT: &str =
+    "open 1 both\nput 1 1 ok\nput 1 1 ok\nclose 1\nopen 1 both\nget 1 1 \"b\"\ndelete 1 1 ok\n\
+    get 1 1 none\n";
+
 /// The words, the script and its size, the outcome and its status, and what is written.
 const CALLS: &[(&[&str], (&str, usize), Outcome, u8, &str)] = &[
     (&["run"], (SCRIPT, 0), Outcome::Ran, 0, TRANSCRIPT),
@@ -100,6 +118,8 @@ const CALLS: &[(&[&str], (&str, usize), Outcome, u8, &str)] = &[
     ),
     (&["move"], (WANDERS, 0), Outcome::Ran, 0, WANDERED),
     (&["move"], (LENDS, 0), Outcome::Ran, 0, LENT),
+    (&["twin"], (BLANKED, 0), Outcome::Ran, 0, SURVIVED),
+    (&["twin"], (FAILED, 0), Outcome::Ran, 0, KEPT),
     (
         &["move"],
         (AGAIN, 0),
@@ -161,6 +181,9 @@ const ENDS: &[(&[&str], &str, (&[u32], &[u32]), Outcome, usize, usize)] = &[
     (&["move"], WANDERS, (&[], &[]), Outcome::Ran, 0, 1),
     (&["move"], WANDERS, (&[1], &[]), Outcome::ReadFault, 0, 0),
     (&["move"], WANDERS, (&[], &[1]), Outcome::WriteFault, 0, 0),
+    (&["twin"], FAILED, (&[], &[]), Outcome::Ran, 0, 1),
+    (&["twin"], FAILED, (&[1], &[]), Outcome::ReadFault, 0, 0),
+    (&["twin"], FAILED, (&[], &[1]), Outcome::WriteFault, 0, 0),
 ];
 
 /// Whether the call ended so, with so many entries and bytes or more.

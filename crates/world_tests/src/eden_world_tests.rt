@@ -1,4 +1,4 @@
-ghost use Rattle.std.specs.Prelude.{◌≡◌, length, IfSome};
+ghost use Rattle.std.specs.Prelude.{◌≡◌, ◌≤◌, length, IfSome};
 ghost use Rattle.eden_world.specs.Listed.{HasTurn};
 ghost use Rattle.eden_world.specs.Seated.{FitsTogether};
 
@@ -110,7 +110,7 @@ fn lines_of(rt: &impl Abort, alloc: Global, history: &[Entry]) -> Vec<u8> {
     lines
 }
 
-/// A run over eight disks.
+/// A run over eight disks at most.
 fn begun<St: Store + Drop>(
     rt: &impl Abort,
     alloc: Global,
@@ -118,7 +118,7 @@ fn begun<St: Store + Drop>(
 ) -> Box<Run<World<St>>>
 where
     St::Device: Drop,
-    requires { length disks.items ≡ 8 }
+    requires { length disks.items ≤ 8 }
     ensures { FitsTogether St.seen result.value.machine }
 {
     let types = Types::native(alloc).expect(rt, "memory");
@@ -137,8 +137,8 @@ fn carried<St: Store + Drop>(
 ) -> (Vec<u8>, Vec<St::Device>)
 where
     St::Device: Drop,
-    requires { length disks.items ≡ 8 }
-    ensures { length result.1.items ≡ 8 }
+    requires { length disks.items ≤ 8 }
+    ensures { length result.1.items ≤ 8 }
 {
     let mut room = Vec::new(alloc);
     room.reserve(8).expect(rt, "memory");
@@ -157,8 +157,8 @@ fn is_told<St: Store + Drop>(
 ) -> (bool, Vec<St::Device>)
 where
     St::Device: Drop,
-    requires { length disks.items ≡ 8 }
-    ensures { length result.1.items ≡ 8 }
+    requires { length disks.items ≤ 8 }
+    ensures { length result.1.items ≤ 8 }
 {
     let (words, lines) = script(rt, alloc, rows);
     let (written, disks) = carried::<St>(rt, alloc, disks, &words);
@@ -219,6 +219,7 @@ where
     ensures { FitsTogether St.seen run.new.machine }
 {
     let key = only_key(rt, alloc, &run.machine).expect(rt, "a turn");
+    assert!(rt; run.machine.calls_asked() < 1_000_000, "few calls");
     let entry = run.machine.take(alloc, key).expect(rt, "memory");
     let taken = alone(rt, alloc, entry);
     let shown = lines_of(rt, alloc, &taken);
@@ -240,6 +241,7 @@ where
 {
     let name = txt(rt, alloc, name);
     let component = txt(rt, alloc, component);
+    assert!(rt; run.machine.calls_asked() < 1_000_000, "few calls");
     let entry = run
         .machine
         .look_up(alloc, &name, Some(mint(FIRST)), &component)

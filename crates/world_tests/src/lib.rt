@@ -4,6 +4,8 @@
 #[cfg(test)]
 mod eden_shell_changed;
 #[cfg(test)]
+mod eden_shell_others;
+#[cfg(test)]
 mod eden_shell_rows;
 #[cfg(test)]
 mod eden_shell_stops;

@@ -63,6 +63,12 @@ impl Machine for Keys {
 
     ghost enables = { λ m key. Unit {0} };
 
+    ghost asked = { λ m. m.calls };
+
+    fn calls_asked(&self) -> usize {
+        self.calls as usize
+    }
+
     fn following(&self, last: Option<Key>) -> Option<Key> {
         let first = self.keys.first().copied();
         let Some(last) = last else {
@@ -124,7 +130,7 @@ impl Machine for Keys {
         if directory.is_none() {
             return Ok(entry(alloc, Event::Void { name }));
         }
-        self.calls = self.calls.wrapping_add(1);
+        self.calls += 1;
         let event = Event::Asked {
             call: self.calls,
             name,

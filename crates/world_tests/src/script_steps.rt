@@ -1,7 +1,9 @@
 //! Commands of scripts, written as words, and runs of them.
-ghost use Rattle.std.specs.Prelude.{IsTrue, ◌≤◌};
+ghost use Rattle.std.specs.Prelude.{IsTrue, ◌+◌, ◌≤◌};
 ghost use Rattle.std.specs.List.{All};
 ghost use Rattle.journal.specs.Fit.{NumbersFit};
+ghost use Rattle.runs.specs.Room.{entries_in, entries_of};
+ghost use Rattle.runs.specs.Runs.{HasNumbers};
 
 use crate::fixtures::{by, txt};
 use capability::{Rights, Uid};
@@ -203,6 +205,35 @@ fn commands_of(rt: &impl Abort, alloc: Global, words: &[Word]) -> Vec<Command>
     commands
 }
 
+/// How many entries a command gives at most besides those of turns.
+fn entries(command: &Command) -> usize
+    ensures { entries_of command.now ≤ result }
+{
+    match command {
+        Command::Go { .. } | Command::Turn { .. } => 0,
+        Command::Walk { path, .. } => path.as_slice().len() + 1,
+        _ => 1,
+    }
+}
+
+/// Whether there is a number for each call that the commands may ask, behind eight boots.
+fn have_numbers<M: Machine>(run: &Run<M>, commands: &[Command]) -> bool
+    ensures { IsTrue result → HasNumbers M.asked run.now (8 + entries_in commands.now) }
+{
+    if run.machine.calls_asked() > 1_000_000 {
+        return false;
+    }
+    let mut left: usize = 1_000_000;
+    for command in commands {
+        let needed = entries(command);
+        if needed > left {
+            return false;
+        }
+        left -= needed;
+    }
+    true
+}
+
 /// Boots so many nodes and carries the words out.
 pub(crate) fn carry<M: Machine>(
     rt: &impl Abort,
@@ -216,5 +247,6 @@ pub(crate) fn carry<M: Machine>(
     ensures { M.whole run.new.machine }
 {
     let commands = commands_of(rt, alloc, words);
+    assert!(rt; have_numbers(run, &commands), "numbers of calls");
     run.carry_all(alloc, nodes, &commands).expect(rt, "memory");
 }

@@ -52,6 +52,8 @@ const WORDS: &[(&[&str], Option<Task>, Option<&str>)] = &[
     (&["move"], Some(Task::Move), None),
     (&["move", "--trace"], None, None),
     (&["Move"], None, None),
+    (&["twin"], Some(Task::Twin), None),
+    (&["twin", "1"], None, None),
     (&["--version"], None, None),
 ];
 
@@ -78,6 +80,8 @@ enum Read<'a> {
     Wire(&'a str),
     /// The numbers of nodes and of commands of a script of Ejects that wander.
     Moves(u8, usize),
+    /// The number of commands of a script of pairs of disks.
+    Twins(usize),
     /// No script: why, the outcome of the call and its status, and what is written.
     Refused(Outcome, Outcome, u8, &'a str),
 }
@@ -102,6 +106,7 @@ fn is_asked(asked: Asked, wanted: Read) -> bool {
         (Asked::Move { script }, Read::Moves(nodes, count)) => {
             script.nodes == nodes && script.commands.len() == count
         }
+        (Asked::Twin { script }, Read::Twins(count)) => script.commands.len() == count,
         _ => false,
     }
 }
@@ -197,6 +202,18 @@ const READINGS: &[Reading<'static>] = &[
         "stations 2\nend\n",
         (&[], &[]),
         Read::Refused(NO_COMMAND, NO_COMMAND, 3, "bad script line 1: no command\n"),
+    ),
+    (
+        &["twin"],
+        "twins\nopen 1\nput 1 1 \"a\"\nend\n",
+        (&[], &[]),
+        Read::Twins(2),
+    ),
+    (
+        &["twin"],
+        "twins\n",
+        (&[], &[]),
+        Read::Refused(NO_END, NO_END, 3, "bad script line 2: no end\n"),
     ),
     (
         &["move"],

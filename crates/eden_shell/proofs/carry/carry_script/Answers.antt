@@ -1,72 +1,43 @@
-use Rattle.std.proofs.Common.{◌≡◌, ℕ, true, false, map, sym, ◌∙◌, ap, subst}
-use Rattle.std.specs.Prelude.{OnOk, OnErr}
-use Rattle.std.specs.List.{All}
+use Rattle.std.proofs.Common.{◌≡◌, ◌++◌, length, drop, take, sym, ◌∙◌, ap, subst, arith}
+use Rattle.std.proofs.lemmas.List.{length-take-le, take-append-drop}
+use Rattle.std.proofs.lemmas.Result.{IfOk-weaker, on_err_weaker}
 use Rattle.passive_store.specs.Seen.{disk_seen}
-use Rattle.journal.specs.Fit.{NumbersFit}
-use Rattle.runs.proofs.Numbers.{numbers-of}
-use Rattle.runs.specs.Runs.{CarriesAll, CarriesPart}
-use Rattle.eden_world.specs.InHand.{Did, Ends, Stands}
-use Rattle.eden_world.specs.Legal.{AreSized}
-use Rattle.eden_world.specs.Seated.{AreGiven, Begins, IsSeated, heeds}
 use Rattle.shell_answers.specs.Answers.{IsCarriedOut}
-use Rattle.eden_shell.proofs.Carrying.{carried-by, disks_over, seated-by}
+use Rattle.eden_shell.proofs.Carrying.{besides-others, disks_over}
 use Rattle.eden_shell.proofs.carry.carry_script.Goals as goal
-use Rattle.eden_shell.proofs.carry.carry_script.Goals.{then-ended, else-ended}
-
-pub close-requires-clause-seated : goal.close-requires-clause-seated
-close-requires-clause-seated g c =
-    let look = disk_seen g.St.Device.Disk.counts g.St.Device.Disk.told g.St.Device.Disk.due in
-    subst (λ p. IsSeated p) (sym c.into_parts-world.ensures.machine)
-    (seated-by (heeds g.St.Device.Disk.tells g.St.Device.Disk.obeys) g.St.Store.seen look c.new-run.result c.carry_all.new.self
-    c.carry_all.result c.new-run.ensures.history c.carry_all.ensures.whole c.carry_all.ensures.shown_part)
-
-pub carry_all-requires-clause-numbers : goal.carry_all-requires-clause-numbers
-carry_all-requires-clause-numbers g c =
-    let commands : c.as_slice.result.now ≡ c.args.script.commands = c.as_slice.ensures.value ∙ c.commands.view_is in
-    subst (λ cs. All (NumbersFit 8) cs) (sym commands) (numbers-of c.args.script c.requires.fit)
 
 pub returns-clause-carried : goal.returns-clause-carried
 returns-clause-carried g c =
     let tells = g.St.Device.Disk.tells in
     let obeys = g.St.Device.Disk.obeys in
     let layout = g.St.Store.layout in
-    let seen = g.St.Store.seen in
     let look = disk_seen g.St.Device.Disk.counts g.St.Device.Disk.told g.St.Device.Disk.due in
-    let wants : g.row.St-Device.Denot → ℕ = λ d. (look d).counts.wants in
     let script = c.args.script in
-    let before = c.args.disks.now.items in
-    let after = c.close.result.items in
-    let old = c.new-run.result in
-    let new = c.carry_all.new.self in
-    let commands : c.as_slice.result.now ≡ script.commands = c.as_slice.ensures.value ∙ c.commands.view_is in
-    subst (λ history. IsCarriedOut (disks_over tells obeys layout look before after) script history c.if-ended.result)
-    (sym (ap (λ history. history.items) c.into_parts-world.ensures.history))
-    (carried-by tells obeys layout seen look script before after old new (record {
-      its_layout = c.requires.layout;
-      reads = c.requires.reads;
-      fit = c.requires.fit;
-      few = c.requires.few;
-      eight = c.requires.eight;
-      given = c.close.ensures.eight;
-      sized = λ telling. subst (λ disks. AreSized look disks) c.deref.ensures.value (c.in_ok-wants.ensures.sized telling);
-    }) (record {
-      begins = subst (λ p. Begins script.types before p) (sym c.new-run.ensures.machine)
-          (subst (λ disks. Begins script.types disks.items c.in-Ok.world) c.replace.ensures.value c.in-Ok.ensures.begins);
-      history = c.new-run.ensures.history;
-      turns = c.new-run.ensures.turns;
-      last = c.new-run.ensures.last;
-      again = c.new-run.ensures.again;
-    }) (subst (λ p. AreGiven seen look p after) c.into_parts-world.ensures.machine c.close.ensures.disks) c.carry_all.result
-    c.if-ended.result
-    (λ whole. elim c.if-ended.branch [
-      | then-ended w ↦ (
-        sym c.is_ok-ended.ensures.value ∙ w.if-ended.true,
-        ap (λ disks. map wants disks) (sym w.deref-then-ended-2.ensures.value) ∙ w.have_wanted_none.ensures (sym w.result-is ∙ whole)
-            ∙ w.deref-then-ended.ensures.value ∙ c.in_ok-wants.ensures.wants ∙ ap (λ disks. map wants disks) c.deref.ensures.value,
-      )
-      | else-ended w ↦ absurd (let bad : false ≡ true = sym w.if-ended.false ∙ sym w.result-is ∙ whole in cc bad)
-    ])
-    (subst (λ cs. OnOk c.carry_all.result (CarriesAll (Stands tells layout seen look) (Did layout seen look) old new script.nodes cs))
-    commands c.carry_all.ensures.done)
-    (subst (λ cs. OnErr c.carry_all.result (CarriesPart (Stands tells layout seen look) (Did layout seen look) (Ends layout seen look) old
-    new script.nodes cs)) commands c.carry_all.ensures.part) c.carry_all.ensures.shown c.carry_all.ensures.shown_part)
+    let disks = c.args.disks.now.items in
+    let before = c.split_off.new.self.items in
+    let after = c.carry_over-carried.new.disks.items in
+    let others = c.in_ok-others.others.items in
+    let first : before ≡ take script.nodes disks = c.in_ok-others.ensures.items ∙ ap (λ n. take n disks) c.from.ensures in
+    let behind : others ≡ drop script.nodes disks = c.in_ok-others.ensures.tail ∙ ap (λ n. drop n disks) c.from.ensures in
+    let whole : before ++ others ≡ disks = ap (λ l. l ++ others) first ∙ ap (λ l. take script.nodes disks ++ l) behind
+    ∙ take-append-drop script.nodes disks in
+    let many : length before ≡ script.nodes = ap length first ∙ length-take-le script.nodes disks
+    (let most = c.requires.fit.nodes.1 in omega (arith, most, c.requires.eight)) in
+    IfOk-weaker c.carry_over-carried.result _ _ (λ carried out.
+    subst (λ l. IsCarriedOut (disks_over tells obeys layout look l c.joined.result.items) script carried.history carried.whole) whole
+    (subst (λ l. IsCarriedOut (disks_over tells obeys layout look (before ++ others) l) script carried.history carried.whole)
+    (sym c.joined.ensures)
+    (besides-others tells obeys layout look script before after others carried.history many c.carry_over-carried.ensures.as_many
+    carried.whole out))) c.carry_over-carried.ensures.carried
+
+pub returns-clause-untouched : goal.returns-clause-untouched
+returns-clause-untouched g c =
+    let script = c.args.script in
+    let disks = c.args.disks.now.items in
+    let others = c.in_ok-others.others.items in
+    let first : c.split_off.new.self.items ≡ take script.nodes disks =
+    c.in_ok-others.ensures.items ∙ ap (λ n. take n disks) c.from.ensures in
+    let behind : others ≡ drop script.nodes disks = c.in_ok-others.ensures.tail ∙ ap (λ n. drop n disks) c.from.ensures in
+    on_err_weaker c.carry_over-carried.result (λ still.
+    c.joined.ensures ∙ ap (λ l. l ++ others) (still ∙ first) ∙ ap (λ l. take script.nodes disks ++ l) behind
+    ∙ take-append-drop script.nodes disks) c.carry_over-carried.ensures.untouched

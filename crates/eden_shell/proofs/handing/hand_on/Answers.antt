@@ -4,7 +4,6 @@ use Rattle.eden_disk.specs.Told.{Told, contents}
 use Rattle.eden_disk.specs.Calls.{IsCut}
 use Rattle.eden_disk.specs.SimDisk.{Simulated}
 use Rattle.journal.specs.Standing.{DiskRun}
-use Rattle.journal.specs.LegalRun.{IsHandedOn}
 use Rattle.eden_shell.proofs.handing.hand_on.Goals as goal
 
 pub returns : goal.returns

@@ -1,9 +1,9 @@
-use Rattle.std.proofs.Common.{ap, inl, refl}
+use Rattle.std.proofs.Common.{inl, refl}
 use Rattle.passive_store.specs.Seen.{disk_seen}
 use Rattle.shell_answers.specs.declared.outcome.Outcome.TheVariants.{OutOfMemory}
 use Rattle.shell_answers.proofs.Answering.{refused, delivered, wired, complete}
 use Rattle.eden_shell.proofs.Carrying.{untouched}
-use Rattle.eden_shell.proofs.Called.{asked-fit, given-back, concluded-in, moved-nodes, moved-so}
+use Rattle.eden_shell.proofs.Called.{asked-fit, given-back, concluded-in, moved-nodes, moved-so, twins-reach, twinned-so}
 use Rattle.eden_shell.proofs.shell.eden.Goals as goal
 
 pub returns-in-Err-clause-answers : goal.returns-in-Err-clause-answers
@@ -27,7 +27,7 @@ pub returns-in-Err-carry_script-clause-answers : goal.returns-in-Err-carry_scrip
 returns-in-Err-carry_script-clause-answers g c = refused _ c.refuse.result.history
     c.refuse.result.further (c.refuse.ensures.history, c.refuse.ensures.further)
     (given-back g.D.Disk.obeys (disk_seen g.D.Disk.counts g.D.Disk.told g.D.Disk.due) c.args.disks.now.items c.carry_script.new.disks.items
-    (ap (λ disks. disks.items) c.in-Err-carry_script.ensures.untouched)) OutOfMemory c.refuse.result.outcome (inl refl)
+    c.in-Err-carry_script.ensures.untouched) OutOfMemory c.refuse.result.outcome (inl refl)
     c.refuse.ensures.delivers c.refuse.ensures.nothing c.refuse.ensures.memory
 
 pub returns-in-Ok-Wire-clause-answers : goal.returns-in-Ok-Wire-clause-answers
@@ -51,3 +51,11 @@ tell_moves-requires-clause-reach g c = (moved-nodes _ _ _ _ (rw c.in-Ok-Move.fie
 pub carry_script-requires-clause-fit : goal.carry_script-requires-clause-fit
 carry_script-requires-clause-fit g c =
     asked-fit _ _ c.in-Ok-History.job c.in-Ok-History.script (rw c.in-Ok-History.field-0-is at c.in-Ok-History.ensures.asked) c.a_script_is_fit.ensures.fit
+
+pub returns-in-Ok-Twin-clause-answers : goal.returns-in-Ok-Twin-clause-answers
+returns-in-Ok-Twin-clause-answers g c = twinned-so _ c.tell_twins.result.history _
+    (rw c.in-Ok-Twin.field-0-is at c.in-Ok-Twin.ensures.asked) c.tell_twins.ensures.history c.tell_twins.result.outcome
+    c.tell_twins.result.further c.tell_twins.ensures.twinned
+
+pub tell_twins-requires-clause-reach : goal.tell_twins-requires-clause-reach
+tell_twins-requires-clause-reach g c = twins-reach _ _ _ (rw c.in-Ok-Twin.field-0-is at c.in-Ok-Twin.ensures.asked)

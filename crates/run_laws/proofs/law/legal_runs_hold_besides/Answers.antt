@@ -1,10 +1,6 @@
-use Rattle.std.proofs.Common.{◌≡◌, ◌≤◌, ℕ, arith}
 use Rattle.passive_blocks.specs.BlockLayout.{block_layout}
 use Rattle.run_laws.proofs.Runs.{AreLaws, besides}
 use Rattle.run_laws.proofs.law.legal_runs_hold_besides.Goals as goal
-
-few : (n : ℕ) → n ≡ 8 → n ≤ 8
-few n is = omega (arith, is)
 
 pub returns : goal.returns
 returns c =
@@ -27,14 +23,14 @@ returns c =
     let complete = c.undisturbed_runs_are_complete.ensures in
     let answered = c.checkpoints_are_answered.ensures in
     record {
-      whole = λ bytes script disks history spells eight fits legal.
+      whole = λ bytes script disks history spells few fits legal.
           let its = fit bytes script spells in
-          besides laws block_layout script disks history lays fits (few _ eight) its legal.follows.leads
+          besides laws block_layout script disks history lays fits few its legal.follows.leads
           (complete.whole block_layout script disks history legal)
           (answered.whole block_layout script disks history lays fits its.keep_rules its.have_monitors legal);
-      so_far = λ bytes script disks history spells eight fits legal.
+      so_far = λ bytes script disks history spells few fits legal.
           let its = fit bytes script spells in
-          besides laws block_layout script disks history lays fits (few _ eight) its legal.begins
+          besides laws block_layout script disks history lays fits few its legal.begins
           (complete.so_far block_layout script disks history legal)
           (answered.so_far block_layout script disks history lays fits its.keep_rules its.have_monitors legal);
     }
