@@ -12,8 +12,8 @@ use stream_laws::{pumps_take_so_many, streams_flow};
 use undisturbed_runs::{checkpoints_are_answered, undisturbed_runs_are_complete};
 use value_laws::histories_keep_limits;
 
-/// Of each legal run of a script that was read, over eight disks at most that are handed in as they have to be: all values are values; who is
-/// inside of a monitor holds it or waits for it, and touches no variable of another; each enabled key has its turn, and a node that is
+/// Of each legal run of a script that was read, over eight disks at most that are handed in as they have to be: all values are values; who
+/// is inside of a monitor holds it or waits for it, and touches no variable of another; each enabled key has its turn, and a node that is
 /// down rests; each pipeline does what its functions say, whatever crashed, and takes so many invocations where nothing disturbs it; and
 /// where a disk neither failed nor stopped, what its node asks of it comes to its end.
 pub fn legal_runs_hold_besides()

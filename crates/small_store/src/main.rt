@@ -1,8 +1,8 @@
 //! A small object store: texts under numbers, kept over crashes. It reads commands from standard input, and says what came of each.
 //!
-//! `put K TEXT`, `get K` and `delete K` change and show what is kept under the number K, which is at least 1; TEXT is one word. `stop N MODE`
-//! asks that the power fail in the N-th device call from now, and `crash MODE` cuts it at once; MODE is `keep` or `lose`. Behind a refusal,
-//! and behind a cut, the disk is started and opened again.
+//! `put K TEXT`, `get K` and `delete K` change and show what is kept under the number K, which is at least 1; TEXT is one word.
+//! `stop N MODE` asks that the power fail in the N-th device call from now, and `crash MODE` cuts it at once; MODE is `keep` or `lose`.
+//! Behind a refusal, and behind a cut, the disk is started and opened again.
 #![tactic(auto)]
 
 ghost use Rattle.std.specs.Prelude.{◌≡◌, ◌≤◌, IsTrue, IfOk, OnOk, Option, length};
