@@ -5,13 +5,13 @@ use Rattle.std.proofs.lemmas.Bool.Decides.{nat_tests}
 use Rattle.std.proofs.lemmas.Cmp.{tied_itself}
 use Rattle.std.specs.declared.cmp.Ordering.{Ordering}
 use Rattle.std.specs.declared.cmp.Ordering.TheVariants.{Less, Equal, Greater}
-use Rattle.std.specs.Ordering.{nat_cmp, ordering_then, is_lt, eq_by_cmp}
+use Rattle.std.specs.Ordering.{nat_cmp, ordering_then, is_lt}
 use Rattle.std.specs.Option.{option_map}
 use Rattle.std.specs.List.{find, flat_map}
 use Rattle.std.specs.FinMap.Entries.{is_sorted, below_all}
 use Rattle.capability.specs.declared.Uid.{Uid}
 use Rattle.capability.proofs.Uids.{uid_cmp_total, uid_cmp-IsAntisymmetric}
-use Rattle.eden_model.specs.Map.{first, uid_cmp, same_uid}
+use Rattle.eden_model.specs.Map.{uid_cmp, same_uid}
 use Rattle.eden_model.proofs.Laws.{eq-same}
 use Rattle.journal.specs.declared.event.Key.{Key}
 use Rattle.agenda.specs.Keys.{entries_of, key_unless}

@@ -11,3 +11,4 @@ pub mod Nexts
 pub mod Marked
 pub mod Appended
 pub mod Whole
+pub mod AtPlaces

@@ -1,5 +1,5 @@
 -- An agenda after what two Ejects may do was noted.
-use Rattle.std.proofs.Common.{◌≡◌, Bool, true, false, cond, List, map, Option, None, Some, refl, sym, ◌∙◌}
+use Rattle.std.proofs.Common.{◌≡◌, Bool, true, false, cond, List, map, Option, refl, sym, ◌∙◌}
 use Rattle.std.specs.Prelude.{◌||◌}
 use Rattle.std.specs.Ordering.{eq_by_cmp}
 use Rattle.std.specs.List.Sorted.{IsStrictlySortedBy}

@@ -4,18 +4,18 @@ use Rattle.std.specs.Prelude.{is_some, IsTrue}
 use Rattle.std.proofs.lemmas.Cmp.{tied_itself}
 use Rattle.std.specs.Option.{option_map}
 use Rattle.std.specs.Ordering.{eq_by_cmp}
-use Rattle.std.specs.List.{find, flat_map}
+use Rattle.std.specs.List.{find}
 use Rattle.capability.specs.declared.Uid.{Uid}
 use Rattle.capability.proofs.Uids.{uid_cmp_total}
 use Rattle.eden_model.specs.Map.{or_else, first, uid_cmp}
 use Rattle.journal.specs.declared.event.Key.{Key}
-use Rattle.journal.specs.Enabled.{activity, no_uid, node_keys, activations, starts, processes, store_of}
+use Rattle.journal.specs.Enabled.{activity, no_uid, node_keys, starts, processes, store_of}
 use Rattle.journal.specs.Sites.{IsSoundSite}
 use Rattle.journal.specs.Starts.{is_worked_on}
 use Rattle.journal.specs.World.{Eject, Site, eject_in, StoreRequest}
 use Rattle.active_part.specs.Body.{Body, active_of}
 use Rattle.ejects.specs.Marks.{may_run}
-use Rattle.ejects.specs.Parts.{Parts, Known, known, body_at, Stands}
+use Rattle.ejects.specs.Parts.{Parts, known, body_at, Stands}
 use Rattle.agenda.specs.Keys.{is_among, Indices, IsAgenda, key_unless, wake_keys, start_keys, run_keys}
 use Rattle.agenda.specs.Indexed.{is_it, wake_keys_but, store_key, WorksOn, AreAt}
 use Rattle.agenda.proofs.Past.{find-append}

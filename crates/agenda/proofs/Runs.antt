@@ -1,6 +1,6 @@
 -- The keys of processes of the Ejects of an index, and the first of them behind the last one.
-use Rattle.std.proofs.Common.{◌≡◌, ◌<◌, ◌≤◌, ℕ, nat_lt, Bool, true, false, cond, not, ◌&&◌, List, [], ◌∷◌, ◌++◌, map, Option, None, Some}
-use Rattle.std.proofs.Common.{refl, sym, ◌∙◌, ap, subst, T, arith}
+use Rattle.std.proofs.Common.{◌≡◌, ℕ, nat_lt, Bool, true, false, cond, List, [], ◌∷◌, ◌++◌, map, Option, None, Some}
+use Rattle.std.proofs.Common.{refl, sym, ◌∙◌, ap, subst, arith}
 use Rattle.std.specs.Prelude.{is_some, IfSome}
 use Rattle.std.proofs.lemmas.Bool.Decides.{nat_tests}
 use Rattle.std.proofs.lemmas.Cmp.{tied_itself}
@@ -11,20 +11,17 @@ use Rattle.std.specs.Option.{option_map}
 use Rattle.std.specs.List.{find, filter, flat_map, list_any}
 use Rattle.capability.specs.declared.Uid.{Uid}
 use Rattle.capability.proofs.Uids.{uid_cmp_total}
-use Rattle.coordinator.specs.Ready.{AscendPast, next_ready, is_ready_past}
-use Rattle.coordinator.specs.Ready.{is_ready as is_idle}
+use Rattle.coordinator.specs.Ready.{AscendPast, next_ready}
 use Rattle.eden_model.specs.Map.{or_else, with_item, first, uid_cmp}
-use Rattle.eden_model.specs.Crew.{Process, Waiting, nothing, outside, entry, condition}
+use Rattle.eden_model.specs.Crew.{Process}
 use Rattle.journal.specs.declared.event.Key.{Key}
-use Rattle.journal.specs.Enabled.{activity, is_past, is_ready}
+use Rattle.journal.specs.Enabled.{activity, is_ready}
 use Rattle.active_part.specs.Body.{Body}
 use Rattle.ejects.specs.Marks.{may_run}
 use Rattle.ejects.specs.Parts.{Parts, body_at}
 use Rattle.ejects.proofs.Marked.{same-ready}
 use Rattle.agenda.specs.Keys.{is_among, Indexes, run_keys, run_keys_of}
-use Rattle.agenda.specs.Indexed.{comes, AreAt}
-use Rattle.agenda.specs.declared.behind.Behind.{Behind}
-use Rattle.agenda.specs.declared.behind.Behind.TheVariants.{All, Past, Nothing}
+use Rattle.agenda.specs.Indexed.{AreAt}
 use Rattle.agenda.proofs.Past.{find-append, first-append}
 use Rattle.agenda.proofs.RunPast.{runs-past}
 

@@ -1,3 +1,4 @@
 pub mod Keys
 pub mod Indexed
 pub mod Marks
+pub mod Places

@@ -1,5 +1,5 @@
 //! An ordered index of Ejects that may take a turn of one kind.
-ghost use Rattle.std.specs.Prelude.{◌≡◌, ◌↔◌, IsTrue, None, cond, not, OnOk, ◌&&◌, []};
+ghost use Rattle.std.specs.Prelude.{◌≡◌, ◌↔◌, IsTrue, None, cond, not, OnOk, ◌&&◌, [], length};
 ghost use Rattle.std.specs.Ordering.{eq_by_cmp, is_lt};
 ghost use Rattle.std.specs.List.{find};
 ghost use Rattle.std.specs.List.Sorted.{IsStrictlySortedBy};
@@ -52,6 +52,13 @@ impl Index {
         ensures { IsTrue result ↔ (uids_of self.now ≡ []) }
     {
         self.uids.is_empty()
+    }
+
+    /// How many Ejects are among them.
+    pub fn len(&self) -> usize
+        ensures { result ≡ length (uids_of self.now) }
+    {
+        self.uids.len()
     }
 
     /// The least uid of all.

@@ -3,8 +3,8 @@
 
 mod behind;
 mod index;
-mod lists;
 mod noting;
+mod places;
 
 ghost use Rattle.std.specs.Prelude.{◌≡◌, ◌↔◌, OnOk, IfSome, None, [], IsTrue, is_some};
 ghost use Rattle.std.specs.List.{find};
@@ -24,6 +24,7 @@ use crate::index::Index;
 use capability::Uid;
 use ejects::Ejects;
 use journal::Key;
+pub use places::key_or_left;
 use std::alloc::{AllocError, Global};
 
 // The uid in the keys of turns that are no Eject's.

@@ -12,7 +12,7 @@ use Rattle.runs.specs.Reached.{IsReached}
 use Rattle.eden_world.specs.Worlds.{numbers_from}
 use Rattle.eden_world.specs.Listed.{keys_from, mail_keys, node_keys_at, keys_at}
 use Rattle.eden_world.proofs.EnabledKeys.{IsAt, node-keys}
-use Rattle.eden_world.proofs.KeyLists.{few-stations, find-append, next-from}
+use Rattle.eden_world.proofs.KeyLists.{few-stations, find-append}
 
 -- where none passes nothing is found
 none-by : {X : Type 0} (Q : X → Type 0) (P : X → Bool) (xs : List X) → ((x : X) → Q x → P x ≡ false) → AllByRecursion Q xs
@@ -29,15 +29,18 @@ pub no-delivery : (last : Option Key) (m : Mail) (to : ℕ) (froms : List ℕ) �
     → find (is_past last) (keys_from m to froms) ≡ None
 no-delivery last m to froms fails = none-from (is_past last) to (filter (λ from. is_waiting from to m) froms) fails
 
-none-waiting : (P : Key → Bool) (m : Mail) (to : ℕ) (froms : List ℕ) → ((from : ℕ) → from ≤ 8 → is_waiting from to m ≡ false)
-    → AllByRecursion (λ n. n ≤ 8) froms → find P (keys_from m to froms) ≡ None
-none-waiting P m to [] none each = refl
-none-waiting P m to (n ∷ ns) none each = next-from P m to n ns ∙ rw (none n each.0) (none-waiting P m to ns none each.1)
+none-waiting : (m : Mail) (to : ℕ) (froms : List ℕ) → ((from : ℕ) → from ≤ 8 → is_waiting from to m ≡ false)
+    → AllByRecursion (λ n. n ≤ 8) froms → keys_from m to froms ≡ []
+none-waiting m to [] none each = refl
+none-waiting m to (n ∷ ns) none each = rw (none n each.0) (none-waiting m to ns none each.1)
 
 -- no delivery at a station to which no message is on its way
+pub no-mail-keys : (m : Mail) (to c : ℕ) → c ≤ 9 → ((from : ℕ) → from ≤ 8 → is_waiting from to m ≡ false) → mail_keys c m to ≡ []
+no-mail-keys m to c few none = none-waiting m to (numbers_from 0 c) none (few-stations 0 c (omega (arith, few)))
+
 pub no-mail : (P : Key → Bool) (m : Mail) (to c : ℕ) → c ≤ 9 → ((from : ℕ) → from ≤ 8 → is_waiting from to m ≡ false)
     → find P (mail_keys c m to) ≡ None
-no-mail P m to c few none = none-waiting P m to (numbers_from 0 c) none (few-stations 0 c (omega (arith, few)))
+no-mail P m to c few none = ap (find P) (no-mail-keys m to c few none)
 
 -- no key of a station
 pub no-key : (last : Option Key) (w : World) (n : ℕ) → IsReached w → ((k : Key) → k.station ≡ n → is_past last k ≡ false)

@@ -1,14 +1,19 @@
 -- The loops over the stations, step by step.
-use Rattle.std.proofs.Common.{◌≡◌, ℕ, ◌+◌, ◌≤◌, ◌<◌, Bool, true, false, cond, ◌&&◌, List, [], ◌∷◌, ◌++◌, length, drop}
-use Rattle.std.proofs.Common.{Option, None, Some, refl, sym, ◌∙◌, ap, subst}
-use Rattle.std.specs.Prelude.{slice_get, ◌%◌, Result, Ok, Err, OnOk}
+use Rattle.std.proofs.Common.{◌≡◌, ℕ, zero, suc, ◌+◌, ◌-◌, ◌≤◌, ◌<◌, Bool, true, false, cond, ◌&&◌, List, [], ◌∷◌, ◌++◌, length, drop, map}
+use Rattle.std.proofs.Common.{Option, None, Some, Continue, Break, refl, sym, ◌∙◌, ap, subst, arith}
+use Rattle.std.proofs.Math.Nat.{mod-eq_of_lt, mod-eq-sub-mod, mod-lt}
+use Rattle.std.specs.Prelude.{slice_get, ◌%◌}
+use Rattle.std.specs.ControlFlow.{break_value, continue_value}
+use Rattle.std.specs.declared.ops.ControlFlow.{ControlFlow}
 use Rattle.std.specs.List.{find, flat_map}
-use Rattle.std.proofs.lemmas.List.{append-nil, append_assoc, drop_all}
+use Rattle.std.proofs.lemmas.List.{drop_all}
 use Rattle.eden_model.specs.Map.{or_else, first}
 use Rattle.invocation.specs.Mail.{Mail, is_waiting}
 use Rattle.journal.specs.declared.event.Key.{Key}
 use Rattle.journal.specs.World.{World}
 use Rattle.journal.specs.Enabled.{delivery, following, item, is_past}
+use Rattle.agenda.specs.Places.{at_place}
+use Rattle.agenda.proofs.AtPlaces.{then_at, at-next}
 use Rattle.eden_world.specs.Listed.{keys_from, keys_at}
 use Rattle.eden_world.specs.Worlds.{numbers_from}
 use Rattle.eden_world.proofs.NodeKeys.{numbers-count}
@@ -68,25 +73,7 @@ pub follows-first : (last : Option Key) (keys : List Key) (r : Option Key) → N
     → r ≡ following last keys
 follows-first last keys r none is = is ∙ first-past keys ∙ ap (λ o. or_else o (first keys)) none
 
--- 3. Lists
-
-kept-from : (m : Mail) (to n : ℕ) (ns : List ℕ)
-    → keys_from m to (n ∷ ns) ≡ cond (is_waiting n to m) (delivery to n ∷ keys_from m to ns) (keys_from m to ns)
-kept-from m to n ns = go (is_waiting n to m) refl
-  where
-    go : (b : Bool) → is_waiting n to m ≡ b
-        → keys_from m to (n ∷ ns) ≡ cond (is_waiting n to m) (delivery to n ∷ keys_from m to ns) (keys_from m to ns)
-    go true at = rw at refl
-    go false at = rw at refl
-
-pub listed-one : (m : Mail) (to n : ℕ) (keys new : List Key) → is_waiting n to m ≡ true → new ≡ keys ++ delivery to n ∷ []
-    → new ≡ keys ++ keys_from m to (n ∷ [])
-listed-one m to n keys new waits is =
-    is ∙ sym (ap (λ ks. keys ++ ks) (kept-from m to n [] ∙ ap (λ b. cond b (delivery to n ∷ []) []) waits))
-
-pub listed-none : (m : Mail) (to n : ℕ) (keys : List Key) → is_waiting n to m ≡ false → keys ≡ keys ++ keys_from m to (n ∷ [])
-listed-none m to n keys waits =
-    sym (ap (λ ks. keys ++ ks) (kept-from m to n [] ∙ ap (λ b. cond b (delivery to n ∷ []) []) waits) ∙ append-nil keys)
+-- 3. The key at a place
 
 one-by-one : (m : Mail) (to n : ℕ) (ns : List ℕ) → keys_from m to (n ∷ ns) ≡ keys_from m to (n ∷ []) ++ keys_from m to ns
 one-by-one m to n ns = go (is_waiting n to m) refl
@@ -95,42 +82,81 @@ one-by-one m to n ns = go (is_waiting n to m) refl
     go true at = rw at refl
     go false at = rw at refl
 
-pub delivery-listed : (m : Mail) (to c n : ℕ) (keys new all : List Key) → n < c → new ≡ keys ++ keys_from m to (n ∷ [])
-    → keys ++ keys_from m to (drop n (numbers_from 0 c)) ≡ all → new ++ keys_from m to (drop (n + 1) (numbers_from 0 c)) ≡ all
-delivery-listed m to c n keys new all few is inv =
-    let rest = keys_from m to (drop (n + 1) (numbers_from 0 c)) in
-    ap (λ ks. ks ++ rest) is ∙ append_assoc keys (keys_from m to (n ∷ [])) rest
-    ∙ sym (ap (λ ks. keys ++ ks) (ap (keys_from m to) (stations-from c n few) ∙ one-by-one m to n (drop (n + 1) (numbers_from 0 c)))) ∙ inv
+-- of the delivery from one station
+pub one-at : (m : Mail) (to n i : ℕ) (r : ControlFlow Key ℕ) → is_waiting n to m ≡ true → r ≡ at_place (delivery to n ∷ []) i
+    → r ≡ at_place (keys_from m to (n ∷ [])) i
+one-at m to n i r waits is = is ∙ sym (ap (λ b. at_place (map (delivery to) (cond b (n ∷ []) [])) i) waits)
 
-pub deliveries-listed : (m : Mail) (to c n : ℕ) (keys all : List Key) → c ≤ n → keys ++ keys_from m to (drop n (numbers_from 0 c)) ≡ all → keys ≡ all
-deliveries-listed m to c n keys all past inv =
-    sym (append-nil keys) ∙ sym (ap (λ ns. keys ++ keys_from m to ns) (past-all c n past)) ∙ inv
+pub none-at : (m : Mail) (to n i : ℕ) → is_waiting n to m ≡ false → Continue i ≡ at_place (keys_from m to (n ∷ [])) i
+none-at m to n i waits = sym (ap (λ b. at_place (map (delivery to) (cond b (n ∷ []) [])) i) waits)
 
-pub station-listed : (w : World) (c n : ℕ) (keys new all : List Key) → n < c → new ≡ keys ++ keys_at w n
-    → keys ++ flat_map (keys_at w) (drop n (numbers_from 0 c)) ≡ all → new ++ flat_map (keys_at w) (drop (n + 1) (numbers_from 0 c)) ≡ all
-station-listed w c n keys new all few is inv =
+-- the deliveries from the stations behind one
+pub delivery-at : (m : Mail) (to c n i : ℕ) (r all : ControlFlow Key ℕ) → n < c → r ≡ at_place (keys_from m to (n ∷ [])) i
+    → at_place (keys_from m to (drop n (numbers_from 0 c))) i ≡ all → then_at (keys_from m to (drop (n + 1) (numbers_from 0 c))) r ≡ all
+delivery-at m to c n i r all few is inv =
+    let rest = drop (n + 1) (numbers_from 0 c) in
+    sym (at-next (keys_from m to (n ∷ [])) (keys_from m to rest) i r is)
+    ∙ sym (ap (λ ks. at_place ks i) (ap (keys_from m to) (stations-from c n few) ∙ one-by-one m to n rest)) ∙ inv
+
+pub deliveries-at-end : (m : Mail) (to c n i : ℕ) (all : ControlFlow Key ℕ) → c ≤ n
+    → at_place (keys_from m to (drop n (numbers_from 0 c))) i ≡ all → Continue i ≡ all
+deliveries-at-end m to c n i all past inv = sym (ap (λ ns. at_place (keys_from m to ns) i) (past-all c n past)) ∙ inv
+
+-- the keys of the stations behind one
+pub station-at : (w : World) (c n i : ℕ) (r all : ControlFlow Key ℕ) → n < c → r ≡ at_place (keys_at w n) i
+    → at_place (flat_map (keys_at w) (drop n (numbers_from 0 c))) i ≡ all
+    → then_at (flat_map (keys_at w) (drop (n + 1) (numbers_from 0 c))) r ≡ all
+station-at w c n i r all few is inv =
     let rest = flat_map (keys_at w) (drop (n + 1) (numbers_from 0 c)) in
-    ap (λ ks. ks ++ rest) is ∙ append_assoc keys (keys_at w n) rest
-    ∙ sym (ap (λ ns. keys ++ flat_map (keys_at w) ns) (stations-from c n few)) ∙ inv
+    sym (at-next (keys_at w n) rest i r is) ∙ sym (ap (λ ns. at_place (flat_map (keys_at w) ns) i) (stations-from c n few)) ∙ inv
 
-pub stations-listed : (w : World) (c n : ℕ) (keys all : List Key) → c ≤ n → keys ++ flat_map (keys_at w) (drop n (numbers_from 0 c)) ≡ all → keys ≡ all
-stations-listed w c n keys all past inv =
-    sym (append-nil keys) ∙ sym (ap (λ ns. keys ++ flat_map (keys_at w) ns) (past-all c n past)) ∙ inv
+pub stations-at-end : (w : World) (c n i : ℕ) (all : ControlFlow Key ℕ) → c ≤ n
+    → at_place (flat_map (keys_at w) (drop n (numbers_from 0 c))) i ≡ all → Continue i ≡ all
+stations-at-end w c n i all past inv = sym (ap (λ ns. at_place (flat_map (keys_at w) ns) i) (past-all c n past)) ∙ inv
 
 -- the keys of a station, deliveries before its node's
-pub station-keys-listed : (keys mid new deliveries nodes all : List Key) → mid ≡ keys ++ deliveries → new ≡ mid ++ nodes
-    → all ≡ deliveries ++ nodes → new ≡ keys ++ all
-station-keys-listed keys mid new deliveries nodes all first second is =
-    second ∙ ap (λ ks. ks ++ nodes) first ∙ append_assoc keys deliveries nodes ∙ sym (ap (λ ks. keys ++ ks) is)
+pub behind-mail : (mail nodes all : List Key) (i : ℕ) (m r : ControlFlow Key ℕ) → m ≡ at_place mail i → r ≡ then_at nodes m
+    → all ≡ mail ++ nodes → r ≡ at_place all i
+behind-mail mail nodes all i m r first is keys = is ∙ sym (at-next mail nodes i m first) ∙ sym (ap (λ ks. at_place ks i) keys)
 
--- 4. The key at a place
+-- 4. The key at a place, counted round
 
-pub no-item : (keys all : List Key) (i : ℕ) → keys ≡ all → length keys ≡ 0 → None ≡ item i all
-no-item keys all i is none = go keys none ∙ ap (item i) is
-  where
-    go : (ks : List Key) → length ks ≡ 0 → None ≡ item i ks
-    go [] none = refl
-    go (k ∷ ks) none = absurd (cc none)
+there : (ks : List Key) (i : ℕ) (k : Key) → Break k ≡ at_place ks i → (i < length ks) × (slice_get ks i ≡ Some k)
+there [] i k is = absurd (cc is)
+there (x ∷ xs) zero k is = (omega arith, sym (ap break_value is))
+there (x ∷ xs) (suc i) k is = let h = there xs i k is in (omega (arith, h.0), h.1)
+
+past : (ks : List Key) (i l : ℕ) → Continue l ≡ at_place ks i → l + length ks ≡ i
+past [] i l is = let e : Some l ≡ Some i = ap continue_value is in let n : l ≡ i = cc e in omega (arith, n)
+past (x ∷ xs) zero l is = absurd (cc is)
+past (x ∷ xs) (suc i) l is = omega (arith, past xs i l is)
+
+found : (ks : List Key) (p : ℕ) → p < length ks → break_value (at_place ks p) ≡ slice_get ks p
+found [] p few = absurd (omega (arith, few))
+found (x ∷ xs) zero few = refl
+found (x ∷ xs) (suc p) few = found xs p (omega (arith, few))
+
+-- it stands among the keys
+pub item-there : (ks : List Key) (i : ℕ) (k : Key) → Break k ≡ at_place ks i → Some k ≡ item i ks
+item-there ks i k is = let h = there ks i k is in sym h.1 ∙ sym (ap (slice_get ks) (mod-eq_of_lt h.0))
+
+-- there are no keys
+pub item-none : (ks : List Key) (i l : ℕ) → Continue l ≡ at_place ks i → (0 < i - l → ⊥) → None ≡ item i ks
+item-none [] i l is none = refl
+item-none (x ∷ xs) i l is none = absurd (none (omega (arith, past (x ∷ xs) i l is)))
+
+-- the place is past them all
+pub item-round : (ks : List Key) (i l p : ℕ) (r : Option Key) → Continue l ≡ at_place ks i → 0 < i - l → p ≡ l % (i - l)
+    → r ≡ break_value (at_place ks p) → r ≡ item i ks
+item-round ks i l p r is some round at =
+    let h = past ks i l is in
+    let n : i - l ≡ length ks = omega (arith, h) in
+    let left : l ≡ i - length ks = omega (arith, h) in
+    let few : 0 < length ks = omega (arith, some, n) in
+    let place : p ≡ i % length ks =
+    round ∙ ap (λ m. l % m) n ∙ ap (λ m. m % length ks) left ∙ sym (mod-eq-sub-mod {n = i} {m = length ks} (omega (arith, h))) in
+    let within : i % length ks < length ks = mod-lt i few in
+    at ∙ ap (λ m. break_value (at_place ks m)) place ∙ found ks (i % length ks) within
 
 -- 5. A station
 
@@ -143,17 +169,3 @@ pub node-next : (P : Key → Bool) (mail nodes all : List Key) (r : Option Key) 
     → r ≡ find P all
 node-next P mail nodes all r none is keys =
     is ∙ ap (λ o. or_else o (find P nodes)) none ∙ sym (find-append P mail nodes) ∙ ap (find P) (sym keys)
-
--- the key at a place
-pub item-there : (keys all : List Key) (i n : ℕ) (r : Option Key) → keys ≡ all → n ≡ length keys → r ≡ slice_get keys (i % n) → r
-    ≡ item i all
-item-there keys all i n r is long at = at ∙ ap (λ m. slice_get keys (i % m)) long ∙ ap (item i) is
-
--- only deliveries, where there is no node
-pub only-deliveries : (mail nodes all : List Key) → all ≡ mail ++ nodes → nodes ≡ [] → all ≡ mail
-only-deliveries mail nodes all is none = is ∙ ap (λ ks. mail ++ ks) none ∙ append-nil mail
-
--- what is known of an `Ok` once more is known
-pub on-ok-then : {A E : Type 0} (r : Result A E) (B P Q : Type 0) → (B → OnOk r Q) → ((B → Q) → P) → OnOk r P
-on-ok-then (Ok x) B P Q h f = f h
-on-ok-then (Err e) B P Q h f = tt

@@ -1,10 +1,11 @@
 //! Which turn comes next.
-ghost use Rattle.std.specs.Prelude.{◌≡◌, ◌↔◌, ◌++◌, ◌≤◌, ◌∷◌, [], ℕ, false, IfOk, IfSome, OnOk, IsTrue, None, Some};
+ghost use Rattle.std.specs.Prelude.{◌≡◌, ◌↔◌, ◌≤◌, ◌∷◌, [], ℕ, false, IfSome, IsTrue, None, Some};
 ghost use Rattle.std.specs.List.{Contains, find};
 ghost use Rattle.passive_store.specs.Seen.{disk_seen};
 ghost use Rattle.journal.specs.World.{World as Model};
 ghost use Rattle.journal.specs.Enabled as journal;
 ghost use Rattle.journal.specs.declared.event.Key.{Key as AnyKey};
+ghost use Rattle.agenda.specs.Places.{at_place};
 ghost use Rattle.runs.specs.Reached.{IsReached};
 ghost use Rattle.eden_world.specs.InHand.{Stands};
 ghost use Rattle.eden_world.specs.Listed.{HasTurn, mail_keys, keys_at, keys_from, shell_hears, station_count};
@@ -12,11 +13,12 @@ ghost use Rattle.eden_world.specs.Seated.{FitsTogether};
 
 use crate::World;
 use crate::breaks::is_named;
+use agenda::key_or_left;
 use capability::Uid;
 use invocation::{Calls, Message};
 use journal::Key;
 use passive_store::Store;
-use std::alloc::{AllocError, Global};
+use std::ops::ControlFlow;
 
 // The uid in the keys of turns that are no Eject's.
 const NO_UID: Uid = Uid {
@@ -78,16 +80,6 @@ fn shell_hears(calls: &Calls, from: u8) -> bool
         Some(Message::Request { .. }) => false,
         None => false,
     }
-}
-
-// The key at this place, counted round.
-fn counted_round(keys: &[Key], i: u32) -> Option<Key>
-    ensures { result ≡ journal.item i keys.now }
-{
-    if keys.is_empty() {
-        return None;
-    }
-    keys.get(i as usize % keys.len()).copied()
 }
 
 impl<St: Store + Drop> World<St>
@@ -216,69 +208,87 @@ where
         self.with_turn(self.next_of_all(last))
     }
 
-    // Appends the delivery from one station to another, if there is one.
-    fn list_delivery(&self, to: u8, from: u8, keys: &mut Vec<Key>) -> Result<(), AllocError>
+    // The delivery from one station to another, if there is one and the place is the first, or else the places left.
+    fn delivery_at(&self, to: u8, from: u8, place: usize) -> ControlFlow<Key, usize>
         requires to { to ≤ 8 }
         requires from { from ≤ 8 }
-        ensures { OnOk result (keys.new.items ≡ keys.old.items ++ keys_from self.now.calls to (from ∷ [])) }
+        ensures { result ≡ at_place (keys_from self.now.calls to (from ∷ [])) place }
     {
         if !self.calls.waiting(from, to) {
-            return Ok(());
+            return ControlFlow::Continue(place);
         }
-        keys.push(delivery(to, from))?;
-        Ok(())
+        key_or_left(delivery(to, from), place)
     }
 
-    // Appends the deliveries at a station, in their order.
-    fn list_deliveries(&self, to: u8, keys: &mut Vec<Key>) -> Result<(), AllocError>
+    // Among the deliveries at a station.
+    fn mail_at(&self, to: u8, place: usize) -> ControlFlow<Key, usize>
         requires whole { FitsTogether St.seen self.now }
         requires to { to ≤ 8 }
-        ensures { OnOk result (keys.new.items ≡ keys.old.items ++ mail_keys (station_count self.now) self.now.calls to) }
+        ensures { result ≡ at_place (mail_keys (station_count self.now) self.now.calls to) place }
     {
-        for from in 0..self.stations() {
-            self.list_delivery(to, from, keys)?;
+        if !self.calls.may_have_mail(to) {
+            return ControlFlow::Continue(place);
         }
-        Ok(())
+        let mut left = place;
+        for from in 0..self.stations() {
+            left = self.delivery_at(to, from, left)?;
+        }
+        ControlFlow::Continue(left)
     }
 
-    // Appends the keys of a station, in their order.
-    fn list_at(&self, number: u8, keys: &mut Vec<Key>) -> Result<(), AllocError>
+    // Among the keys of a station.
+    fn station_key_at(&self, number: u8, place: usize) -> ControlFlow<Key, usize>
         requires whole { FitsTogether St.seen self.now }
         requires number { number ≤ 8 }
-        ensures { OnOk result ((more : ℕ) (w : Model) → IsReached w
+        ensures { (more : ℕ) (w : Model) → IsReached w
             → Stands St.Device.tells St.layout St.seen (disk_seen St.Device.counts St.Device.told St.Device.due) self.now more w
-            → keys.new.items ≡ keys.old.items ++ keys_at w number) }
+            → result ≡ at_place (keys_at w number) place }
     {
-        self.list_deliveries(number, keys)?;
+        let left = self.mail_at(number, place)?;
         match self.station(number) {
-            Some(station) => station.list(keys),
-            None => Ok(()),
+            Some(station) => station.key_at(left),
+            None => ControlFlow::Continue(left),
         }
     }
 
-    // All enabled keys, in their order.
-    fn list(&self, alloc: Global) -> Result<Vec<Key>, AllocError>
+    // Among all enabled keys.
+    fn enabled_at(&self, place: usize) -> ControlFlow<Key, usize>
         requires { FitsTogether St.seen self.now }
-        ensures { IfOk result (λ keys. (more : ℕ) (w : Model) → IsReached w
+        ensures { (more : ℕ) (w : Model) → IsReached w
             → Stands St.Device.tells St.layout St.seen (disk_seen St.Device.counts St.Device.told St.Device.due) self.now more w
-            → keys.items ≡ journal.enabled w) }
+            → result ≡ at_place (journal.enabled w) place }
     {
-        let mut keys = Vec::new(alloc);
+        let mut left = place;
         for number in 0..self.stations() {
-            self.list_at(number, &mut keys)?;
+            left = self.station_key_at(number, left)?;
         }
-        Ok(keys)
+        ControlFlow::Continue(left)
+    }
+
+    // The enabled key at this place, counted round. Where the place is past them all, what is left of it says how many there are.
+    fn counted_round(&self, place: usize) -> Option<Key>
+        requires { FitsTogether St.seen self.now }
+        ensures { (more : ℕ) (w : Model) → IsReached w
+            → Stands St.Device.tells St.layout St.seen (disk_seen St.Device.counts St.Device.told St.Device.due) self.now more w
+            → result ≡ journal.item place (journal.enabled w) }
+    {
+        match self.enabled_at(place) {
+            ControlFlow::Break(key) => Some(key),
+            ControlFlow::Continue(left) => {
+                let number = place.saturating_sub(left);
+                self.enabled_at(left.checked_rem(number)?).break_value()
+            }
+        }
     }
 
     /// The enabled key at this place, counted round.
-    pub(crate) fn key_at(&self, alloc: Global, i: u32) -> Result<Option<Key>, AllocError>
+    pub(crate) fn key_at(&self, i: u32) -> Option<Key>
         requires { FitsTogether St.seen self.now }
-        ensures chosen { IfOk result (λ key. (more : ℕ) (w : Model) → IsReached w
+        ensures chosen { (more : ℕ) (w : Model) → IsReached w
             → Stands St.Device.tells St.layout St.seen (disk_seen St.Device.counts St.Device.told St.Device.due) self.now more w
-            → key ≡ journal.item i (journal.enabled w)) }
-        ensures enabled { IfOk result (λ it. IfSome it (λ k. HasTurn St.seen self.now k)) }
+            → result ≡ journal.item i (journal.enabled w) }
+        ensures enabled { IfSome result (λ k. HasTurn St.seen self.now k) }
     {
-        let keys = self.list(alloc)?;
-        Ok(self.with_turn(counted_round(&keys, i)))
+        self.with_turn(self.counted_round(i as usize))
     }
 }

@@ -45,8 +45,8 @@ where
         self.has_turn(key)
     }
 
-    fn item(&self, alloc: Global, i: u32) -> Result<Option<Key>, AllocError> {
-        self.key_at(alloc, i)
+    fn item(&self, i: u32) -> Option<Key> {
+        self.key_at(i)
     }
 
     fn take(&mut self, alloc: Global, key: Key) -> Result<Entry, AllocError> {

@@ -88,11 +88,10 @@ fn turn<St: Store>(
 }
 
 /// Whether there is one key, which is the next and the last.
-fn has_one_key<St: Store>(rt: &impl Abort, alloc: Global, node: &ScheduledNode<St>) -> bool {
-    let mut keys = Vec::new(alloc);
-    node.list(&mut keys).expect(rt, "memory");
-    let first = keys.first().copied();
-    keys.len() == 1 && node.next(None) == first && node.next(first).is_none()
+fn has_one_key<St: Store>(node: &ScheduledNode<St>) -> bool {
+    let first = node.key_at(0).break_value();
+    let behind = node.key_at(3).continue_value();
+    first.is_some() && behind == Some(2) && node.next(None) == first && node.next(first).is_none()
 }
 
 fn take<St: Store>(
@@ -134,7 +133,7 @@ fn take<St: Store>(
             Some(key) => Seen::Key(key.kind, key.process),
             None => Seen::NoKey,
         },
-        Act::HasOneKey => Seen::Is(has_one_key(rt, alloc, node)),
+        Act::HasOneKey => Seen::Is(has_one_key(node)),
         Act::HasAnswer => Seen::Is(calls.waiting(1, 0)),
     }
 }

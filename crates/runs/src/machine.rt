@@ -60,11 +60,11 @@ pub trait Machine {
         requires whole { whole self.now }
         ensures { IsTrue result → enables self.now key };
 
-    /// The enabled key at this place, counted round. Memory is for a list of the keys; the machine stays as it is.
-    fn item(&self, alloc: Global, i: u32) -> Result<Option<Key>, AllocError>
+    /// The enabled key at this place, counted round.
+    fn item(&self, i: u32) -> Option<Key>
         requires whole { whole self.now }
-        ensures chosen { IfOk result (λ key. (more : ℕ) (w : World) → IsReached w → stands self.now more w → key ≡ item i (enabled w)) }
-        ensures enabled { IfOk result (λ it. IfSome it (λ key. enables self.now key)) };
+        ensures chosen { (more : ℕ) (w : World) → IsReached w → stands self.now more w → result ≡ item i (enabled w) }
+        ensures enabled { IfSome result (λ key. enables self.now key) };
 
     /// The turn of an enabled key.
     fn take(&mut self, alloc: Global, key: Key) -> Result<Entry, AllocError>

@@ -141,15 +141,16 @@ impl<M: Machine> Run<M> {
         }
     }
 
-    fn choose(&self, alloc: Global, choice: Choice) -> Result<Option<Key>, AllocError>
+    // The key that a turn takes by this choice.
+    fn choose(&self, choice: Choice) -> Option<Key>
         requires whole { M.whole self.now.machine }
-        ensures chosen { IfOk result (λ key. (more : ℕ) (w : World) → IsReached w → M.stands self.now.machine more w
-            → w.last ≡ self.now.last → (IsTrue self.now.again → Repeats w) → key ≡ chosen_by choice w (enabled w)) }
-        ensures enabled { IfOk result (λ it. IfSome it (λ key. M.enables self.now.machine key)) }
+        ensures chosen { (more : ℕ) (w : World) → IsReached w → M.stands self.now.machine more w
+            → w.last ≡ self.now.last → (IsTrue self.now.again → Repeats w) → result ≡ chosen_by choice w (enabled w) }
+        ensures enabled { IfSome result (λ key. M.enables self.now.machine key) }
     {
         match choice {
-            Choice::Following => Ok(self.following()),
-            Choice::Item { i } => self.machine.item(alloc, i),
+            Choice::Following => self.following(),
+            Choice::Item { i } => self.machine.item(i),
         }
     }
 
@@ -172,7 +173,7 @@ impl<M: Machine> Run<M> {
             self.history.push_reserved(plain(alloc, Event::Spent));
             return Ok(false);
         }
-        match self.choose(alloc, choice)? {
+        match self.choose(choice) {
             Some(key) => {
                 let entry = self.machine.take(alloc, key)?;
                 self.again = self.repeats(choice, key, &entry);

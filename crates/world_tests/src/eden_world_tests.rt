@@ -189,15 +189,14 @@ enum Ask<'a> {
 }
 
 /// The key that comes next, which stands at each place as well.
-fn only_key<St: Store + Drop>(rt: &impl Abort, alloc: Global, world: &World<St>) -> Option<Key>
+fn only_key<St: Store + Drop>(rt: &impl Abort, world: &World<St>) -> Option<Key>
 where
     St::Device: Drop,
     requires { FitsTogether St.seen world.now }
     ensures { IfSome result (λ key. HasTurn St.seen world.now key) }
 {
     let next = world.following(None);
-    let there = world.item(alloc, 7).expect(rt, "memory");
-    assert!(rt; there == next, "the key at a place");
+    assert!(rt; world.item(7) == next, "the key at a place");
     next
 }
 
@@ -218,7 +217,7 @@ where
     requires { FitsTogether St.seen run.old.machine }
     ensures { FitsTogether St.seen run.new.machine }
 {
-    let key = only_key(rt, alloc, &run.machine).expect(rt, "a turn");
+    let key = only_key(rt, &run.machine).expect(rt, "a turn");
     assert!(rt; run.machine.calls_asked() < 1_000_000, "few calls");
     let entry = run.machine.take(alloc, key).expect(rt, "memory");
     let taken = alone(rt, alloc, entry);
@@ -272,7 +271,7 @@ where
     requires { FitsTogether St.seen world.now }
 {
     match ask {
-        Ask::HasTurn => only_key(rt, alloc, world).is_some(),
+        Ask::HasTurn => only_key(rt, world).is_some(),
         Ask::IsUp(node) => matches!(world.seat(node), Some(Seat::Up { .. })),
         Ask::IsOpen(call) => world.is_open(call),
         Ask::Means(name, is_first) => is_meant(rt, alloc, world, name, is_first),

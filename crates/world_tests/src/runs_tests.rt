@@ -86,12 +86,9 @@ impl Machine for Keys {
         self.keys.contains(&key)
     }
 
-    fn item(&self, _alloc: Global, i: u32) -> Result<Option<Key>, AllocError> {
-        if self.keys.is_empty() {
-            return Ok(None);
-        }
-        let place = i as usize % self.keys.len();
-        Ok(self.keys.get(place).copied())
+    fn item(&self, i: u32) -> Option<Key> {
+        let place = (i as usize).checked_rem(self.keys.len())?;
+        self.keys.get(place).copied()
     }
 
     fn take(&mut self, alloc: Global, key: Key) -> Result<Entry, AllocError> {

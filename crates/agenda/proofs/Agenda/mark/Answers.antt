@@ -1,5 +1,4 @@
-use Rattle.std.proofs.Common.{◌≡◌, map, sym, subst}
-use Rattle.std.specs.Prelude.{None}
+use Rattle.std.proofs.Common.{sym, subst}
 use Rattle.ejects.specs.Marks.{may_wake, may_start, may_run}
 use Rattle.ejects.specs.Parts.{body_at}
 use Rattle.ejects.specs.View.{parts_of}

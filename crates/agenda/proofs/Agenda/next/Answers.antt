@@ -1,12 +1,8 @@
-use Rattle.std.proofs.Common.{◌≡◌, Some, sym, ap, ◌∙◌}
-use Rattle.std.specs.Prelude.{None}
-use Rattle.std.specs.List.{find}
-use Rattle.eden_model.specs.Map.{or_else}
-use Rattle.journal.specs.Enabled.{is_past, node_keys}
+use Rattle.std.proofs.Common.{sym, ◌∙◌}
+use Rattle.journal.specs.Enabled.{is_past}
 use Rattle.ejects.specs.View.{parts_of}
-use Rattle.agenda.specs.Keys.{start_keys, run_keys}
-use Rattle.agenda.specs.Indexed.{indices_of, wake_keys_but, store_key}
-use Rattle.agenda.proofs.Nexts.{found-in, are-at, by-wake, by-start, by-run, by-store}
+use Rattle.agenda.specs.Indexed.{indices_of}
+use Rattle.agenda.proofs.Nexts.{by-wake, by-start, by-run, by-store}
 use Rattle.agenda.proofs.Agenda.next.Goals as goal
 
 pub returns-in-Some : goal.returns-in-Some

@@ -1,4 +1,3 @@
-use Rattle.std.proofs.Common.{◌≡◌, map}
 use Rattle.ejects.specs.Marks.{may_wake, may_start, may_run}
 use Rattle.ejects.specs.Parts.{body_at}
 use Rattle.ejects.specs.View.{parts_of}

@@ -1,4 +1,4 @@
-use Rattle.std.proofs.Common.{Some, sym, ap, ◌∙◌}
+use Rattle.std.proofs.Common.{sym, ◌∙◌}
 use Rattle.agenda.specs.Indexed.{uids_of, comes, is_it}
 use Rattle.agenda.proofs.Comes.{none-more, same-more, over-first}
 use Rattle.agenda.proofs.Noted.{sorted-entries}

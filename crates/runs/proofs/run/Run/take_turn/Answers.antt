@@ -21,7 +21,7 @@ returns-then-self-ge-MOST_TURNS-clause-shown g c = shown-push g.M.Machine.shows 
 pub returns-in_err-entry-in-Some-clause-fails : goal.returns-in_err-entry-in-Some-clause-fails
 returns-in_err-entry-in-Some-clause-fails g c = on-err c.from_residual-in_err-entry-in-Some.result _ (λ o others p on.
     let here = on-reached g.M.Machine.stands g.M.Machine.did o others c.args.self.now p on in
-    let chosen = sym c.in-Some.is ∙ c.in_ok-key.ensures.chosen on.machine.0 p.world here on.machine.2 on.last on.again in
+    let chosen = sym c.in-Some.is ∙ c.choose.ensures.chosen on.machine.0 p.world here on.machine.2 on.last on.again in
     turn-starved g.M.Machine.stands g.M.Machine.did g.M.Machine.starved o others c.args.self.now c.take.new.self p on
     (omega (arith, c.if-self-ge-MOST_TURNS.false)) (λ more at. c.in_err-entry-in-Some.ensures.starved more p.world here at
     (chosen-Contains c.args.choice p.world c.in-Some.key (sym chosen))))
@@ -29,7 +29,7 @@ returns-in_err-entry-in-Some-clause-fails g c = on-err c.from_residual-in_err-en
 pub returns-in_ok-entry-in-Some-clause-done : goal.returns-in_ok-entry-in-Some-clause-done
 returns-in_ok-entry-in-Some-clause-done g c o others p on =
     let here = on-reached g.M.Machine.stands g.M.Machine.did o others c.args.self.now p on in
-    let chosen = sym c.in-Some.is ∙ c.in_ok-key.ensures.chosen on.machine.0 p.world here on.machine.2 on.last on.again in
+    let chosen = sym c.in-Some.is ∙ c.choose.ensures.chosen on.machine.0 p.world here on.machine.2 on.last on.again in
     took-key g.M.Machine.stands g.M.Machine.did o others c.args.self.now _ p (chosen_by c.args.choice p.world) on
     (omega (arith, c.if-self-ge-MOST_TURNS.false)) c.in-Some.key c.in_ok-entry-in-Some.entry chosen
     (λ more at. c.in_ok-entry-in-Some.ensures.taken more p.world here at (chosen-Contains c.args.choice p.world c.in-Some.key (sym chosen)))
@@ -47,7 +47,7 @@ pub returns-in-None-clause-done : goal.returns-in-None-clause-done
 returns-in-None-clause-done g c o others p on =
     let here = on-reached g.M.Machine.stands g.M.Machine.did o others c.args.self.now p on in
     took-quiet g.M.Machine.stands g.M.Machine.did o others c.args.self.now _ p (chosen_by c.args.choice p.world) on
-    (omega (arith, c.if-self-ge-MOST_TURNS.false)) (sym c.in-None.is ∙ c.in_ok-key.ensures.chosen on.machine.0 p.world here
+    (omega (arith, c.if-self-ge-MOST_TURNS.false)) (sym c.in-None.is ∙ c.choose.ensures.chosen on.machine.0 p.world here
     on.machine.2 on.last on.again)
     (rw (c.push_reserved-in-None.ensures.items, c.reserve.ensures.items, c.plain-in-None.ensures) (refl {A = List Entry}))
     refl refl refl refl
