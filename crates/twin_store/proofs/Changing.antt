@@ -8,7 +8,7 @@ use Rattle.eden_disk.specs.Told.{Told}
 use Rattle.passive_store.specs.Kept.{Layout, reserved_uid}
 use Rattle.passive_store.specs.Seen.{Asked, asked}
 use Rattle.twin_store.specs.declared.served.TwinRefusal.{TwinRefusal}
-use Rattle.twin_store.specs.declared.served.TwinRefusal.TheVariants.{Lost, Full}
+use Rattle.twin_store.specs.declared.served.TwinRefusal.TheVariants.{Lost, Full, GenerationsSpent}
 use Rattle.twin_store.specs.Vouched.{Bodies, SameEjects, changed_by, generation_in, generation_by, Vow, IsOwnChange, IsVouched}
 use Rattle.twin_store.specs.Vouched.{bodies_found}
 use Rattle.twin_store.specs.Footings.{Finds, IsMapped, IfMapped, AreVouched}
@@ -16,14 +16,14 @@ use Rattle.twin_store.specs.Serving.{Same, has_room_in}
 use Rattle.twin_store.specs.Sides.{SideSeen, InUse, Away, is_in_use, disk_of, bodies_on, IsKept, SideGoes, SideServes}
 use Rattle.twin_store.specs.Sides.{IsFullOn, IsShortOn, LacksRoom, HasRoomOn, HasLeft}
 use Rattle.twin_store.specs.Twins.{TwinSeen, pair, IsTwinReady, SideHas, Holds, IsSure, vow, LeavesVouched, TwinChanges}
-use Rattle.twin_store.specs.Twins.{ChangesFirst, IsFullTwin}
+use Rattle.twin_store.specs.Twins.{ChangesFirst, IsFullTwin, IsSpent}
 use Rattle.twin_store.specs.Twins.{ChangesSecond, Raises, IsRaised}
 use Rattle.twin_store.proofs.Vouching.{one_of}
 use Rattle.twin_store.proofs.Going.{both_ways, goes_none, goes_on, used_or_not}
 use Rattle.twin_store.proofs.Finding.{finds_weaker, maps_weaker, may_keep_either, generation_changed}
 use Rattle.twin_store.proofs.Sided.{changed_alike}
 use Rattle.twin_store.proofs.Stopping.{stopped_on}
-use Rattle.twin_store.proofs.Raising.{not_lost}
+use Rattle.twin_store.proofs.Raising.{not_lost, not_spent}
 use Rattle.twin_store.proofs.Clearing.{kept_again}
 
 -- 1. What vouches
@@ -219,6 +219,17 @@ vouched_as layout node held c a b x y one two e f h =
     subst (λ p. AreVouched layout (vow node held c p y) one two) (sym e)
     (subst (λ q. AreVouched layout (vow node held c a q) one two) (sym f) h)
 
+-- a disk that is as it was has not left use, nor has one that is in use
+stayed : (s : SideSeen) → HasLeft s s → ⊥
+stayed s h = both_ways (is_in_use s) h.0 h.1
+
+used_still : (old new : SideSeen) → is_in_use new ≡ true → HasLeft old new → ⊥
+used_still old new used h = both_ways (is_in_use new) used h.1
+
+-- where neither disk has left use no generation is raised
+unspent : (a b : TwinSeen) → (HasLeft a.first b.first → ⊥) → (HasLeft a.second b.second → ⊥) → IsSpent a b → ⊥
+unspent a b f g q = one_of q.1 (λ h. f h.0) (λ h. g h.0)
+
 module _ (tells : Bool) (layout : Layout) (c : Option Asked) (node generation : ℕ) (own : IsOwnChange node c) where
   -- what both disks vouch for where each may have what is held or the change
   both_by : (held : Bodies) (a b : SideSeen) → 1 ≤ generation → is_in_use a ≡ true
@@ -257,7 +268,8 @@ module _ (tells : Bool) (layout : Layout) (c : Option Asked) (node generation : 
     goes = record
         { node = refl; first = goes_none first; second = goes_none second; ready = ready; lost = tt; stopped = inl (refl, refl) };
     full = tt;
-    other = λ same. refl;
+    spent = unspent (pair node generation first second) (pair node generation first second) (stayed first) (stayed second);
+    other = λ same. (refl, refl);
     held = λ so held h. record { generation = h.generation; first = λ on. absurd (both_ways (is_in_use first) on off); second = h.second };
     sure = λ so held h s. s;
     vouched = λ so. tt;
@@ -276,6 +288,11 @@ module _ (tells : Bool) (layout : Layout) (c : Option Asked) (node generation : 
       stopped = inl (s.stops, refl);
     };
     full = λ is. inl (inl (s.full is));
+    spent = (
+      λ is. absurd (not_spent e s.only is),
+      λ q. absurd (unspent (pair node generation old second) (pair node generation new second) (used_still old new s.used)
+          (stayed second) q),
+    );
     other = tt;
     held = λ so. tt;
     sure = λ so. tt;
@@ -297,7 +314,8 @@ module _ (tells : Bool) (layout : Layout) (c : Option Asked) (node generation : 
       ready = record { number = ready.number; first = s.ready; second = ready.second; some = inl s.used };
     };
     full = tt;
-    other = λ same. refl;
+    spent = unspent (pair node generation old second) (pair node generation new second) (used_still old new s.used) (stayed second);
+    other = λ same. (refl, refl);
     held = λ so held h. record {
       generation = h.generation;
       second = h.second;
@@ -314,6 +332,10 @@ module _ (tells : Bool) (layout : Layout) (c : Option Asked) (node generation : 
     goes = record
         { node = refl; first = s.goes; second = r.goes; ready = tt; lost = λ is. (s.used, r.lost is); stopped = inr (s.stops, r.stops) };
     full = λ is. inr (inl (on, s.used));
+    spent = (
+      λ is. let last : (generation ≡ 4294967295) × (is_in_use behind ≡ true) = r.spent.0 is in (last.0, inl ((on, s.used), last.1)),
+      λ q. one_of q.1 (λ h. r.spent.1 (q.0, h.1)) (λ h. absurd (both_ways (is_in_use new) h.1 s.used)),
+    );
     other = tt;
     held = λ so. tt;
     sure = λ so. tt;
@@ -354,6 +376,7 @@ module _ (tells : Bool) (layout : Layout) (c : Option Asked) (node generation : 
       ready = record { number = ready.number; first = s.ready; second = r.ready; some = inr r.used };
     };
     full = tt;
+    spent = λ q. one_of q.1 (λ h. r.spent (q.0, h.1)) (λ h. both_ways (is_in_use new) h.1 s.used);
     other = λ same. absurd (both_ways (is_in_use new) (same ∙ on) s.used);
     held = λ so held h.
         let new_has : SideHas layout node n (bodies_on second) behind = r.has so in
@@ -387,6 +410,7 @@ module _ (tells : Bool) (layout : Layout) (c : Option Asked) (node generation : 
     goes = record
         { node = refl; first = goes_none first; second = goes_none second; ready = ready; lost = tt; stopped = inl (refl, refl) };
     full = tt;
+    spent = unspent (pair node generation first second) (pair node generation first second) (stayed first) (stayed second);
     held = λ so held h. record { generation = h.generation; first = h.first; second = λ on. absurd (both_ways (is_in_use second) on off) };
     sure = λ so held h s. s;
     vouched = λ so. tt;
@@ -405,6 +429,10 @@ module _ (tells : Bool) (layout : Layout) (c : Option Asked) (node generation : 
       stopped = inr (refl, s.stops);
     };
     full = λ is. inl (s.full is);
+    spent = (
+      λ is. absurd (not_spent e s.only is),
+      λ q. absurd (unspent (pair node generation first old) (pair node generation first new) (stayed first) (used_still old new s.used) q),
+    );
     held = λ so. tt;
     sure = λ so. tt;
     vouched = λ so held h sure. second_by held first new h.generation s.used
@@ -425,6 +453,7 @@ module _ (tells : Bool) (layout : Layout) (c : Option Asked) (node generation : 
       ready = record { number = ready.number; first = ready.first; second = s.ready; some = inr s.used };
     };
     full = tt;
+    spent = unspent (pair node generation first old) (pair node generation first new) (stayed first) (used_still old new s.used);
     held = λ so held h. record {
       generation = h.generation;
       first = h.first;
@@ -441,6 +470,10 @@ module _ (tells : Bool) (layout : Layout) (c : Option Asked) (node generation : 
     goes = record
         { node = refl; first = r.goes; second = s.goes; ready = tt; lost = λ is. (r.lost is, s.used); stopped = inl (r.stops, s.stops) };
     full = λ is. inr (on, s.used);
+    spent = (
+      λ is. let last : (generation ≡ 4294967295) × (is_in_use behind ≡ true) = r.spent.0 is in (last.0, inr ((on, s.used), last.1)),
+      λ q. one_of q.1 (λ h. absurd (both_ways (is_in_use new) h.1 s.used)) (λ h. r.spent.1 (q.0, h.1)),
+    );
     held = λ so. tt;
     sure = λ so. tt;
     vouched = λ so held h sure.
@@ -480,6 +513,7 @@ module _ (tells : Bool) (layout : Layout) (c : Option Asked) (node generation : 
       ready = record { number = ready.number; first = r.ready; second = s.ready; some = inl r.used };
     };
     full = tt;
+    spent = λ q. one_of q.1 (λ h. both_ways (is_in_use new) h.1 s.used) (λ h. r.spent (q.0, h.1));
     held = λ so held h.
         let new_has : SideHas layout node n (bodies_on first) behind = r.has so in
         let next : n ≡ generation + 1 = r.next in record {
@@ -508,6 +542,9 @@ module _ (tells : Bool) (layout : Layout) (c : Option Asked) (node generation : 
 
 full_not_lost : Full ≡ Lost → ⊥
 full_not_lost is = cc
+
+full_not_spent : Full ≡ GenerationsSpent → ⊥
+full_not_spent is = cc
 
 pub still_vouched : (layout : Layout) (c : Option Asked) (t : TwinSeen) (held : Bodies) → Holds layout held t → IsSure layout t
     → LeavesVouched layout held c t
@@ -568,6 +605,7 @@ full_before tells layout uid body t short = record {
   };
   full = λ is. inl (one_of short (λ h. inl (short_full tells layout uid body t.first h))
       (λ h. inr (short_full tells layout uid body t.second h)));
+  spent = (λ is. absurd (full_not_spent is), λ q. absurd (unspent t t (stayed t.first) (stayed t.second) q));
   held = λ so. tt;
   sure = λ so. tt;
   vouched = λ so held h sure. still_vouched layout (Some (asked uid (Some body))) t held h sure;
@@ -579,6 +617,7 @@ refused_first tells layout c e a b f = record {
   goes = record
       { node = f.goes.node; first = f.goes.first; second = f.goes.second; ready = tt; lost = f.goes.lost; stopped = f.goes.stopped };
   full = f.full;
+  spent = f.spent;
   held = λ so. tt;
   sure = λ so. tt;
   vouched = f.vouched;
@@ -595,10 +634,31 @@ full_behind : {T : Type 0} (tells : Bool) (layout : Layout) (c : Option Asked) (
 full_behind tells layout c value a b d f goes (inr left) = inr (inr (left_from a.second b.second d.second f.goes.second left))
 full_behind tells layout c value a b d f goes (inl full) =
     one_of (used_or_not (is_in_use b.first))
-    (λ on. inl (inr (subst (IsFullOn tells layout c) (f.other (on ∙ sym (f.goes.first.left on))) full)))
+    (λ on. inl (inr (subst (IsFullOn tells layout c) (f.other (on ∙ sym (f.goes.first.left on))).0 full)))
     (λ off. one_of (used_or_not (is_in_use a.first))
     (λ on. inr (inl (on, subst (λ s. is_in_use s ≡ false) (sym (goes.still off)) off)))
-    (λ out. inl (inr (subst (IsFullOn tells layout c) (f.other (off ∙ sym out)) full))))
+    (λ out. inl (inr (subst (IsFullOn tells layout c) (f.other (off ∙ sym out)).0 full))))
+
+-- what is spent behind both disks is what is spent on the second, where nothing was on the first
+module _ {T U : Type 0} (tells : Bool) (layout : Layout) (c : Option Asked) (value : T) (r : Result U TwinRefusal) (a b d : TwinSeen)
+    (f : ChangesFirst {T = T} tells layout c (Ok value) a b) (s : ChangesSecond {T = U} tells layout c r b d) where
+  left_as : is_in_use b.first ≡ true → is_in_use b.first ≡ is_in_use a.first
+  left_as on = on ∙ sym (f.goes.first.left on)
+
+  spent_on : IsSpent b d → IsSpent a d
+  spent_on q = one_of q.1
+      (λ h. let on : is_in_use b.first ≡ true = h.0.0 in
+      (sym (f.other (left_as on)).1 ∙ q.0, inl ((f.goes.first.left on, h.0.1), h.1)))
+      (λ h. let on : is_in_use b.first ≡ true = s.goes.first.left h.1 in
+      (sym (f.other (left_as on)).1 ∙ q.0, inr ((f.goes.second.left h.0.0, h.0.1), h.1)))
+
+  spent_back : IsSpent a d → IsSpent b d
+  spent_back q = one_of q.1
+      (λ h. one_of (used_or_not (is_in_use b.first)) (λ on. ((f.other (left_as on)).1 ∙ q.0, inl ((on, h.0.1), h.1)))
+      (λ off. absurd (f.spent (q.0, inl ((h.0.0, off), s.goes.second.left h.1)))))
+      (λ h. let on : is_in_use b.first ≡ true = s.goes.first.left h.1 in
+      let same : b.second ≡ a.second = (f.other (left_as on)).0 in
+      ((f.other (left_as on)).1 ∙ q.0, inr ((ap is_in_use same ∙ h.0.0, h.0.1), h.1)))
 
 pub changed_both : {T U : Type 0} (tells : Bool) (layout : Layout) (c : Option Asked) (value : T) (r : Result U TwinRefusal)
     (a b d : TwinSeen)
@@ -614,6 +674,7 @@ changed_both tells layout c value (Ok done) a b d f s = record {
         (disk_of d.second) f.goes.stopped s.goes.stopped;
   };
   full = tt;
+  spent = λ q. s.spent (spent_back tells layout c value (Ok done) a b d f s q);
   held = λ so held h. s.held so held (f.held so held h);
   sure = λ so held h sure. s.sure so held (f.held so held h) (f.sure so held h sure);
   vouched = λ so. tt;
@@ -629,6 +690,10 @@ changed_both {T} {U} tells layout c value (Err e) a b d f s = record {
         (disk_of b.second) (disk_of d.second) f.goes.stopped s.goes.stopped;
   };
   full = λ is. full_behind tells layout c value a b d f s.goes.first (s.full is);
+  spent = (
+    λ is. spent_on tells layout c value (Err e) a b d f s (s.spent.0 is),
+    λ q. s.spent.1 (spent_back tells layout c value (Err e) a b d f s q),
+  );
   held = λ so. tt;
   sure = λ so. tt;
   vouched = λ so held h sure. s.vouched so held (f.held so held h) (f.sure so held h sure);

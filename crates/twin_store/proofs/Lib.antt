@@ -1,4 +1,6 @@
 mod Agreeing
+mod Alike
+mod Aloning
 mod Bringing
 mod Carrying
 pub mod Changing
@@ -13,6 +15,7 @@ mod Opened
 mod Openings
 mod Raising
 mod Reading
+pub mod Rooming
 mod Serving
 mod Sided
 mod Siding

@@ -8,17 +8,19 @@ use Rattle.twin_store.specs.declared.served.TwinRefusal.{TwinRefusal}
 use Rattle.twin_store.specs.declared.served.TwinRefusal.TheVariants.{Lost, Full}
 use Rattle.twin_store.specs.Sides.{SideSeen, InUse, Away, is_in_use, disk_of, bodies_on, SideGoes, SideServes, IsFullOn, HasLeft}
 use Rattle.twin_store.specs.Twins.{TwinSeen, pair, IsTwinReady, TwinChanges, ChangesFirst, ChangesSecond, LooksFirst}
-use Rattle.twin_store.specs.Twins.{TwinGets, Raises, IsFullTwin}
+use Rattle.twin_store.specs.Twins.{TwinGets, Raises, IsFullTwin, IsSpent}
 use Rattle.twin_store.proofs.Vouching.{one_of}
 use Rattle.twin_store.proofs.Going.{both_ways, goes_none, goes_on}
 use Rattle.twin_store.proofs.Changing.{vouched_as, leaves_none, call_may, left_from}
 use Rattle.twin_store.proofs.Stopping.{stopped_on}
+use Rattle.twin_store.proofs.Raising.{lost_spent}
 use Rattle.twin_store.proofs.Changing as change
 
 -- a change of nothing
 first_changes : {U : Type 0} (tells : Bool) (layout : Layout) (r : Result U TwinRefusal) (a b : TwinSeen)
     → ChangesFirst {T = U} tells layout None r a b → TwinChanges {T = U} tells layout None r a b
-first_changes tells layout r a b f = record { goes = f.goes; full = f.full; held = f.held; sure = f.sure; vouched = f.vouched }
+first_changes tells layout r a b f =
+    record { goes = f.goes; full = f.full; spent = f.spent; held = f.held; sure = f.sure; vouched = f.vouched }
 
 full_second : {U : Type 0} (tells : Bool) (layout : Layout) (r : Result U TwinRefusal) (a b : TwinSeen)
     → IfErr r (λ e. e ≡ Full → IsFullOn tells layout None a.second ⊎ HasLeft a.second b.second)
@@ -29,7 +31,14 @@ full_second tells layout (Err e) a b h = λ is. one_of (h is) (λ f. inl (inr f)
 second_changes : {U : Type 0} (tells : Bool) (layout : Layout) (r : Result U TwinRefusal) (a b : TwinSeen)
     → ChangesSecond {T = U} tells layout None r a b → TwinChanges {T = U} tells layout None r a b
 second_changes tells layout r a b f =
-    record { goes = f.goes; full = full_second tells layout r a b f.full; held = f.held; sure = f.sure; vouched = f.vouched }
+    record {
+      goes = f.goes;
+      full = full_second tells layout r a b f.full;
+      spent = f.spent;
+      held = f.held;
+      sure = f.sure;
+      vouched = f.vouched;
+    }
 
 module _ (tells : Bool) (layout : Layout) (uid : Uid) (node generation : ℕ) where
   -- 1. The first disk
@@ -115,6 +124,10 @@ module _ (tells : Bool) (layout : Layout) (uid : Uid) (node generation : ℕ) wh
         stopped = inl (refl, s.stops);
       };
       full = λ is. inr (inr (on, s.used));
+      spent = (
+        λ is. absurd (lost_spent is),
+        λ q. absurd (one_of q.1 (λ h. both_ways (is_in_use first) h.0.0 off) (λ h. both_ways (is_in_use first) h.1 off)),
+      );
       held = λ so. tt;
       sure = λ so. tt;
       vouched = λ so held h sure.
@@ -140,6 +153,7 @@ got_first tells layout uid body a b l = record {
       stopped = l.changes.goes.stopped;
     };
     full = tt;
+    spent = l.changes.spent;
     held = l.changes.held;
     sure = l.changes.sure;
     vouched = λ so. tt;
@@ -160,6 +174,7 @@ got_none tells layout uid e a b l = record {
       stopped = l.changes.goes.stopped;
     };
     full = l.changes.full;
+    spent = l.changes.spent;
     held = λ so. tt;
     sure = λ so. tt;
     vouched = l.changes.vouched;
@@ -179,6 +194,16 @@ full_look tells layout a b c first second (inl (inr h)) = absurd (no_full tells 
 full_look tells layout a b c first second (inr (inl h)) = inr (inl (left_from a.first b.first c.first first h))
 full_look tells layout a b c first second (inr (inr h)) = inr (inr (left_from a.second b.second c.second second h))
 
+-- a look at the second disk alone is never refused as spent
+spent_alone : (a b c : TwinSeen) → is_in_use b.first ≡ false → SideGoes b.first c.first → SideGoes b.second c.second
+    → (IsSpent a b → ⊥) → IsSpent a c → ⊥
+spent_alone a b c off first second before q =
+    one_of q.1 (λ h. before (q.0, inl ((h.0.0, off), second.left h.1))) (λ h. both_ways (is_in_use b.first) (first.left h.1) off)
+
+none_alone : (b c : TwinSeen) → is_in_use b.first ≡ false → SideGoes b.first c.first → IsSpent b c → ⊥
+none_alone b c off first q =
+    one_of q.1 (λ h. both_ways (is_in_use b.first) h.0.0 off) (λ h. both_ways (is_in_use b.first) (first.left h.1) off)
+
 pub got_second : (tells : Bool) (layout : Layout) (uid : Uid) (r : Result (Option (List ℕ)) TwinRefusal) (a b c : TwinSeen)
     → LooksFirst tells layout uid (Ok None) a b → TwinGets tells layout uid r b c → TwinGets tells layout uid r a c
 got_second tells layout uid (Ok body) a b c l g = record {
@@ -194,6 +219,7 @@ got_second tells layout uid (Ok body) a b c l g = record {
           (disk_of a.second) (disk_of b.second) (disk_of c.second) l.changes.goes.stopped g.changes.goes.stopped;
     };
     full = tt;
+    spent = spent_alone a b c l.gone g.changes.goes.first g.changes.goes.second l.changes.spent;
     held = λ so held h. g.changes.held so held (l.changes.held so held h);
     sure = λ so held h sure. g.changes.sure so held (l.changes.held so held h) (l.changes.sure so held h sure);
     vouched = λ so. tt;
@@ -213,6 +239,10 @@ got_second tells layout uid (Err e) a b c l g = record {
           (disk_of c.first) (disk_of a.second) (disk_of b.second) (disk_of c.second) l.changes.goes.stopped g.changes.goes.stopped;
     };
     full = λ is. full_look tells layout a b c l.changes.goes.first l.changes.goes.second (g.changes.full is);
+    spent = (
+      λ is. absurd (none_alone b c l.gone g.changes.goes.first (g.changes.spent.0 is)),
+      λ q. absurd (spent_alone a b c l.gone g.changes.goes.first g.changes.goes.second l.changes.spent q),
+    );
     held = λ so. tt;
     sure = λ so. tt;
     vouched = λ so held h sure. g.changes.vouched so held (l.changes.held so held h) (l.changes.sure so held h sure);

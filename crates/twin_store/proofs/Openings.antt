@@ -12,14 +12,15 @@ use Rattle.twin_store.specs.Vouched.{Bodies, SameEjects, Vow, IsHeld, IsOwnChang
 use Rattle.twin_store.specs.Footings.{Footing, MayFind, IsFooted, AreVouched}
 use Rattle.twin_store.specs.Sides.{SideSeen, InUse, Away, is_in_use, disk_of, bodies_on, SideGoes, IsOpenedSide, IsOpenedBy}
 use Rattle.twin_store.specs.Twins.{TwinSeen, pair, vow, spared, is_spared, Holds, Claims, SidesVouched, IsCovered, IsRight, Agrees}
-use Rattle.twin_store.specs.Twins.{AreAtRest}
+use Rattle.twin_store.specs.Twins.{AreAtRest, AgreesAlone}
 use Rattle.twin_store.specs.Twins.{TwinGoes, IsOpenedTwin, StaysVouched}
 use Rattle.twin_store.proofs.Vouching.{one_of, fault_by, held_alike}
 use Rattle.twin_store.proofs.Going.{used_or_not}
 use Rattle.twin_store.proofs.Finding.{finds_weaker}
 use Rattle.twin_store.proofs.Siding.{first_same}
-use Rattle.twin_store.proofs.Opened.{opened_behind}
+use Rattle.twin_store.proofs.Opened.{opened_behind, fits_in}
 use Rattle.twin_store.proofs.Stopping.{none_by}
+use Rattle.twin_store.proofs.Aloning.{left_alone}
 
 -- 1. A vow with fewer disks
 
@@ -305,8 +306,9 @@ module _ (tells : Bool) (layout : Layout) (node g : ℕ) (old one : DiskSeen) (a
 
   pub opened_twin : TwinGoes {T = Unit {0}} (Ok tt) (pair node g a b) new
       → (IsTrue tells → AreAtRest layout (pair node g a b) → Agrees {T = Unit {0}} layout (Ok tt) (pair node g a b) new)
+      → (IsTrue tells → AreAtRest layout (pair node g a b) → AgreesAlone {T = Unit {0}} (Ok tt) (pair node g a b) new)
       → IsOpenedTwin tells layout node old one new
-  opened_twin m agrees = record {
+  opened_twin m agrees greatest = record {
     ready = m.ready;
     node_is = m.node;
     first_stops = (none_by {T = Unit {0}} tt (disk_of a) (disk_of new.first) (disk_of b) (disk_of new.second) m.stopped).0 ∙ p.stops;
@@ -314,6 +316,11 @@ module _ (tells : Bool) (layout : Layout) (node g : ℕ) (old one : DiskSeen) (a
     first_opened = opened_behind tells layout node old a new.first p.by m.first;
     second_opened = opened_behind tells layout node one b new.second q.by m.second;
     right = λ so l. right_opened tells layout node g so old one a b p q new m.node m.first m.second (agrees so (at_rest_at_first so l));
+    alone = left_alone tells layout node g old one a b p q new greatest m.first m.second;
+    fits = λ so l. (
+      fits_in tells layout node old (disk_of new.first) a new.first refl so l p.by m.first,
+      fits_in tells layout node one (disk_of new.second) b new.second refl so l q.by m.second,
+    );
   }
 
   pub closed_vouched : (x : TwinRefusal) (d e : DiskSeen) → d ≡ disk_of new.first → e ≡ disk_of new.second

@@ -28,7 +28,7 @@ not_lost Full p is = cc
 not_lost GenerationsSpent p is = cc
 not_lost OutOfMemory p is = cc
 
-not_spent : (e : TwinRefusal) → IsPassedOn e → e ≡ GenerationsSpent → ⊥
+pub not_spent : (e : TwinRefusal) → IsPassedOn e → e ≡ GenerationsSpent → ⊥
 not_spent GenerationsSpent (inl p) is = cc
 not_spent GenerationsSpent (inr (inl p)) is = cc
 not_spent GenerationsSpent (inr (inr p)) is = cc
@@ -37,8 +37,12 @@ not_spent Full p is = cc
 not_spent Lost p is = cc
 not_spent OutOfMemory p is = cc
 
-lost_spent : Lost ≡ GenerationsSpent → ⊥
+pub lost_spent : Lost ≡ GenerationsSpent → ⊥
 lost_spent is = cc
+
+-- there is a next generation
+not_last : (generation n : ℕ) → n ≡ generation + 1 → n < 2 ^ 32 → generation ≡ 4294967295 → ⊥
+not_last generation n next small last = omega arith
 
 spent_lost : GenerationsSpent ≡ Lost → ⊥
 spent_lost is = cc
@@ -95,22 +99,25 @@ raise_out tells layout node generation side off = record {
   ready = tt;
   used = tt;
   next = tt;
+  small = tt;
   lost = λ is. off;
-  spent = λ is. absurd (lost_spent is);
+  spent = (λ is. absurd (lost_spent is), λ q. absurd (both_ways (is_in_use side) q.1 off));
   leaves = λ so on. absurd (both_ways (is_in_use side) on off);
   has = λ so. tt;
 }
 
-pub raise_spent : (tells : Bool) (layout : Layout) (node generation : ℕ) (side : SideSeen) → generation ≡ 4294967295
+pub raise_spent : (tells : Bool) (layout : Layout) (node generation : ℕ) (side : SideSeen) → is_in_use side ≡ true
+    → generation ≡ 4294967295
     → Raises tells layout node generation (Err GenerationsSpent) side side
-raise_spent tells layout node generation side is_last = record {
+raise_spent tells layout node generation side on is_last = record {
   goes = goes_none side;
   stops = refl;
   ready = tt;
   used = tt;
   next = tt;
+  small = tt;
   lost = λ is. absurd (spent_lost is);
-  spent = λ is. is_last;
+  spent = (λ is. (is_last, on), λ q. refl);
   leaves = λ so on kept. maps_weaker layout node _ _ (disk_of side).told
       (λ m h. let a : IsAlike node (bodies_on side) m = same_alike node m (bodies_on side) h in
       record { same = a.same; generation_is = inl a.generation_is }) kept;
@@ -127,8 +134,9 @@ raise_refused tells layout node generation n e old new next small s = record {
   ready = tt;
   used = tt;
   next = tt;
+  small = tt;
   lost = λ is. absurd (not_lost e s.only is);
-  spent = λ is. absurd (not_spent e s.only is);
+  spent = (λ is. absurd (not_spent e s.only is), λ q. absurd (not_last generation n next small q.0));
   leaves = λ so on kept. subst (λ k. Finds layout node (IsMapped (IsRaised node k (bodies_on old))) (disk_of new).told) next
       (leaves_raised tells layout node n (Err e) old new small s so on);
   has = λ so. tt;
@@ -143,8 +151,9 @@ raise_failed tells layout node generation n old new next small s = record {
   ready = tt;
   used = tt;
   next = tt;
+  small = tt;
   lost = λ is. s.used;
-  spent = λ is. absurd (lost_spent is);
+  spent = (λ is. absurd (lost_spent is), λ q. absurd (both_ways (is_in_use new) q.1 s.used));
   leaves = λ so on kept. subst (λ k. Finds layout node (IsMapped (IsRaised node k (bodies_on old))) (disk_of new).told) next
       (leaves_raised tells layout node n (Ok None) old new small s so on);
   has = λ so. tt;
@@ -160,8 +169,9 @@ raised tells layout node generation n done old new next small s = record {
   ready = s.ready;
   used = s.used;
   next = next;
+  small = omega (arith, small);
   lost = tt;
-  spent = tt;
+  spent = λ q. not_last generation n next small q.0;
   leaves = λ so on kept. subst (λ k. Finds layout node (IsMapped (IsRaised node k (bodies_on old))) (disk_of new).told) next
       (leaves_raised tells layout node n (Ok (Some done)) old new small s so on);
   has = λ so. has_raised tells layout node n done old new small s so;

@@ -1,6 +1,6 @@
 -- The generations of both disks are read.
 use Rattle.std.specs.Prelude.{◌≡◌, ℕ, max, unwrap_or, Bool, true, IsTrue, Option, Result, Ok, Err}
-use Rattle.std.proofs.Common.{sym, subst, ◌∙◌}
+use Rattle.std.proofs.Common.{refl, sym, subst, ◌∙◌}
 use Rattle.passive_store.specs.Kept.{Layout}
 use Rattle.twin_store.specs.declared.served.TwinRefusal.{TwinRefusal}
 use Rattle.twin_store.specs.Vouched.{Bodies, Vow}
@@ -28,6 +28,7 @@ module _ (tells : Bool) (layout : Layout) (node g : ℕ) (so : IsTrue tells) whe
     };
     rest = tt;
     read = tt;
+    stays = tt;
   }
 
   pub reads_refused_second : (first : Option ℕ) (e : TwinRefusal) (a to b new : SideSeen)
@@ -41,6 +42,7 @@ module _ (tells : Bool) (layout : Layout) (node g : ℕ) (so : IsTrue tells) whe
     };
     rest = tt;
     read = tt;
+    stays = tt;
   }
 
   pub reads_both : (first second : Option ℕ) (n : ℕ) (a to b new : SideSeen) → ReadsGeneration tells layout node (Ok first) a to
@@ -58,6 +60,11 @@ module _ (tells : Bool) (layout : Layout) (node g : ℕ) (so : IsTrue tells) whe
           (d.bears.kept on, same_sound node (bodies_on b) (bodies_on new) (d.bears.has on) (rest.second (s.moves.goes.left on)).1);
     };
     read = record { first_used = r.used; second_used = s.used; first_is = r.is so; second_is = s.is so; greatest = is };
+    stays = record {
+      node = refl;
+      first = λ on. (r.kept so (r.moves.goes.left on)).bears.has on;
+      second = λ on. (s.kept so (s.moves.goes.left on)).bears.has on;
+    };
   }
     where
       sides : (v : Vow) → v.node ≡ node → SidesVouched layout v a b → SidesVouched layout v to new

@@ -11,13 +11,8 @@ use Rattle.capability.specs.declared.Uid.{Uid}
 use Rattle.capability.specs.Uids.{uid_cmp}
 use Rattle.capability.proofs.Uids.{uid_cmp_total, uid_cmp-IsAntisymmetric}
 use Rattle.passive_store.specs.Kept.{IsEject, IsNextOf, reserved_uid}
-use Rattle.twin_store.specs.Ranks.{rank_of, IsLater}
+use Rattle.twin_store.specs.Ranks.{rank_of, IsLater, IsBefore}
 use Rattle.twin_store.specs.Sides.{SideSeen, bodies_on, IsNextOn}
-
--- the uid comes before this one; before None each does
-abbrev pub IsBefore : Option Uid → Uid → Type 0
-IsBefore None uid = Unit {0}
-IsBefore (Some next) uid = uid_cmp uid next ≡ Less
 
 not_both : (u v : Uid) → uid_cmp u v ≡ Less → uid_cmp v u ≡ Less → ⊥
 not_both u v a b = let bad : Less ≡ Greater = sym a ∙ uid_cmp_total.antisymm u v ∙ ap ordering_reverse b in cc bad
@@ -25,7 +20,7 @@ not_both u v a b = let bad : Less ≡ Greater = sym a ∙ uid_cmp_total.antisymm
 less_equal : Less ≡ Equal → ⊥
 less_equal e = cc
 
-behind : (u v : Uid) → uid_cmp u v ≡ Greater → uid_cmp v u ≡ Less
+pub behind : (u v : Uid) → uid_cmp u v ≡ Greater → uid_cmp v u ≡ Less
 behind u v h = uid_cmp_total.antisymm v u ∙ ap ordering_reverse h
 
 -- the reserved uid is that of no Eject
@@ -78,7 +73,7 @@ module _ (node : ℕ) (is_one : Uid → Bool) where
 abbrev pub AllBefore : ℕ → Option Uid → (Uid → Type 0) → Type 0
 AllBefore node next R = (uid : Uid) → IsEject node uid → IsBefore next uid → R uid
 
-none_there : (body : Option (List ℕ)) → is_some body ≡ false → body ≡ None
+pub none_there : (body : Option (List ℕ)) → is_some body ≡ false → body ≡ None
 none_there None e = refl
 none_there (Some bytes) e = absurd (false≢true (sym e))
 

@@ -1,8 +1,10 @@
 -- What the steps of a copy leave of its source and its target.
-use Rattle.std.specs.Prelude.{◌≡◌, ◌⊎◌, ℕ, ◌≤◌, Bool, true, false, IsTrue, is_some, List, length, None, Some, Result, OnOk, IfOk}
+use Rattle.std.specs.Prelude.{◌≡◌, ◌⊎◌, ℕ, ◌+◌, ◌≤◌, Bool, true, false, IsTrue, is_some, List, length, Option, None, Some, Result}
+use Rattle.std.specs.Prelude.{OnOk, IfOk}
 use Rattle.std.specs.FinMap as map
 use Rattle.capability.specs.declared.Uid.{Uid}
-use Rattle.passive_store.specs.Kept.{Layout, IsEject, bodies_after}
+use Rattle.passive_store.specs.Kept.{Layout, IsEject, IsBehind, bodies_after}
+use Rattle.twin_store.specs.Ranks.{IsBefore}
 use Rattle.twin_store.specs.declared.served.TwinRefusal.{TwinRefusal}
 use Rattle.twin_store.specs.Vouched.{Bodies, SameEjects, generation_in}
 use Rattle.twin_store.specs.Serving.{Same}
@@ -80,3 +82,26 @@ pub record IsCopied {T : Type 0} (layout : Layout) (all : Bool) (node : ℕ) (re
 -- A disk that is to be filled gets a generation, where it has none: 0, which says the same, so that its room is told.
 pub record BeginsFilling {T : Type 0} (layout : Layout) (node : ℕ) (result : Result T TwinRefusal) (old new : SideSeen) : Type 0 where
   pub bore : IsAtRest layout node old → Bore layout node (IsAlike node (bodies_on old)) result new
+
+-- a uid has the next number behind another one
+abbrev pub IsNextNumber : Option Uid → Option Uid → Type 0
+IsNextNumber (Some one) (Some two) = (two.node ≡ one.node) × (two.epoch ≡ one.epoch) × (two.serial ≡ one.serial + 1)
+IsNextNumber _ _ = ⊥
+
+-- nothing is kept under the uids of Ejects behind this one, or under any, and before that one
+abbrev pub IsNoneBetween : ℕ → SideSeen → Option Uid → Option Uid → Type 0
+IsNoneBetween node side from next = (uid : Uid) → IsEject node uid → IsBehind from uid → IsBefore next uid → map.get (bodies_on side) uid ≡ None
+
+-- A look at what both disks keep under one uid.
+pub record LooksAtBoth (layout : Layout) (node : ℕ) (uid : Uid) (result : Result Bool TwinRefusal) (source new old to : SideSeen) : Type 0 where
+  pub source_stays : IsAtRest layout node source → Bore layout node (λ m. Same m (bodies_on source)) result new
+  pub target_stays : IsAtRest layout node old → Bore layout node (λ m. Same m (bodies_on old)) result to
+  pub alike : IfOk result (λ is. is ≡ true → is_in_use source ≡ true → is_in_use old ≡ true
+      → map.get (bodies_on old) uid ≡ map.get (bodies_on source) uid)
+
+-- A look at all that both disks keep of Ejects.
+pub record Compares (layout : Layout) (node : ℕ) (result : Result Bool TwinRefusal) (source new old to : SideSeen) : Type 0 where
+  pub source_stays : Bore layout node (λ m. Same m (bodies_on source)) result new
+  pub target_stays : Bore layout node (λ m. Same m (bodies_on old)) result to
+  pub alike : IfOk result (λ is. is ≡ true → is_in_use new ≡ true → is_in_use to ≡ true
+      → SameEjects node (bodies_on old) (bodies_on source))

@@ -1,6 +1,7 @@
 pub mod Copies
 pub mod Footings
 pub mod Ranks
+pub mod Rooms
 pub mod Serving
 pub mod Sides
 pub mod Twins

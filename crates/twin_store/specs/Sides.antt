@@ -13,7 +13,7 @@ use Rattle.twin_store.specs.declared.served.TwinRefusal.{TwinRefusal}
 use Rattle.twin_store.specs.declared.served.TwinRefusal.TheVariants.{Full}
 use Rattle.twin_store.specs.declared.side.Side.{Side}
 use Rattle.twin_store.specs.declared.side.Side.TheVariants as side
-use Rattle.twin_store.specs.Vouched.{Bodies, changed_by, generation_in}
+use Rattle.twin_store.specs.Vouched.{Bodies, changed_by, generation_in, bodies_found}
 use Rattle.twin_store.specs.Footings.{Footing, MayFind, IsFooted, Finds, IsMapped}
 use Rattle.twin_store.specs.Serving.{IsReady, MayKeep, Same, IsPassedOn, stops_by, has_room_in, IsFullIn}
 
@@ -148,16 +148,22 @@ IsLostDisk tells layout node old new =
     (new.counts.faults ≡ one_more old.counts.faults)
     ⊎ ((new.counts.faults ≡ old.counts.faults) × (IsTrue tells → IsUnmapped layout node old))
 
+-- An image that keeps too much to be opened is not opened: where nothing else refused it, its disk met a fault.
+abbrev pub FitsOrFailed : Layout → ℕ → DiskSeen → DiskSeen → Type 0
+FitsOrFailed layout node old new =
+    layout.is_overfull node (contents old.told).now ≡ true → new.counts.faults ≡ one_more old.counts.faults
+
 -- What an opening leaves of a disk of which this may be found: a store in use keeps one of these maps, and else all stands as it was.
 abbrev pub IsOpenedOn : Layout → ℕ → Footing → SideSeen → Type 0
 IsOpenedOn layout node footing (InUse s) = MayFind footing (Ok s.kept)
 IsOpenedOn layout node footing (Away d) = IsFooted layout node footing d.told
 
--- A disk is in use behind an opening, and met no fault in it, or it is lost.
+-- A disk is in use behind an opening, met no fault in it, and its image does not keep too much to be opened; or it is lost.
 pub record IsOpenedBy (tells : Bool) (layout : Layout) (node : ℕ) (old : DiskSeen) (new : SideSeen) : Type 0 where
   pub size : (disk_of new).counts.size ≡ old.counts.size
   pub used : is_in_use new ≡ true → (disk_of new).counts.faults ≡ old.counts.faults
   pub away : is_in_use new ≡ false → IsLostDisk tells layout node old (disk_of new)
+  pub fits : IsTrue tells → is_in_use new ≡ true → layout.is_overfull node (contents old.told).now ≡ false
 
 -- A disk was opened.
 pub record IsOpenedSide (tells : Bool) (layout : Layout) (node : ℕ) (old : DiskSeen) (new : SideSeen) : Type 0 where
@@ -169,6 +175,7 @@ pub record IsOpenedSide (tells : Bool) (layout : Layout) (node : ℕ) (old : Dis
   pub found : IsTrue tells → (footing : Footing) → IsFooted layout node footing old.told
       → MayFind footing (layout.map_of node (contents old.told).now)
   pub sound : IsTrue tells → IsLayout layout → is_in_use new ≡ true → IsSound node (bodies_on new)
+  pub map : IsTrue tells → is_in_use new ≡ true → bodies_found (layout.map_of node (contents old.told).now) ≡ Some (bodies_on new)
 
 -- Some calls on one disk of a pair.
 pub record SideMoves {T : Type 0} (node : ℕ) (result : Result T TwinRefusal) (old new : SideSeen) : Type 0 where

@@ -1,23 +1,24 @@
 -- What is seen of a twin, and what each call leaves of it.
-use Rattle.std.specs.Prelude.{◌≡◌, ◌⊎◌, ℕ, ◌+◌, ◌≤◌, ◌<◌, ◌&&◌, max, nat_lt, unwrap_or, Bool, true, false, IsTrue, List, Option, None, Some}
-use Rattle.std.specs.Prelude.{Result, Ok, Err, OnOk, OnErr, IfErr, IfOk}
+use Rattle.std.specs.Prelude.{◌≡◌, ◌⊎◌, ◌↔◌, ℕ, ◌+◌, ◌≤◌, ◌<◌, ◌&&◌, max, nat_lt, unwrap_or, Bool, true, false, IsTrue, List}
+use Rattle.std.specs.Prelude.{Option, None, Some, Result, Ok, Err, OnOk, OnErr, IfErr, IfOk}
 use Rattle.std.specs.FinMap as map
 use Rattle.capability.specs.declared.Uid.{Uid}
 use Rattle.eden_disk.specs.Calls.{Counts, one_more}
-use Rattle.eden_disk.specs.Told.{Told}
+use Rattle.eden_disk.specs.Told.{Told, contents}
 use Rattle.passive_store.specs.Kept.{Layout}
 use Rattle.passive_store.specs.Layout.{IsLayout}
 use Rattle.passive_store.specs.Seen.{Seen, DiskSeen, Asked}
 use Rattle.twin_store.specs.declared.served.TwinRefusal.{TwinRefusal}
 use Rattle.twin_store.specs.declared.served.TwinRefusal.TheVariants.{Lost, Full, GenerationsSpent}
 use Rattle.twin_store.specs.declared.twin.TwinStore.{TwinStore}
-use Rattle.twin_store.specs.Vouched.{Bodies, SameEjects, changed_by, generation_in, Vow, IsHeld, IsOwnChange, IsVouched}
+use Rattle.twin_store.specs.Vouched.{Bodies, SameEjects, changed_by, generation_in, generation_of, bodies_found, Vow, IsHeld, IsOwnChange}
+use Rattle.twin_store.specs.Vouched.{IsVouched}
 use Rattle.twin_store.specs.Footings.{Finds, IsMapped, IfMapped, AreVouched}
 use Rattle.twin_store.specs.Serving.{IsPassedOn, IfFound, Same}
 use Rattle.twin_store.specs.Sides.{SideSeen, InUse, Away, side_seen, is_in_use, disk_of, bodies_on, IsSideReady, IsReadyBy, IsKept, IsSound}
 use Rattle.twin_store.specs.Sides.{SideGoes, SideArms, StopsBy, StopsOne, IsFullOn, HasLeft}
 use Rattle.eden_disk.specs.declared.disk.Arm.{Arm}
-use Rattle.twin_store.specs.Sides.{IsOpenedBy, SideMoves, Bore}
+use Rattle.twin_store.specs.Sides.{IsOpenedBy, IsLostDisk, FitsOrFailed, SideMoves, Bore}
 use Rattle.twin_store.specs.Copies.{IsAtRest}
 
 -- What is seen of a twin.
@@ -115,11 +116,22 @@ abbrev pub IsFullTwin : Bool → Layout → Option Asked → TwinSeen → TwinSe
 IsFullTwin tells layout c old new =
     (IsFullOn tells layout c old.first ⊎ IsFullOn tells layout c old.second) ⊎ (HasLeft old.first new.first ⊎ HasLeft old.second new.second)
 
+-- A disk left use in a call and the other one did not, so that its generation was to be raised; and it is the greatest.
+abbrev pub IsSpent : TwinSeen → TwinSeen → Type 0
+IsSpent old new = (old.generation ≡ 4294967295)
+    × ((HasLeft old.first new.first × (is_in_use new.second ≡ true)) ⊎ (HasLeft old.second new.second × (is_in_use new.first ≡ true)))
+
+-- GenerationsSpent is answered exactly where this is so.
+abbrev pub SpentWhere : {T : Type 0} → Result T TwinRefusal → Type 0 → Type 0
+SpentWhere (Ok value) P = P → ⊥
+SpentWhere (Err e) P = (e ≡ GenerationsSpent) ↔ P
+
 -- A change of what both disks keep, or none.
 pub record TwinChanges {T : Type 0} (tells : Bool) (layout : Layout) (c : Option Asked) (result : Result T TwinRefusal)
     (old new : TwinSeen) : Type 0 where
   pub goes : TwinGoes result old new
   pub full : IfErr result (λ e. e ≡ Full → IsFullTwin tells layout c old new)
+  pub spent : SpentWhere result (IsSpent old new)
   -- behind a change that was made, what is held has it
   pub held : IsTrue tells → OnOk result ((held : Bodies) → Holds layout held old → Holds layout (changed_by c held) new)
   pub sure : IsTrue tells → OnOk result ((held : Bodies) → Holds layout held old → IsSure layout old → IsSure layout new)
@@ -131,8 +143,9 @@ pub record ChangesFirst {T : Type 0} (tells : Bool) (layout : Layout) (c : Optio
     (old new : TwinSeen) : Type 0 where
   pub goes : TwinGoes result old new
   pub full : IfErr result (λ e. e ≡ Full → IsFullTwin tells layout c old new)
+  pub spent : SpentWhere result (IsSpent old new)
   -- where the first disk stays in use, the second is not called
-  pub other : OnOk result (is_in_use new.first ≡ is_in_use old.first → new.second ≡ old.second)
+  pub other : OnOk result (is_in_use new.first ≡ is_in_use old.first → (new.second ≡ old.second) × (new.generation ≡ old.generation))
   pub held : IsTrue tells → OnOk result ((held : Bodies) → Holds layout held old → TwinHas layout (changed_by c held) held new)
   pub sure : IsTrue tells → OnOk result ((held : Bodies) → Holds layout held old → IsSure layout old → IsSure layout new)
   pub vouched : IsTrue tells → OnErr result ((held : Bodies) → Holds layout held old → IsSure layout old → LeavesVouched layout held c new)
@@ -142,6 +155,7 @@ pub record ChangesSecond {T : Type 0} (tells : Bool) (layout : Layout) (c : Opti
     (old new : TwinSeen) : Type 0 where
   pub goes : TwinGoes result old new
   pub full : IfErr result (λ e. e ≡ Full → IsFullOn tells layout c old.second ⊎ HasLeft old.second new.second)
+  pub spent : SpentWhere result (IsSpent old new)
   pub held : IsTrue tells
       → OnOk result ((held : Bodies) → TwinHas layout (changed_by c held) held old → Holds layout (changed_by c held) new)
   pub sure : IsTrue tells
@@ -198,8 +212,9 @@ pub record Raises (tells : Bool) (layout : Layout) (node generation : ℕ) (resu
   pub ready : IsReadyBy node result new
   pub used : OnOk result (is_in_use new ≡ true)
   pub next : IfOk result (λ n. n ≡ generation + 1)
+  pub small : IfOk result (λ n. n ≤ 4294967295)
   pub lost : IfErr result (λ e. e ≡ Lost → is_in_use new ≡ false)
-  pub spent : IfErr result (λ e. e ≡ GenerationsSpent → generation ≡ 4294967295)
+  pub spent : SpentWhere result ((generation ≡ 4294967295) × (is_in_use new ≡ true))
   -- each image has the Ejects that it had, and the generation that it had or the next
   pub leaves : IsTrue tells → is_in_use old ≡ true → IsKept layout node old
       → Finds layout node (IsMapped (IsRaised node (generation + 1) (bodies_on old))) (disk_of new).told
@@ -254,11 +269,18 @@ pub record AreRead (t : TwinSeen) (first second : Option ℕ) : Type 0 where
   pub second_is : IsGenerationOf t.node second t.second
   pub greatest : t.generation ≡ max (unwrap_or first 0) (unwrap_or second 0)
 
+-- Of both disks, as far as they are in use, what is kept is as it was.
+pub record IsReadOnly (old new : TwinSeen) : Type 0 where
+  pub node : new.node ≡ old.node
+  pub first : is_in_use new.first ≡ true → Same (bodies_on new.first) (bodies_on old.first)
+  pub second : is_in_use new.second ≡ true → Same (bodies_on new.second) (bodies_on old.second)
+
 -- A look at the generations of both disks.
 pub record ReadsBoth (layout : Layout) (result : Result (Option ℕ × Option ℕ) TwinRefusal) (old new : TwinSeen) : Type 0 where
   pub steps : StepsVouched layout result old new
   pub rest : OnOk result (AreAtRest layout new)
   pub read : IfOk result (λ r. AreRead new r.0 r.1)
+  pub stays : OnOk result (IsReadOnly old new)
 
 -- Both disks are in use, and the generation of one is less than that of the other, which is the twin's.
 pub record IsLess (layout : Layout) (node generation : ℕ) (lesser right : SideSeen) : Type 0 where
@@ -295,6 +317,53 @@ pub record Agrees {T : Type 0} (layout : Layout) (result : Result T TwinRefusal)
   pub covered : OnOk result ((v : Vow) → Claims v new → SidesVouched layout v old.first old.second → IsCovered v
       → IsSure layout new × SidesVouched layout v new.first new.second)
 
+-- one disk is in use, and the other is not
+abbrev pub IsAlone : TwinSeen → Type 0
+IsAlone t = ((is_in_use t.first ≡ true) × (is_in_use t.second ≡ false)) ⊎ ((is_in_use t.first ≡ false) × (is_in_use t.second ≡ true))
+
+-- a generation as it was, or the first one in place of none
+abbrev pub IsGenerationKept : ℕ → ℕ → Type 0
+IsGenerationKept old new = (new ≡ old) ⊎ ((old ≡ 0) × (new ≡ 1))
+
+-- No disk that is in use had a greater generation than the twin, and neither it nor the first one is less.
+pub record Gathers (old new : TwinSeen) : Type 0 where
+  pub first : is_in_use new.first ≡ true → generation_in old.node (bodies_on old.first) ≤ new.generation
+  pub second : is_in_use new.second ≡ true → generation_in old.node (bodies_on old.second) ≤ new.generation
+  pub within : new.generation
+      ≤ max 1 (max (generation_in old.node (bodies_on old.first)) (generation_in old.node (bodies_on old.second)))
+
+-- A disk that is left alone gets the next generation, where there is one.
+pub record RaisesAlone {T : Type 0} (result : Result T TwinRefusal) (old new : TwinSeen) : Type 0 where
+  pub spent : IfErr result (λ e. e ≡ GenerationsSpent → (old.generation ≡ 4294967295) × IsAlone new)
+  pub next : OnOk result (IsAlone new → (new.generation ≡ old.generation + 1) × (new.generation ≤ 4294967295))
+
+-- The same behind a copy: so the generation of a disk that is left alone was not the greatest, or that of a disk was.
+pub record AgreesAlone {T : Type 0} (result : Result T TwinRefusal) (old new : TwinSeen) : Type 0 where
+  pub spent : IfErr result (λ e. e ≡ GenerationsSpent
+      → 4294967295 ≤ max (generation_in old.node (bodies_on old.first)) (generation_in old.node (bodies_on old.second)))
+  pub first : OnOk result (IsAlone new → is_in_use new.first ≡ true → generation_in old.node (bodies_on old.first) < 4294967295)
+  pub second : OnOk result (IsAlone new → is_in_use new.second ≡ true → generation_in old.node (bodies_on old.second) < 4294967295)
+
+-- the generation that an image has: that of its map, or 0
+abbrev pub generation_on : Layout → ℕ → DiskSeen → ℕ
+generation_on layout node d = generation_of node (bodies_found (layout.map_of node (contents d.told).now))
+
+-- A disk was opened, and met no fault.
+pub record IsSpared (tells : Bool) (layout : Layout) (node : ℕ) (old new : DiskSeen) : Type 0 where
+  pub faults : new.counts.faults ≡ old.counts.faults
+  pub mapped : IsTrue tells → (m : Bodies) × (bodies_found (layout.map_of node (contents old.told).now) ≡ Some m)
+
+-- An opening was refused since one disk was lost, the other was not, and the greater of their generations is the greatest there is.
+pub record IsSpentOpening (tells : Bool) (layout : Layout) (node : ℕ) (first one second two : DiskSeen) : Type 0 where
+  pub alone : (IsSpared tells layout node first one × IsLostDisk tells layout node second two)
+      ⊎ (IsLostDisk tells layout node first one × IsSpared tells layout node second two)
+  pub greatest : IsTrue tells → IsLayout layout → 4294967295 ≤ max (generation_on layout node first) (generation_on layout node second)
+
+-- An opening that leaves one disk alone found another generation on it than the greatest there is.
+pub record IsLeftAlone (layout : Layout) (node : ℕ) (first second : DiskSeen) (t : TwinSeen) : Type 0 where
+  pub first_left : is_in_use t.first ≡ true → is_in_use t.second ≡ false → generation_on layout node first < 4294967295
+  pub second_left : is_in_use t.first ≡ false → is_in_use t.second ≡ true → generation_on layout node second < 4294967295
+
 -- whether a disk met no fault between these counts
 abbrev pub is_spared : Counts → Counts → Bool
 is_spared old new = nat_lt new.faults (one_more old.faults)
@@ -303,6 +372,10 @@ is_spared old new = nat_lt new.faults (one_more old.faults)
 abbrev pub spared : Vow → DiskSeen → DiskSeen → DiskSeen → DiskSeen → Vow
 spared v first one second two =
     vow v.node v.held v.begun (v.first && is_spared first.counts one.counts) (v.second && is_spared second.counts two.counts)
+
+-- A refusal is Full, Stopped, or for want of memory; or no image keeps too much to be opened, but on a disk that met a fault.
+abbrev pub FullOrFits : Layout → ℕ → TwinRefusal → DiskSeen → DiskSeen → DiskSeen → DiskSeen → Type 0
+FullOrFits layout node e first one second two = IsPassedOn e ⊎ (FitsOrFailed layout node first one × FitsOrFailed layout node second two)
 
 -- What a twin that was opened has. Where a disk that vouched met no fault, that is held, with or without the change begun.
 pub record IsRight (layout : Layout) (node : ℕ) (first second : DiskSeen) (t : TwinSeen) : Type 0 where
@@ -322,6 +395,9 @@ pub record IsOpenedTwin (tells : Bool) (layout : Layout) (node : ℕ) (first sec
   pub first_stops : (disk_of t.first).counts.stops ≡ first.counts.stops
   pub second_stops : (disk_of t.second).counts.stops ≡ second.counts.stops
   pub right : IsTrue tells → IsLayout layout → IsRight layout node first second t
+  pub alone : IsTrue tells → IsLayout layout → IsLeftAlone layout node first second t
+  pub fits : IsTrue tells → IsLayout layout
+      → FitsOrFailed layout node first (disk_of t.first) × FitsOrFailed layout node second (disk_of t.second)
 
 -- What two disks vouched for before an opening that was refused, they vouch for behind it, but for a disk that met a fault.
 abbrev pub StaysVouched : Bool → Layout → ℕ → DiskSeen → DiskSeen → DiskSeen → DiskSeen → Type 0

@@ -47,8 +47,8 @@ fn clear<St: Store>(
     Ok(())
 }
 
-// Whether the target keeps just this body under a uid.
-fn has_already<St: Store>(
+/// Whether the target keeps just this body under a uid.
+pub(crate) fn has_already<St: Store>(
     alloc: Global,
     target: &mut Side<St>,
     node: u8,
@@ -61,9 +61,6 @@ fn has_already<St: Store>(
     ensures looks { let of = side_seen St.seen (disk_seen St.Device.counts St.Device.told St.Device.due) in
         IsTrue St.Device.tells → LooksFor St.layout node uid body.now result (of target.old) (of target.new) }
 {
-    if !target.holds(uid) {
-        return Ok(false);
-    }
     match target.get(alloc, node, uid)? {
         Some(Some(found)) => Ok(found.as_slice() == body.as_slice()),
         Some(None) => Ok(false),

@@ -1,16 +1,19 @@
 //! A store over two disks.
-ghost use Rattle.std.specs.Prelude.{◌≡◌, ◌⊎◌, ◌≤◌, ◌<◌, Bool, Option, IsTrue, OnOk, IfOk, IfErr, Result, length};
-ghost use Rattle.twin_store.specs.declared.served.TwinRefusal.TheVariants.{Lost, Full};
+ghost use Rattle.std.specs.Prelude.{◌≡◌, ◌⊎◌, ◌↔◌, ◌≤◌, ◌<◌, Bool, Option, IsTrue, OnOk, IfOk, IfErr, Result, length};
+ghost use Rattle.twin_store.specs.declared.served.TwinRefusal.TheVariants.{Lost, Full, GenerationsSpent};
 ghost use Rattle.eden_disk.specs.Calls.{calls_until};
 ghost use Rattle.passive_store.specs.Kept.{IsEject};
 ghost use Rattle.passive_store.specs.Seen.{asked, disk_seen};
 ghost use Rattle.twin_store.specs.Sides.{is_in_use, disk_of, IsLostDisk};
 ghost use Rattle.twin_store.specs.Twins.{twin_seen, IsTwinReady, LooksFirst, TwinGets, TwinChanges, ChangesFirst, ChangesSecond};
 ghost use Rattle.twin_store.specs.Twins.{AreReady, TwinMoves, TwinGoes, IsOpenedTwin, StaysVouched, AreAtRest, ReadsBoth, IsLess};
-ghost use Rattle.twin_store.specs.Sides.{RoseOnce, StopsAt, IsShortOn, HasRoomOn, LacksRoom};
-ghost use Rattle.twin_store.specs.Twins.{TwinArms};
+ghost use Rattle.twin_store.specs.Sides.{RoseOnce, StopsAt, IsShortOn, HasRoomOn};
+ghost use Rattle.passive_store.specs.Layout.{IsLayout};
+ghost use Rattle.twin_store.specs.Twins.{FullOrFits, TwinArms, IsAlone, IsGenerationKept, Gathers, RaisesAlone, AgreesAlone, IsSpentOpening};
+ghost use Rattle.twin_store.specs.Rooms.{RoomIsLength, AllTellRoom, IsShort};
 ghost use Rattle.twin_store.specs.Twins.{AreRead, IsEven, IsBrought, IsLevel, Levels, Agrees};
 
+use crate::comparing::bring;
 use crate::copying::copy;
 use crate::generations::{generation, put_generation, raise};
 use crate::served::TwinRefusal;
@@ -65,6 +68,18 @@ impl<St: Store> TwinStore<St> {
         // Stopped comes only where the count of stops of a disk rose in this call.
         ensures stopped { let look = disk_seen St.Device.counts St.Device.told St.Device.due in
             IfErr result (λ r. StopsAt r.2 (look first) (look r.0) (look second) (look r.1)) }
+
+        // GenerationsSpent comes only where one disk is lost and the greatest generation is found, and an opening that leaves one
+        // disk found another generation on it (`opened`).
+        ensures spent { let look = disk_seen St.Device.counts St.Device.told St.Device.due in
+            IfErr result (λ r. r.2 ≡ GenerationsSpent
+            → IsSpentOpening St.Device.tells St.layout node (look first) (look r.0) (look second) (look r.1)) }
+
+        // An image that keeps too much to be opened is refused as Full, but where its disk fails, or a stop or want of memory
+        // comes first.
+        ensures overfull { let look = disk_seen St.Device.counts St.Device.told St.Device.due in IsTrue St.Device.tells
+            → IsLayout St.layout
+            → IfErr result (λ r. FullOrFits St.layout node r.2 (look first) (look r.0) (look second) (look r.1)) }
     {
         let first = match Side::open(alloc, first, node) {
             Ok(side) => side,
@@ -99,8 +114,12 @@ impl<St: Store> TwinStore<St> {
 
         // Where a disk in use tells that it has no room, the put is refused, and nothing changes.
         ensures short { let of = twin_seen St.seen (disk_seen St.Device.counts St.Device.told St.Device.due) in IsTrue St.Device.tells
-            → LacksRoom St.layout (length body.now) (of self.old).first ⊎ LacksRoom St.layout (length body.now) (of self.old).second
-            → (result ≡ Result.Err Full) × (of self.new ≡ of self.old) }
+            → IsShort St.layout (length body.now) (of self.old) → (result ≡ Result.Err Full) × (of self.new ≡ of self.old) }
+
+        // Where the disks in use tell their room, and none leaves use, it is refused so exactly there.
+        ensures exact { let of = twin_seen St.seen (disk_seen St.Device.counts St.Device.told St.Device.due) in IsTrue St.Device.tells
+            → RoomIsLength St.layout → AllTellRoom (of self.old) (of self.new)
+            → (result ≡ Result.Err Full) ↔ IsShort St.layout (length body.now) (of self.old) }
     {
         let length = body.len();
         if !self.has_room(length) {
@@ -321,6 +340,10 @@ impl<St: Store> TwinStore<St> {
             TwinGoes result (of self.old) (of self.new) }
         ensures agrees { let of = twin_seen St.seen (disk_seen St.Device.counts St.Device.told St.Device.due) in
             IsTrue St.Device.tells → AreAtRest St.layout (of self.old) → Agrees St.layout result (of self.old) (of self.new) }
+        ensures alone { let of = twin_seen St.seen (disk_seen St.Device.counts St.Device.told St.Device.due) in
+            IfErr result (λ e. e ≡ GenerationsSpent → IsAlone (of self.new)) }
+        ensures greatest { let of = twin_seen St.seen (disk_seen St.Device.counts St.Device.told St.Device.due) in
+            IsTrue St.Device.tells → AreAtRest St.layout (of self.old) → AgreesAlone result (of self.old) (of self.new) }
     {
         self.copy_right(alloc)?;
         self.leave_one(alloc)
@@ -333,6 +356,8 @@ impl<St: Store> TwinStore<St> {
             TwinMoves result (of self.old) (of self.new) }
         ensures levels { let of = twin_seen St.seen (disk_seen St.Device.counts St.Device.told St.Device.due) in
             IsTrue St.Device.tells → AreAtRest St.layout (of self.old) → Levels St.layout result (of self.old) (of self.new) }
+        ensures gathers { let of = twin_seen St.seen (disk_seen St.Device.counts St.Device.told St.Device.due) in
+            IsTrue St.Device.tells → AreAtRest St.layout (of self.old) → OnOk result (Gathers (of self.old) (of self.new)) }
     {
         let (first, second) = self.read_generations(alloc)?;
         match first {
@@ -352,6 +377,7 @@ impl<St: Store> TwinStore<St> {
         ensures levels { let of = twin_seen St.seen (disk_seen St.Device.counts St.Device.told St.Device.due) in
             IsTrue St.Device.tells → AreAtRest St.layout (of self.old) → AreRead (of self.old) (Option.Some first) (Option.Some second)
             → Levels St.layout result (of self.old) (of self.new) }
+        ensures kept { IsGenerationKept self.old.generation self.new.generation }
     {
         if first < second {
             return self.refill_first(alloc);
@@ -384,6 +410,8 @@ impl<St: Store> TwinStore<St> {
             TwinGoes result (of self.old) (of self.new) }
         ensures agrees { let of = twin_seen St.seen (disk_seen St.Device.counts St.Device.told St.Device.due) in
             IsTrue St.Device.tells → IsLevel St.layout (of self.old) → Agrees St.layout result (of self.old) (of self.new) }
+        ensures raises { let of = twin_seen St.seen (disk_seen St.Device.counts St.Device.told St.Device.due) in
+            RaisesAlone result (of self.old) (of self.new) }
     {
         let node = self.node;
         let generation = self.generation;
@@ -403,6 +431,7 @@ impl<St: Store> TwinStore<St> {
         ensures levels { let of = twin_seen St.seen (disk_seen St.Device.counts St.Device.told St.Device.due) in
             IsTrue St.Device.tells → IsLess St.layout (of self.old).node (of self.old).generation (of self.old).first (of self.old).second
             → Levels St.layout result (of self.old) (of self.new) }
+        ensures kept { self.new.generation ≡ self.old.generation }
     {
         let node = self.node;
         let generation = self.generation;
@@ -421,6 +450,7 @@ impl<St: Store> TwinStore<St> {
         ensures levels { let of = twin_seen St.seen (disk_seen St.Device.counts St.Device.told St.Device.due) in
             IsTrue St.Device.tells → IsLess St.layout (of self.old).node (of self.old).generation (of self.old).second (of self.old).first
             → Levels St.layout result (of self.old) (of self.new) }
+        ensures kept { self.new.generation ≡ self.old.generation }
     {
         let node = self.node;
         let generation = self.generation;
@@ -439,9 +469,10 @@ impl<St: Store> TwinStore<St> {
         ensures levels { let of = twin_seen St.seen (disk_seen St.Device.counts St.Device.told St.Device.due) in
             IsTrue St.Device.tells → IsEven St.layout (of self.old).node (of self.old).generation (of self.old).first (of self.old).second
             → Levels St.layout result (of self.old) (of self.new) }
+        ensures kept { IsGenerationKept self.old.generation self.new.generation }
     {
         let node = self.node;
-        copy(alloc, false, &mut self.first, &mut self.second, node)?;
+        bring(alloc, &mut self.first, &mut self.second, node)?;
         if self.generation == 0 {
             return self.begin_both(alloc);
         }
@@ -456,6 +487,7 @@ impl<St: Store> TwinStore<St> {
             TwinMoves result (of self.old) (of self.new) }
         ensures levels { let of = twin_seen St.seen (disk_seen St.Device.counts St.Device.told St.Device.due) in
             IsTrue St.Device.tells → IsBrought St.layout (of self.old) → Levels St.layout result (of self.old) (of self.new) }
+        ensures kept { IsGenerationKept self.old.generation self.new.generation }
     {
         let node = self.node;
         if !self.first.in_use() {

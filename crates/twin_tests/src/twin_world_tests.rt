@@ -80,6 +80,12 @@ const ROWS: &[(&str, &str)] = &[
         "twins\nopen 1\nget 1 1\ndelete 1 1\nclose 1\nfail 1 1\nfail 2 1\nopen 1\nopen 1\nend\n",
         "open 1 both\nget 1 1 none\ndelete 1 1 ok\nclose 1\nopen 1 lost\nopen 1 both\n",
     ),
+    // the disk that is right fails while it fills the other, in its device call 72: behind 69 of its opening, the look at its
+    // generation and at the first text
+    (
+        "twins\nopen 1\nput 1 1 \"a\"\nput 1 2 \"b\"\nfail 2 1\nput 1 1 \"c\"\nclose 1\nfail 1 72\nopen 1\nget 1 1\nget 1 2\nclose 1\nopen 1\nget 1 2\nend\n",
+        "open 1 both\nput 1 1 ok\nput 1 2 ok\nput 1 1 ok\nclose 1\nopen 1 second\nget 1 1 \"c\"\nget 1 2 none\nclose 1\nopen 1 both\nget 1 2 none\n",
+    ),
     ("twins\nend\n", ""),
 ];
 
@@ -281,4 +287,47 @@ fn each_blanking_is_withstood(rt: HostRuntime) {
             assert!(rt; withstands_blank(&rt, alloc, disk, behind));
         }
     }
+}
+
+/// A line that puts a text of one byte.
+fn put_line(rt: &impl Abort, script: &mut String, serial: u32) {
+    script.push_str("put 1 ").expect(rt, "memory");
+    number(rt, script, serial);
+    script.push_str(" \"a\"\n").expect(rt, "memory");
+}
+
+/// Whether a change was made, had no room, or neither.
+fn letter(answer: &Answer) -> u8 {
+    match answer {
+        Answer::Made => b'm',
+        Answer::NoRoom => b'f',
+        _ => b'o',
+    }
+}
+
+/// What the commands of a script are answered, a letter each.
+fn answered(rt: &impl Abort, alloc: Global, script: &str) -> Vec<u8> {
+    let mut letters = Vec::new(alloc);
+    if let Some(done) = carried(rt, alloc, script) {
+        for entry in &done.log.entries {
+            letters.push(letter(&entry.answer)).expect(rt, "memory");
+        }
+    }
+    letters
+}
+
+/// Of 64 texts 59 find room, since of 61 blocks one has the generation and one stays free; a removal needs none.
+const ANSWERED: &[u8] = b"ommmmmmmmmmmmmmmmmmmmmmmmmmmmmmmmmmmmmmmmmmmmmmmmmmmmmmmmmmmfffffmmmo";
+
+#[test]
+fn a_put_without_room_changes_nothing(rt: HostRuntime) {
+    let alloc = rt.alloc();
+    let mut script = String::from_str(alloc, "twins\nopen 1\n").expect(&rt, "memory");
+    for serial in 1..=64u32 {
+        put_line(&rt, &mut script, serial);
+    }
+    script
+        .push_str("delete 1 64\ndelete 1 1\nput 1 64 \"b\"\nget 1 64\nend\n")
+        .expect(&rt, "memory");
+    assert!(rt; answered(&rt, alloc, script.as_str()).as_slice() == ANSWERED);
 }

@@ -331,7 +331,7 @@ acts-full tells layout n serial text d t is first second short = record {
   told = same-told (entry_by (puts n serial text) d) (Serving t) first second (stop-as (answer_of d.answer) NoRoom false is refl);
   caused = record { room = λ none. short; full = λ f. absurd (cc (sym is ∙ f)); lost = λ f. absurd (cc (sym is ∙ f)) };
   turns = λ so l z can. turn-as layout n (puts n serial text) d NoRoom (Serving t) (Serving t) is
-      (λ p m s. (m, (s.up, λ k. refl), s));
+      (λ p m s. (m, (s.up, (refl, λ k. refl)), s));
 }
 
 -- 4. Openings
@@ -414,14 +414,13 @@ acts-shut tells layout n a b one two three four new why x y (Ok d) wa wb stays l
   turns = λ so l z can. turn-as layout n (opens n) d (Refused why) (Resting a b) new (ap answer_of answer)
       (λ p m r.
       let e : Entry = record { command = opens n; answer = Refused why; first_failed = d.first_failed; second_failed = d.second_failed }
-      in (
-        m,
-        (r.down, (want, λ k. refl)),
-        left-stands tells layout n (open_by (Refused why) e p) m three four new so left
-            (shut-is-step layout n p m why e one three two four l (rests-woken tells layout n p m a b one two so wa wb r)
-            (subst (λ (x : Bool). StaysVouched x layout n one three two four) so stays)
-            (record { first_met = f ∙ first; second_met = g ∙ second })),
-      ));
+      in
+      let s = shut-is-step layout n p m why e one three two four l (is-whole tells a one so wa can.0) (is-whole tells b two so wb can.1.0)
+      want (rests-woken tells layout n p m a b one two so wa wb r)
+      (λ is. subst (λ (x : Bool). IsLostDisk x layout n one three × IsLostDisk x layout n two four) so (lost is))
+      (subst (λ (x : Bool). StaysVouched x layout n one three two four) so stays)
+      (record { first_met = f ∙ first; second_met = g ∙ second }) in
+      (m, (r.down, s.0), left-stands tells layout n (open_by (Refused why) e p) m three four new so left s.1));
 }
 acts-shut tells layout n a b one two three four new why x y (Err e) wa wb stays lost rose halt left first second answer f g want = record {
   sound = λ h. left-sound tells n three four new left;

@@ -7,15 +7,18 @@ use Rattle.std.proofs.lemmas.Bool.{ltb-true, lt-ltb}
 use Rattle.eden_disk.specs.Calls.{one_more}
 use Rattle.eden_disk.specs.Told.{contents}
 use Rattle.passive_store.specs.Kept.{Layout}
+use Rattle.passive_store.specs.Layout.{IsLayout}
 use Rattle.passive_store.specs.Seen.{DiskSeen}
+use Rattle.twin_store.specs.declared.served.TwinRefusal.{TwinRefusal}
 use Rattle.twin_store.specs.Vouched.{Bodies, SameEjects, changed_by as bodies_by, bodies_found, Vow, IsHeld, IsOwnChange, VouchBy}
 use Rattle.twin_store.specs.Vouched.{IsVouched}
 use Rattle.twin_store.specs.Footings.{AreVouched}
-use Rattle.twin_store.specs.Sides.{SideSeen, is_in_use, disk_of, IsOpenedBy}
-use Rattle.twin_store.specs.Twins.{TwinSeen, vow, is_spared, spared, IsOpenedTwin, IsCovered}
+use Rattle.twin_store.specs.Sides.{SideSeen, is_in_use, disk_of, IsOpenedBy, IsLostDisk}
+use Rattle.twin_store.specs.Twins.{TwinSeen, vow, is_spared, spared, IsOpenedTwin, StaysVouched, IsCovered}
 use Rattle.twin_store.proofs.Vouching.{one_of, images_are_vouched}
-use Rattle.twin_world.specs.Logs.{Entry, Texts, SameTexts, Change, texts_after, Pair, left_by, is_claimed, GivesHeld}
-use Rattle.twin_world.specs.InHand.{texts_in, asked_by, uid_of, Vouching, Rests}
+use Rattle.twin_world.specs.Logs.{Entry, Refused, Texts, SameTexts, Change, texts_after, Pair, left_by, is_claimed, is_covered, GivesHeld}
+use Rattle.twin_world.specs.Logs.{open_by}
+use Rattle.twin_world.specs.InHand.{texts_in, asked_by, uid_of, Vouching, Rests, IsNotedOpening}
 use Rattle.twin_world.specs.Steps.{IsWhole, OpeningIsStep, ShutIsStep}
 use Rattle.twin_world.proofs.Bridging.{own, texts-changed, vouched-as}
 
@@ -86,25 +89,38 @@ not-spared n e = let lt : n < n = ltb-true n n e in omega arith
 met-more : (old new : ℕ) → new ≡ one_more old → nat_lt new (one_more old) ≡ true → ⊥
 met-more old new e lt = not-spared (one_more old) (subst (λ k. nat_lt k (one_more old) ≡ true) e lt)
 
+-- one that vouches and is spared is not lost
+lost-first : (layout : Layout) (v : Vow) (first one second : DiskSeen) → IsWhole first → IsWhole second
+    → AreVouched layout v first.told second.told → IsLostDisk true layout v.node first one → v.first ≡ true
+    → is_spared first.counts one.counts ≡ true → ⊥
+lost-first layout v first one second wf ws h lost vouches spare =
+    one_of lost (λ e. met-more first.counts.faults one.counts.faults e spare)
+    (λ r. let place : (place : ℕ) × (layout.map_of v.node (contents first.told).now ≡ Err place) = r.1 refl in
+    no-map-first v v.first v.second (bodies_found (layout.map_of v.node (contents second.told).now)) vouches
+    (subst (λ found. IsVouched v (bodies_found found) (bodies_found (layout.map_of v.node (contents second.told).now))) place.1
+    (images_are_vouched layout v first.told second.told (contents first.told).now (contents second.told).now h wf.0 ws.0)))
+
+lost-second : (layout : Layout) (v : Vow) (first second two : DiskSeen) → IsWhole first → IsWhole second
+    → AreVouched layout v first.told second.told → IsLostDisk true layout v.node second two → v.second ≡ true
+    → is_spared second.counts two.counts ≡ true → ⊥
+lost-second layout v first second two wf ws h lost vouches spare =
+    one_of lost (λ e. met-more second.counts.faults two.counts.faults e spare)
+    (λ r. let place : (place : ℕ) × (layout.map_of v.node (contents second.told).now ≡ Err place) = r.1 refl in
+    no-map-second v v.first v.second (bodies_found (layout.map_of v.node (contents first.told).now)) vouches
+    (subst (λ found. IsVouched v (bodies_found (layout.map_of v.node (contents first.told).now)) (bodies_found found)) place.1
+    (images_are_vouched layout v first.told second.told (contents first.told).now (contents second.told).now h wf.0 ws.0)))
+
 first-in-use : (layout : Layout) (v : Vow) (first second : DiskSeen) (new : SideSeen) → IsWhole first → IsWhole second
     → AreVouched layout v first.told second.told → IsOpenedBy true layout v.node first new → v.first ≡ true
     → is_spared first.counts (disk_of new).counts ≡ true → is_in_use new ≡ true
 first-in-use layout v first second new wf ws h by vouches spare = one_of (used-or-not (is_in_use new)) (λ on. on)
-    (λ off. absurd (one_of (by.away off) (λ e. met-more first.counts.faults (disk_of new).counts.faults e spare)
-    (λ r. let place : (place : ℕ) × (layout.map_of v.node (contents first.told).now ≡ Err place) = r.1 refl in
-    no-map-first v v.first v.second (bodies_found (layout.map_of v.node (contents second.told).now)) vouches
-    (subst (λ found. IsVouched v (bodies_found found) (bodies_found (layout.map_of v.node (contents second.told).now))) place.1
-    (images_are_vouched layout v first.told second.told (contents first.told).now (contents second.told).now h wf.0 ws.0)))))
+    (λ off. absurd (lost-first layout v first (disk_of new) second wf ws h (by.away off) vouches spare))
 
 second-in-use : (layout : Layout) (v : Vow) (first second : DiskSeen) (new : SideSeen) → IsWhole first → IsWhole second
     → AreVouched layout v first.told second.told → IsOpenedBy true layout v.node second new → v.second ≡ true
     → is_spared second.counts (disk_of new).counts ≡ true → is_in_use new ≡ true
 second-in-use layout v first second new wf ws h by vouches spare = one_of (used-or-not (is_in_use new)) (λ on. on)
-    (λ off. absurd (one_of (by.away off) (λ e. met-more second.counts.faults (disk_of new).counts.faults e spare)
-    (λ r. let place : (place : ℕ) × (layout.map_of v.node (contents second.told).now ≡ Err place) = r.1 refl in
-    no-map-second v v.first v.second (bodies_found (layout.map_of v.node (contents first.told).now)) vouches
-    (subst (λ found. IsVouched v (bodies_found (layout.map_of v.node (contents first.told).now)) (bodies_found found)) place.1
-    (images_are_vouched layout v first.told second.told (contents first.told).now (contents second.told).now h wf.0 ws.0)))))
+    (λ off. absurd (lost-second layout v first second (disk_of new) wf ws h (by.away off) vouches spare))
 
 -- a disk in use met no fault
 unmet : (layout : Layout) (n : ℕ) (old : DiskSeen) (new : SideSeen) (failed : Bool) → IsWhole old → IsOpenedBy true layout n old new
@@ -189,8 +205,10 @@ opening-is-step = λ layout n p m e first second t lawful wf ws r o noted.
       },
     )
 
-pub shut-is-step : ShutIsStep
-shut-is-step = λ layout n p m x e first one second two lawful r stays noted. record {
+shut-rests : (layout : Layout) (n : ℕ) (p : Pair) (m : Texts) (x : TwinRefusal) (e : Entry) (first one second two : DiskSeen)
+    → IsLayout layout → Rests layout n p m first second → StaysVouched true layout n first one second two
+    → IsNotedOpening e first one second two → Rests layout n (open_by (Refused x) e p) m one two
+shut-rests layout n p m x e first one second two lawful r stays noted = record {
   down = refl;
   bodies = r.bodies;
   texts = r.texts;
@@ -204,3 +222,36 @@ shut-is-step = λ layout n p m x e first one second two lawful r stays noted. re
         (stays refl lawful (vow n r.bodies (asked_by n p.begun) p.first_vouches p.second_vouches) refl v.own v.vouched);
   };
 }
+
+-- where both disks are lost the opening is not claimed
+module _ (layout : Layout) (n : ℕ) (p : Pair) (m : Texts) (e : Entry) (first one second two : DiskSeen) (wf : IsWhole first)
+    (ws : IsWhole second) (r : Rests layout n p m first second) (noted : IsNotedOpening e first one second two)
+    (lost : IsLostDisk true layout n first one × IsLostDisk true layout n second two) where
+  none-left : (v : Vouching layout n p r.bodies first second)
+      → (left_by p.first_vouches e.first_failed ≡ true) ⊎ (left_by p.second_vouches e.second_failed ≡ true) → ⊥
+  none-left v h =
+      let vow_is : Vow = vow n r.bodies (asked_by n p.begun) p.first_vouches p.second_vouches in
+      one_of h
+      (λ left. let on : (p.first_vouches && is_spared first.counts one.counts) ≡ true =
+      sym (left-spared p.first_vouches e.first_failed (is_spared first.counts one.counts) noted.first_met) ∙ left in
+      lost-first layout vow_is first one second wf ws v.vouched lost.0 (both-left p.first_vouches _ on) (both-right p.first_vouches _ on))
+      (λ left. let on : (p.second_vouches && is_spared second.counts two.counts) ≡ true =
+      sym (left-spared p.second_vouches e.second_failed (is_spared second.counts two.counts) noted.second_met) ∙ left in
+      lost-second layout vow_is first second two wf ws v.vouched lost.1 (both-left p.second_vouches _ on)
+      (both-right p.second_vouches _ on))
+
+  unclaimed : is_claimed p e ≡ false
+  unclaimed = one_of (used-or-not (is_claimed p e))
+      (λ claimed. let covered : is_covered p e ≡ true = both-right p.sure _ claimed in
+      absurd (none-left (r.vouching (both-left p.sure _ claimed) (not-so p.spoiled (both-left (not p.spoiled) _ covered)))
+      (one-or-other _ _ (both-right (not p.spoiled) _ covered))))
+      (λ none. none)
+
+pub shut-is-step : ShutIsStep
+shut-is-step = λ layout n p m x e first one second two lawful wf ws want r lost stays noted. (
+  (
+    record { memory = want; lost = λ is. unclaimed layout n p m e first one second two wf ws r noted (lost is) },
+    λ serial. refl,
+  ),
+  shut-rests layout n p m x e first one second two lawful r stays noted,
+)

@@ -1,10 +1,13 @@
 -- Where one disk is spared, it gives what was acknowledged.
-use Rattle.std.proofs.Common.{◌≡◌, ◌⊎◌, inl, inr, ℕ, Bool, true, false, List, [], ◌∷◌, Option, None, Some, refl, sym, subst, ◌∙◌}
+use Rattle.std.proofs.Common.{◌≡◌, ◌≢◌, ◌⊎◌, inl, inr, ℕ, Bool, true, false, List, [], ◌∷◌, Option, None, Some, refl, sym, subst, ◌∙◌}
 use Rattle.std.specs.Prelude.{◌==◌, ◌&&◌, ◌||◌, not, if◌then◌else◌}
 use Rattle.twin_world.specs.Commands.{Command, opens, puts, gets, deletes, closes, blanks, fails, stops, is_second}
 use Rattle.twin_world.specs.Logs.{Answer, WrongState, Opened, Made, Found, NoRoom, Refused, CutShort, Entry, Change, Texts, SameTexts}
 use Rattle.twin_world.specs.Logs.{texts_after, Pair, blank_pair, left_by, is_claimed, closed_by, served_by, opened_by}
 use Rattle.twin_world.specs.Logs.{changed_by, put_of, delete_of, behind, Opens, ChangesSo, LooksSo, Leads, known_behind, Steps}
+use Rattle.twin_world.specs.Logs.{MayRefuse}
+use Rattle.twin_store.specs.declared.served.TwinRefusal.{TwinRefusal}
+use Rattle.twin_store.specs.declared.served.TwinRefusal.TheVariants.{Lost}
 use Rattle.twin_world.specs.Logs.{is_of, Follows, no_texts, InState, OpensSo, BlanksSo, IsDone, looked_by, open_by, shut_by, blanked_by}
 use Rattle.twin_world.specs.Laws.{of_disk, IsNotBlanked, Spares, AllSpare, Choices, IsAmong, none_at_first, with_made, with_begun}
 use Rattle.twin_world.specs.Laws.{with_answer, with_command, with_entry, IsKept, AllKept, OneDiskIsEnough}
@@ -129,6 +132,39 @@ opened second first other may p m x e s spare o =
 
 -- 3. Changes and looks
 
+both-gone : (second a b : Bool) → a ≡ false → b ≡ false → of_disk second a b ≡ true → ⊥
+both-gone true a b f g e = cc (sym g ∙ e)
+both-gone false a b f g e = cc (sym f ∙ e)
+
+-- where the disk was in use and met no fault, a call is not refused as lost
+not-lost : (second : Bool) (p : Pair) (e : Entry) (r : TwinRefusal) → of_disk second p.first p.second ≡ true → Spares second e
+    → MayRefuse r e p → r ≢ Lost
+not-lost second p e r used spare may is =
+    both-gone second (left_by p.first e.first_failed) (left_by p.second e.second_failed) (may.lost is).0 (may.lost is).1
+    (left-of second p.first p.second e.first_failed e.second_failed used spare.met)
+
+puts-kept : (second : Bool) (may to : Choices) (n serial : ℕ) (text : List ℕ) (a : Answer) (p : Pair) (m x : Texts) (e : Entry)
+    → Stays second may p m → Spares second e → InState true p.is_open a m x (ChangesSo (put_of serial text) a e p m x)
+    → IsKept second to (puts n serial text) a
+puts-kept second may to n serial text (Refused r) p m x e s spare l = not-lost second p e r (s.used l.0) spare l.1.0
+puts-kept second may to n serial text WrongState p m x e s spare l = tt
+puts-kept second may to n serial text Made p m x e s spare l = tt
+puts-kept second may to n serial text NoRoom p m x e s spare l = tt
+puts-kept second may to n serial text (Opened first other) p m x e s spare l = tt
+puts-kept second may to n serial text (Found t) p m x e s spare l = tt
+puts-kept second may to n serial text (CutShort stopped) p m x e s spare l = tt
+
+deletes-kept : (second : Bool) (may to : Choices) (n serial : ℕ) (a : Answer) (p : Pair) (m x : Texts) (e : Entry)
+    → Stays second may p m → Spares second e → InState true p.is_open a m x (ChangesSo (delete_of serial) a e p m x)
+    → IsKept second to (deletes n serial) a
+deletes-kept second may to n serial (Refused r) p m x e s spare l = not-lost second p e r (s.used l.0) spare l.1.0
+deletes-kept second may to n serial WrongState p m x e s spare l = tt
+deletes-kept second may to n serial Made p m x e s spare l = tt
+deletes-kept second may to n serial NoRoom p m x e s spare l = tt
+deletes-kept second may to n serial (Opened first other) p m x e s spare l = tt
+deletes-kept second may to n serial (Found t) p m x e s spare l = tt
+deletes-kept second may to n serial (CutShort stopped) p m x e s spare l = tt
+
 made-among : (m x : Texts) (c : Option Change) (may : Choices) → SameTexts x (texts_after c m)
     → ((serial : ℕ) → IsAmong (m serial) (may serial)) → (serial : ℕ) → IsAmong (x serial) (with_made c may serial)
 made-among m x None may same h = same-among m x None may same h
@@ -169,7 +205,7 @@ changes : (second : Bool) (may : Choices) (c : Option Change) (a : Answer) (p : 
 changes second may c WrongState p m x e s spare l = stays-same second may p m x l.1 s
 changes second may c Made p m x e s spare l = served second may (with_made c may) p m x e s l.0 spare (made-among m x c may l.1 s.held)
 changes second may c (Refused r) p m x e s spare l = begun-closed second may p m x e c s spare l.1.1
-changes second may c NoRoom p m x e s spare l = stays-same second may p m x l.1 s
+changes second may c NoRoom p m x e s spare l = stays-same second may p m x l.1.1 s
 changes second may c (Opened first other) p m x e s spare l = absurd l.1
 changes second may c (Found text) p m x e s spare l = absurd l.1
 changes second may c (CutShort stopped) p m x e s spare l = absurd l.1
@@ -183,7 +219,8 @@ looks second may n serial (Found text) p m x e s spare l = (
   subst (λ t. IsAmong t (may serial)) (sym l.1.0) (s.held serial),
 )
 looks second may n serial (Refused r) p m x e s spare l =
-    let held = same-among m x None may l.1.1 s.held in (closed second may may p m x e None s spare held held, tt)
+    let held = same-among m x None may l.1.1 s.held in
+    (closed second may may p m x e None s spare held held, not-lost second p e r (s.used l.0) spare l.1.0)
 looks second may n serial Made p m x e s spare l = absurd l.1
 looks second may n serial (Opened first other) p m x e s spare l = absurd l.1
 looks second may n serial (CutShort stopped) p m x e s spare l = absurd l.1
@@ -196,7 +233,8 @@ opens-so second may n WrongState p m x e s spare l = (stays-same second may p m 
 opens-so second may n (Opened first other) p m x e s spare l = opened second first other may p m x e s spare l.1
 opens-so second may n (Refused r) p m x e s spare l = (
   closed second may may p m x e p.begun s spare (same-among m x None may l.1.1 s.held) (same-among m x p.begun may l.1.1 s.begun),
-  tt,
+  λ is. cc (sym (claim second p.first_vouches p.second_vouches e.first_failed e.second_failed p.sure p.spoiled s.sure s.spoiled s.vouches
+      spare.met) ∙ l.1.0.lost is),
 )
 opens-so second may n Made p m x e s spare l = absurd l.1
 opens-so second may n (Found text) p m x e s spare l = absurd l.1
@@ -272,9 +310,11 @@ leads : (second : Bool) (may : Choices) (c : Command) (a : Answer) (p : Pair) (m
     → Spares second e → IsNotBlanked second c a → Leads c a e p m x
     → Stays second (with_command c a may) (behind c a e p) x × IsKept second may c a
 leads second may (opens n) a p m x e s spare still l = opens-so second may n a p m x e s spare l
-leads second may (puts n serial text) a p m x e s spare still l = (changes second may (put_of serial text) a p m x e s spare l, tt)
+leads second may (puts n serial text) a p m x e s spare still l =
+    (changes second may (put_of serial text) a p m x e s spare l, puts-kept second may may n serial text a p m x e s spare l)
 leads second may (gets n serial) a p m x e s spare still l = looks second may n serial a p m x e s spare l
-leads second may (deletes n serial) a p m x e s spare still l = (changes second may (delete_of serial) a p m x e s spare l, tt)
+leads second may (deletes n serial) a p m x e s spare still l =
+    (changes second may (delete_of serial) a p m x e s spare l, deletes-kept second may may n serial a p m x e s spare l)
 leads second may (closes n) a p m x e s spare still l = (closes-so second may a p m x s l, tt)
 leads second may (blanks d) a p m x e s spare still l = (blanks-so second (is_second d) may d a p m x refl s still l, tt)
 leads second may (fails d after) a p m x e s spare still l = (armed second may a p m x s l, tt)

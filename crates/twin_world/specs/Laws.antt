@@ -1,5 +1,6 @@
 -- What holds of every log.
-use Rattle.std.specs.Prelude.{◌≡◌, ◌⊎◌, ℕ, ◌==◌, not, Bool, true, false, List, [], ◌∷◌, Option, None, Some, if◌then◌else◌}
+use Rattle.std.specs.Prelude.{◌≡◌, ◌≢◌, ◌⊎◌, ℕ, ◌==◌, not, Bool, true, false, List, [], ◌∷◌, Option, None, Some, if◌then◌else◌}
+use Rattle.twin_store.specs.declared.served.TwinRefusal.TheVariants.{Lost}
 use Rattle.twin_world.specs.Commands.{Command, opens, puts, gets, deletes, blanks, is_second}
 use Rattle.twin_world.specs.Logs.{Answer, Opened, Made, Found, Refused, CutShort, Entry, Log, Change, put_of, delete_of, is_of, IsLegalTwin}
 
@@ -67,10 +68,14 @@ with_entry false e may = may
 
 -- 3. The law
 
--- a look gives one of these, and an opening leaves the disk in use
+-- a look gives one of these, an opening leaves the disk in use, and no call is refused for want of both disks
 abbrev pub IsKept : Bool → Choices → Command → Answer → Type 0
 IsKept second may (gets n serial) (Found text) = IsAmong text (may serial)
 IsKept second may (opens n) (Opened first other) = of_disk second first other ≡ true
+IsKept second may (opens n) (Refused r) = r ≢ Lost
+IsKept second may (puts n serial text) (Refused r) = r ≢ Lost
+IsKept second may (gets n serial) (Refused r) = r ≢ Lost
+IsKept second may (deletes n serial) (Refused r) = r ≢ Lost
 IsKept second may _ a = Unit {0}
 
 -- it is so of each entry of the node
@@ -81,7 +86,7 @@ AllKept n second may (e ∷ es) =
 
 -- One disk is enough. In a legal log in which a disk of a node is spared, whatever became of the other: each look that is not refused
 -- gives the text that was acknowledged last under its uid, or that of a change begun since and refused, and nothing only where that was
--- removed or never put; and each opening that is not refused leaves the disk in use.
+-- removed or never put; each opening that is not refused leaves the disk in use; and no opening, change or look is refused as lost.
 abbrev pub OneDiskIsEnough : Type 0
 OneDiskIsEnough = (log : Log) → IsLegalTwin log → (n : ℕ) (second : Bool) → AllSpare n second log.entries
     → AllKept n second none_at_first log.entries

@@ -1,6 +1,6 @@
 -- What commands on pairs of disks are answered, and which lists of them can be.
-use Rattle.std.specs.Prelude.{◌≡◌, ◌≢◌, ◌⊎◌, ℕ, ◌==◌, ◌&&◌, ◌||◌, not, Bool, true, false, List, [], ◌∷◌, Option, None, Some}
-use Rattle.std.specs.Prelude.{if◌then◌else◌}
+use Rattle.std.specs.Prelude.{◌≡◌, ◌≢◌, ◌⊎◌, ℕ, ◌==◌, ◌&&◌, ◌||◌, not, Bool, true, false, IsTrue, is_some, List, [], ◌∷◌}
+use Rattle.std.specs.Prelude.{Option, None, Some, if◌then◌else◌}
 use Rattle.twin_store.specs.declared.served.TwinRefusal.{TwinRefusal}
 use Rattle.twin_store.specs.declared.served.TwinRefusal.TheVariants.{Lost, OutOfMemory}
 use Rattle.twin_world.specs.Commands.{Command, opens, puts, gets, deletes, closes, blanks, fails, stops, node_of, is_second, IsInReach}
@@ -199,6 +199,11 @@ pub record MayRefuse (r : TwinRefusal) (e : Entry) (p : Pair) : Type 0 where
   pub memory : r ≢ OutOfMemory
   pub lost : r ≡ Lost → (left_by p.first e.first_failed ≡ false) × (left_by p.second e.second_failed ≡ false)
 
+-- An opening is refused for want of both disks only where it is not claimed: a disk that vouches and meets no fault is not lost.
+pub record MayShut (r : TwinRefusal) (e : Entry) (p : Pair) : Type 0 where
+  pub memory : r ≢ OutOfMemory
+  pub lost : r ≡ Lost → is_claimed p e ≡ false
+
 -- where an opening is claimed, it gives what is held, with or without the change begun, and a disk that vouches and met no fault is in use
 pub record GivesHeld (first second : Bool) (e : Entry) (p : Pair) (m x : Texts) : Type 0 where
   pub held : SameTexts x m ⊎ SameTexts x (texts_after p.begun m)
@@ -220,14 +225,19 @@ InState needs is _ m x P = (is ≡ needs) × P
 -- what an opening gives
 abbrev pub OpensSo : Answer → Entry → Pair → Texts → Texts → Type 0
 OpensSo (Opened first second) e p m x = Opens first second e p m x
-OpensSo (Refused r) e p m x = (r ≢ OutOfMemory) × SameTexts x m
+OpensSo (Refused r) e p m x = MayShut r e p × SameTexts x m
 OpensSo _ e p m x = ⊥
+
+-- whether a change gives a text: a removal does not, and wants no room
+abbrev pub gives_text : Option Change → Bool
+gives_text None = false
+gives_text (Some c) = is_some c.text
 
 -- behind a change that is acknowledged, it is held
 abbrev pub ChangesSo : Option Change → Answer → Entry → Pair → Texts → Texts → Type 0
 ChangesSo c Made e p m x = SameTexts x (texts_after c m)
 ChangesSo c (Refused r) e p m x = MayRefuse r e p × SameTexts x m
-ChangesSo c NoRoom e p m x = SameTexts x m
+ChangesSo c NoRoom e p m x = IsTrue (gives_text c) × SameTexts x m
 ChangesSo c _ e p m x = ⊥
 
 -- a look that is not refused gives what is held

@@ -1,13 +1,13 @@
 -- What the contract of each call of a twin says is the step of its command.
-use Rattle.std.specs.Prelude.{◌≢◌, ℕ, ◌≤◌, ◌<◌, true, List, Option, Some, Ok, Err}
+use Rattle.std.specs.Prelude.{◌≡◌, ◌≢◌, ℕ, ◌≤◌, ◌<◌, true, List, Option, Some, Ok, Err}
 use Rattle.eden_disk.specs.Calls.{one_more}
 use Rattle.eden_disk.specs.Told.{contents, Left}
 use Rattle.passive_store.specs.Kept.{Layout}
 use Rattle.passive_store.specs.Layout.{IsLayout}
 use Rattle.passive_store.specs.Seen.{DiskSeen}
 use Rattle.twin_store.specs.declared.served.TwinRefusal.{TwinRefusal}
-use Rattle.twin_store.specs.declared.served.TwinRefusal.TheVariants.{OutOfMemory}
-use Rattle.twin_store.specs.Sides.{is_in_use, disk_of}
+use Rattle.twin_store.specs.declared.served.TwinRefusal.TheVariants.{Lost, OutOfMemory}
+use Rattle.twin_store.specs.Sides.{is_in_use, disk_of, IsLostDisk}
 use Rattle.twin_store.specs.Twins.{TwinSeen, TwinChanges, TwinGets, IsOpenedTwin, StaysVouched}
 use Rattle.twin_world.specs.Logs.{Opened, Made, Refused, Entry, Texts, Change, texts_after, Pair, changed_by}
 use Rattle.twin_world.specs.Logs.{looked_by, open_by, shut_by, ChangesSo, LooksSo, OpensSo}
@@ -57,9 +57,11 @@ OpeningIsStep = (layout : Layout) (n : ℕ) (p : Pair) (m : Texts) (e : Entry) (
     → (x : Texts) × OpensSo (Opened (is_in_use t.first) (is_in_use t.second)) e p m x
     × Serves layout n (open_by (Opened (is_in_use t.first) (is_in_use t.second)) e p) x t
 
--- An opening that is refused leaves two disks that stand for the pair as it was, but for those that met a fault.
+-- An opening that is refused, but for want of memory, gives what its command may, and leaves two disks that stand for the pair as it was,
+-- but for those that met a fault.
 abbrev pub ShutIsStep : Type 0
 ShutIsStep = (layout : Layout) (n : ℕ) (p : Pair) (m : Texts) (r : TwinRefusal) (e : Entry) (first one second two : DiskSeen)
-    → IsLayout layout → Rests layout n p m first second → StaysVouched true layout n first one second two
-    → IsNotedOpening e first one second two
-    → Rests layout n (open_by (Refused r) e p) m one two
+    → IsLayout layout → IsWhole first → IsWhole second → r ≢ OutOfMemory → Rests layout n p m first second
+    → (r ≡ Lost → IsLostDisk true layout n first one × IsLostDisk true layout n second two)
+    → StaysVouched true layout n first one second two → IsNotedOpening e first one second two
+    → OpensSo (Refused r) e p m m × Rests layout n (open_by (Refused r) e p) m one two

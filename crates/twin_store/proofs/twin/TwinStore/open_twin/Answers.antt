@@ -1,10 +1,11 @@
 use Rattle.passive_store.specs.Seen.{disk_seen}
 use Rattle.twin_store.specs.Sides.{side_seen}
 use Rattle.twin_store.specs.Twins.{twin_seen}
-use Rattle.std.proofs.Common.{inl, refl}
-use Rattle.twin_store.proofs.Opened.{rose_in, opened_behind}
+use Rattle.std.proofs.Common.{inl, inr, refl}
+use Rattle.twin_store.proofs.Opened.{rose_in, opened_behind, fits_in}
 use Rattle.twin_store.proofs.Stopping.{second_unopened, opened_then}
 use Rattle.twin_store.proofs.Openings.{first_unopened, second_refused, opened_twin, closed_vouched}
+use Rattle.twin_store.proofs.Aloning.{spent_opening, unopened_spent}
 use Rattle.twin_store.proofs.twin.TwinStore.open_twin.Goals as goal
 
 pub returns-in-Err-clause-vouched : goal.returns-in-Err-clause-vouched
@@ -29,7 +30,7 @@ returns-in-Ok-agree-clause-opened g c =
     opened_twin g.St.Device.Disk.tells g.St.Store.layout c.args.node 0 (look c.args.first) (look c.args.second) (of c.in-Ok.side)
     (of c.in-Ok-open.side)
     c.in-Ok.ensures.opened c.in-Ok-open.ensures.opened (twin_seen g.St.Store.seen look c.agree.new.self)
-    c.in-Ok-agree.ensures.moves c.in-Ok-agree.ensures.agrees
+    c.in-Ok-agree.ensures.moves c.in-Ok-agree.ensures.agrees c.in-Ok-agree.ensures.greatest
 
 pub returns-in-Err-agree-clause-vouched : goal.returns-in-Err-agree-clause-vouched
 returns-in-Err-agree-clause-vouched g c =
@@ -84,3 +85,37 @@ returns-in-Err-agree-clause-stopped g c =
     opened_then c.in-Err-agree.refusal (look c.args.first) (look c.close-first.result.0) (look c.args.second)
     (look c.close-first.result.1) (of c.in-Ok.side) (of c.in-Ok-open.side) t.first t.second c.close-first.ensures.0
     c.close-first.ensures.1 c.in-Ok.ensures.opened.stops c.in-Ok-open.ensures.opened.stops c.in-Err-agree.ensures.moves.stopped
+
+pub returns-in-Err-clause-spent : goal.returns-in-Err-clause-spent
+returns-in-Err-clause-spent g c = λ is. unopened_spent c.in-Err.refusal c.in-Err.ensures.refused is
+
+pub returns-in-Err-open-clause-spent : goal.returns-in-Err-open-clause-spent
+returns-in-Err-open-clause-spent g c = λ is. unopened_spent c.in-Err-open.refusal c.in-Err-open.ensures.refused is
+
+pub returns-in-Err-agree-clause-spent : goal.returns-in-Err-agree-clause-spent
+returns-in-Err-agree-clause-spent g c =
+    let look = disk_seen g.St.Device.Disk.counts g.St.Device.Disk.told g.St.Device.Disk.due in
+    let of = side_seen g.St.Store.seen look in
+    spent_opening g.St.Device.Disk.tells g.St.Store.layout c.args.node 0 (look c.args.first) (look c.args.second) (of c.in-Ok.side)
+    (of c.in-Ok-open.side) c.in-Ok.ensures.opened c.in-Ok-open.ensures.opened (twin_seen g.St.Store.seen look c.agree.new.self)
+    c.in-Err-agree.refusal (look c.close-first.result.0) (look c.close-first.result.1) c.close-first.ensures.0 c.close-first.ensures.1
+    c.in-Err-agree.ensures.moves c.in-Err-agree.ensures.alone c.in-Err-agree.ensures.greatest
+
+pub returns-in-Err-clause-overfull : goal.returns-in-Err-clause-overfull
+returns-in-Err-clause-overfull g c = λ so l. inl c.in-Err.ensures.refused
+
+pub returns-in-Err-open-clause-overfull : goal.returns-in-Err-open-clause-overfull
+returns-in-Err-open-clause-overfull g c = λ so l. inl c.in-Err-open.ensures.refused
+
+pub returns-in-Err-agree-clause-overfull : goal.returns-in-Err-agree-clause-overfull
+returns-in-Err-agree-clause-overfull g c = λ so l.
+    let look = disk_seen g.St.Device.Disk.counts g.St.Device.Disk.told g.St.Device.Disk.due in
+    let t = twin_seen g.St.Store.seen look c.agree.new.self in
+    let of = side_seen g.St.Store.seen look in
+    inr (
+      fits_in g.St.Device.Disk.tells g.St.Store.layout c.args.node (look c.args.first) (look c.close-first.result.0) (of c.in-Ok.side) t.first
+          c.close-first.ensures.0 so l c.in-Ok.ensures.opened.by c.in-Err-agree.ensures.moves.first,
+      fits_in g.St.Device.Disk.tells g.St.Store.layout c.args.node (look c.args.second) (look c.close-first.result.1)
+          (of c.in-Ok-open.side) t.second c.close-first.ensures.1 so l c.in-Ok-open.ensures.opened.by
+          c.in-Err-agree.ensures.moves.second,
+    )
