@@ -29,6 +29,16 @@ fn put(rt: &impl Abort, alloc: Global) -> Wish {
     Wish::Put { body }
 }
 
+/// A put of one byte is in doubt.
+fn doubt(rt: &impl Abort, alloc: Global, eject: &mut PlainEject) {
+    let wish = put(rt, alloc);
+    if is_within_limit(&wish) {
+        eject.leave_in_doubt(wish);
+    } else {
+        assert!(rt; false);
+    }
+}
+
 /// A call joins the queue, where there is a place for it.
 fn queue(rt: &impl Abort, eject: &mut PlainEject, call: u32) {
     assert!(rt; !eject.is_full());
@@ -69,13 +79,13 @@ fn doubt_is_settled(rt: &impl Abort, alloc: Global) {
         assert!(rt; false);
         return;
     };
-    eject.leave_in_doubt(put(rt, alloc));
+    doubt(rt, alloc, &mut eject);
     eject.fall(alloc);
     assert!(rt; !eject.is_active());
     assert!(rt; eject.is_there());
     eject.settle(Pick::Old);
     assert!(rt; !eject.is_there());
-    eject.leave_in_doubt(put(rt, alloc));
+    doubt(rt, alloc, &mut eject);
     eject.settle(Pick::New);
     assert!(rt; eject.is_there());
     eject.keep(Wish::Delete);
@@ -85,4 +95,24 @@ fn doubt_is_settled(rt: &impl Abort, alloc: Global) {
 #[test]
 fn a_change_in_doubt_is_settled(rt: HostRuntime) {
     doubt_is_settled(&rt, rt.alloc());
+}
+
+/// Bodies by their lengths, at the limit and one past it.
+const LENGTHS: [(usize, bool); 3] = [(0, true), (262_144, true), (262_145, false)];
+
+/// Whether bodies of these lengths are within the limit.
+fn lengths_are_bounded(rt: &impl Abort, alloc: Global) {
+    for &(length, within) in &LENGTHS {
+        let items = vec![in alloc; 7u8; length].expect(rt, "memory");
+        let wish = Wish::Put {
+            body: Body { items },
+        };
+        assert!(rt; is_within_limit(&wish) == within);
+    }
+    assert!(rt; is_within_limit(&Wish::Delete));
+}
+
+#[test]
+fn a_body_is_within_its_limit(rt: HostRuntime) {
+    lengths_are_bounded(&rt, rt.alloc());
 }

@@ -7,11 +7,12 @@ use eden_model::Asker;
 use eden_value::{Items, Status, Txt, texted};
 use edentypes::{find, first_values};
 use epl_syntax::Types;
-use journal::{BootEnd, RequestEnd};
+use journal::{BootEnd, RequestEnd, StartEnd};
 use passive_store::Pick;
 use plain_calls::{Place, PlainCalls};
+use plain_ejects::is_within_limit;
 use plain_sites::*;
-use plain_stores::PlainNode;
+use plain_stores::{PlainNode, find as find_eject};
 use std::alloc::Global;
 use std::process::Abort;
 
@@ -113,6 +114,24 @@ fn ask(
     site.calls
         .ask(Asker::Shell { name }, target, operation, none(alloc), None)
         .expect(rt, "memory")
+}
+
+/// The store is asked for a change of an Eject.
+fn request(rt: &impl Abort, node: &mut PlainNode, serial: u32, wish: Wish) {
+    if is_within_limit(&wish) {
+        node.ask(uid_of(serial), 1, wish).expect(rt, "memory");
+    } else {
+        assert!(rt; false);
+    }
+}
+
+/// A put of one byte, which spells no representation.
+fn put(rt: &impl Abort, alloc: Global) -> Wish {
+    Wish::Put {
+        body: Body {
+            items: Vec::from_slice(alloc, &[7]).expect(rt, "memory"),
+        },
+    }
 }
 
 /// A call comes to its target; the status that refuses it there.
@@ -227,12 +246,7 @@ fn what_is_queued_at_an_eject_that_is_gone_is_answered(rt: HostRuntime) {
 fn sleep_kept(rt: &impl Abort, alloc: Global) {
     let mut site = booted(rt, alloc);
     create(rt, alloc, &mut site, 1);
-    let body = Body {
-        items: Vec::from_slice(alloc, &[7]).expect(rt, "memory"),
-    };
-    site.node
-        .ask(uid_of(1), 1, Wish::Put { body })
-        .expect(rt, "memory");
+    request(rt, &mut site.node, 1, put(rt, alloc));
     site.node.keep_first().expect(rt, "memory");
     let number = ask(rt, alloc, &mut site, Asked::Get, 2, 1);
     assert!(rt; arrive(rt, alloc, &mut site, number).is_none());
@@ -285,9 +299,7 @@ fn remove(rt: &impl Abort, alloc: Global) {
     create(rt, alloc, &mut site, 1);
     let number = ask(rt, alloc, &mut site, Asked::Get, 2, 1);
     assert!(rt; arrive(rt, alloc, &mut site, number).is_none());
-    site.node
-        .ask(uid_of(1), 1, Wish::Delete)
-        .expect(rt, "memory");
+    request(rt, &mut site.node, 1, Wish::Delete);
     assert!(rt; site.node.may_take_turn(uid_of(1), RequestEnd::Done, None));
     take_turn(
         alloc,
@@ -346,12 +358,7 @@ fn take_turns(rt: &impl Abort, alloc: Global) {
     create(rt, alloc, &mut site, 1);
     for &(end, pick, turned) in &PUT_TURNS {
         if site.node.requests.is_empty() {
-            let body = Body {
-                items: Vec::from_slice(alloc, &[7]).expect(rt, "memory"),
-            };
-            site.node
-                .ask(uid_of(1), 1, Wish::Put { body })
-                .expect(rt, "memory");
+            request(rt, &mut site.node, 1, put(rt, alloc));
         }
         assert!(rt; site.node.may_take_turn(uid_of(1), end, pick));
         take_turn(alloc, &mut site.node, &mut site.calls, end, pick).expect(rt, "memory");
@@ -364,4 +371,230 @@ fn take_turns(rt: &impl Abort, alloc: Global) {
 #[test]
 fn a_put_and_a_settling_take_their_turns(rt: HostRuntime) {
     take_turns(&rt, rt.alloc());
+}
+
+/// A change that is made to what is kept of a Cell, or is in doubt.
+#[derive(Clone, Copy)]
+enum Change {
+    /// None.
+    Nothing,
+    /// A put of what the Cell is then.
+    Itself,
+    /// A put of bytes that spell nothing.
+    Strange,
+    /// A removal.
+    Removal,
+}
+
+/// The bytes that are to be kept of the first Cell.
+fn own_bytes(rt: &impl Abort, alloc: Global, site: &Site) -> Option<Body> {
+    match find_eject(&site.node.ejects, uid_of(1)) {
+        Some(eject) => match &eject.part {
+            Some(part) => part.encoded(alloc, &site.types).expect(rt, "memory"),
+            None => None,
+        },
+        None => None,
+    }
+}
+
+/// What the store is asked for; nothing where there is no change.
+fn wish_of(rt: &impl Abort, alloc: Global, site: &Site, change: Change) -> Option<Wish> {
+    match change {
+        Change::Nothing => None,
+        Change::Itself => match own_bytes(rt, alloc, site) {
+            Some(body) => Some(Wish::Put { body }),
+            None => None,
+        },
+        Change::Strange => Some(put(rt, alloc)),
+        Change::Removal => Some(Wish::Delete),
+    }
+}
+
+/// The store makes a change of the first Cell.
+fn make(rt: &impl Abort, alloc: Global, site: &mut Site, change: Change) {
+    match wish_of(rt, alloc, site, change) {
+        Some(wish) => {
+            request(rt, &mut site.node, 1, wish);
+            site.node.keep_first().expect(rt, "memory");
+            site.node.end_first(Status::Ok);
+        }
+        None => {}
+    }
+}
+
+/// A change of the first Cell fails in a device call, and is in doubt.
+fn leave(rt: &impl Abort, alloc: Global, site: &mut Site, change: Change) {
+    match wish_of(rt, alloc, site, change) {
+        Some(wish) => {
+            request(rt, &mut site.node, 1, wish);
+            site.node.doubt_first().expect(rt, "memory");
+            site.node.end_first(Status::StoreFault);
+        }
+        None => {}
+    }
+}
+
+/// A Cell of which something is kept, and something in doubt, is passive, with a call queued at it.
+fn asleep(rt: &impl Abort, alloc: Global, kept: Change, doubted: Change) -> Site {
+    let mut site = booted(rt, alloc);
+    create(rt, alloc, &mut site, 1);
+    make(rt, alloc, &mut site, kept);
+    leave(rt, alloc, &mut site, doubted);
+    let number = ask(rt, alloc, &mut site, Asked::Get, 2, 1);
+    assert!(rt; arrive(rt, alloc, &mut site, number).is_none());
+    end_active(alloc, &mut site.node, &mut site.calls, uid_of(1)).expect(rt, "memory");
+    site
+}
+
+/// Activations: what is kept of the Cell, what is in doubt, the end, the pick, and whether the activation may be so.
+const STARTS: [(Change, Change, StartEnd, Option<Pick>, bool); 15] = [
+    (Change::Nothing, Change::Nothing, StartEnd::Gone, None, true),
+    (Change::Nothing, Change::Nothing, StartEnd::Ok, None, false),
+    (Change::Itself, Change::Nothing, StartEnd::Ok, None, true),
+    (Change::Itself, Change::Nothing, StartEnd::Stop, None, true),
+    (
+        Change::Itself,
+        Change::Nothing,
+        StartEnd::Damaged,
+        None,
+        false,
+    ),
+    (
+        Change::Itself,
+        Change::Nothing,
+        StartEnd::Ok,
+        Some(Pick::Old),
+        false,
+    ),
+    (
+        Change::Strange,
+        Change::Nothing,
+        StartEnd::Damaged,
+        None,
+        true,
+    ),
+    (Change::Strange, Change::Nothing, StartEnd::Ok, None, false),
+    (Change::Nothing, Change::Itself, StartEnd::Fault, None, true),
+    (Change::Nothing, Change::Itself, StartEnd::Ok, None, false),
+    (
+        Change::Nothing,
+        Change::Itself,
+        StartEnd::Gone,
+        Some(Pick::Old),
+        true,
+    ),
+    (
+        Change::Nothing,
+        Change::Itself,
+        StartEnd::Ok,
+        Some(Pick::New),
+        true,
+    ),
+    (
+        Change::Itself,
+        Change::Removal,
+        StartEnd::Ok,
+        Some(Pick::Old),
+        true,
+    ),
+    (
+        Change::Itself,
+        Change::Removal,
+        StartEnd::Gone,
+        Some(Pick::New),
+        true,
+    ),
+    (
+        Change::Itself,
+        Change::Removal,
+        StartEnd::Ok,
+        Some(Pick::New),
+        false,
+    ),
+];
+
+/// Each activation may be so, or not.
+fn may_be_so(rt: &impl Abort, alloc: Global) {
+    for &(kept, doubted, end, pick, may) in &STARTS {
+        let site = asleep(rt, alloc, kept, doubted);
+        let found = may_activate(alloc, &site.types, &site.node, uid_of(1), end, pick).expect(
+            rt, "memory",
+        );
+        assert!(rt; found == may);
+        let other = may_activate(alloc, &site.types, &site.node, uid_of(2), end, pick).expect(
+            rt, "memory",
+        );
+        assert!(rt; !other);
+    }
+}
+
+#[test]
+fn an_activation_ends_as_what_is_kept_allows(rt: HostRuntime) {
+    may_be_so(&rt, rt.alloc());
+}
+
+/// Whether the first Cell is active.
+fn is_awake(site: &Site) -> bool {
+    match find_eject(&site.node.ejects, uid_of(1)) {
+        Some(eject) => eject.is_active(),
+        None => false,
+    }
+}
+
+/// Activations of a Cell of which something is kept, with a call of `Get` and one of `Foo` queued at it: the statuses with which these are
+/// answered, whether the Cell is active, and whether the node is up.
+const ACTIVATIONS: [(Change, StartEnd, Option<Status>, Option<Status>, bool, bool); 4] = [
+    (
+        Change::Itself,
+        StartEnd::Ok,
+        None,
+        Some(Status::NoOperation),
+        true,
+        true,
+    ),
+    (
+        Change::Itself,
+        StartEnd::Fault,
+        Some(Status::StoreFault),
+        Some(Status::StoreFault),
+        false,
+        true,
+    ),
+    (
+        Change::Strange,
+        StartEnd::Damaged,
+        Some(Status::Damaged),
+        Some(Status::Damaged),
+        false,
+        true,
+    ),
+    (Change::Itself, StartEnd::Stop, None, None, false, false),
+];
+
+/// Each activation leaves what it does.
+fn are_activated(rt: &impl Abort, alloc: Global) {
+    for &(kept, end, first, second, active, up) in &ACTIVATIONS {
+        let mut site = asleep(rt, alloc, kept, Change::Nothing);
+        let number = ask(rt, alloc, &mut site, Asked::Foo, 2, 1);
+        assert!(rt; arrive(rt, alloc, &mut site, number).is_none());
+        activate(
+            alloc,
+            &site.types,
+            &mut site.node,
+            &mut site.calls,
+            uid_of(1),
+            end,
+            None,
+        )
+        .expect(rt, "memory");
+        assert!(rt; answer_of(&site, 1) == first);
+        assert!(rt; answer_of(&site, number) == second);
+        assert!(rt; is_awake(&site) == active);
+        assert!(rt; site.node.up == up);
+    }
+}
+
+#[test]
+fn a_cell_is_awake_or_its_queue_is_turned_away(rt: HostRuntime) {
+    are_activated(&rt, rt.alloc());
 }

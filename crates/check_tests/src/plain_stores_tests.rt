@@ -4,7 +4,7 @@ use eden_value::Status;
 use journal::{BootEnd, RequestEnd};
 use passive_store::Pick;
 use plain_choices::Work;
-use plain_ejects::PlainEject;
+use plain_ejects::{PlainEject, is_within_limit};
 use plain_stores::*;
 use std::alloc::Global;
 use std::process::Abort;
@@ -115,13 +115,20 @@ fn put(rt: &impl Abort, alloc: Global, length: usize) -> Wish {
     Wish::Put { body }
 }
 
+/// The store is asked for a change.
+fn ask(rt: &impl Abort, node: &mut PlainNode, wish: Wish) {
+    if is_within_limit(&wish) {
+        node.ask(ONE, 1, wish).expect(rt, "memory");
+    } else {
+        assert!(rt; false);
+    }
+}
+
 /// Something happens to the node.
 fn let_happen(rt: &impl Abort, alloc: Global, node: &mut PlainNode, what: Happens) {
     match what {
-        Happens::Put(length) => node
-            .ask(ONE, 1, put(rt, alloc, length))
-            .expect(rt, "memory"),
-        Happens::Remove => node.ask(ONE, 1, Wish::Delete).expect(rt, "memory"),
+        Happens::Put(length) => ask(rt, node, put(rt, alloc, length)),
+        Happens::Remove => ask(rt, node, Wish::Delete),
         Happens::Part => {
             node.doubt_first().expect(rt, "memory");
             node.make_call();

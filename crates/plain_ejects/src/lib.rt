@@ -6,15 +6,16 @@
 mod processes;
 mod storage;
 
-ghost use Rattle.std.specs.Prelude.{◌≡◌, ◌↔◌, ◌<◌, ◌≤◌, ◌++◌, ◌∷◌, [], false, None, IfSome, IsTrue, OnOk, is_some, length};
+ghost use Rattle.std.specs.Prelude.{◌≡◌, ◌↔◌, ◌≤◌, ◌++◌, ◌∷◌, [], false, None, IsTrue, OnOk, is_some, length};
 ghost use Rattle.std.specs.Option.{option_map};
+ghost use Rattle.capability.specs.declared.TheConstants.{BODY_LIMIT};
 ghost use Rattle.eden_model.specs.Crew.{serving_pairs};
 ghost use Rattle.epl_syntax.specs.Rules.OfTypes.{TypeList};
 ghost use Rattle.journal.specs.Crashes.{fallen};
 ghost use Rattle.journal.specs.Ejects.{is_there, newborn, with_active, with_queued};
 ghost use Rattle.active_part.specs.Body.{active_of, calls_of};
-ghost use Rattle.active_part.specs.View.{body_of, coordination_of};
-ghost use Rattle.plain_ejects.specs.View.{eject_of, active_in, with_body};
+ghost use Rattle.active_part.specs.View.{body_of};
+ghost use Rattle.plain_ejects.specs.Limits.{HasPlace, length_doubted, length_kept};
 
 use active_part::Part;
 use capability::{Body, CallNumbers};
@@ -22,8 +23,9 @@ use checkpoint::Wish;
 use coordinator::Pairs;
 use std::alloc::{AllocError, Global};
 use std::mem::replace;
+pub use storage::is_within_limit;
 
-/// An Eject.
+/// An Eject. At most 64 calls are queued while it is passive, and no body is past its limit.
 #[derive(Drop)]
 pub struct PlainEject {
     /// What of it is in memory, with the calls that are queued then. None where it is passive.
@@ -34,6 +36,9 @@ pub struct PlainEject {
     pub kept: Option<Body>,
     /// The change to what is kept of which it is not known whether it was made.
     pub doubt: Option<Wish>,
+    pub ghost few: { length waiting ≤ 64 },
+    pub ghost kept_within: { length_kept kept ≤ BODY_LIMIT },
+    pub ghost doubt_within: { length_doubted doubt ≤ BODY_LIMIT },
 }
 
 /// No calls.
@@ -55,6 +60,7 @@ fn count(calls: &CallNumbers) -> usize
 /// The queued calls of an active part, and those that run, each with the process that serves it.
 fn taken_apart(part: Part) -> (CallNumbers, Pairs)
     ensures queued { (ts : TypeList) → result.0 ≡ calls_of (body_of ts part).crew.queued }
+    ensures few { length result.0 ≤ 64 }
     ensures running { (ts : TypeList) → result.1 ≡ serving_pairs (body_of ts part).crew.crew.processes }
 {
     let parts = part.into_parts();
@@ -62,6 +68,8 @@ fn taken_apart(part: Part) -> (CallNumbers, Pairs)
 }
 
 impl PlainEject {
+    ghost use Rattle.plain_ejects.specs.View.{eject_of, active_in, with_body};
+
     /// A new Eject with this active part, in which nothing is queued.
     pub fn created(alloc: Global, part: Part) -> PlainEject
         ensures { (ts : TypeList) → (body_of ts part).crew.queued ≡ [] → eject_of ts result ≡ newborn (active_of (body_of ts part)) }
@@ -91,7 +99,7 @@ impl PlainEject {
     /// Whether 64 calls are queued, so that one more is refused, and there may be no place for it.
     pub fn is_full(&self) -> bool
         ensures full { (ts : TypeList) → IsTrue result ↔ (64 ≤ length (eject_of ts self.now).queued) }
-        ensures room { result ≡ false → IfSome self.now.part (λ it. length (coordination_of it).queued < 64) }
+        ensures room { result ≡ false → HasPlace self.now.part self.now.waiting }
     {
         match &self.part {
             Some(part) => part.is_full(),
@@ -101,7 +109,7 @@ impl PlainEject {
 
     /// A call joins the queue. Its class counts where the Eject is active.
     pub fn enqueue(&mut self, call: u32, class: u8) -> Result<(), AllocError>
-        requires room { IfSome self.old.part (λ it. length (coordination_of it).queued < 64) }
+        requires room { HasPlace self.old.part self.old.waiting }
         ensures { OnOk result ((ts : TypeList) → eject_of ts self.new
             ≡ with_queued ((eject_of ts self.old).queued ++ call ∷ []) (eject_of ts self.old)) }
     {

@@ -25,7 +25,7 @@ use Rattle.passive_store.specs.declared.store.Pick.{Pick}
 use Rattle.plain_sites.specs.View.{IsPassive, Serves}
 use Rattle.plain_sites.proofs.Deliveries.{waits-in}
 use Rattle.plain_sites.proofs.Sites.{deactivated_of}
-use Rattle.plain_stores.specs.declared.requests.PlainRequest.{PlainRequest}
+use Rattle.plain_stores.specs.declared.request.PlainRequest.{PlainRequest}
 use Rattle.plain_stores.specs.View.{AnswersWaiting, request_of}
 
 -- 1. What is served

@@ -27,7 +27,7 @@ use Rattle.journal.specs.Settling.{settled_ledger}
 use Rattle.journal.specs.Stores as stores
 use Rattle.journal.specs.World.{Eject, Site, StoreRequest, on_eject, on_node}
 use Rattle.plain_ejects.specs.View.{change_of, with_doubt, with_kept}
-use Rattle.plain_stores.specs.declared.requests.PlainRequest.{PlainRequest}
+use Rattle.plain_stores.specs.declared.request.PlainRequest.{PlainRequest}
 use Rattle.plain_stores.specs.declared.PlainNode.{PlainNode}
 use Rattle.plain_stores.specs.View.{AnswersWaiting, ejects_of, freed, node_of, request_of, site_of, stays}
 

@@ -15,7 +15,7 @@ use Rattle.journal.specs.World.{Eject, Node, Site, StoreRequest, eject_in}
 use Rattle.plain_ejects.specs.View.{eject_of, change_of}
 use Rattle.plain_stores.specs.Places.{IsFirstWith}
 use Rattle.plain_stores.specs.declared.entries.PlainEntry.{PlainEntry}
-use Rattle.plain_stores.specs.declared.requests.PlainRequest.{PlainRequest}
+use Rattle.plain_stores.specs.declared.request.PlainRequest.{PlainRequest}
 use Rattle.plain_stores.specs.declared.PlainNode.{PlainNode}
 
 -- 1. A node

@@ -4,6 +4,7 @@ ghost use Rattle.std.specs.FinMap.Entries.{is_sorted};
 ghost use Rattle.std.specs.List.{filter_map};
 ghost use Rattle.std.specs.Option.{option_map};
 ghost use Rattle.std.specs.Ordering.{is_lt};
+ghost use Rattle.capability.specs.declared.TheConstants.{BODY_LIMIT};
 ghost use Rattle.eden_model.specs.Crew.{Waits, outside};
 ghost use Rattle.eden_model.specs.Map.{changed_at, each_value, first, put_at, same_uid, uid_cmp, value_at};
 ghost use Rattle.epl_syntax.specs.Rules.OfTypes.{TypeList};
@@ -11,6 +12,7 @@ ghost use Rattle.journal.specs.Crashes.{fallen};
 ghost use Rattle.journal.specs.EjectChange.{kept_of};
 ghost use Rattle.journal.specs.Ejects.{on_active, told};
 ghost use Rattle.journal.specs.Settling.{doubt_entry, settled_eject};
+ghost use Rattle.plain_ejects.specs.Limits.{length_put};
 ghost use Rattle.plain_ejects.specs.View.{change_of, eject_of, with_doubt, with_kept};
 ghost use Rattle.plain_stores.specs.Places.{IsBehindLesser};
 ghost use Rattle.plain_stores.specs.View.{ejects_of, IsPlaceOf};
@@ -104,6 +106,7 @@ pub fn has_doubt(entries: &[PlainEntry]) -> bool
 
 /// A change of the Eject of this uid is in doubt.
 pub fn leave_in_doubt(entries: &mut Vec<PlainEntry>, uid: Uid, wish: Wish)
+    requires { length_put wish ≤ BODY_LIMIT }
     ensures { (ts : TypeList) → T (is_sorted uid_cmp (ejects_of ts entries.old.items)) → ejects_of ts entries.new.items
         ≡ changed_at uid_cmp uid (with_doubt (change_of wish)) (ejects_of ts entries.old.items) }
 {
@@ -115,6 +118,7 @@ pub fn leave_in_doubt(entries: &mut Vec<PlainEntry>, uid: Uid, wish: Wish)
 
 /// A change of the Eject of this uid was made, and nothing is in doubt of it.
 pub fn keep(entries: &mut Vec<PlainEntry>, uid: Uid, wish: Wish)
+    requires { length_put wish ≤ BODY_LIMIT }
     ensures { (ts : TypeList) → T (is_sorted uid_cmp (ejects_of ts entries.old.items)) → ejects_of ts entries.new.items
         ≡ changed_at uid_cmp uid (with_kept (kept_of (change_of wish))) (ejects_of ts entries.old.items) }
 {

@@ -6,6 +6,7 @@
 mod boots;
 mod doubts;
 mod entries;
+mod request;
 mod requests;
 mod rooms;
 mod turns;
@@ -16,7 +17,7 @@ ghost use Rattle.journal.specs.Opening.{node_from};
 ghost use Rattle.plain_stores.specs.View.{node_of};
 
 pub use entries::{PlainEntry, add, find, place_of, tell};
-pub use requests::PlainRequest;
+pub use request::PlainRequest;
 use std::alloc::Global;
 use std::collections::VecDeque;
 

@@ -1,36 +1,25 @@
 //! The requests to a node's store.
 ghost use Rattle.std.specs.Prelude.{◌≡◌, ◌<◌, ◌≤◌, ◌∷◌, IfOk, IfSome, OnOk, length, map};
 ghost use Rattle.std.specs.List.{filter};
+ghost use Rattle.capability.specs.declared.TheConstants.{BODY_LIMIT};
 ghost use Rattle.eden_model.specs.Traffic.{Traffic};
 ghost use Rattle.epl_syntax.specs.Rules.OfTypes.{TypeList};
 ghost use Rattle.journal.specs.Ejects.{without_requests};
 ghost use Rattle.journal.specs.Sites.{InOrder};
 ghost use Rattle.journal.specs.Settling.{first_request};
 ghost use Rattle.journal.specs.Stores.{doubted, more_made, request_ended, stored};
+ghost use Rattle.plain_ejects.specs.Limits.{length_put};
 ghost use Rattle.plain_ejects.specs.View.{change_of};
 ghost use Rattle.plain_stores.specs.View.{AnswersWaiting, freed, node_of, request_of, site_of, stays, with_request};
 
-use crate::PlainNode;
 use crate::entries::{keep, leave_in_doubt, tell};
+use crate::{PlainNode, PlainRequest};
 use capability::{Body, Uid};
 use checkpoint::Wish;
 use eden_value::Status;
 use epl_syntax::Answer;
 use std::alloc::AllocError;
 use std::collections::VecDeque;
-
-/// A put or a removal that waits for the store, or has made so many device calls.
-#[derive(Drop)]
-pub struct PlainRequest {
-    /// The Eject whose body is put or removed.
-    pub uid: Uid,
-    /// The process that is told how it ended; none where nobody is told any more.
-    pub process: Option<u8>,
-    /// What is asked.
-    pub wish: Wish,
-    /// How many device calls of its own it has made.
-    pub made: u32,
-}
 
 /// The same once more.
 fn copy_of(wish: &Wish) -> Result<Wish, AllocError>
@@ -93,6 +82,7 @@ fn take_first(requests: &mut VecDeque<PlainRequest>) -> PlainRequest
 impl PlainNode {
     /// A change of an Eject joins the requests; a process waits for its end.
     pub fn ask(&mut self, uid: Uid, process: u8, wish: Wish) -> Result<(), AllocError>
+        requires within { length_put wish ≤ BODY_LIMIT }
         ensures node { OnOk result ((ts : TypeList) → node_of ts self.new
             ≡ with_request uid process (change_of wish) (node_of ts self.old)) }
         ensures number { self.new.number ≡ self.old.number }

@@ -1,10 +1,11 @@
 use Rattle.std.proofs.Common.{◌≡◌, ◌≤◌, ◌<◌, ℕ, Bool, true, false, length, refl, sym, ◌∙◌, subst, arith}
-use Rattle.std.specs.Prelude.{◌↔◌, IfSome, IsTrue, nat_lt}
+use Rattle.std.specs.Prelude.{◌↔◌, IsTrue, nat_lt}
 use Rattle.std.proofs.lemmas.List.{length-map}
 use Rattle.std.proofs.lemmas.Bool.Decides.{nat_tests}
 use Rattle.epl_syntax.specs.Rules.OfTypes.{native_only}
 use Rattle.eden_model.specs.Crew.{Invocation}
 use Rattle.active_part.specs.View.{body_of, coordination_of}
+use Rattle.plain_ejects.specs.Limits.{HasPlace}
 use Rattle.plain_ejects.specs.View.{queue_of}
 use Rattle.plain_ejects.proofs.PlainEject.is_full.Goals as goal
 
@@ -21,5 +22,5 @@ returns-in-Some-clause-full c ts = subst (λ o. IsTrue c.is_full.result ↔ (64 
     (sym (length-map (body_of ts c.in-Some.part).crew.queued (λ (i : Invocation). i.call))) (c.is_full.ensures ts))
 
 pub returns-in-Some-clause-room : goal.returns-in-Some-clause-room
-returns-in-Some-clause-room c = λ off. subst (λ o. IfSome o (λ it. length (coordination_of it).queued < 64)) (sym c.in-Some.is)
+returns-in-Some-clause-room c = λ off. subst (λ o. HasPlace o c.args.self.now.waiting) (sym c.in-Some.is)
     (few c.is_full.result (length (coordination_of c.in-Some.part).queued) (c.is_full.ensures native_only).1 off)

@@ -1,6 +1,6 @@
 use Rattle.std.proofs.Common.{◌∙◌, ap, map, rules}
 use Rattle.std.proofs.lemmas.Fn.{filter_same}
-use Rattle.plain_stores.specs.declared.requests.PlainRequest.{PlainRequest}
+use Rattle.plain_stores.specs.declared.request.PlainRequest.{PlainRequest}
 use Rattle.plain_stores.specs.View.{request_of, stays}
 use Rattle.plain_stores.proofs.Nodes.{map-filter}
 use Rattle.plain_stores.proofs.requests.drop_unmade.Goals as goal
