@@ -166,8 +166,9 @@ pub record HasMoved (c : Call) (history : List Entry) (log : Log) (text : List �
 
 -- A script of pairs of disks was carried out, with this log: its commands are those that were read, the text is the log's, and where the
 -- disks tell, none of them kept anything, and their counts of faults can rise as often as there are commands, it is legal. It tells of a
--- run over these disks, in which what refuses has its cause, and the count of faults of each disk of a node rises as often as entries mark
--- it, those of stops of both together as often as answers say that one stopped. There is no history.
+-- run over these disks, in which an answer that no disk is left, or that there is no room for a change, has its cause; and the count of
+-- faults of each disk of a node rises as often as entries mark it, those of stops of both together as often as answers say that one
+-- stopped. There is no history.
 pub record HasTwinned (c : Call) (history : List Entry) (log : twin_logs.Log) (text : List ℕ) : Type 0 where
   pub asked : IsTwinned c.words c.source (twin_scripts.commands_of log.entries)
   pub legal : IsTrue c.disks.tells → twin_disks.KeepNothing c.disks.layout (handed_in c.disks)
